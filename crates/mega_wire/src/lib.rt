@@ -1,0 +1,6 @@
+//! The messages of the nodes.
+#![tactic(auto)]
+
+mod message;
+
+pub use message::{Body, Message};
