@@ -1,0 +1,3 @@
+pub mod Lease
+pub mod Groups
+pub mod History
