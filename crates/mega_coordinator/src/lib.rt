@@ -8,6 +8,8 @@ mod cells;
 mod coordinator;
 mod lease;
 mod standing;
+#[cfg(test)]
+mod tests;
 
 pub use answers::{Counted, NotValid, Ticked};
 pub use coordinator::Coordinator;

@@ -5,6 +5,8 @@
 mod asked;
 mod cell;
 mod lock;
+#[cfg(test)]
+mod tests;
 
 pub use asked::Asked;
 pub use cell::Cell;
