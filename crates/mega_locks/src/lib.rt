@@ -4,6 +4,7 @@
 
 mod asked;
 mod cell;
+pub mod laws;
 mod lock;
 #[cfg(test)]
 mod tests;
