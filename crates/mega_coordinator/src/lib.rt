@@ -6,6 +6,7 @@
 mod answers;
 mod cells;
 mod coordinator;
+pub mod laws;
 mod lease;
 mod standing;
 #[cfg(test)]

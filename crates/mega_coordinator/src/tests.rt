@@ -24,7 +24,9 @@ fn a_lock_regained_is_in_a_new_epoch(rt: HostRuntime) -> Result<(), Fail> {
     assert_eq!(rt; node.granted(2, epoch(0), 10 + LEASE, 10), Counted::Serving);
     assert_eq!(rt; node.granted(3, epoch(0), 10 + LEASE, 10), Counted::No);
     assert_eq!(rt; node.counted(), [true, true, false, false, false]);
-    node.validate(&group, Position(1), epoch(0)).ok().ok_or("refused")?;
+    node.validate(&group, Position(1), epoch(0))
+        .ok()
+        .ok_or("refused")?;
     assert!(rt; node.is_valid(&group));
     let ticked = node.tick(110);
     assert_eq!(rt; ticked.forgot, [true, true, false, false, false]);
@@ -42,7 +44,10 @@ fn a_lock_regained_is_in_a_new_epoch(rt: HostRuntime) -> Result<(), Fail> {
 fn validates_are_refused_in_order(rt: HostRuntime) -> Result<(), Fail> {
     let group = group(rt.alloc())?;
     let mut node = Coordinator::new(rt.alloc(), 1, 1);
-    assert_eq!(rt; node.validate(&group, Position(5), epoch(0)), Err(NotValid::NotServing));
+    assert_eq!(rt;
+        node.validate(&group, Position(5), epoch(0)),
+        Err(NotValid::NotServing)
+    );
     assert_eq!(rt; node.granted(1, epoch(0), 100, 0), Counted::Serving);
     node.invalidate(&group, Position(5))?;
     let beaten = NotValid::Beaten {
