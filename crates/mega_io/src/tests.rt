@@ -1,6 +1,4 @@
-use crate::{
-    Buffered, Failed, MemSink, MemSource, Sink, SinkError, Source, StdSink, StdSource, put,
-};
+use crate::{Failed, MemSink, MemSource, Sink, SinkError, Source, StdSink, StdSource, put};
 use std::test::Fail;
 
 fn read_some<S: Source>(source: &mut S) -> Result<(usize, [u8; 4]), Failed> {
@@ -20,14 +18,14 @@ fn a_source_in_memory_gives_its_bytes_and_fails_where_named(rt: HostRuntime) -> 
 }
 
 #[test]
-fn a_buffered_sink_writes_on_when_flushed(rt: HostRuntime) -> Result<(), Fail> {
+fn a_buffer_writes_on_when_flushed(rt: HostRuntime) -> Result<(), Fail> {
     let mut sink = MemSink::new(rt.alloc(), vec![in rt.alloc(); 2]?);
-    let mut buffered = Buffered::new(rt.alloc(), &mut sink);
-    assert!(rt; put(&mut buffered, b"ab").is_ok());
-    assert!(rt; buffered.flush().is_ok());
-    assert!(rt; put(&mut buffered, b"cd").is_ok());
-    assert_eq!(rt; buffered.flush().err(), Some(SinkError::Failed));
-    assert!(rt; buffered.flush().is_ok());
+    let mut buffer = WriteBuffer::new(rt.alloc());
+    assert!(rt; buffer.put(&mut sink, b"ab").is_ok());
+    assert!(rt; buffer.flush(&mut sink).is_ok());
+    assert!(rt; buffer.put(&mut sink, b"cd").is_ok());
+    assert_eq!(rt; buffer.flush(&mut sink).err(), Some(SinkError::Failed));
+    assert!(rt; buffer.flush(&mut sink).is_ok());
     assert_eq!(rt; sink.bytes(), b"abcd".as_slice());
     Ok(())
 }
