@@ -2,15 +2,25 @@
 #![tactic(auto)]
 
 mod bytes;
+mod coding;
 mod copied;
+mod cursor;
+mod fault;
+mod field;
 mod items;
 mod names;
 mod text;
 mod values;
+mod writers;
 
 pub use bytes::Bytes;
 pub use copied::{Copied, NoMemory};
+pub use coding::{decode, encode};
+pub use cursor::{BadByte, Cursor, CursorFault};
+pub use fault::FieldFault;
+pub use field::Field;
 pub use items::Items;
 pub use names::{Epoch, GroupId, NodeId, OpId, Position};
 pub use text::Text;
 pub use values::{Cell, Kind, NodeKind, Row, Shape, Value};
+pub use writers::{put_bytes, put_u8, put_u32, put_u64};

@@ -1,0 +1,7 @@
+pub mod Codecs
+pub mod Decoding
+pub mod Digits
+pub mod Lists
+pub mod Longer
+pub mod Powers
+pub mod Whole
