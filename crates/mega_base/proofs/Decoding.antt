@@ -5,7 +5,7 @@ use Rattle.mega_base.specs.Codec.{Codec, IsFirstBad}
 use Rattle.mega_base.specs.Faults.{Gives, OnMalformed}
 use Rattle.mega_base.specs.declared.fault.FieldFault.{FieldFault}
 use Rattle.mega_base.specs.declared.fault.FieldFault.TheVariants.{Malformed, NoMemory}
-use Rattle.mega_base.proofs.Whole.{whole_found, whole_only, whole_stops}
+use Rattle.mega_base.specs.Whole.{whole_found, whole_only, whole_stops}
 
 module _ {A : Type 0} (r : Place → Read A) (s : A → List ℕ) (O : List ℕ → Type 0) (F : A → Type 0) (c : Codec r s O F) (own : (x : A) → F x → O (s x)) (bytes : List ℕ) where
   pub found_by : (result : Result A FieldFault) → Gives result (whole_of r bytes) → IfOk result (λ x. F x × (bytes ≡ s x))

@@ -3,8 +3,8 @@ use Rattle.std.proofs.Common.{◌≡◌, ℕ, ◌+◌, ◌-◌, ◌^◌, ◌<◌
 use Rattle.std.specs.Int.{bytes_high_first}
 use Rattle.mega_base.specs.Reading.{Place, place, Read, number_in}
 use Rattle.mega_base.specs.Codec.{Stands, Codec}
-use Rattle.mega_base.proofs.Codecs.{ok_parts}
-use Rattle.mega_base.proofs.Digits.{number_codec, pow_256_pos}
+use Rattle.mega_base.specs.Codecs.{ok_parts}
+use Rattle.mega_base.specs.Digits.{number_codec, pow_256_pos}
 
 -- numbers of k bytes with one spelling are one
 pub number_same : (k m n : ℕ) (r t : List ℕ) → m < 256 ^ k → n < 256 ^ k → bytes_high_first k m ++ r ≡ bytes_high_first k n ++ t → m ≡ n

@@ -1,7 +1,7 @@
 -- Powers of 256 within 64 bits.
 use Rattle.std.proofs.Common.{◌≡◌, ℕ, zero, suc, ◌+◌, ◌-◌, ◌*◌, ◌^◌, ◌<◌, ◌≤◌, arith}
 use Rattle.std.proofs.Math.Nat.{pow-suc, pow-le-pow_right}
-use Rattle.mega_base.proofs.Digits.{pow_256_pos}
+use Rattle.mega_base.specs.Digits.{pow_256_pos}
 
 pub pow_le : (k m : ℕ) → k ≤ m → 256 ^ k ≤ 256 ^ m
 pow_le k m h = pow-le-pow_right {n = 256} (omega arith) {i = k} {j = m} h

@@ -1,5 +1,11 @@
 pub mod Causes
 pub mod Codec
+pub mod Codecs
+pub mod Digits
 pub mod Faults
 pub mod Fields
+pub mod Lists
+pub mod NameLaws
+pub mod Names
 pub mod Reading
+pub mod Whole

@@ -155,7 +155,7 @@ impl<'a> Cursor<'a> {
     }
 
     /// A number of four bytes from `low` to `high`, the highest byte first; a refusal leaves the cursor.
-    #[tactic(auto, using(crate::proofs::Digits::in_range))]
+    #[tactic(auto, using(crate::specs::Digits::in_range))]
     pub fn take_u32_between(&mut self, low: u32, high: u32) -> Result<u32, BadByte>
         requires { low ≤ high }
         ensures { ReadsHere result self.old self.new (number_in 4 low high self.old) }
@@ -171,7 +171,7 @@ impl<'a> Cursor<'a> {
     }
 
     /// A number of eight bytes from `low` to `high`, the highest byte first; a refusal leaves the cursor.
-    #[tactic(auto, using(crate::proofs::Digits::in_range))]
+    #[tactic(auto, using(crate::specs::Digits::in_range))]
     pub fn take_u64_between(&mut self, low: u64, high: u64) -> Result<u64, BadByte>
         requires { low ≤ high }
         ensures { ReadsHere result self.old self.new (number_in 8 low high self.old) }

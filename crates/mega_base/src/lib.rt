@@ -9,6 +9,7 @@ mod fault;
 mod field;
 mod items;
 mod list_fields;
+mod name_fields;
 mod names;
 mod text;
 mod values;

@@ -1,5 +1,5 @@
 use Rattle.std.proofs.Common.{◌^◌, ◌<◌, ◌≤◌, ◌≢◌, ◌-◌, arith}
-use Rattle.mega_base.proofs.Digits.{pow_256_pos}
+use Rattle.mega_base.specs.Digits.{pow_256_pos}
 use Rattle.mega_base.proofs.Powers.{scale_fits, next_fits, next_small}
 use Rattle.mega_base.proofs.cursor.Cursor.+digits.Goals as goal
 

@@ -10,8 +10,8 @@ use Rattle.std.proofs.lemmas.List.{take-append-drop, length-take, length-take-le
 use Rattle.std.proofs.Math.Seq.{take-append_seam, drop-append_seam, take-append-add}
 use Rattle.mega_base.specs.Reading.{Place, place, end_of, Read, ◌>>=◌, byte_in, number_in, bytes_of_len, bytes_in, items_at, list_in, option_at, nested_at, whole_of}
 use Rattle.mega_base.specs.Codec.{Stands, first_of, Stop, Codec, IsText, IsBetween, one_byte, IsCons, AreItems, IsList, list_text, option_text, IsOption, bytes_text, HasLen, IsNested, OpensNested, IsFirstBad}
-use Rattle.mega_base.proofs.Codecs.{bind-ok, bind-err, bind-is_err, ok_parts, if-ok, bind_codec, then_codec, embed_codec, variant_codec, refit_codec, fits_codec, if_codec, pure_codec, byte_codec}
-use Rattle.mega_base.proofs.Digits.{number_codec}
+use Rattle.mega_base.specs.Codecs.{bind-ok, bind-err, bind-is_err, ok_parts, if-ok, bind_codec, then_codec, embed_codec, variant_codec, refit_codec, fits_codec, if_codec, pure_codec, byte_codec}
+use Rattle.mega_base.specs.Digits.{number_codec}
 
 pub All-head : {A : Type 0} (P : A → Type 0) (x : A) (xs : List A) → All P (x ∷ xs) → P x
 All-head P x xs h = h 0 x (omega arith)

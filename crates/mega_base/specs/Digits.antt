@@ -6,7 +6,7 @@ use Rattle.std.proofs.lemmas.Bool.{cases_lt}
 use Rattle.std.specs.Int.{bytes_high_first, byte_at}
 use Rattle.mega_base.specs.Reading.{Place, place, Read, ◌>>=◌, byte_in, digits_in, number_in}
 use Rattle.mega_base.specs.Codec.{Stands, Stop, Codec, IsText, IsBetween, one_byte}
-use Rattle.mega_base.proofs.Codecs.{bind_codec, byte_codec, fits_codec, ok_parts}
+use Rattle.mega_base.specs.Codecs.{bind_codec, byte_codec, fits_codec, ok_parts}
 
 pub pow_256_pos : (k : ℕ) → 0 < 256 ^ k
 pow_256_pos zero = omega arith

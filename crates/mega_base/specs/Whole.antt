@@ -8,8 +8,8 @@ use Rattle.std.proofs.lemmas.List.{take-append-drop, length-take, length-take-le
 use Rattle.std.proofs.Math.Seq.{take-append_seam, drop-append_seam, take-append-add}
 use Rattle.mega_base.specs.Reading.{Place, place, end_of, Read, ◌>>=◌, number_in, nested_at, whole_of}
 use Rattle.mega_base.specs.Codec.{Stands, first_of, Stop, Codec, IsText, IsBetween, IsNested, OpensNested, nested_text, IsFirstBad}
-use Rattle.mega_base.proofs.Codecs.{bind-ok, bind-err, bind-is_err, ok_parts, if-ok, bind_codec, refit_codec}
-use Rattle.mega_base.proofs.Digits.{number_codec}
+use Rattle.mega_base.specs.Codecs.{bind-ok, bind-err, bind-is_err, ok_parts, if-ok, bind_codec, refit_codec}
+use Rattle.mega_base.specs.Digits.{number_codec}
 
 -- the first byte of what a shorter text has left
 first_of-take : (m : ℕ) (other rest tail : List ℕ) → first_of other ≡ first_of (rest ++ tail) → length rest ≤ m → (length rest < m → tail ≡ []) → first_of (take m other) ≡ first_of rest
