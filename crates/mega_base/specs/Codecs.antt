@@ -2,7 +2,7 @@
 use Rattle.std.proofs.Common.{◌≡◌, ℕ, zero, suc, ◌+◌, ◌-◌, ◌<◌, ◌≤◌, Bool, true, false, List, [], ◌∷◌, ◌++◌, length, take, drop, refl, sym, ◌∙◌, ap, subst, inl, inr, ◌⊎◌, Result, Ok, Err, Option, Some, None, IsErr, arith, append_assoc, length-append, add_assoc, add-zero}
 use Rattle.std.specs.Prelude.{if◌then◌else◌, nat_le, ◌&&◌}
 use Rattle.std.proofs.lemmas.Bool.Decides.{nat_tests}
-use Rattle.mega_base.specs.Reading.{Place, place, Read, ◌>>=◌, first_in, byte_in}
+use Rattle.mega_base.specs.Reading.{Place, place, Read, ◌>>=◌, first_in, byte_in, first_where, byte_where}
 use Rattle.mega_base.specs.Codec.{Stands, first_of, Stop, Codec, IsText, IsBetween, one_byte}
 
 -- a reading in two steps that gives a value took both
@@ -251,3 +251,34 @@ byte_codec low high order = record {
     let t = first_in-err low high p.at p.left at h in
     record { front = []; rest = p.left; text = refl; offset = omega (arith, t.0); more = low ∷ []; opens = (low, (omega arith, order), refl); blocked = t.1 }
 }
+
+-- a byte that passes a test, of which one is known
+pub where_codec : (test : ℕ → Bool) (w : ℕ) → test w ≡ true → Codec (byte_where test) one_byte (IsText one_byte (λ b. test b ≡ true)) (λ b. test b ≡ true)
+unfolding byte_where
+where_codec test w passes = record {
+  takes = λ p b q h. let t = taken p.at p.left b q h in (record { text = t.0; offset = t.1 }, t.2);
+  again = λ at b rest f. rw f refl;
+  stops = λ p at h.
+    let t = refused p.at p.left at h in
+    record { front = []; rest = p.left; text = refl; offset = omega (arith, t.0); more = w ∷ []; opens = (w, passes, refl); blocked = t.1 }
+}
+  where
+    taken : (at : ℕ) (left : List ℕ) (b : ℕ) (q : Place) → first_where test at left ≡ Ok (b, q) → (left ≡ b ∷ q.left) × (q.at ≡ at + 1) × (test b ≡ true)
+    taken at [] b q h = absurd (cc)
+    taken at (c ∷ rest) b q h = elim (if-ok (test c) (Ok (c, place (at + 1) rest)) (Err at) (Ok (b, q)) h) [
+        inl k ↦ let e : (c ≡ b) × (place (at + 1) rest ≡ q) = ok_parts c b (place (at + 1) rest) q k.1 in
+                (ap (λ z. z ∷ rest) e.0 ∙ ap (λ (z : Place). b ∷ z.left) e.1, sym (ap (λ (z : Place). z.at) e.1), ap test (sym e.0) ∙ k.0)
+      | inr k ↦ absurd (let l : Err at ≡ Ok (b, q) = k.1 in cc)
+    ]
+    blocked_at : (at c : ℕ) (rest : List ℕ) → test c ≡ false → (other : List ℕ) → first_of other ≡ first_of (c ∷ rest) → IsErr (first_where test at other)
+    blocked_at at c rest fails [] k = absurd (cc)
+    blocked_at at c rest fails (d ∷ other) k = let same : d ≡ c = cc in rw (same, fails) refl
+    blocked_end : (at : ℕ) (other : List ℕ) → first_of other ≡ first_of [] → IsErr (first_where test at other)
+    blocked_end at [] k = refl
+    blocked_end at (c ∷ rest) k = absurd (cc)
+    refused : (at : ℕ) (left : List ℕ) (e : ℕ) → first_where test at left ≡ Err e → (e ≡ at) × ((other : List ℕ) → first_of other ≡ first_of left → IsErr (first_where test at other))
+    refused at [] e h = (cc, blocked_end at)
+    refused at (c ∷ rest) e h = elim (if-ok (test c) (Ok (c, place (at + 1) rest)) (Err at) (Err e) h) [
+        inl k ↦ absurd (let l : Ok (c, place (at + 1) rest) ≡ Err e = k.1 in cc)
+      | inr k ↦ (let l : Err at ≡ Err e = k.1 in cc, blocked_at at c rest k.0)
+    ]

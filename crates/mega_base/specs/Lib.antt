@@ -1,4 +1,5 @@
 pub mod Causes
+pub mod Chars
 pub mod Codec
 pub mod Codecs
 pub mod Digits
@@ -8,4 +9,5 @@ pub mod Lists
 pub mod NameLaws
 pub mod Names
 pub mod Reading
+pub mod Utf8
 pub mod Whole

@@ -27,6 +27,14 @@ abbrev pub first_in : ℕ → ℕ → ℕ → List ℕ → Read ℕ
 first_in low high at [] = Err at
 first_in low high at (b ∷ rest) = if nat_le low b && nat_le b high then Ok (b, place (at + 1) rest) else Err at
 
+-- a byte that passes the test
+abbrev pub first_where : (ℕ → Bool) → ℕ → List ℕ → Read ℕ
+first_where test at [] = Err at
+first_where test at (b ∷ rest) = if test b then Ok (b, place (at + 1) rest) else Err at
+
+unfoldable pub byte_where : (ℕ → Bool) → Place → Read ℕ
+byte_where test p = first_where test p.at p.left
+
 -- one byte from low to high
 unfoldable pub byte_in : ℕ → ℕ → Place → Read ℕ
 byte_in low high p = first_in low high p.at p.left
