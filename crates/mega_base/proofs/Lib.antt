@@ -3,3 +3,4 @@ pub mod Keeps
 pub mod Longer
 pub mod Loops
 pub mod Powers
+pub mod Texts

@@ -282,3 +282,8 @@ where_codec test w passes = record {
         inl k ↦ absurd (let l : Ok (c, place (at + 1) rest) ≡ Err e = k.1 in cc)
       | inr k ↦ (let l : Err at ≡ Err e = k.1 in cc, blocked_at at c rest k.0)
     ]
+
+-- a byte that was read is in its range
+pub byte_most : (low high : ℕ) (p : Place) (b : ℕ) (q : Place) → byte_in low high p ≡ Ok (b, q) → b ≤ high
+unfolding byte_in
+byte_most low high p b q h = (first_in-ok low high p.at p.left b q h).3

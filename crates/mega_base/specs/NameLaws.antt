@@ -12,6 +12,8 @@ use Rattle.mega_base.specs.declared.names.GroupId.{GroupId}
 use Rattle.mega_base.specs.Codecs.{byte_codec, then_codec, map_codec, fits_codec}
 use Rattle.mega_base.specs.Digits.{number_codec}
 use Rattle.mega_base.specs.Lists.{bytes_codec}
+use Rattle.mega_base.specs.Utf8.{whole_text_at, IsWholeText}
+use Rattle.mega_base.specs.Chars.{text_codec}
 
 -- the texts of the grammar begin themselves
 pub own_text : {A : Type 0} (s : A → List ℕ) (F : A → Type 0) (x : A) → F x → IsText s F (s x)
@@ -75,3 +77,6 @@ group_codec =
 
 pub any_position_codec : Codec position_at position_text (IsText position_text IsPosition) IsPosition
 any_position_codec = position_codec 0 18446744073709551615 (omega arith) (omega arith)
+
+pub whole_text_codec : Codec whole_text_at bytes_text (IsText bytes_text IsWholeText) IsWholeText
+whole_text_codec = text_codec 0 65536 (omega arith) (omega arith)

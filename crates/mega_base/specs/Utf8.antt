@@ -55,3 +55,10 @@ text_in low high p =
 -- from low to high bytes of UTF-8
 abbrev pub IsTextIn : ℕ → ℕ → List ℕ → Type 0
 IsTextIn low high bytes = IsUtf8 bytes × HasLen low high bytes
+
+-- at most 65,536 bytes of UTF-8
+abbrev pub whole_text_at : Place → Read (List ℕ)
+whole_text_at p = text_in 0 65536 p
+
+abbrev pub IsWholeText : List ℕ → Type 0
+IsWholeText bytes = IsTextIn 0 65536 bytes

@@ -25,8 +25,8 @@ pub struct BadByte {
 /// Reads fields from the front of a text. Contracts see the offset and the bytes that are left.
 #[derive(Drop)]
 pub struct Cursor<'a> {
-    at: u64,
-    left: &'a [u8],
+    pub(crate) at: u64,
+    pub(crate) left: &'a [u8],
 }
 
 impl<'a> Model for Cursor<'a> {

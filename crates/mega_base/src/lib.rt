@@ -12,6 +12,7 @@ mod list_fields;
 mod name_fields;
 mod names;
 mod text;
+mod text_field;
 mod values;
 mod writers;
 
@@ -25,5 +26,6 @@ pub use items::Items;
 pub use list_fields::{put_list, put_option, take_list, take_option};
 pub use names::{Epoch, GroupId, NodeId, OpId, Position};
 pub use text::Text;
+pub use text_field::take_text;
 pub use values::{Cell, Kind, NodeKind, Row, Shape, Value};
 pub use writers::{put_bytes, put_u8, put_u32, put_u64};
