@@ -81,12 +81,17 @@ option_at read p =
   byte_in 0 1 p >>= λ b.
   if b.0 == 0 then Ok (None, b.1) else read b.1 >>= λ x. Ok (Some x.0, x.1)
 
+-- a text of n bytes that read takes whole
+unfoldable pub within : {A : Type 0} → (Place → Read A) → ℕ → Place → Read A
+within read n p =
+  read (place p.at (take n p.left)) >>= λ x.
+  if x.1.at == p.at + n then Ok (x.0, place x.1.at (drop n p.left)) else Err x.1.at
+
 -- a length of at most limit, in four bytes, and a text of that length that read takes whole
 unfoldable pub nested_at : {A : Type 0} → ℕ → (Place → Read A) → Place → Read A
 nested_at limit read p =
   number_in 4 0 limit p >>= λ n.
-  read (place n.1.at (take n.0 n.1.left)) >>= λ x.
-  if x.1.at == n.1.at + n.0 then Ok (x.0, place x.1.at (drop n.0 n.1.left)) else Err x.1.at
+  within read n.0 n.1
 
 -- a whole text, which has no bytes left over
 unfoldable pub whole_of : {A : Type 0} → (Place → Read A) → List ℕ → Result A ℕ

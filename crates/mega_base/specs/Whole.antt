@@ -6,7 +6,7 @@ use Rattle.std.proofs.lemmas.Bool.Decides.{nat_tests}
 use Rattle.std.proofs.lemmas.Bool.{cases_lt}
 use Rattle.std.proofs.lemmas.List.{take-append-drop, length-take, length-take-le, length-drop}
 use Rattle.std.proofs.Math.Seq.{take-append_seam, drop-append_seam, take-append-add}
-use Rattle.mega_base.specs.Reading.{Place, place, end_of, Read, ◌>>=◌, number_in, nested_at, whole_of}
+use Rattle.mega_base.specs.Reading.{Place, place, end_of, Read, ◌>>=◌, number_in, within, nested_at, whole_of}
 use Rattle.mega_base.specs.Codec.{Stands, first_of, Stop, Codec, IsText, IsBetween, IsNested, OpensNested, nested_text, IsFirstBad}
 use Rattle.mega_base.specs.Codecs.{bind-ok, bind-err, bind-is_err, ok_parts, if-ok, bind_codec, refit_codec}
 use Rattle.mega_base.specs.Digits.{number_codec}
@@ -27,14 +27,9 @@ is_empty (b ∷ l) h = absurd (omega arith)
 take-append-more : (n : ℕ) (a b : List ℕ) → length a ≤ n → take n (a ++ b) ≡ a ++ take (n - length a) b
 take-append-more n a b h = let e : n ≡ length a + (n - length a) = omega arith in subst (λ (m : ℕ). take m (a ++ b) ≡ a ++ take (n - length a) b) (sym e) (take-append-add a b (n - length a))
 
--- the text of a value within n bytes
-abbrev within : {A : Type 0} → (Place → Read A) → ℕ → Place → Read A
-within read n p =
-  read (place p.at (take n p.left)) >>= λ x.
-  if x.1.at == p.at + n then Ok (x.0, place x.1.at (drop n p.left)) else Err x.1.at
-
 within_codec : {A : Type 0} (r : Place → Read A) (s : A → List ℕ) (F : A → Type 0) → Codec r s (IsText s F) F
     → (n : ℕ) → Codec (within r n) s (IsText s F) (λ x. F x × (length (s x) ≡ n))
+unfolding within
 within_codec {A} r s F c n = record {
   takes = λ p y q h.
     let read = bind-ok (r (place p.at (take n p.left))) (last p) (y, q) h in
