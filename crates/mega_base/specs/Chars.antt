@@ -361,7 +361,7 @@ chars_codec (suc fuel) n few =
     apart : 0 < n → (cs : List ℕ) → AreChars n cs → IsCons (IsCharIn (n - 1)) (λ c. AreChars (n - len_utf8 c)) cs
     apart some [] h = absurd (omega (arith, h.size, some))
     apart some (c ∷ cs) h =
-      let both = and_parts _ _ h.scalars in
+      let both : (IsScalar c) × (all_scalars cs ≡ true) = and_parts _ _ h.scalars in
       let sum : len_utf8 c + length (flat_map encode_utf8 cs) ≡ n = omega (arith, h.size, length-append (encode_utf8 c) (flat_map encode_utf8 cs), length-encode c) in
       ((both.0, omega (arith, sum)), record { scalars = both.1; size = omega (arith, sum) })
 

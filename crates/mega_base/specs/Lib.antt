@@ -10,4 +10,6 @@ pub mod NameLaws
 pub mod Names
 pub mod Reading
 pub mod Utf8
+pub mod ValueLaws
+pub mod Values
 pub mod Whole

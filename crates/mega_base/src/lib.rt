@@ -14,6 +14,7 @@ mod nested;
 mod names;
 mod text;
 mod text_field;
+mod value_fields;
 mod values;
 mod writers;
 

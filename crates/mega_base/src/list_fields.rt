@@ -77,7 +77,7 @@ pub fn put_option<T: Field>(value: &Option<T>, out: &mut Bytes) -> Result<(), No
 }
 
 /// Appends the items, one after another.
-fn put_items<T: Field>(items: &[T], out: &mut Bytes) -> Result<(), NoMemory>
+pub(crate) fn put_items<T: Field>(items: &[T], out: &mut Bytes) -> Result<(), NoMemory>
     requires { All T.fits items.now }
     ensures ok { OnOk result (out.new ≡ out.old ++ flat_map T.spells items.now) }
     ensures err { OnErr result (take (length out.old) out.new ≡ out.old) }
