@@ -3,4 +3,5 @@ pub mod Keeps
 pub mod Longer
 pub mod Loops
 pub mod Powers
+pub mod Rising
 pub mod Texts

@@ -188,6 +188,6 @@ row_codec =
     (λ row f. ((omega arith, f.few), (record { rising = f.rising; count = refl }, refl)))
 
 -- cells that rise are cells, each by itself
-pub rising-each : (low : ℕ) (cells : List Cell) → Ascends low cells → All (IsCellIn 0 255) cells
-rising-each low [] h = All-nil (IsCellIn 0 255)
-rising-each low (cell ∷ cells) h = All-cons (IsCellIn 0 255) cell cells ((omega arith, h.0.0.1), h.0.1) (rising-each (cell.property + 1) cells h.1)
+pub rising_each : (low : ℕ) (cells : List Cell) → Ascends low cells → All (IsCellIn 0 255) cells
+rising_each low [] h = All-nil (IsCellIn 0 255)
+rising_each low (cell ∷ cells) h = All-cons (IsCellIn 0 255) cell cells ((omega arith, h.0.0.1), h.0.1) (rising_each (cell.property + 1) cells h.1)

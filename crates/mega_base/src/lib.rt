@@ -12,6 +12,7 @@ mod list_fields;
 mod name_fields;
 mod nested;
 mod names;
+mod row_fields;
 mod text;
 mod text_field;
 mod value_fields;

@@ -1,7 +1,7 @@
 ghost use Rattle.std.specs.Prelude.{◌≡◌, ◌≤◌, ◌<◌, ◌^◌, ◌++◌, length, take, OnOk, OnErr, All};
 ghost use Rattle.std.specs.List.{flat_map};
 ghost use Rattle.mega_base.specs.Reading.{items_at, list_in, option_at, nested_at};
-ghost use Rattle.mega_base.specs.Codec.{IsList, IsOption, IsNested, list_text, option_text, nested_text};
+ghost use Rattle.mega_base.specs.Codec.{IsOption, IsNested, list_text, option_text, nested_text};
 ghost use Rattle.mega_base.specs.Faults.{Reads};
 
 use crate::bytes::Bytes;
@@ -53,7 +53,8 @@ pub fn take_option<T: Field>(alloc: Global, cursor: &mut Cursor<'_>) -> Result<O
 
 /// Appends the count and the items. A refusal may leave a part of the text in `out`.
 pub fn put_list<T: Field>(items: &Items<T>, out: &mut Bytes) -> Result<(), NoMemory>
-    requires { IsList 0 4294967295 T.fits items.now }
+    requires each { All T.fits items.now }
+    requires few { length items.now < 2 ^ 32 }
     ensures ok { OnOk result (out.new ≡ out.old ++ list_text T.spells items.now) }
     ensures err { OnErr result (take (length out.old) out.new ≡ out.old) }
 {

@@ -1,15 +1,10 @@
-ghost use Rattle.std.specs.Prelude.{◌≤◌};
-ghost use Rattle.mega_base.specs.Faults.{Reads};
-
 use crate::bytes::Bytes;
 use crate::copied::NoMemory;
 use crate::cursor::Cursor;
 use crate::fault::FieldFault;
 use crate::field::Field;
-use crate::items::Items;
-use crate::list_fields::{put_items, put_list, take_list};
 use crate::text::Text;
-use crate::values::{Cell, Row, Value};
+use crate::values::Value;
 use crate::writers::{put_bytes, put_u8, put_u32, put_u64};
 use std::alloc::Global;
 
