@@ -1,9 +1,6 @@
 -- The readings of a clock in memory.
+use Rattle.mega_link.specs.declared.clock.TheConstants.{LATEST}
 use Rattle.std.specs.Prelude.{◌≡◌, ℕ, ◌+◌, ◌-◌, ◌^◌, ◌≤◌, ◌<◌, List, [], ◌∷◌, length, slice_index, All}
-
--- the latest reading that any clock gives
-abbrev pub LATEST : ℕ
-LATEST = 1000000000000
 
 -- no reading is below the one before it
 abbrev pub NeverFalls : List ℕ → Type 0

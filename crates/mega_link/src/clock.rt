@@ -1,6 +1,8 @@
 ghost use Rattle.std.specs.Prelude.{◌≡◌, ℕ, ◌≤◌, List, Option};
 ghost use Rattle.mega_link.specs.Datagrams.{Gains};
-ghost use Rattle.mega_link.specs.Readings.{LATEST};
+
+/// The latest reading of a clock.
+pub const LATEST: u64 = 1_000_000_000_000;
 
 /// A clock that never goes back and reads at most 10^12.
 pub trait Clock {

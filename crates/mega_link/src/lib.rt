@@ -8,10 +8,16 @@ mod mem_clock;
 mod mem_link;
 mod outbox;
 mod peer;
+mod std_clock;
+#[cfg(test)]
+mod tests;
+mod udp_link;
 
-pub use clock::Clock;
+pub use clock::{Clock, LATEST};
 pub use link::Link;
 pub use mem_clock::MemClock;
 pub use mem_link::MemLink;
 pub use outbox::Outbox;
 pub use peer::{Failed, Peer};
+pub use std_clock::StdClock;
+pub use udp_link::UdpLink;

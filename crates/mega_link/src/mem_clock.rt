@@ -1,9 +1,9 @@
 ghost use Rattle.std.specs.Prelude.{◌≡◌, ◌≤◌, ℕ, List, [], All, drop, Some};
 ghost use Rattle.mega_link.specs.Datagrams.{Gains};
-ghost use Rattle.mega_link.specs.Readings.{LATEST, NeverFalls};
+ghost use Rattle.mega_link.specs.Readings.{NeverFalls};
 ghost use Rattle.mega_link.specs.Told.{next_or};
 
-use crate::clock::Clock;
+use crate::clock::{Clock, LATEST};
 use std::marker::Model;
 
 /// A clock in memory, which gives its readings in order and stays at the last, or at 0 where there is none.

@@ -1,4 +1,4 @@
-ghost use Rattle.std.specs.Prelude.{◌≡◌, [], ◌==◌, length, Some, None};
+ghost use Rattle.std.specs.Prelude.{◌≡◌, ℕ, ◌≤◌, [], ◌==◌, ◌++◌, length, take, Some, None, IfSome, OnOk, OnErr, option_map};
 
 use crate::link::Link;
 use crate::peer::{Failed, Peer};
@@ -20,6 +20,20 @@ impl Model for Outbox {
     ghost Value = { List Datagram };
 
     ghost view = { λ outbox. outbox.datagrams.items };
+}
+
+/// Sends these datagrams over a link, in order. Where an allocation is refused the link has sent the first
+/// of them.
+fn send_each<L: Link>(datagrams: &[(Peer, Bytes)], link: &mut L) -> Result<(), NoMemory>
+    ensures ok { OnOk result (L.sent link.new ≡ option_map (λ all. all ++ datagrams.now) (L.sent link.old)) }
+    ensures err { OnErr result ((count : ℕ) × (L.sent link.new ≡ option_map (λ all. all ++ take count datagrams.now) (L.sent link.old))) }
+    ensures taken { L.taken link.new ≡ L.taken link.old }
+    ensures faults { L.faults link.new ≡ L.faults link.old }
+{
+    for (to, bytes) in datagrams {
+        link.send(*to, bytes.as_slice())?;
+    }
+    Ok(())
 }
 
 impl Outbox {
@@ -53,6 +67,17 @@ impl Outbox {
         self.datagrams.is_empty()
     }
 
+    /// Sends what was sent here over another link, in order. Where an allocation is refused the link has
+    /// sent the first of them.
+    pub fn send_all<L: Link>(&self, link: &mut L) -> Result<(), NoMemory>
+        ensures ok { OnOk result (L.sent link.new ≡ option_map (λ all. all ++ self.now) (L.sent link.old)) }
+        ensures err { OnErr result ((count : ℕ) × (L.sent link.new ≡ option_map (λ all. all ++ take count self.now) (L.sent link.old))) }
+        ensures taken { L.taken link.new ≡ L.taken link.old }
+        ensures faults { L.faults link.new ≡ L.faults link.old }
+    {
+        send_each(self.datagrams.as_slice(), link)
+    }
+
     /// Forgets what was sent, and keeps its memory.
     pub fn clear(&mut self)
         ensures { self.new ≡ [] }
@@ -78,7 +103,14 @@ impl Link for Outbox {
         Ok(())
     }
 
-    fn receive(&mut self, _into: &mut [u8]) -> Option<(Peer, usize)> {
+    fn receive(&mut self, into: &mut [u8]) -> Option<(Peer, usize)>
+        requires { 65507 ≤ length into.old }
+        ensures bound { IfSome result (λ found. found.1 ≤ length into.new) }
+        ensures sent { self.new ≡ self.old }
+        ensures nothing { result ≡ None }
+        ensures buffer { into.new ≡ into.old }
+    {
+        let _ = into;
         None
     }
 }
