@@ -1,0 +1,10 @@
+//! The bytes of row keys, entity groups and index entries: their order is the order of the values.
+#![tactic(auto)]
+
+mod fault;
+mod fit;
+mod spelling;
+mod write;
+
+pub use fault::KeyFault;
+pub use write::{group_of, index_key, row_key};
