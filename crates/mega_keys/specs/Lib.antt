@@ -1,3 +1,4 @@
 pub mod Spelling
 pub mod Fit
 pub mod Answers
+pub mod Reading

@@ -3,8 +3,10 @@
 
 mod fault;
 mod fit;
+mod read;
 mod spelling;
 mod write;
 
 pub use fault::KeyFault;
+pub use read::read_key;
 pub use write::{group_of, index_key, row_key};

@@ -12,7 +12,7 @@ use crate::fit::misplaced;
 use crate::spelling::{put_plain_values, put_values};
 
 /// The most bytes that a key may have.
-const LONGEST: usize = 1024;
+pub const LONGEST: usize = 1024;
 
 /// The two bytes that stand before the root key values of a scattered root.
 #[tactic(auto, unfolding(crate::specs::Spelling::scattered))]
