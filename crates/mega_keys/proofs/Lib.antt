@@ -1,3 +1,5 @@
 pub mod Places
 pub mod Escapes
 pub mod ReadValues
+pub mod Again
+pub mod Takes

@@ -29,7 +29,7 @@ text_fails found n no_text = ap (λ b. cond b (Ok (Str found)) (Err (n - length 
 others : Value → List Kind → List ℕ → Read (List Value)
 others v ks rest = with_front (v ∷ []) (values_at ks rest)
 
-values_cons : (k : Kind) (ks : List Kind) (v : Value) (left rest : List ℕ) → value_at k left ≡ Ok (v, rest) → values_at (k ∷ ks) left ≡ with_front (v ∷ []) (values_at ks rest)
+pub values_cons : (k : Kind) (ks : List Kind) (v : Value) (left rest : List ℕ) → value_at k left ≡ Ok (v, rest) → values_at (k ∷ ks) left ≡ with_front (v ∷ []) (values_at ks rest)
 unfolding values_at
 values_cons k ks v left rest h =
     ap (λ (r : Read Value). r >>= λ first. values_at ks first.1 >>= λ more. Ok (first.0 ∷ more.0, more.1)) h ∙ joins (values_at ks rest)

@@ -1,5 +1,5 @@
 -- Which values stand in which places.
-use Rattle.std.specs.Prelude.{ℕ, ◌+◌, ◌<◌, ◌^◌, ◌≤ℤ◌, ◌<ℤ◌, ℤ, pos, negsuc, Bool, true, false, if◌then◌else◌, List, [], ◌∷◌, ◌++◌, Option, Some, None, IsTrue, IsUtf8}
+use Rattle.std.specs.Prelude.{◌≡◌, ℕ, ◌+◌, ◌<◌, ◌^◌, ℤ, pos, negsuc, Bool, true, false, if◌then◌else◌, List, [], ◌∷◌, ◌++◌, Option, Some, None, IsUtf8}
 use Rattle.mega_base.specs.declared.values.Value.{Value}
 use Rattle.mega_base.specs.declared.values.Value.TheVariants.{Int32, Int64, Bool as Truth, Str, Raw}
 use Rattle.mega_base.specs.declared.values.Kind.{Kind}
@@ -15,13 +15,6 @@ has_kind kinds.Str (Str t) = true
 has_kind kinds.Raw (Raw b) = true
 has_kind _ _ = false
 
--- each value is of the kind of its place, and each place has a value
-abbrev pub HaveKinds : List Kind → List Value → Type 0
-HaveKinds [] [] = Unit {0}
-HaveKinds [] (v ∷ vs) = ⊥
-HaveKinds (k ∷ ks) [] = ⊥
-HaveKinds (k ∷ ks) (v ∷ vs) = IsTrue (has_kind k v) × HaveKinds ks vs
-
 -- the first value, counted from i, that is of another kind than its place or has no place
 abbrev pub misplaced : List Kind → List Value → ℕ → Option ℕ
 misplaced ks [] i = None
@@ -31,3 +24,23 @@ misplaced (k ∷ ks) (v ∷ vs) i = if has_kind k v then misplaced ks vs (i + 1)
 -- the kinds of a row key's values
 abbrev pub key_kinds : Shape → List Kind
 key_kinds shape = shape.root_kinds ++ shape.rest_kinds
+
+-- the signed number is in the range of half numbers to either side
+abbrev pub IsWithin : ℕ → ℤ → Type 0
+IsWithin half (pos n) = n < half
+IsWithin half (negsuc n) = n < half
+
+-- a value that the program can hold
+abbrev pub IsValue : Value → Type 0
+IsValue (Int32 z) = IsWithin (2 ^ 31) z
+IsValue (Int64 z) = IsWithin (2 ^ 63) z
+IsValue (Truth b) = Unit {0}
+IsValue (Str text) = IsUtf8 text
+IsValue (Raw bytes) = Unit {0}
+
+-- such values, each of the kind of its place, and one for each place
+abbrev pub StandIn : List Kind → List Value → Type 0
+StandIn [] [] = Unit {0}
+StandIn [] (v ∷ vs) = ⊥
+StandIn (k ∷ ks) [] = ⊥
+StandIn (k ∷ ks) (v ∷ vs) = (has_kind k v ≡ true) × IsValue v × StandIn ks vs
