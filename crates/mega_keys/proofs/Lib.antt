@@ -3,3 +3,4 @@ pub mod Escapes
 pub mod ReadValues
 pub mod Again
 pub mod Takes
+pub mod Order

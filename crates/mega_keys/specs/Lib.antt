@@ -2,3 +2,4 @@ pub mod Spelling
 pub mod Fit
 pub mod Answers
 pub mod Reading
+pub mod Order
