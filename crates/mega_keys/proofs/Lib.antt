@@ -4,3 +4,4 @@ pub mod ReadValues
 pub mod Again
 pub mod Takes
 pub mod Order
+pub mod Keys

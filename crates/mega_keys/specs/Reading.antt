@@ -140,13 +140,19 @@ root_at true kinds bytes = do
   right ← agree marks.0 (scattered root.0) (length bytes)
   Ok root
 
-unfoldable pub key_at : Shape → List ℕ → Result (List Value) ℕ
-key_at shape bytes = do
+unfoldable pub key_front_at : Shape → List ℕ → Read (List Value)
+key_front_at shape bytes = do
   head ← byte_at shape.space bytes
   root ← root_at shape.scatter shape.root_kinds head
   table ← byte_at shape.table root.1
   rest ← values_at shape.rest_kinds table
-  if length rest.1 == 0 then Ok (root.0 ++ rest.0) else Err (length rest.1)
+  Ok (root.0 ++ rest.0, rest.1)
+
+-- a key and nothing behind it
+unfoldable pub key_at : Shape → List ℕ → Result (List Value) ℕ
+key_at shape bytes = do
+  key ← key_front_at shape bytes
+  if length key.1 == 0 then Ok key.0 else Err (length key.1)
 
 -- bytes behind the 1,024th cannot stand
 abbrev pub answer_of : List ℕ → Result (List Value) ℕ → Result (List Value) KeyFault

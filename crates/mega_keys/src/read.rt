@@ -4,7 +4,7 @@ ghost use Rattle.std.specs.List.{flat_map};
 ghost use Rattle.mega_keys.specs.declared.read.Stop.TheVariants.{Refused as Spent};
 ghost use Rattle.mega_keys.specs.Spelling.{scattered, escape};
 ghost use Rattle.mega_keys.specs.Answers.{Gives};
-ghost use Rattle.mega_keys.specs.Reading.{Reads, ReadsBy, Passes, number_at, lowered, int32_at, int64_at, truth_at, unescaped, unit_at, raw_at, text_of, text_at, value_at, values_at, byte_at, marks_at, agree, root_at, key_at, read_key_of};
+ghost use Rattle.mega_keys.specs.Reading.{Reads, ReadsBy, Passes, number_at, lowered, int32_at, int64_at, truth_at, unescaped, unit_at, raw_at, text_of, text_at, value_at, values_at, byte_at, marks_at, agree, root_at, key_front_at, key_at, read_key_of};
 
 use std::alloc::Global;
 use std::marker::Model;
@@ -196,18 +196,26 @@ impl<'a> KeyReader<'a> {
         Ok(root)
     }
 
-    #[tactic(auto, unfolding(crate::specs::Reading::key_at))]
+    #[tactic(auto, unfolding(crate::specs::Reading::key_front_at))]
     fn take_key(&mut self, alloc: Global, shape: &Shape) -> Result<Items<Value>, Stop>
-        ensures { ReadsBy (λ values. values) result (key_at shape.now self.old) }
+        ensures { Reads result self.new (key_front_at shape.now self.old) }
     {
         self.take_byte(shape.space)?;
         let root = self.take_root(alloc, shape.scatter, shape.root_kinds.as_slice())?;
         self.take_byte(shape.table)?;
         let rest = self.take_values(alloc, shape.rest_kinds.as_slice())?;
+        Ok(joined(root, rest)?)
+    }
+
+    #[tactic(auto, unfolding(crate::specs::Reading::key_at))]
+    fn take_whole_key(&mut self, alloc: Global, shape: &Shape) -> Result<Items<Value>, Stop>
+        ensures { ReadsBy (λ values. values) result (key_at shape.now self.old) }
+    {
+        let values = self.take_key(alloc, shape)?;
         if !self.left.is_empty() {
             return Err(Stop::Left(self.left.len()));
         }
-        Ok(joined(root, rest)?)
+        Ok(values)
     }
 }
 
@@ -265,7 +273,7 @@ pub fn read_key(alloc: Global, shape: &Shape, key: &[u8]) -> Result<Items<Value>
 {
     let front = front_of(key);
     let mut reader = KeyReader { left: front };
-    match reader.take_key(alloc, shape) {
+    match reader.take_whole_key(alloc, shape) {
         Err(Stop::Refused) => Err(KeyFault::NoMemory),
         Err(Stop::Left(left)) => Err(KeyFault::NotKey {
             at: front.len().saturating_sub(left) as u64,
