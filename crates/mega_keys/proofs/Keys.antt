@@ -1,15 +1,24 @@
 -- Whole keys: what was spelled is read again, what was read was spelled so, and the order is that of the values.
-use Rattle.std.proofs.Common.{◌≡◌, ℕ, zero, suc, ◌+◌, ◌-◌, ◌<◌, ◌≤◌, cond, eqb, Bool, true, false, List, [], ◌∷◌, ◌++◌, length, take, drop, get_or, refl, sym, ap, ◌∙◌, subst, arith, append_assoc, append-nil, length-append, take-append-drop, Result, Ok, Err}
-use Rattle.std.proofs.lemmas.Bool.{false≢true, eqb-true}
+use Rattle.std.proofs.Common.{◌≡◌, ℕ, zero, suc, ◌+◌, ◌-◌, ◌<◌, ◌≤◌, cond, eqb, ltb, Bool, true, false, List, [], ◌∷◌, ◌++◌, length, take, drop, get_or, refl, sym, ap, ◌∙◌, subst, arith, append_assoc, append-nil, length-append, take-append-drop, Result, Ok, Err}
+use Rattle.std.proofs.lemmas.Bool.{false≢true, eqb-true, le-ltb, ltb-false}
 use Rattle.std.proofs.lemmas.Bool.Decides.{nat_tests}
-use Rattle.std.proofs.lemmas.List.{take_at, drop_at}
+use Rattle.std.proofs.lemmas.List.{take_at, drop_at, take_all}
 use Rattle.mega_base.specs.declared.values.Value.{Value}
 use Rattle.mega_base.specs.declared.values.Kind.{Kind}
 use Rattle.mega_base.specs.declared.values.Shape.{Shape}
 use Rattle.mega_keys.specs.Spelling.{spell, spell_all, scattered, scatter_of, head_bytes, root_part, rest_part, row_bytes}
-use Rattle.mega_keys.specs.Fit.{has_kind, IsValue, StandIn, key_kinds}
-use Rattle.mega_keys.specs.Reading.{Read, ◌>>=◌, values_at, byte_at, marks_at, agree, root_at, key_front_at, key_at}
+use Rattle.std.specs.Ordering.{nat_cmp, ordering_then}
+use Rattle.std.specs.Cmp.Lexicographic.{slice_cmp}
+use Rattle.mega_keys.specs.declared.fault.KeyFault.{KeyFault}
+use Rattle.mega_keys.specs.declared.fault.KeyFault.TheVariants.{NotKey}
+use Rattle.mega_keys.specs.Order.{value_cmp, values_cmp}
+use Rattle.mega_keys.specs.Fit.{has_kind, IsValue, StandIn, key_kinds, IsKey}
+use Rattle.mega_keys.specs.Reading.{Read, ◌>>=◌, values_at, byte_at, marks_at, agree, root_at, key_front_at, key_at, answer_of, read_key_of}
 use Rattle.mega_keys.proofs.Again.{values_again}
+use Rattle.mega_keys.proofs.Order.{Orders, then_assoc, orders_then, orders_byte, orders_long, orders_values}
+use Rattle.std.specs.declared.cmp.Ordering.{Ordering}
+use Rattle.std.specs.declared.cmp.Ordering.TheVariants.{Less, Equal, Greater}
+use Rattle.std.specs.Cmp.{nat_cmp_is}
 use Rattle.mega_keys.proofs.Takes.{IsBytes, IsBytes-after, bind_ok, ok_parts, TakesAll, values_take}
 
 same_eqb : (n : ℕ) → eqb n n ≡ true
@@ -146,3 +155,100 @@ key_front_takes shape bytes vs rest fits h =
         ∙ sym (λ i. head_bytes shape.space shape.scatter (front i) ++ (shape.table ∷ spell_all (back i)) ++ rest);
       stand = stand_join shape.root_kinds shape.rest_kinds r.0.0 b.0.0 root.stand others.stand;
     })
+
+whole_key : (shape : Shape) (bytes : List ℕ) (vs : List Value) → IsBytes bytes → key_at shape bytes ≡ Ok vs → TakesKey shape bytes vs []
+unfolding key_at
+whole_key shape bytes vs fits h =
+    let k = bind_ok (key_front_at shape bytes) (λ key. cond (eqb (length key.1) 0) (Ok key.0) (Err (length key.1))) vs h in
+    let e = end_of (eqb (length k.0.1) 0) (length k.0.1) k.0.0 vs refl k.2 in
+    let none : k.0.1 ≡ [] = nothing k.0.1 e.0 in
+    let key = key_front_takes shape bytes k.0.0 k.0.1 fits k.1 in
+    rw (← e.1) (record { spelled = key.spelled ∙ ap (λ x. row_bytes shape k.0.0 ++ x) none; stand = key.stand })
+  where
+    end_of : (t : Bool) (n : ℕ) (ws us : List Value) → eqb n 0 ≡ t → cond {A = Result (List Value) ℕ} t (Ok ws) (Err n) ≡ Ok us → (n ≡ 0) × (ws ≡ us)
+    end_of true n ws us e g = (eqb-true n 0 e, cc)
+    end_of false n ws us e g = absurd (cc)
+
+    nothing : (l : List ℕ) → length l ≡ 0 → l ≡ []
+    nothing [] e = refl
+    nothing (x ∷ l) e = absurd (omega (arith, e))
+
+pub read_found : (shape : Shape) (bytes : List ℕ) (vs : List Value) → IsBytes bytes → read_key_of shape bytes ≡ Ok vs → IsKey shape bytes vs
+read_found shape bytes vs fits h =
+    let a = answer_ok bytes (key_at shape (take 1024 bytes)) vs h in
+    let all : take 1024 bytes ≡ bytes = take_all 1024 bytes a.1 in
+    let key = whole_key shape bytes vs fits (ap (key_at shape) (sym all) ∙ a.0) in
+    record { stand = key.stand; spelled = key.spelled ∙ append-nil (row_bytes shape vs); short = a.1 }
+  where
+    answer_ok : (bytes : List ℕ) (r : Result (List Value) ℕ) (vs : List Value) → answer_of bytes r ≡ Ok vs → (r ≡ Ok vs) × (length bytes ≤ 1024)
+    answer_ok bytes (Ok ws) vs h = by (ltb 1024 (length bytes)) refl h
+      where
+        by : (t : Bool) → ltb 1024 (length bytes) ≡ t → cond {A = Result (List Value) KeyFault} t (Err (NotKey 1024)) (Ok ws) ≡ Ok vs → (◌≡◌ {A = Result (List Value) ℕ} (Ok ws) (Ok vs)) × (length bytes ≤ 1024)
+        by true e g = absurd (cc)
+        by false e g = (let same : ws ≡ vs = cc in ap Ok same, ltb-false 1024 (length bytes) e)
+    answer_ok bytes (Err n) vs h = absurd (cc)
+
+pub read_only : (shape : Shape) (bytes : List ℕ) (vs : List Value) → IsKey shape bytes vs → read_key_of shape bytes ≡ Ok vs
+unfolding key_at
+read_only shape bytes vs is =
+    let all : take 1024 bytes ≡ bytes = take_all 1024 bytes is.short in
+    let read : key_front_at shape bytes ≡ Ok (vs, []) = ap (key_front_at shape) (is.spelled ∙ sym (append-nil (row_bytes shape vs))) ∙ key_front_again shape vs [] is.stand in
+    ap (λ x. answer_of bytes (key_at shape x)) all
+    ∙ ap (λ (r : Read (List Value)). answer_of bytes (r >>= λ key. cond (eqb (length key.1) 0) (Ok key.0) (Err (length key.1)))) read
+    ∙ ap (λ t. cond t (Err (NotKey 1024)) (Ok vs)) (le-ltb 1024 (length bytes) is.short)
+
+-- a key is no front of another, and two rows have two keys
+pub keys_apart : (shape : Shape) (vs ws : List Value) (more : List ℕ) → StandIn (key_kinds shape) vs → StandIn (key_kinds shape) ws → row_bytes shape ws ≡ row_bytes shape vs ++ more → (ws ≡ vs) × (more ≡ [])
+keys_apart shape vs ws more h g e =
+    let same = ok_parts (sym (key_front_again shape ws [] g) ∙ ap (key_front_at shape) (append-nil (row_bytes shape ws) ∙ e) ∙ key_front_again shape vs more h) in
+    (same.0, sym same.1)
+
+scatter_long : (s : Bool) (v w : List Value) → length (scatter_of s v) ≡ length (scatter_of s w)
+unfolding scattered
+scatter_long true v w = refl
+scatter_long false v w = refl
+
+pub keys_ordered : (shape : Shape) (vs ws : List Value) → StandIn (key_kinds shape) vs → StandIn (key_kinds shape) ws → slice_cmp nat_cmp (row_bytes shape vs) (row_bytes shape ws) ≡ ordering_then (slice_cmp nat_cmp (scatter_of shape.scatter (root_part shape vs)) (scatter_of shape.scatter (root_part shape ws))) (values_cmp vs ws)
+keys_ordered shape vs ws h g =
+    let n = length shape.root_kinds in
+    let v = root_part shape vs in
+    let w = root_part shape ws in
+    let marks = orders_long (scatter_of shape.scatter v) (scatter_of shape.scatter w) (scatter_long shape.scatter v w) in
+    let roots = orders_values shape.root_kinds v w (stand_front shape.root_kinds shape.rest_kinds vs h) (stand_front shape.root_kinds shape.rest_kinds ws g) in
+    let rests = orders_values shape.rest_kinds (rest_part shape vs) (rest_part shape ws) (stand_back shape.root_kinds shape.rest_kinds vs h) (stand_back shape.root_kinds shape.rest_kinds ws g) in
+    let sv = scatter_of shape.scatter v in
+    let sw = scatter_of shape.scatter w in
+    let tv = spell_all (rest_part shape vs) in
+    let tw = spell_all (rest_part shape ws) in
+    let s = slice_cmp nat_cmp sv sw in
+    let r = values_cmp v w in
+    let t = values_cmp (rest_part shape vs) (rest_part shape ws) in
+    let tails = orders_then (nat_cmp shape.table shape.table) t (shape.table ∷ []) (shape.table ∷ []) tv tw (orders_byte shape.table shape.table) rests in
+    let roots_marked = orders_then s r sv sw (spell_all v) (spell_all w) marks roots in
+    let heads = orders_then (nat_cmp shape.space shape.space) (ordering_then s r) (shape.space ∷ []) (shape.space ∷ []) (sv ++ spell_all v) (sw ++ spell_all w) (orders_byte shape.space shape.space) roots_marked in
+    let whole = orders_then (ordering_then (nat_cmp shape.space shape.space) (ordering_then s r)) (ordering_then (nat_cmp shape.table shape.table) t) (shape.space ∷ (sv ++ spell_all v)) (shape.space ∷ (sw ++ spell_all w)) (shape.table ∷ tv) (shape.table ∷ tw) heads tails [] [] in
+    sym (λ i. slice_cmp nat_cmp (append-nil (row_bytes shape vs) i) (append-nil (row_bytes shape ws) i)) ∙ whole
+    ∙ joined (nat_cmp shape.space shape.space) (nat_cmp shape.table shape.table) s r t (same_cmp shape.space) (same_cmp shape.table)
+    ∙ ap (ordering_then s) (sym (cmp_split n vs ws))
+  where
+    same_cmp : (k : ℕ) → nat_cmp k k ≡ Equal
+    same_cmp k = sym (nat_cmp_is k k Equal refl)
+
+    joined : (a b s r t : Ordering) → a ≡ Equal → b ≡ Equal → ordering_then (ordering_then (ordering_then a (ordering_then s r)) (ordering_then b t)) Equal ≡ ordering_then s (ordering_then r t)
+    joined a b s r t e f = rw (e, f) (by s r t)
+      where
+        by : (s r t : Ordering) → ordering_then (ordering_then (ordering_then s r) t) Equal ≡ ordering_then s (ordering_then r t)
+        by Less r t = refl
+        by Greater r t = refl
+        by Equal Less t = refl
+        by Equal Greater t = refl
+        by Equal Equal Less = refl
+        by Equal Equal Equal = refl
+        by Equal Equal Greater = refl
+
+    cmp_split : (n : ℕ) (vs ws : List Value) → values_cmp vs ws ≡ ordering_then (values_cmp (take n vs) (take n ws)) (values_cmp (drop n vs) (drop n ws))
+    cmp_split zero vs ws = refl
+    cmp_split (suc n) [] [] = refl
+    cmp_split (suc n) [] (w ∷ ws) = refl
+    cmp_split (suc n) (v ∷ vs) [] = refl
+    cmp_split (suc n) (v ∷ vs) (w ∷ ws) = ap (ordering_then (value_cmp v w)) (cmp_split n vs ws) ∙ then_assoc (value_cmp v w) _ _

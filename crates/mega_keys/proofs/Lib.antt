@@ -5,3 +5,4 @@ pub mod Again
 pub mod Takes
 pub mod Order
 pub mod Keys
+pub mod Given

@@ -26,7 +26,7 @@ use Rattle.mega_keys.proofs.Again.{escape-suc, raised_fits}
 abbrev pub Orders : Ordering → List ℕ → List ℕ → Type 0
 Orders o a b = (x y : List ℕ) → slice_cmp nat_cmp (a ++ x) (b ++ y) ≡ ordering_then o (slice_cmp nat_cmp x y)
 
-then_assoc : (o p q : Ordering) → ordering_then o (ordering_then p q) ≡ ordering_then (ordering_then o p) q
+pub then_assoc : (o p q : Ordering) → ordering_then o (ordering_then p q) ≡ ordering_then (ordering_then o p) q
 then_assoc Less p q = refl
 then_assoc Equal p q = refl
 then_assoc Greater p q = refl
@@ -35,8 +35,17 @@ pub orders_then : (o p : Ordering) (a b c d : List ℕ) → Orders o a b → Ord
 orders_then o p a b c d h g x y =
     (λ i. slice_cmp nat_cmp (append_assoc a c x i) (append_assoc b d y i)) ∙ h (c ++ x) (d ++ y) ∙ ap (ordering_then o) (g x y) ∙ then_assoc o p (slice_cmp nat_cmp x y)
 
-orders_byte : (m n : ℕ) → Orders (nat_cmp m n) (m ∷ []) (n ∷ [])
+pub orders_byte : (m n : ℕ) → Orders (nat_cmp m n) (m ∷ []) (n ∷ [])
 orders_byte m n x y = refl
+
+-- lists as long as one another
+pub orders_long : (a b : List ℕ) → length a ≡ length b → Orders (slice_cmp nat_cmp a b) a b
+orders_long [] [] e x y = refl
+orders_long [] (n ∷ b) e x y = absurd (omega (arith, e))
+orders_long (m ∷ a) [] e x y = absurd (omega (arith, e))
+orders_long (m ∷ a) (n ∷ b) e x y =
+    let same : length a ≡ length b = omega (arith, e) in
+    ap (ordering_then (nat_cmp m n)) (orders_long a b same x y) ∙ then_assoc (nat_cmp m n) (slice_cmp nat_cmp a b) (slice_cmp nat_cmp x y)
 
 -- two digits decide one after the other
 digits_cmp : (k a b r s : ℕ) → r < k → s < k → nat_cmp (a * k + r) (b * k + s) ≡ ordering_then (nat_cmp a b) (nat_cmp r s)

@@ -1,10 +1,11 @@
 -- Which values stand in which places.
-use Rattle.std.specs.Prelude.{◌≡◌, ℕ, ◌+◌, ◌<◌, ◌^◌, ℤ, pos, negsuc, Bool, true, false, if◌then◌else◌, List, [], ◌∷◌, ◌++◌, Option, Some, None, IsUtf8}
+use Rattle.std.specs.Prelude.{◌≡◌, ℕ, ◌+◌, ◌<◌, ◌≤◌, ◌^◌, ℤ, pos, negsuc, Bool, true, false, if◌then◌else◌, List, [], ◌∷◌, ◌++◌, length, Option, Some, None, IsUtf8}
 use Rattle.mega_base.specs.declared.values.Value.{Value}
 use Rattle.mega_base.specs.declared.values.Value.TheVariants.{Int32, Int64, Bool as Truth, Str, Raw}
 use Rattle.mega_base.specs.declared.values.Kind.{Kind}
 use Rattle.mega_base.specs.declared.values.Kind.TheVariants as kinds
 use Rattle.mega_base.specs.declared.values.Shape.{Shape}
+use Rattle.mega_keys.specs.Spelling.{row_bytes}
 
 -- the value is of the kind
 abbrev pub has_kind : Kind → Value → Bool
@@ -44,3 +45,9 @@ StandIn [] [] = Unit {0}
 StandIn [] (v ∷ vs) = ⊥
 StandIn (k ∷ ks) [] = ⊥
 StandIn (k ∷ ks) (v ∷ vs) = (has_kind k v ≡ true) × IsValue v × StandIn ks vs
+
+-- the bytes are the key of the row with these key values
+pub record IsKey (shape : Shape) (bytes : List ℕ) (values : List Value) : Type 0 where
+  pub stand : StandIn (key_kinds shape) values
+  pub spelled : bytes ≡ row_bytes shape values
+  pub short : length bytes ≤ 1024

@@ -3,10 +3,12 @@
 
 mod fault;
 mod fit;
+mod laws;
 mod read;
 mod spelling;
 mod write;
 
 pub use fault::KeyFault;
+pub use laws::{keys_are_apart, keys_are_ordered};
 pub use read::read_key;
 pub use write::{group_of, index_key, row_key};

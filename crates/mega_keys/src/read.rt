@@ -1,9 +1,11 @@
-ghost use Rattle.std.specs.Prelude.{◌≡◌, ◌^◌, ◌++◌, List, ℕ, IfOk, length, take};
+ghost use Rattle.std.specs.Prelude.{◌≡◌, ◌^◌, ◌++◌, List, ℕ, IfOk, Ok, length, take};
 ghost use Rattle.std.specs.Int.{w32, w64};
 ghost use Rattle.std.specs.List.{flat_map};
 ghost use Rattle.mega_keys.specs.declared.read.Stop.TheVariants.{Refused as Spent};
 ghost use Rattle.mega_keys.specs.Spelling.{scattered, escape};
+ghost use Rattle.mega_base.specs.declared.values.Value.{Value};
 ghost use Rattle.mega_keys.specs.Answers.{Gives};
+ghost use Rattle.mega_keys.specs.Fit.{IsKey};
 ghost use Rattle.mega_keys.specs.Reading.{Reads, ReadsBy, Passes, number_at, lowered, int32_at, int64_at, truth_at, unescaped, unit_at, raw_at, text_of, text_at, value_at, values_at, byte_at, marks_at, agree, root_at, key_front_at, key_at, read_key_of};
 
 use std::alloc::Global;
@@ -267,8 +269,22 @@ fn escaped_len(bytes: &[u8]) -> usize
     length
 }
 
-/// The key values of the row with this key.
+/// The key values of the row with this key, or `NotKey` at the first byte that cannot stand: the start of
+/// the first character that is none in text, the first of the two scatter bytes that differs, and the
+/// 1,025th where a longer key would be good up to it.
 pub fn read_key(alloc: Global, shape: &Shape, key: &[u8]) -> Result<Items<Value>, KeyFault>
+    // What is read is spelled so.
+    ensures found { IfOk result (λ values. IsKey shape.now key.now values) }
+    // What is spelled so is read, unless memory runs out.
+    ensures only { (values : List Value) → IsKey shape.now key.now values → Gives result (Ok values) }
+    // Where a fault is.
+    ensures exact { Gives result (read_key_of shape.now key.now) }
+{
+    read_front(alloc, shape, key)
+}
+
+/// Reads the bytes that a key may have, and refuses those behind them.
+fn read_front(alloc: Global, shape: &Shape, key: &[u8]) -> Result<Items<Value>, KeyFault>
     ensures { Gives result (read_key_of shape.now key.now) }
 {
     let front = front_of(key);
