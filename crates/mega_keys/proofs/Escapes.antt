@@ -1,5 +1,5 @@
 -- Escaped bytes, one byte after another.
-use Rattle.std.proofs.Common.{◌≡◌, ℕ, zero, suc, ◌+◌, ◌<◌, cond, eqb, Bool, true, false, List, [], ◌∷◌, ◌++◌, length, refl, sym, ap, ◌∙◌, subst, arith, append_assoc, append-nil, Option, Some, None, Result, Ok, Err}
+use Rattle.std.proofs.Common.{◌≡◌, ℕ, zero, suc, ◌<◌, cond, eqb, Bool, true, false, List, [], ◌∷◌, ◌++◌, length, refl, sym, ap, ◌∙◌, subst, arith, append_assoc, append-nil, Option, Some, None, Ok, Err}
 use Rattle.mega_keys.specs.declared.read.Stop.{Stop}
 use Rattle.mega_keys.specs.declared.read.Stop.TheVariants.{Left, Refused}
 use Rattle.mega_keys.specs.Reading.{Read, Fails, with_front, unescaped, unit_at}

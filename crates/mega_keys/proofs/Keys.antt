@@ -1,25 +1,26 @@
 -- Whole keys: what was spelled is read again, what was read was spelled so, and the order is that of the values.
-use Rattle.std.proofs.Common.{◌≡◌, ℕ, zero, suc, ◌+◌, ◌-◌, ◌<◌, ◌≤◌, cond, eqb, ltb, Bool, true, false, List, [], ◌∷◌, ◌++◌, length, take, drop, get_or, refl, sym, ap, ◌∙◌, subst, arith, append_assoc, append-nil, length-append, take-append-drop, Result, Ok, Err}
-use Rattle.std.proofs.lemmas.Bool.{false≢true, eqb-true, le-ltb, ltb-false}
+use Rattle.std.proofs.Common.{◌≡◌, ℕ, zero, suc, ◌+◌, ◌-◌, ◌≤◌, cond, eqb, ltb, Bool, true, false, List, [], ◌∷◌, ◌++◌, length, take, drop, refl, sym, ap, ◌∙◌, arith, append_assoc, append-nil, take-append-drop, Option, Some, None, Result, Ok, Err}
+use Rattle.std.proofs.lemmas.Bool.{eqb-true, le-ltb, ltb-false}
 use Rattle.std.proofs.lemmas.Bool.Decides.{nat_tests}
 use Rattle.std.proofs.lemmas.List.{take_at, drop_at, take_all}
 use Rattle.mega_base.specs.declared.values.Value.{Value}
 use Rattle.mega_base.specs.declared.values.Kind.{Kind}
 use Rattle.mega_base.specs.declared.values.Shape.{Shape}
-use Rattle.mega_keys.specs.Spelling.{spell, spell_all, scattered, scatter_of, head_bytes, root_part, rest_part, row_bytes}
+use Rattle.mega_keys.specs.Spelling.{spell_all, scattered, scatter_of, head_bytes, root_part, rest_part, row_bytes}
 use Rattle.std.specs.Ordering.{nat_cmp, ordering_then}
 use Rattle.std.specs.Cmp.Lexicographic.{slice_cmp}
 use Rattle.mega_keys.specs.declared.fault.KeyFault.{KeyFault}
-use Rattle.mega_keys.specs.declared.fault.KeyFault.TheVariants.{NotKey}
+use Rattle.mega_keys.specs.declared.fault.KeyFault.TheVariants.{NotKey, TooLong, Missing}
 use Rattle.mega_keys.specs.Order.{value_cmp, values_cmp}
-use Rattle.mega_keys.specs.Fit.{has_kind, IsValue, StandIn, key_kinds, IsKey}
+use Rattle.mega_keys.specs.Fit.{has_kind, StandIn, AreValues, misplaced, key_kinds, IsKey}
+use Rattle.mega_keys.specs.Answers.{limited, fault_or_missing, unless_fault, row_key_of}
 use Rattle.mega_keys.specs.Reading.{Read, ◌>>=◌, values_at, byte_at, marks_at, agree, root_at, key_front_at, key_at, answer_of, read_key_of}
 use Rattle.mega_keys.proofs.Again.{values_again}
-use Rattle.mega_keys.proofs.Order.{Orders, then_assoc, orders_then, orders_byte, orders_long, orders_values}
+use Rattle.mega_keys.proofs.Order.{then_assoc, orders_then, orders_byte, orders_long, orders_values}
 use Rattle.std.specs.declared.cmp.Ordering.{Ordering}
 use Rattle.std.specs.declared.cmp.Ordering.TheVariants.{Less, Equal, Greater}
 use Rattle.std.specs.Cmp.{nat_cmp_is}
-use Rattle.mega_keys.proofs.Takes.{IsBytes, IsBytes-after, bind_ok, ok_parts, TakesAll, values_take}
+use Rattle.mega_keys.proofs.Takes.{IsBytes, IsBytes-after, bind_ok, ok_parts, values_take}
 
 same_eqb : (n : ℕ) → eqb n n ≡ true
 same_eqb n = grind (arith, nat_tests)
@@ -150,9 +151,9 @@ key_front_takes shape bytes vs rest fits h =
     let root_bytes = scatter_of shape.scatter r.0.0 ++ spell_all r.0.0 in
     rw (← parts.0) (record {
       spelled =
-        first ∙ ap (λ x. shape.space ∷ x) (root.spelled ∙ ap (λ x. root_bytes ++ x) (table ∙ ap (λ x. shape.table ∷ x) (others.spelled ∙ ap (λ x. spell_all b.0.0 ++ x) parts.1)))
-        ∙ sym (ap (λ x. shape.space ∷ x) (append_assoc root_bytes (shape.table ∷ spell_all b.0.0) rest))
-        ∙ sym (λ i. head_bytes shape.space shape.scatter (front i) ++ (shape.table ∷ spell_all (back i)) ++ rest);
+          first ∙ ap (λ x. shape.space ∷ x) (root.spelled ∙ ap (λ x. root_bytes ++ x) (table ∙ ap (λ x. shape.table ∷ x) (others.spelled ∙ ap (λ x. spell_all b.0.0 ++ x) parts.1)))
+          ∙ sym (ap (λ x. shape.space ∷ x) (append_assoc root_bytes (shape.table ∷ spell_all b.0.0) rest))
+          ∙ sym (λ i. head_bytes shape.space shape.scatter (front i) ++ (shape.table ∷ spell_all (back i)) ++ rest);
       stand = stand_join shape.root_kinds shape.rest_kinds r.0.0 b.0.0 root.stand others.stand;
     })
 
@@ -252,3 +253,34 @@ keys_ordered shape vs ws h g =
     cmp_split (suc n) [] (w ∷ ws) = refl
     cmp_split (suc n) (v ∷ vs) [] = refl
     cmp_split (suc n) (v ∷ vs) (w ∷ ws) = ap (ordering_then (value_cmp v w)) (cmp_split n vs ws) ∙ then_assoc (value_cmp v w) _ _
+
+-- values without a fault stand in their places
+placed_stand : (ks : List Kind) (vs : List Value) (i : ℕ) → AreValues vs → misplaced ks vs i ≡ None → length ks ≤ length vs → StandIn ks vs
+placed_stand [] [] i h e le = tt
+placed_stand [] (v ∷ vs) i h e le = absurd (cc)
+placed_stand (k ∷ ks) [] i h e le = absurd (omega (arith, le))
+placed_stand (k ∷ ks) (v ∷ vs) i h e le = by (has_kind k v) refl (λ g. placed_stand ks vs (i + 1) h.1 g (omega (arith, le))) e
+  where
+    by : (t : Bool) → has_kind k v ≡ t → (misplaced ks vs (i + 1) ≡ None → StandIn ks vs) → cond t (misplaced ks vs (i + 1)) (Some i) ≡ None → StandIn (k ∷ ks) (v ∷ vs)
+    by true is more g = (is, h.0, more g)
+    by false is more g = absurd (cc)
+
+pub key_read_back : (shape : Shape) (vs : List Value) (key : List ℕ) → AreValues vs → row_key_of shape vs ≡ Ok key → IsKey shape key vs
+key_read_back shape vs key h e = by (misplaced (key_kinds shape) vs 0) refl e
+  where
+    limit : (key : List ℕ) → limited (row_bytes shape vs) ≡ Ok key → (key ≡ row_bytes shape vs) × (length key ≤ 1024)
+    limit key e = by (ltb 1024 (length (row_bytes shape vs))) refl e
+      where
+        by : (t : Bool) → ltb 1024 (length (row_bytes shape vs)) ≡ t → cond {A = Result (List ℕ) KeyFault} t (Err (TooLong (length (row_bytes shape vs)))) (Ok (row_bytes shape vs)) ≡ Ok key → (key ≡ row_bytes shape vs) × (length key ≤ 1024)
+        by true is g = absurd (cc)
+        by false is g = let same : row_bytes shape vs ≡ key = cc in (sym same, omega (arith, ap length same, ltb-false 1024 (length (row_bytes shape vs)) is))
+
+    counted : (t : Bool) → ltb (length vs) (length (key_kinds shape)) ≡ t → misplaced (key_kinds shape) vs 0 ≡ None → unless_fault (cond t (Err (Missing (length vs))) (Ok tt)) (row_bytes shape vs) ≡ Ok key → IsKey shape key vs
+    counted true is none g = absurd (cc)
+    counted false is none g =
+        let l = limit key g in
+        record { stand = placed_stand (key_kinds shape) vs 0 h none (ltb-false _ _ is); spelled = l.0; short = l.1 }
+
+    by : (m : Option ℕ) → misplaced (key_kinds shape) vs 0 ≡ m → unless_fault (fault_or_missing m (length vs) (length (key_kinds shape))) (row_bytes shape vs) ≡ Ok key → IsKey shape key vs
+    by (Some i) is g = absurd (cc)
+    by None is g = counted (ltb (length vs) (length (key_kinds shape))) refl is g

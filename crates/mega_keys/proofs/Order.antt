@@ -1,15 +1,13 @@
 -- The order of spellings is the order of values.
-use Rattle.std.proofs.Common.{◌≡◌, ℕ, zero, suc, ◌+◌, ◌-◌, ◌*◌, ◌/◌, ◌%◌, ◌^◌, ◌<◌, ◌≤◌, ℤ, pos, negsuc, cond, ltb, eqb, Bool, true, false, List, [], ◌∷◌, ◌++◌, length, refl, sym, ap, ◌∙◌, subst, arith, append_assoc}
+use Rattle.std.proofs.Common.{◌≡◌, ℕ, zero, suc, ◌+◌, ◌*◌, ◌/◌, ◌%◌, ◌^◌, ◌<◌, ◌≤◌, ℤ, pos, negsuc, Bool, true, false, List, [], ◌∷◌, ◌++◌, length, refl, sym, ap, ◌∙◌, subst, arith, append_assoc}
 use lib.Signed.{◌<ℤ◌}
-use Rattle.std.specs.Int.{w32, w64, to_be_bytes, bytes_high_first, byte_at}
-use Rattle.std.specs.List.{flat_map}
+use Rattle.std.specs.Int.{bytes_high_first, byte_at}
 use Rattle.std.specs.declared.cmp.Ordering.{Ordering}
 use Rattle.std.specs.declared.cmp.Ordering.TheVariants.{Less, Equal, Greater}
 use Rattle.std.specs.Ordering.{nat_cmp, int_cmp, bool_cmp, ordering_then, MatchOrdering}
 use Rattle.std.specs.Cmp.{nat_cmp_is, ranks, int_ranks}
 use Rattle.std.specs.Cmp.Lexicographic.{slice_cmp}
 use Rattle.std.proofs.lemmas.Bool.{false≢true}
-use Rattle.std.proofs.lemmas.Bool.Decides.{nat_tests}
 use Rattle.std.proofs.lemmas.Int.{ints}
 use Rattle.std.proofs.lemmas.Nat.{mod-pow-add, pow-add, pow_pos, mod_below, mul-add-lt}
 use Rattle.std.proofs.Math.Nat.{div-one, mod-eq_of_lt, mul_comm, pow-suc, mod-one}
@@ -17,7 +15,7 @@ use Rattle.mega_base.specs.declared.values.Value.{Value}
 use Rattle.mega_base.specs.declared.values.Value.TheVariants.{Int32, Int64, Bool as Truth, Str, Raw}
 use Rattle.mega_base.specs.declared.values.Kind.{Kind}
 use Rattle.mega_base.specs.declared.values.Kind.TheVariants as kinds
-use Rattle.mega_keys.specs.Spelling.{raised, escape, escaped, bit_of, spell, spell_all}
+use Rattle.mega_keys.specs.Spelling.{raised, escaped, bit_of, spell, spell_all}
 use Rattle.mega_keys.specs.Fit.{has_kind, IsWithin, IsValue, StandIn}
 use Rattle.mega_keys.specs.Order.{value_cmp, values_cmp}
 use Rattle.mega_keys.proofs.Again.{escape-suc, raised_fits}

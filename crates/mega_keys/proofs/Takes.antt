@@ -1,10 +1,9 @@
 -- What was read was spelled so.
-use Rattle.std.proofs.Common.{◌≡◌, ℕ, zero, suc, ◌+◌, ◌-◌, ◌^◌, ◌<◌, ◌≤◌, ℤ, pos, negsuc, cond, ltb, eqb, Bool, true, false, List, [], ◌∷◌, ◌++◌, length, take, drop, get_or, refl, sym, ap, ◌∙◌, subst, arith, append_assoc, append-nil, length-append, length-take-le, take-append-drop, get_or-drop, get_or-take, Result, Ok, Err, IsUtf8}
+use Rattle.std.proofs.Common.{◌≡◌, ℕ, zero, suc, ◌+◌, ◌-◌, ◌^◌, ◌<◌, ◌≤◌, pos, negsuc, cond, ltb, eqb, Bool, true, false, List, [], ◌∷◌, ◌++◌, length, take, drop, get_or, refl, sym, ap, ◌∙◌, subst, arith, append_assoc, length-take-le, take-append-drop, get_or-drop, Result, Ok, Err, IsUtf8}
 use Rattle.std.specs.Int.{Width, w32, w64, byte_len, to_be_bytes, from_be_bytes}
 use Rattle.std.specs.List.{flat_map}
 use Rattle.std.specs.Str.{is_utf8}
-use Rattle.std.specs.Str.Lossy.{utf8_valid_len}
-use Rattle.std.proofs.lemmas.Bool.{le-ltb, ltb-false, false≢true}
+use Rattle.std.proofs.lemmas.Bool.{ltb-false}
 use Rattle.std.proofs.lemmas.Bool.Decides.{nat_tests}
 use Rattle.std.proofs.lemmas.List.{drop_at}
 use Rattle.std.proofs.lemmas.Nat.{be_bytes_4, be_bytes_8}
@@ -13,7 +12,7 @@ use Rattle.mega_base.specs.declared.values.Value.{Value}
 use Rattle.mega_base.specs.declared.values.Value.TheVariants.{Int32, Int64, Bool as Truth, Str, Raw}
 use Rattle.mega_base.specs.declared.values.Kind.{Kind}
 use Rattle.mega_base.specs.declared.values.Kind.TheVariants as kinds
-use Rattle.mega_keys.specs.Spelling.{raised, escape, escaped, bit_of, spell, spell_all}
+use Rattle.mega_keys.specs.Spelling.{raised, escape, escaped, spell, spell_all}
 use Rattle.mega_keys.specs.Fit.{has_kind, IsWithin, IsValue, StandIn}
 use Rattle.mega_keys.specs.Reading.{Read, ◌>>=◌, number_at, lowered, int32_at, int64_at, truth_at, with_front, unescaped, raw_at, text_of, text_at, value_at, values_at}
 use Rattle.mega_keys.proofs.Again.{escape-suc}
@@ -64,17 +63,19 @@ number_32 : (n : ℕ) (bytes rest : List ℕ) → IsBytes bytes → number_at w3
 number_32 n bytes rest fits h =
     let p = number_parts w32 n bytes rest h in
     let front = front_bytes 4 bytes fits in
-    let spelled = be_bytes_4 (take 4 bytes) n (length-take-le 4 bytes p.0) front (sym p.1) in
-    (sym (take-append-drop 4 bytes) ∙ ap (λ x. x ++ drop 4 bytes) (sym spelled) ∙ ap (λ x. to_be_bytes w32 n ++ x) p.2,
-     subst (λ m. m < 2 ^ 32) p.1 (omega (arith, front 0, front 1, front 2, front 3)))
+    let spelled = be_bytes_4 (take 4 bytes) n (length-take-le 4 bytes p.0) front (sym p.1) in (
+      sym (take-append-drop 4 bytes) ∙ ap (λ x. x ++ drop 4 bytes) (sym spelled) ∙ ap (λ x. to_be_bytes w32 n ++ x) p.2,
+      subst (λ m. m < 2 ^ 32) p.1 (omega (arith, front 0, front 1, front 2, front 3)),
+    )
 
 number_64 : (n : ℕ) (bytes rest : List ℕ) → IsBytes bytes → number_at w64 bytes ≡ Ok (n, rest) → (bytes ≡ to_be_bytes w64 n ++ rest) × (n < 2 ^ 64)
 number_64 n bytes rest fits h =
     let p = number_parts w64 n bytes rest h in
     let front = front_bytes 8 bytes fits in
-    let spelled = be_bytes_8 (take 8 bytes) n (length-take-le 8 bytes p.0) front (sym p.1) in
-    (sym (take-append-drop 8 bytes) ∙ ap (λ x. x ++ drop 8 bytes) (sym spelled) ∙ ap (λ x. to_be_bytes w64 n ++ x) p.2,
-     subst (λ m. m < 2 ^ 64) p.1 (omega (arith, front 0, front 1, front 2, front 3, front 4, front 5, front 6, front 7)))
+    let spelled = be_bytes_8 (take 8 bytes) n (length-take-le 8 bytes p.0) front (sym p.1) in (
+      sym (take-append-drop 8 bytes) ∙ ap (λ x. x ++ drop 8 bytes) (sym spelled) ∙ ap (λ x. to_be_bytes w64 n ++ x) p.2,
+      subst (λ m. m < 2 ^ 64) p.1 (omega (arith, front 0, front 1, front 2, front 3, front 4, front 5, front 6, front 7)),
+    )
 
 -- what a value read tells
 pub record Takes (k : Kind) (bytes : List ℕ) (v : Value) (rest : List ℕ) : Type 0 where

@@ -46,6 +46,11 @@ StandIn [] (v ∷ vs) = ⊥
 StandIn (k ∷ ks) [] = ⊥
 StandIn (k ∷ ks) (v ∷ vs) = (has_kind k v ≡ true) × IsValue v × StandIn ks vs
 
+-- values that the program can hold
+abbrev pub AreValues : List Value → Type 0
+AreValues [] = Unit {0}
+AreValues (v ∷ vs) = IsValue v × AreValues vs
+
 -- the bytes are the key of the row with these key values
 pub record IsKey (shape : Shape) (bytes : List ℕ) (values : List Value) : Type 0 where
   pub stand : StandIn (key_kinds shape) values

@@ -9,6 +9,9 @@ mod spelling;
 mod write;
 
 pub use fault::KeyFault;
-pub use laws::{keys_are_apart, keys_are_ordered};
+pub use laws::{keys_are_apart, keys_are_ordered, keys_are_read_back};
 pub use read::read_key;
 pub use write::{group_of, index_key, row_key};
+
+#[cfg(test)]
+mod tests;

@@ -8,13 +8,11 @@ ghost use Rattle.mega_keys.specs.Answers.{Gives};
 ghost use Rattle.mega_keys.specs.Fit.{IsKey};
 ghost use Rattle.mega_keys.specs.Reading.{Reads, ReadsBy, Passes, number_at, lowered, int32_at, int64_at, truth_at, unescaped, unit_at, raw_at, text_of, text_at, value_at, values_at, byte_at, marks_at, agree, root_at, key_front_at, key_at, read_key_of};
 
-use std::alloc::Global;
-use std::marker::Model;
-
-use mega_base::{Bytes, Items, Kind, NoMemory, Shape, Text, Value};
-
 use crate::fault::KeyFault;
 use crate::write::{LONGEST, scatter};
+use mega_base::{Bytes, Items, Kind, NoMemory, Shape, Text, Value};
+use std::alloc::Global;
+use std::marker::Model;
 
 /// Why a reader stopped.
 #[derive(Drop)]

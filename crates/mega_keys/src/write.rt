@@ -2,14 +2,12 @@ ghost use Rattle.std.specs.Prelude.{◌≡◌, ◌++◌, ◌+◌, ◌≤◌, ◌
 ghost use Rattle.mega_keys.specs.Spelling.{scattered, head_bytes};
 ghost use Rattle.mega_keys.specs.Answers.{Gives, GivesGroup, limited, fault_of, row_key_of, group_key_of, index_key_of};
 
-use std::alloc::Global;
-
-use mega_base::{Bytes, GroupId, Kind, NoMemory, Shape, Value};
-use sha2::{Digest, Sha256};
-
 use crate::fault::KeyFault;
 use crate::fit::misplaced;
 use crate::spelling::{put_plain_values, put_values};
+use mega_base::{Bytes, GroupId, Kind, NoMemory, Shape, Value};
+use sha2::{Digest, Sha256};
+use std::alloc::Global;
 
 /// The most bytes that a key may have.
 pub const LONGEST: usize = 1024;

@@ -1,5 +1,5 @@
-use Rattle.std.proofs.Common.{◌≡◌, ◌++◌, ◌+◌, drop, sym, ap, ◌∙◌, cond, Some}
-use Rattle.mega_keys.specs.Fit.{has_kind, misplaced}
+use Rattle.std.proofs.Common.{◌++◌, ◌+◌, drop, sym, ap, ◌∙◌, cond, Some}
+use Rattle.mega_keys.specs.Fit.{misplaced}
 use Rattle.mega_keys.proofs.Places.{drop_at, no_place, a_place, value_at, none_left}
 use Rattle.mega_keys.proofs.fit.misplaced.Goals as goal
 

@@ -1,4 +1,4 @@
-use Rattle.std.proofs.Common.{◌≡◌, ◌-◌, length, take, Err, Ok, sym, ◌∙◌, ap}
+use Rattle.std.proofs.Common.{◌-◌, length, take, Err, Ok, sym, ◌∙◌, ap}
 use Rattle.std.specs.List.{flat_map}
 use Rattle.mega_base.specs.declared.values.Value.TheVariants.{Str}
 use Rattle.mega_keys.specs.Spelling.{escape}

@@ -1,5 +1,3 @@
-use Rattle.std.proofs.Common.{◌≡◌, ◌++◌, [], ◌∷◌, ap, sym, ◌∙◌, subst}
-use Rattle.mega_keys.specs.Reading.{with_front, unescaped}
 use Rattle.mega_keys.proofs.Escapes.{unit_fails, unit_ends, unit_more, unit_less}
 use Rattle.mega_keys.proofs.read.unescape.Goals as goal
 

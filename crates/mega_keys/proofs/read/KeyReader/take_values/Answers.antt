@@ -1,6 +1,5 @@
-use Rattle.std.proofs.Common.{arith, ap}
+use Rattle.std.proofs.Common.{arith}
 use Rattle.std.proofs.lemmas.List.{drop_all}
-use Rattle.mega_keys.specs.Reading.{with_front, values_at}
 use Rattle.mega_keys.proofs.ReadValues.{values_more, values_fail, values_end}
 use Rattle.mega_keys.proofs.read.KeyReader.take_values.Goals as goal
 
