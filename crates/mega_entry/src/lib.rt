@@ -1,0 +1,8 @@
+//! Entries of an entity group's log (CIDR 2011, write-ahead log).
+#![tactic(auto)]
+
+mod content;
+mod entry;
+
+pub use content::{Content, Cut, Enter, Name, Send, Write};
+pub use entry::Entry;
