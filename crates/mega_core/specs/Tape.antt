@@ -36,12 +36,17 @@ waits tape n = is_sent tape n && not (is_taken tape n)
 abbrev pub IsQuiet : List Item → Type 0
 IsQuiet tape = (n : ℕ) → waits tape n ≡ false
 
+-- the item is a note of a node
+abbrev pub IsNote : Item → Type 0
+IsNote (Start node start) = ⊥
+IsNote (Taken number) = ⊥
+IsNote (Sent number message) = ⊥
+IsNote _ = Unit {0}
+
 -- what may follow within a step: notes of the node, and messages, each with the next number
 abbrev pub MayFollow : Item → List Item → Type 0
 MayFollow (Sent number message) before = number ≡ sent_count before + 1
-MayFollow (Taken number) before = ⊥
-MayFollow (Start node start) before = ⊥
-MayFollow _ before = Unit {0}
+MayFollow item before = IsNote item
 
 -- the second tape is the first with items that may follow within a step
 abbrev pub Grows : List Item → List Item → Type 0

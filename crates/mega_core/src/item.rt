@@ -57,12 +57,11 @@ pub enum Note {
 }
 
 impl Note {
-    ghost use Rattle.mega_core.specs.Tape.{MayFollow};
-    ghost use Rattle.mega_core.specs.declared.item.Item.{Item};
+    ghost use Rattle.mega_core.specs.Tape.{IsNote};
 
     /// The item that shows the note.
     pub fn into_item(self) -> Item
-        ensures { (before : List Item) → MayFollow result before }
+        ensures { IsNote result }
     {
         match self {
             Note::Begin { op, text } => Item::Begin { op, text },

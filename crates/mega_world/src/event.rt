@@ -5,7 +5,9 @@ use mega_outcome::Request;
 #[derive(Drop)]
 pub enum WorldEvent {
     /// The message of this number is handed to its receiver, also where it was taken before.
-    Deliver { message: u64 },
+    Deliver {
+        message: u64,
+    },
     /// An operation begins at a node; the text is its request.
     Begin {
         node: NodeId,

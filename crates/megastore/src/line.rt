@@ -1,4 +1,4 @@
-ghost use Rattle.std.specs.Prelude.{◌≡◌, ◌≢◌, ◌++◌, ◌↔◌, ℕ, List, IfSome, IsNone, IsTrue};
+ghost use Rattle.std.specs.Prelude.{◌≡◌, ◌≢◌, ◌+◌, ◌≤◌, ◌++◌, ◌↔◌, ℕ, List, IfSome, IsNone, IsTrue};
 ghost use Rattle.megastore.specs.PlainLines.{IsMessageNumber, IsName, IsDelivery, IsPut};
 
 use std::alloc::Global;
@@ -39,10 +39,13 @@ fn after<'a>(bytes: &'a [u8], prefix: &[u8]) -> Option<&'a [u8]>
     ensures some { IfSome result (λ rest. bytes.now ≡ prefix.now ++ rest.now) }
     ensures none { IsNone result → (rest : List ℕ) → bytes.now ≢ prefix.now ++ rest }
 {
-    if !bytes.starts_with(prefix) {
+    if bytes.len() < prefix.len() {
         return None;
     }
-    let (_, rest) = bytes.split_at(prefix.len());
+    let (front, rest) = bytes.split_at(prefix.len());
+    if front != prefix {
+        return None;
+    }
     Some(rest)
 }
 
@@ -66,13 +69,9 @@ fn message_number(digits: &[u8]) -> Option<u64>
     ensures some { IfSome result (IsMessageNumber digits.now) }
     ensures none { IsNone result → (number : ℕ) → IsMessageNumber digits.now number → ⊥ }
 {
-    match digits.first() {
-        Some(first) => {
-            if *first == b'0' {
-                return None;
-            }
-        }
-        None => return None,
+    let (first, _) = digits.split_first()?;
+    if *first == b'0' {
+        return None;
     }
     let mut number = 0u64;
     for digit in digits {
@@ -94,6 +93,17 @@ fn is_name(name: &[u8]) -> bool
     0 < name.len() && name.len() <= 16 && name.iter().all(|letter| letter.is_ascii_alphabetic())
 }
 
+/// The node, from 1 to 3, whose digit this is.
+fn node_of(digit: u8) -> Option<u8>
+    ensures some { IfSome result (λ node. (digit ≡ node + 48) × (1 ≤ node) × (node ≤ 3)) }
+    ensures none { IsNone result → (node : ℕ) → digit ≡ node + 48 → 1 ≤ node → node ≤ 3 → ⊥ }
+{
+    if digit < b'1' || digit > b'3' {
+        return None;
+    }
+    Some(digit - b'0')
+}
+
 /// The delivery that a line spells.
 fn delivery(line: &[u8]) -> Option<u64>
     ensures some { IfSome result (IsDelivery line.now) }
@@ -113,10 +123,11 @@ fn put_parts(line: &[u8]) -> Option<(u8, &[u8])>
     let (digit, rest) = rest.split_first()?;
     let rest = after(rest, &PUT_ROW)?;
     let name = before(rest, &PUT_END)?;
-    if *digit < b'1' || *digit > b'3' || !is_name(name) {
+    let node = node_of(*digit)?;
+    if !is_name(name) {
         return None;
     }
-    Some((*digit - b'0', name))
+    Some((node, name))
 }
 
 /// What a line says, where it is one of the plain lines that are built.
