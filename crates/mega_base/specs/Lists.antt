@@ -188,3 +188,10 @@ bytes_codec low high order small =
       (λ n g. (replicate n 0, length-replicate {A = ℕ} n 0)))
     (λ t g. g.0)
     (λ t g. (g, refl))
+
+-- the same where the texts are measured by the grammar itself
+pub plain_option_codec : {A : Type 0} (r : Place → Read A) (s : A → List ℕ) (F : A → Type 0) → Codec r s (IsText s F) F → (x : A) → F x
+    → Codec (option_at r) (option_text s) (IsText (option_text s) (IsOption F)) (IsOption F)
+plain_option_codec r s F c x f =
+  option_codec r s (IsText s F) (IsText (option_text s) (IsOption F)) F c
+    (None, tt, refl) (λ t w. (Some w.0, w.1, ap (λ l. 1 ∷ l) w.2)) (s x) (x, f, refl)
