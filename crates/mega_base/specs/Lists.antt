@@ -2,14 +2,13 @@
 use Rattle.std.proofs.Common.{◌≡◌, ℕ, zero, suc, ◌+◌, ◌-◌, ◌*◌, ◌^◌, ◌<◌, ◌≤◌, Bool, true, false, List, [], ◌∷◌, ◌++◌, length, take, drop, refl, sym, ◌∙◌, ap, subst, inl, inr, ◌⊎◌, Result, Ok, Err, Option, Some, None, IsErr, arith, add-zero, append_assoc, length-append, append-nil, get_or}
 use Rattle.std.specs.Prelude.{if◌then◌else◌, nat_le, ◌==◌, All, replicate, ◌≢◌}
 use Rattle.std.specs.List.{flat_map}
-use Rattle.std.specs.Int.{bytes_high_first}
 use Rattle.std.proofs.lemmas.Bool.Decides.{nat_tests}
 use Rattle.std.proofs.lemmas.Bool.{cases_lt}
 use Rattle.std.proofs.lemmas.List.Elements.{All-cons, All-nil}
 use Rattle.std.proofs.lemmas.List.{take-append-drop, length-take, length-take-le, length-drop}
 use Rattle.std.proofs.Math.Seq.{take-append_seam, drop-append_seam, take-append-add}
 use Rattle.mega_base.specs.Reading.{Place, place, end_of, Read, ◌>>=◌, byte_in, number_in, bytes_of_len, bytes_in, items_at, list_in, option_at, nested_at, whole_of}
-use Rattle.mega_base.specs.Codec.{Stands, first_of, Stop, Codec, IsText, IsBetween, one_byte, IsCons, AreItems, IsList, list_text, option_text, IsOption, bytes_text, HasLen, IsNested, OpensNested, IsFirstBad}
+use Rattle.mega_base.specs.Codec.{number_text, Stands, first_of, Stop, Codec, IsText, IsBetween, one_byte, IsCons, AreItems, IsList, list_text, option_text, IsOption, bytes_text, HasLen, IsNested, OpensNested, IsFirstBad}
 use Rattle.mega_base.specs.Codecs.{bind-ok, bind-err, bind-is_err, ok_parts, if-ok, bind_codec, then_codec, embed_codec, variant_codec, refit_codec, fits_codec, if_codec, pure_codec, byte_codec}
 use Rattle.mega_base.specs.Digits.{number_codec}
 
@@ -81,7 +80,7 @@ pub list_codec : {A : Type 0} (low high : ℕ) (r : Place → Read A) (s : A →
 unfolding list_in
 list_codec {A} low high r s F order small c x f =
   fits_codec (λ p. number_in 4 low high p >>= λ n. items_at r n.0 n.1) (list_text s) (λ xs. IsBetween low high (length xs) × AreItems F (length xs) xs) (IsList low high F)
-    (then_codec (number_in 4 low high) (bytes_high_first 4) (IsBetween low high) (λ n. items_at r n) (flat_map s) (AreItems F) length
+    (then_codec (number_in 4 low high) (number_text 4) (IsBetween low high) (λ n. items_at r n) (flat_map s) (AreItems F) length
       (number_codec 4 low high order small)
       (λ n g. items_codec r s F c n)
       (λ n xs g h. h.count)
@@ -181,7 +180,7 @@ pub bytes_codec : (low high : ℕ) → low ≤ high → high < 2 ^ 32 → Codec 
 unfolding bytes_in
 bytes_codec low high order small =
   fits_codec (λ p. number_in 4 low high p >>= λ n. bytes_of_len n.0 n.1) bytes_text (λ t. IsBetween low high (length t) × (length t ≡ length t)) (HasLen low high)
-    (then_codec (number_in 4 low high) (bytes_high_first 4) (IsBetween low high) (λ n. bytes_of_len n) (λ t. t) (λ n t. length t ≡ n) length
+    (then_codec (number_in 4 low high) (number_text 4) (IsBetween low high) (λ n. bytes_of_len n) (λ t. t) (λ n t. length t ≡ n) length
       (number_codec 4 low high order small)
       (λ n g. bytes_of_len_codec n)
       (λ n t g h. h)

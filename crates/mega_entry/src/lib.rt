@@ -3,6 +3,7 @@
 
 mod content;
 mod entry;
+mod parts;
 
 pub use content::{Content, Cut, Enter, Name, Send, Write};
 pub use entry::Entry;
