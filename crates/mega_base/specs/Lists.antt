@@ -194,3 +194,19 @@ pub plain_option_codec : {A : Type 0} (r : Place → Read A) (s : A → List ℕ
 plain_option_codec r s F c x f =
   option_codec r s (IsText s F) (IsText (option_text s) (IsOption F)) F c
     (None, tt, refl) (λ t w. (Some w.0, w.1, ap (λ l. 1 ∷ l) w.2)) (s x) (x, f, refl)
+
+-- as many items are read as are counted
+items_length : {A : Type 0} (read : Place → Read A) (n : ℕ) (p : Place) (xs : List A) (q : Place) → items_at read n p ≡ Ok (xs, q) → length xs ≡ n
+unfolding items_at
+items_length {A} read zero p xs q h = ap length (sym (ok_parts [] xs p q h).0)
+items_length {A} read (suc n) p xs q h =
+  let first = bind-ok (read p) (λ x. items_at read n x.1 >>= λ ys. Ok (x.0 ∷ ys.0, ys.1)) (xs, q) h in
+  let rest = bind-ok (items_at read n first.0.1) (λ ys. Ok (first.0.0 ∷ ys.0, ys.1)) (xs, q) first.2 in
+  let same = ok_parts (first.0.0 ∷ rest.0.0) xs rest.0.1 q rest.2 in
+  ap length (sym same.0) ∙ ap suc (items_length read n first.0.1 rest.0.0 rest.0.1 rest.1)
+
+pub list_most : {A : Type 0} (low high : ℕ) (read : Place → Read A) (p : Place) (xs : List A) (q : Place) → low ≤ high → high < 2 ^ 32 → list_in low high read p ≡ Ok (xs, q) → length xs ≤ high
+unfolding list_in
+list_most low high read p xs q order small h =
+  let count = bind-ok (number_in 4 low high p) (λ n. items_at read n.0 n.1) (xs, q) h in
+  omega (arith, items_length read count.0.0 count.0.1 xs q count.2, ((number_codec 4 low high order small).takes p count.0.0 count.0.1 count.1).1.1)

@@ -182,6 +182,16 @@ content_text e =
 abbrev pub entry_text : Content → List ℕ
 entry_text e = one_byte (version_of e.cuts) ++ content_text e
 
+-- the text in three parts
+abbrev pub head_text : Content → List ℕ
+head_text e = one_byte (version_of e.cuts) ++ (option_text op_text e.id ++ node_text e.leader)
+
+abbrev pub changes_text : Content → List ℕ
+changes_text e = list_text write_text e.writes ++ list_text send_text e.sends
+
+abbrev pub marks_text : Content → List ℕ
+marks_text e = list_text enter_text e.enters ++ (list_text name_text e.handles ++ cuts_text e.cuts)
+
 -- an entry with cuts has an id, no enters and no handles
 abbrev pub HasCuts : Content → List Cut → Type 0
 HasCuts e [] = Unit {0}

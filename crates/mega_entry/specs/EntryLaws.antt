@@ -128,7 +128,7 @@ Enough k writes sends = k ≡ 0 → (writes ≡ 0) × (sends ≡ 0)
 after_zero : (k : ℕ) → (suc k == 0) ≡ false
 after_zero k = let apart : suc k ≢ 0 = omega arith in grind (arith, nat_tests)
 
-least_part-le : (k left : ℕ) → least_part k left ≤ left
+pub least_part-le : (k left : ℕ) → least_part k left ≤ left
 least_part-le zero left = omega arith
 least_part-le (suc k) left = rw (after_zero k) (omega arith)
 
@@ -200,6 +200,14 @@ cuts_of_codec (suc k) low writes sends room wsmall ssmall enough =
         (least_part-of k sends cut.sends (λ e. omega (arith, g.all_sends, (nothing cuts (rest ∙ e)).1, sum_by-cons (λ (cut : Cut). cut.sends) cut cuts)), omega (arith, g.all_sends, sum_by-cons (λ (cut : Cut). cut.sends) cut cuts))),
        record { rising = g.rising.1; count = rest; all_writes = omega (arith, g.all_writes, sum_by-cons (λ (cut : Cut). cut.writes) cut cuts); all_sends = omega (arith, g.all_sends, sum_by-cons (λ (cut : Cut). cut.sends) cut cuts) })
 
+one_or_more : (count : ℕ) → ((count ≡ 1) × (first_index count ≡ 1)) ⊎ (first_index count ≡ 0)
+one_or_more zero = inr refl
+one_or_more (suc zero) = inl (refl, refl)
+one_or_more (suc (suc k)) = let apart : suc (suc k) ≢ 1 = omega arith in let e : (suc (suc k) == 1) ≡ false = grind (arith, nat_tests) in inr (rw e refl)
+
+pub index_room : (count : ℕ) → IsBetween 1 16 count → first_index count + count ≤ 16
+index_room count f = elim (one_or_more count) [ inl e ↦ omega (arith, e.0, e.1) | inr e ↦ omega (arith, e, f.1) ]
+
 pub cuts_codec : (writes sends : ℕ) → writes < 2 ^ 32 → sends < 2 ^ 32 → Codec (cuts_at writes sends) (list_text cut_text) (IsText (list_text cut_text) (AreCuts writes sends)) (AreCuts writes sends)
 unfolding cuts_at
 cuts_codec writes sends wsmall ssmall =
@@ -212,12 +220,6 @@ cuts_codec writes sends wsmall ssmall =
     (λ cuts f. record { some = f.0.0; rising = f.1.rising; all_writes = f.1.all_writes; all_sends = f.1.all_sends })
     (λ cuts f. ((f.some, few cuts f), record { rising = f.rising; count = refl; all_writes = f.all_writes; all_sends = f.all_sends }))
   where
-    one_or_more : (count : ℕ) → ((count ≡ 1) × (first_index count ≡ 1)) ⊎ (first_index count ≡ 0)
-    one_or_more zero = inr refl
-    one_or_more (suc zero) = inl (refl, refl)
-    one_or_more (suc (suc k)) = let apart : suc (suc k) ≢ 1 = omega arith in let e : (suc (suc k) == 1) ≡ false = grind (arith, nat_tests) in inr (rw e refl)
-    index_room : (count : ℕ) → IsBetween 1 16 count → first_index count + count ≤ 16
-    index_room count f = elim (one_or_more count) [ inl e ↦ omega (arith, e.0, e.1) | inr e ↦ omega (arith, e, f.1) ]
     few : (cuts : List Cut) → AreCuts writes sends cuts → length cuts ≤ 16
     few cuts f = elim (one_or_more (length cuts)) [ inl e ↦ omega (arith, e.0) | inr e ↦ omega (arith, room_left (first_index (length cuts)) cuts (omega (arith, e)) f.rising) ]
 
@@ -442,3 +444,26 @@ pub some_entry : (e : Content) × IsEntry e
 some_entry = (record { id = None; leader = record { 0 = 1 }; writes = []; sends = []; enters = []; handles = []; cuts = [] }, record {
   id = tt; leader = (omega arith, omega arith); writes = no_items most_items IsWrite; sends = no_items most_items IsSend; enters = no_items most_items IsEnter; handles = no_items most_items IsName; cuts = tt
 })
+
+-- cuts that rise are cuts, each by itself
+each_cut : (low : ℕ) (cuts : List Cut) → RisesFrom low cuts → sum_by (λ (cut : Cut). cut.writes) cuts ≤ most_items → sum_by (λ (cut : Cut). cut.sends) cuts ≤ most_items → All (IsCutIn 0 15 0 most_items 0 most_items) cuts
+each_cut low [] h w s = All-nil (IsCutIn 0 15 0 most_items 0 most_items)
+each_cut low (cut ∷ cuts) h w s =
+  let ws = sum_by-cons (λ (cut : Cut). cut.writes) cut cuts in
+  let ss = sum_by-cons (λ (cut : Cut). cut.sends) cut cuts in
+  All-cons (IsCutIn 0 15 0 most_items 0 most_items) cut cuts ((omega arith, h.0.1), (omega arith, omega (arith, w, ws)), (omega arith, omega (arith, s, ss)))
+    (each_cut (cut.index + 1) cuts h.1 (omega (arith, w, ws)) (omega (arith, s, ss)))
+
+each_of : (e : Content) (cuts : List Cut) → IsEntry e → HasCuts e cuts → All (IsCutIn 0 15 0 most_items 0 most_items) cuts
+each_of e [] f h = All-nil (IsCutIn 0 15 0 most_items 0 most_items)
+each_of e (cut ∷ cuts) f h = each_cut (first_index (length (cut ∷ cuts))) (cut ∷ cuts) h.3.rising (omega (arith, h.3.all_writes, f.writes.most)) (omega (arith, h.3.all_sends, f.sends.most))
+
+few_of_cuts : (e : Content) (cuts : List Cut) → HasCuts e cuts → length cuts < 2 ^ 32
+few_of_cuts e [] h = omega arith
+few_of_cuts e (cut ∷ cuts) h = elim (one_or_more (length (cut ∷ cuts))) [ inl k ↦ omega (arith, k.0) | inr k ↦ omega (arith, room_left (first_index (length (cut ∷ cuts))) (cut ∷ cuts) (omega (arith, k)) h.3.rising) ]
+
+pub entry_cuts : (e : Content) → IsEntry e → All (IsCutIn 0 15 0 most_items 0 most_items) e.cuts
+entry_cuts e f = each_of e e.cuts f f.cuts
+
+pub few_cuts : (e : Content) → IsEntry e → length e.cuts < 2 ^ 32
+few_cuts e f = few_of_cuts e e.cuts f.cuts

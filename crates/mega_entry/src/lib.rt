@@ -2,7 +2,9 @@
 #![tactic(auto)]
 
 mod content;
+mod cuts;
 mod entry;
+mod entry_field;
 mod parts;
 
 pub use content::{Content, Cut, Enter, Name, Send, Write};
