@@ -1,0 +1,2 @@
+pub mod BallotLaws
+pub mod Ballots
