@@ -515,6 +515,36 @@ message_codec =
     (λ l w. let k = w.1.1.1 in (k.0, k.1, k.2, k.3,
       ap (λ t. 0x4D ∷ 0x53 ∷ 1 ∷ t) k.4 ∙ (ap (λ t. 0x4D ∷ 0x53 ∷ t) w.1.1.2 ∙ (ap (λ t. 0x4D ∷ t) w.1.2 ∙ w.2))))
 
+
+
+-- the length of the text of a body's entry is one that opens it
+body_shows : (body : Body) → IsBody body → (n : ℕ) × (n ≤ 65536) × IsBodyWith IsEntry body × (body_with (shown_entry n) body ≡ body_text body)
+body_shows (Where op group) h = (0, omega arith, h, refl)
+body_shows (Top op group position) h = (0, omega arith, h, refl)
+body_shows (Accept op group position ballot entry) h = (length (entry_text entry), h.1.1.1.1.1, (h.0, (h.1.0, (h.1.1.0, (h.1.1.1.0, h.1.1.1.1.0)))), refl)
+body_shows (Accepted op group position ballot entry) h = (length (entry_text entry), h.1.1.1.1.1, (h.0, (h.1.0, (h.1.1.0, (h.1.1.1.0, h.1.1.1.1.0)))), refl)
+body_shows (Refused op group position asked shown None) h = (0, omega arith, (h.0, (h.1.0, (h.1.1.0, (h.1.1.1.0, (h.1.1.1.1.0, tt))))), refl)
+body_shows (Refused op group position asked shown (Some entry)) h = (length (entry_text entry), h.1.1.1.1.1.1, (h.0, (h.1.0, (h.1.1.0, (h.1.1.1.0, (h.1.1.1.1.0, h.1.1.1.1.1.0))))), refl)
+body_shows (Prepare op group position ballot) h = (0, omega arith, h, refl)
+body_shows (Promise op group position ballot None) h = (0, omega arith, (h.0, (h.1.0, (h.1.1.0, (h.1.1.1.0, tt)))), refl)
+body_shows (Promise op group position ballot (Some vote)) h = (length (entry_text vote.1), h.1.1.1.1.1.1, (h.0, (h.1.0, (h.1.1.0, (h.1.1.1.0, (h.1.1.1.1.0, h.1.1.1.1.1.0))))), refl)
+body_shows (Invalidate op group position) h = (0, omega arith, h, refl)
+body_shows (Invalidated op group position) h = (0, omega arith, h, refl)
+body_shows (Dead op cell node) h = (0, omega arith, h, refl)
+body_shows (Held op cell node) h = (0, omega arith, h, refl)
+body_shows (Unheld op cell node) h = (0, omega arith, h, refl)
+body_shows (Decide group position entry) h = (length (entry_text entry), h.1.1.1, (h.0, (h.1.0, h.1.1.0)), refl)
+body_shows (Fetch op group position) h = (0, omega arith, h, refl)
+body_shows (Have op group position entry) h = (length (entry_text entry), h.1.1.1.1, (h.0, (h.1.0, (h.1.1.0, h.1.1.1.0))), refl)
+body_shows (HaveNot op group position) h = (0, omega arith, h, refl)
+body_shows (Acquire cell epoch clock) h = (0, omega arith, h, refl)
+body_shows (Granted cell epoch clock) h = (0, omega arith, h, refl)
+body_shows (Past cell asked greatest) h = (0, omega arith, h, refl)
+body_shows (Request token json) h = (0, omega arith, h, refl)
+body_shows (Reply token text) h = (0, omega arith, h, refl)
+
 -- the text of a message opens it
 pub message_opens : (m : Message) → IsMessage m → OpensMessage (message_text m)
-message_opens m f = ?
+message_opens m f =
+  let w = body_shows m.body f.body in
+  (m, w.0, w.1, record { from = f.from; to = f.to; body = w.2 }, ap (λ l. 0x4D ∷ 0x53 ∷ 1 ∷ kind_of m.body ∷ m.from ∷ m.to ∷ l) w.3)
