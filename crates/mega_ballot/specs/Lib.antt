@@ -1,2 +1,3 @@
 pub mod BallotLaws
 pub mod Ballots
+pub mod Order
