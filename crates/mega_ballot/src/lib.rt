@@ -2,5 +2,7 @@
 #![tactic(auto)]
 
 mod ballot;
+mod order;
 
 pub use ballot::Ballot;
+pub use order::{next_above, order_is_total};

@@ -4,7 +4,6 @@ use Rattle.std.proofs.Math.Nat.{div-div-eq-div-mul, pow-suc, div-add-mod, div-mu
 use Rattle.std.proofs.lemmas.Nat.{le-div, mod_below, mod-mul-add, div-mul-add}
 use Rattle.std.proofs.lemmas.Bool.{cases_lt}
 use Rattle.std.specs.Prelude.{Bool, true, false, ◌&&◌, ◌||◌, ◌==◌, nat_le, nat_lt, if◌then◌else◌, replicate, IsUtf8, ◌≢◌, IsErr}
-use Rattle.std.specs.Int.{bytes_high_first}
 use Rattle.std.specs.List.{flat_map}
 use Rattle.std.specs.Char.{encode_utf8, len_utf8, IsScalar}
 use Rattle.std.specs.Str.{continuation_len, lead_bits, all_scalars, encode_utf8_all}
@@ -13,7 +12,7 @@ use Rattle.std.proofs.lemmas.Str.{length-encode, len_utf8_bounds}
 use lib.Utf8.{scalar_cases, low_scalar}
 use Rattle.mega_base.specs.Reading.{Place, place, Read, ◌>>=◌, byte_in, byte_where, number_in}
 use Rattle.mega_base.specs.Utf8.{least_char, greatest_char, is_lead, tail_in, char_at, chars_of, text_of_len, text_in, IsTextIn}
-use Rattle.mega_base.specs.Codec.{Stands, Stop, Codec, IsText, IsBetween, one_byte, IsCons, bytes_text, HasLen}
+use Rattle.mega_base.specs.Codec.{number_text, Stands, Stop, Codec, IsText, IsBetween, one_byte, IsCons, bytes_text, HasLen}
 use Rattle.mega_base.specs.Codecs.{bind_codec, byte_codec, where_codec, then_codec, embed_codec, variant_codec, fits_codec, if_codec, pure_codec, ok_parts}
 use Rattle.mega_base.specs.Digits.{number_codec}
 use Rattle.mega_base.specs.Lists.{cons_codec, length-replicate}
@@ -386,7 +385,7 @@ pub text_codec : (low high : ℕ) → low ≤ high → high < 2 ^ 32 → Codec (
 unfolding text_in
 text_codec low high order small =
   fits_codec (λ p. number_in 4 low high p >>= λ n. text_of_len n.0 n.1) bytes_text (λ t. IsBetween low high (length t) × IsTextOfLen (length t) t) (IsTextIn low high)
-    (then_codec (number_in 4 low high) (bytes_high_first 4) (IsBetween low high) (λ n. text_of_len n) (λ t. t) IsTextOfLen length
+    (then_codec (number_in 4 low high) (number_text 4) (IsBetween low high) (λ n. text_of_len n) (λ t. t) IsTextOfLen length
       (number_codec 4 low high order small)
       (λ n g. text_of_len_codec n)
       (λ n t g h. h.1)

@@ -4,6 +4,10 @@ use Rattle.std.specs.Int.{bytes_high_first}
 use Rattle.std.specs.List.{flat_map}
 use Rattle.mega_base.specs.Reading.{Place, place, Read}
 
+-- the k bytes of a number, the highest first
+unfoldable pub number_text : ℕ → ℕ → List ℕ
+number_text k n = bytes_high_first k n
+
 -- from p to q stand these bytes
 pub record Stands (p : Place) (bytes : List ℕ) (q : Place) : Type 0 where
   pub text : p.left ≡ bytes ++ q.left
@@ -61,7 +65,7 @@ pub record IsList {A : Type 0} (low high : ℕ) (Fits : A → Type 0) (xs : List
 
 -- a count of four bytes, and the items
 abbrev pub list_text : {A : Type 0} → (A → List ℕ) → List A → List ℕ
-list_text spell xs = bytes_high_first 4 (length xs) ++ flat_map spell xs
+list_text spell xs = number_text 4 (length xs) ++ flat_map spell xs
 
 -- a byte 0, or a byte 1 and the value
 abbrev pub option_text : {A : Type 0} → (A → List ℕ) → Option A → List ℕ
@@ -75,7 +79,7 @@ IsOption Fits (Some x) = Fits x
 
 -- a length of four bytes, and the bytes
 abbrev pub bytes_text : List ℕ → List ℕ
-bytes_text bytes = bytes_high_first 4 (length bytes) ++ bytes
+bytes_text bytes = number_text 4 (length bytes) ++ bytes
 
 -- from low to high bytes
 abbrev pub HasLen : ℕ → ℕ → List ℕ → Type 0
@@ -87,7 +91,7 @@ IsNested limit spell Fits x = Fits x × (length (spell x) ≤ limit)
 
 -- a length of at most limit, and the text of a value, which may have another length
 abbrev pub OpensNested : {A : Type 0} → ℕ → (A → List ℕ) → (A → Type 0) → List ℕ → Type 0
-OpensNested {A} limit spell Fits text = (n : ℕ) × (x : A) × (n ≤ limit) × Fits x × (bytes_high_first 4 n ++ spell x ≡ text)
+OpensNested {A} limit spell Fits text = (n : ℕ) × (x : A) × (n ≤ limit) × Fits x × (number_text 4 n ++ spell x ≡ text)
 
 -- The offset at is the first at which no byte of the text can stand, or the end of the text: what stands before it
 -- begins a text of the grammar, and no text of the grammar begins with the bytes through it.
@@ -99,4 +103,4 @@ pub record IsFirstBad {A : Type 0} (spell : A → List ℕ) (Opens : List ℕ �
 
 -- a length of four bytes, and the text of a value
 abbrev pub nested_text : {A : Type 0} → (A → List ℕ) → A → List ℕ
-nested_text spell x = bytes_high_first 4 (length (spell x)) ++ spell x
+nested_text spell x = number_text 4 (length (spell x)) ++ spell x

@@ -5,7 +5,7 @@ use Rattle.std.proofs.lemmas.Nat.{le-div, mod_below, mod-mul-add, div-mul-add}
 use Rattle.std.proofs.lemmas.Bool.{cases_lt}
 use Rattle.std.specs.Int.{bytes_high_first, byte_at}
 use Rattle.mega_base.specs.Reading.{Place, place, Read, ◌>>=◌, byte_in, digits_in, number_in}
-use Rattle.mega_base.specs.Codec.{Stands, Stop, Codec, IsText, IsBetween, one_byte}
+use Rattle.mega_base.specs.Codec.{number_text, Stands, Stop, Codec, IsText, IsBetween, one_byte}
 use Rattle.mega_base.specs.Codecs.{bind_codec, byte_codec, fits_codec, ok_parts}
 
 pub pow_256_pos : (k : ℕ) → 0 < 256 ^ k
@@ -86,7 +86,8 @@ digits_codec (suc k) top low high order above below =
     byte_fits n f = (omega (arith, first_part n f, div_mono k low n f.0), omega (arith, first_part n f, div_mono k n high f.1))
 
 -- a number of k bytes from low to high
-pub number_codec : (k low high : ℕ) → low ≤ high → high < 256 ^ k → Codec (number_in k low high) (bytes_high_first k) (IsText (bytes_high_first k) (IsBetween low high)) (IsBetween low high)
+pub number_codec : (k low high : ℕ) → low ≤ high → high < 256 ^ k → Codec (number_in k low high) (number_text k) (IsText (number_text k) (IsBetween low high)) (IsBetween low high)
+unfolding number_text
 number_codec k low high order small =
   fits_codec (number_in k low high) (bytes_high_first k) (IsReached k 0 low high) (IsBetween low high)
     (digits_codec k 0 low high order (omega (arith, none low (omega arith))) (omega arith))
@@ -95,6 +96,14 @@ number_codec k low high order small =
   where
     none : (n : ℕ) → n < 256 ^ k → n / 256 ^ k ≡ 0
     none n h = div-eq_of_lt h
+
+pub length_number_text : (k n : ℕ) → length (number_text k n) ≡ k
+unfolding number_text
+length_number_text k n = digits k n
+  where
+    digits : (j m : ℕ) → length (bytes_high_first j m) ≡ j
+    digits zero m = refl
+    digits (suc j) m = ap suc (digits j m)
 
 -- a number that was read is in its range
 pub in_range : (k low high : ℕ) (p : Place) (n : ℕ) (q : Place) → digits_in k 0 low high p ≡ Ok (n, q) → low ≤ high → high < 256 ^ k → n ≤ high

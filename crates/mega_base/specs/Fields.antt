@@ -1,6 +1,6 @@
 -- What the calls that read fields give.
 use Rattle.std.specs.Prelude.{◌≡◌, ℕ, ◌+◌, ◌<◌, ◌≤◌, ◌⊎◌, List, ◌++◌, length, take, Result, Ok, Err, ⊤}
-use Rattle.std.specs.Int.{to_be_bytes, w32}
+use Rattle.mega_base.specs.Names.{u32_text}
 use Rattle.mega_base.specs.Reading.{Place, end_of, Read, number_in}
 use Rattle.mega_base.specs.declared.cursor.BadByte.{BadByte}
 use Rattle.mega_base.specs.declared.cursor.CursorFault.{CursorFault}
@@ -20,6 +20,6 @@ ReadsOn (Err fault) new read = read ≡ Err fault.at
 -- four bytes are there, which spell a number above 65,536, and the offset is of the first byte that no smaller
 -- number has there; or fewer bytes are left than the length, or the length and its bytes, need
 abbrev pub IsBytesFault : Place → CursorFault → Type 0
-IsBytesFault p (Long at number) = (65536 < number) × (take 4 p.left ≡ to_be_bytes w32 number) × (number_in 4 0 65536 p ≡ Err at)
+IsBytesFault p (Long at number) = (65536 < number) × (take 4 p.left ≡ u32_text number) × (number_in 4 0 65536 p ≡ Err at)
 IsBytesFault p (Short at) = (at ≡ end_of p)
-  × ((length p.left < 4) ⊎ ((number : ℕ) × (take 4 p.left ≡ to_be_bytes w32 number) × (number ≤ 65536) × (length p.left < 4 + number)))
+  × ((length p.left < 4) ⊎ ((number : ℕ) × (take 4 p.left ≡ u32_text number) × (number ≤ 65536) × (length p.left < 4 + number)))

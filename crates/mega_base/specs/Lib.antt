@@ -8,6 +8,7 @@ pub mod Fields
 pub mod Lists
 pub mod NameLaws
 pub mod Names
+pub mod Pairs
 pub mod Reading
 pub mod Utf8
 pub mod ValueLaws

@@ -2,14 +2,13 @@
 use Rattle.std.proofs.Common.{◌≡◌, ℕ, zero, suc, ◌+◌, ◌-◌, ◌*◌, ◌^◌, ◌<◌, ◌≤◌, Bool, true, false, List, [], ◌∷◌, ◌++◌, length, take, drop, refl, sym, ◌∙◌, ap, subst, inl, inr, ◌⊎◌, Result, Ok, Err, Option, Some, None, IsErr, arith, add-zero, append_assoc, length-append, append-nil, get_or}
 use Rattle.std.specs.Prelude.{if◌then◌else◌, nat_le, ◌==◌, All, replicate, ◌≢◌}
 use Rattle.std.specs.List.{flat_map}
-use Rattle.std.specs.Int.{bytes_high_first}
 use Rattle.std.proofs.lemmas.Bool.Decides.{nat_tests}
 use Rattle.std.proofs.lemmas.Bool.{cases_lt}
 use Rattle.std.proofs.lemmas.List.Elements.{All-cons, All-nil}
 use Rattle.std.proofs.lemmas.List.{take-append-drop, length-take, length-take-le, length-drop}
 use Rattle.std.proofs.Math.Seq.{take-append_seam, drop-append_seam, take-append-add}
 use Rattle.mega_base.specs.Reading.{Place, place, end_of, Read, ◌>>=◌, byte_in, number_in, bytes_of_len, bytes_in, items_at, list_in, option_at, nested_at, whole_of}
-use Rattle.mega_base.specs.Codec.{Stands, first_of, Stop, Codec, IsText, IsBetween, one_byte, IsCons, AreItems, IsList, list_text, option_text, IsOption, bytes_text, HasLen, IsNested, OpensNested, IsFirstBad}
+use Rattle.mega_base.specs.Codec.{number_text, Stands, first_of, Stop, Codec, IsText, IsBetween, one_byte, IsCons, AreItems, IsList, list_text, option_text, IsOption, bytes_text, HasLen, IsNested, OpensNested, IsFirstBad}
 use Rattle.mega_base.specs.Codecs.{bind-ok, bind-err, bind-is_err, ok_parts, if-ok, bind_codec, then_codec, embed_codec, variant_codec, refit_codec, fits_codec, if_codec, pure_codec, byte_codec}
 use Rattle.mega_base.specs.Digits.{number_codec}
 
@@ -81,7 +80,7 @@ pub list_codec : {A : Type 0} (low high : ℕ) (r : Place → Read A) (s : A →
 unfolding list_in
 list_codec {A} low high r s F order small c x f =
   fits_codec (λ p. number_in 4 low high p >>= λ n. items_at r n.0 n.1) (list_text s) (λ xs. IsBetween low high (length xs) × AreItems F (length xs) xs) (IsList low high F)
-    (then_codec (number_in 4 low high) (bytes_high_first 4) (IsBetween low high) (λ n. items_at r n) (flat_map s) (AreItems F) length
+    (then_codec (number_in 4 low high) (number_text 4) (IsBetween low high) (λ n. items_at r n) (flat_map s) (AreItems F) length
       (number_codec 4 low high order small)
       (λ n g. items_codec r s F c n)
       (λ n xs g h. h.count)
@@ -181,10 +180,33 @@ pub bytes_codec : (low high : ℕ) → low ≤ high → high < 2 ^ 32 → Codec 
 unfolding bytes_in
 bytes_codec low high order small =
   fits_codec (λ p. number_in 4 low high p >>= λ n. bytes_of_len n.0 n.1) bytes_text (λ t. IsBetween low high (length t) × (length t ≡ length t)) (HasLen low high)
-    (then_codec (number_in 4 low high) (bytes_high_first 4) (IsBetween low high) (λ n. bytes_of_len n) (λ t. t) (λ n t. length t ≡ n) length
+    (then_codec (number_in 4 low high) (number_text 4) (IsBetween low high) (λ n. bytes_of_len n) (λ t. t) (λ n t. length t ≡ n) length
       (number_codec 4 low high order small)
       (λ n g. bytes_of_len_codec n)
       (λ n t g h. h)
       (λ n g. (replicate n 0, length-replicate {A = ℕ} n 0)))
     (λ t g. g.0)
     (λ t g. (g, refl))
+
+-- the same where the texts are measured by the grammar itself
+pub plain_option_codec : {A : Type 0} (r : Place → Read A) (s : A → List ℕ) (F : A → Type 0) → Codec r s (IsText s F) F → (x : A) → F x
+    → Codec (option_at r) (option_text s) (IsText (option_text s) (IsOption F)) (IsOption F)
+plain_option_codec r s F c x f =
+  option_codec r s (IsText s F) (IsText (option_text s) (IsOption F)) F c
+    (None, tt, refl) (λ t w. (Some w.0, w.1, ap (λ l. 1 ∷ l) w.2)) (s x) (x, f, refl)
+
+-- as many items are read as are counted
+items_length : {A : Type 0} (read : Place → Read A) (n : ℕ) (p : Place) (xs : List A) (q : Place) → items_at read n p ≡ Ok (xs, q) → length xs ≡ n
+unfolding items_at
+items_length {A} read zero p xs q h = ap length (sym (ok_parts [] xs p q h).0)
+items_length {A} read (suc n) p xs q h =
+  let first = bind-ok (read p) (λ x. items_at read n x.1 >>= λ ys. Ok (x.0 ∷ ys.0, ys.1)) (xs, q) h in
+  let rest = bind-ok (items_at read n first.0.1) (λ ys. Ok (first.0.0 ∷ ys.0, ys.1)) (xs, q) first.2 in
+  let same = ok_parts (first.0.0 ∷ rest.0.0) xs rest.0.1 q rest.2 in
+  ap length (sym same.0) ∙ ap suc (items_length read n first.0.1 rest.0.0 rest.0.1 rest.1)
+
+pub list_most : {A : Type 0} (low high : ℕ) (read : Place → Read A) (p : Place) (xs : List A) (q : Place) → low ≤ high → high < 2 ^ 32 → list_in low high read p ≡ Ok (xs, q) → length xs ≤ high
+unfolding list_in
+list_most low high read p xs q order small h =
+  let count = bind-ok (number_in 4 low high p) (λ n. items_at read n.0 n.1) (xs, q) h in
+  omega (arith, items_length read count.0.0 count.0.1 xs q count.2, ((number_codec 4 low high order small).takes p count.0.0 count.0.1 count.1).1.1)

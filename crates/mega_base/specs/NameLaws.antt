@@ -1,8 +1,7 @@
 -- The laws of these formats.
 use Rattle.std.proofs.Common.{◌≡◌, ℕ, ◌≤◌, ◌<◌, ◌^◌, List, ◌++◌, refl, sym, ap, arith}
-use Rattle.std.specs.Int.{bytes_high_first}
 use Rattle.mega_base.specs.Reading.{Place, Read, ◌>>=◌, byte_in, number_in, bytes_in}
-use Rattle.mega_base.specs.Codec.{Codec, IsText, IsBetween, one_byte, bytes_text, HasLen}
+use Rattle.mega_base.specs.Codec.{number_text, Codec, IsText, IsBetween, one_byte, bytes_text, HasLen}
 use Rattle.mega_base.specs.Names.{u8_at, IsU8, u32_at, u32_text, IsU32, u64_at, u64_text, IsU64, node_at, node_text, IsNode, position_in, position_at, position_text, IsPositionIn, IsPosition, epoch_at, epoch_text, IsEpoch, op_at, op_text, IsOp, string_at, IsString, group_at, group_text, IsGroup}
 use Rattle.mega_base.specs.declared.names.NodeId.{NodeId}
 use Rattle.mega_base.specs.declared.names.Position.{Position}

@@ -1,8 +1,7 @@
 -- The formats of numbers, of names and of strings of bytes.
 use Rattle.std.specs.Prelude.{◌≡◌, ℕ, ◌≤◌, List, ◌++◌, Ok}
-use Rattle.std.specs.Int.{bytes_high_first}
 use Rattle.mega_base.specs.Reading.{Place, Read, ◌>>=◌, byte_in, number_in, bytes_in}
-use Rattle.mega_base.specs.Codec.{IsBetween, one_byte, bytes_text, HasLen}
+use Rattle.mega_base.specs.Codec.{number_text, IsBetween, one_byte, bytes_text, HasLen}
 use Rattle.mega_base.specs.declared.names.NodeId.{NodeId}
 use Rattle.mega_base.specs.declared.names.Position.{Position}
 use Rattle.mega_base.specs.declared.names.Epoch.{Epoch}
@@ -20,7 +19,7 @@ abbrev pub u32_at : Place → Read ℕ
 u32_at p = number_in 4 0 4294967295 p
 
 abbrev pub u32_text : ℕ → List ℕ
-u32_text n = bytes_high_first 4 n
+u32_text n = number_text 4 n
 
 abbrev pub IsU32 : ℕ → Type 0
 IsU32 n = IsBetween 0 4294967295 n
@@ -29,7 +28,7 @@ abbrev pub u64_at : Place → Read ℕ
 u64_at p = number_in 8 0 18446744073709551615 p
 
 abbrev pub u64_text : ℕ → List ℕ
-u64_text n = bytes_high_first 8 n
+u64_text n = number_text 8 n
 
 abbrev pub IsU64 : ℕ → Type 0
 IsU64 n = IsBetween 0 18446744073709551615 n

@@ -1,13 +1,12 @@
 -- Texts within texts, and whole texts.
 use Rattle.std.proofs.Common.{◌≡◌, ℕ, zero, suc, ◌+◌, ◌-◌, ◌*◌, ◌^◌, ◌<◌, ◌≤◌, Bool, true, false, List, [], ◌∷◌, ◌++◌, length, take, drop, refl, sym, ◌∙◌, ap, subst, inl, inr, ◌⊎◌, Result, Ok, Err, Option, Some, None, IsErr, arith, add-zero, append_assoc, length-append, append-nil, get_or}
 use Rattle.std.specs.Prelude.{if◌then◌else◌, nat_le, ◌==◌, ◌≢◌}
-use Rattle.std.specs.Int.{bytes_high_first}
 use Rattle.std.proofs.lemmas.Bool.Decides.{nat_tests}
 use Rattle.std.proofs.lemmas.Bool.{cases_lt}
 use Rattle.std.proofs.lemmas.List.{take-append-drop, length-take, length-take-le, length-drop}
 use Rattle.std.proofs.Math.Seq.{take-append_seam, drop-append_seam, take-append-add}
 use Rattle.mega_base.specs.Reading.{Place, place, end_of, Read, ◌>>=◌, number_in, within, nested_at, whole_of}
-use Rattle.mega_base.specs.Codec.{Stands, first_of, Stop, Codec, IsText, IsBetween, IsNested, OpensNested, nested_text, IsFirstBad}
+use Rattle.mega_base.specs.Codec.{number_text, Stands, first_of, Stop, Codec, IsText, IsBetween, IsNested, OpensNested, nested_text, IsFirstBad}
 use Rattle.mega_base.specs.Codecs.{bind-ok, bind-err, bind-is_err, ok_parts, if-ok, bind_codec, refit_codec}
 use Rattle.mega_base.specs.Digits.{number_codec}
 
@@ -122,12 +121,12 @@ pub nested_codec : {A : Type 0} (limit : ℕ) (r : Place → Read A) (s : A → 
     → Codec (nested_at limit r) (nested_text s) (OpensNested limit s F) (IsNested limit s F)
 unfolding nested_at
 nested_codec {A} limit r s F small c x f =
-  bind_codec (number_in 4 0 limit) (bytes_high_first 4) (IsBetween 0 limit) (λ n. within r n) (λ _. s) (λ _. IsText s F) (λ n x. F x × (length (s x) ≡ n))
+  bind_codec (number_in 4 0 limit) (number_text 4) (IsBetween 0 limit) (λ n. within r n) (λ _. s) (λ _. IsText s F) (λ n x. F x × (length (s x) ≡ n))
     (nested_text s) (OpensNested limit s F) (IsNested limit s F)
     (number_codec 4 0 limit (omega arith) small)
     (λ n _. within_codec r s F c n)
-    (λ n y g h. (ap (λ m. bytes_high_first 4 m ++ s y) h.1, (h.0, omega (arith, g.1, h.1))))
-    (λ n t g w. (n, w.0, g.1, w.1, ap (λ l. bytes_high_first 4 n ++ l) w.2))
+    (λ n y g h. (ap (λ m. number_text 4 m ++ s y) h.1, (h.0, omega (arith, g.1, h.1))))
+    (λ n t g w. (n, w.0, g.1, w.1, ap (λ l. number_text 4 n ++ l) w.2))
     (λ y g. (length (s y), (omega arith, g.1), (g.0, refl)))
     (λ n g. (s x, (x, f, refl)))
 

@@ -56,7 +56,7 @@ impl<'a> Cursor<'a> {
 
 /// Appends the length of the text of a value, in four bytes, and the text. A refusal may leave a part
 /// of it in `out`.
-#[tactic(auto, using(crate::proofs::Keeps::keeps_front, crate::proofs::Keeps::length_set))]
+#[tactic(auto, using(crate::proofs::Keeps::keeps_front, crate::proofs::Keeps::length_set), unfolding(crate::specs::Codec::number_text))]
 pub fn put_nested<T: Field>(value: &T, out: &mut Bytes) -> Result<(), NoMemory>
     requires { IsNested 65536 T.spells T.fits value.now }
     ensures ok { OnOk result (out.new ≡ out.old ++ nested_text T.spells value.now) }

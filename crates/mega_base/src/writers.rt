@@ -1,5 +1,5 @@
 ghost use Rattle.std.specs.Prelude.{◌≡◌, ◌++◌, ◌∷◌, [], ◌≤◌, length, OnOk, OnErr};
-ghost use Rattle.std.specs.Int.{to_be_bytes, w32, w64};
+ghost use Rattle.mega_base.specs.Names.{u32_text, u64_text};
 ghost use Rattle.mega_base.specs.Codec.{bytes_text};
 
 use crate::bytes::Bytes;
@@ -14,16 +14,18 @@ pub fn put_u8(out: &mut Bytes, number: u8) -> Result<(), NoMemory>
 }
 
 /// Appends a number of four bytes, the highest first; a refusal leaves `out`.
+#[tactic(auto, unfolding(crate::specs::Codec::number_text))]
 pub fn put_u32(out: &mut Bytes, number: u32) -> Result<(), NoMemory>
-    ensures ok { OnOk result (out.new ≡ out.old ++ to_be_bytes w32 number) }
+    ensures ok { OnOk result (out.new ≡ out.old ++ u32_text number) }
     ensures err { OnErr result (out.new ≡ out.old) }
 {
     out.extend_from_slice(&number.to_be_bytes())
 }
 
 /// Appends a number of eight bytes, the highest first; a refusal leaves `out`.
+#[tactic(auto, unfolding(crate::specs::Codec::number_text))]
 pub fn put_u64(out: &mut Bytes, number: u64) -> Result<(), NoMemory>
-    ensures ok { OnOk result (out.new ≡ out.old ++ to_be_bytes w64 number) }
+    ensures ok { OnOk result (out.new ≡ out.old ++ u64_text number) }
     ensures err { OnErr result (out.new ≡ out.old) }
 {
     out.extend_from_slice(&number.to_be_bytes())
