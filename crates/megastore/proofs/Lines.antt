@@ -36,7 +36,7 @@ pub read_more : (digits : List ℕ) (number index digit : ℕ) → ReadTo digits
 read_more digits number index digit to within is least most small = record {
   value = rw add-one (ap (λ d. number_from (number * 10 + (d - 48)) (drop (suc index) digits)) (sym is) ∙ sym (ap (number_from number) (drop-cons digits index 0 within)) ∙ to.value);
   read = rw add-one (All-same IsDigit _ _ (take-suc digits index 0 within) (All-append IsDigit (take index digits) (slice_index digits index ∷ []) to.read (All-cons IsDigit (slice_index digits index) [] (subst IsDigit (sym is) (least, most)) (All-nil IsDigit))));
-  small = small
+  small = small;
 }
 
 -- a number that passes the greatest one is not that of a message
@@ -45,7 +45,7 @@ pub too_great : (digits : List ℕ) (number index digit : ℕ) → ReadTo digits
 too_great digits number index digit to within is great whole spelled =
     let more = number_from_least (number * 10 + (digit - 48)) (drop (suc index) digits) in
     let all : number_from (number * 10 + (digit - 48)) (drop (suc index) digits) ≡ number_from 0 digits =
-      ap (λ d. number_from (number * 10 + (d - 48)) (drop (suc index) digits)) (sym is) ∙ sym (ap (number_from number) (drop-cons digits index 0 within)) ∙ to.value in
+    ap (λ d. number_from (number * 10 + (d - 48)) (drop (suc index) digits)) (sym is) ∙ sym (ap (number_from number) (drop-cons digits index 0 within)) ∙ to.value in
     let value = spelled.value in
     let most = spelled.most in
     omega (arith, more, all, value, most)

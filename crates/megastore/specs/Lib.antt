@@ -1,1 +1,5 @@
 pub mod PlainLines
+pub mod LineForms
+pub mod Replaying
+pub mod Statuses
+pub mod Stops

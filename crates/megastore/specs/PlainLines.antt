@@ -16,6 +16,7 @@ pub record IsMessageNumber (digits : List ℕ) (number : ℕ) : Type 0 where
   pub others : List ℕ
   pub some : digits ≡ first ∷ others
   pub no_zero : first ≢ 48
+  pub short : length digits ≤ 13
   pub all_digits : All IsDigit digits
   pub value : number ≡ number_from 0 digits
   pub most : number ≤ MOST
@@ -38,3 +39,8 @@ pub record IsPut (line : List ℕ) (node : ℕ) (name : List ℕ) : Type 0 where
   pub least : 1 ≤ node
   pub most : node ≤ 3
   pub of_name : IsName name
+
+-- the line is none of these
+pub record IsNoLine (line : List ℕ) : Type 0 where
+  pub no_delivery : (number : ℕ) → IsDelivery line number → ⊥
+  pub no_put : (node : ℕ) (name : List ℕ) → IsPut line node name → ⊥

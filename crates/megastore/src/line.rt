@@ -1,11 +1,11 @@
-ghost use Rattle.std.specs.Prelude.{◌≡◌, ◌≢◌, ◌+◌, ◌≤◌, ◌++◌, ◌↔◌, ℕ, List, IfSome, IsNone, IsTrue};
-ghost use Rattle.megastore.specs.PlainLines.{IsMessageNumber, IsName, IsDelivery, IsPut};
-
-use std::alloc::Global;
+ghost use Rattle.std.specs.Prelude.{◌≡◌, ◌≢◌, ◌+◌, ◌≤◌, ◌++◌, ◌↔◌, ℕ, List, IfSome, IsNone, IsTrue, IfOk, Ok, None};
+ghost use Rattle.megastore.specs.PlainLines.{IsMessageNumber, IsName, IsDelivery, IsPut, IsNoLine};
+ghost use Rattle.megastore.specs.LineForms.{IsSpelled, IsBegin};
 
 use mega_base::{Bytes, Cell, GroupId, Items, NoMemory, NodeId, Row, Text, Value};
 use mega_outcome::{Change, Request, Transaction};
 use mega_world::WorldEvent;
+use std::alloc::Global;
 
 /// A line of a schedule in its plain spelling.
 #[derive(Drop)]
@@ -26,7 +26,8 @@ pub const DELIVER_END: [u8; 1] = *b"}";
 pub const PUT: [u8; 19] = *b"{\"do\":\"txn\",\"node\":";
 
 /// What stands between the node and the name.
-pub const PUT_ROW: [u8; 100] = *b",\"group\":[\"User\",[101]],\"checks\":[],\"reads\":[],\"writes\":[{\"put\":\"User\",\"row\":{\"user_id\":101,\"name\":\"";
+pub const PUT_ROW: [u8; 100] =
+    *b",\"group\":[\"User\",[101]],\"checks\":[],\"reads\":[],\"writes\":[{\"put\":\"User\",\"row\":{\"user_id\":101,\"name\":\"";
 
 /// What stands after the name.
 pub const PUT_END: [u8; 16] = *b"\"}}],\"sends\":[]}";
@@ -69,6 +70,9 @@ fn message_number(digits: &[u8]) -> Option<u64>
     ensures some { IfSome result (IsMessageNumber digits.now) }
     ensures none { IsNone result → (number : ℕ) → IsMessageNumber digits.now number → ⊥ }
 {
+    if digits.len() > 13 {
+        return None;
+    }
     let (first, _) = digits.split_first()?;
     if *first == b'0' {
         return None;
@@ -132,6 +136,8 @@ fn put_parts(line: &[u8]) -> Option<(u8, &[u8])>
 
 /// What a line says, where it is one of the plain lines that are built.
 pub fn read_line(alloc: Global, line: &[u8]) -> Result<Option<Line>, NoMemory>
+    ensures some { IfOk result (λ read. IfSome read (IsSpelled line.now)) }
+    ensures none { result ≡ Ok None → IsNoLine line.now }
 {
     if let Some(message) = delivery(line) {
         return Ok(Some(Line::Deliver { message }));
@@ -146,28 +152,25 @@ pub fn read_line(alloc: Global, line: &[u8]) -> Result<Option<Line>, NoMemory>
     Ok(Some(Line::Put { node, name }))
 }
 
-impl Line {
-    /// The event of the line.
-    pub fn event(self, alloc: Global) -> Result<WorldEvent, NoMemory> {
-        match self {
-            Line::Deliver { message } => Ok(WorldEvent::Deliver { message }),
-            Line::Put { node, name } => {
-                let text = begin_text(alloc, node, &name)?;
-                let request = Request::Txn(put_of(alloc, name)?);
-                Ok(WorldEvent::Begin {
-                    node: NodeId(node),
-                    request,
-                    text,
-                })
-            }
-        }
-    }
+/// The event of the put of a name at a node.
+pub fn put_event(alloc: Global, node: u8, name: Text) -> Result<WorldEvent, NoMemory>
+    ensures { IfOk result (λ event. IsBegin event node) }
+{
+    let text = begin_text(alloc, node, &name)?;
+    let request = Request::Txn(put_of(alloc, name)?);
+    Ok(WorldEvent::Begin {
+        node: NodeId(node),
+        request,
+        text,
+    })
 }
 
 /// The line's object, compact, with its keys in ascending order.
 fn begin_text(alloc: Global, node: u8, name: &Text) -> Result<Text, NoMemory> {
     let name = name.as_str();
-    let text = format!(in alloc; "{{\"checks\":[],\"do\":\"txn\",\"group\":[\"User\",[101]],\"node\":{node},\"reads\":[],\"sends\":[],\"writes\":[{{\"put\":\"User\",\"row\":{{\"name\":\"{name}\",\"user_id\":101}}}}]}}")?;
+    let text = format!(in alloc;
+        "{{\"checks\":[],\"do\":\"txn\",\"group\":[\"User\",[101]],\"node\":{node},\"reads\":[],\"sends\":[],\"writes\":[{{\"put\":\"User\",\"row\":{{\"name\":\"{name}\",\"user_id\":101}}}}]}}"
+    )?;
     Ok(Text::from_string(text))
 }
 

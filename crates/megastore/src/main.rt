@@ -1,6 +1,7 @@
 //! The program: reads a cluster and a schedule, and writes the transcript of what happened.
 #![tactic(auto)]
 
+mod header;
 mod line;
 mod replay;
 mod run;
@@ -8,12 +9,10 @@ mod status;
 #[cfg(test)]
 mod tests;
 
-use std::env;
-use std::io;
-use std::process::ExitCode;
-
 use mega_base::Text;
 use mega_io::{StdSink, StdSource};
+use std::process::ExitCode;
+use std::{env, io};
 
 /// The words after the program's name.
 fn arguments(rt: &HostRuntime) -> io::Result<Vec<Text>> {

@@ -1,14 +1,15 @@
+ghost use Rattle.std.specs.Prelude.{◌≡◌, ◌≤◌};
+
+use mega_io::{Sink, put};
 use std::alloc::Global;
 
-use mega_base::NoMemory;
-use mega_io::{LineError, Sink, SinkError, put};
-
-/// Why a replay ends before the end of its input. Lines are counted from 1; the header is line 0.
+/// Why a replay ends before the end of its input. Lines of the schedule are counted from 1; the header
+/// is line 0.
 #[derive(Clone, Copy, PartialEq, Debug, Drop)]
 pub enum Stop {
     /// The world refuses the event of this line.
     Refused { line: u64, why: u8 },
-    /// The header or this line uses what the program does not have yet.
+    /// The header or this line uses what the program does not have.
     Unbuilt { line: u64 },
     /// A call of the source failed.
     Source,
@@ -19,8 +20,12 @@ pub enum Stop {
 }
 
 impl Stop {
+    ghost use Rattle.megastore.specs.Statuses.{status_of};
+
     /// The status with which the program ends.
-    pub fn status(&self) -> u8 {
+    pub fn status(&self) -> u8
+        ensures { result ≡ status_of self.now }
+    {
         match self {
             Stop::Refused { .. } => 4,
             Stop::Source => 5,
@@ -30,43 +35,17 @@ impl Stop {
         }
     }
 
-    /// Writes the last line that tells of the stop, where there is one.
-    pub fn tell<O: Sink>(&self, alloc: Global, out: &mut O) -> Result<(), Stop> {
-        match self {
-            Stop::Refused { line, why } => {
-                let last = format!(in alloc; "refused {line} world {why}\n").map_err(NoMemory::from)?;
-                put(out, last.as_bytes())?;
-            }
-            Stop::Unbuilt { line } => {
-                let last = format!(in alloc; "unbuilt {line}\n").map_err(NoMemory::from)?;
-                put(out, last.as_bytes())?;
-            }
-            _ => {}
-        }
-        Ok(())
-    }
-}
-
-impl From<NoMemory> for Stop {
-    fn from(_refused: NoMemory) -> Stop {
-        Stop::NoMemory
-    }
-}
-
-impl From<SinkError> for Stop {
-    fn from(refused: SinkError) -> Stop {
-        match refused {
-            SinkError::Failed => Stop::Sink,
-            SinkError::NoMemory => Stop::NoMemory,
-        }
-    }
-}
-
-impl From<LineError> for Stop {
-    fn from(refused: LineError) -> Stop {
-        match refused {
-            LineError::Failed => Stop::Source,
-            LineError::NoMemory => Stop::NoMemory,
+    /// Writes the last line that tells of the stop, where there is one and it can be written.
+    pub fn tell<O: Sink>(&self, alloc: Global, out: &mut O)
+        ensures { O.faults out.old ≤ O.faults out.new }
+    {
+        let told = match self {
+            Stop::Refused { line, why } => format!(in alloc; "refused {line} world {why}\n"),
+            Stop::Unbuilt { line } => format!(in alloc; "unbuilt {line}\n"),
+            _ => Ok(String::new(alloc)),
+        };
+        if let Ok(last) = told {
+            let _ = put(out, last.as_bytes());
         }
     }
 }

@@ -1,0 +1,13 @@
+use Rattle.std.proofs.Common.{◌≤◌}
+use Rattle.std.specs.Io.KnownBytes.{prepend_known}
+use Rattle.mega_core.specs.Tape.{newest}
+use Rattle.mega_world.specs.Represents.{Represents}
+use Rattle.megastore.proofs.Steps.{RanTo}
+use Rattle.megastore.proofs.replay.run_lines.Given as goal
+
+abbrev pub invariant-loop-count : goal.invariant-loop-count
+invariant-loop-count g l =
+    RanTo (prepend_known l.fn.reader (g.I.Source.left l.fn.input)) (prepend_known l.reader (g.I.Source.left l.input)) (newest l.tape.items) l.count
+    × Represents 3 l.world (newest l.tape.items)
+    × (g.I.Source.faults l.fn.input ≤ g.I.Source.faults l.input)
+    × (g.O.Sink.faults l.fn.out ≤ g.O.Sink.faults l.out)

@@ -1,0 +1,19 @@
+-- The words of the program and the statuses with which it ends.
+use Rattle.std.specs.Prelude.{◌≡◌, ℕ, Bool, false, nat_eq, codes, List, [], ◌∷◌, Option, Result, Ok, Err}
+use Rattle.std.specs.Cmp.Lexicographic.{pointwise}
+use Rattle.std.specs.Io.KnownBytes.{IsAtEnd}
+use Rattle.megastore.specs.declared.status.Stop.{Stop}
+use Rattle.megastore.specs.declared.status.Stop.TheVariants.{Refused, Unbuilt, Source, Sink, NoMemory}
+
+-- the one form of words that the program has
+abbrev pub is_form : List (List ℕ) → Bool
+is_form (word ∷ []) = pointwise nat_eq word (codes "replay")
+is_form _ = false
+
+-- the status of a stop
+abbrev pub status_of : Stop → ℕ
+status_of (Refused line why) = 4
+status_of Source = 5
+status_of Sink = 6
+status_of NoMemory = 8
+status_of (Unbuilt line) = 11
