@@ -1,0 +1,4 @@
+pub mod Fuse
+pub mod Images
+pub mod RecordLists
+pub mod VersionMaps

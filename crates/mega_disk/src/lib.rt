@@ -1,0 +1,10 @@
+//! Devices that can stop at any call, and the stores that stand on them: one file, a list of records, versions of rows.
+#![tactic(auto)]
+
+mod disk;
+mod records;
+mod versions;
+
+pub use disk::{Disk, DiskError};
+pub use records::{RecordError, Records};
+pub use versions::{StoreError, Versions};
