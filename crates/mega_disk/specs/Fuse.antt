@@ -1,5 +1,5 @@
 -- The fuse of a device: how many calls it still makes before one fails and a crash follows.
-use Rattle.std.specs.Prelude.{◌≡◌, ◌⊎◌, ℕ, zero, suc, ◌+◌, ◌≤◌, Bool, true, Result}
+use Rattle.std.specs.Prelude.{◌≡◌, ◌⊎◌, ℕ, zero, suc, ◌+◌, ◌≤◌, Bool, true, false, Option, Some}
 
 pub data Fuse : Type 0 where
   -- the device has no fuse, or says nothing of it
@@ -37,10 +37,13 @@ pub record Burns (old new : Fuse) : Type 0 where
   pub was_set : (n : ℕ) × (old ≡ Left n)
   pub gone : new ≡ Unset
 
--- one call of the device: it lowers a set fuse, and at 0 it fails
-pub record CountsCall (old new : Fuse) (Failed : Type 0) : Type 0 where
+-- One call of the device: it lowers a set fuse, and fails at a fuse with no call left. Where the device tells
+-- whether its next call fails, it does as told.
+pub record CountsCall (old new : Fuse) (fails : Option Bool) (Failed : Type 0) : Type 0 where
   pub lowers : new ≡ after_call old
   pub at_zero : old ≡ Left 0 → Failed
+  pub told : fails ≡ Some true → Failed
+  pub told_not : fails ≡ Some false → Failed → ⊥
 
 -- a device that fails by its fuse alone goes on so, and fails where its fuse has no call left
 pub record FailsByFuse (was is : Bool) (fuse : Fuse) (Failed : Type 0) : Type 0 where

@@ -1,4 +1,6 @@
+pub mod Changes
 pub mod Fuse
 pub mod Images
+pub mod Past
 pub mod RecordLists
 pub mod VersionMaps

@@ -1,4 +1,4 @@
-ghost use Rattle.std.specs.Prelude.{◌≡◌, ◌≤◌, ◌+◌, List, ℕ, Bool, true, length, take, slice_range, IfOk, OnOk};
+ghost use Rattle.std.specs.Prelude.{◌≡◌, ◌≤◌, ◌+◌, List, ℕ, Option, Bool, true, length, take, slice_range, IfOk, OnOk};
 ghost use Rattle.mega_base.specs.Causes.{Rose};
 ghost use Rattle.mega_disk.specs.Images.{Only, Follows, Within, Torn, Cut, overwritten, Elapses, SameImages};
 ghost use Rattle.mega_disk.specs.Fuse.{Fuse, CountsCall, FailsByFuse, set_to};
@@ -51,6 +51,9 @@ pub trait Disk {
     /// The calls that a set fuse has left, where told.
     ghost fuse_left: { Self → Fuse };
 
+    /// Whether the next device call fails, where told.
+    ghost fails_next: { Self → Option Bool };
+
     /// Whether nothing but its fuse makes a call fail.
     ghost fails_by_fuse: { Self → Bool };
 
@@ -62,7 +65,7 @@ pub trait Disk {
         ensures time { Elapses (moment self.old) (moment self.new) (left_since self.old) (left_since self.new) (may_leave self.new) }
         ensures cause { result ≡ Err DiskError.Failed → Rose (faults self.old) (faults self.new) }
         ensures later { faults self.old ≤ faults self.new }
-        ensures fuse { CountsCall (fuse_left self.old) (fuse_left self.new) (result ≡ Err DiskError.Failed) }
+        ensures fuse { CountsCall (fuse_left self.old) (fuse_left self.new) (fails_next self.old) (result ≡ Err DiskError.Failed) }
         ensures by_fuse { FailsByFuse (fails_by_fuse self.old) (fails_by_fuse self.new) (fuse_left self.old) (result ≡ Err DiskError.Failed) };
 
     /// Fills `into` with the bytes from offset `at` on, which lie within the length.
@@ -74,7 +77,7 @@ pub trait Disk {
         ensures time { Elapses (moment self.old) (moment self.new) (left_since self.old) (left_since self.new) (may_leave self.new) }
         ensures cause { result ≡ Err DiskError.Failed → Rose (faults self.old) (faults self.new) }
         ensures later { faults self.old ≤ faults self.new }
-        ensures fuse { CountsCall (fuse_left self.old) (fuse_left self.new) (result ≡ Err DiskError.Failed) }
+        ensures fuse { CountsCall (fuse_left self.old) (fuse_left self.new) (fails_next self.old) (result ≡ Err DiskError.Failed) }
         ensures by_fuse { FailsByFuse (fails_by_fuse self.old) (fails_by_fuse self.new) (fuse_left self.old) (result ≡ Err DiskError.Failed) };
 
     /// Writes over what is there from offset `at` on, and past the end; `at` is at most the length.
@@ -85,7 +88,7 @@ pub trait Disk {
         ensures time { Elapses (moment self.old) (moment self.new) (left_since self.old) (left_since self.new) (may_leave self.new) }
         ensures cause { result ≡ Err DiskError.Failed → Rose (faults self.old) (faults self.new) }
         ensures later { faults self.old ≤ faults self.new }
-        ensures fuse { CountsCall (fuse_left self.old) (fuse_left self.new) (result ≡ Err DiskError.Failed) }
+        ensures fuse { CountsCall (fuse_left self.old) (fuse_left self.new) (fails_next self.old) (result ≡ Err DiskError.Failed) }
         ensures by_fuse { FailsByFuse (fails_by_fuse self.old) (fails_by_fuse self.new) (fuse_left self.old) (result ≡ Err DiskError.Failed) };
 
     /// Cuts the content to its first `size` bytes; it has at least as many.
@@ -96,7 +99,7 @@ pub trait Disk {
         ensures time { Elapses (moment self.old) (moment self.new) (left_since self.old) (left_since self.new) (may_leave self.new) }
         ensures cause { result ≡ Err DiskError.Failed → Rose (faults self.old) (faults self.new) }
         ensures later { faults self.old ≤ faults self.new }
-        ensures fuse { CountsCall (fuse_left self.old) (fuse_left self.new) (result ≡ Err DiskError.Failed) }
+        ensures fuse { CountsCall (fuse_left self.old) (fuse_left self.new) (fails_next self.old) (result ≡ Err DiskError.Failed) }
         ensures by_fuse { FailsByFuse (fails_by_fuse self.old) (fails_by_fuse self.new) (fuse_left self.old) (result ≡ Err DiskError.Failed) };
 
     /// After it, a crash leaves what a read gives.
@@ -107,7 +110,7 @@ pub trait Disk {
         ensures time { Elapses (moment self.old) (moment self.new) (left_since self.old) (left_since self.new) (may_leave self.new) }
         ensures cause { result ≡ Err DiskError.Failed → Rose (faults self.old) (faults self.new) }
         ensures later { faults self.old ≤ faults self.new }
-        ensures fuse { CountsCall (fuse_left self.old) (fuse_left self.new) (result ≡ Err DiskError.Failed) }
+        ensures fuse { CountsCall (fuse_left self.old) (fuse_left self.new) (fails_next self.old) (result ≡ Err DiskError.Failed) }
         ensures by_fuse { FailsByFuse (fails_by_fuse self.old) (fails_by_fuse self.new) (fuse_left self.old) (result ≡ Err DiskError.Failed) };
 
     /// Sets a fuse: the device makes `calls` further calls, and its node crashes before the next one,

@@ -1,0 +1,4 @@
+mod Changed
+mod Filled
+mod Steps
+mod Walks
