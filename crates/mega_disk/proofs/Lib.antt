@@ -1,4 +1,6 @@
 mod Changed
 mod Filled
+mod Left
+mod Moments
 mod Steps
 mod Walks

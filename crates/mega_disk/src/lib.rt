@@ -3,11 +3,14 @@
 
 mod changes;
 mod disk;
+mod fuse;
+mod mem_disk;
 mod past;
 mod records;
 mod versions;
 
 pub use disk::{Disk, DiskError};
+pub use mem_disk::MemDisk;
 pub use past::Past;
 pub use records::{RecordError, Records};
 pub use versions::{StoreError, Versions};
