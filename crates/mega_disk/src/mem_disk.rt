@@ -2,9 +2,9 @@ ghost use Rattle.std.specs.Prelude.{◌≡◌, ◌≢◌, ◌↔◌, ◌≤◌, 
 ghost use Rattle.std.proofs.Common.{inl};
 ghost use Rattle.mega_base.specs.Causes.{Rose};
 ghost use Rattle.mega_disk.specs.Changes.{MayLeave};
-ghost use Rattle.mega_disk.specs.Fuse.{Left, after_call, set_to};
-ghost use Rattle.mega_disk.specs.Images.{overwritten, Torn, Cut, Follows, Within, Only};
-ghost use Rattle.mega_disk.specs.MemDisk.{fuse_of, will_fail};
+ghost use Rattle.mega_disk.specs.Fuse.{Unset, Left, after_call, set_to};
+ghost use Rattle.mega_disk.specs.Images.{overwritten, Torn, Cut, Follows, Within, Only, SameImages};
+ghost use Rattle.mega_disk.specs.MemDisk.{fuse_of, will_fail, calls_of, failing_of, bytes_read_of};
 ghost use Rattle.mega_disk.specs.Past.{LeftBy, LeftSince, TimePasses, left_now};
 
 use crate::changes::{Held, burn, cut_to, write_over};
@@ -31,6 +31,13 @@ pub struct MemDisk {
 impl MemDisk {
     /// An empty device with no fuse.
     pub fn new(alloc: Global) -> MemDisk
+        ensures empty { ⟦<MemDisk as Disk>⟧.seen result ≡ [] }
+        ensures durable { Only [] (⟦<MemDisk as Disk>⟧.may_leave result) }
+        ensures unset { ⟦<MemDisk as Disk>⟧.fuse_left result ≡ Unset }
+        ensures by_fuse { ⟦<MemDisk as Disk>⟧.fails_by_fuse result ≡ true }
+        ensures calls { calls_of result ≡ 0 }
+        ensures failing { failing_of result ≡ 0 }
+        ensures read { bytes_read_of result ≡ 0 }
     {
         MemDisk {
             alloc,
@@ -45,6 +52,28 @@ impl MemDisk {
             faults: 0,
             bytes_read: 0,
         }
+    }
+
+    /// Names the call that is to fail, counted from 1 over all device calls; it counts in place of one
+    /// that was named before.
+    pub fn fail_at(&mut self, call: u64)
+        ensures failing { failing_of self.new ≡ call }
+        ensures calls { calls_of self.new ≡ calls_of self.old }
+        ensures seen { ⟦<MemDisk as Disk>⟧.seen self.new ≡ ⟦<MemDisk as Disk>⟧.seen self.old }
+        ensures same { SameImages ⟦<MemDisk as Disk>⟧.moment ⟦<MemDisk as Disk>⟧.may_leave ⟦<MemDisk as Disk>⟧.left_since self.old self.new }
+        ensures faults { ⟦<MemDisk as Disk>⟧.faults self.new ≡ ⟦<MemDisk as Disk>⟧.faults self.old }
+        ensures fuse { ⟦<MemDisk as Disk>⟧.fuse_left self.new ≡ ⟦<MemDisk as Disk>⟧.fuse_left self.old }
+        ensures by_fuse { (⟦<MemDisk as Disk>⟧.fails_by_fuse self.new ≡ true) ↔ (call ≤ calls_of self.old) }
+        ensures next { ⟦<MemDisk as Disk>⟧.fails_next self.new ≡ Some (will_fail (⟦<MemDisk as Disk>⟧.fuse_left self.old) (calls_of self.old) call) }
+    {
+        self.failing = call;
+    }
+
+    /// The lengths of all reads that went well, added up, at most 2^64 - 1.
+    pub fn read_bytes(&self) -> u64
+        ensures { result ≡ bytes_read_of self.now }
+    {
+        self.bytes_read
     }
 
     /// Counts a device call. It fails where the fuse has no call left, and what is left of pending
