@@ -2,6 +2,7 @@
 use Rattle.std.specs.Prelude.{◌≡◌, ◌⊎◌, ℕ, zero, suc, ◌+◌, ◌==◌, List, [], ◌∷◌, ◌++◌, length, take, drop, if◌then◌else◌, nat_le}
 use Rattle.mega_disk.specs.Images.{overwritten, Torn, Cut}
 use Rattle.mega_disk.specs.declared.changes.Change.{Change}
+use Rattle.mega_disk.specs.declared.changes.Held.{Held}
 use Rattle.mega_disk.specs.declared.changes.Change.TheVariants.{Written, Shortened}
 
 -- the content with the byte a5 at each place of this range that it has
@@ -62,3 +63,7 @@ IsWrite at count old new (Shortened size whole) = ⊥
 abbrev pub IsCut : ℕ → List ℕ → Change → Type 0
 IsCut size old (Shortened kept whole) = (kept ≡ size) × (whole.items ≡ old)
 IsCut size old (Written place written before was) = ⊥
+
+-- what a crash may leave of what is held
+abbrev pub LeftBy : Held → List ℕ → Type 0
+LeftBy held = MayLeave held.changes.items held.content.items

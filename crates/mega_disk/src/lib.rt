@@ -3,16 +3,20 @@
 
 mod changes;
 mod disk;
+mod file_disk;
 mod fuse;
 mod lent;
 mod mem_disk;
+mod mem_records;
 mod pair;
 mod past;
 mod records;
 mod versions;
 
 pub use disk::{Disk, DiskError};
+pub use file_disk::FileDisk;
 pub use mem_disk::MemDisk;
+pub use mem_records::MemRecords;
 pub use pair::{Device, Pair};
 pub use past::Past;
 pub use records::{RecordError, Records};

@@ -1,11 +1,11 @@
 ghost use Rattle.std.specs.Prelude.{◌≡◌, ◌≢◌, ◌↔◌, ◌≤◌, ◌+◌, ◌++◌, [], ◌∷◌, true, false, Some, length, take, min, nat_le, refl, OnOk, OnErr};
 ghost use Rattle.std.proofs.Common.{inl};
 ghost use Rattle.mega_base.specs.Causes.{Rose};
-ghost use Rattle.mega_disk.specs.Changes.{MayLeave};
+ghost use Rattle.mega_disk.specs.Changes.{LeftBy};
 ghost use Rattle.mega_disk.specs.Fuse.{Unset, Left, after_call, set_to};
 ghost use Rattle.mega_disk.specs.Images.{overwritten, Torn, Cut, Follows, Within, Only, SameImages};
 ghost use Rattle.mega_disk.specs.MemDisk.{fuse_of, will_fail, calls_of, failing_of, bytes_read_of};
-ghost use Rattle.mega_disk.specs.Past.{LeftBy, LeftSince, TimePasses, left_now};
+ghost use Rattle.mega_disk.specs.Past.{LeftSince, TimePasses, left_now};
 
 use crate::changes::{Held, burn, cut_to, write_over};
 use crate::disk::{Disk, DiskError};
@@ -87,7 +87,7 @@ impl MemDisk {
         ensures held { OnOk result (self.new.held ≡ self.old.held) }
         ensures past { OnOk result (self.new.past ≡ self.old.past) }
         ensures within { Within (LeftBy self.old.held) (LeftBy self.new.held) }
-        ensures time { TimePasses self.old.held self.old.past.states self.new.held self.new.past.states }
+        ensures time { TimePasses LeftBy self.old.held self.old.past.states self.new.held self.new.past.states }
         ensures rose { OnErr result (Rose self.old.faults self.new.faults) }
         ensures later { self.old.faults ≤ self.new.faults }
     {
@@ -112,7 +112,7 @@ impl Disk for MemDisk {
 
     ghost moment = { λ d. length d.past.states };
 
-    ghost left_since = { λ d. LeftSince d.held d.past.states };
+    ghost left_since = { λ d. LeftSince LeftBy d.held d.past.states };
 
     ghost faults = { λ d. d.faults };
 
@@ -126,7 +126,7 @@ impl Disk for MemDisk {
 
     ghost counts_now = { λ d t c le now. inl now };
 
-    ghost only_now = { λ d c left. left_now d.held d.past.states c left };
+    ghost only_now = { λ d c left. left_now LeftBy d.held d.past.states c left };
 
     fn len(&mut self) -> Result<u64, DiskError> {
         self.enter()?;
@@ -169,7 +169,7 @@ impl Disk for MemDisk {
 /// Leaves what a crash with this treatment of pending writes does, and notes what was there.
 fn crash(held: &mut Held, past: &mut Past<Held>, image: u8)
     ensures within { Within (LeftBy held.old) (LeftBy held.new) }
-    ensures time { TimePasses held.old past.old.states held.new past.new.states }
+    ensures time { TimePasses LeftBy held.old past.old.states held.new past.new.states }
 {
     *past = past.and(held);
     burn(held, image);
@@ -186,7 +186,7 @@ fn write_noted(
     requires { at ≤ length held.old.content.items }
     ensures written { OnOk result (held.new.content.items ≡ overwritten at bytes.now held.old.content.items) }
     ensures crash { Follows (Torn at (length bytes.now)) (LeftBy held.old) (LeftBy held.new) }
-    ensures time { TimePasses held.old past.old.states held.new past.new.states }
+    ensures time { TimePasses LeftBy held.old past.old.states held.new past.new.states }
 {
     *past = past.and(held);
     write_over(alloc, held, at, bytes)
@@ -202,7 +202,7 @@ fn cut_noted(
     requires { size ≤ length held.old.content.items }
     ensures cut { OnOk result (held.new.content.items ≡ take size held.old.content.items) }
     ensures crash { Follows (Cut size) (LeftBy held.old) (LeftBy held.new) }
-    ensures time { TimePasses held.old past.old.states held.new past.new.states }
+    ensures time { TimePasses LeftBy held.old past.old.states held.new past.new.states }
 {
     *past = past.and(held);
     cut_to(alloc, held, size)
@@ -213,7 +213,7 @@ fn sync_noted(held: &mut Held, past: &mut Past<Held>)
     ensures content { held.new.content.items ≡ held.old.content.items }
     ensures durable { Only held.old.content.items (LeftBy held.new) }
     ensures within { Within (LeftBy held.old) (LeftBy held.new) }
-    ensures time { TimePasses held.old past.old.states held.new past.new.states }
+    ensures time { TimePasses LeftBy held.old past.old.states held.new past.new.states }
 {
     *past = past.and(held);
     held.changes.clear();

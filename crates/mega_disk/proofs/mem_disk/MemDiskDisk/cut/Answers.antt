@@ -1,7 +1,7 @@
 use Rattle.std.proofs.Common.{subst}
 use Rattle.mega_disk.specs.declared.changes.Held.{Held}
 use Rattle.mega_disk.specs.Images.{Cut, Follows}
-use Rattle.mega_disk.specs.Past.{LeftBy}
+use Rattle.mega_disk.specs.Changes.{LeftBy}
 use Rattle.mega_disk.proofs.Left.{cut_from_within}
 use Rattle.mega_disk.proofs.mem_disk.MemDiskDisk.cut.Goals as goal
 

@@ -1,7 +1,7 @@
 use Rattle.std.proofs.Common.{subst}
 use Rattle.mega_disk.specs.declared.changes.Held.{Held}
 use Rattle.mega_disk.specs.Images.{Only}
-use Rattle.mega_disk.specs.Past.{LeftBy}
+use Rattle.mega_disk.specs.Changes.{LeftBy}
 use Rattle.mega_disk.proofs.mem_disk.MemDiskDisk.sync.Goals as goal
 
 pub returns-clause-durable : goal.returns-clause-durable
