@@ -1,6 +1,7 @@
 mod Changed
 mod Filled
+pub mod Leaves
 mod Left
 mod Moments
-mod Steps
+pub mod Steps
 mod Walks
