@@ -1,0 +1,27 @@
+ghost use Rattle.std.specs.Prelude.{◌≡◌, ◌+◌, ◌≤◌, true, length, IfOk, OnOk};
+ghost use Rattle.mega_base.specs.Causes.{Rose};
+ghost use Rattle.mega_disk.specs.Images.{overwritten, Only, Torn, Within, LeavesOnly};
+ghost use Rattle.mega_disk.specs.Fuse.{LowersBy, MayBurn, Burns};
+
+use mega_disk::{Disk, DiskError};
+use std::alloc::Global;
+
+/// How many bytes a read takes at most.
+const PIECE: usize = 1 << 20;
+
+/// Writes bytes and syncs. At Ok they are on the disk.
+pub(crate) fn write_through<D: Disk>(disk: &mut D, at: u64, bytes: &[u8]) -> Result<(), DiskError>
+    requires { D.is_told ≡ true → at ≤ length (D.seen disk.old) }
+    ensures written { D.is_told ≡ true → OnOk result (D.seen disk.new ≡ overwritten at bytes.now (D.seen disk.old)) }
+    ensures durable { D.is_told ≡ true → OnOk result (Only (D.seen disk.new) (D.may_leave disk.new)) }
+    ensures any_moment { D.is_told ≡ true → Only (D.seen disk.old) (D.may_leave disk.old) → LeavesOnly D.moment D.left_since disk.old disk.new (Torn at (length bytes.now) (D.seen disk.old)) }
+    ensures cause { result ≡ Err DiskError.Failed → Rose (D.faults disk.old) (D.faults disk.new) }
+    ensures later { D.faults disk.old ≤ D.faults disk.new }
+    ensures lowers { OnOk result (LowersBy 2 (D.fuse_left disk.old) (D.fuse_left disk.new)) }
+    ensures may_burn { MayBurn (D.fuse_left disk.old) (D.fuse_left disk.new) }
+    ensures burns { D.fails_by_fuse disk.old ≡ true → result ≡ Err DiskError.Failed → Burns (D.fuse_left disk.old) (D.fuse_left disk.new) }
+    ensures by_fuse { D.fails_by_fuse disk.old ≡ true → D.fails_by_fuse disk.new ≡ true }
+{
+    disk.write(at, bytes)?;
+    disk.sync()
+}

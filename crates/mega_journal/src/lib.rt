@@ -1,0 +1,5 @@
+//! A journal: a list of byte records on one device, each on the disk before it is acknowledged.
+#![tactic(auto)]
+
+mod device;
+mod parse;
