@@ -1,2 +1,4 @@
+mod Outcomes
 mod Reading
 mod Records
+mod Written

@@ -38,3 +38,7 @@ IsShort body = length body < 2 ^ 32
 
 abbrev pub AreShort : List (List ℕ) → Type 0
 AreShort bodies = AllByRecursion IsShort bodies
+
+-- what stands behind the gate of a record: the length of its body, the body, and a closed gate for the next
+abbrev pub behind_gate : List ℕ → List ℕ
+behind_gate body = to_be_bytes w32 (length body) ++ body ++ 0 ∷ []

@@ -1,5 +1,6 @@
 //! A journal: a list of byte records on one device, each on the disk before it is acknowledged.
 #![tactic(auto)]
 
+mod append;
 mod device;
 mod parse;
