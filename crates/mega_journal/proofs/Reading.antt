@@ -57,3 +57,11 @@ ends bytes records rest so_far none =
 pub rest_bytes : (bytes : List ℕ) (records : List (List ℕ)) (rest : List ℕ) → Reading bytes records rest → IsBytes bytes → IsBytes rest
 rest_bytes bytes records rest so_far fits =
     subst IsBytes (ap (drop (length (chain_of records))) so_far.spelled ∙ drop_at (chain_of records) rest (length (chain_of records)) refl) (bytes_drop (length (chain_of records)) bytes fits)
+
+-- each record takes bytes
+chain_long : (records : List (List ℕ)) → length records ≤ length (chain_of records)
+chain_long [] = omega arith
+chain_long (body ∷ records) = let rest = chain_long records in omega (arith, length-append (record_of body) (chain_of records))
+
+pub few_records : (bytes : List ℕ) (records : List (List ℕ)) (rest : List ℕ) → Reading bytes records rest → length records ≤ length bytes - length rest
+few_records bytes records rest so_far = let size = ap length so_far.spelled ∙ length-append (chain_of records) rest in omega (arith, chain_long records, size)

@@ -28,7 +28,7 @@ pub record Begins (gate : ℕ) (tail body rest : List ℕ) : Type 0 where
   pub body_is : take (from_be_bytes w32 (take 4 tail)) (drop 4 tail) ≡ body
   pub rest_is : drop (4 + from_be_bytes w32 (take 4 tail)) tail ≡ rest
 
-both : (a b : Bool) → a && b ≡ true → (a ≡ true) × (b ≡ true)
+pub both : (a b : Bool) → a && b ≡ true → (a ≡ true) × (b ≡ true)
 both true true is = (refl, refl)
 both true false is = absurd (cc)
 both false b is = absurd (cc)

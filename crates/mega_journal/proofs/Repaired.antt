@@ -1,21 +1,14 @@
 -- What closing the last gate of a file leaves, whole or torn.
 use Rattle.std.proofs.Common.{◌≡◌, ◌≢◌, ◌⊎◌, inl, inr, ⊎_elim, ℕ, ◌+◌, ◌<◌, ◌≤◌, List, [], ◌∷◌, ◌++◌, length, get_or, take, drop, refl, sym, ◌∙◌, ap, subst, arith, append_assoc, length-append, take-append-drop}
-use Rattle.std.specs.Prelude.{None}
+use Rattle.std.specs.Prelude.{None, true, false, not, nat_lt, ◌==◌}
 use Rattle.std.proofs.lemmas.Bool.{cases_eq, cases_lt}
+use Rattle.std.proofs.lemmas.Bool.Decides.{nat_tests}
 use Rattle.std.proofs.lemmas.List.{take_at, drop_more, drop_all, append-nil, nil_from_length}
 use Rattle.mega_disk.specs.Images.{overwritten, Torn}
 use Rattle.mega_journal.specs.Chain.{chain_of, first_record, records_of, AreShort}
-use Rattle.mega_journal.specs.Rest.{IsAtRest}
-use Rattle.mega_journal.proofs.Records.{records_chain, records_none, first_closed}
+use Rattle.mega_journal.specs.Rest.{IsAtRest, IsRead, is_shut}
+use Rattle.mega_journal.proofs.Records.{both, records_chain, records_none, first_closed}
 use Rattle.mega_journal.proofs.Written.{at_rest}
-
--- a file that was read up to its last gate
-pub record IsRead (file : List ℕ) (end : ℕ) : Type 0 where
-  pub place : end ≡ length (chain_of (records_of file))
-  pub spelled : file ≡ chain_of (records_of file) ++ drop end file
-  pub closed : first_record (drop end file) ≡ None
-  pub short : AreShort (records_of file)
-  pub behind : 0 < length file → end < length file
 
 module _ (file : List ℕ) (end : ℕ) (is : IsRead file end) where
   abbrev bodies : List (List ℕ)
@@ -75,3 +68,19 @@ module _ (file : List ℕ) (end : ℕ) (is : IsRead file end) where
   -- nor has that of a file of one byte
   pub short_end : length file ≤ 1 → first_record (1 ∷ drop (end + 1) file) ≡ None
   short_end few = ap (λ (l : List ℕ). first_record (1 ∷ l)) (drop_all (end + 1) file (omega arith))
+
+  -- by the test of the gate
+  pub when_shut : is_shut file end ≡ true → IsAtRest file end
+  when_shut test =
+      let tests = both (nat_lt 1 (length file)) (not (get_or file end 1 == 1)) test in
+      let many : 1 < length file = (let e : nat_lt 1 (length file) ≡ true = tests.0 in grind (arith, nat_tests)) in
+      shut_end (is.behind (omega arith)) (let e : not (get_or file end 1 == 1) ≡ true = tests.1 in λ one. grind (arith, nat_tests))
+
+  pub when_open : is_shut file end ≡ false → first_record (1 ∷ drop (end + 1) file) ≡ None
+  when_open test = ⊎_elim many short_end (cases_lt 1 (length file))
+    where
+      many : 1 < length file → first_record (1 ∷ drop (end + 1) file) ≡ None
+      many long = open_end (is.behind (omega arith)) (not_other test long)
+        where
+          not_other : is_shut file end ≡ false → 1 < length file → get_or file end 1 ≡ 1
+          not_other t l = grind (arith, nat_tests)

@@ -3,4 +3,5 @@
 
 mod append;
 mod device;
+mod opening;
 mod parse;

@@ -6,6 +6,7 @@ use mega_base::{Bytes, NoMemory};
 use std::alloc::Global;
 
 /// The records of a file's bytes, and the place of the first gate that is not that of a record.
+#[derive(Drop)]
 pub(crate) struct Found {
     pub records: Vec<Bytes>,
     pub end: usize,
@@ -19,6 +20,7 @@ pub(crate) fn parse(alloc: Global, bytes: &[u8]) -> Result<Found, NoMemory>
     ensures spelled { IfOk result (λ found. bytes.now ≡ chain_of (records_of bytes.now) ++ drop found.end bytes.now) }
     ensures closed { IfOk result (λ found. first_record_of (drop found.end bytes.now) ≡ None) }
     ensures short { OnOk result (AreShort (records_of bytes.now)) }
+    ensures few { IfOk result (λ found. length found.records.items ≤ found.end) }
     ensures within { IfOk result (λ found. found.end ≤ length bytes.now) }
     ensures behind { 0 < length bytes.now → IfOk result (λ found. found.end < length bytes.now) }
 {

@@ -1,5 +1,5 @@
 use Rattle.std.proofs.Common.{ℕ, List, [], ◌∷◌, ◌++◌, ◌∙◌, ap, arith}
-use Rattle.mega_journal.proofs.Reading.{reads_on, rest_bytes, ends}
+use Rattle.mega_journal.proofs.Reading.{reads_on, rest_bytes, ends, few_records}
 use Rattle.mega_journal.proofs.parse.parse.Goals as goal
 
 pub loop-body-preserved : goal.loop-body-preserved
@@ -23,3 +23,6 @@ returns-clause-closed c = (ends c.args.bytes.now c.loop-body.records.items c.loo
 
 pub returns-clause-short : goal.returns-clause-short
 returns-clause-short c = (ends c.args.bytes.now c.loop-body.records.items c.loop-body.rest.now c.loop-body.invariant c.in_default.ensures).short
+
+pub returns-clause-few : goal.returns-clause-few
+returns-clause-few c = few_records c.args.bytes.now c.loop-body.records.items c.loop-body.rest.now c.loop-body.invariant
