@@ -3,5 +3,8 @@
 
 mod append;
 mod device;
+mod journal;
 mod opening;
 mod parse;
+
+pub use journal::Journal;
