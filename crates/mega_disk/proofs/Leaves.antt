@@ -42,6 +42,6 @@ opened_leaves moment left_since store_moment opened_since opens_to P old new bef
   later = omega (arith, run.later, is_old, is_new);
   each = λ y found. let from = into (store_moment before) y found in run.each from.0 (subst (λ (t : ℕ). left_since new t from.0) is_old from.1) y from.2;
   before = λ t y le found.
-    let from = into t y found in
-    ⊎_elim (λ past. inl (back t y from.0 past from.2)) (λ p. inr (p y from.2)) (run.before t from.0 (omega (arith, le, is_old)) from.1);
+      let from = into t y found in
+      ⊎_elim (λ past. inl (back t y from.0 past from.2)) (λ p. inr (p y from.2)) (run.before t from.0 (omega (arith, le, is_old)) from.1);
 }

@@ -39,8 +39,8 @@ pub torn_filled : (at count a m : ℕ) (old new : List ℕ) → Torn a m old new
 torn_filled at count a m old new torn = record {
   before = take-filled a at count new ∙ ap (filled at count) torn.before ∙ sym (take-filled a at count old);
   after = drop-filled (a + m) at count (at - (a + m)) (count - ((a + m) - at)) new refl refl
-    ∙ ap (filled (at - (a + m)) (count - ((a + m) - at))) torn.after
-    ∙ sym (drop-filled (a + m) at count (at - (a + m)) (count - ((a + m) - at)) old refl refl);
+      ∙ ap (filled (at - (a + m)) (count - ((a + m) - at))) torn.after
+      ∙ sym (drop-filled (a + m) at count (at - (a + m)) (count - ((a + m) - at)) old refl refl);
   no_shorter = omega (arith, torn.no_shorter, length-filled at count old, length-filled at count new);
   no_longer = omega (arith, torn.no_longer, length-filled at count old, length-filled at count new);
 }

@@ -16,7 +16,10 @@ pub(crate) enum Change {
         size: usize,
     },
     /// A cut to `size` bytes of what was `whole`.
-    Shortened { size: usize, whole: Vec<u8> },
+    Shortened {
+        size: usize,
+        whole: Vec<u8>,
+    },
 }
 
 /// The content of a memory device, and its changes since the last sync, the oldest first.
