@@ -10,6 +10,22 @@ use std::alloc::Global;
 /// How many bytes a read takes at most.
 const PIECE: usize = 1 << 20;
 
+/// Begins an opening: after it nothing is pending.
+pub(crate) fn settle<D: Disk>(disk: &mut D) -> Result<(), DiskError>
+    ensures durable { D.is_told ≡ true → OnOk result (Only (D.seen disk.old) (D.may_leave disk.new)) }
+    ensures seen { OnOk result (D.seen disk.new ≡ D.seen disk.old) }
+    ensures within { Within (D.may_leave disk.old) (D.may_leave disk.new) }
+    ensures any_moment { LeavesOnly D.moment D.left_since disk.old disk.new (D.may_leave disk.old) }
+    ensures cause { result ≡ Err DiskError.Failed → Rose (D.faults disk.old) (D.faults disk.new) }
+    ensures later { D.faults disk.old ≤ D.faults disk.new }
+    ensures lowers { OnOk result (LowersBy 1 (D.fuse_left disk.old) (D.fuse_left disk.new)) }
+    ensures may_burn { MayBurn (D.fuse_left disk.old) (D.fuse_left disk.new) }
+    ensures burns { D.fails_by_fuse disk.old ≡ true → result ≡ Err DiskError.Failed → Burns (D.fuse_left disk.old) (D.fuse_left disk.new) }
+    ensures by_fuse { D.fails_by_fuse disk.old ≡ true → D.fails_by_fuse disk.new ≡ true }
+{
+    disk.sync()
+}
+
 /// Writes bytes and syncs. At Ok they are on the disk.
 pub(crate) fn write_through<D: Disk>(disk: &mut D, at: u64, bytes: &[u8]) -> Result<(), DiskError>
     requires { D.is_told ≡ true → at ≤ length (D.seen disk.old) }

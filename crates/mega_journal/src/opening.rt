@@ -5,7 +5,7 @@ ghost use Rattle.mega_disk.specs.Fuse.{LowersBy, MayBurn, Burns};
 ghost use Rattle.mega_journal.specs.Chain.{records_of};
 ghost use Rattle.mega_journal.specs.Rest.{IsSettled, HoldsAs, IsRead, is_shut};
 
-use crate::device::{read_all, write_through};
+use crate::device::{read_all, settle, write_through};
 use crate::parse::{Found, parse};
 use mega_disk::{Disk, DiskError};
 use std::alloc::Global;
@@ -26,7 +26,7 @@ pub(crate) fn open_chain<D: Disk>(alloc: Global, disk: &mut D) -> Result<Found, 
     ensures burns { D.fails_by_fuse disk.old ≡ true → result ≡ Err DiskError.Failed → Burns (D.fuse_left disk.old) (D.fuse_left disk.new) }
     ensures by_fuse { D.fails_by_fuse disk.old ≡ true → D.fails_by_fuse disk.new ≡ true }
 {
-    disk.sync()?;
+    settle(disk)?;
     let bytes = read_all(alloc, disk)?;
     let found = parse(alloc, bytes.as_slice())?;
     close_end(disk, bytes.as_slice(), found.end)?;
