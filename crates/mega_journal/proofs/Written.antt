@@ -15,8 +15,7 @@ pub at_rest : (bodies : List (List ℕ)) (gate : ℕ) (rest file : List ℕ) (en
 at_rest bodies gate rest file end short shut is place =
     let holds : records_of file ≡ bodies = ap records_of is ∙ records_closed bodies gate rest short shut in
     let front : take end file ≡ chain_of bodies = ap (take end) is ∙ take_at (chain_of bodies) (gate ∷ rest) end (sym place) in
-    let at_end : get_or file end 1 ≡ gate = ap (λ (l : List ℕ). get_or l end 1) is ∙ get_or_at (chain_of bodies) gate rest 1 end (sym place) in
-    (
+    let at_end : get_or file end 1 ≡ gate = ap (λ (l : List ℕ). get_or l end 1) is ∙ get_or_at (chain_of bodies) gate rest 1 end (sym place) in (
       record {
         front = front ∙ ap chain_of (sym holds);
         place = place ∙ ap (λ (l : List (List ℕ)). length (chain_of l)) (sym holds);

@@ -23,7 +23,8 @@ pub(crate) fn settle<D: Disk>(disk: &mut D) -> Result<(), DiskError>
     ensures burns { D.fails_by_fuse disk.old ≡ true → result ≡ Err DiskError.Failed → Burns (D.fuse_left disk.old) (D.fuse_left disk.new) }
     ensures by_fuse { D.fails_by_fuse disk.old ≡ true → D.fails_by_fuse disk.new ≡ true }
 {
-    disk.sync()
+    disk.sync()?;
+    Ok(())
 }
 
 /// Writes bytes and syncs. At Ok they are on the disk.
