@@ -3,6 +3,7 @@ pub mod Fuse
 pub mod Images
 pub mod MemDisk
 pub mod MemRecords
+pub mod MemVersions
 pub mod Past
 pub mod RecordLists
 pub mod VersionMaps

@@ -2,7 +2,7 @@ ghost use Rattle.std.specs.Prelude.{◌≡◌, ◌⊎◌, ◌≤◌, ◌<◌, �
 ghost use Rattle.mega_base.specs.Causes.{Rose};
 ghost use Rattle.mega_disk.specs.Images.{Only, Within, LeavesOnly, SameImages};
 ghost use Rattle.mega_disk.specs.Fuse.{Fuse, MayBurn, Burns, set_to};
-ghost use Rattle.mega_disk.specs.VersionMaps.{Versions as VersionMap, SameVersions, Puts, Drops, Cleaned, IsLatest, IsScan, IsSpilled, Marks, mark_of, Stored, row_at};
+ghost use Rattle.mega_disk.specs.VersionMaps.{Versions as VersionMap, SameVersions, Puts, Drops, Cleaned, IsAbove, IsWithin, IsLatest, IsScan, IsSpilled, Marks, mark_of, Stored, row_at};
 
 use mega_base::{Bytes, GroupId, NoMemory, Position, Row};
 use std::alloc::Global;
@@ -42,7 +42,7 @@ pub trait Versions {
     /// The version of a key at a position.
     ghost version: { Self → VersionMap };
 
-    /// The cleanings since the opening, the newest first.
+    /// The cleanings since the opening that may still let versions go.
     ghost cleaned: { Self → List Cleaned };
 
     /// The marks of the last spill.
@@ -160,7 +160,7 @@ pub trait Versions {
         below: Position,
     ) -> Result<(), StoreError>
         ensures drops { Drops (record { from = from.now; to = to.now; below = below.0 } ∷ []) (version self.old) (version self.new) }
-        ensures cleaned { cleaned self.new ≡ record { from = from.now; to = to.now; below = below.0 } ∷ cleaned self.old }
+        ensures cleaned { (key : List ℕ) (p : ℕ) → IsAbove (cleaned self.old) key p → (IsWithin from.now to.now key → below.0 ≤ p) → IsAbove (cleaned self.new) key p }
         ensures memory { OnErr result (result ≡ Err StoreError.NoMemory) }
         ensures marks { marked self.new ≡ marked self.old }
         ensures same { SameImages moment may_open opened_since self.old self.new }
