@@ -1,3 +1,4 @@
+mod Best
 mod Changed
 mod Filled
 pub mod Leaves
