@@ -8,7 +8,7 @@ use Rattle.std.proofs.lemmas.List.{take_more, take_all}
 use Rattle.std.proofs.lemmas.Bool.Decides.{nat_tests}
 use Rattle.mega_base.specs.declared.values.Row.{Row}
 use Rattle.mega_disk.specs.declared.mem_versions.Version.{Version}
-use Rattle.mega_disk.specs.VersionMaps.{or_else, version_at}
+use Rattle.mega_disk.specs.VersionMaps.{or_else, row_of, version_at, IsLatest}
 use Rattle.mega_disk.specs.MemVersions.{is_version, version_in, beats, counts}
 
 -- this version, or none, is what is seen at the position
@@ -72,13 +72,13 @@ lt_test m n test = grind (arith, nat_tests)
 test_lt : (m n : ℕ) → m < n → nat_lt m n ≡ true
 test_lt m n lt = grind (arith, nat_tests)
 
+decide : (b : Bool) → (b ≡ true → ⊥) → b ≡ false
+decide true not_it = absurd (not_it refl)
+decide false not_it = refl
+
 -- the version is not at this position, or not of this key, unless it counts
 apart : (version : Version) (key : List ℕ) (q : ℕ) → (pointwise nat_eq version.key key ≡ true → version.at.0 ≡ q → ⊥) → is_version version key q ≡ false
 apart version key q no_match = decide (is_version version key q) (λ is. let b = both_true (pointwise nat_eq version.key key) (version.at.0 == q) is in no_match b.0 (same_number version.at.0 q b.1))
-  where
-    decide : (b : Bool) → (b ≡ true → ⊥) → b ≡ false
-    decide true not_it = absurd (not_it refl)
-    decide false not_it = refl
 
 version_here : (version : Version) (key : List ℕ) (front : Option (Option Row)) → pointwise nat_eq version.key key ≡ true → front ≡ None → or_else front (if is_version version key version.at.0 then Some version.row else None) ≡ Some version.row
 version_here version key front same none =
@@ -138,3 +138,55 @@ ended all i key p best done is = sym (seen_best (version_in all key) p best (sub
 pub rows_copied : (best : Option (Bor Version)) → option_map (λ version. version.now.row) best ≡ option_map (λ version. version.row) (option_copied best)
 rows_copied None = refl
 rows_copied (Some best) = refl
+
+-- this version, or none, is the best at each position from its own on
+abbrev pub IsNewest : (ℕ → Option (Option Row)) → Option Version → Type 0
+IsNewest f None = (p : ℕ) → f p ≡ None
+IsNewest f (Some best) = (p : ℕ) → best.at.0 ≤ p → IsBest f p (Some best)
+
+newest_best : (f : ℕ → Option (Option Row)) (p : ℕ) (best : Option Version) → IsNewest f best → ((version : Version) → best ≡ Some version → version.at.0 ≤ p) → IsBest f p best
+newest_best f p None none low = λ q le. none q
+newest_best f p (Some best) is low = is p (low best refl)
+
+best_newest : (f : ℕ → Option (Option Row)) (best : Option Version) → ((p : ℕ) → ((version : Version) → best ≡ Some version → version.at.0 ≤ p) → IsBest f p best) → IsNewest f best
+best_newest f None all = λ p. all p (λ version none. absurd (cc)) p (omega arith)
+best_newest f (Some best) all = λ p le. all p (λ version same. let e : best ≡ version = cc in subst (λ (v : Version). v.at.0 ≤ p) e le)
+
+raised : (version : Version) (key : List ℕ) (p : ℕ) (best : Option Version) → counts version key version.at.0 best ≡ true → version.at.0 ≤ p → counts version key p best ≡ true
+raised version key p best test le =
+    let t = both_true (pointwise nat_eq version.key key) (nat_le version.at.0 version.at.0 && beats version best) test in
+    let u = both_true (nat_le version.at.0 version.at.0) (beats version best) t.1 in
+    true_both (pointwise nat_eq version.key key) (nat_le version.at.0 p && beats version best) t.0 (true_both (nat_le version.at.0 p) (beats version best) (test_le version.at.0 p le) u.1)
+
+lowered : (version : Version) (key : List ℕ) (p : ℕ) (best : Option Version) → counts version key version.at.0 best ≡ false → counts version key p best ≡ false
+lowered version key p best test = decide (counts version key p best) (λ is.
+    let t = both_true (pointwise nat_eq version.key key) (nat_le version.at.0 p && beats version best) is in
+    let u = both_true (nat_le version.at.0 p) (beats version best) t.1 in
+    true_false (counts version key version.at.0 best) (true_both (pointwise nat_eq version.key key) (nat_le version.at.0 version.at.0 && beats version best) t.0 (true_both (nat_le version.at.0 version.at.0) (beats version best) (test_le version.at.0 version.at.0 (omega arith)) u.1)) test)
+
+above : (version : Version) (key : List ℕ) (best : Option Version) (old : Version) → counts version key version.at.0 best ≡ true → best ≡ Some old → old.at.0 < version.at.0
+above version key None old test is = absurd (cc)
+above version key (Some best) old test is =
+    let t = both_true (pointwise nat_eq version.key key) (nat_le version.at.0 version.at.0 && nat_lt best.at.0 version.at.0) test in
+    let u = both_true (nat_le version.at.0 version.at.0) (nat_lt best.at.0 version.at.0) t.1 in
+    let e : best ≡ old = cc in
+    subst (λ (v : Version). v.at.0 < version.at.0) e (lt_test best.at.0 version.at.0 u.1)
+
+pub goes_newest : (all : List Version) (i : ℕ) (version : Version) (key : List ℕ) (old new : Option Version) → i < length all → version ≡ get_or all i version → IsNewest (version_in (take i all) key) old
+    → ((counts version key version.at.0 old ≡ true) × (new ≡ Some version)) ⊎ ((counts version key version.at.0 old ≡ false) × (new ≡ old)) → IsNewest (version_in (take (i + 1) all) key) new
+goes_newest all i version key old new lt item so_far (inl t) =
+    best_newest (version_in (take (i + 1) all) key) new (λ p low.
+    let top : version.at.0 ≤ p = low version t.1 in
+    goes all i version key p old new lt item (newest_best (version_in (take i all) key) p old so_far (λ v is. let under = above version key old v t.0 is in omega arith)) (inl (raised version key p old t.0 top, t.1)))
+goes_newest all i version key old new lt item so_far (inr t) =
+    best_newest (version_in (take (i + 1) all) key) new (λ p low.
+    goes all i version key p old new lt item (newest_best (version_in (take i all) key) p old so_far (λ v is. low v (t.1 ∙ is))) (inr (lowered version key p old t.0, t.1)))
+
+latest : (f : ℕ → Option (Option Row)) (best : Option Version) → IsNewest f best → IsLatest f (row_of (option_map (λ version. version.row) best))
+latest f None none = inl (none, refl)
+latest f (Some best) is = inr (best.at.0, (is best.at.0 (omega arith)).1, λ q lt. (is q (omega arith)).2 q lt (omega arith))
+
+pub ended_newest : (all : List Version) (i : ℕ) (key : List ℕ) (best : Option (Bor Version)) → length all ≤ i → IsNewest (version_in (take i all) key) (option_copied best) → IsLatest (version_in all key) (row_of (option_map (λ version. version.now.row) best))
+ended_newest all i key best done is =
+    subst (λ (v : Option (Option Row)). IsLatest (version_in all key) (row_of v)) (sym (rows_copied best))
+    (latest (version_in all key) (option_copied best) (subst (λ (l : List Version). IsNewest (version_in l key) (option_copied best)) (take_all i all done) is))

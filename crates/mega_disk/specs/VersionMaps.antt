@@ -1,5 +1,5 @@
 -- Versions of rows: a map from key and position to a row, or to none where the row was deleted there.
-use Rattle.std.specs.Prelude.{◌≡◌, ◌≢◌, ◌⊎◌, ◌↔◌, ℕ, zero, suc, ◌<◌, ◌≤◌, List, [], ◌∷◌, Option, Some, None, cond, Contains, nat_eq}
+use Rattle.std.specs.Prelude.{◌≡◌, ◌≢◌, ◌⊎◌, ◌↔◌, ℕ, zero, suc, ◌<◌, ◌≤◌, List, [], ◌∷◌, Option, Some, None, cond, nat_eq}
 use Rattle.std.specs.Ordering.{nat_cmp}
 use Rattle.std.specs.declared.cmp.Ordering.TheVariants.{Less, Greater}
 use Rattle.std.specs.Cmp.Lexicographic.{slice_cmp, pointwise}
@@ -46,11 +46,16 @@ HasAscendingKeys [] = Unit {0}
 HasAscendingKeys (one ∷ []) = Unit {0}
 HasAscendingKeys (one ∷ two ∷ more) = (slice_cmp nat_cmp one.0 two.0 ≡ Less) × HasAscendingKeys (two ∷ more)
 
+-- the row stands there under this key
+abbrev pub HasRow : List (List ℕ × Row) → List ℕ → Row → Type 0
+HasRow [] key row = ⊥
+HasRow (one ∷ more) key row = ((one.0 ≡ key) × (one.1 ≡ row)) ⊎ HasRow more key row
+
 -- the rows of the range at a position, in order of key
 pub record IsScan (versions : Versions) (from to : List ℕ) (p : ℕ) (rows : List (List ℕ × Row)) : Type 0 where
   pub ordered : HasAscendingKeys rows
-  pub each : (key : List ℕ) (row : Row) → Contains rows (key, row) → IsWithin from to key × (row_at versions key p ≡ Some row)
-  pub all : (key : List ℕ) (row : Row) → IsWithin from to key → row_at versions key p ≡ Some row → Contains rows (key, row)
+  pub each : (key : List ℕ) (row : Row) → HasRow rows key row → IsWithin from to key × (row_at versions key p ≡ Some row)
+  pub all : (key : List ℕ) (row : Row) → IsWithin from to key → row_at versions key p ≡ Some row → HasRow rows key row
 
 -- the same versions
 abbrev pub SameVersions : Versions → Versions → Type 0

@@ -1,6 +1,6 @@
 ghost use Rattle.std.specs.Prelude.{◌≡◌, ◌++◌, [], ◌∷◌, true, false, length, OnOk, OnErr, IfOk};
 ghost use Rattle.std.specs.Option.{option_map, option_copied};
-ghost use Rattle.mega_disk.specs.VersionMaps.{version_at};
+ghost use Rattle.mega_disk.specs.VersionMaps.{version_at, row_of, IsLatest};
 ghost use Rattle.mega_disk.specs.MemVersions.{version_in, counts as counts_as_best};
 
 use crate::versions::{StoreError, Versions};
@@ -45,4 +45,17 @@ fn counts(version: &Version, key: &Bytes, at: Position, best: Option<&Version>) 
         Some(best) => best.at.0 < version.at.0,
         None => true,
     }
+}
+
+/// The version of the key of greatest position, the first where several have it.
+fn newest<'a>(versions: &'a [Version], key: &Bytes) -> Option<&'a Version>
+    ensures { IsLatest (version_in versions.now key.now) (row_of (option_map (λ version. version.now.row) result)) }
+{
+    let mut best: Option<&Version> = None;
+    for version in versions {
+        if counts(version, key, version.at, best) {
+            best = Some(version);
+        }
+    }
+    best
 }
