@@ -4,5 +4,6 @@ mod Filled
 pub mod Leaves
 mod Left
 mod Moments
+mod Rows
 pub mod Steps
 mod Walks

@@ -1,11 +1,12 @@
-ghost use Rattle.std.specs.Prelude.{◌≡◌, ◌++◌, [], ◌∷◌, true, false, length, OnOk, OnErr, IfOk};
+ghost use Rattle.std.specs.Prelude.{◌≡◌, ◌≤◌, ◌++◌, [], ◌∷◌, true, false, length, OnOk, OnErr, IfOk, IfSome, IfNone};
 ghost use Rattle.std.specs.Option.{option_map, option_copied};
-ghost use Rattle.mega_disk.specs.VersionMaps.{version_at, row_of, IsLatest};
-ghost use Rattle.mega_disk.specs.MemVersions.{version_in, counts as counts_as_best};
+ghost use Rattle.mega_disk.specs.VersionMaps.{version_at, row_of, IsLatest, IsScan};
+ghost use Rattle.mega_disk.specs.MemVersions.{version_in, counts as counts_as_best, HasKey, IsPlaceFor, AddsRow, AddsVisible};
 
 use crate::versions::{StoreError, Versions};
 use mega_base::{Bytes, Copied, GroupId, NoMemory, Position, Row};
 use std::alloc::Global;
+use std::cmp::Ordering;
 
 /// A version of a row under its key.
 #[derive(Drop)]
@@ -58,4 +59,75 @@ fn newest<'a>(versions: &'a [Version], key: &Bytes) -> Option<&'a Version>
         }
     }
     best
+}
+
+/// How many rows have smaller keys, where the rows are in order; nothing where one has this key.
+fn place_for(rows: &[(Bytes, Row)], key: &Bytes) -> Option<usize>
+    ensures none { IfNone result (HasKey rows.now key.now) }
+    ensures place { IfSome result (IsPlaceFor rows.now key.now) }
+    ensures within { IfSome result (λ place. place ≤ length rows.now) }
+{
+    for (i, one) in rows.iter().enumerate() {
+        match one.0.cmp(key) {
+            Ordering::Less => {}
+            Ordering::Equal => return None,
+            Ordering::Greater => return Some(i),
+        }
+    }
+    Some(rows.len())
+}
+
+/// Adds a row in its place, where its key is not there yet.
+fn add_row(
+    alloc: Global,
+    rows: &mut Vec<(Bytes, Row)>,
+    key: &Bytes,
+    row: &Row,
+) -> Result<(), NoMemory>
+    ensures { OnOk result (AddsRow rows.old.items key.now row.now rows.new.items) }
+{
+    if let Some(place) = place_for(rows.as_slice(), key) {
+        let key = key.copy(alloc)?;
+        let row = row.copy(alloc)?;
+        rows.insert(place, (key, row))?;
+    }
+    Ok(())
+}
+
+/// The rows of a range of keys at a position, in order of key.
+fn rows_at(
+    alloc: Global,
+    versions: &[Version],
+    from: &Bytes,
+    to: &Bytes,
+    at: Position,
+) -> Result<Vec<(Bytes, Row)>, NoMemory>
+    ensures { IfOk result (λ rows. IsScan (version_in versions.now) from.now to.now at.0 rows.items) }
+{
+    let mut rows = Vec::new(alloc);
+    for version in versions {
+        add_visible(alloc, &mut rows, versions, &version.key, from, to, at)?;
+    }
+    Ok(rows)
+}
+
+/// Adds the row of a key at a position, where the key is in the range and has one.
+fn add_visible(
+    alloc: Global,
+    rows: &mut Vec<(Bytes, Row)>,
+    versions: &[Version],
+    key: &Bytes,
+    from: &Bytes,
+    to: &Bytes,
+    at: Position,
+) -> Result<(), NoMemory>
+    ensures { OnOk result (AddsVisible (version_in versions.now) from.now to.now at.0 rows.old.items key.now rows.new.items) }
+{
+    if key < from || key >= to {
+        return Ok(());
+    }
+    if let Some(Version { row: Some(row), .. }) = best(versions, key, at) {
+        add_row(alloc, rows, key, row)?;
+    }
+    Ok(())
 }
