@@ -5,5 +5,6 @@ pub mod Leaves
 mod Left
 mod Moments
 mod Rows
+mod Scanned
 pub mod Steps
 mod Walks
