@@ -89,8 +89,7 @@ version_here version key front same none =
 pub taken : (versions : List Version) (version : Version) (key : List ℕ) (p : ℕ) (best : Option Version) → IsBest (version_in versions key) p best → counts version key p best ≡ true → IsBest (version_in (versions ++ version ∷ []) key) p (Some version)
 taken versions version key p None none test =
     let t = both_true (pointwise nat_eq version.key key) (nat_le version.at.0 p && true) test in
-    let low : version.at.0 ≤ p = le_test version.at.0 p (both_true (nat_le version.at.0 p) true t.1).0 in
-    (
+    let low : version.at.0 ≤ p = le_test version.at.0 p (both_true (nat_le version.at.0 p) true t.1).0 in (
       low,
       version_in-push versions version key version.at.0 ∙ version_here version key (version_in versions key version.at.0) t.0 (none version.at.0 low),
       λ q lt top. version_in-push versions version key q ∙ no_version version key q (version_in versions key q) (none q top) (apart version key q (λ same there. absurd (omega arith))),
@@ -99,8 +98,7 @@ taken versions version key p (Some best) is test =
     let t = both_true (pointwise nat_eq version.key key) (nat_le version.at.0 p && nat_lt best.at.0 version.at.0) test in
     let u = both_true (nat_le version.at.0 p) (nat_lt best.at.0 version.at.0) t.1 in
     let low : version.at.0 ≤ p = le_test version.at.0 p u.0 in
-    let above : best.at.0 < version.at.0 = lt_test best.at.0 version.at.0 u.1 in
-    (
+    let above : best.at.0 < version.at.0 = lt_test best.at.0 version.at.0 u.1 in (
       low,
       version_in-push versions version key version.at.0 ∙ version_here version key (version_in versions key version.at.0) t.0 (is.2 version.at.0 above low),
       λ q lt top. version_in-push versions version key q ∙ no_version version key q (version_in versions key q) (is.2 q (omega arith) top) (apart version key q (λ same there. absurd (omega arith))),
@@ -118,7 +116,7 @@ left versions version key p (Some best) is test = (
   is.0,
   version_in-push versions version key best.at.0 ∙ ap (λ (v : Option (Option Row)). or_else v (if is_version version key best.at.0 then Some version.row else None)) is.1,
   λ q lt top. version_in-push versions version key q
-    ∙ no_version version key q (version_in versions key q) (is.2 q lt top) (apart version key q (λ same there. true_false (counts version key p (Some best)) (true_both (pointwise nat_eq version.key key) (nat_le version.at.0 p && nat_lt best.at.0 version.at.0) same (true_both (nat_le version.at.0 p) (nat_lt best.at.0 version.at.0) (test_le version.at.0 p (omega arith)) (test_lt best.at.0 version.at.0 (omega arith)))) test)),
+      ∙ no_version version key q (version_in versions key q) (is.2 q lt top) (apart version key q (λ same there. true_false (counts version key p (Some best)) (true_both (pointwise nat_eq version.key key) (nat_le version.at.0 p && nat_lt best.at.0 version.at.0) same (true_both (nat_le version.at.0 p) (nat_lt best.at.0 version.at.0) (test_le version.at.0 p (omega arith)) (test_lt best.at.0 version.at.0 (omega arith)))) test)),
 )
 
 -- one turn
@@ -128,7 +126,7 @@ goes all i version key p old new lt item so_far turn =
     let more : take i all ++ version ∷ [] ≡ take (i + 1) all = ap (λ (v : Version). take i all ++ v ∷ []) item ∙ sym (take_more all i version lt) in
     subst (λ (l : List Version). IsBest (version_in l key) p new) more
     (⊎_elim (λ t. subst (IsBest (version_in (take i all ++ version ∷ []) key) p) (sym t.1) (taken (take i all) version key p old so_far t.0))
-      (λ t. subst (IsBest (version_in (take i all ++ version ∷ []) key) p) (sym t.1) (left (take i all) version key p old so_far t.0)) turn)
+    (λ t. subst (IsBest (version_in (take i all ++ version ∷ []) key) p) (sym t.1) (left (take i all) version key p old so_far t.0)) turn)
 
 -- after the last
 pub ended : (all : List Version) (i : ℕ) (key : List ℕ) (p : ℕ) (best : Option Version) → length all ≤ i → IsBest (version_in (take i all) key) p best → option_map (λ version. version.row) best ≡ version_at (version_in all key) p

@@ -87,5 +87,5 @@ is_scan versions i from to p rows done so_far =
       ordered = whole.ordered;
       each = whole.each;
       all = λ k r within is.
-        ⊎_elim (whole.all k r within is) (λ none. absurd (no_row r (sym (ap row_of (no_version_at (version_in versions k) p none)) ∙ is))) (occurs_or_not versions k);
+          ⊎_elim (whole.all k r within is) (λ none. absurd (no_row r (sym (ap row_of (no_version_at (version_in versions k) p none)) ∙ is))) (occurs_or_not versions k);
     }

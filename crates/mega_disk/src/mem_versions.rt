@@ -1,7 +1,8 @@
-ghost use Rattle.std.specs.Prelude.{◌≡◌, ◌≤◌, ◌++◌, [], ◌∷◌, true, false, length, OnOk, OnErr, IfOk, IfSome, IfNone};
+ghost use Rattle.std.specs.Prelude.{◌≡◌, ◌≤◌, ◌++◌, [], ◌∷◌, true, false, List, ℕ, None, refl, length, OnOk, OnErr, IfOk, IfSome, IfNone};
 ghost use Rattle.std.specs.Option.{option_map, option_copied};
 ghost use Rattle.mega_disk.specs.VersionMaps.{version_at, row_of, IsLatest, IsScan};
-ghost use Rattle.mega_disk.specs.MemVersions.{version_in, counts as counts_as_best, HasKey, IsPlaceFor, AddsRow, AddsVisible};
+ghost use Rattle.mega_disk.specs.MemVersions.{version_in, counts as counts_as_best, HasKey, IsPlaceFor, AddsRow, AddsVisible, IsNothing};
+ghost use Rattle.mega_disk.specs.Fuse.{Untold};
 
 use crate::versions::{StoreError, Versions};
 use mega_base::{Bytes, Copied, GroupId, NoMemory, Position, Row};
@@ -20,6 +21,119 @@ pub(crate) struct Version {
 #[derive(Drop)]
 pub struct MemVersions {
     versions: Vec<Version>,
+}
+
+impl MemVersions {
+    /// No version yet.
+    pub fn new(alloc: Global) -> MemVersions
+        ensures { (key : List ℕ) (p : ℕ) → ⟦<MemVersions as Versions>⟧.version result key p ≡ None }
+    {
+        MemVersions {
+            versions: Vec::new(alloc),
+        }
+    }
+}
+
+impl Versions for MemVersions {
+    ghost is_told = { true };
+
+    ghost is_durable = { false };
+
+    ghost version = { λ m. version_in m.versions.items };
+
+    ghost cleaned = { λ _. [] };
+
+    ghost marked = { λ _. [] };
+
+    ghost may_open = { λ _. IsNothing };
+
+    ghost moment = { λ _. 0 };
+
+    ghost opened_since = { λ _ _. IsNothing };
+
+    ghost faults = { λ _. 0 };
+
+    ghost fuse_left = { λ _. Untold };
+
+    ghost fails_by_fuse = { λ _. true };
+
+    ghost is_bad = { λ _ _. ⊥ };
+
+    ghost length_spilled = { λ _ _. 0 };
+
+    ghost is_full = { λ _. false };
+
+    ghost no_marks = { λ _ _. refl };
+
+    ghost counts_now = { λ _ _ _ _ now. now };
+
+    ghost only_now = { λ _ _ now. now };
+
+    fn put(
+        &mut self,
+        alloc: Global,
+        key: &Bytes,
+        at: Position,
+        row: Option<Row>,
+    ) -> Result<(), StoreError> {
+        let key = key.copy(alloc)?;
+        if self.versions.insert(0, Version { key, at, row }).is_err() {
+            return Err(StoreError::NoMemory);
+        }
+        Ok(())
+    }
+
+    fn get(&mut self, alloc: Global, key: &Bytes, at: Position) -> Result<Option<Row>, StoreError> {
+        Ok(row_copy(alloc, best(self.versions.as_slice(), key, at))?)
+    }
+
+    fn latest(&mut self, alloc: Global, key: &Bytes) -> Result<Option<Row>, StoreError> {
+        Ok(row_copy(alloc, newest(self.versions.as_slice(), key))?)
+    }
+
+    fn scan(
+        &mut self,
+        alloc: Global,
+        from: &Bytes,
+        to: &Bytes,
+        at: Position,
+    ) -> Result<Vec<(Bytes, Row)>, StoreError> {
+        Ok(rows_at(alloc, self.versions.as_slice(), from, to, at)?)
+    }
+
+    fn clean(
+        &mut self,
+        _alloc: Global,
+        _from: &Bytes,
+        _to: &Bytes,
+        _below: Position,
+    ) -> Result<(), StoreError> {
+        Ok(())
+    }
+
+    fn full(&self) -> bool {
+        false
+    }
+
+    fn spill(&mut self, _alloc: Global, _marks: &[(GroupId, Position)]) -> Result<(), StoreError> {
+        Ok(())
+    }
+
+    fn mark(&self, _group: &GroupId) -> Position {
+        Position(0)
+    }
+
+    fn fuse(&mut self, _calls: u64, _image: u8) {}
+}
+
+/// A copy of the row of a version, where there is one and it has a row.
+fn row_copy(alloc: Global, version: Option<&Version>) -> Result<Option<Row>, NoMemory>
+    ensures { IfOk result (λ row. row ≡ row_of (option_map (λ v. v.now.row) version.entry)) }
+{
+    match version {
+        Some(Version { row: Some(row), .. }) => Ok(Some(row.copy(alloc)?)),
+        _ => Ok(None),
+    }
 }
 
 /// The version of the key of greatest position at or below this one, the first where several have it.

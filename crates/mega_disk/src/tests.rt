@@ -1,6 +1,9 @@
 ghost use Rattle.std.specs.Prelude.{◌≡◌, ◌≤◌, ◌+◌, true, length};
 
-use crate::{Disk, DiskError, FileDisk, MemDisk, MemRecords, RecordError, Records};
+use crate::{
+    Disk, DiskError, FileDisk, MemDisk, MemRecords, MemVersions, RecordError, Records, Versions,
+};
+use mega_base::{Bytes, Items, Position, Row};
 use std::alloc::Global;
 use std::fs;
 use std::test::Fail;
@@ -109,5 +112,35 @@ fn records_in_memory(rt: HostRuntime) -> Result<(), Fail> {
     assert_eq!(rt; opened[0].as_slice(), b"all".as_slice());
     assert_eq!(rt; opened[1].as_slice(), b"next".as_slice());
     assert!(rt; !matches!(records.append(alloc, b""), Err(RecordError::Spent)));
+    Ok(())
+}
+
+#[test]
+fn versions_in_memory(rt: HostRuntime) -> Result<(), Fail> {
+    let alloc = rt.alloc();
+    let mut versions = MemVersions::new(alloc);
+    let keys = [b"b".as_slice(), b"a".as_slice(), b"c".as_slice()];
+    for (place, key) in keys.iter().enumerate() {
+        let key = Bytes::from_slice(alloc, key)?;
+        let row = Row {
+            cells: Items::new(alloc),
+        };
+        versions.put(alloc, &key, Position(place as u64), Some(row))?;
+    }
+    let (a, c) = (
+        Bytes::from_slice(alloc, b"a")?,
+        Bytes::from_slice(alloc, b"c")?,
+    );
+    assert!(rt; versions.get(alloc, &a, Position(0))?.is_none());
+    assert!(rt; versions.get(alloc, &a, Position(9))?.is_some());
+    let rows = versions.scan(alloc, &a, &c, Position(1))?;
+    assert_eq!(rt; rows.len(), 2);
+    assert_eq!(rt; rows[0].0.as_slice(), b"a".as_slice());
+    versions.put(alloc, &a, Position(3), None)?;
+    assert!(rt; versions.latest(alloc, &a)?.is_none());
+    versions.clean(alloc, &a, &c, Position(2))?;
+    versions.spill(alloc, &[])?;
+    assert!(rt; versions.get(alloc, &a, Position(2))?.is_some());
+    assert!(rt; !versions.full());
     Ok(())
 }
