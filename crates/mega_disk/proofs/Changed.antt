@@ -1,12 +1,11 @@
 -- Lists of changes, with one more at their end.
-use Rattle.std.proofs.Common.{◌≡◌, ◌≢◌, ◌⊎◌, inl, inr, ℕ, zero, suc, ◌+◌, ◌-◌, ◌≤◌, min, List, [], ◌∷◌, ◌++◌, length, take, drop, Vec, refl, sym, ◌∙◌, ap, arith, append_assoc, length-append, length-drop, length-take, length-take-le, take-append-drop}
-use Rattle.std.proofs.lemmas.List.{take_at, drop_at, take_all, drop_all, drop-take, drop-drop, take-take, same_lists, places}
+use Rattle.std.proofs.Common.{◌≡◌, ℕ, zero, suc, ◌+◌, ◌-◌, ◌≤◌, min, List, [], ◌∷◌, ◌++◌, length, take, drop, Vec, refl, sym, ◌∙◌, ap, arith, append_assoc, length-append, length-drop, length-take, length-take-le, take-append-drop}
+use Rattle.std.proofs.lemmas.List.{take_at, drop_at, drop-drop, same_lists, places}
 use Rattle.std.proofs.lemmas.Bool.Decides.{nat_tests}
-use Rattle.std.proofs.lemmas.Grind.{common_steps}
-use Rattle.std.specs.Prelude.{if◌then◌else◌, nat_le, true}
+use Rattle.std.specs.Prelude.{nat_le, true}
 use Rattle.std.specs.declared.alloc.Global.{Global}
 use Rattle.mega_disk.specs.declared.changes.Change.{Change}
-use Rattle.mega_disk.specs.declared.changes.Change.TheVariants.{Written, Shortened}
+use Rattle.mega_disk.specs.declared.changes.Change.TheVariants.{Written}
 use Rattle.mega_disk.specs.Images.{overwritten}
 use Rattle.mega_disk.specs.Changes.{undone, all_undone, fill_change, all_filled}
 

@@ -1,6 +1,6 @@
 -- How runs of calls go on: what a crash at any moment leaves.
-use Rattle.std.proofs.Common.{◌≡◌, ◌⊎◌, inl, inr, ⊎_elim, ℕ, ◌≤◌, sym, subst, arith}
-use Rattle.mega_disk.specs.Images.{Elapses, LeavesOnly, SameImages, Within}
+use Rattle.std.proofs.Common.{◌≡◌, inl, inr, ⊎_elim, ℕ, subst, arith}
+use Rattle.mega_disk.specs.Images.{Elapses, LeavesOnly}
 
 module _ {D X : Type 0} (moment : D → ℕ) (left_since : D → ℕ → X → Type 0) where
   -- before the first call

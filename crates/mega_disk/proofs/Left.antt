@@ -1,5 +1,5 @@
 -- What a crash may leave after a change, a sync and a burnt fuse.
-use Rattle.std.proofs.Common.{◌≡◌, ◌⊎◌, inl, inr, ⊎_elim, ℕ, ◌==◌, ◌≤◌, List, [], ◌∷◌, ◌++◌, length, take, refl, sym, ◌∙◌, ap, subst, arith}
+use Rattle.std.proofs.Common.{◌≡◌, inl, inr, ℕ, ◌==◌, ◌≤◌, List, [], ◌∷◌, ◌++◌, length, take, refl, sym, ◌∙◌, ap, subst}
 use Rattle.std.specs.Prelude.{if◌then◌else◌, Bool, true, false, Result, Ok, Err, OnOk, OnErr}
 use Rattle.mega_disk.specs.declared.changes.Change.{Change}
 use Rattle.mega_disk.specs.declared.changes.Change.TheVariants.{Written, Shortened}

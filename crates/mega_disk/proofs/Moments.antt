@@ -1,6 +1,5 @@
 -- A state that is noted joins those of the past.
 use Rattle.std.proofs.Common.{◌≡◌, ◌⊎◌, inl, inr, ⊎_elim, ℕ, zero, suc, ◌≤◌, List, [], ◌∷◌, ◌++◌, length, drop, refl, sym, subst, arith, length-append}
-use Rattle.mega_disk.specs.Images.{Elapses}
 use Rattle.mega_disk.specs.Past.{MightHaveLeft, LeftSince, TimePasses}
 
 module _ {A X : Type 0} (leaves : A → X → Type 0) where

@@ -8,7 +8,7 @@ use Rattle.std.specs.Ordering.{nat_cmp, ordering_reverse}
 use Rattle.std.specs.declared.cmp.Ordering.TheVariants.{Less, Equal, Greater}
 use Rattle.mega_base.specs.declared.values.Row.{Row}
 use Rattle.mega_disk.specs.VersionMaps.{HasRow, HasAscendingKeys}
-use Rattle.mega_disk.specs.MemVersions.{HasKey, IsLess, IsPlaceFor, AddsRow}
+use Rattle.mega_disk.specs.MemVersions.{HasKey, IsPlaceFor, AddsRow}
 
 abbrev Pairs : Type 0
 Pairs = List (List ℕ × Row)

@@ -1,5 +1,5 @@
 -- The rows of a range, as a list of versions is gone through.
-use Rattle.std.proofs.Common.{◌≡◌, ◌⊎◌, inl, inr, ⊎_elim, ℕ, zero, suc, ◌+◌, ◌<◌, ◌≤◌, List, [], ◌∷◌, ◌++◌, length, get_or, take, refl, sym, ◌∙◌, ap, subst, arith, Bool, true, false, cond}
+use Rattle.std.proofs.Common.{◌≡◌, ◌⊎◌, inl, inr, ⊎_elim, ℕ, zero, suc, ◌+◌, ◌<◌, ◌≤◌, List, [], ◌∷◌, ◌++◌, length, get_or, take, refl, sym, ◌∙◌, ap, subst, Bool, true, false, cond}
 use Rattle.std.specs.Prelude.{Option, Some, None, ◌==◌, ◌&&◌, nat_eq}
 use Rattle.std.specs.Cmp.{Equal-is}
 use Rattle.std.specs.Cmp.Lexicographic.{pointwise, slice_cmp, texts_ties}
@@ -9,7 +9,7 @@ use Rattle.std.proofs.lemmas.Map.Lookups.{exact_bytes}
 use Rattle.mega_base.specs.declared.values.Row.{Row}
 use Rattle.mega_disk.specs.declared.mem_versions.Version.{Version}
 use Rattle.mega_disk.specs.VersionMaps.{Versions, or_else, version_at, row_of, row_at, IsWithin, HasRow, HasAscendingKeys, IsScan}
-use Rattle.mega_disk.specs.MemVersions.{is_version, version_in, AddsVisible}
+use Rattle.mega_disk.specs.MemVersions.{version_in, AddsVisible}
 
 abbrev Pairs : Type 0
 Pairs = List (List ℕ × Row)

@@ -1,5 +1,5 @@
 -- What single changes leave, also of contents whose ranges are filled.
-use Rattle.std.proofs.Common.{◌≡◌, ℕ, ◌+◌, ◌-◌, ◌≤◌, List, [], ◌∷◌, ◌++◌, length, take, drop, refl, sym, ◌∙◌, ap, arith, append_assoc, length-append, length-drop, length-take-le}
+use Rattle.std.proofs.Common.{◌≡◌, ℕ, ◌+◌, ◌-◌, ◌≤◌, List, ◌++◌, length, take, drop, refl, sym, ◌∙◌, ap, arith, append_assoc, length-append, length-drop, length-take-le}
 use Rattle.std.proofs.lemmas.List.{take_at, drop_at, take-take, take_all}
 use Rattle.mega_disk.specs.Images.{overwritten, Torn, Cut}
 use Rattle.mega_disk.specs.Changes.{filled}

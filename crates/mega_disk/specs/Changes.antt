@@ -1,5 +1,5 @@
 -- What a memory device keeps of the changes since its last sync, and the images that they allow.
-use Rattle.std.specs.Prelude.{◌≡◌, ◌⊎◌, ℕ, zero, suc, ◌+◌, ◌==◌, List, [], ◌∷◌, ◌++◌, length, take, drop, if◌then◌else◌, nat_le}
+use Rattle.std.specs.Prelude.{◌≡◌, ◌⊎◌, ℕ, zero, suc, ◌+◌, ◌==◌, List, [], ◌∷◌, ◌++◌, length, take, if◌then◌else◌, nat_le}
 use Rattle.mega_disk.specs.Images.{overwritten, Torn, Cut}
 use Rattle.mega_disk.specs.declared.changes.Change.{Change}
 use Rattle.mega_disk.specs.declared.changes.Held.{Held}

@@ -4,6 +4,7 @@ pub mod Images
 pub mod MemDisk
 pub mod MemRecords
 pub mod MemVersions
+pub mod Meters
 pub mod Past
 pub mod RecordLists
 pub mod VersionMaps

@@ -16,14 +16,6 @@ will_fail (Left (suc n)) calls failing = failing == calls + 1
 will_fail Unset calls failing = failing == calls + 1
 will_fail Untold calls failing = failing == calls + 1
 
--- how many device calls it was asked, which is the number of the last one
-abbrev pub calls_of : MemDisk → ℕ
-calls_of disk = disk.calls
-
 -- the number of the call that is to fail, 0 for none
 abbrev pub failing_of : MemDisk → ℕ
 failing_of disk = disk.failing
-
--- the lengths of its reads, added up
-abbrev pub bytes_read_of : MemDisk → ℕ
-bytes_read_of disk = disk.bytes_read

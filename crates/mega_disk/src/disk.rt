@@ -1,7 +1,8 @@
-ghost use Rattle.std.specs.Prelude.{◌≡◌, ◌≤◌, ◌+◌, List, ℕ, Option, Bool, true, length, take, slice_range, IfOk, OnOk};
+ghost use Rattle.std.specs.Prelude.{◌≡◌, ◌≤◌, ◌+◌, List, ℕ, Option, Bool, true, length, take, slice_range, IfOk, OnOk, OnErr};
 ghost use Rattle.mega_base.specs.Causes.{Rose};
 ghost use Rattle.mega_disk.specs.Images.{Only, Follows, Within, Torn, Cut, overwritten, Elapses, SameImages};
 ghost use Rattle.mega_disk.specs.Fuse.{Fuse, CountsCall, FailsByFuse, set_to};
+ghost use Rattle.mega_disk.specs.Meters.{one_more, at_most};
 
 use mega_base::NoMemory;
 
@@ -48,6 +49,12 @@ pub trait Disk {
     /// How often the device has failed.
     ghost faults: { Self → ℕ };
 
+    /// How many device calls were made.
+    ghost calls_made: { Self → ℕ };
+
+    /// The lengths of all reads that went well, added up.
+    ghost bytes_read: { Self → ℕ };
+
     /// The calls that a set fuse has left, where told.
     ghost fuse_left: { Self → Fuse };
 
@@ -66,6 +73,8 @@ pub trait Disk {
         ensures cause { result ≡ Err DiskError.Failed → Rose (faults self.old) (faults self.new) }
         ensures later { faults self.old ≤ faults self.new }
         ensures fuse { CountsCall (fuse_left self.old) (fuse_left self.new) (fails_next self.old) (result ≡ Err DiskError.Failed) }
+        ensures calls { is_told ≡ true → calls_made self.new ≡ one_more (calls_made self.old) }
+        ensures read { bytes_read self.new ≡ bytes_read self.old }
         ensures by_fuse { FailsByFuse (fails_by_fuse self.old) (fails_by_fuse self.new) (fuse_left self.old) (result ≡ Err DiskError.Failed) };
 
     /// Fills `into` with the bytes from offset `at` on, which lie within the length.
@@ -78,6 +87,9 @@ pub trait Disk {
         ensures cause { result ≡ Err DiskError.Failed → Rose (faults self.old) (faults self.new) }
         ensures later { faults self.old ≤ faults self.new }
         ensures fuse { CountsCall (fuse_left self.old) (fuse_left self.new) (fails_next self.old) (result ≡ Err DiskError.Failed) }
+        ensures calls { is_told ≡ true → calls_made self.new ≡ one_more (calls_made self.old) }
+        ensures read { is_told ≡ true → OnOk result (bytes_read self.new ≡ at_most (bytes_read self.old + length into.old)) }
+        ensures unread { OnErr result (bytes_read self.new ≡ bytes_read self.old) }
         ensures by_fuse { FailsByFuse (fails_by_fuse self.old) (fails_by_fuse self.new) (fuse_left self.old) (result ≡ Err DiskError.Failed) };
 
     /// Writes over what is there from offset `at` on, and past the end; `at` is at most the length.
@@ -89,6 +101,8 @@ pub trait Disk {
         ensures cause { result ≡ Err DiskError.Failed → Rose (faults self.old) (faults self.new) }
         ensures later { faults self.old ≤ faults self.new }
         ensures fuse { CountsCall (fuse_left self.old) (fuse_left self.new) (fails_next self.old) (result ≡ Err DiskError.Failed) }
+        ensures calls { is_told ≡ true → calls_made self.new ≡ one_more (calls_made self.old) }
+        ensures read { bytes_read self.new ≡ bytes_read self.old }
         ensures by_fuse { FailsByFuse (fails_by_fuse self.old) (fails_by_fuse self.new) (fuse_left self.old) (result ≡ Err DiskError.Failed) };
 
     /// Cuts the content to its first `size` bytes; it has at least as many.
@@ -100,6 +114,8 @@ pub trait Disk {
         ensures cause { result ≡ Err DiskError.Failed → Rose (faults self.old) (faults self.new) }
         ensures later { faults self.old ≤ faults self.new }
         ensures fuse { CountsCall (fuse_left self.old) (fuse_left self.new) (fails_next self.old) (result ≡ Err DiskError.Failed) }
+        ensures calls { is_told ≡ true → calls_made self.new ≡ one_more (calls_made self.old) }
+        ensures read { bytes_read self.new ≡ bytes_read self.old }
         ensures by_fuse { FailsByFuse (fails_by_fuse self.old) (fails_by_fuse self.new) (fuse_left self.old) (result ≡ Err DiskError.Failed) };
 
     /// After it, a crash leaves what a read gives.
@@ -111,6 +127,8 @@ pub trait Disk {
         ensures cause { result ≡ Err DiskError.Failed → Rose (faults self.old) (faults self.new) }
         ensures later { faults self.old ≤ faults self.new }
         ensures fuse { CountsCall (fuse_left self.old) (fuse_left self.new) (fails_next self.old) (result ≡ Err DiskError.Failed) }
+        ensures calls { is_told ≡ true → calls_made self.new ≡ one_more (calls_made self.old) }
+        ensures read { bytes_read self.new ≡ bytes_read self.old }
         ensures by_fuse { FailsByFuse (fails_by_fuse self.old) (fails_by_fuse self.new) (fuse_left self.old) (result ≡ Err DiskError.Failed) };
 
     /// Sets a fuse: the device makes `calls` further calls, and its node crashes before the next one,
@@ -121,6 +139,8 @@ pub trait Disk {
         ensures same { SameImages moment may_leave left_since self.old self.new }
         ensures faults { faults self.new ≡ faults self.old }
         ensures fuse { fuse_left self.new ≡ set_to calls (fuse_left self.old) }
+        ensures calls { calls_made self.new ≡ calls_made self.old }
+        ensures read { bytes_read self.new ≡ bytes_read self.old }
         ensures by_fuse { fails_by_fuse self.new ≡ fails_by_fuse self.old };
 
     /// What a read gives is one of the images.

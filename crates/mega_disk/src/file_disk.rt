@@ -65,6 +65,10 @@ impl<R: Files<File = File>> Disk for FileDisk<R> {
 
     ghost faults = { λ d. d.faults };
 
+    ghost calls_made = { λ _. 0 };
+
+    ghost bytes_read = { λ _. 0 };
+
     ghost fuse_left = { λ _. Untold };
 
     ghost fails_next = { λ _. None };

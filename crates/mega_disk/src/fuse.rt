@@ -1,6 +1,7 @@
 ghost use Rattle.std.specs.Prelude.{◌≡◌, ◌+◌, ◌≤◌, ◌==◌, ◌↔◌, IsSome, IfSome};
 ghost use Rattle.mega_disk.specs.Fuse.{Left, after_call};
 ghost use Rattle.mega_disk.specs.MemDisk.{fuse_of};
+ghost use Rattle.mega_disk.specs.Meters.{one_more};
 
 /// A fuse: the calls that it has left, and what a crash then leaves of pending writes.
 #[derive(Clone, Copy)]
@@ -33,6 +34,7 @@ pub(crate) fn spend(fuse: &mut Option<SetFuse>) -> Option<u8>
 pub(crate) fn count(calls: &mut u64, failing: u64) -> bool
     ensures named { result ≡ (failing == calls.old + 1) }
     ensures later { calls.old ≤ calls.new }
+    ensures counted { calls.new ≡ one_more calls.old }
 {
     match calls.checked_add(1) {
         Some(number) => {

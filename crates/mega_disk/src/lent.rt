@@ -14,6 +14,10 @@ impl<D: Disk> Disk for &mut D {
 
     ghost faults = { λ d. D.faults d.now };
 
+    ghost calls_made = { λ d. D.calls_made d.now };
+
+    ghost bytes_read = { λ d. D.bytes_read d.now };
+
     ghost fuse_left = { λ d. D.fuse_left d.now };
 
     ghost fails_next = { λ d. D.fails_next d.now };

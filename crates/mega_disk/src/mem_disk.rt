@@ -4,7 +4,8 @@ ghost use Rattle.mega_base.specs.Causes.{Rose};
 ghost use Rattle.mega_disk.specs.Changes.{LeftBy};
 ghost use Rattle.mega_disk.specs.Fuse.{Unset, Left, after_call, set_to};
 ghost use Rattle.mega_disk.specs.Images.{overwritten, Torn, Cut, Follows, Within, Only, SameImages};
-ghost use Rattle.mega_disk.specs.MemDisk.{fuse_of, will_fail, calls_of, failing_of, bytes_read_of};
+ghost use Rattle.mega_disk.specs.MemDisk.{fuse_of, will_fail, failing_of};
+ghost use Rattle.mega_disk.specs.Meters.{one_more};
 ghost use Rattle.mega_disk.specs.Past.{LeftSince, TimePasses, left_now};
 
 use crate::changes::{Held, burn, cut_to, write_over};
@@ -35,9 +36,9 @@ impl MemDisk {
         ensures durable { Only [] (⟦<MemDisk as Disk>⟧.may_leave result) }
         ensures unset { ⟦<MemDisk as Disk>⟧.fuse_left result ≡ Unset }
         ensures by_fuse { ⟦<MemDisk as Disk>⟧.fails_by_fuse result ≡ true }
-        ensures calls { calls_of result ≡ 0 }
+        ensures calls { ⟦<MemDisk as Disk>⟧.calls_made result ≡ 0 }
         ensures failing { failing_of result ≡ 0 }
-        ensures read { bytes_read_of result ≡ 0 }
+        ensures read { ⟦<MemDisk as Disk>⟧.bytes_read result ≡ 0 }
     {
         MemDisk {
             alloc,
@@ -58,20 +59,21 @@ impl MemDisk {
     /// that was named before.
     pub fn fail_at(&mut self, call: u64)
         ensures failing { failing_of self.new ≡ call }
-        ensures calls { calls_of self.new ≡ calls_of self.old }
+        ensures calls { ⟦<MemDisk as Disk>⟧.calls_made self.new ≡ ⟦<MemDisk as Disk>⟧.calls_made self.old }
         ensures seen { ⟦<MemDisk as Disk>⟧.seen self.new ≡ ⟦<MemDisk as Disk>⟧.seen self.old }
         ensures same { SameImages ⟦<MemDisk as Disk>⟧.moment ⟦<MemDisk as Disk>⟧.may_leave ⟦<MemDisk as Disk>⟧.left_since self.old self.new }
         ensures faults { ⟦<MemDisk as Disk>⟧.faults self.new ≡ ⟦<MemDisk as Disk>⟧.faults self.old }
+        ensures read { ⟦<MemDisk as Disk>⟧.bytes_read self.new ≡ ⟦<MemDisk as Disk>⟧.bytes_read self.old }
         ensures fuse { ⟦<MemDisk as Disk>⟧.fuse_left self.new ≡ ⟦<MemDisk as Disk>⟧.fuse_left self.old }
-        ensures by_fuse { (⟦<MemDisk as Disk>⟧.fails_by_fuse self.new ≡ true) ↔ (call ≤ calls_of self.old) }
-        ensures next { ⟦<MemDisk as Disk>⟧.fails_next self.new ≡ Some (will_fail (⟦<MemDisk as Disk>⟧.fuse_left self.old) (calls_of self.old) call) }
+        ensures by_fuse { (⟦<MemDisk as Disk>⟧.fails_by_fuse self.new ≡ true) ↔ (call ≤ ⟦<MemDisk as Disk>⟧.calls_made self.old) }
+        ensures next { ⟦<MemDisk as Disk>⟧.fails_next self.new ≡ Some (will_fail (⟦<MemDisk as Disk>⟧.fuse_left self.old) (⟦<MemDisk as Disk>⟧.calls_made self.old) call) }
     {
         self.failing = call;
     }
 
     /// The lengths of all reads that went well, added up, at most 2^64 - 1.
     pub fn read_bytes(&self) -> u64
-        ensures { result ≡ bytes_read_of self.now }
+        ensures { result ≡ ⟦<MemDisk as Disk>⟧.bytes_read self.now }
     {
         self.bytes_read
     }
@@ -83,7 +85,9 @@ impl MemDisk {
         ensures memory { result ≢ Err DiskError.NoMemory }
         ensures lowers { fuse_of self.new.fuse ≡ after_call (fuse_of self.old.fuse) }
         ensures failing { self.new.failing ≡ self.old.failing }
-        ensures calls { self.old.calls ≤ self.new.calls }
+        ensures calls { self.new.calls ≡ one_more self.old.calls }
+        ensures no_fewer { self.old.calls ≤ self.new.calls }
+        ensures read { self.new.bytes_read ≡ self.old.bytes_read }
         ensures held { OnOk result (self.new.held ≡ self.old.held) }
         ensures past { OnOk result (self.new.past ≡ self.old.past) }
         ensures within { Within (LeftBy self.old.held) (LeftBy self.new.held) }
@@ -115,6 +119,10 @@ impl Disk for MemDisk {
     ghost left_since = { λ d. LeftSince LeftBy d.held d.past.states };
 
     ghost faults = { λ d. d.faults };
+
+    ghost calls_made = { λ d. d.calls };
+
+    ghost bytes_read = { λ d. d.bytes_read };
 
     ghost fuse_left = { λ d. fuse_of d.fuse };
 

@@ -1,11 +1,11 @@
 -- What closing the last gate of a file leaves, whole or torn.
-use Rattle.std.proofs.Common.{◌≡◌, ◌≢◌, ◌⊎◌, inl, inr, ⊎_elim, ℕ, ◌+◌, ◌<◌, ◌≤◌, List, [], ◌∷◌, ◌++◌, length, get_or, take, drop, refl, sym, ◌∙◌, ap, subst, arith, append_assoc, length-append, take-append-drop}
+use Rattle.std.proofs.Common.{◌≡◌, ◌≢◌, inl, inr, ⊎_elim, ℕ, ◌+◌, ◌<◌, ◌≤◌, List, [], ◌∷◌, ◌++◌, length, get_or, take, drop, refl, sym, ◌∙◌, ap, arith, append_assoc, take-append-drop}
 use Rattle.std.specs.Prelude.{None, true, false, not, nat_lt, ◌==◌}
 use Rattle.std.proofs.lemmas.Bool.{cases_eq, cases_lt}
 use Rattle.std.proofs.lemmas.Bool.Decides.{nat_tests}
 use Rattle.std.proofs.lemmas.List.{take_at, drop_more, drop_all, append-nil, nil_from_length}
 use Rattle.mega_disk.specs.Images.{overwritten, Torn}
-use Rattle.mega_journal.specs.Chain.{chain_of, first_record, records_of, AreShort}
+use Rattle.mega_journal.specs.Chain.{chain_of, first_record, records_of}
 use Rattle.mega_journal.specs.Rest.{IsAtRest, IsRead, is_shut}
 use Rattle.mega_journal.proofs.Records.{both, records_chain, records_none, first_closed}
 use Rattle.mega_journal.proofs.Written.{at_rest}

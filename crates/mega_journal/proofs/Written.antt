@@ -1,8 +1,8 @@
 -- What each write of an append leaves, whole or torn.
-use Rattle.std.proofs.Common.{◌≡◌, ◌≢◌, ◌⊎◌, inl, inr, ⊎_elim, ℕ, ◌+◌, ◌-◌, ◌<◌, ◌≤◌, ◌^◌, List, [], ◌∷◌, ◌++◌, length, get_or, take, drop, refl, sym, ◌∙◌, ap, subst, arith, append_assoc, length-append, length-take-le, take-append-drop}
+use Rattle.std.proofs.Common.{◌≡◌, ◌≢◌, inl, inr, ⊎_elim, ℕ, ◌+◌, ◌<◌, ◌≤◌, ◌^◌, List, [], ◌∷◌, ◌++◌, length, get_or, take, drop, refl, sym, ◌∙◌, ap, subst, arith, append_assoc, length-append, take-append-drop}
 use Rattle.std.specs.Int.{to_be_bytes, w32}
 use Rattle.std.proofs.lemmas.Bool.{cases_eq, cases_lt}
-use Rattle.std.proofs.lemmas.List.{take_at, drop_at, drop_more, get_or_past, get_or_at, take_more, append-nil}
+use Rattle.std.proofs.lemmas.List.{take_at, drop_at, drop_more, get_or_past, get_or_at, take_more}
 use Rattle.mega_disk.specs.Images.{overwritten, Torn}
 use Rattle.mega_disk.specs.RecordLists.{IsBeforeOrAfter}
 use Rattle.mega_journal.specs.Chain.{record_of, chain_of, records_of, AreShort, behind_gate}

@@ -1,5 +1,5 @@
 -- The journal's file: a chain of records, each a gate, the length of its body, the body; the next gate follows.
-use Rattle.std.specs.Prelude.{◌≡◌, ◌+◌, ◌<◌, ◌^◌, ℕ, zero, suc, List, [], ◌∷◌, ◌++◌, length, take, drop, Option, Some, None, if◌then◌else◌, ◌==◌, ◌&&◌, nat_lt}
+use Rattle.std.specs.Prelude.{◌+◌, ◌<◌, ◌^◌, ℕ, zero, suc, List, [], ◌∷◌, ◌++◌, length, take, drop, Option, Some, None, if◌then◌else◌, ◌==◌, ◌&&◌, nat_lt}
 use Rattle.std.specs.Int.{from_be_bytes, to_be_bytes, w32}
 use Rattle.std.specs.List.{flat_map, AllByRecursion}
 

@@ -1,4 +1,4 @@
-use Rattle.std.proofs.Common.{arith, sym, ◌∙◌}
+use Rattle.std.proofs.Common.{arith, sym}
 use Rattle.mega_disk.proofs.Rows.{below_more, place_here, place_last, key_there}
 use Rattle.mega_disk.proofs.mem_versions.place_for.Goals as goal
 

@@ -1,11 +1,11 @@
-use Rattle.std.proofs.Common.{◌≡◌, ℕ, ◌+◌, List, [], ◌∷◌, length, inl, sym, ◌∙◌, ap, subst}
+use Rattle.std.proofs.Common.{ℕ, ◌+◌, List, [], ◌∷◌, inl, ◌∙◌, ap, subst}
 use Rattle.std.proofs.lemmas.Result.{on_ok_weaker}
-use Rattle.mega_disk.specs.Images.{overwritten, Torn, LeavesOnly}
+use Rattle.mega_disk.specs.Images.{overwritten, Torn}
 use Rattle.mega_disk.specs.RecordLists.{IsBeforeOrAfter}
 use Rattle.mega_disk.proofs.Leaves.{weaker_leaves, then_leaves}
-use Rattle.mega_journal.specs.Chain.{records_of, behind_gate}
+use Rattle.mega_journal.specs.Chain.{records_of}
 use Rattle.mega_journal.proofs.Outcomes.{both_ok}
-use Rattle.mega_journal.proofs.Written.{staged, torn_behind, torn_gate, at_rest_after}
+use Rattle.mega_journal.proofs.Written.{torn_behind, torn_gate, at_rest_after}
 use Rattle.mega_journal.proofs.append.put_record.Goals as goal
 
 -- behind the closed gate nothing counts yet

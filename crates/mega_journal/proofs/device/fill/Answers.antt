@@ -1,5 +1,4 @@
-use Rattle.std.proofs.Common.{rules, sym, ◌∙◌, ap, arith}
-use Rattle.std.proofs.lemmas.Grind.{common_steps}
+use Rattle.std.proofs.Common.{rules, arith}
 use Rattle.mega_disk.proofs.Leaves.{goes_on}
 use Rattle.mega_journal.proofs.Pieces.{filled_more, piece_read}
 use Rattle.mega_journal.proofs.device.fill.Goals as goal
