@@ -1,1 +1,16 @@
 pub mod Causes
+pub mod Chars
+pub mod Codec
+pub mod Codecs
+pub mod Digits
+pub mod Faults
+pub mod Fields
+pub mod Lists
+pub mod NameLaws
+pub mod Names
+pub mod Pairs
+pub mod Reading
+pub mod Utf8
+pub mod ValueLaws
+pub mod Values
+pub mod Whole

@@ -1,4 +1,5 @@
-ghost use Rattle.std.specs.Prelude.{◌≡◌, [], ◌++◌, IfOk, OnOk, OnErr, length, nat_eq, refl, Some, take, ◌∷◌, ◌==◌};
+ghost use Rattle.std.specs.Prelude.{◌≡◌, [], ◌++◌, ◌+◌, ◌≤◌, drop, IfOk, OnOk, OnErr, length, nat_eq, refl, Some, take, ◌∷◌, ◌==◌};
+ghost use Rattle.mega_base.specs.Codec.{number_text};
 ghost use Rattle.std.specs.Ordering.{nat_cmp};
 ghost use Rattle.std.specs.Cmp.Lexicographic.{pointwise, slice_cmp, nat_list_eq_equiv, nat_list_cmp_total, texts_ties, texts_po};
 ghost use Rattle.std.specs.Cmp.{partial_equiv_from_equiv};
@@ -96,6 +97,15 @@ impl Bytes {
         ensures { self.new ≡ take length self.old }
     {
         self.items.truncate(length);
+    }
+
+    /// Writes a number of four bytes, the highest first, over those at `at`.
+    #[tactic(auto, unfolding(crate::specs::Codec::number_text))]
+    pub fn set_u32(&mut self, at: usize, number: u32)
+        requires { at + 4 ≤ length self.old }
+        ensures { self.new ≡ take at self.old ++ (number_text 4 number ++ drop (at + 4) self.old) }
+    {
+        self.items[at..at + 4].copy_from_slice(&number.to_be_bytes());
     }
 
     /// Drops all bytes and keeps their memory.

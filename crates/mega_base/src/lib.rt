@@ -2,15 +2,34 @@
 #![tactic(auto)]
 
 mod bytes;
+mod coding;
 mod copied;
+mod cursor;
+mod fault;
+mod field;
 mod items;
+mod list_fields;
+mod name_fields;
+mod nested;
 mod names;
+mod row_fields;
 mod text;
+mod text_field;
+mod value_fields;
 mod values;
+mod writers;
 
 pub use bytes::Bytes;
 pub use copied::{Copied, NoMemory};
+pub use coding::{decode, encode};
+pub use cursor::{BadByte, Cursor, CursorFault};
+pub use fault::FieldFault;
+pub use field::Field;
 pub use items::Items;
+pub use list_fields::{put_list, put_option, take_list, take_option};
 pub use names::{Epoch, GroupId, NodeId, OpId, Position};
+pub use nested::{put_nested, take_nested};
 pub use text::Text;
+pub use text_field::take_text;
 pub use values::{Cell, Kind, NodeKind, Row, Shape, Value};
+pub use writers::{put_bytes, put_u8, put_u32, put_u64};

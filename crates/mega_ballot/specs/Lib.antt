@@ -1,0 +1,3 @@
+pub mod BallotLaws
+pub mod Ballots
+pub mod Order

@@ -1,0 +1,8 @@
+//! Ballots and their order (Lamport 2001, "Paxos Made Simple", proposal numbers).
+#![tactic(auto)]
+
+mod ballot;
+mod order;
+
+pub use ballot::Ballot;
+pub use order::{next_above, order_is_total};

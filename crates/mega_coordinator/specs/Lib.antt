@@ -1,0 +1,4 @@
+pub mod Lease
+pub mod Groups
+pub mod History
+pub mod Laws

@@ -1,0 +1,17 @@
+//! One node: what it keeps, and its step for one event (Lamport 2001; CIDR 2011, write algorithm).
+#![tactic(auto)]
+
+mod item;
+mod lines;
+mod logs;
+mod node;
+mod operation;
+mod outcome;
+mod spelling;
+mod step;
+
+
+pub use item::{Item, Note, Tape};
+pub use node::Node;
+pub use step::{Event, Step};
+pub use lines::text;

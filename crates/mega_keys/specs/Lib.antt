@@ -1,0 +1,5 @@
+pub mod Spelling
+pub mod Fit
+pub mod Answers
+pub mod Reading
+pub mod Order

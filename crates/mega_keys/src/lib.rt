@@ -1,0 +1,17 @@
+//! The bytes of row keys, entity groups and index entries: their order is the order of the values.
+#![tactic(auto)]
+
+mod fault;
+mod fit;
+mod laws;
+mod read;
+mod spelling;
+mod write;
+
+pub use fault::KeyFault;
+pub use laws::{keys_are_apart, keys_are_ordered, keys_are_read_back};
+pub use read::read_key;
+pub use write::{group_of, index_key, row_key};
+
+#[cfg(test)]
+mod tests;

@@ -1,0 +1,4 @@
+pub mod Datagrams
+pub mod Readings
+pub mod Told
+pub mod Memory

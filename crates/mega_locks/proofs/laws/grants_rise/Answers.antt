@@ -1,0 +1,5 @@
+use Rattle.mega_locks.proofs.Marks.{fits_calls}
+use Rattle.mega_locks.proofs.laws.grants_rise.Goals as goal
+
+pub returns : goal.returns
+returns c = λ calls node. (fits_calls calls node).rising

@@ -1,0 +1,58 @@
+-- The tokens of a text: each run of letters, digits and '_', and each other byte that is no blank.
+use Rattle.std.specs.Prelude.{◌≡◌, ℕ, suc, ◌+◌, ◌-◌, Bool, true, false, ◌&&◌, ◌||◌, List, [], ◌∷◌, ◌++◌, length, take, drop, map, ◌==◌, nat_le, if◌then◌else◌}
+use Rattle.std.specs.List.{list_all}
+use Rattle.std.specs.Cmp.Lexicographic.{pointwise}
+use Rattle.std.specs.Prelude.{nat_eq}
+use Rattle.mega_schema.specs.declared.token.Token.{Token}
+
+-- space, tab, line feed, carriage return
+abbrev pub is_blank : ℕ → Bool
+is_blank b = (b == 32) || (b == 9) || (b == 10) || (b == 13)
+
+-- a letter or '_'
+abbrev pub is_letter : ℕ → Bool
+is_letter b = (nat_le 65 b && nat_le b 90) || (nat_le 97 b && nat_le b 122) || (b == 95)
+
+-- a letter, '_' or a digit
+abbrev pub is_name_byte : ℕ → Bool
+is_name_byte b = is_letter b || (nat_le 48 b && nat_le b 57)
+
+abbrev pub is_name : List ℕ → Bool
+is_name [] = false
+is_name (b ∷ bytes) = is_letter b && list_all is_name_byte bytes
+
+abbrev pub same : List ℕ → List ℕ → Bool
+same a b = pointwise nat_eq a b
+
+-- the first token begins here, with a byte of names
+abbrev pub continues : ℕ → List Token → Bool
+continues at [] = false
+continues at (t ∷ ts) = (t.at == at) && starts t.text
+  where
+    starts : List ℕ → Bool
+    starts [] = false
+    starts (b ∷ bytes) = is_name_byte b
+
+-- the byte goes to the front of the first token
+abbrev pub join : ℕ → ℕ → List Token → List Token
+join at b [] = []
+join at b (t ∷ ts) = record { at = at; text = b ∷ t.text } ∷ ts
+
+-- the tokens of a text that begins at this offset
+abbrev pub tokens_from : ℕ → List ℕ → List Token
+tokens_from at [] = []
+tokens_from at (b ∷ bytes) =
+    let others = tokens_from (at + 1) bytes in
+    if is_blank b then others
+    else (if is_name_byte b && continues (at + 1) others then join at b others
+    else record { at = at; text = b ∷ [] } ∷ others)
+
+abbrev pub tokens : List ℕ → List Token
+tokens text = tokens_from 0 text
+
+abbrev pub texts : List Token → List (List ℕ)
+texts ts = map (λ t. t.text) ts
+
+-- the first n bytes are the first token
+abbrev pub Splits : ℕ → List ℕ → ℕ → Type 0
+Splits at bytes n = tokens_from at bytes ≡ record { at = at; text = take n bytes } ∷ tokens_from (at + n) (drop n bytes)

@@ -1,0 +1,5 @@
+//! The schema language: a text's tables and indexes, or the first fault in it.
+#![tactic(auto)]
+
+mod lexer;
+mod token;

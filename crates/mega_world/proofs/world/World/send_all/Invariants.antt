@@ -1,0 +1,10 @@
+use Rattle.std.proofs.Common.{ℕ, List}
+use Rattle.mega_core.specs.declared.item.Item.{Item}
+use Rattle.mega_core.specs.Tape.{newest, Grows}
+use Rattle.mega_world.specs.Represents.{Represents}
+use Rattle.mega_world.proofs.world.World.send_all.Given as goal
+
+abbrev pub invariant-loop-message : goal.invariant-loop-message
+invariant-loop-message l =
+    ((count : ℕ) → Represents count l.fn.self (newest l.fn.tape.items) → Represents count l.self (newest l.tape.items))
+    × ((count : ℕ) → Represents count l.fn.self (newest l.fn.tape.items) → (before : List Item) → Grows before (newest l.fn.tape.items) → Grows before (newest l.tape.items))

@@ -1,0 +1,11 @@
+use Rattle.std.proofs.Common.{◌≡◌, ◌+◌, ◌∷◌, [], ◌∙◌, ap, length, subst, sym, length-append}
+use Rattle.mega_core.specs.Tape.{newest}
+use Rattle.mega_world.specs.Represents.{opened}
+use Rattle.mega_world.proofs.Waiting.{started_more}
+use Rattle.mega_world.proofs.world.World.started.Goals as goal
+
+pub loop-index-preserved : goal.loop-index-preserved
+loop-index-preserved c = (
+  subst (λ items. newest items ≡ opened (c.loop-index.index + 1)) (sym c.in_ok-push-2.ensures.ok) (started_more c.loop-index.tape.items c.loop-index.index c.loop-index.invariant.0),
+  ap length c.in_ok-push.ensures.items ∙ length-append c.loop-index.nodes.items (c.start.result ∷ []) ∙ ap (λ n. n + 1) c.loop-index.invariant.1,
+)

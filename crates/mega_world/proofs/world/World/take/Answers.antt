@@ -1,0 +1,15 @@
+use Rattle.std.proofs.Common.{◌≡◌, ◌∷◌, ◌∙◌, ap, refl, subst, sym}
+use Rattle.mega_core.specs.Tape.{newest}
+use Rattle.mega_core.specs.declared.item.Item.TheVariants.{Taken}
+use Rattle.mega_core.proofs.Tapes.{newest-append}
+use Rattle.mega_world.specs.Represents.{Represents}
+use Rattle.mega_world.proofs.Waiting.{represents_taken}
+use Rattle.mega_world.proofs.world.World.take.Goals as goal
+
+pub returns-clause-state : goal.returns-clause-state
+returns-clause-state c count r sent =
+    subst (Represents count _) (sym (ap newest c.in_ok-push.ensures.ok ∙ newest-append c.args.tape.now.items (Taken c.args.number)))
+    (represents_taken count c.args.self.now _ (newest c.args.tape.now.items) c.args.number r sent refl refl (λ n. c.remove.ensures.updates.0 n))
+
+pub returns-clause-items : goal.returns-clause-items
+returns-clause-items c = ap newest c.in_ok-push.ensures.ok ∙ newest-append c.args.tape.now.items (Taken c.args.number)

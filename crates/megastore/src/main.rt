@@ -1,0 +1,35 @@
+//! The program: reads a cluster and a schedule, and writes the transcript of what happened.
+#![tactic(auto)]
+
+mod line;
+mod replay;
+mod run;
+mod status;
+#[cfg(test)]
+mod tests;
+
+use std::env;
+use std::io;
+use std::process::ExitCode;
+
+use mega_base::Text;
+use mega_io::{StdSink, StdSource};
+
+/// The words after the program's name.
+fn arguments(rt: &HostRuntime) -> io::Result<Vec<Text>> {
+    let mut words = Vec::new(rt.alloc());
+    for argument in env::args(rt)?.skip(1) {
+        words.push(Text::from_string(argument))?;
+    }
+    Ok(words)
+}
+
+fn main(rt: HostRuntime) -> ExitCode {
+    let mut input = StdSource::new(rt.reader());
+    let mut out = StdSink::new(io::writer(&rt));
+    let words = match arguments(&rt) {
+        Ok(words) => words,
+        Err(_) => Vec::new(rt.alloc()),
+    };
+    ExitCode::from(run::run(rt.alloc(), words.as_slice(), &mut input, &mut out))
+}
