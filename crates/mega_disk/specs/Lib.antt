@@ -1,0 +1,10 @@
+pub mod Changes
+pub mod Fuse
+pub mod Images
+pub mod MemDisk
+pub mod MemRecords
+pub mod MemVersions
+pub mod Meters
+pub mod Past
+pub mod RecordLists
+pub mod VersionMaps

@@ -1,0 +1,6 @@
+mod Outcomes
+mod Pieces
+mod Reading
+mod Records
+mod Repaired
+mod Written

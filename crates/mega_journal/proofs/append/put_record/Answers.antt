@@ -1,0 +1,48 @@
+use Rattle.std.proofs.Common.{ℕ, ◌+◌, List, [], ◌∷◌, inl, ◌∙◌, ap, subst}
+use Rattle.std.proofs.lemmas.Result.{on_ok_weaker}
+use Rattle.mega_disk.specs.Images.{overwritten, Torn}
+use Rattle.mega_disk.specs.RecordLists.{IsBeforeOrAfter}
+use Rattle.mega_disk.proofs.Leaves.{weaker_leaves, then_leaves}
+use Rattle.mega_journal.specs.Chain.{records_of}
+use Rattle.mega_journal.proofs.Outcomes.{both_ok}
+use Rattle.mega_journal.proofs.Written.{torn_behind, torn_gate, at_rest_after}
+use Rattle.mega_journal.proofs.append.put_record.Goals as goal
+
+-- behind the closed gate nothing counts yet
+pub returns-in_err-write_through-clause-any_moment : goal.returns-in_err-write_through-clause-any_moment
+returns-in_err-write_through-clause-any_moment g c told =
+    let file = g.D.Disk.seen c.args.disk.now in
+    let s = c.requires.settled told in
+    weaker_leaves g.D.Disk.moment g.D.Disk.left_since c.args.disk.now c.write_through.new.disk _ _ (c.write_through.ensures.any_moment told s.durable)
+    (λ image torn. inl (torn_behind file c.args.at s.at_rest _ image torn))
+
+pub returns-clause-added : goal.returns-clause-added
+returns-clause-added g c told =
+    let file = g.D.Disk.seen c.args.disk.now in
+    let s = c.requires.settled told in
+    let record_is = c.as_slice.ensures.value ∙ c.in_ok-record.ensures in
+    let is_staged = c.in_ok-write_through.ensures.written told ∙ ap (λ (bytes : List ℕ). overwritten (c.args.at + 1) bytes file) record_is in
+    on_ok_weaker c.write_through-2.result
+    (λ written. (at_rest_after file c.args.at s.at_rest c.args.body.now c.requires.short _ (written ∙ ap (overwritten c.args.at (1 ∷ [])) is_staged)).1) (c.write_through-2.ensures.written told)
+
+pub returns-clause-settled : goal.returns-clause-settled
+returns-clause-settled g c told =
+    let file = g.D.Disk.seen c.args.disk.now in
+    let s = c.requires.settled told in
+    let record_is = c.as_slice.ensures.value ∙ c.in_ok-record.ensures in
+    let is_staged = c.in_ok-write_through.ensures.written told ∙ ap (λ (bytes : List ℕ). overwritten (c.args.at + 1) bytes file) record_is in
+    both_ok c.write_through-2.result
+    (λ written durable. record { at_rest = (at_rest_after file c.args.at s.at_rest c.args.body.now c.requires.short _ (written ∙ ap (overwritten c.args.at (1 ∷ [])) is_staged)).0; durable = durable })
+    (c.write_through-2.ensures.written told) (c.write_through-2.ensures.durable told)
+
+pub returns-clause-any_moment : goal.returns-clause-any_moment
+returns-clause-any_moment g c told =
+    let file = g.D.Disk.seen c.args.disk.now in
+    let s = c.requires.settled told in
+    let record_is = c.as_slice.ensures.value ∙ c.in_ok-record.ensures in
+    let is_staged = c.in_ok-write_through.ensures.written told ∙ ap (λ (bytes : List ℕ). overwritten (c.args.at + 1) bytes file) record_is in
+    let durable = c.in_ok-write_through.ensures.durable told in
+    let P : List ℕ → Type 0 = λ image. IsBeforeOrAfter (records_of file) c.args.body.now (records_of image) in
+    then_leaves g.D.Disk.moment g.D.Disk.left_since c.args.disk.now c.write_through.new.disk c.write_through-2.new.disk _ _ P (c.write_through.ensures.any_moment told s.durable) (c.write_through-2.ensures.any_moment told durable)
+    (λ image torn. inl (torn_behind file c.args.at s.at_rest _ image torn))
+    (λ image torn. torn_gate file c.args.at s.at_rest c.args.body.now c.requires.short image (subst (λ (l : List ℕ). Torn c.args.at 1 l image) is_staged torn))

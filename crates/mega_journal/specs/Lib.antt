@@ -1,0 +1,4 @@
+pub mod Chain
+pub mod Journals
+pub mod Opened
+pub mod Rest

@@ -1,0 +1,15 @@
+-- The lists of records that images open to.
+use Rattle.std.specs.Prelude.{◌≡◌, ℕ, List}
+use Rattle.std.proofs.Common.{◌∙◌, ap}
+use Rattle.mega_disk.specs.Images.{Only}
+use Rattle.mega_journal.specs.Chain.{records_of}
+
+-- the records of one of these images
+abbrev pub Opens : (List ℕ → Type 0) → List (List ℕ) → Type 0
+Opens images found = (image : List ℕ) × images image × (found ≡ records_of image)
+
+pub opens_only : (file : List ℕ) (images : List ℕ → Type 0) → Only file images → Only (records_of file) (Opens images)
+opens_only file images only found (image, left, is) = is ∙ ap records_of (only image left)
+
+pub opened_now : (images others : List ℕ → Type 0) (found : List (List ℕ)) → ((image : List ℕ) → images image → others image) → Opens images found → Opens others found
+opened_now images others found all (image, left, is) = (image, all image left, is)
