@@ -1,6 +1,7 @@
 ghost use Rattle.std.specs.Prelude.{◌≡◌, List, ℕ, ◌∷◌, ◌+◌, ◌<◌, ◌≤◌, ◌^◌, IfOk, length, take, drop};
 ghost use Rattle.std.specs.List.{list_all, prefix_len};
-ghost use Rattle.mega_schema.specs.Tokens.{is_blank, is_letter, is_name_byte, is_name, tokens_from, tokens, Splits};
+ghost use Rattle.mega_schema.specs.Tokens.{is_blank, tokens_from, tokens, Splits};
+ghost use Rattle.mega_schema.specs.Names.{is_letter, is_name_byte, is_name};
 
 use std::alloc::Global;
 

@@ -1,5 +1,8 @@
 //! The schema language: a text's tables and indexes, or the first fault in it.
 #![tactic(auto)]
 
+mod fault;
 mod lexer;
+mod schema;
 mod token;
+mod words;
