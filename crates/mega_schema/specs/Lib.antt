@@ -1,3 +1,5 @@
 pub mod Names
 pub mod Tokens
 pub mod Reading
+pub mod Stops
+pub mod Grammar

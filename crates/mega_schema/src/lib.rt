@@ -3,6 +3,8 @@
 
 mod fault;
 mod lexer;
+mod parser;
 mod schema;
+mod syntax;
 mod token;
 mod words;
