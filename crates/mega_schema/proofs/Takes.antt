@@ -60,7 +60,7 @@ name_shorter : (done : List (List ℕ)) (n : List ℕ) (rest : Texts) → length
 name_shorter [] n rest = omega arith
 name_shorter (m ∷ ms) n rest = omega arith
 
-name_step_takes : StepTakes name_step FitsName spell_name (codes ")" ∷ [])
+pub name_step_takes : StepTakes name_step FitsName spell_name (codes ")" ∷ [])
 unfolding name_step
 name_step_takes done ts o rest h = pick (is_next (codes ")") ts) refl h
   where
@@ -123,7 +123,7 @@ some_ok : {A : Type 0} (r : Read A) (o : Option A) (rest : Texts) → some_of r 
 some_ok (Ok x) o rest h = let p = ok_parts (Some x.0) o x.1 rest h in (x.0, ap (λ y. Ok (x.0, y)) p.1, sym p.0)
 some_ok (Err n) o rest h = absurd (cc)
 
-property_step_takes : StepTakes property_step FitsProperty spell_property (codes "}" ∷ [])
+pub property_step_takes : StepTakes property_step FitsProperty spell_property (codes "}" ∷ [])
 unfolding property_step
 property_step_takes done ts o rest h = pick (is_next (codes "}") ts) refl h
   where
@@ -222,7 +222,7 @@ pub clauses_fit : (done more : List Clause) (rest others : Texts) → FitItems F
 clauses_fit done [] rest others h = tt
 clauses_fit done (c ∷ more) rest others h = (clause_fits done c _ _ h.0, clauses_fit (done ++ c ∷ []) more rest others h.1)
 
-clause_step_takes : StepTakes clause_step FitsClause spell_clause_item (codes ";" ∷ [])
+pub clause_step_takes : StepTakes clause_step FitsClause spell_clause_item (codes ";" ∷ [])
 unfolding clause_step
 clause_step_takes done ts o rest h = pick (is_next (codes ";") ts) refl h
   where
@@ -315,4 +315,98 @@ change_taken ts c rest h =
     rw (← parts.0) (record {
       spelled = word_taken (codes "TABLE") ts t.0.0 t.0.1 t.1 ∙ ap (λ y. codes "TABLE" ∷ y) (nt.spelled ∙ ap (λ y. n.0.0 ∷ y) named);
       fit = (nt.fit, pt.fit);
+    })
+
+by_ok : {A B : Type 0} (make : A → B) (r : Read A) (y : B) (rest : Texts) → by make r ≡ Ok (y, rest) → (a : A) × (r ≡ Ok (a, rest)) × (y ≡ make a)
+by_ok make (Ok x) y rest h = let p = ok_parts (make x.0) y x.1 rest h in (x.0, ap (λ z. Ok (x.0, z)) p.1, sym p.0)
+by_ok make (Err n) y rest h = absurd (cc)
+
+StatementIs : Texts → Statement → Texts → Type 0
+StatementIs ts s rest = (ts ≡ spell_statement s ++ rest) × IsStatement s
+
+created_taken : (ts us : Texts) (s : Statement) (rest : Texts) → ts ≡ codes "CREATE" ∷ us → created_at us ≡ Ok (s, rest) → StatementIs ts s rest
+unfolding created_at StatementIs
+created_taken ts us s rest start h = pick (is_next (codes "TABLE") us) (is_next (codes "LOCAL") us) (is_next (codes "GLOBAL") us) refl refl refl h
+  where
+    pick : (a b c : Bool) → is_next (codes "TABLE") us ≡ a → is_next (codes "LOCAL") us ≡ b → is_next (codes "GLOBAL") us ≡ c
+        → cond {A = Read Statement} a (by Table (table_at (drop 1 us))) (cond b (by Index (index_at false (drop 1 us))) (cond c (by Index (index_at true (drop 1 us))) (Err (length us)))) ≡ Ok (s, rest) → (ts ≡ spell_statement s ++ rest) × IsStatement s
+    pick true b c e f g h =
+        let m = by_ok Table (table_at (drop 1 us)) s rest h in
+        let t = table_taken (drop 1 us) m.0 rest m.1 in
+        rw m.2 (start ∙ ap (λ x. codes "CREATE" ∷ x) (next_is (codes "TABLE") us e ∙ ap (λ x. codes "TABLE" ∷ x) t.spelled), t.fit)
+    pick false true c e f g h =
+        let m = by_ok Index (index_at false (drop 1 us)) s rest h in
+        let t = index_taken false (drop 1 us) m.0 rest m.1 in
+        let word : index_word m.0.global ≡ codes "LOCAL" = ap index_word t.fit.1 in
+        rw m.2 (start ∙ ap (λ x. codes "CREATE" ∷ x) (next_is (codes "LOCAL") us f ∙ (λ i. sym word i ∷ t.spelled i)), t.fit.0)
+    pick false false true e f g h =
+        let m = by_ok Index (index_at true (drop 1 us)) s rest h in
+        let t = index_taken true (drop 1 us) m.0 rest m.1 in
+        let word : index_word m.0.global ≡ codes "GLOBAL" = ap index_word t.fit.1 in
+        rw m.2 (start ∙ ap (λ x. codes "CREATE" ∷ x) (next_is (codes "GLOBAL") us g ∙ (λ i. sym word i ∷ t.spelled i)), t.fit.0)
+    pick false false false e f g h = absurd (cc)
+
+statement_taken : (ts : Texts) (s : Statement) (rest : Texts) → statement_at ts ≡ Ok (s, rest) → StatementIs ts s rest
+unfolding statement_at StatementIs
+statement_taken ts s rest h = pick (is_next (codes "CREATE") ts) (is_next (codes "ALTER") ts) refl refl h
+  where
+    pick : (a b : Bool) → is_next (codes "CREATE") ts ≡ a → is_next (codes "ALTER") ts ≡ b → cond {A = Read Statement} a (created_at (drop 1 ts)) (cond b (by Change (change_at (drop 1 ts))) (Err (length ts))) ≡ Ok (s, rest) → (ts ≡ spell_statement s ++ rest) × IsStatement s
+    pick true b e f h = created_taken ts (drop 1 ts) s rest (next_is (codes "CREATE") ts e) h
+    pick false true e f h =
+        let m = by_ok Change (change_at (drop 1 ts)) s rest h in
+        let t = change_taken (drop 1 ts) m.0 rest m.1 in
+        rw m.2 (next_is (codes "ALTER") ts f ∙ ap (λ x. codes "ALTER" ∷ x) t.spelled, t.fit)
+    pick false false e f h = absurd (cc)
+
+pub spelled_some : (s : Statement) → 0 < length (spell_statement s)
+spelled_some (Table t) = omega arith
+spelled_some (Index i) = omega arith
+spelled_some (Change c) = omega arith
+
+pub placed_step_takes : StepTakes placed_step FitsPlaced spell_placed []
+unfolding placed_step StatementIs
+placed_step_takes done [] o rest h = let p = ok_parts None o [] rest h in rw (← p.0) p.1
+placed_step_takes done (t ∷ ts) o rest h =
+    let s = bind_ok (statement_at (t ∷ ts)) _ _ h in
+    let placed : Placed = record { left = suc (length ts); statement = s.0.0 } in
+    let p = ok_parts (Some placed) o s.0.1 rest s.2 in
+    let taken = statement_taken (t ∷ ts) s.0.0 s.0.1 s.1 in
+    let spelled : t ∷ ts ≡ spell_statement s.0.0 ++ rest = taken.0 ∙ ap (λ x. spell_statement s.0.0 ++ x) p.1 in
+    rw (← p.0) (spelled, (taken.1, refl), shorter_by (t ∷ ts) (spell_statement s.0.0) rest spelled (spelled_some s.0.0))
+
+abbrev placed_of : Texts → Statement × Texts → Read (Option Placed)
+placed_of ts x = Ok (Some (record { left = suc (length ts); statement = x.0 }), x.1)
+
+-- the last step finds nothing, so nothing is left
+placed_all : (n : ℕ) (done : List Placed) (ts : Texts) (xs : List Placed) (rest : Texts) → items_at placed_step n done ts ≡ Ok (xs, rest) → rest ≡ []
+unfolding items_at placed_step
+placed_all zero done ts xs rest h = absurd (cc)
+placed_all (suc n) done [] xs rest h = let p = ok_parts done xs [] rest h in sym p.1
+placed_all (suc n) done (t ∷ ts) xs rest h =
+    let s = bind_ok (statement_at (t ∷ ts)) (λ x. items_at placed_step n (done ++ record { left = suc (length ts); statement = x.0 } ∷ []) x.1) (xs, rest) (joins (statement_at (t ∷ ts)) h) in
+    placed_all n _ s.0.1 xs rest s.2
+  where
+    joins : (r : Read Statement) → ((r >>= placed_of ts) >>= λ y. go_on done (λ more us. items_at placed_step n more us) y.0 y.1) ≡ Ok (xs, rest) → (r >>= λ x. items_at placed_step n (done ++ record { left = suc (length ts); statement = x.0 } ∷ []) x.1) ≡ Ok (xs, rest)
+    joins (Ok x) h = h
+    joins (Err e) h = h
+
+pub schema_taken : (ts : Texts) (s : SchemaWords) (rest : Texts) → schema_at ts ≡ Ok (s, rest) → Spells ts s
+unfolding schema_at
+schema_taken ts s rest h =
+    let c = bind_ok (word_at (codes "CREATE") ts) _ _ h in
+    let w = bind_ok (word_at (codes "SCHEMA") c.0.1) _ _ c.2 in
+    let n = bind_ok (name_at w.0.1) _ _ w.2 in
+    let e = bind_ok (word_at (codes ";") n.0.1) _ _ n.2 in
+    let st = bind_ok (all_items_at placed_step e.0.1) _ _ e.2 in
+    let made : SchemaWords = record { name = n.0.0; statements = st.0.0 } in
+    let parts = ok_parts made s st.0.1 rest st.2 in
+    let nt = name_taken w.0.1 n.0.0 n.0.1 n.1 in
+    let t = items_take placed_step FitsPlaced spell_placed [] placed_step_takes _ [] e.0.1 st.0.0 st.0.1 st.1 in
+    let none : st.0.1 ≡ [] = placed_all _ [] e.0.1 st.0.0 st.0.1 st.1 in
+    let spelled : e.0.1 ≡ spell_items spell_placed [] [] st.0.0 = t.spelled ∙ (λ i. spell_items spell_placed [] [] (sym t.all i) ++ none i) ∙ append-nil (spell_items spell_placed [] [] st.0.0) in
+    let F : List Placed → Texts → Type 0 = λ l r. FitItems FitsPlaced spell_placed [] [] l r in
+    rw (← parts.0) (record {
+      spelled = word_taken (codes "CREATE") ts c.0.0 c.0.1 c.1 ∙ ap (λ x. codes "CREATE" ∷ x) (word_taken (codes "SCHEMA") c.0.1 w.0.0 w.0.1 w.1 ∙ ap (λ x. codes "SCHEMA" ∷ x) (nt.spelled ∙ ap (λ x. n.0.0 ∷ x) (word_taken (codes ";") n.0.1 e.0.0 e.0.1 e.1 ∙ ap (λ x. codes ";" ∷ x) spelled)));
+      name = nt.fit;
+      statements = subst (λ l. F l []) (sym t.all) (subst (F t.more) none t.fit);
     })
