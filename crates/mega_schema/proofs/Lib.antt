@@ -1,3 +1,4 @@
 pub mod Lexing
 pub mod Items
 pub mod Takes
+pub mod Loop
