@@ -3,3 +3,5 @@ pub mod Tokens
 pub mod Reading
 pub mod Stops
 pub mod Grammar
+pub mod Lookup
+pub mod Rules

@@ -3,6 +3,7 @@
 
 mod fault;
 mod lexer;
+mod lookup;
 mod parser;
 mod schema;
 mod syntax;

@@ -1,5 +1,5 @@
 ghost use Rattle.std.specs.Prelude.{◌≡◌, IsTrue};
-ghost use Rattle.mega_schema.specs.Names.{is_name};
+ghost use Rattle.mega_schema.specs.Names.{is_name, same};
 
 use std::marker::Model;
 
@@ -37,6 +37,13 @@ impl<'a> Name<'a> {
         ensures { result.now ≡ self.now }
     {
         self.bytes
+    }
+
+    /// Whether the name is this text.
+    pub fn is(&self, text: &[u8]) -> bool
+        ensures { result ≡ same self.now text.now }
+    {
+        self.bytes == text
     }
 }
 
