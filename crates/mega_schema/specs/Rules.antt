@@ -31,6 +31,10 @@ property_names ps = map (λ p. p.name) ps
 abbrev pub is_table : Schema → List ℕ → Bool
 is_table s n = list_any (λ t. same t.name n) s.tables
 
+abbrev pub is_some_and : {A : Type 0} → (A → Bool) → Option A → Bool
+is_some_and test None = false
+is_some_and test (Some x) = test x
+
 abbrev pub are_empty : {A : Type 0} → List A → Bool
 are_empty [] = true
 are_empty (x ∷ xs) = false
@@ -99,3 +103,162 @@ kinds_differ ps (n ∷ ns) rs (m ∷ ms) = differ (named_kind ps n) (kind_at rs 
         kind : Option Property → Option Kind
         kind None = None
         kind (Some p) = Some p.kind
+
+-- some name is that of no property
+abbrev pub has_unknown : List PropertyWords → List (List ℕ) → Bool
+has_unknown ps ns = list_any (λ n. is_none (words_named ps n)) ns
+
+abbrev pub lacks : List Property → List (List ℕ) → Bool
+lacks ps ns = list_any (λ n. is_none (property_named ps n)) ns
+
+-- how many of the names are those of repeated properties
+abbrev pub repeated_count : List Property → List (List ℕ) → ℕ
+repeated_count ps ns = count_by (λ n. repeats ps n) ns
+
+-- what a group key says, where there is one
+abbrev pub of_group : List Clause → (List (List ℕ) → List ℕ → Bool) → Bool
+of_group cs test = tested (group_of cs)
+  where
+    tested : Option (List (List ℕ) × List ℕ) → Bool
+    tested None = false
+    tested (Some g) = test g.0 g.1
+
+-- what the table of this name says, where there is one
+abbrev pub of_table : List Table → List ℕ → (Table → Bool) → Bool
+of_table ts n test = tested (table_named ts n)
+  where
+    tested : Option Table → Bool
+    tested None = false
+    tested (Some t) = test t
+
+-- 1: another table has its name, or two of its properties have one name
+abbrev pub table_rule_1 : Schema → TableWords → Bool
+table_rule_1 s t = is_table s t.name || stands_twice (words_names t.properties)
+
+-- 2: it has neither ROOT nor a group key
+abbrev pub table_rule_2 : TableWords → Bool
+table_rule_2 t = not (list_any is_root t.clauses) && not (list_any is_group t.clauses)
+
+-- 3: a property of its primary key is optional or repeated
+abbrev pub table_rule_3 : TableWords → Bool
+table_rule_3 t = list_any (λ n. is_loose t.properties n) t.primary
+
+-- 4: its primary key does not begin with its group key, or the kinds of the group key are not those of the root's primary key
+abbrev pub table_rule_4 : Schema → TableWords → Bool
+table_rule_4 s t = of_group t.clauses (λ key root. not (begins_with key t.primary) || of_table s.tables root (λ r. is_root_table r && kinds_differ t.properties key r.properties r.primary))
+
+-- 5: it names an unknown table, a type that is none, or an unknown property in a key
+abbrev pub table_rule_5 : Schema → TableWords → Bool
+table_rule_5 s t =
+    of_group t.clauses (λ key root. not (is_table s root) || has_unknown t.properties key)
+    || is_some_and (λ n. not (is_table s n)) (inside_of t.clauses)
+    || has_other_type t.properties || has_unknown t.properties t.primary
+
+-- 7: it has both ROOT and a group key, or refers to a table that is no root
+abbrev pub table_rule_7 : Schema → TableWords → Bool
+table_rule_7 s t =
+    (list_any is_root t.clauses && list_any is_group t.clauses)
+    || of_group t.clauses (λ key root. of_table s.tables root (λ r. not (is_root_table r)))
+
+-- 8: IN TABLE stands on a root, or names another table than the one referred to
+abbrev pub table_rule_8 : TableWords → Bool
+table_rule_8 t =
+    (list_any is_root t.clauses && list_any is_inside t.clauses)
+    || is_some_and (λ n. of_group t.clauses (λ key root. not (same n root))) (inside_of t.clauses)
+
+-- 9: its primary key or its group key is empty
+abbrev pub table_rule_9 : TableWords → Bool
+table_rule_9 t = are_empty t.primary || of_group t.clauses (λ key root. are_empty key)
+
+-- 11: 64 tables stand before it, or it has more than 64 properties
+abbrev pub table_rule_11 : Schema → TableWords → Bool
+table_rule_11 s t = nat_le 64 (length s.tables) || nat_lt 64 (length t.properties)
+
+-- 12: its name or a property's is longer than 64 bytes
+abbrev pub table_rule_12 : TableWords → Bool
+table_rule_12 t = is_long t.name || has_long_name t.properties
+
+-- 14: SCATTER stands on a table that is no root
+abbrev pub table_rule_14 : TableWords → Bool
+table_rule_14 t = list_any is_scatter t.clauses && not (list_any is_root t.clauses)
+
+-- 1: another index has its name
+abbrev pub index_rule_1 : Schema → IndexWords → Bool
+index_rule_1 s i = list_any (λ x. same x.name i.name) s.indexes
+
+-- 5: its table is unknown
+abbrev pub index_rule_5 : Schema → IndexWords → Bool
+index_rule_5 s i = not (is_table s i.table)
+
+-- 6: it is over an unknown property, the same one twice, or two repeated ones
+abbrev pub index_rule_6 : Schema → IndexWords → Bool
+index_rule_6 s i = of_table s.tables i.table (λ t. lacks t.properties i.indexed || stands_twice i.indexed || nat_lt 1 (repeated_count t.properties i.indexed))
+
+-- 9: it is over no property
+abbrev pub index_rule_9 : IndexWords → Bool
+index_rule_9 i = are_empty i.indexed
+
+-- 10: it stores an unknown or repeated property, or one twice
+abbrev pub index_rule_10 : Schema → IndexWords → Bool
+index_rule_10 s i = is_some_and (λ ns. of_table s.tables i.table (λ t. lacks t.properties ns || stands_twice ns || nat_lt 0 (repeated_count t.properties ns))) i.storing
+
+-- 11: 64 indexes stand before it
+abbrev pub index_rule_11 : Schema → Bool
+index_rule_11 s = nat_le 64 (length s.indexes)
+
+-- 12: its name is longer than 64 bytes
+abbrev pub index_rule_12 : IndexWords → Bool
+index_rule_12 i = is_long i.name
+
+-- the properties of the table of this name, none where it is unknown
+abbrev pub properties_of : Schema → List ℕ → List Property
+properties_of s n = properties (table_named s.tables n)
+  where
+    properties : Option Table → List Property
+    properties None = []
+    properties (Some t) = t.properties
+
+-- 1: an added name is that of another property of the table
+abbrev pub change_rule_1 : Schema → ChangeWords → Bool
+change_rule_1 s c = list_any (λ p. is_some (property_named (properties_of s c.table) p.name)) c.properties || stands_twice (words_names c.properties)
+
+-- 5: its table is unknown, or an added type is none
+abbrev pub change_rule_5 : Schema → ChangeWords → Bool
+change_rule_5 s c = not (is_table s c.table) || has_other_type c.properties
+
+-- 11: the table would have more than 64 properties
+abbrev pub change_rule_11 : Schema → ChangeWords → Bool
+change_rule_11 s c = nat_lt 64 (length (properties_of s c.table) + length c.properties)
+
+-- 12: an added name is longer than 64 bytes
+abbrev pub change_rule_12 : ChangeWords → Bool
+change_rule_12 c = has_long_name c.properties
+
+-- 13: an added property is required
+abbrev pub change_rule_13 : ChangeWords → Bool
+change_rule_13 c = list_any (λ p. is_required p.need) c.properties
+
+-- the first of these rules that is broken
+abbrev pub first_broken : List (ℕ × Bool) → Option ℕ
+first_broken [] = None
+first_broken (r ∷ rs) = if r.1 then Some r.0 else first_broken rs
+
+-- the smallest rule that the statement breaks
+abbrev pub table_broken : Schema → TableWords → Option ℕ
+table_broken s t = first_broken (
+  (1, table_rule_1 s t) ∷ (2, table_rule_2 t) ∷ (3, table_rule_3 t) ∷ (4, table_rule_4 s t) ∷ (5, table_rule_5 s t) ∷ (7, table_rule_7 s t) ∷
+  (8, table_rule_8 t) ∷ (9, table_rule_9 t) ∷ (11, table_rule_11 s t) ∷ (12, table_rule_12 t) ∷ (14, table_rule_14 t) ∷ [])
+
+abbrev pub index_broken : Schema → IndexWords → Option ℕ
+index_broken s i = first_broken (
+  (1, index_rule_1 s i) ∷ (5, index_rule_5 s i) ∷ (6, index_rule_6 s i) ∷ (9, index_rule_9 i) ∷ (10, index_rule_10 s i) ∷ (11, index_rule_11 s) ∷
+  (12, index_rule_12 i) ∷ [])
+
+abbrev pub change_broken : Schema → ChangeWords → Option ℕ
+change_broken s c = first_broken (
+  (1, change_rule_1 s c) ∷ (5, change_rule_5 s c) ∷ (11, change_rule_11 s c) ∷ (12, change_rule_12 c) ∷ (13, change_rule_13 c) ∷ [])
+
+abbrev pub broken : Schema → Statement → Option ℕ
+broken s (statements.Table t) = table_broken s t
+broken s (statements.Index i) = index_broken s i
+broken s (statements.Change c) = change_broken s c

@@ -5,6 +5,7 @@ mod fault;
 mod lexer;
 mod lookup;
 mod parser;
+mod rules;
 mod schema;
 mod syntax;
 mod token;
