@@ -90,19 +90,20 @@ differ None b = false
 differ (Some k) None = false
 differ (Some k) (Some l) = not (same_kind k l)
 
--- the group key has as many properties as the root's primary key, of the same kinds
+-- the kind of the property with this number
+abbrev pub kind_at : List Property → ℕ → Option Kind
+kind_at rs m = kind (property_at rs m)
+  where
+    kind : Option Property → Option Kind
+    kind None = None
+    kind (Some p) = Some p.kind
+
+-- the group key has not as many properties as the root's primary key, of the same kinds
 abbrev pub kinds_differ : List PropertyWords → List (List ℕ) → List Property → List ℕ → Bool
 kinds_differ ps [] rs [] = false
 kinds_differ ps [] rs (m ∷ ms) = true
 kinds_differ ps (n ∷ ns) rs [] = true
 kinds_differ ps (n ∷ ns) rs (m ∷ ms) = differ (named_kind ps n) (kind_at rs m) || kinds_differ ps ns rs ms
-  where
-    kind_at : List Property → ℕ → Option Kind
-    kind_at rs m = kind (property_at rs m)
-      where
-        kind : Option Property → Option Kind
-        kind None = None
-        kind (Some p) = Some p.kind
 
 -- some name is that of no property
 abbrev pub has_unknown : List PropertyWords → List (List ℕ) → Bool
@@ -143,28 +144,47 @@ table_rule_2 t = not (list_any is_root t.clauses) && not (list_any is_group t.cl
 abbrev pub table_rule_3 : TableWords → Bool
 table_rule_3 t = list_any (λ n. is_loose t.properties n) t.primary
 
+-- the table referred to is a root whose primary key is of other kinds
+abbrev pub root_differs : Schema → List PropertyWords → List (List ℕ) → List ℕ → Bool
+root_differs s ps key root = of_table s.tables root (λ r. is_root_table r && kinds_differ ps key r.properties r.primary)
+
 -- 4: its primary key does not begin with its group key, or the kinds of the group key are not those of the root's primary key
 abbrev pub table_rule_4 : Schema → TableWords → Bool
-table_rule_4 s t = of_group t.clauses (λ key root. not (begins_with key t.primary) || of_table s.tables root (λ r. is_root_table r && kinds_differ t.properties key r.properties r.primary))
+table_rule_4 s t = of_group t.clauses (λ key root. not (begins_with key t.primary) || root_differs s t.properties key root)
+
+-- a group key refers to an unknown table, or has an unknown property
+abbrev pub group_unknown : Schema → TableWords → Bool
+group_unknown s t = of_group t.clauses (λ key root. not (is_table s root) || has_unknown t.properties key)
+
+-- the table that the rows stand in is unknown
+abbrev pub inside_unknown : Schema → TableWords → Bool
+inside_unknown s t = is_some_and (λ n. not (is_table s n)) (inside_of t.clauses)
 
 -- 5: it names an unknown table, a type that is none, or an unknown property in a key
 abbrev pub table_rule_5 : Schema → TableWords → Bool
 table_rule_5 s t =
-    of_group t.clauses (λ key root. not (is_table s root) || has_unknown t.properties key)
-    || is_some_and (λ n. not (is_table s n)) (inside_of t.clauses)
+    group_unknown s t || inside_unknown s t
     || has_other_type t.properties || has_unknown t.properties t.primary
+
+-- the table of this name is there and no root
+abbrev pub is_no_root : Schema → List ℕ → Bool
+is_no_root s n = of_table s.tables n (λ r. not (is_root_table r))
 
 -- 7: it has both ROOT and a group key, or refers to a table that is no root
 abbrev pub table_rule_7 : Schema → TableWords → Bool
 table_rule_7 s t =
     (list_any is_root t.clauses && list_any is_group t.clauses)
-    || of_group t.clauses (λ key root. of_table s.tables root (λ r. not (is_root_table r)))
+    || of_group t.clauses (λ key root. is_no_root s root)
+
+-- the rows stand in another table than the one that the group key refers to
+abbrev pub inside_another : TableWords → Bool
+inside_another t = is_some_and (λ n. of_group t.clauses (λ key root. not (same n root))) (inside_of t.clauses)
 
 -- 8: IN TABLE stands on a root, or names another table than the one referred to
 abbrev pub table_rule_8 : TableWords → Bool
 table_rule_8 t =
     (list_any is_root t.clauses && list_any is_inside t.clauses)
-    || is_some_and (λ n. of_group t.clauses (λ key root. not (same n root))) (inside_of t.clauses)
+    || inside_another t
 
 -- 9: its primary key or its group key is empty
 abbrev pub table_rule_9 : TableWords → Bool
