@@ -5,3 +5,4 @@ pub mod Stops
 pub mod Grammar
 pub mod Lookup
 pub mod Rules
+pub mod Declare

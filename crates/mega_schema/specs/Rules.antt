@@ -238,9 +238,15 @@ properties_of s n = properties (table_named s.tables n)
     properties None = []
     properties (Some t) = t.properties
 
+abbrev pub adds_known : List Property → List PropertyWords → Bool
+adds_known old added = list_any (λ p. is_some (property_named old p.name)) added
+
+abbrev pub adds_required : List PropertyWords → Bool
+adds_required added = list_any (λ p. is_required p.need) added
+
 -- 1: an added name is that of another property of the table
 abbrev pub change_rule_1 : Schema → ChangeWords → Bool
-change_rule_1 s c = list_any (λ p. is_some (property_named (properties_of s c.table) p.name)) c.properties || stands_twice (words_names c.properties)
+change_rule_1 s c = adds_known (properties_of s c.table) c.properties || stands_twice (words_names c.properties)
 
 -- 5: its table is unknown, or an added type is none
 abbrev pub change_rule_5 : Schema → ChangeWords → Bool
@@ -256,7 +262,7 @@ change_rule_12 c = has_long_name c.properties
 
 -- 13: an added property is required
 abbrev pub change_rule_13 : ChangeWords → Bool
-change_rule_13 c = list_any (λ p. is_required p.need) c.properties
+change_rule_13 c = adds_required c.properties
 
 -- the first of these rules that is broken
 abbrev pub first_broken : List (ℕ × Bool) → Option ℕ

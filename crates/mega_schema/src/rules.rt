@@ -2,7 +2,7 @@ ghost use Rattle.std.specs.Prelude.{◌≡◌, is_some, is_none, map, nat_lt, le
 ghost use Rattle.std.specs.List.{list_any};
 ghost use Rattle.mega_schema.specs.Names.{same};
 ghost use Rattle.mega_schema.specs.Lookup.{is_among, stands_twice};
-ghost use Rattle.mega_schema.specs.Rules.{is_long, words_names, is_table, is_loose, repeats, has_other_type, has_long_name, begins_with, same_kind, named_kind, differ, kind_at, kinds_differ, has_unknown, lacks, repeated_count, root_differs, group_unknown, inside_unknown, is_no_root, inside_another, table_rule_1, table_rule_2, table_rule_3, table_rule_4, table_rule_5, table_rule_7, table_rule_8, table_rule_9, table_rule_11, table_rule_12, table_rule_14};
+ghost use Rattle.mega_schema.specs.Rules.{is_long, words_names, is_table, is_loose, repeats, has_other_type, has_long_name, begins_with, same_kind, named_kind, differ, kind_at, kinds_differ, has_unknown, lacks, repeated_count, root_differs, group_unknown, inside_unknown, is_no_root, inside_another, table_rule_1, table_rule_2, table_rule_3, table_rule_4, table_rule_5, table_rule_7, table_rule_8, table_rule_9, table_rule_11, table_rule_12, table_rule_14, table_broken, index_rule_1, index_rule_6, index_rule_10, index_broken, properties_of, adds_known, adds_required, change_rule_1, change_rule_11, change_broken, broken};
 
 use mega_base::Kind;
 
@@ -12,7 +12,7 @@ use crate::lookup::{
 };
 use crate::schema::{Property, Schema};
 use crate::syntax::{has_group, has_inside, has_root, has_scatter};
-use crate::words::{Name, PropertyWords, TableWords};
+use crate::words::{ChangeWords, IndexWords, Name, PropertyWords, Statement, TableWords};
 
 /// The most bytes that a name may have.
 const LONGEST_NAME: usize = 64;
@@ -387,4 +387,173 @@ fn table_rule_14(table: &TableWords<'_>) -> bool
 {
     let clauses = table.clauses.as_slice();
     has_scatter(clauses) && !has_root(clauses)
+}
+
+/// The smallest rule that a table's statement breaks.
+fn table_broken(schema: &Schema, table: &TableWords<'_>) -> Option<u8>
+    ensures { result ≡ table_broken schema.now table.now }
+{
+    if table_rule_1(schema, table) {
+        Some(1)
+    } else if table_rule_2(table) {
+        Some(2)
+    } else if table_rule_3(table) {
+        Some(3)
+    } else if table_rule_4(schema, table) {
+        Some(4)
+    } else if table_rule_5(schema, table) {
+        Some(5)
+    } else if table_rule_7(schema, table) {
+        Some(7)
+    } else if table_rule_8(table) {
+        Some(8)
+    } else if table_rule_9(table) {
+        Some(9)
+    } else if table_rule_11(schema, table) {
+        Some(11)
+    } else if table_rule_12(table) {
+        Some(12)
+    } else if table_rule_14(table) {
+        Some(14)
+    } else {
+        None
+    }
+}
+
+/// Whether another index has its name.
+fn index_rule_1(schema: &Schema, index: &IndexWords<'_>) -> bool
+    ensures { result ≡ index_rule_1 schema.now index.now }
+{
+    schema
+        .indexes
+        .as_slice()
+        .iter()
+        .any(|other| other.name.as_bytes() == index.name.as_bytes())
+}
+
+/// Whether it is over an unknown property, the same one twice, or two repeated ones.
+fn index_rule_6(schema: &Schema, index: &IndexWords<'_>) -> bool
+    ensures { result ≡ index_rule_6 schema.now index.now }
+{
+    let names = index.indexed.as_slice();
+    match table_named(schema.tables.as_slice(), &index.table) {
+        Some(table) => {
+            let properties = table.properties.as_slice();
+            lacks(properties, names) || stands_twice(names) || 1 < repeated_count(properties, names)
+        }
+        None => false,
+    }
+}
+
+/// Whether it stores an unknown or repeated property, or one twice.
+fn index_rule_10(schema: &Schema, index: &IndexWords<'_>) -> bool
+    ensures { result ≡ index_rule_10 schema.now index.now }
+{
+    let Some(stored) = &index.storing else {
+        return false;
+    };
+    let names = stored.as_slice();
+    match table_named(schema.tables.as_slice(), &index.table) {
+        Some(table) => {
+            let properties = table.properties.as_slice();
+            lacks(properties, names) || stands_twice(names) || 0 < repeated_count(properties, names)
+        }
+        None => false,
+    }
+}
+
+/// The smallest rule that an index's statement breaks.
+fn index_broken(schema: &Schema, index: &IndexWords<'_>) -> Option<u8>
+    ensures { result ≡ index_broken schema.now index.now }
+{
+    if index_rule_1(schema, index) {
+        Some(1)
+    } else if !is_table(schema, &index.table) {
+        Some(5)
+    } else if index_rule_6(schema, index) {
+        Some(6)
+    } else if index.indexed.is_empty() {
+        Some(9)
+    } else if index_rule_10(schema, index) {
+        Some(10)
+    } else if MOST <= schema.indexes.len() {
+        Some(11)
+    } else if is_long(&index.name) {
+        Some(12)
+    } else {
+        None
+    }
+}
+
+/// The properties of the table of this name, none where it is unknown.
+pub fn properties_of<'s>(schema: &'s Schema, name: &Name<'_>) -> &'s [Property]
+    ensures { result.now ≡ properties_of schema.now name.now }
+{
+    match table_named(schema.tables.as_slice(), name) {
+        Some(table) => table.properties.as_slice(),
+        None => &[],
+    }
+}
+
+/// Whether an added name is that of an old property.
+fn adds_known(old: &[Property], added: &[PropertyWords<'_>]) -> bool
+    ensures { result ≡ adds_known old.now added.now }
+{
+    added
+        .iter()
+        .any(|property| property_named(old, &property.name).is_some())
+}
+
+/// Whether an added property is required.
+fn adds_required(added: &[PropertyWords<'_>]) -> bool
+    ensures { result ≡ adds_required added.now }
+{
+    added.iter().any(|property| is_required(property.need))
+}
+
+/// Whether an added name is that of another property of the table.
+fn change_rule_1(schema: &Schema, change: &ChangeWords<'_>) -> bool
+    ensures { result ≡ change_rule_1 schema.now change.now }
+{
+    let added = change.properties.as_slice();
+    adds_known(properties_of(schema, &change.table), added) || words_twice(added)
+}
+
+/// Whether the table would have more than 64 properties.
+fn change_rule_11(schema: &Schema, change: &ChangeWords<'_>) -> bool
+    ensures { result ≡ change_rule_11 schema.now change.now }
+{
+    let old = properties_of(schema, &change.table).len();
+    MOST < old || MOST - old < change.properties.len()
+}
+
+/// The smallest rule that a change's statement breaks.
+fn change_broken(schema: &Schema, change: &ChangeWords<'_>) -> Option<u8>
+    ensures { result ≡ change_broken schema.now change.now }
+{
+    let added = change.properties.as_slice();
+    if change_rule_1(schema, change) {
+        Some(1)
+    } else if !is_table(schema, &change.table) || has_other_type(added) {
+        Some(5)
+    } else if change_rule_11(schema, change) {
+        Some(11)
+    } else if has_long_name(added) {
+        Some(12)
+    } else if adds_required(added) {
+        Some(13)
+    } else {
+        None
+    }
+}
+
+/// The smallest rule that the statement breaks, by what was declared before it.
+pub fn broken(schema: &Schema, statement: &Statement<'_>) -> Option<u8>
+    ensures { result ≡ broken schema.now statement.now }
+{
+    match statement {
+        Statement::Table(table) => table_broken(schema, table),
+        Statement::Index(index) => index_broken(schema, index),
+        Statement::Change(change) => change_broken(schema, change),
+    }
 }

@@ -1,9 +1,10 @@
-ghost use Rattle.std.specs.Prelude.{◌≡◌, IsTrue};
+ghost use Rattle.std.specs.Prelude.{◌≡◌, IfOk, IsTrue};
 ghost use Rattle.mega_schema.specs.Names.{is_name, same};
 
+use std::alloc::Global;
 use std::marker::Model;
 
-use mega_base::Items;
+use mega_base::{Items, NoMemory, Text};
 
 use crate::schema::Need;
 
@@ -37,6 +38,16 @@ impl<'a> Name<'a> {
         ensures { result.now ≡ self.now }
     {
         self.bytes
+    }
+
+    /// The name as a text of its own.
+    pub fn to_text(&self, alloc: Global) -> Result<Text, NoMemory>
+        ensures { IfOk result (λ text. text ≡ self.now) }
+    {
+        match std::str::from_utf8(self.bytes) {
+            Ok(text) => Text::from_str(alloc, text),
+            Err(_) => unreachable!(),
+        }
     }
 
     /// Whether the name is this text.
