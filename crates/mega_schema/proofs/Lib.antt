@@ -2,3 +2,4 @@ pub mod Lexing
 pub mod Items
 pub mod Takes
 pub mod Loop
+pub mod NameText
