@@ -65,7 +65,7 @@ table_of s t =
       root = root_number s group;
       group = group_numbers t.properties group;
       inside = list_any is_inside t.clauses;
-      scatter = scatters s t.clauses group
+      scatter = scatters s t.clauses group;
     }
 
 abbrev pub index_of : Schema → IndexWords → Index
@@ -76,7 +76,7 @@ index_of s i =
       global = i.global;
       table = number_of (table_place s.tables i.table);
       indexed = numbers_of properties i.indexed;
-      storing = numbers_of properties (unwrap_or i.storing [])
+      storing = numbers_of properties (unwrap_or i.storing []);
     }
 
 -- the table with more properties behind its own

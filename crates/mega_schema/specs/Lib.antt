@@ -6,3 +6,4 @@ pub mod Grammar
 pub mod Lookup
 pub mod Rules
 pub mod Declare
+pub mod Verdict

@@ -18,4 +18,3 @@ is_name (b ∷ bytes) = is_letter b && list_all is_name_byte bytes
 -- the two texts are the same
 abbrev pub same : List ℕ → List ℕ → Bool
 same a b = pointwise nat_eq a b
-

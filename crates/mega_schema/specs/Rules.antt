@@ -272,17 +272,17 @@ first_broken (r ∷ rs) = if r.1 then Some r.0 else first_broken rs
 -- the smallest rule that the statement breaks
 abbrev pub table_broken : Schema → TableWords → Option ℕ
 table_broken s t = first_broken (
-  (1, table_rule_1 s t) ∷ (2, table_rule_2 t) ∷ (3, table_rule_3 t) ∷ (4, table_rule_4 s t) ∷ (5, table_rule_5 s t) ∷ (7, table_rule_7 s t) ∷
-  (8, table_rule_8 t) ∷ (9, table_rule_9 t) ∷ (11, table_rule_11 s t) ∷ (12, table_rule_12 t) ∷ (14, table_rule_14 t) ∷ [])
+    (1, table_rule_1 s t) ∷ (2, table_rule_2 t) ∷ (3, table_rule_3 t) ∷ (4, table_rule_4 s t) ∷ (5, table_rule_5 s t) ∷ (7, table_rule_7 s t) ∷
+    (8, table_rule_8 t) ∷ (9, table_rule_9 t) ∷ (11, table_rule_11 s t) ∷ (12, table_rule_12 t) ∷ (14, table_rule_14 t) ∷ [])
 
 abbrev pub index_broken : Schema → IndexWords → Option ℕ
 index_broken s i = first_broken (
-  (1, index_rule_1 s i) ∷ (5, index_rule_5 s i) ∷ (6, index_rule_6 s i) ∷ (9, index_rule_9 i) ∷ (10, index_rule_10 s i) ∷ (11, index_rule_11 s) ∷
-  (12, index_rule_12 i) ∷ [])
+    (1, index_rule_1 s i) ∷ (5, index_rule_5 s i) ∷ (6, index_rule_6 s i) ∷ (9, index_rule_9 i) ∷ (10, index_rule_10 s i) ∷ (11, index_rule_11 s) ∷
+    (12, index_rule_12 i) ∷ [])
 
 abbrev pub change_broken : Schema → ChangeWords → Option ℕ
 change_broken s c = first_broken (
-  (1, change_rule_1 s c) ∷ (5, change_rule_5 s c) ∷ (11, change_rule_11 s c) ∷ (12, change_rule_12 c) ∷ (13, change_rule_13 c) ∷ [])
+    (1, change_rule_1 s c) ∷ (5, change_rule_5 s c) ∷ (11, change_rule_11 s c) ∷ (12, change_rule_12 c) ∷ (13, change_rule_13 c) ∷ [])
 
 abbrev pub broken : Schema → Statement → Option ℕ
 broken s (statements.Table t) = table_broken s t

@@ -3,15 +3,13 @@ ghost use Rattle.mega_schema.specs.Reading.{is_scatter, is_inside};
 ghost use Rattle.mega_schema.specs.Lookup.{group_of};
 ghost use Rattle.mega_schema.specs.Declare.{number_of, property_of, words_place, numbers_of_words, numbers_of, root_number, group_numbers, scatters, table_of, index_of, grown, grown_at, declare};
 
-use std::alloc::Global;
-
-use mega_base::{Items, Kind, NoMemory};
-
 use crate::lookup::{group_of, kind_of, property_place, table_named, table_place};
 use crate::rules::properties_of;
 use crate::schema::{Index, Property, Schema, Table};
 use crate::syntax::{has_inside, has_scatter};
 use crate::words::{Clause, IndexWords, Name, PropertyWords, Statement, TableWords};
+use mega_base::{Items, Kind, NoMemory};
+use std::alloc::Global;
 
 /// The number, from 1, of what stands at a place, from 0; 0 for none.
 fn number_of(place: Option<usize>) -> u8
@@ -191,11 +189,7 @@ fn grow_at(
 }
 
 /// The schema with what a statement declares.
-pub fn declare(
-    alloc: Global,
-    schema: Schema,
-    statement: &Statement<'_>,
-) -> Result<Schema, NoMemory>
+pub fn declare(alloc: Global, schema: Schema, statement: &Statement<'_>) -> Result<Schema, NoMemory>
     ensures { IfOk result (λ after. after ≡ declare schema statement.now) }
 {
     let mut schema = schema;

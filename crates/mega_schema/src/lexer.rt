@@ -3,11 +3,9 @@ ghost use Rattle.std.specs.List.{list_all, prefix_len};
 ghost use Rattle.mega_schema.specs.Tokens.{is_blank, tokens_from, tokens, Splits};
 ghost use Rattle.mega_schema.specs.Names.{is_letter, is_name_byte, is_name};
 
-use std::alloc::Global;
-
-use mega_base::{Items, NoMemory};
-
 use crate::token::{Token, Word};
+use mega_base::{Items, NoMemory};
+use std::alloc::Global;
 
 pub fn is_blank(byte: u8) -> bool
     ensures { result ≡ is_blank byte }
@@ -94,7 +92,11 @@ fn token_len(first: u8, text: &[u8]) -> usize
     ensures within { result ≤ length text.now }
     ensures some { 0 < result }
 {
-    if is_name_byte(first) { run_len(text) } else { 1 }
+    if is_name_byte(first) {
+        run_len(text)
+    } else {
+        1
+    }
 }
 
 /// The tokens of a text.

@@ -10,4 +10,9 @@ mod rules;
 mod schema;
 mod syntax;
 mod token;
+mod verdict;
 mod words;
+
+pub use fault::SchemaFault;
+pub use schema::{Index, Need, Property, Schema, Table};
+pub use verdict::parse;

@@ -3,10 +3,9 @@ ghost use Rattle.std.specs.Option.{option_copied, option_map};
 ghost use Rattle.mega_schema.specs.Names.{same};
 ghost use Rattle.mega_schema.specs.Lookup.{kind_of, is_required, is_repeated, words_named, property_named, property_place, table_named, table_place, is_root_table, group_of, inside_of};
 
-use mega_base::{Items, Kind};
-
 use crate::schema::{Need, Property, Table};
 use crate::words::{Clause, Name, PropertyWords};
+use mega_base::{Items, Kind};
 
 /// The kind that a type's word names.
 pub fn kind_of(word: &Name<'_>) -> Option<Kind>

@@ -4,13 +4,11 @@ ghost use Rattle.mega_schema.specs.Names.{is_name};
 ghost use Rattle.mega_schema.specs.Reading.{is_next, word_at, name_at};
 ghost use Rattle.mega_schema.specs.Stops.{Reads};
 
-use std::marker::Model;
-
-use mega_base::NoMemory;
-
 use crate::lexer::is_name;
 use crate::token::Token;
 use crate::words::Name;
+use mega_base::NoMemory;
+use std::marker::Model;
 
 /// Why a parser stopped.
 #[derive(Drop)]

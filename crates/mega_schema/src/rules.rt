@@ -4,8 +4,6 @@ ghost use Rattle.mega_schema.specs.Names.{same};
 ghost use Rattle.mega_schema.specs.Lookup.{is_among, stands_twice};
 ghost use Rattle.mega_schema.specs.Rules.{is_long, words_names, is_table, is_loose, repeats, has_other_type, has_long_name, begins_with, same_kind, named_kind, differ, kind_at, kinds_differ, has_unknown, lacks, repeated_count, root_differs, group_unknown, inside_unknown, is_no_root, inside_another, table_rule_1, table_rule_2, table_rule_3, table_rule_4, table_rule_5, table_rule_7, table_rule_8, table_rule_9, table_rule_11, table_rule_12, table_rule_14, table_broken, index_rule_1, index_rule_6, index_rule_10, index_broken, properties_of, adds_known, adds_required, change_rule_1, change_rule_11, change_broken, broken};
 
-use mega_base::Kind;
-
 use crate::lookup::{
     group_of, inside_of, is_repeated, is_required, is_root_table, kind_of, property_named,
     table_named, words_named,
@@ -13,6 +11,7 @@ use crate::lookup::{
 use crate::schema::{Property, Schema};
 use crate::syntax::{has_group, has_inside, has_root, has_scatter};
 use crate::words::{ChangeWords, IndexWords, Name, PropertyWords, Statement, TableWords};
+use mega_base::Kind;
 
 /// The most bytes that a name may have.
 const LONGEST_NAME: usize = 64;
@@ -112,7 +111,9 @@ pub fn begins_with(front: &[Name<'_>], names: &[Name<'_>]) -> bool
 fn is_among(names: &[Name<'_>], name: &Name<'_>) -> bool
     ensures { result ≡ is_among names.now name.now }
 {
-    names.iter().any(|other| other.as_bytes() == name.as_bytes())
+    names
+        .iter()
+        .any(|other| other.as_bytes() == name.as_bytes())
 }
 
 /// Whether some name stands twice.
@@ -212,8 +213,7 @@ pub fn kinds_differ(
     for name in key {
         match rest {
             [number, after @ ..]
-                if !differ(named_kind(properties, name), kind_at(others, *number)) =>
-            {
+                if !differ(named_kind(properties, name), kind_at(others, *number)) => {
                 rest = after;
             }
             _ => return true,
@@ -261,7 +261,12 @@ fn root_differs(
     match table_named(schema.tables.as_slice(), root) {
         Some(table) => {
             is_root_table(table)
-                && kinds_differ(properties, key, table.properties.as_slice(), table.primary.as_slice())
+                && kinds_differ(
+                    properties,
+                    key,
+                    table.properties.as_slice(),
+                    table.primary.as_slice(),
+                )
         }
         None => false,
     }

@@ -3,15 +3,14 @@ ghost use Rattle.std.specs.List.{list_any};
 ghost use Rattle.mega_schema.specs.Reading.{comma_at, name_step, names_at, need_at, property_at, property_step, properties_at, is_root, is_scatter, is_inside, is_group, group_at, inside_at, entity_at, clause_at, clause_step, all_items_at, table_at, storing_at, index_at, change_at, created_at, statement_at, placed_step, schema_at};
 ghost use Rattle.mega_schema.specs.Stops.{Reads};
 
-use std::alloc::Global;
-
-use mega_base::Items;
-
 use crate::parser::{Parser, Stop};
 use crate::schema::Need;
 use crate::words::{
-    ChangeWords, Clause, IndexWords, Name, Placed, PropertyWords, SchemaWords, Statement, TableWords,
+    ChangeWords, Clause, IndexWords, Name, Placed, PropertyWords, SchemaWords, Statement,
+    TableWords,
 };
+use mega_base::Items;
+use std::alloc::Global;
 
 /// The next name of a list in parentheses, or none at its end.
 #[tactic(auto, unfolding(crate::specs::Reading::name_step))]
@@ -170,19 +169,25 @@ pub fn has_root(clauses: &[Clause<'_>]) -> bool
 pub fn has_scatter(clauses: &[Clause<'_>]) -> bool
     ensures { result ≡ list_any is_scatter clauses.now }
 {
-    clauses.iter().any(|clause| matches!(clause, Clause::Scatter))
+    clauses
+        .iter()
+        .any(|clause| matches!(clause, Clause::Scatter))
 }
 
 pub fn has_inside(clauses: &[Clause<'_>]) -> bool
     ensures { result ≡ list_any is_inside clauses.now }
 {
-    clauses.iter().any(|clause| matches!(clause, Clause::Inside(_)))
+    clauses
+        .iter()
+        .any(|clause| matches!(clause, Clause::Inside(_)))
 }
 
 pub fn has_group(clauses: &[Clause<'_>]) -> bool
     ensures { result ≡ list_any is_group clauses.now }
 {
-    clauses.iter().any(|clause| matches!(clause, Clause::Group(_, _)))
+    clauses
+        .iter()
+        .any(|clause| matches!(clause, Clause::Group(_, _)))
 }
 
 /// A clause of a kind that none before it has.
@@ -261,10 +266,7 @@ fn table<'a>(alloc: Global, parser: &mut Parser<'_, 'a>) -> Result<TableWords<'a
 }
 
 #[tactic(auto, unfolding(crate::specs::Reading::storing_at))]
-fn storing<'a>(
-    alloc: Global,
-    parser: &mut Parser<'_, 'a>,
-) -> Result<Option<Items<Name<'a>>>, Stop>
+fn storing<'a>(alloc: Global, parser: &mut Parser<'_, 'a>) -> Result<Option<Items<Name<'a>>>, Stop>
     ensures { Reads result parser.new (storing_at parser.old) }
 {
     if parser.take(b"STORING") {

@@ -1,12 +1,10 @@
 ghost use Rattle.std.specs.Prelude.{◌≡◌, IfOk, IsTrue};
 ghost use Rattle.mega_schema.specs.Names.{is_name, same};
 
+use crate::schema::Need;
+use mega_base::{Items, NoMemory, Text};
 use std::alloc::Global;
 use std::marker::Model;
-
-use mega_base::{Items, NoMemory, Text};
-
-use crate::schema::Need;
 
 /// A name as it stands in the text.
 #[derive(Debug, Drop)]
