@@ -7,3 +7,4 @@ pub mod Lookup
 pub mod Rules
 pub mod Declare
 pub mod Verdict
+pub mod Shaping

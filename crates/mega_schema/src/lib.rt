@@ -8,6 +8,7 @@ mod lookup;
 mod parser;
 mod rules;
 mod schema;
+mod shaping;
 mod syntax;
 mod token;
 mod verdict;
