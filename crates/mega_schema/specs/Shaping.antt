@@ -38,5 +38,5 @@ shape_of s n t = record {
   root_kinds = root_kinds (table_at s.tables t.root);
   table = n;
   rest_kinds = rest_kinds t;
-  scatter = t.scatter
+  scatter = t.scatter;
 }

@@ -17,3 +17,6 @@ mod words;
 pub use fault::SchemaFault;
 pub use schema::{Index, Need, Property, Schema, Table};
 pub use verdict::parse;
+
+#[cfg(test)]
+mod tests;

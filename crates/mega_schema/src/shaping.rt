@@ -2,13 +2,11 @@ ghost use Rattle.std.specs.Prelude.{◌≡◌, ◌≤◌, ◌++◌, length, Some
 ghost use Rattle.std.specs.Option.{option_copied, option_map, option_to_list};
 ghost use Rattle.mega_schema.specs.Shaping.{table_at, kinds_of, root_kinds, rest_kinds, space_of, shape_of};
 
-use std::alloc::Global;
-
-use mega_base::{Items, Kind, NoMemory, Shape};
-
 use crate::lookup::is_root_table;
 use crate::rules::kind_at;
 use crate::schema::{Property, Schema, Table};
+use mega_base::{Items, Kind, NoMemory, Shape};
+use std::alloc::Global;
 
 fn table_at(tables: &[Table], number: u8) -> Option<&Table>
     ensures { option_copied result ≡ table_at tables.now number }
@@ -20,11 +18,7 @@ fn table_at(tables: &[Table], number: u8) -> Option<&Table>
 }
 
 /// The kinds of the properties with these numbers.
-fn kinds_of(
-    alloc: Global,
-    properties: &[Property],
-    numbers: &[u8],
-) -> Result<Items<Kind>, NoMemory>
+fn kinds_of(alloc: Global, properties: &[Property], numbers: &[u8]) -> Result<Items<Kind>, NoMemory>
     ensures { IfOk result (λ kinds. kinds ≡ kinds_of properties.now numbers.now) }
 {
     let mut kinds = Items::new(alloc);
@@ -77,12 +71,7 @@ fn space_of(number: u8, table: &Table) -> u8
     }
 }
 
-fn shape_of(
-    alloc: Global,
-    schema: &Schema,
-    number: u8,
-    table: &Table,
-) -> Result<Shape, NoMemory>
+fn shape_of(alloc: Global, schema: &Schema, number: u8, table: &Table) -> Result<Shape, NoMemory>
     ensures { IfOk result (λ shape. shape ≡ shape_of schema.now number table.now) }
 {
     let root_kinds = root_kinds(alloc, schema.tables.as_slice(), table.root)?;
