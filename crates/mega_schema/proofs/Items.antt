@@ -57,3 +57,27 @@ module _ {A : Type 0} (step : List A → Texts → Read (Option A)) (Fit : List 
           pick : (o : Option A) (us : Texts) → StepTells Fit item close done ts o us → ((a : A) (vs : Texts) → length vs < length ts → items_at step n (done ++ a ∷ []) vs ≡ items_at step m (done ++ a ∷ []) vs) → go_on done (λ more vs. items_at step n more vs) o us ≡ go_on done (λ more vs. items_at step m more vs) o us
           pick None us t ih = refl
           pick (Some a) us t ih = ih a us t.2
+
+-- what was spelled is read again, step by step
+abbrev pub StepAgain : {A : Type 0} → (List A → Texts → Read (Option A)) → (List A → A → Texts → Type 0) → (List A → A → Texts) → Type 0
+StepAgain {A} step Fit item = (done : List A) (a : A) (more : Texts) → Fit done a (item done a ++ more) → step done (item done a ++ more) ≡ Ok (Some a, more)
+
+module _ {A : Type 0} (step : List A → Texts → Read (Option A)) (Fit : List A → A → Texts → Type 0) (item : List A → A → Texts) (close : Texts) (rest : Texts) (again : StepAgain step Fit item) (closes : (done : List A) → step done (close ++ rest) ≡ Ok (None, rest)) where
+  pub items_again : (n : ℕ) (done more : List A) → length more < n → FitItems Fit item close done more rest → items_at step n done (spell_items item close done more ++ rest) ≡ Ok (done ++ more, rest)
+  unfolding items_at
+  items_again zero done more h fit = absurd (omega (arith, h))
+  items_again (suc n) done [] h fit =
+      ap (λ (r : Read (Option A)). r >>= λ x. go_on done (λ l us. items_at step n l us) x.0 x.1) (closes done) ∙ ap (λ (l : List A). Ok (l, rest)) (sym (append-nil done))
+  items_again (suc n) done (a ∷ more) h fit =
+      let others = spell_items item close (done ++ a ∷ []) more in
+      let split = append_assoc (item done a) others rest in
+      ap (items_at step (suc n) done) split
+      ∙ ap (λ (r : Read (Option A)). r >>= λ x. go_on done (λ l us. items_at step n l us) x.0 x.1) (again done a (others ++ rest) (subst (Fit done a) split fit.0))
+      ∙ items_again n (done ++ a ∷ []) more (omega (arith, h)) fit.1
+      ∙ ap (λ (l : List A). Ok (l, rest)) (append_assoc done (a ∷ []) more)
+
+-- items that have tokens are no more than the tokens
+pub items_long : {A : Type 0} (item : List A → A → Texts) (close : Texts) → ((done : List A) (a : A) → 0 < length (item done a)) → (done more : List A) → length more ≤ length (spell_items item close done more)
+items_long item close some done [] = omega arith
+items_long item close some done (a ∷ more) =
+    omega (arith, some done a, length-append (item done a) (spell_items item close (done ++ a ∷ []) more), items_long item close some (done ++ a ∷ []) more)

@@ -3,3 +3,4 @@ pub mod Items
 pub mod Takes
 pub mod Loop
 pub mod NameText
+pub mod Again
