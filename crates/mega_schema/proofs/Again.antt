@@ -19,6 +19,7 @@ use Rattle.mega_schema.specs.declared.words.SchemaWords.{SchemaWords}
 use Rattle.mega_schema.specs.Names.{is_name, same}
 use Rattle.mega_schema.specs.Reading.{Texts, Read, ◌>>=◌, go_on, items_at, all_items_at, is_next, word_at, name_at, refused_if, comma_at, name_step, names_at, need_at, property_at, some_of, property_step, properties_at, is_root, is_scatter, is_inside, is_group, group_at, inside_at, entity_at, clause_at, clause_step, table_at, storing_at, index_at, change_at, by, created_at, statement_at, placed_step, schema_at}
 use Rattle.mega_schema.specs.Grammar.{spell_items, FitItems, IsName, spell_name, spell_names, FitsName, AreNames, need_word, spell_property, spell_properties, IsProperty, FitsProperty, spell_clause, spell_clause_item, FitsClause, spell_table, IsTable, spell_storing, spell_index, IsStoring, IsIndex, spell_change, IsChange, index_word, spell_statement, IsStatement, spell_placed, FitsPlaced, spell_schema, Spells}
+use Rattle.mega_schema.proofs.Takes.{clauses_fit}
 use Rattle.mega_schema.proofs.Items.{StepAgain, items_again, items_long}
 
 pub name_again : (n : List ℕ) (rest : Texts) → IsName n → name_at (n ∷ rest) ≡ Ok (n, rest)
@@ -87,3 +88,97 @@ property_again p rest h =
     needed Required ts = need_1 ts
     needed Optional ts = need_2 ts
     needed Repeated ts = need_3 ts
+
+need_no : (need : Need) → same (need_word need) (codes "}") ≡ false
+need_no Required = refl
+need_no Optional = refl
+need_no Repeated = refl
+
+abbrev some_made : {A : Type 0} → A × Texts → Read (Option A)
+some_made x = Ok (Some x.0, x.1)
+
+property_step_again : StepAgain property_step FitsProperty spell_property
+unfolding property_step
+property_step_again done p more h =
+    let ts = spell_property done p ++ more in
+    ap (λ b. cond b (Ok (None, drop 1 ts)) (some_of (property_at ts))) (need_no p.need) ∙ ap (λ (r : Read PropertyWords). r >>= some_made) (property_again p more h)
+
+property_some : (done : List PropertyWords) (p : PropertyWords) → 0 < length (spell_property done p)
+property_some done p = omega arith
+
+fit_properties : (done more : List PropertyWords) (rest : Texts) → AllByRecursion IsProperty more → FitItems FitsProperty spell_property (codes "}" ∷ []) done more rest
+fit_properties done [] rest h = tt
+fit_properties done (p ∷ more) rest h = (h.0, fit_properties (done ++ p ∷ []) more rest h.1)
+
+pub properties_again : (ps : List PropertyWords) (rest : Texts) → AllByRecursion IsProperty ps → properties_at (spell_properties ps ++ rest) ≡ Ok (ps, rest)
+unfolding properties_at word_at property_step
+properties_again ps rest h =
+    let spelled = spell_items spell_property (codes "}" ∷ []) [] ps in
+    let enough : length ps < suc (length (spelled ++ rest)) = omega (arith, items_long spell_property (codes "}" ∷ []) property_some [] ps, length-append spelled rest) in
+    items_again property_step FitsProperty spell_property (codes "}" ∷ []) rest property_step_again (λ done. refl) (suc (length (spelled ++ rest))) [] ps enough (fit_properties [] ps rest h)
+
+abbrev group_made : List (List ℕ) → List ℕ × Texts → Read Clause
+group_made key root = Ok (Group key root.0, root.1)
+
+abbrev key_made : List (List ℕ) × Texts → Read Clause
+key_made key = word_at (codes "REFERENCES") key.1 >>= λ references. name_at references.1 >>= group_made key.0
+
+group_again : (ns : List (List ℕ)) (n : List ℕ) (rest : Texts) → AreNames ns → IsName n → group_at ((spell_names ns ++ codes "REFERENCES" ∷ n ∷ []) ++ rest) ≡ Ok (Group ns n, rest)
+unfolding group_at word_at
+group_again ns n rest h g =
+    let behind = codes "REFERENCES" ∷ n ∷ rest in
+    ap group_at (append_assoc (spell_names ns) (codes "REFERENCES" ∷ n ∷ []) rest) ∙ ap (λ (r : Read (List (List ℕ))). r >>= key_made) (names_again ns behind h) ∙ ap (λ (r : Read (List ℕ)). r >>= group_made ns) (name_again n rest g)
+
+abbrev inside_made : List ℕ × Texts → Read Clause
+inside_made name = Ok (Inside name.0, name.1)
+
+not_refused : {A : Type 0} (b : Bool) (left : ℕ) (r : Read A) → b ≡ false → refused_if b left r ≡ r
+not_refused b left r h = ap (λ c. refused_if c left r) h
+
+clause_again : (done : List Clause) (c : Clause) (rest ts : Texts) → FitsClause done c ts → clause_at done (spell_clause c ++ rest) ≡ Ok (c, rest)
+unfolding clause_at entity_at inside_at word_at
+clause_again done Root rest ts h = not_refused (list_any is_root done) _ (Ok (Root, rest)) h
+clause_again done Scatter rest ts h = not_refused (list_any is_scatter done) _ (Ok (Scatter, rest)) h
+clause_again done (Inside n) rest ts h = not_refused (list_any is_inside done) _ (name_at (n ∷ rest) >>= inside_made) h.0 ∙ ap (λ (r : Read (List ℕ)). r >>= inside_made) (name_again n rest h.1)
+clause_again done (Group ns n) rest ts h = not_refused (list_any is_group done) _ (group_at ((spell_names ns ++ codes "REFERENCES" ∷ n ∷ []) ++ rest)) h.0 ∙ group_again ns n rest h.1 h.2
+
+clause_step_again : StepAgain clause_step FitsClause spell_clause_item
+unfolding clause_step word_at
+clause_step_again done c more h = ap (λ (r : Read Clause). r >>= some_made) (clause_again done c more (spell_clause_item done c ++ more) h)
+
+clause_some : (done : List Clause) (c : Clause) → 0 < length (spell_clause_item done c)
+clause_some done c = omega arith
+
+clauses_again : (cs : List Clause) (rest : Texts) → FitItems FitsClause spell_clause_item (codes ";" ∷ []) [] cs rest → all_items_at clause_step (spell_items spell_clause_item (codes ";" ∷ []) [] cs ++ rest) ≡ Ok (cs, rest)
+unfolding clause_step
+clauses_again cs rest h =
+    let spelled = spell_items spell_clause_item (codes ";" ∷ []) [] cs in
+    let enough : length cs < suc (length (spelled ++ rest)) = omega (arith, items_long spell_clause_item (codes ";" ∷ []) clause_some [] cs, length-append spelled rest) in
+    items_again clause_step FitsClause spell_clause_item (codes ";" ∷ []) rest clause_step_again (λ done. refl) (suc (length (spelled ++ rest))) [] cs enough h
+
+abbrev clauses_made : List ℕ → List PropertyWords → List (List ℕ) → List Clause × Texts → Read TableWords
+clauses_made n ps ns cs = Ok (record { name = n; properties = ps; primary = ns; clauses = cs.0 }, cs.1)
+
+abbrev primary_made : List ℕ → List PropertyWords → List (List ℕ) × Texts → Read TableWords
+primary_made n ps ns = all_items_at clause_step ns.1 >>= clauses_made n ps ns.0
+
+abbrev table_properties_made : List ℕ → List PropertyWords × Texts → Read TableWords
+table_properties_made n ps = word_at (codes "PRIMARY") ps.1 >>= λ primary. word_at (codes "KEY") primary.1 >>= λ key. names_at key.1 >>= primary_made n ps.0
+
+abbrev table_named_made : List ℕ × Texts → Read TableWords
+table_named_made n = properties_at n.1 >>= table_properties_made n.0
+
+table_again : (t : TableWords) (rest : Texts) → IsTable t → table_at (spell_table t ++ rest) ≡ Ok (t, rest)
+unfolding table_at word_at
+table_again t rest h =
+    let clauses = spell_items spell_clause_item (codes ";" ∷ []) [] t.clauses in
+    let keyed = spell_names t.primary ++ clauses in
+    let behind_names = clauses ++ rest in
+    let behind_properties = codes "PRIMARY" ∷ codes "KEY" ∷ (spell_names t.primary ++ behind_names) in
+    let split : spell_table t ++ rest ≡ t.name ∷ (spell_properties t.properties ++ behind_properties) =
+        ap (λ x. t.name ∷ x) (append_assoc (spell_properties t.properties) (codes "PRIMARY" ∷ codes "KEY" ∷ keyed) rest ∙ ap (λ x. spell_properties t.properties ++ codes "PRIMARY" ∷ codes "KEY" ∷ x) (append_assoc (spell_names t.primary) clauses rest)) in
+    ap table_at split
+    ∙ ap (λ (r : Read (List ℕ)). r >>= table_named_made) (name_again t.name (spell_properties t.properties ++ behind_properties) h.0)
+    ∙ ap (λ (r : Read (List PropertyWords)). r >>= table_properties_made t.name) (properties_again t.properties behind_properties h.1)
+    ∙ ap (λ (r : Read (List (List ℕ))). r >>= primary_made t.name t.properties) (names_again t.primary behind_names h.2)
+    ∙ ap (λ (r : Read (List Clause)). r >>= clauses_made t.name t.properties t.primary) (clauses_again t.clauses rest (clauses_fit [] t.clauses [] rest h.3))
