@@ -182,3 +182,118 @@ table_again t rest h =
     ∙ ap (λ (r : Read (List PropertyWords)). r >>= table_properties_made t.name) (properties_again t.properties behind_properties h.1)
     ∙ ap (λ (r : Read (List (List ℕ))). r >>= primary_made t.name t.properties) (names_again t.primary behind_names h.2)
     ∙ ap (λ (r : Read (List Clause)). r >>= clauses_made t.name t.properties t.primary) (clauses_again t.clauses rest (clauses_fit [] t.clauses [] rest h.3))
+
+-- what stands behind the stored names is the statement's end
+storing_again : (o : Option (List (List ℕ))) (rest : Texts) → IsStoring o → storing_at (spell_storing o ++ codes ";" ∷ rest) ≡ Ok (o, codes ";" ∷ rest)
+unfolding storing_at
+storing_again None rest h = refl
+storing_again (Some ns) rest h = ap (λ (r : Read (List (List ℕ))). r >>= some_made) (names_again ns (codes ";" ∷ rest) h)
+
+abbrev storing_made : Bool → List ℕ → List ℕ → List (List ℕ) → Option (List (List ℕ)) × Texts → Read IndexWords
+storing_made global n t ns o = word_at (codes ";") o.1 >>= λ end. Ok (record { name = n; global = global; table = t; indexed = ns; storing = o.0 }, end.1)
+
+abbrev indexed_made : Bool → List ℕ → List ℕ → List (List ℕ) × Texts → Read IndexWords
+indexed_made global n t ns = storing_at ns.1 >>= storing_made global n t ns.0
+
+abbrev on_made : Bool → List ℕ → List ℕ × Texts → Read IndexWords
+on_made global n t = names_at t.1 >>= indexed_made global n t.0
+
+abbrev index_named_made : Bool → List ℕ × Texts → Read IndexWords
+index_named_made global n = word_at (codes "ON") n.1 >>= λ on. name_at on.1 >>= on_made global n.0
+
+index_again : (x : IndexWords) (rest : Texts) → IsIndex x → index_at x.global (spell_index x ++ rest) ≡ Ok (x, rest)
+unfolding index_at word_at
+index_again x rest h =
+    let ends = codes ";" ∷ rest in
+    let behind_names = spell_storing x.storing ++ ends in
+    let behind_table = spell_names x.indexed ++ behind_names in
+    let split : spell_index x ++ rest ≡ codes "INDEX" ∷ x.name ∷ codes "ON" ∷ x.table ∷ behind_table =
+        ap (λ y. codes "INDEX" ∷ x.name ∷ codes "ON" ∷ x.table ∷ y) (append_assoc (spell_names x.indexed) (spell_storing x.storing ++ codes ";" ∷ []) rest ∙ ap (λ y. spell_names x.indexed ++ y) (append_assoc (spell_storing x.storing) (codes ";" ∷ []) rest)) in
+    ap (index_at x.global) split
+    ∙ ap (λ (r : Read (List ℕ)). r >>= index_named_made x.global) (name_again x.name (codes "ON" ∷ x.table ∷ behind_table) h.0)
+    ∙ ap (λ (r : Read (List ℕ)). r >>= on_made x.global x.name) (name_again x.table behind_table h.1)
+    ∙ ap (λ (r : Read (List (List ℕ))). r >>= indexed_made x.global x.name x.table) (names_again x.indexed behind_names h.2)
+    ∙ ap (λ (r : Read (Option (List (List ℕ)))). r >>= storing_made x.global x.name x.table x.indexed) (storing_again x.storing rest h.3)
+
+abbrev change_properties_made : List ℕ → List PropertyWords × Texts → Read ChangeWords
+change_properties_made n ps = word_at (codes ";") ps.1 >>= λ end. Ok (record { table = n; properties = ps.0 }, end.1)
+
+abbrev change_named_made : List ℕ × Texts → Read ChangeWords
+change_named_made n = word_at (codes "ADD") n.1 >>= λ add. properties_at add.1 >>= change_properties_made n.0
+
+change_again : (c : ChangeWords) (rest : Texts) → IsChange c → change_at (spell_change c ++ rest) ≡ Ok (c, rest)
+unfolding change_at word_at
+change_again c rest h =
+    let ends = codes ";" ∷ rest in
+    let split : spell_change c ++ rest ≡ codes "TABLE" ∷ c.table ∷ codes "ADD" ∷ (spell_properties c.properties ++ ends) =
+        ap (λ y. codes "TABLE" ∷ c.table ∷ codes "ADD" ∷ y) (append_assoc (spell_properties c.properties) (codes ";" ∷ []) rest) in
+    ap change_at split
+    ∙ ap (λ (r : Read (List ℕ)). r >>= change_named_made) (name_again c.table (codes "ADD" ∷ (spell_properties c.properties ++ ends)) h.0)
+    ∙ ap (λ (r : Read (List PropertyWords)). r >>= change_properties_made c.table) (properties_again c.properties ends h.1)
+
+abbrev made_by : {A B : Type 0} → (A → B) → A × Texts → Read B
+made_by make x = Ok (make x.0, x.1)
+
+index_created : (x : IndexWords) (rest : Texts) → IsIndex x → created_at (index_word x.global ∷ (spell_index x ++ rest)) ≡ Ok (Index x, rest)
+unfolding created_at
+index_created x rest h = by_global x.global (ap (λ (r : Read IndexWords). r >>= made_by Index) (index_again x rest h))
+  where
+    by_global : (g : Bool) → (index_at g (spell_index x ++ rest) >>= made_by Index) ≡ Ok (Index x, rest) → created_at (index_word g ∷ (spell_index x ++ rest)) ≡ Ok (Index x, rest)
+    by_global true e = e
+    by_global false e = e
+
+statement_again : (s : Statement) (rest : Texts) → IsStatement s → statement_at (spell_statement s ++ rest) ≡ Ok (s, rest)
+unfolding statement_at created_at
+statement_again (Table t) rest h = ap (λ (r : Read TableWords). r >>= made_by Table) (table_again t rest h)
+statement_again (Index x) rest h = index_created x rest h
+statement_again (Change c) rest h = ap (λ (r : Read ChangeWords). r >>= made_by Change) (change_again c rest h)
+
+abbrev placed_made : ℕ → Statement × Texts → Read (Option Placed)
+placed_made left x = Ok (Some (record { left = left; statement = x.0 }), x.1)
+
+placed_on : (done : List Placed) (ts : Texts) → 0 < length ts → placed_step done ts ≡ (statement_at ts >>= placed_made (length ts))
+unfolding placed_step
+placed_on done [] lt = absurd (omega (arith, lt))
+placed_on done (t ∷ ts) lt = refl
+
+some_tokens : (s : Statement) (more : Texts) → 0 < length (spell_statement s ++ more)
+some_tokens (Table t) more = omega arith
+some_tokens (Index x) more = omega arith
+some_tokens (Change c) more = omega arith
+
+placed_step_again : StepAgain placed_step FitsPlaced spell_placed
+placed_step_again done p more h =
+    let ts = spell_statement p.statement ++ more in
+    placed_on done ts (some_tokens p.statement more) ∙ ap (λ (r : Read Statement). r >>= placed_made (length ts)) (statement_again p.statement more h.0) ∙ ap (λ n. placed_made n (p.statement, more)) (sym h.1)
+
+placed_some : (done : List Placed) (p : Placed) → 0 < length (spell_placed done p)
+placed_some done p = some_of_statement p.statement
+  where
+    some_of_statement : (s : Statement) → 0 < length (spell_statement s)
+    some_of_statement (Table t) = omega arith
+    some_of_statement (Index x) = omega arith
+    some_of_statement (Change c) = omega arith
+
+placed_closes : (done : List Placed) → placed_step done [] ≡ Ok (None, [])
+unfolding placed_step
+placed_closes done = refl
+
+statements_again : (ps : List Placed) → FitItems FitsPlaced spell_placed [] [] ps [] → all_items_at placed_step (spell_items spell_placed [] [] ps) ≡ Ok (ps, [])
+statements_again ps h =
+    let spelled = spell_items spell_placed [] [] ps in
+    let enough : length ps < suc (length spelled) = omega (arith, items_long spell_placed [] placed_some [] ps) in
+    ap (items_at placed_step (suc (length spelled)) []) (sym (append-nil spelled)) ∙ items_again placed_step FitsPlaced spell_placed [] [] placed_step_again placed_closes (suc (length spelled)) [] ps enough h
+
+abbrev statements_made : List ℕ → List Placed × Texts → Read SchemaWords
+statements_made n ps = Ok (record { name = n; statements = ps.0 }, ps.1)
+
+abbrev schema_named_made : List ℕ × Texts → Read SchemaWords
+schema_named_made n = word_at (codes ";") n.1 >>= λ end. all_items_at placed_step end.1 >>= statements_made n.0
+
+pub schema_again : (ts : Texts) (w : SchemaWords) → Spells ts w → schema_at ts ≡ Ok (w, [])
+unfolding schema_at word_at
+schema_again ts w h =
+    let statements = spell_items spell_placed [] [] w.statements in
+    ap schema_at h.spelled
+    ∙ ap (λ (r : Read (List ℕ)). r >>= schema_named_made) (name_again w.name (codes ";" ∷ statements) h.name)
+    ∙ ap (λ (r : Read (List Placed)). r >>= statements_made w.name) (statements_again w.statements h.statements)
