@@ -4,3 +4,4 @@ pub mod Takes
 pub mod Loop
 pub mod NameText
 pub mod Again
+pub mod Told

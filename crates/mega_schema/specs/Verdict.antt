@@ -58,3 +58,12 @@ answer_of ts end (Ok x) = ruled ts end (judge_all x.0 (length ts))
 
 abbrev pub parse_of : List ℕ → Result Schema SchemaFault
 parse_of text = answer_of (tokens text) (length text) (schema_at (texts (tokens text)))
+
+-- What an answer says of the text: Ok, that its tokens spell a schema whose statements break no rule and declare just this; Rule,
+-- that they spell one, and which of its statements is the first to break a rule; Syntax, that they spell none.
+abbrev pub Tells : List Token → ℕ → Result Schema SchemaFault → Type 0
+Tells ts end (Ok s) = (w : SchemaWords) × Spells (texts ts) w × (judge_all w (length ts) ≡ Ok s)
+Tells ts end (Err (Rule at rule)) =
+    (w : SchemaWords) × (left : ℕ) × Spells (texts ts) w × (judge_all w (length ts) ≡ Err (left, rule)) × (at ≡ offset ts end left)
+Tells ts end (Err (Syntax at)) = (w : SchemaWords) → Spells (texts ts) w → ⊥
+Tells ts end (Err NoMemory) = Unit {0}

@@ -1,6 +1,8 @@
 ghost use Rattle.std.specs.Prelude.{◌≡◌, length, List};
-ghost use Rattle.mega_schema.specs.Tokens.{texts};
-ghost use Rattle.mega_schema.specs.Verdict.{Gives, offset, empty, judge, judge_all, ruled, parse_of};
+ghost use Rattle.mega_schema.specs.Tokens.{tokens, texts};
+ghost use Rattle.mega_schema.specs.Grammar.{Spells};
+ghost use Rattle.mega_schema.specs.declared.words.SchemaWords.{SchemaWords};
+ghost use Rattle.mega_schema.specs.Verdict.{Gives, offset, empty, judge, judge_all, ruled, parse_of, Tells};
 
 use crate::declare::declare;
 use crate::fault::SchemaFault;
@@ -69,8 +71,21 @@ fn judge_all(
     judge(alloc, tokens, end, start, words.statements.as_slice())
 }
 
-/// The schema that a text declares.
+/// The schema that a text declares. `Syntax` is told before any rule; of the statements the first that
+/// breaks a rule is told, by its smallest rule.
 pub fn parse(alloc: Global, text: &Text) -> Result<Schema, SchemaFault>
+    // What the answer says of the text, by the grammar.
+    ensures tells { Tells (tokens text.now) (length text.now) result }
+    // What the tokens spell decides the answer.
+    ensures only { (words : SchemaWords) → Spells (texts (tokens text.now)) words →
+        Gives result (ruled (tokens text.now) (length text.now) (judge_all words (length (tokens text.now)))) }
+    // Where a fault is.
+    ensures exact { Gives result (parse_of text.now) }
+{
+    parse_exact(alloc, text)
+}
+
+fn parse_exact(alloc: Global, text: &Text) -> Result<Schema, SchemaFault>
     ensures { Gives result (parse_of text.now) }
 {
     let bytes = text.as_bytes();
