@@ -1,0 +1,10 @@
+//! The header of a cluster: its nodes, cells, times and limits, and its schema.
+#![tactic(auto)]
+
+mod cluster;
+mod fault;
+mod members;
+mod nodes;
+
+pub use cluster::Cluster;
+pub use fault::HeaderFault;
