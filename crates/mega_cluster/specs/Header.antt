@@ -7,6 +7,7 @@ use Rattle.toml.specs.Parse.{parse_document}
 use Rattle.mega_base.specs.declared.values.NodeKind.{NodeKind}
 use Rattle.mega_base.specs.declared.values.NodeKind.TheVariants.{Full, Witness, Read}
 use Rattle.mega_schema.specs.declared.schema.Schema.{Schema}
+use Rattle.mega_schema.specs.declared.fault.SchemaFault.{SchemaFault}
 use Rattle.mega_schema.specs.Names.{same}
 use Rattle.mega_schema.specs.Verdict.{parse_of}
 use Rattle.mega_cluster.specs.declared.cluster.Cluster.{Cluster}
@@ -109,3 +110,65 @@ addresses_of (Some d) = or_none (addresses_of_data d)
     or_none : Option (List (List ℕ)) → List (List ℕ)
     or_none None = []
     or_none (Some texts) = texts
+
+-- the result is the answer, which is told by a rule's number where there is none, unless memory ran out
+abbrev pub Refuses : {A : Type 0} → HeaderFault → Result A ℕ → Type 0
+Refuses NoMemory answer = Unit {0}
+Refuses (Rule r) answer = answer ≡ Err r
+
+abbrev pub GivesBy : {X A : Type 0} → (X → A) → Result X HeaderFault → Result A ℕ → Type 0
+GivesBy view (Ok x) answer = answer ≡ Ok (view x)
+GivesBy view (Err fault) answer = Refuses fault answer
+
+infixl 10 ◌>>=◌
+abbrev pub ◌>>=◌ : {A B : Type 0} → Result A ℕ → (A → Result B ℕ) → Result B ℕ
+(Ok x) >>= f = f x
+(Err e) >>= f = Err e
+
+-- what has to be there, or the rule is broken
+abbrev pub needed : {A : Type 0} → ℕ → Option A → Result A ℕ
+needed rule None = Err rule
+needed rule (Some x) = Ok x
+
+abbrev pub ruled_out : Bool → ℕ → Result (Unit {0}) ℕ
+ruled_out b rule = if b then Err rule else Ok tt
+
+-- the schema of its text
+abbrev pub parsed : Result Schema SchemaFault → Result Schema ℕ
+parsed (Ok s) = Ok s
+parsed (Err fault) = Err 2
+
+abbrev pub schema_of_data : Data → Result Schema ℕ
+schema_of_data (string text) = parsed (parse_of text)
+schema_of_data _ = Err 2
+
+abbrev pub schema_of : Option Data → Result Schema ℕ
+schema_of None = Err 2
+schema_of (Some d) = schema_of_data d
+
+-- the rules in order: 7 an unknown key, 3 the nodes, 4 no full node, 5 the cells, 6 a number, 2 the schema
+unfoldable pub header_of : ℕ → Members → Result Cluster ℕ
+header_of least ms = do
+  known ← ruled_out (has_unknown_key ms) 7
+  nodes ← needed 3 (nodes_of least (get_member (codes "nodes") ms))
+  full ← ruled_out (not (list_any is_full nodes)) 4
+  cells ← needed 5 (cells_of (length nodes) (get_member (codes "cells") ms))
+  lease ← needed 6 (number_of 1 1000000000 100 (get_member (codes "lease") ms))
+  patience ← needed 6 (number_of 1 1000000000 1000 (get_member (codes "patience") ms))
+  retry ← needed 6 (number_of 1 1000000000 50 (get_member (codes "retry") ms))
+  margin ← needed 6 (number_of 0 1000000000 20 (get_member (codes "margin") ms))
+  apply ← needed 6 (number_of 1 1000 64 (get_member (codes "apply") ms))
+  limit ← needed 6 (number_of 1 1000000 1000000 (get_member (codes "limit") ms))
+  schema ← schema_of (get_member (codes "schema") ms)
+  Ok (record {
+    nodes = nodes; schema = schema; cells = cells; lease = lease; patience = patience; retry = retry; margin = margin; apply = apply;
+    limit = record { 0 = limit }; addresses = addresses_of (get_member (codes "addresses") ms)
+  })
+
+-- 1: the text is not UTF-8, or no TOML
+abbrev pub document_of : List ℕ → Result Members ℕ
+document_of text = if is_utf8 text then needed 1 (parse_document text) else Err 1
+
+-- 6: the text has more than 262,144 bytes
+abbrev pub read_of : ℕ → List ℕ → Result Cluster ℕ
+read_of least text = if nat_lt 262144 (length text) then Err 6 else (document_of text >>= λ ms. header_of least ms)

@@ -3,8 +3,11 @@
 
 mod cluster;
 mod fault;
+mod header;
 mod members;
 mod nodes;
 
+
 pub use cluster::Cluster;
 pub use fault::HeaderFault;
+pub use header::read;

@@ -1,4 +1,4 @@
-ghost use Rattle.std.specs.Prelude.{◌≡◌, option_map, IfOk, not, string_bytes, ◌^◌, ◌≤◌, ◌<◌};
+ghost use Rattle.std.specs.Prelude.{◌≡◌, option_map, IfSome, not, string_bytes, ◌≤◌};
 ghost use Rattle.std.specs.List.{list_any};
 ghost use Rattle.std.specs.BTreeMap.{keys};
 ghost use Rattle.toml.specs.View.{view, table_view, array_view};
@@ -70,7 +70,8 @@ pub fn kind_of_data(value: &Value) -> Option<NodeKind>
 
 /// A number of low to high.
 fn number_in(low: u64, high: u64, number: i64) -> Option<u64>
-    ensures { result ≡ number_in low high number }
+    ensures value { result ≡ number_in low high number }
+    ensures range { IfSome result (λ n. n ≤ high) }
 {
     if number < 0 {
         return None;
@@ -80,7 +81,8 @@ fn number_in(low: u64, high: u64, number: i64) -> Option<u64>
 }
 
 fn number_of_data(low: u64, high: u64, value: &Value) -> Option<u64>
-    ensures { result ≡ number_of_data low high (view value.now) }
+    ensures value { result ≡ number_of_data low high (view value.now) }
+    ensures range { IfSome result (λ n. n ≤ high) }
 {
     match value.as_integer() {
         Some(number) => number_in(low, high, number),
@@ -90,7 +92,9 @@ fn number_of_data(low: u64, high: u64, value: &Value) -> Option<u64>
 
 /// The number at a key, of low to high, or the default where the key is absent.
 pub fn number_of(table: &Table, key: &str, low: u64, high: u64, default: u64) -> Option<u64>
-    ensures { result ≡ number_of low high default (get_member key.now (table_view table.now)) }
+    requires { (low ≤ default) × (default ≤ high) }
+    ensures value { result ≡ number_of low high default (get_member key.now (table_view table.now)) }
+    ensures range { IfSome result (λ n. n ≤ high) }
 {
     match member(table, key) {
         Some(value) => number_of_data(low, high, value),

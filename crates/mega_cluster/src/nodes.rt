@@ -95,3 +95,40 @@ pub fn cells_of(table: &Table, nodes: usize) -> Option<u8>
 {
     odd_cells(nodes, number_of(table, "cells", 1, 5, default_cells(nodes)))
 }
+
+/// The texts that the values are, if each is one.
+fn texts_of(alloc: Global, values: &[Value]) -> Result<Option<Items<Text>>, NoMemory>
+    ensures { IfOk result (λ texts. texts ≡ texts_of (items_view values.now)) }
+{
+    let mut texts = Items::new(alloc);
+    for value in values {
+        match value.as_str() {
+            Some(text) => texts.push(Text::from_str(alloc, text)?)?,
+            None => return Ok(None),
+        }
+    }
+    Ok(Some(texts))
+}
+
+fn addresses_of_data(alloc: Global, value: &Value) -> Result<Option<Items<Text>>, NoMemory>
+    ensures { IfOk result (λ texts. texts ≡ addresses_of_data (view value.now)) }
+{
+    match value.as_array() {
+        Some(values) => texts_of(alloc, values.as_slice()),
+        None => Ok(None),
+    }
+}
+
+/// The nodes' addresses, none where there are none or they are no array of strings.
+pub fn addresses_of(alloc: Global, table: &Table) -> Result<Items<Text>, NoMemory>
+    ensures { IfOk result (λ texts. texts ≡ addresses_of (get_member (codes "addresses") (table_view table.now))) }
+{
+    let texts = match member(table, "addresses") {
+        Some(value) => addresses_of_data(alloc, value)?,
+        None => None,
+    };
+    match texts {
+        Some(texts) => Ok(texts),
+        None => Ok(Items::new(alloc)),
+    }
+}
