@@ -161,8 +161,16 @@ header_of least ms = do
   limit ← needed 6 (number_of 1 1000000 1000000 (get_member (codes "limit") ms))
   schema ← schema_of (get_member (codes "schema") ms)
   Ok (record {
-    nodes = nodes; schema = schema; cells = cells; lease = lease; patience = patience; retry = retry; margin = margin; apply = apply;
-    limit = record { 0 = limit }; addresses = addresses_of (get_member (codes "addresses") ms)
+    nodes = nodes;
+    schema = schema;
+    cells = cells;
+    lease = lease;
+    patience = patience;
+    retry = retry;
+    margin = margin;
+    apply = apply;
+    limit = record { 0 = limit };
+    addresses = addresses_of (get_member (codes "addresses") ms);
   })
 
 -- 1: the text is not UTF-8, or no TOML

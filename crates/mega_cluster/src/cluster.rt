@@ -1,5 +1,6 @@
-use mega_base::{Items, NodeKind, Position, Text};
+use mega_base::{Copied, Items, NoMemory, NodeKind, Position, Text};
 use mega_schema::Schema;
+use std::alloc::Global;
 
 /// A cluster: the kinds of its nodes, the schema, how many lock cells there are, the lease, patience,
 /// retry and margin in units of the clock, how many writes are applied at a time, the greatest
@@ -16,4 +17,24 @@ pub struct Cluster {
     pub apply: u32,
     pub limit: Position,
     pub addresses: Items<Text>,
+}
+
+impl Copied for Cluster {
+    fn copy(&self, alloc: Global) -> Result<Cluster, NoMemory> {
+        let nodes = self.nodes.copy(alloc)?;
+        let schema = self.schema.copy(alloc)?;
+        let addresses = self.addresses.copy(alloc)?;
+        Ok(Cluster {
+            nodes,
+            schema,
+            cells: self.cells,
+            lease: self.lease,
+            patience: self.patience,
+            retry: self.retry,
+            margin: self.margin,
+            apply: self.apply,
+            limit: self.limit,
+            addresses,
+        })
+    }
 }

@@ -4,16 +4,14 @@ ghost use Rattle.mega_schema.specs.Verdict.{parse_of};
 ghost use Rattle.toml.specs.Data.{get_member};
 ghost use Rattle.mega_cluster.specs.Header.{GivesBy, needed, ruled_out, parsed, schema_of_data, schema_of, header_of, document_of, read_of};
 
-use std::alloc::Global;
-
-use mega_base::{Position, Text};
-use mega_schema::{Schema, SchemaFault, parse};
-use toml::{Table, Value};
-
 use crate::cluster::Cluster;
 use crate::fault::HeaderFault;
 use crate::members::{has_unknown_key, member, number_of};
 use crate::nodes::{addresses_of, cells_of, has_full, nodes_of};
+use mega_base::{Position, Text};
+use mega_schema::{Schema, SchemaFault, parse};
+use std::alloc::Global;
+use toml::{Table, Value};
 
 /// The most bytes that a header may have.
 const LONGEST: usize = 262_144;

@@ -7,7 +7,9 @@ mod header;
 mod members;
 mod nodes;
 
-
 pub use cluster::Cluster;
 pub use fault::HeaderFault;
 pub use header::read;
+
+#[cfg(test)]
+mod tests;

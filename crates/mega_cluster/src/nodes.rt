@@ -4,12 +4,10 @@ ghost use Rattle.toml.specs.View.{view, table_view, items_view};
 ghost use Rattle.toml.specs.Data.{get_member};
 ghost use Rattle.mega_cluster.specs.Header.{kinds_of, counted, nodes_of_data, nodes_of, is_full, default_cells, odd_cells, cells_of, texts_of, addresses_of_data, addresses_of, text_of_data};
 
-use std::alloc::Global;
-
-use mega_base::{Items, NoMemory, NodeKind, Text};
-use toml::{Table, Value};
-
 use crate::members::{kind_of_data, member, number_of};
+use mega_base::{Items, NoMemory, NodeKind, Text};
+use std::alloc::Global;
+use toml::{Table, Value};
 
 /// The kinds that the values name, if each names one.
 fn kinds_of(alloc: Global, values: &[Value]) -> Result<Option<Items<NodeKind>>, NoMemory>

@@ -176,7 +176,7 @@ table_again t rest h =
     let behind_names = clauses ++ rest in
     let behind_properties = codes "PRIMARY" ∷ codes "KEY" ∷ (spell_names t.primary ++ behind_names) in
     let split : spell_table t ++ rest ≡ t.name ∷ (spell_properties t.properties ++ behind_properties) =
-        ap (λ x. t.name ∷ x) (append_assoc (spell_properties t.properties) (codes "PRIMARY" ∷ codes "KEY" ∷ keyed) rest ∙ ap (λ x. spell_properties t.properties ++ codes "PRIMARY" ∷ codes "KEY" ∷ x) (append_assoc (spell_names t.primary) clauses rest)) in
+    ap (λ x. t.name ∷ x) (append_assoc (spell_properties t.properties) (codes "PRIMARY" ∷ codes "KEY" ∷ keyed) rest ∙ ap (λ x. spell_properties t.properties ++ codes "PRIMARY" ∷ codes "KEY" ∷ x) (append_assoc (spell_names t.primary) clauses rest)) in
     ap table_at split
     ∙ ap (λ (r : Read (List ℕ)). r >>= table_named_made) (name_again t.name (spell_properties t.properties ++ behind_properties) h.0)
     ∙ ap (λ (r : Read (List PropertyWords)). r >>= table_properties_made t.name) (properties_again t.properties behind_properties h.1)
@@ -208,7 +208,7 @@ index_again x rest h =
     let behind_names = spell_storing x.storing ++ ends in
     let behind_table = spell_names x.indexed ++ behind_names in
     let split : spell_index x ++ rest ≡ codes "INDEX" ∷ x.name ∷ codes "ON" ∷ x.table ∷ behind_table =
-        ap (λ y. codes "INDEX" ∷ x.name ∷ codes "ON" ∷ x.table ∷ y) (append_assoc (spell_names x.indexed) (spell_storing x.storing ++ codes ";" ∷ []) rest ∙ ap (λ y. spell_names x.indexed ++ y) (append_assoc (spell_storing x.storing) (codes ";" ∷ []) rest)) in
+    ap (λ y. codes "INDEX" ∷ x.name ∷ codes "ON" ∷ x.table ∷ y) (append_assoc (spell_names x.indexed) (spell_storing x.storing ++ codes ";" ∷ []) rest ∙ ap (λ y. spell_names x.indexed ++ y) (append_assoc (spell_storing x.storing) (codes ";" ∷ []) rest)) in
     ap (index_at x.global) split
     ∙ ap (λ (r : Read (List ℕ)). r >>= index_named_made x.global) (name_again x.name (codes "ON" ∷ x.table ∷ behind_table) h.0)
     ∙ ap (λ (r : Read (List ℕ)). r >>= on_made x.global x.name) (name_again x.table behind_table h.1)
@@ -226,7 +226,7 @@ unfolding change_at word_at
 change_again c rest h =
     let ends = codes ";" ∷ rest in
     let split : spell_change c ++ rest ≡ codes "TABLE" ∷ c.table ∷ codes "ADD" ∷ (spell_properties c.properties ++ ends) =
-        ap (λ y. codes "TABLE" ∷ c.table ∷ codes "ADD" ∷ y) (append_assoc (spell_properties c.properties) (codes ";" ∷ []) rest) in
+    ap (λ y. codes "TABLE" ∷ c.table ∷ codes "ADD" ∷ y) (append_assoc (spell_properties c.properties) (codes ";" ∷ []) rest) in
     ap change_at split
     ∙ ap (λ (r : Read (List ℕ)). r >>= change_named_made) (name_again c.table (codes "ADD" ∷ (spell_properties c.properties ++ ends)) h.0)
     ∙ ap (λ (r : Read (List PropertyWords)). r >>= change_properties_made c.table) (properties_again c.properties ends h.1)

@@ -1,6 +1,7 @@
 //! The schema language: a text's tables and indexes, or the first fault in it.
 #![tactic(auto)]
 
+mod copies;
 mod declare;
 mod fault;
 mod lexer;
