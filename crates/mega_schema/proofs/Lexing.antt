@@ -4,7 +4,8 @@ use Rattle.std.specs.List.{prefix_len}
 use Rattle.std.proofs.lemmas.Bool.{false≢true, eq-eqb}
 use Rattle.std.proofs.lemmas.Bool.Decides.{nat_tests}
 use Rattle.mega_schema.specs.declared.token.Token.{Token}
-use Rattle.mega_schema.specs.Tokens.{is_blank, is_letter, is_name_byte, continues, join, tokens_from, tokens, Splits}
+use Rattle.mega_schema.specs.Names.{is_letter, is_name_byte}
+use Rattle.mega_schema.specs.Tokens.{is_blank, continues, join, tokens_from, tokens, Splits}
 
 abbrev token : ℕ → List ℕ → Token
 token at text = record { at = at; text = text }

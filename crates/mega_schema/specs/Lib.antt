@@ -1,1 +1,10 @@
+pub mod Names
 pub mod Tokens
+pub mod Reading
+pub mod Stops
+pub mod Grammar
+pub mod Lookup
+pub mod Rules
+pub mod Declare
+pub mod Verdict
+pub mod Shaping

@@ -3,26 +3,12 @@ use Rattle.std.specs.Prelude.{◌≡◌, ℕ, suc, ◌+◌, ◌-◌, Bool, true,
 use Rattle.std.specs.List.{list_all}
 use Rattle.std.specs.Cmp.Lexicographic.{pointwise}
 use Rattle.std.specs.Prelude.{nat_eq}
+use Rattle.mega_schema.specs.Names.{is_letter, is_name_byte}
 use Rattle.mega_schema.specs.declared.token.Token.{Token}
 
 -- space, tab, line feed, carriage return
 abbrev pub is_blank : ℕ → Bool
 is_blank b = (b == 32) || (b == 9) || (b == 10) || (b == 13)
-
--- a letter or '_'
-abbrev pub is_letter : ℕ → Bool
-is_letter b = (nat_le 65 b && nat_le b 90) || (nat_le 97 b && nat_le b 122) || (b == 95)
-
--- a letter, '_' or a digit
-abbrev pub is_name_byte : ℕ → Bool
-is_name_byte b = is_letter b || (nat_le 48 b && nat_le b 57)
-
-abbrev pub is_name : List ℕ → Bool
-is_name [] = false
-is_name (b ∷ bytes) = is_letter b && list_all is_name_byte bytes
-
-abbrev pub same : List ℕ → List ℕ → Bool
-same a b = pointwise nat_eq a b
 
 -- the first token begins here, with a byte of names
 abbrev pub continues : ℕ → List Token → Bool

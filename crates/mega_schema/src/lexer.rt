@@ -1,12 +1,11 @@
 ghost use Rattle.std.specs.Prelude.{◌≡◌, List, ℕ, ◌∷◌, ◌+◌, ◌<◌, ◌≤◌, ◌^◌, IfOk, length, take, drop};
 ghost use Rattle.std.specs.List.{list_all, prefix_len};
-ghost use Rattle.mega_schema.specs.Tokens.{is_blank, is_letter, is_name_byte, is_name, tokens_from, tokens, Splits};
-
-use std::alloc::Global;
-
-use mega_base::{Items, NoMemory};
+ghost use Rattle.mega_schema.specs.Tokens.{is_blank, tokens_from, tokens, Splits};
+ghost use Rattle.mega_schema.specs.Names.{is_letter, is_name_byte, is_name};
 
 use crate::token::{Token, Word};
+use mega_base::{Items, NoMemory};
+use std::alloc::Global;
 
 pub fn is_blank(byte: u8) -> bool
     ensures { result ≡ is_blank byte }
@@ -93,7 +92,11 @@ fn token_len(first: u8, text: &[u8]) -> usize
     ensures within { result ≤ length text.now }
     ensures some { 0 < result }
 {
-    if is_name_byte(first) { run_len(text) } else { 1 }
+    if is_name_byte(first) {
+        run_len(text)
+    } else {
+        1
+    }
 }
 
 /// The tokens of a text.

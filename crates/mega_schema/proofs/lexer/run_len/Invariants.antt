@@ -1,6 +1,6 @@
 use Rattle.std.proofs.Common.{◌≡◌, ◌+◌, drop}
 use Rattle.std.specs.List.{prefix_len}
-use Rattle.mega_schema.specs.Tokens.{is_name_byte}
+use Rattle.mega_schema.specs.Names.{is_name_byte}
 use Rattle.mega_schema.proofs.lexer.run_len.Given as goal
 
 abbrev pub invariant-loop-byte : goal.invariant-loop-byte

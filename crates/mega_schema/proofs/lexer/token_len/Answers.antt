@@ -1,6 +1,7 @@
 use Rattle.std.proofs.Common.{ℕ, List, sym, ◌∙◌, subst}
 use Rattle.std.specs.List.{prefix_len}
-use Rattle.mega_schema.specs.Tokens.{is_name_byte, Splits}
+use Rattle.mega_schema.specs.Names.{is_name_byte}
+use Rattle.mega_schema.specs.Tokens.{Splits}
 use Rattle.mega_schema.proofs.Lexing.{next_word}
 use Rattle.mega_schema.proofs.lexer.token_len.Goals as goal
 

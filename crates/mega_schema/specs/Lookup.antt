@@ -1,0 +1,82 @@
+-- Looking things up by name.
+use Rattle.std.specs.Prelude.{◌≡◌, ℕ, ◌+◌, min, Bool, true, false, not, ◌&&◌, ◌||◌, List, [], ◌∷◌, ◌++◌, length, map, codes, Option, Some, None, if◌then◌else◌, find, position, ◌==◌, ◌-◌, slice_get}
+use Rattle.std.specs.List.{list_any, list_all}
+use Rattle.mega_base.specs.declared.values.Kind.{Kind}
+use Rattle.mega_base.specs.declared.values.Kind.TheVariants.{Int32, Int64, Bool as Truth, Str, Raw}
+use Rattle.mega_schema.specs.declared.schema.Need.{Need}
+use Rattle.mega_schema.specs.declared.schema.Need.TheVariants.{Required, Optional, Repeated}
+use Rattle.mega_schema.specs.declared.schema.Property.{Property}
+use Rattle.mega_schema.specs.declared.schema.Table.{Table}
+use Rattle.mega_schema.specs.declared.schema.Index.{Index}
+use Rattle.mega_schema.specs.declared.words.PropertyWords.{PropertyWords}
+use Rattle.mega_schema.specs.declared.words.Clause.{Clause}
+use Rattle.mega_schema.specs.declared.words.Clause.TheVariants.{Root, Scatter, Inside, Group}
+use Rattle.mega_schema.specs.Names.{same}
+
+-- the kind that a type's word names
+abbrev pub kind_of : List ℕ → Option Kind
+kind_of word =
+    if same word (codes "int32") then Some Int32
+    else (if same word (codes "int64") then Some Int64
+    else (if same word (codes "bool") then Some Truth
+    else (if same word (codes "string") then Some Str
+    else (if same word (codes "bytes") then Some Raw else None))))
+
+abbrev pub is_required : Need → Bool
+is_required Required = true
+is_required _ = false
+
+abbrev pub is_repeated : Need → Bool
+is_repeated Repeated = true
+is_repeated _ = false
+
+-- one of the names is this one
+abbrev pub is_among : List (List ℕ) → List ℕ → Bool
+is_among names n = list_any (λ m. same m n) names
+
+-- some name stands twice
+abbrev pub stands_twice : List (List ℕ) → Bool
+stands_twice [] = false
+stands_twice (n ∷ ns) = is_among ns n || stands_twice ns
+
+-- a statement's property of this name
+abbrev pub words_named : List PropertyWords → List ℕ → Option PropertyWords
+words_named ps n = find (λ p. same p.name n) ps
+
+-- a table's property of this name, and its place
+abbrev pub property_named : List Property → List ℕ → Option Property
+property_named ps n = find (λ p. same p.name n) ps
+
+abbrev pub property_place : List Property → List ℕ → Option ℕ
+property_place ps n = position (λ p. same p.name n) ps
+
+-- the property with this number, from 1
+abbrev pub property_at : List Property → ℕ → Option Property
+property_at ps n = if n == 0 then None else slice_get ps (n - 1)
+
+-- the table of this name, and its place
+abbrev pub table_named : List Table → List ℕ → Option Table
+table_named ts n = find (λ t. same t.name n) ts
+
+abbrev pub table_place : List Table → List ℕ → Option ℕ
+table_place ts n = position (λ t. same t.name n) ts
+
+-- a table is a root where it has no group key
+abbrev pub is_root_table : Table → Bool
+is_root_table t = elim t.group [ [] ↦ true | ◌∷◌ n ns ↦ false ]
+
+-- the group key and the table referred to
+abbrev pub group_of : List Clause → Option (List (List ℕ) × List ℕ)
+group_of [] = None
+group_of (Group ns n ∷ cs) = Some (ns, n)
+group_of (Root ∷ cs) = group_of cs
+group_of (Scatter ∷ cs) = group_of cs
+group_of (Inside n ∷ cs) = group_of cs
+
+-- the table that the rows stand in
+abbrev pub inside_of : List Clause → Option (List ℕ)
+inside_of [] = None
+inside_of (Inside n ∷ cs) = Some n
+inside_of (Group ns n ∷ cs) = inside_of cs
+inside_of (Root ∷ cs) = inside_of cs
+inside_of (Scatter ∷ cs) = inside_of cs

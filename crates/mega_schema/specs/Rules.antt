@@ -1,0 +1,290 @@
+-- The rules that a statement may break, each by what was declared before it.
+use Rattle.std.specs.Prelude.{◌≡◌, ℕ, ◌+◌, Bool, true, false, not, ◌&&◌, ◌||◌, List, [], ◌∷◌, ◌++◌, length, take, map, Option, Some, None, is_none, is_some, if◌then◌else◌, nat_lt, nat_le, ◌==◌, count_by}
+use Rattle.std.specs.List.{list_any, list_all}
+use Rattle.std.specs.Cmp.Lexicographic.{pointwise}
+use Rattle.mega_base.specs.declared.values.Kind.{Kind}
+use Rattle.mega_base.specs.declared.values.Kind.TheVariants.{Int32, Int64, Bool as Truth, Str, Raw}
+use Rattle.mega_schema.specs.declared.schema.Property.{Property}
+use Rattle.mega_schema.specs.declared.schema.Table.{Table}
+use Rattle.mega_schema.specs.declared.schema.Index.{Index}
+use Rattle.mega_schema.specs.declared.schema.Schema.{Schema}
+use Rattle.mega_schema.specs.declared.words.PropertyWords.{PropertyWords}
+use Rattle.mega_schema.specs.declared.words.Clause.{Clause}
+use Rattle.mega_schema.specs.declared.words.TableWords.{TableWords}
+use Rattle.mega_schema.specs.declared.words.IndexWords.{IndexWords}
+use Rattle.mega_schema.specs.declared.words.ChangeWords.{ChangeWords}
+use Rattle.mega_schema.specs.declared.words.Statement.{Statement}
+use Rattle.mega_schema.specs.declared.words.Statement.TheVariants as statements
+use Rattle.mega_schema.specs.Names.{same}
+use Rattle.mega_schema.specs.Reading.{is_root, is_scatter, is_inside, is_group}
+use Rattle.mega_schema.specs.Lookup.{kind_of, is_required, is_repeated, is_among, stands_twice, words_named, property_named, property_at, table_named, is_root_table, group_of, inside_of}
+
+abbrev pub is_long : List ℕ → Bool
+is_long n = nat_lt 64 (length n)
+
+abbrev pub words_names : List PropertyWords → List (List ℕ)
+words_names ps = map (λ p. p.name) ps
+
+abbrev pub property_names : List Property → List (List ℕ)
+property_names ps = map (λ p. p.name) ps
+
+abbrev pub is_table : Schema → List ℕ → Bool
+is_table s n = list_any (λ t. same t.name n) s.tables
+
+abbrev pub is_some_and : {A : Type 0} → (A → Bool) → Option A → Bool
+is_some_and test None = false
+is_some_and test (Some x) = test x
+
+abbrev pub are_empty : {A : Type 0} → List A → Bool
+are_empty [] = true
+are_empty (x ∷ xs) = false
+
+-- the property of this name is there, and is optional or repeated
+abbrev pub is_loose : List PropertyWords → List ℕ → Bool
+is_loose ps n = loose (words_named ps n)
+  where
+    loose : Option PropertyWords → Bool
+    loose None = false
+    loose (Some p) = not (is_required p.need)
+
+-- the property of this name is there, and is repeated
+abbrev pub repeats : List Property → List ℕ → Bool
+repeats ps n = repeated (property_named ps n)
+  where
+    repeated : Option Property → Bool
+    repeated None = false
+    repeated (Some p) = is_repeated p.need
+
+-- some type is none of the five
+abbrev pub has_other_type : List PropertyWords → Bool
+has_other_type ps = list_any (λ p. is_none (kind_of p.kind)) ps
+
+abbrev pub has_long_name : List PropertyWords → Bool
+has_long_name ps = list_any (λ p. is_long p.name) ps
+
+-- the names of b begin with those of a
+abbrev pub begins_with : List (List ℕ) → List (List ℕ) → Bool
+begins_with [] b = true
+begins_with (n ∷ a) [] = false
+begins_with (n ∷ a) (m ∷ b) = same n m && begins_with a b
+
+abbrev pub same_kind : Kind → Kind → Bool
+same_kind Int32 Int32 = true
+same_kind Int64 Int64 = true
+same_kind Truth Truth = true
+same_kind Str Str = true
+same_kind Raw Raw = true
+same_kind _ _ = false
+
+-- the kind of a statement's property, where the property and its type are known
+abbrev pub named_kind : List PropertyWords → List ℕ → Option Kind
+named_kind ps n = kind (words_named ps n)
+  where
+    kind : Option PropertyWords → Option Kind
+    kind None = None
+    kind (Some p) = kind_of p.kind
+
+-- both kinds are known, and they are not the same
+abbrev pub differ : Option Kind → Option Kind → Bool
+differ None b = false
+differ (Some k) None = false
+differ (Some k) (Some l) = not (same_kind k l)
+
+-- the kind of the property with this number
+abbrev pub kind_at : List Property → ℕ → Option Kind
+kind_at rs m = kind (property_at rs m)
+  where
+    kind : Option Property → Option Kind
+    kind None = None
+    kind (Some p) = Some p.kind
+
+-- the group key has not as many properties as the root's primary key, of the same kinds
+abbrev pub kinds_differ : List PropertyWords → List (List ℕ) → List Property → List ℕ → Bool
+kinds_differ ps [] rs [] = false
+kinds_differ ps [] rs (m ∷ ms) = true
+kinds_differ ps (n ∷ ns) rs [] = true
+kinds_differ ps (n ∷ ns) rs (m ∷ ms) = differ (named_kind ps n) (kind_at rs m) || kinds_differ ps ns rs ms
+
+-- some name is that of no property
+abbrev pub has_unknown : List PropertyWords → List (List ℕ) → Bool
+has_unknown ps ns = list_any (λ n. is_none (words_named ps n)) ns
+
+abbrev pub lacks : List Property → List (List ℕ) → Bool
+lacks ps ns = list_any (λ n. is_none (property_named ps n)) ns
+
+-- how many of the names are those of repeated properties
+abbrev pub repeated_count : List Property → List (List ℕ) → ℕ
+repeated_count ps ns = count_by (λ n. repeats ps n) ns
+
+-- what a group key says, where there is one
+abbrev pub of_group : List Clause → (List (List ℕ) → List ℕ → Bool) → Bool
+of_group cs test = tested (group_of cs)
+  where
+    tested : Option (List (List ℕ) × List ℕ) → Bool
+    tested None = false
+    tested (Some g) = test g.0 g.1
+
+-- what the table of this name says, where there is one
+abbrev pub of_table : List Table → List ℕ → (Table → Bool) → Bool
+of_table ts n test = tested (table_named ts n)
+  where
+    tested : Option Table → Bool
+    tested None = false
+    tested (Some t) = test t
+
+-- 1: another table has its name, or two of its properties have one name
+abbrev pub table_rule_1 : Schema → TableWords → Bool
+table_rule_1 s t = is_table s t.name || stands_twice (words_names t.properties)
+
+-- 2: it has neither ROOT nor a group key
+abbrev pub table_rule_2 : TableWords → Bool
+table_rule_2 t = not (list_any is_root t.clauses) && not (list_any is_group t.clauses)
+
+-- 3: a property of its primary key is optional or repeated
+abbrev pub table_rule_3 : TableWords → Bool
+table_rule_3 t = list_any (λ n. is_loose t.properties n) t.primary
+
+-- the table referred to is a root whose primary key is of other kinds
+abbrev pub root_differs : Schema → List PropertyWords → List (List ℕ) → List ℕ → Bool
+root_differs s ps key root = of_table s.tables root (λ r. is_root_table r && kinds_differ ps key r.properties r.primary)
+
+-- 4: its primary key does not begin with its group key, or the kinds of the group key are not those of the root's primary key
+abbrev pub table_rule_4 : Schema → TableWords → Bool
+table_rule_4 s t = of_group t.clauses (λ key root. not (begins_with key t.primary) || root_differs s t.properties key root)
+
+-- a group key refers to an unknown table, or has an unknown property
+abbrev pub group_unknown : Schema → TableWords → Bool
+group_unknown s t = of_group t.clauses (λ key root. not (is_table s root) || has_unknown t.properties key)
+
+-- the table that the rows stand in is unknown
+abbrev pub inside_unknown : Schema → TableWords → Bool
+inside_unknown s t = is_some_and (λ n. not (is_table s n)) (inside_of t.clauses)
+
+-- 5: it names an unknown table, a type that is none, or an unknown property in a key
+abbrev pub table_rule_5 : Schema → TableWords → Bool
+table_rule_5 s t =
+    group_unknown s t || inside_unknown s t
+    || has_other_type t.properties || has_unknown t.properties t.primary
+
+-- the table of this name is there and no root
+abbrev pub is_no_root : Schema → List ℕ → Bool
+is_no_root s n = of_table s.tables n (λ r. not (is_root_table r))
+
+-- 7: it has both ROOT and a group key, or refers to a table that is no root
+abbrev pub table_rule_7 : Schema → TableWords → Bool
+table_rule_7 s t =
+    (list_any is_root t.clauses && list_any is_group t.clauses)
+    || of_group t.clauses (λ key root. is_no_root s root)
+
+-- the rows stand in another table than the one that the group key refers to
+abbrev pub inside_another : TableWords → Bool
+inside_another t = is_some_and (λ n. of_group t.clauses (λ key root. not (same n root))) (inside_of t.clauses)
+
+-- 8: IN TABLE stands on a root, or names another table than the one referred to
+abbrev pub table_rule_8 : TableWords → Bool
+table_rule_8 t =
+    (list_any is_root t.clauses && list_any is_inside t.clauses)
+    || inside_another t
+
+-- 9: its primary key or its group key is empty
+abbrev pub table_rule_9 : TableWords → Bool
+table_rule_9 t = are_empty t.primary || of_group t.clauses (λ key root. are_empty key)
+
+-- 11: 64 tables stand before it, or it has more than 64 properties
+abbrev pub table_rule_11 : Schema → TableWords → Bool
+table_rule_11 s t = nat_le 64 (length s.tables) || nat_lt 64 (length t.properties)
+
+-- 12: its name or a property's is longer than 64 bytes
+abbrev pub table_rule_12 : TableWords → Bool
+table_rule_12 t = is_long t.name || has_long_name t.properties
+
+-- 14: SCATTER stands on a table that is no root
+abbrev pub table_rule_14 : TableWords → Bool
+table_rule_14 t = list_any is_scatter t.clauses && not (list_any is_root t.clauses)
+
+-- 1: another index has its name
+abbrev pub index_rule_1 : Schema → IndexWords → Bool
+index_rule_1 s i = list_any (λ x. same x.name i.name) s.indexes
+
+-- 5: its table is unknown
+abbrev pub index_rule_5 : Schema → IndexWords → Bool
+index_rule_5 s i = not (is_table s i.table)
+
+-- 6: it is over an unknown property, the same one twice, or two repeated ones
+abbrev pub index_rule_6 : Schema → IndexWords → Bool
+index_rule_6 s i = of_table s.tables i.table (λ t. lacks t.properties i.indexed || stands_twice i.indexed || nat_lt 1 (repeated_count t.properties i.indexed))
+
+-- 9: it is over no property
+abbrev pub index_rule_9 : IndexWords → Bool
+index_rule_9 i = are_empty i.indexed
+
+-- 10: it stores an unknown or repeated property, or one twice
+abbrev pub index_rule_10 : Schema → IndexWords → Bool
+index_rule_10 s i = is_some_and (λ ns. of_table s.tables i.table (λ t. lacks t.properties ns || stands_twice ns || nat_lt 0 (repeated_count t.properties ns))) i.storing
+
+-- 11: 64 indexes stand before it
+abbrev pub index_rule_11 : Schema → Bool
+index_rule_11 s = nat_le 64 (length s.indexes)
+
+-- 12: its name is longer than 64 bytes
+abbrev pub index_rule_12 : IndexWords → Bool
+index_rule_12 i = is_long i.name
+
+-- the properties of the table of this name, none where it is unknown
+abbrev pub properties_of : Schema → List ℕ → List Property
+properties_of s n = properties (table_named s.tables n)
+  where
+    properties : Option Table → List Property
+    properties None = []
+    properties (Some t) = t.properties
+
+abbrev pub adds_known : List Property → List PropertyWords → Bool
+adds_known old added = list_any (λ p. is_some (property_named old p.name)) added
+
+abbrev pub adds_required : List PropertyWords → Bool
+adds_required added = list_any (λ p. is_required p.need) added
+
+-- 1: an added name is that of another property of the table
+abbrev pub change_rule_1 : Schema → ChangeWords → Bool
+change_rule_1 s c = adds_known (properties_of s c.table) c.properties || stands_twice (words_names c.properties)
+
+-- 5: its table is unknown, or an added type is none
+abbrev pub change_rule_5 : Schema → ChangeWords → Bool
+change_rule_5 s c = not (is_table s c.table) || has_other_type c.properties
+
+-- 11: the table would have more than 64 properties
+abbrev pub change_rule_11 : Schema → ChangeWords → Bool
+change_rule_11 s c = nat_lt 64 (length (properties_of s c.table) + length c.properties)
+
+-- 12: an added name is longer than 64 bytes
+abbrev pub change_rule_12 : ChangeWords → Bool
+change_rule_12 c = has_long_name c.properties
+
+-- 13: an added property is required
+abbrev pub change_rule_13 : ChangeWords → Bool
+change_rule_13 c = adds_required c.properties
+
+-- the first of these rules that is broken
+abbrev pub first_broken : List (ℕ × Bool) → Option ℕ
+first_broken [] = None
+first_broken (r ∷ rs) = if r.1 then Some r.0 else first_broken rs
+
+-- the smallest rule that the statement breaks
+abbrev pub table_broken : Schema → TableWords → Option ℕ
+table_broken s t = first_broken (
+    (1, table_rule_1 s t) ∷ (2, table_rule_2 t) ∷ (3, table_rule_3 t) ∷ (4, table_rule_4 s t) ∷ (5, table_rule_5 s t) ∷ (7, table_rule_7 s t) ∷
+    (8, table_rule_8 t) ∷ (9, table_rule_9 t) ∷ (11, table_rule_11 s t) ∷ (12, table_rule_12 t) ∷ (14, table_rule_14 t) ∷ [])
+
+abbrev pub index_broken : Schema → IndexWords → Option ℕ
+index_broken s i = first_broken (
+    (1, index_rule_1 s i) ∷ (5, index_rule_5 s i) ∷ (6, index_rule_6 s i) ∷ (9, index_rule_9 i) ∷ (10, index_rule_10 s i) ∷ (11, index_rule_11 s) ∷
+    (12, index_rule_12 i) ∷ [])
+
+abbrev pub change_broken : Schema → ChangeWords → Option ℕ
+change_broken s c = first_broken (
+    (1, change_rule_1 s c) ∷ (5, change_rule_5 s c) ∷ (11, change_rule_11 s c) ∷ (12, change_rule_12 c) ∷ (13, change_rule_13 c) ∷ [])
+
+abbrev pub broken : Schema → Statement → Option ℕ
+broken s (statements.Table t) = table_broken s t
+broken s (statements.Index i) = index_broken s i
+broken s (statements.Change c) = change_broken s c
