@@ -1,16 +1,15 @@
 -- What the lease of a coordinator keeps true over any list of calls.
-use Rattle.std.proofs.Common.{◌≡◌, ◌≢◌, ℕ, zero, suc, ◌+◌, ◌-◌, ◌/◌, ◌<◌, ◌≤◌, ◌==◌, ◌&&◌, ◌||◌, Bool, true, false, not, cond, List, [], ◌∷◌, map, set, get_or, refl, sym, ap, subst, ◌∙◌, arith, zero-add}
-use Rattle.std.specs.Prelude.{Option, Some, None, is_some, count_by, nat_lt, nat_le, max, unwrap_or, option_map}
+use Rattle.std.proofs.Common.{◌≡◌, ℕ, zero, suc, ◌+◌, ◌-◌, ◌/◌, ◌<◌, ◌≤◌, ◌==◌, ◌&&◌, ◌||◌, Bool, true, false, not, cond, List, [], ◌∷◌, map, set, get_or, refl, sym, ap, subst, ◌∙◌, arith, zero-add}
+use Rattle.std.specs.Prelude.{Option, Some, None, is_some, count_by, nat_lt, max, unwrap_or, option_map}
 use Rattle.std.specs.List.{list_any}
 use Rattle.std.specs.Option.{option_map_or}
 use Rattle.std.proofs.lemmas.Bool.Decides.{nat_tests}
 use Rattle.std.proofs.lemmas.List.Sums.{sum_by-cons}
 use Rattle.mega_base.specs.declared.names.Epoch.{Epoch}
-use Rattle.mega_base.specs.declared.names.GroupId.{GroupId}
 use Rattle.mega_coordinator.specs.declared.lease.Lease.{Lease}
-use Rattle.mega_coordinator.specs.Lease.{after_grant, after_tick, counted_by, counts, epoch_of, first_lease, granted_lease, is_due, is_majority, is_present, left, next_count, next_lease, none_counted, past_ends, past_lease, state_of, tick_ends, until_with}
+use Rattle.mega_coordinator.specs.Lease.{after_grant, after_tick, counted_by, counts, first_lease, granted_lease, is_due, is_majority, is_present, left, next_count, next_lease, none_counted, past_ends, past_lease, tick_ends}
 use Rattle.mega_coordinator.specs.History.{Call, Ticks, Grants, Passes, Invalidates, Validates, ends, epoch_after, lease_of, serving}
-use Rattle.mega_coordinator.specs.Laws.{ServesAlone, counted_number, endings, epoch_at, is_counted}
+use Rattle.mega_coordinator.specs.Laws.{ServesAlone, endings, epoch_at, is_counted}
 
 -- the count of the epoch after so many endings
 abbrev pub count_at : ℕ → Option ℕ

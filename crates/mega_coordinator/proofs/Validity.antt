@@ -1,5 +1,5 @@
 -- A group that is valid was validated in the present epoch, above each invalidate of it there.
-use Rattle.std.proofs.Common.{◌≡◌, ℕ, ◌≤◌, ◌⊎◌, inl, inr, max, Bool, true, false, ◌&&◌, ◌||◌, not, cond, List, [], ◌∷◌, map, refl, sym, ap, subst, ◌∙◌, arith}
+use Rattle.std.proofs.Common.{◌≡◌, ℕ, ◌≤◌, ◌⊎◌, inl, inr, max, Bool, true, false, ◌&&◌, ◌||◌, cond, List, [], ◌∷◌, map, refl, sym, ap, subst, ◌∙◌, arith}
 use Rattle.std.specs.Prelude.{Option, Some, None, is_none, nat_lt, option_map}
 use Rattle.std.specs.Ordering.{is_eq, ordering_reverse}
 use Rattle.std.specs.declared.cmp.Ordering.{Ordering}
@@ -9,12 +9,12 @@ use Rattle.std.proofs.lemmas.Bool.Decides.{nat_tests}
 use Rattle.mega_base.specs.declared.names.Epoch.{Epoch}
 use Rattle.mega_base.specs.declared.names.GroupId.{GroupId}
 use Rattle.mega_coordinator.specs.declared.answers.NotValid.{NotValid}
-use Rattle.mega_coordinator.specs.declared.answers.NotValid.TheVariants.{NotServing, OtherEpoch, Beaten}
+use Rattle.mega_coordinator.specs.declared.answers.NotValid.TheVariants.{OtherEpoch, Beaten}
 use Rattle.mega_coordinator.specs.declared.lease.Lease.{Lease}
 use Rattle.mega_coordinator.specs.Groups.{group_cmp, is_group, is_same, refusal}
-use Rattle.mega_coordinator.specs.Lease.{after_grant, after_tick, counts, epoch_of, granted_lease, left, next_lease, past_ends, past_lease, state_of, tick_ends}
+use Rattle.mega_coordinator.specs.Lease.{after_grant, after_tick, counts, left, next_lease, past_ends, tick_ends}
 use Rattle.mega_coordinator.specs.History.{Call, Ticks, Grants, Passes, Invalidates, Validates, beaten, beaten_by, ends, epoch_after, is_valid, lease_of, refused, serving}
-use Rattle.mega_coordinator.specs.Laws.{IsInvalidated, IsValidated, ValidatedAbove, endings}
+use Rattle.mega_coordinator.specs.Laws.{IsInvalidated, IsValidated, ValidatedAbove}
 use Rattle.mega_coordinator.proofs.Epochs.{sound_calls}
 use Rattle.mega_coordinator.proofs.Kept.{same_group}
 

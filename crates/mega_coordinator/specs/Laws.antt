@@ -1,9 +1,9 @@
 -- What follows from the rule of a coordinator, over any list of calls.
-use Rattle.std.specs.Prelude.{◌≡◌, ℕ, ◌+◌, ◌/◌, ◌≤◌, ◌⊎◌, Bool, true, false, cond, if◌then◌else◌, nat_lt, List, [], ◌∷◌, count_by, is_some, Option, Some, None}
+use Rattle.std.specs.Prelude.{◌≡◌, ℕ, ◌+◌, ◌/◌, ◌≤◌, ◌⊎◌, Bool, false, cond, if◌then◌else◌, nat_lt, List, [], ◌∷◌, count_by, is_some, Option, Some, None}
 use Rattle.mega_base.specs.declared.names.Epoch.{Epoch}
 use Rattle.mega_base.specs.declared.names.GroupId.{GroupId}
 use Rattle.mega_coordinator.specs.Lease.{counted_by}
-use Rattle.mega_coordinator.specs.History.{Call, Validates, Invalidates, ends, beaten, lease_of, refused, serving}
+use Rattle.mega_coordinator.specs.History.{Call, Validates, Invalidates, ends, lease_of, refused, serving}
 
 -- how many epochs ended in this start
 abbrev pub endings : ℕ → ℕ → List Call → ℕ

@@ -1,5 +1,5 @@
 -- The rule of a coordinator's lease: its epochs, which cells are counted and until when, and when it serves.
-use Rattle.std.specs.Prelude.{ℕ, ◌+◌, ◌-◌, ◌/◌, ◌==◌, ◌&&◌, ◌||◌, max, Bool, true, false, not, if◌then◌else◌, nat_lt, nat_le, List, [], ◌∷◌, map, count_by, slice_index_or, slice_set, Option, Some, None, is_some, unwrap_or, option_map}
+use Rattle.std.specs.Prelude.{ℕ, ◌+◌, ◌-◌, ◌/◌, ◌==◌, ◌&&◌, ◌||◌, max, Bool, false, not, if◌then◌else◌, nat_lt, nat_le, List, [], ◌∷◌, map, count_by, slice_index_or, slice_set, Option, Some, None, is_some, unwrap_or, option_map}
 use Rattle.std.specs.Option.{option_map_or}
 use Rattle.std.specs.List.{list_any}
 use Rattle.mega_base.specs.declared.names.Epoch.{Epoch}

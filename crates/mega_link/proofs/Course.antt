@@ -1,5 +1,5 @@
 -- A clock in memory never goes back.
-use Rattle.std.proofs.Common.{◌≡◌, ℕ, zero, suc, ◌+◌, ◌<◌, ◌≤◌, List, [], ◌∷◌, length, get_or, refl, sym, ap, subst, add-one, arith}
+use Rattle.std.proofs.Common.{◌≡◌, ℕ, zero, suc, ◌<◌, ◌≤◌, List, [], ◌∷◌, length, get_or, refl, sym, subst, add-one, arith}
 use Rattle.mega_link.specs.Readings.{IsCourse}
 
 -- within a list the default does not count

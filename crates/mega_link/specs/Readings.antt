@@ -1,6 +1,6 @@
 -- The readings of a clock in memory.
 use Rattle.mega_link.specs.declared.clock.TheConstants.{LATEST}
-use Rattle.std.specs.Prelude.{◌≡◌, ℕ, ◌+◌, ◌-◌, ◌^◌, ◌≤◌, ◌<◌, List, [], ◌∷◌, length, slice_index, All}
+use Rattle.std.specs.Prelude.{◌≡◌, ℕ, ◌+◌, ◌≤◌, ◌<◌, List, length, slice_index, All}
 
 -- no reading is below the one before it
 abbrev pub NeverFalls : List ℕ → Type 0

@@ -1,5 +1,5 @@
 -- What a form in memory tells of a list that it goes through, and of its last item, at which it stays.
-use Rattle.std.specs.Prelude.{ℕ, ◌-◌, ◌^◌, Bool, if◌then◌else◌, nat_lt, List, [], ◌∷◌, ◌++◌, take, drop, replicate, Option, Some, None}
+use Rattle.std.specs.Prelude.{ℕ, if◌then◌else◌, nat_lt, List, [], ◌∷◌, ◌++◌, take, replicate, Option, Some, None}
 
 -- the first so many items, and then so many times what it stays at; the count of these is told below its end
 abbrev pub told : {A : Type 0} → List A → ℕ → ℕ → A → Option (List A)

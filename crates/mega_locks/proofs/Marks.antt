@@ -1,16 +1,15 @@
 -- The grants and lapses of a node, against what the cell keeps for it.
-use Rattle.std.proofs.Common.{◌≡◌, ◌≢◌, ℕ, ◌+◌, ◌<◌, ◌≤◌, ◌==◌, ◌&&◌, ◌||◌, Bool, true, false, not, cond, List, [], ◌∷◌, ◌++◌, refl, sym, ap, subst, ◌∙◌, arith, append_assoc, zero-add}
-use Rattle.std.specs.Prelude.{Option, Some, None, unwrap_or, option_map, nat_lt}
+use Rattle.std.proofs.Common.{◌≡◌, ℕ, ◌+◌, ◌<◌, ◌≤◌, ◌==◌, ◌&&◌, Bool, true, false, not, cond, List, [], ◌∷◌, ◌++◌, refl, sym, ap, subst, ◌∙◌, arith, append_assoc, zero-add}
+use Rattle.std.specs.Prelude.{Option, Some, None, unwrap_or, option_map}
 use Rattle.std.proofs.lemmas.Bool.Decides.{nat_tests}
 use Rattle.mega_base.specs.declared.names.Epoch.{Epoch}
-use Rattle.mega_locks.specs.declared.asked.Asked.{Asked}
 use Rattle.mega_locks.specs.declared.asked.Asked.TheVariants.{Granted, Renewed, Taken, Over}
 use Rattle.mega_locks.specs.declared.lock.Lock.{Lock}
 use Rattle.mega_locks.specs.declared.lock.Lock.TheVariants.{Free, Held, Ended}
 use Rattle.mega_locks.specs.declared.lock.Term.{Term}
 use Rattle.mega_locks.specs.Rule.{after_answer, after_lapse, answer, asked, held_epoch, is_above, is_over, is_same, lapse, opened, reopened, ticked}
 use Rattle.mega_locks.specs.History.{Call, Reopens, Asks, Ticks, first_term, first_tick, held_for, lapse_for, lock_of, renewal, term}
-use Rattle.mega_locks.specs.Laws.{AllBelow, Grants, IsEnded, IsRising, Lapses, Mark, StaysEnded, closes, due_epoch, granted_marks, grants, is_kept, lapsed_marks, last_renewal, marks, opened_marks, opens, reopened_marks, standing}
+use Rattle.mega_locks.specs.Laws.{AllBelow, Grants, IsEnded, IsRising, Lapses, Mark, StaysEnded, due_epoch, granted_marks, grants, is_kept, lapsed_marks, last_renewal, marks, opened_marks, opens, reopened_marks, standing}
 
 -- ---- the order of epochs
 pub above_trans : (a b c : Epoch) → is_above a b ≡ true → is_above b c ≡ true → is_above a c ≡ true

@@ -6,7 +6,7 @@ use Rattle.mega_locks.specs.declared.asked.Asked.TheVariants.{Granted, Renewed}
 use Rattle.mega_locks.specs.declared.lock.Lock.{Lock}
 use Rattle.mega_locks.specs.declared.lock.Lock.TheVariants.{Free, Held, Ended}
 use Rattle.mega_locks.specs.declared.lock.Term.{Term}
-use Rattle.mega_locks.specs.Rule.{answer, is_above, is_over, is_same, lapse}
+use Rattle.mega_locks.specs.Rule.{answer, is_above, is_over, is_same}
 use Rattle.mega_locks.specs.History.{Call, Reopens, Asks, Ticks, first_term, held_for, lapse_for, lock_of, renewal}
 
 -- what a node was given and lost

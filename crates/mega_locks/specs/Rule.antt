@@ -1,5 +1,5 @@
 -- The rule of one lock: what a cell answers to a node, and what it keeps for it.
-use Rattle.std.specs.Prelude.{ℕ, ◌+◌, ◌==◌, ◌&&◌, ◌||◌, Bool, true, false, not, if◌then◌else◌, nat_lt, nat_le, Option, Some, None, unwrap_or, option_map}
+use Rattle.std.specs.Prelude.{ℕ, ◌+◌, ◌==◌, ◌&&◌, ◌||◌, Bool, true, false, not, if◌then◌else◌, nat_lt, nat_le, Option, Some, None, unwrap_or}
 use Rattle.mega_base.specs.declared.names.Epoch.{Epoch}
 use Rattle.mega_locks.specs.declared.lock.Term.{Term}
 use Rattle.mega_locks.specs.declared.lock.Lock.{Lock}

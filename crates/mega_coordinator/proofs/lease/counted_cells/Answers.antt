@@ -1,4 +1,4 @@
-use Rattle.std.proofs.Common.{arith, refl}
+use Rattle.std.proofs.Common.{arith}
 use Rattle.std.specs.Prelude.{is_some}
 use Rattle.mega_coordinator.proofs.Places.{so_far_more}
 use Rattle.mega_coordinator.proofs.lease.counted_cells.Goals as goal

@@ -1,4 +1,4 @@
-use Rattle.std.proofs.Common.{arith, refl}
+use Rattle.std.proofs.Common.{arith}
 use Rattle.mega_coordinator.specs.Lease.{is_due}
 use Rattle.mega_coordinator.proofs.Places.{so_far_more}
 use Rattle.mega_coordinator.proofs.lease.due_cells.Goals as goal

@@ -1,5 +1,4 @@
-use Rattle.std.proofs.Common.{◌≡◌, replicate}
-use Rattle.std.specs.Prelude.{None}
+use Rattle.std.proofs.Common.{◌≡◌}
 use Rattle.mega_locks.specs.Rule.{lapse}
 use Rattle.mega_locks.proofs.Places.{so_far}
 use Rattle.mega_locks.proofs.cell.lapses_of.Given as goal

@@ -1,5 +1,3 @@
-use Rattle.std.proofs.Common.{◌≡◌, ◌∙◌, ap, max}
-use Rattle.mega_coordinator.specs.declared.standing.Standing.{Standing}
 use Rattle.mega_coordinator.proofs.Kept.{invalidated}
 use Rattle.mega_coordinator.proofs.coordinator.Coordinator.invalidate.Goals as goal
 

@@ -1,4 +1,4 @@
-use Rattle.std.proofs.Common.{◌≡◌, ◌<◌, ◌≤◌, length, ap, subst, arith}
+use Rattle.std.proofs.Common.{◌<◌, ◌≤◌, length, subst, arith}
 use Rattle.mega_link.specs.Memory.{Course}
 use Rattle.mega_link.proofs.Course.{next_reading}
 use Rattle.mega_link.proofs.mem_clock.MemClockClock.now.Goals as goal

@@ -1,4 +1,4 @@
-use Rattle.std.proofs.Common.{◌≡◌, ◌∙◌, ap}
+use Rattle.std.proofs.Common.{◌∙◌, ap}
 use Rattle.mega_locks.specs.Rule.{held_epoch}
 use Rattle.mega_locks.specs.History.{lock_of}
 use Rattle.mega_locks.proofs.Places.{place_in}
