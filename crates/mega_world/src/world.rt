@@ -74,8 +74,8 @@ impl World {
     }
 
     /// Makes an event happen, and adds its items to the tape. It is refused exactly where a delivery's
-    /// message was not sent (3), or an operation's node is not of the cluster (6), and then changes
-    /// nothing. After `NoMemory` the world is not used again.
+    /// message was not sent (3), or an operation's node is not of the cluster (6), and then adds
+    /// nothing to the tape. After `NoMemory` the world is not used again.
     pub fn apply(
         &mut self,
         alloc: Global,
@@ -86,6 +86,7 @@ impl World {
         ensures items { OnOk result ((count : ℕ) → Represents count self.old (newest tape.old.items) → Extends event (newest tape.old.items) (newest tape.new.items)) }
         ensures unsent { (number count : ℕ) → Represents count self.old (newest tape.old.items) → event ≡ WorldEvent.Deliver number → is_sent (newest tape.old.items) number ≡ false → result ≡ Err (WorldFault.Refused 3) }
         ensures refused { (why count : ℕ) → Represents count self.old (newest tape.old.items) → result ≡ Err (WorldFault.Refused why) → IsRefused count (newest tape.old.items) event why }
+        ensures kept { (why : ℕ) → result ≡ Err (WorldFault.Refused why) → tape.new.items ≡ tape.old.items }
     {
         match event {
             WorldEvent::Deliver { message } => self.deliver(alloc, message, tape),
@@ -102,6 +103,7 @@ impl World {
         ensures items { OnOk result ((count : ℕ) → Represents count self.old (newest tape.old.items) → (is_sent (newest tape.old.items) number ≡ true) × Grows (Item.Taken number ∷ newest tape.old.items) (newest tape.new.items)) }
         ensures unsent { (count : ℕ) → Represents count self.old (newest tape.old.items) → is_sent (newest tape.old.items) number ≡ false → result ≡ Err (WorldFault.Refused 3) }
         ensures refused { (why count : ℕ) → Represents count self.old (newest tape.old.items) → result ≡ Err (WorldFault.Refused why) → (why ≡ 3) × (is_sent (newest tape.old.items) number ≡ false) }
+        ensures kept { (why : ℕ) → result ≡ Err (WorldFault.Refused why) → tape.new.items ≡ tape.old.items }
     {
         let Some(message) = message_of(self.messages.as_slice(), number) else {
             return Err(WorldFault::Refused { why: 3 });
@@ -136,6 +138,7 @@ impl World {
         ensures state { OnOk result ((count : ℕ) → Represents count self.old (newest tape.old.items) → Represents count self.new (newest tape.new.items)) }
         ensures items { OnOk result ((count : ℕ) → Represents count self.old (newest tape.old.items) → Grows (newest tape.old.items) (newest tape.new.items)) }
         ensures refused { (why count : ℕ) → Represents count self.old (newest tape.old.items) → result ≡ Err (WorldFault.Refused why) → (why ≡ 6) × IsNoNode count node.0 }
+        ensures kept { (why : ℕ) → result ≡ Err (WorldFault.Refused why) → tape.new.items ≡ tape.old.items }
     {
         let number = u64::from(node.0);
         let event = Event::Begin(request, text);
