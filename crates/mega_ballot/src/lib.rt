@@ -3,6 +3,8 @@
 
 mod ballot;
 mod order;
+mod quorum;
 
 pub use ballot::Ballot;
 pub use order::{next_above, order_is_total};
+pub use quorum::{Quorum, majorities_meet};
