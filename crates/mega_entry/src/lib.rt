@@ -7,6 +7,7 @@ mod cuts;
 mod entry;
 mod entry_field;
 mod parts;
+mod same;
 
 pub use coding::{decode, encode};
 pub use content::{Content, Cut, Enter, Name, Send, Write};
