@@ -13,14 +13,14 @@ test_is (suc x) = (λ h e. omega arith, λ h. let d : suc x ≢ 0 = omega arith 
 
 pub bit_test : (m k : ℕ) → k < 16 → (not (nat_eq (bit_and m (1 * 2 ^ k % 65536)) 0) ≡ true) ↔ IsBitSet m k
 bit_test m k h =
-  let small : 2 ^ k < 65536 = pow_below k 16 h in
-  let same : 1 * 2 ^ k % 65536 ≡ 2 ^ k = ap (λ n. n % 65536) (omega arith) ∙ mod-eq_of_lt small in
-  rw same (test_is (bit_and m (2 ^ k)))
+    let small : 2 ^ k < 65536 = pow_below k 16 h in
+    let same : 1 * 2 ^ k % 65536 ≡ 2 ^ k = ap (λ n. n % 65536) (omega arith) ∙ mod-eq_of_lt small in
+    rw same (test_is (bit_and m (2 ^ k)))
 
 -- one mark more
 pub marks_more : (m k : ℕ) (marks : List Bool) (mark : Bool) → k < length marks → ((j : ℕ) → j < k → (get_or marks j false ≡ true) ↔ IsBitSet m j) → (mark ≡ true) ↔ IsBitSet m k
     → (j : ℕ) → j < k + 1 → (get_or (set marks k mark) j false ≡ true) ↔ IsBitSet m j
 marks_more m k marks mark within before here j h = elim (cases_lt j k) [
-    inl l ↦ let apart : j ≢ k = omega arith in rw get_or-set_other (before j l)
+  | inl l ↦ let apart : j ≢ k = omega arith in rw get_or-set_other (before j l)
   | inr l ↦ let e : j ≡ k = omega arith in rw e (rw get_or-set_same here)
 ]

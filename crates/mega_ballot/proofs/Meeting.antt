@@ -32,21 +32,21 @@ meet (x ∷ members) [] b e f g h more = absurd (omega arith)
 meet (x ∷ members) (y ∷ a) [] e f g h more = absurd (omega arith)
 meet (x ∷ members) (true ∷ a) (true ∷ b) e f g h more = (0, refl, refl)
 meet (x ∷ members) (true ∷ a) (false ∷ b) e f g h more =
-  let rest = meet members a b (omega arith) (omega arith) (after true a x members g) (after false b x members h)
+    let rest = meet members a b (omega arith) (omega arith) (after true a x members g) (after false b x members h)
     (omega (arith, more, marked-cons x members, marked-cons true a, marked-cons false b, count_one x (g 0 refl))) in
-  (suc rest.0, rest.1, rest.2)
+    (suc rest.0, rest.1, rest.2)
 meet (x ∷ members) (false ∷ a) (true ∷ b) e f g h more =
-  let rest = meet members a b (omega arith) (omega arith) (after false a x members g) (after true b x members h)
+    let rest = meet members a b (omega arith) (omega arith) (after false a x members g) (after true b x members h)
     (omega (arith, more, marked-cons x members, marked-cons false a, marked-cons true b, count_one x (h 0 refl))) in
-  (suc rest.0, rest.1, rest.2)
+    (suc rest.0, rest.1, rest.2)
 meet (x ∷ members) (false ∷ a) (false ∷ b) e f g h more =
-  let rest = meet members a b (omega arith) (omega arith) (after false a x members g) (after false b x members h)
+    let rest = meet members a b (omega arith) (omega arith) (after false a x members g) (after false b x members h)
     (omega (arith, more, marked-cons x members, marked-cons false a, marked-cons false b)) in
-  (suc rest.0, rest.1, rest.2)
+    (suc rest.0, rest.1, rest.2)
 
 pub majorities_share : (a b : Votes) → IsSound a.members a.voted → IsSound b.members b.voted → a.members ≡ b.members → IsReached a → IsReached b → (node : ℕ) × IsMarked a.voted node × IsMarked b.voted node
 majorities_share a b s t e f g =
-  let among : AreAmong b.voted a.members = subst (λ (m : List Bool). AreAmong b.voted m) (sym e) t.among in
-  let shared = meet a.members a.voted b.voted (omega (arith, s.sixteen_members, s.sixteen_votes)) (omega (arith, s.sixteen_members, t.sixteen_votes)) s.among among (omega (arith, f, g, ap marked e)) in
-  let same : shared.0 + 1 - 1 ≡ shared.0 = omega arith in
-  (shared.0 + 1, (omega arith, rw same shared.1), (omega arith, rw same shared.2))
+    let among : AreAmong b.voted a.members = subst (λ (m : List Bool). AreAmong b.voted m) (sym e) t.among in
+    let shared = meet a.members a.voted b.voted (omega (arith, s.sixteen_members, s.sixteen_votes)) (omega (arith, s.sixteen_members, t.sixteen_votes)) s.among among (omega (arith, f, g, ap marked e)) in
+    let same : shared.0 + 1 - 1 ≡ shared.0 = omega arith in
+    (shared.0 + 1, (omega arith, rw same shared.1), (omega arith, rw same shared.2))

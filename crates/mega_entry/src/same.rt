@@ -10,13 +10,17 @@ impl Same for Write {
 
 impl Same for Name {
     fn same_as(&self, other: &Name) -> bool {
-        self.group.same_as(&other.group) && self.position.same_as(&other.position) && self.place == other.place
+        self.group.same_as(&other.group)
+            && self.position.same_as(&other.position)
+            && self.place == other.place
     }
 }
 
 impl Same for Send {
     fn same_as(&self, other: &Send) -> bool {
-        self.to.same_as(&other.to) && self.queue.same_as(&other.queue) && self.payload.same_as(&other.payload)
+        self.to.same_as(&other.to)
+            && self.queue.same_as(&other.queue)
+            && self.payload.same_as(&other.payload)
     }
 }
 
