@@ -1,3 +1,4 @@
 pub mod BallotLaws
 pub mod Ballots
 pub mod Order
+pub mod Quorums

@@ -6,7 +6,7 @@ use Rattle.mega_ballot.specs.Ballots.{zero_op}
 
 abbrev pub IsOpBelow : OpId → OpId → Type 0
 IsOpBelow a b = (a.node.0 < b.node.0)
-  ⊎ ((a.node.0 ≡ b.node.0) × ((a.start < b.start) ⊎ ((a.start ≡ b.start) × (a.number < b.number))))
+    ⊎ ((a.node.0 ≡ b.node.0) × ((a.start < b.start) ⊎ ((a.start ≡ b.start) × (a.number < b.number))))
 
 abbrev pub IsBelow : Ballot → Ballot → Type 0
 IsBelow a b = (a.round < b.round) ⊎ ((a.round ≡ b.round) × IsOpBelow a.op b.op)

@@ -38,8 +38,11 @@ impl Field for Ballot {
     ghost use Rattle.mega_ballot.specs.BallotLaws.{ballot_codec};
 
     ghost reads = { ballot_at };
+
     ghost spells = { ballot_text };
+
     ghost opens = { IsText ballot_text IsBallot };
+
     ghost fits = { IsBallot };
 
     #[tactic(auto, using(std::proofs::lemmas::Grind::common_steps), unfolding(crate::specs::Ballots::ballot_at))]
@@ -60,6 +63,7 @@ impl Field for Ballot {
     }
 
     ghost codec = { ballot_codec };
+
     ghost opens_own = { own_text ballot_text IsBallot };
 }
 

@@ -38,5 +38,4 @@ pub fn order_is_total()
     ensures transitive { (a b c : BallotValue) → IsBelow a b → IsBelow b c → IsBelow a c }
     ensures total { (a b : BallotValue) → IsBelow a b ⊎ (a ≡ b) ⊎ IsBelow b a }
     ensures zero_least { (b : BallotValue) → (b ≡ zero_ballot) ⊎ IsBelow zero_ballot b }
-{
-}
+{}

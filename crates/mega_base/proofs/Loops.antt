@@ -42,7 +42,7 @@ begins {A} read n p = same (items_at read n p)
 pub step : {A : Type 0} (read : Place → Read A) (front : List A) (m n : ℕ) (p : Place) (x : A) (q : Place) (whole : Read (List A)) → m ≡ suc n → read p ≡ Ok (x, q)
     → with_front front (items_at read m p) ≡ whole → with_front (front ++ x ∷ []) (items_at read n q) ≡ whole
 step read front m n p x q whole e h k =
-  sym (goes_on read front n p x q h) ∙ (ap (λ i. with_front front (items_at read i p)) (sym e) ∙ k)
+    sym (goes_on read front n p x q h) ∙ (ap (λ i. with_front front (items_at read i p)) (sym e) ∙ k)
 
 pub fails : {A : Type 0} (read : Place → Read A) (front : List A) (m n : ℕ) (p q r : Place) (fault : FieldFault) (whole : Read (List A)) → m ≡ suc n
     → (let refusal : Result A FieldFault = Err fault in Reads refusal q (read p))

@@ -41,7 +41,7 @@ pub cells_step : (m k low : ℕ) (front : List Cell) (p : Place) (x : Cell) (q :
     → Coming m low front p whole → Coming k (x.property + 1) (front ++ x ∷ []) q whole
 cells_step m k low front p x q whole e h c = record {
   read = sym (goes_on k low front p x q h) ∙ (ap (λ i. with_front front (cells_at i low p)) (sym e) ∙ c.read);
-  room = cell_most k low p x q (omega (arith, c.room, e)) h
+  room = cell_most k low p x q (omega (arith, c.room, e)) h;
 }
 
 pub cells_fail : (m k low : ℕ) (front : List Cell) (p q r : Place) (fault : FieldFault) (whole : Read (List Cell)) → m ≡ suc k

@@ -14,11 +14,11 @@ use Rattle.mega_base.specs.Chars.{IsCharIn, char_codec, IsTextOfLen, text_of_len
 -- a text that is there is read
 pub good_text : (n : ℕ) (p : Place) → n ≤ length p.left → IsUtf8 (take n p.left) → text_of_len n p ≡ Ok (take n p.left, place (p.at + n) (drop n p.left))
 good_text n p enough utf8 =
-  let len : length (take n p.left) ≡ n = length-take-le n p.left enough in
-  let P : List ℕ → Type 0 = λ l. text_of_len n (place p.at l) ≡ Ok (take n p.left, place (p.at + n) (drop n p.left)) in
-  subst P (take-append-drop n p.left)
+    let len : length (take n p.left) ≡ n = length-take-le n p.left enough in
+    let P : List ℕ → Type 0 = λ l. text_of_len n (place p.at l) ≡ Ok (take n p.left, place (p.at + n) (drop n p.left)) in
+    subst P (take-append-drop n p.left)
     (subst (λ (m : ℕ). text_of_len n (place p.at (take n p.left ++ drop n p.left)) ≡ Ok (take n p.left, place (p.at + m) (drop n p.left))) len
-      ((text_of_len_codec n).again p.at (take n p.left) (drop n p.left) (utf8, len)))
+    ((text_of_len_codec n).again p.at (take n p.left) (drop n p.left) (utf8, len)))
 
 refused : (n : ℕ) (p : Place) (read : Read (List ℕ)) → text_of_len n p ≡ read → ((t : List ℕ) (q : Place) → p.left ≡ t ++ q.left → IsUtf8 t → length t ≡ n → ⊥) → IsErr (text_of_len n p)
 refused n p (Err at) e none = rw e refl
@@ -31,8 +31,8 @@ short_text n p few = refused n p (text_of_len n p) refl (λ t q e u len. omega (
 -- the bytes are no text
 pub no_text : (n : ℕ) (p : Place) → (IsUtf8 (take n p.left) → ⊥) → IsErr (text_of_len n p)
 no_text n p none = refused n p (text_of_len n p) refl (λ t q e u len.
-  let same : take n p.left ≡ t = subst (λ (m : ℕ). take m p.left ≡ t) len (ap (λ l. take (length t) l) e ∙ take-append_seam t q.left) in
-  none (subst (λ (l : List ℕ). IsUtf8 l) (sym same) u))
+    let same : take n p.left ≡ t = subst (λ (m : ℕ). take m p.left ≡ t) len (ap (λ l. take (length t) l) e ∙ take-append_seam t q.left) in
+    none (subst (λ (l : List ℕ). IsUtf8 l) (sym same) u))
 
 -- where a text is refused, its characters are
 pub chars_err : (n : ℕ) (p : Place) → IsErr (text_of_len n p) → IsErr (chars_of n n p)
@@ -89,9 +89,9 @@ ahead_begins count whole h = record { refused = chars_err count whole h; same = 
 pub ahead_step : (fuel m n : ℕ) (p : Place) (c : ℕ) (q : Place) (count : ℕ) (whole : Place) → m ≡ suc fuel → 0 < n → char_at (n - 1) p ≡ Ok (c, q)
     → StopsAhead m n p count whole → StopsAhead fuel (n - len_utf8 c) q count whole
 ahead_step fuel m n p c q count whole e some h k =
-  let s : StopsAhead (suc fuel) n p count whole = subst (λ (f : ℕ). StopsAhead f n p count whole) e k in
-  let step = chars_step fuel n p c q some h in
-  record { refused = step.0 s.refused; same = λ at f. s.same at (step.1 at f) }
+    let s : StopsAhead (suc fuel) n p count whole = subst (λ (f : ℕ). StopsAhead f n p count whole) e k in
+    let step = chars_step fuel n p c q some h in
+    record { refused = step.0 s.refused; same = λ at f. s.same at (step.1 at f) }
 
 pub ahead_stop : (fuel m n : ℕ) (p : Place) (at : ℕ) (count : ℕ) (whole : Place) → m ≡ suc fuel → 0 < n → char_at (n - 1) p ≡ Err at
     → StopsAhead m n p count whole → text_of_len count whole ≡ Err at

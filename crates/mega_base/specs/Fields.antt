@@ -22,4 +22,4 @@ ReadsOn (Err fault) new read = read ≡ Err fault.at
 abbrev pub IsBytesFault : Place → CursorFault → Type 0
 IsBytesFault p (Long at number) = (65536 < number) × (take 4 p.left ≡ u32_text number) × (number_in 4 0 65536 p ≡ Err at)
 IsBytesFault p (Short at) = (at ≡ end_of p)
-  × ((length p.left < 4) ⊎ ((number : ℕ) × (take 4 p.left ≡ u32_text number) × (number ≤ 65536) × (length p.left < 4 + number)))
+    × ((length p.left < 4) ⊎ ((number : ℕ) × (take 4 p.left ≡ u32_text number) × (number ≤ 65536) × (length p.left < 4 + number)))

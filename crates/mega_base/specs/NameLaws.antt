@@ -30,38 +30,38 @@ u64_codec = number_codec 8 0 18446744073709551615 (omega arith) (omega arith)
 pub node_codec : Codec node_at node_text (IsText node_text IsNode) IsNode
 unfolding node_at
 node_codec =
-  fits_codec node_at node_text (λ node. IsBetween 1 9 node.0 × (record { 0 = node.0 } ≡ node)) IsNode
+    fits_codec node_at node_text (λ node. IsBetween 1 9 node.0 × (record { 0 = node.0 } ≡ node)) IsNode
     (map_codec (byte_in 1 9) one_byte (IsBetween 1 9) (λ n. record { 0 = n }) (λ (node : NodeId). node.0) (byte_codec 1 9 (omega arith)) (λ n. refl))
     (λ node f. f.0) (λ node f. (f, refl))
 
 pub position_codec : (low high : ℕ) → low ≤ high → high < 256 ^ 8 → Codec (position_in low high) position_text (IsText position_text (IsPositionIn low high)) (IsPositionIn low high)
 unfolding position_in
 position_codec low high order small =
-  fits_codec (position_in low high) position_text (λ position. IsBetween low high position.0 × (record { 0 = position.0 } ≡ position)) (IsPositionIn low high)
+    fits_codec (position_in low high) position_text (λ position. IsBetween low high position.0 × (record { 0 = position.0 } ≡ position)) (IsPositionIn low high)
     (map_codec (number_in 8 low high) u64_text (IsBetween low high) (λ n. record { 0 = n }) (λ (position : Position). position.0) (number_codec 8 low high order small) (λ n. refl))
     (λ position f. f.0) (λ position f. (f, refl))
 
 pub epoch_codec : Codec epoch_at epoch_text (IsText epoch_text IsEpoch) IsEpoch
 unfolding epoch_at
 epoch_codec =
-  fits_codec epoch_at epoch_text _ IsEpoch
+    fits_codec epoch_at epoch_text _ IsEpoch
     (then_codec u32_at u32_text IsU32 _ _ _ (λ (epoch : Epoch). epoch.start) u32_codec
-      (λ start f. map_codec u32_at u32_text IsU32 (λ count. record { start = start; count = count }) (λ (epoch : Epoch). epoch.count) u32_codec (λ count. refl))
-      (λ start epoch f g. ap (λ (e : Epoch). e.start) (sym g.1))
-      (λ start f. (record { start = start; count = 0 }, ((omega arith, omega arith), refl))))
+    (λ start f. map_codec u32_at u32_text IsU32 (λ count. record { start = start; count = count }) (λ (epoch : Epoch). epoch.count) u32_codec (λ count. refl))
+    (λ start epoch f g. ap (λ (e : Epoch). e.start) (sym g.1))
+    (λ start f. (record { start = start; count = 0 }, ((omega arith, omega arith), refl))))
     (λ epoch f. (f.0, f.1.0)) (λ epoch f. (f.0, (f.1, refl)))
 
 pub op_codec : Codec op_at op_text (IsText op_text IsOp) IsOp
 unfolding op_at
 op_codec =
-  fits_codec op_at op_text _ IsOp
+    fits_codec op_at op_text _ IsOp
     (then_codec u8_at one_byte IsU8 _ _ _ (λ (op : OpId). op.node.0) u8_codec
-      (λ node f. then_codec u32_at u32_text IsU32 _ _ _ (λ (op : OpId). op.start) u32_codec
-        (λ start f. map_codec u32_at u32_text IsU32 (λ number. record { node = record { 0 = node }; start = start; number = number }) (λ (op : OpId). op.number) u32_codec (λ number. refl))
-        (λ start op f g. ap (λ (o : OpId). o.start) (sym g.1))
-        (λ start f. (record { node = record { 0 = node }; start = start; number = 0 }, ((omega arith, omega arith), refl))))
-      (λ node op f g. ap (λ (o : OpId). o.node.0) (sym g.1.1))
-      (λ node f. (record { node = record { 0 = node }; start = 0; number = 0 }, ((omega arith, omega arith), ((omega arith, omega arith), refl)))))
+    (λ node f. then_codec u32_at u32_text IsU32 _ _ _ (λ (op : OpId). op.start) u32_codec
+    (λ start f. map_codec u32_at u32_text IsU32 (λ number. record { node = record { 0 = node }; start = start; number = number }) (λ (op : OpId). op.number) u32_codec (λ number. refl))
+    (λ start op f g. ap (λ (o : OpId). o.start) (sym g.1))
+    (λ start f. (record { node = record { 0 = node }; start = start; number = 0 }, ((omega arith, omega arith), refl))))
+    (λ node op f g. ap (λ (o : OpId). o.node.0) (sym g.1.1))
+    (λ node f. (record { node = record { 0 = node }; start = 0; number = 0 }, ((omega arith, omega arith), ((omega arith, omega arith), refl)))))
     (λ op f. (f.0, f.1.0, f.1.1.0)) (λ op f. (f.0, (f.1, (f.2, refl))))
 
 pub string_codec : Codec string_at bytes_text (IsText bytes_text IsString) IsString
@@ -70,7 +70,7 @@ string_codec = bytes_codec 0 65536 (omega arith) (omega arith)
 pub group_codec : Codec group_at group_text (IsText group_text IsGroup) IsGroup
 unfolding group_at
 group_codec =
-  fits_codec group_at group_text _ IsGroup
+    fits_codec group_at group_text _ IsGroup
     (map_codec string_at bytes_text IsString (λ key. record { key = key }) (λ (group : GroupId). group.key) string_codec (λ key. refl))
     (λ group f. f.0) (λ group f. (f, refl))
 

@@ -36,8 +36,8 @@ IsU64 n = IsBetween 0 18446744073709551615 n
 -- a node: a byte from 1 to 9
 unfoldable pub node_at : Place → Read NodeId
 node_at p =
-  byte_in 1 9 p >>= λ n.
-  Ok (record { 0 = n.0 }, n.1)
+    byte_in 1 9 p >>= λ n.
+    Ok (record { 0 = n.0 }, n.1)
 
 abbrev pub node_text : NodeId → List ℕ
 node_text node = one_byte node.0
@@ -48,8 +48,8 @@ IsNode node = IsBetween 1 9 node.0
 -- a position from low to high, in eight bytes
 unfoldable pub position_in : ℕ → ℕ → Place → Read Position
 position_in low high p =
-  number_in 8 low high p >>= λ n.
-  Ok (record { 0 = n.0 }, n.1)
+    number_in 8 low high p >>= λ n.
+    Ok (record { 0 = n.0 }, n.1)
 
 abbrev pub position_at : Place → Read Position
 position_at p = position_in 0 18446744073709551615 p
@@ -66,9 +66,9 @@ IsPosition position = IsU64 position.0
 -- an epoch: start and count
 unfoldable pub epoch_at : Place → Read Epoch
 epoch_at p =
-  u32_at p >>= λ start.
-  u32_at start.1 >>= λ count.
-  Ok (record { start = start.0; count = count.0 }, count.1)
+    u32_at p >>= λ start.
+    u32_at start.1 >>= λ count.
+    Ok (record { start = start.0; count = count.0 }, count.1)
 
 abbrev pub epoch_text : Epoch → List ℕ
 epoch_text epoch = u32_text epoch.start ++ u32_text epoch.count
@@ -79,10 +79,10 @@ IsEpoch epoch = IsU32 epoch.start × IsU32 epoch.count
 -- an operation: its node, any byte, then start and number
 unfoldable pub op_at : Place → Read OpId
 op_at p =
-  u8_at p >>= λ node.
-  u32_at node.1 >>= λ start.
-  u32_at start.1 >>= λ number.
-  Ok (record { node = record { 0 = node.0 }; start = start.0; number = number.0 }, number.1)
+    u8_at p >>= λ node.
+    u32_at node.1 >>= λ start.
+    u32_at start.1 >>= λ number.
+    Ok (record { node = record { 0 = node.0 }; start = start.0; number = number.0 }, number.1)
 
 abbrev pub op_text : OpId → List ℕ
 op_text op = one_byte op.node.0 ++ (u32_text op.start ++ u32_text op.number)
@@ -100,8 +100,8 @@ IsString bytes = HasLen 0 65536 bytes
 -- a group: its key
 unfoldable pub group_at : Place → Read GroupId
 group_at p =
-  string_at p >>= λ key.
-  Ok (record { key = key.0 }, key.1)
+    string_at p >>= λ key.
+    Ok (record { key = key.0 }, key.1)
 
 abbrev pub group_text : GroupId → List ℕ
 group_text group = bytes_text group.key

@@ -6,9 +6,9 @@ use Rattle.mega_base.specs.Codecs.{bind_codec, embed_codec, refit_codec}
 
 unfoldable pub pair_at : {A B : Type 0} → (Place → Read A) → (Place → Read B) → Place → Read (A × B)
 pair_at ra rb p =
-  ra p >>= λ a.
-  rb a.1 >>= λ b.
-  Ok ((a.0, b.0), b.1)
+    ra p >>= λ a.
+    rb a.1 >>= λ b.
+    Ok ((a.0, b.0), b.1)
 
 abbrev pub pair_text : {A B : Type 0} → (A → List ℕ) → (B → List ℕ) → A × B → List ℕ
 pair_text sa sb x = sa x.0 ++ sb x.1
@@ -25,7 +25,7 @@ pub pair_codec : {A B : Type 0} (ra : Place → Read A) (sa : A → List ℕ) (F
     → Codec (pair_at ra rb) (pair_text sa sb) (OpensPair sa Fa Ob) (IsPair Fa Fb)
 unfolding pair_at
 pair_codec {A} {B} ra sa Fa rb sb Ob Fb ca cb u shown =
-  bind_codec ra sa Fa (λ x p. rb p >>= λ b. Ok (pair x b.0, b.1)) (λ x y. sb y.1) (λ _. Ob) Second
+    bind_codec ra sa Fa (λ x p. rb p >>= λ b. Ok (pair x b.0, b.1)) (λ x y. sb y.1) (λ _. Ob) Second
     (pair_text sa sb) (OpensPair sa Fa Ob) (IsPair Fa Fb) ca
     (λ x f. embed_codec rb sb Ob Fb (pair x) (λ y. sb y.1) Ob (Second x) cb (λ y g. (refl, (refl, g))) (λ l w. w) (λ y g. (y.1, g.1, ap (λ z. pair z y.1) (sym g.0))))
     (λ x y f g. (ap (λ z. sa z ++ sb y.1) g.0, (first x y f g, g.1)))
@@ -35,8 +35,10 @@ pair_codec {A} {B} ra sa Fa rb sb Ob Fb ca cb u shown =
   where
     pair : A → B → A × B
     pair x y = (x, y)
+
     Second : A → A × B → Type 0
     Second x y = (y.0 ≡ x) × Fb y.1
+
     first : (x : A) (y : A × B) → Fa x → Second x y → Fa y.0
     first x y f g = subst Fa (sym g.0) f
 
@@ -45,7 +47,7 @@ pub plain_pair_codec : {A B : Type 0} (ra : Place → Read A) (sa : A → List �
     → Codec ra sa (IsText sa Fa) Fa → Codec rb sb (IsText sb Fb) Fb → (y : B) → Fb y
     → Codec (pair_at ra rb) (pair_text sa sb) (IsText (pair_text sa sb) (IsPair Fa Fb)) (IsPair Fa Fb)
 plain_pair_codec ra sa Fa rb sb Fb ca cb y f =
-  refit_codec (pair_at ra rb) (pair_text sa sb) (pair_text sa sb) (OpensPair sa Fa (IsText sb Fb)) (IsText (pair_text sa sb) (IsPair Fa Fb)) (IsPair Fa Fb) (IsPair Fa Fb)
+    refit_codec (pair_at ra rb) (pair_text sa sb) (pair_text sa sb) (OpensPair sa Fa (IsText sb Fb)) (IsText (pair_text sa sb) (IsPair Fa Fb)) (IsPair Fa Fb) (IsPair Fa Fb)
     (pair_codec ra sa Fa rb sb (IsText sb Fb) Fb ca cb (sb y) (y, f, refl))
     (λ x g. (g, refl)) (λ x g. g)
     (λ l w. ((w.0, w.3.0), (w.2, w.3.1), ap (λ t. sa w.0 ++ t) w.3.2 ∙ w.4))

@@ -44,8 +44,8 @@ byte_in low high p = first_in low high p.at p.left
 unfoldable pub digits_in : ℕ → ℕ → ℕ → ℕ → Place → Read ℕ
 digits_in zero top low high p = Ok (top, p)
 digits_in (suc k) top low high p =
-  byte_in (min 255 (low / 256 ^ k - 256 * top)) (min 255 (high / 256 ^ k - 256 * top)) p >>= λ b.
-  digits_in k (256 * top + b.0) low high b.1
+    byte_in (min 255 (low / 256 ^ k - 256 * top)) (min 255 (high / 256 ^ k - 256 * top)) p >>= λ b.
+    digits_in k (256 * top + b.0) low high b.1
 
 -- a number of k bytes, the highest first, from low to high
 abbrev pub number_in : ℕ → ℕ → ℕ → Place → Read ℕ
@@ -58,43 +58,43 @@ bytes_of_len n p = if nat_le n (length p.left) then Ok (take n p.left, place (p.
 -- a length of four bytes, from low to high, and that many bytes
 unfoldable pub bytes_in : ℕ → ℕ → Place → Read (List ℕ)
 bytes_in low high p =
-  number_in 4 low high p >>= λ n.
-  bytes_of_len n.0 n.1
+    number_in 4 low high p >>= λ n.
+    bytes_of_len n.0 n.1
 
 -- n items, one after another
 unfoldable pub items_at : {A : Type 0} → (Place → Read A) → ℕ → Place → Read (List A)
 items_at read zero p = Ok ([], p)
 items_at read (suc n) p =
-  read p >>= λ x.
-  items_at read n x.1 >>= λ xs.
-  Ok (x.0 ∷ xs.0, xs.1)
+    read p >>= λ x.
+    items_at read n x.1 >>= λ xs.
+    Ok (x.0 ∷ xs.0, xs.1)
 
 -- a count of four bytes, from low to high, and that many items
 unfoldable pub list_in : {A : Type 0} → ℕ → ℕ → (Place → Read A) → Place → Read (List A)
 list_in low high read p =
-  number_in 4 low high p >>= λ n.
-  items_at read n.0 n.1
+    number_in 4 low high p >>= λ n.
+    items_at read n.0 n.1
 
 -- a byte 0, or a byte 1 and a value
 unfoldable pub option_at : {A : Type 0} → (Place → Read A) → Place → Read (Option A)
 option_at read p =
-  byte_in 0 1 p >>= λ b.
-  if b.0 == 0 then Ok (None, b.1) else read b.1 >>= λ x. Ok (Some x.0, x.1)
+    byte_in 0 1 p >>= λ b.
+    if b.0 == 0 then Ok (None, b.1) else read b.1 >>= λ x. Ok (Some x.0, x.1)
 
 -- a text of n bytes that read takes whole
 unfoldable pub within : {A : Type 0} → (Place → Read A) → ℕ → Place → Read A
 within read n p =
-  read (place p.at (take n p.left)) >>= λ x.
-  if x.1.at == p.at + n then Ok (x.0, place x.1.at (drop n p.left)) else Err x.1.at
+    read (place p.at (take n p.left)) >>= λ x.
+    if x.1.at == p.at + n then Ok (x.0, place x.1.at (drop n p.left)) else Err x.1.at
 
 -- a length of at most limit, in four bytes, and a text of that length that read takes whole
 unfoldable pub nested_at : {A : Type 0} → ℕ → (Place → Read A) → Place → Read A
 nested_at limit read p =
-  number_in 4 0 limit p >>= λ n.
-  within read n.0 n.1
+    number_in 4 0 limit p >>= λ n.
+    within read n.0 n.1
 
 -- a whole text, which has no bytes left over
 unfoldable pub whole_of : {A : Type 0} → (Place → Read A) → List ℕ → Result A ℕ
 whole_of read bytes =
-  read (place 0 bytes) >>= λ x.
-  if length x.1.left == 0 then Ok x.0 else Err x.1.at
+    read (place 0 bytes) >>= λ x.
+    if length x.1.left == 0 then Ok x.0 else Err x.1.at

@@ -23,34 +23,34 @@ is_lead room b = (nat_lt b 128 || (nat_le 194 b && nat_le b 244)) && nat_le (con
 unfoldable pub tail_in : ℕ → ℕ → ℕ → ℕ → Place → Read ℕ
 tail_in zero top low high p = Ok (top, p)
 tail_in (suc k) top low high p =
-  byte_in (128 + min 63 (low / 64 ^ k - 64 * top)) (128 + min 63 (high / 64 ^ k - 64 * top)) p >>= λ b.
-  tail_in k (64 * top + (b.0 - 128)) low high b.1
+    byte_in (128 + min 63 (low / 64 ^ k - 64 * top)) (128 + min 63 (high / 64 ^ k - 64 * top)) p >>= λ b.
+    tail_in k (64 * top + (b.0 - 128)) low high b.1
 
 -- a character of at most room + 1 bytes
 unfoldable pub char_at : ℕ → Place → Read ℕ
 char_at room p =
-  byte_where (is_lead room) p >>= λ b.
-  tail_in (continuation_len b.0) (lead_bits b.0) (least_char b.0) (greatest_char b.0) b.1
+    byte_where (is_lead room) p >>= λ b.
+    tail_in (continuation_len b.0) (lead_bits b.0) (least_char b.0) (greatest_char b.0) b.1
 
 -- the characters of n bytes, at most fuel of them
 unfoldable pub chars_of : ℕ → ℕ → Place → Read (List ℕ)
 chars_of zero n p = Ok ([], p)
 chars_of (suc fuel) n p = if n == 0 then Ok ([], p) else
-  char_at (n - 1) p >>= λ c.
-  chars_of fuel (n - len_utf8 c.0) c.1 >>= λ cs.
-  Ok (c.0 ∷ cs.0, cs.1)
+    char_at (n - 1) p >>= λ c.
+    chars_of fuel (n - len_utf8 c.0) c.1 >>= λ cs.
+    Ok (c.0 ∷ cs.0, cs.1)
 
 -- a text of n bytes
 unfoldable pub text_of_len : ℕ → Place → Read (List ℕ)
 text_of_len n p =
-  chars_of n n p >>= λ cs.
-  Ok (flat_map encode_utf8 cs.0, cs.1)
+    chars_of n n p >>= λ cs.
+    Ok (flat_map encode_utf8 cs.0, cs.1)
 
 -- a length of four bytes, from low to high, and a text of that length
 unfoldable pub text_in : ℕ → ℕ → Place → Read (List ℕ)
 text_in low high p =
-  number_in 4 low high p >>= λ n.
-  text_of_len n.0 n.1
+    number_in 4 low high p >>= λ n.
+    text_of_len n.0 n.1
 
 -- from low to high bytes of UTF-8
 abbrev pub IsTextIn : ℕ → ℕ → List ℕ → Type 0

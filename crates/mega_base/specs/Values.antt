@@ -19,16 +19,16 @@ bit_of true = 1
 -- the value of a kind, a byte from 1 to 5
 unfoldable pub value_of : ℕ → Place → Read Value
 value_of kind p =
-  if kind == 1 then (u32_at p >>= λ n. Ok (Int32 (cast_signed w32 n.0), n.1))
-  else if kind == 2 then (u64_at p >>= λ n. Ok (Int64 (cast_signed w64 n.0), n.1))
-  else if kind == 3 then (byte_in 0 1 p >>= λ b. Ok (Truth (b.0 == 1), b.1))
-  else if kind == 4 then (whole_text_at p >>= λ t. Ok (Str t.0, t.1))
-  else (string_at p >>= λ b. Ok (Raw b.0, b.1))
+    if kind == 1 then (u32_at p >>= λ n. Ok (Int32 (cast_signed w32 n.0), n.1))
+    else if kind == 2 then (u64_at p >>= λ n. Ok (Int64 (cast_signed w64 n.0), n.1))
+    else if kind == 3 then (byte_in 0 1 p >>= λ b. Ok (Truth (b.0 == 1), b.1))
+    else if kind == 4 then (whole_text_at p >>= λ t. Ok (Str t.0, t.1))
+    else (string_at p >>= λ b. Ok (Raw b.0, b.1))
 
 unfoldable pub value_at : Place → Read Value
 value_at p =
-  byte_in 1 5 p >>= λ kind.
-  value_of kind.0 kind.1
+    byte_in 1 5 p >>= λ kind.
+    value_of kind.0 kind.1
 
 abbrev pub kind_of : Value → ℕ
 kind_of (Int32 z) = 1
@@ -58,9 +58,9 @@ IsValue (Raw b) = IsString b
 -- a property's number from low to high, and its values, at least one
 unfoldable pub cell_in : ℕ → ℕ → Place → Read Cell
 cell_in low high p =
-  byte_in low high p >>= λ property.
-  list_in 1 4294967295 value_at property.1 >>= λ values.
-  Ok (record { property = property.0; values = values.0 }, values.1)
+    byte_in low high p >>= λ property.
+    list_in 1 4294967295 value_at property.1 >>= λ values.
+    Ok (record { property = property.0; values = values.0 }, values.1)
 
 abbrev pub cell_text : Cell → List ℕ
 cell_text cell = one_byte cell.property ++ list_text value_text cell.values
@@ -72,9 +72,9 @@ IsCellIn low high cell = IsBetween low high cell.property × IsList 1 4294967295
 unfoldable pub cells_at : ℕ → ℕ → Place → Read (List Cell)
 cells_at zero low p = Ok ([], p)
 cells_at (suc k) low p =
-  cell_in low (255 - k) p >>= λ cell.
-  cells_at k (cell.0.property + 1) cell.1 >>= λ cells.
-  Ok (cell.0 ∷ cells.0, cells.1)
+    cell_in low (255 - k) p >>= λ cell.
+    cells_at k (cell.0.property + 1) cell.1 >>= λ cells.
+    Ok (cell.0 ∷ cells.0, cells.1)
 
 abbrev pub Ascends : ℕ → List Cell → Type 0
 Ascends low [] = Unit {0}
@@ -83,9 +83,9 @@ Ascends low (cell ∷ cells) = IsCellIn low 255 cell × Ascends (cell.property +
 -- a count of one byte, and the cells
 unfoldable pub row_at : Place → Read Row
 row_at p =
-  u8_at p >>= λ count.
-  cells_at count.0 0 count.1 >>= λ cells.
-  Ok (record { cells = cells.0 }, cells.1)
+    u8_at p >>= λ count.
+    cells_at count.0 0 count.1 >>= λ cells.
+    Ok (record { cells = cells.0 }, cells.1)
 
 abbrev pub row_text : Row → List ℕ
 row_text row = one_byte (length row.cells) ++ flat_map cell_text row.cells

@@ -16,8 +16,11 @@ use std::alloc::Global;
 /// stated length is nested in it.
 pub trait Field: Sized + Drop {
     ghost reads: { Place → Read Self };
+
     ghost spells: { Self → List ℕ };
+
     ghost opens: { List ℕ → Type 0 };
+
     ghost fits: { Self → Type 0 };
 
     /// Reads a value. After a refusal the cursor may stand anywhere in the text.
@@ -31,5 +34,6 @@ pub trait Field: Sized + Drop {
         ensures err { OnErr result (take (length out.old) out.new ≡ out.old) };
 
     ghost codec: { Codec reads spells opens fits };
+
     ghost opens_own: { (x : Self) → fits x → opens (spells x) };
 }

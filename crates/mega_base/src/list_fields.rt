@@ -16,7 +16,12 @@ use std::alloc::Global;
 /// A count of four bytes, from `low` to `high`, and that many items. Memory grows with the items that
 /// are there, and not with the count.
 #[tactic(auto, unfolding(crate::specs::Reading::list_in))]
-pub fn take_list<T: Field>(alloc: Global, cursor: &mut Cursor<'_>, low: u32, high: u32) -> Result<Items<T>, FieldFault>
+pub fn take_list<T: Field>(
+    alloc: Global,
+    cursor: &mut Cursor<'_>,
+    low: u32,
+    high: u32,
+) -> Result<Items<T>, FieldFault>
     requires { low ≤ high }
     ensures { Reads result cursor.new (list_in low high T.reads cursor.old) }
 {
@@ -25,7 +30,11 @@ pub fn take_list<T: Field>(alloc: Global, cursor: &mut Cursor<'_>, low: u32, hig
 }
 
 /// `count` items, one after another.
-fn take_items<T: Field>(alloc: Global, cursor: &mut Cursor<'_>, count: u32) -> Result<Items<T>, FieldFault>
+fn take_items<T: Field>(
+    alloc: Global,
+    cursor: &mut Cursor<'_>,
+    count: u32,
+) -> Result<Items<T>, FieldFault>
     ensures { Reads result cursor.new (items_at T.reads count cursor.old) }
 {
     let mut items = Items::new(alloc);
@@ -40,7 +49,10 @@ fn take_items<T: Field>(alloc: Global, cursor: &mut Cursor<'_>, count: u32) -> R
 
 /// A byte 0, or a byte 1 and a value.
 #[tactic(auto, using(std::proofs::lemmas::Grind::common_steps), unfolding(crate::specs::Reading::option_at))]
-pub fn take_option<T: Field>(alloc: Global, cursor: &mut Cursor<'_>) -> Result<Option<T>, FieldFault>
+pub fn take_option<T: Field>(
+    alloc: Global,
+    cursor: &mut Cursor<'_>,
+) -> Result<Option<T>, FieldFault>
     ensures { Reads result cursor.new (option_at T.reads cursor.old) }
 {
     let kind = cursor.take_u8_between(0, 1)?;

@@ -13,8 +13,11 @@ use std::alloc::Global;
 
 impl Field for u8 {
     ghost reads = { u8_at };
+
     ghost spells = { one_byte };
+
     ghost opens = { IsText one_byte IsU8 };
+
     ghost fits = { IsU8 };
 
     fn take(_alloc: Global, cursor: &mut Cursor<'_>) -> Result<u8, FieldFault> {
@@ -27,13 +30,17 @@ impl Field for u8 {
     }
 
     ghost codec = { u8_codec };
+
     ghost opens_own = { own_text one_byte IsU8 };
 }
 
 impl Field for u32 {
     ghost reads = { u32_at };
+
     ghost spells = { u32_text };
+
     ghost opens = { IsText u32_text IsU32 };
+
     ghost fits = { IsU32 };
 
     fn take(_alloc: Global, cursor: &mut Cursor<'_>) -> Result<u32, FieldFault> {
@@ -46,13 +53,17 @@ impl Field for u32 {
     }
 
     ghost codec = { u32_codec };
+
     ghost opens_own = { own_text u32_text IsU32 };
 }
 
 impl Field for u64 {
     ghost reads = { u64_at };
+
     ghost spells = { u64_text };
+
     ghost opens = { IsText u64_text IsU64 };
+
     ghost fits = { IsU64 };
 
     fn take(_alloc: Global, cursor: &mut Cursor<'_>) -> Result<u64, FieldFault> {
@@ -65,14 +76,18 @@ impl Field for u64 {
     }
 
     ghost codec = { u64_codec };
+
     ghost opens_own = { own_text u64_text IsU64 };
 }
 
 /// At most 65,536 bytes.
 impl Field for Bytes {
     ghost reads = { string_at };
+
     ghost spells = { bytes_text };
+
     ghost opens = { IsText bytes_text IsString };
+
     ghost fits = { IsString };
 
     #[tactic(auto, unfolding(crate::specs::Reading::bytes_in))]
@@ -88,6 +103,7 @@ impl Field for Bytes {
     }
 
     ghost codec = { string_codec };
+
     ghost opens_own = { own_text bytes_text IsString };
 }
 
@@ -98,8 +114,11 @@ impl Field for NodeId {
     ghost use Rattle.mega_base.specs.NameLaws.{own_text, node_codec};
 
     ghost reads = { node_at };
+
     ghost spells = { node_text };
+
     ghost opens = { IsText node_text IsNode };
+
     ghost fits = { IsNode };
 
     #[tactic(auto, unfolding(crate::specs::Names::node_at))]
@@ -113,6 +132,7 @@ impl Field for NodeId {
     }
 
     ghost codec = { node_codec };
+
     ghost opens_own = { own_text node_text IsNode };
 }
 
@@ -123,8 +143,11 @@ impl Field for Position {
     ghost use Rattle.mega_base.specs.NameLaws.{own_text, any_position_codec};
 
     ghost reads = { position_at };
+
     ghost spells = { position_text };
+
     ghost opens = { IsText position_text IsPosition };
+
     ghost fits = { IsPosition };
 
     #[tactic(auto, unfolding(crate::specs::Names::position_in))]
@@ -138,6 +161,7 @@ impl Field for Position {
     }
 
     ghost codec = { any_position_codec };
+
     ghost opens_own = { own_text position_text IsPosition };
 }
 
@@ -147,8 +171,11 @@ impl Field for Epoch {
     ghost use Rattle.mega_base.specs.NameLaws.{own_text, epoch_codec};
 
     ghost reads = { epoch_at };
+
     ghost spells = { epoch_text };
+
     ghost opens = { IsText epoch_text IsEpoch };
+
     ghost fits = { IsEpoch };
 
     #[tactic(auto, unfolding(crate::specs::Names::epoch_at))]
@@ -164,6 +191,7 @@ impl Field for Epoch {
     }
 
     ghost codec = { epoch_codec };
+
     ghost opens_own = { own_text epoch_text IsEpoch };
 }
 
@@ -174,8 +202,11 @@ impl Field for OpId {
     ghost use Rattle.mega_base.specs.NameLaws.{own_text, op_codec};
 
     ghost reads = { op_at };
+
     ghost spells = { op_text };
+
     ghost opens = { IsText op_text IsOp };
+
     ghost fits = { IsOp };
 
     #[tactic(auto, unfolding(crate::specs::Names::op_at))]
@@ -197,6 +228,7 @@ impl Field for OpId {
     }
 
     ghost codec = { op_codec };
+
     ghost opens_own = { own_text op_text IsOp };
 }
 
@@ -207,8 +239,11 @@ impl Field for GroupId {
     ghost use Rattle.mega_base.specs.NameLaws.{own_text, group_codec};
 
     ghost reads = { group_at };
+
     ghost spells = { group_text };
+
     ghost opens = { IsText group_text IsGroup };
+
     ghost fits = { IsGroup };
 
     #[tactic(auto, unfolding(crate::specs::Names::group_at))]
@@ -222,5 +257,6 @@ impl Field for GroupId {
     }
 
     ghost codec = { group_codec };
+
     ghost opens_own = { own_text group_text IsGroup };
 }

@@ -14,7 +14,11 @@ use std::alloc::Global;
 /// A length of at most `limit`, in four bytes, and a text of that length which is the whole text of a
 /// value.
 #[tactic(auto, unfolding(crate::specs::Reading::nested_at))]
-pub fn take_nested<T: Field>(alloc: Global, cursor: &mut Cursor<'_>, limit: u32) -> Result<T, FieldFault>
+pub fn take_nested<T: Field>(
+    alloc: Global,
+    cursor: &mut Cursor<'_>,
+    limit: u32,
+) -> Result<T, FieldFault>
     ensures { Reads result cursor.new (nested_at limit T.reads cursor.old) }
 {
     let length = cursor.take_u32_between(0, limit)?;
@@ -23,7 +27,11 @@ pub fn take_nested<T: Field>(alloc: Global, cursor: &mut Cursor<'_>, limit: u32)
 
 /// The whole text of a value, in `count` bytes.
 #[tactic(auto, using(std::proofs::lemmas::Grind::common_steps), unfolding(crate::specs::Reading::within))]
-fn take_within<T: Field>(alloc: Global, cursor: &mut Cursor<'_>, count: u32) -> Result<T, FieldFault>
+fn take_within<T: Field>(
+    alloc: Global,
+    cursor: &mut Cursor<'_>,
+    count: u32,
+) -> Result<T, FieldFault>
     ensures { Reads result cursor.new (within T.reads count cursor.old) }
 {
     let (mut inner, after) = cursor.split(count);

@@ -21,8 +21,11 @@ impl Field for Cell {
     ghost use Rattle.mega_base.specs.ValueLaws.{any_cell_codec};
 
     ghost reads = { cell_in 0 255 };
+
     ghost spells = { cell_text };
+
     ghost opens = { IsText cell_text (IsCellIn 0 255) };
+
     ghost fits = { IsCellIn 0 255 };
 
     fn take(alloc: Global, cursor: &mut Cursor<'_>) -> Result<Cell, FieldFault> {
@@ -36,6 +39,7 @@ impl Field for Cell {
     }
 
     ghost codec = { any_cell_codec };
+
     ghost opens_own = { own_text cell_text (IsCellIn 0 255) };
 }
 
@@ -47,8 +51,11 @@ impl Field for Row {
     ghost use Rattle.mega_base.specs.ValueLaws.{row_codec};
 
     ghost reads = { row_at };
+
     ghost spells = { row_text };
+
     ghost opens = { IsText row_text IsRow };
+
     ghost fits = { IsRow };
 
     #[tactic(auto, unfolding(crate::specs::Values::row_at))]
@@ -65,6 +72,7 @@ impl Field for Row {
     }
 
     ghost codec = { row_codec };
+
     ghost opens_own = { own_text row_text IsRow };
 }
 

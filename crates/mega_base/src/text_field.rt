@@ -20,7 +20,12 @@ use std::alloc::Global;
 /// A length of four bytes, from `low` to `high`, and that many bytes of UTF-8 (RFC 3629). A byte cannot
 /// stand where no character that fits into the rest of the text begins so.
 #[tactic(auto, unfolding(crate::specs::Utf8::text_in))]
-pub fn take_text(alloc: Global, cursor: &mut Cursor<'_>, low: u32, high: u32) -> Result<Text, FieldFault>
+pub fn take_text(
+    alloc: Global,
+    cursor: &mut Cursor<'_>,
+    low: u32,
+    high: u32,
+) -> Result<Text, FieldFault>
     requires { low ≤ high }
     ensures { Reads result cursor.new (text_in low high cursor.old) }
 {
@@ -109,12 +114,7 @@ impl<'a> Cursor<'a> {
             at: self.at + 1,
             left: after,
         };
-        let character = rest.tail(
-            following(lead),
-            top_bits(lead),
-            least(lead),
-            greatest(lead),
-        )?;
+        let character = rest.tail(following(lead), top_bits(lead), least(lead), greatest(lead))?;
         *self = rest;
         Ok(character)
     }
@@ -133,7 +133,12 @@ impl<'a> Cursor<'a> {
         let from = (low / scale).saturating_sub(64 * top).min(63);
         let to = (high / scale).saturating_sub(64 * top).min(63);
         let byte = self.take_u8_between(128 + from as u8, 128 + to as u8)?;
-        self.tail(count - 1, 64 * top + u64::from(byte).saturating_sub(128), low, high)
+        self.tail(
+            count - 1,
+            64 * top + u64::from(byte).saturating_sub(128),
+            low,
+            high,
+        )
     }
 }
 
@@ -225,8 +230,11 @@ fn char_len(character: u64) -> u32
 /// At most 65,536 bytes of UTF-8.
 impl Field for Text {
     ghost reads = { whole_text_at };
+
     ghost spells = { bytes_text };
+
     ghost opens = { IsText bytes_text IsWholeText };
+
     ghost fits = { IsWholeText };
 
     fn take(alloc: Global, cursor: &mut Cursor<'_>) -> Result<Text, FieldFault> {
@@ -238,5 +246,6 @@ impl Field for Text {
     }
 
     ghost codec = { whole_text_codec };
+
     ghost opens_own = { own_text bytes_text IsWholeText };
 }

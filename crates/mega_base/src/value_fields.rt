@@ -15,8 +15,11 @@ impl Field for Value {
     ghost use Rattle.mega_base.specs.ValueLaws.{value_codec};
 
     ghost reads = { value_at };
+
     ghost spells = { value_text };
+
     ghost opens = { IsText value_text IsValue };
+
     ghost fits = { IsValue };
 
     #[tactic(auto, using(std::proofs::lemmas::Grind::common_steps), unfolding(crate::specs::Values::value_at, crate::specs::Values::value_of))]
@@ -69,5 +72,6 @@ impl Field for Value {
     }
 
     ghost codec = { value_codec };
+
     ghost opens_own = { own_text value_text IsValue };
 }

@@ -19,7 +19,8 @@ pub fn put_u32(out: &mut Bytes, number: u32) -> Result<(), NoMemory>
     ensures ok { OnOk result (out.new ≡ out.old ++ u32_text number) }
     ensures err { OnErr result (out.new ≡ out.old) }
 {
-    out.extend_from_slice(&number.to_be_bytes())
+    let bytes = number.to_be_bytes();
+    out.extend_from_slice(&bytes)
 }
 
 /// Appends a number of eight bytes, the highest first; a refusal leaves `out`.

@@ -39,17 +39,17 @@ is_done low writes sends front p = rw append-nil refl
 pub cut_ranges : (k low writes sends : ℕ) (p : Place) (x : Cut) (q : Place) → low + suc k ≤ 16 → writes < 2 ^ 32 → sends < 2 ^ 32 → cut_in low (15 - k) (least_part k writes) writes (least_part k sends) sends p ≡ Ok (x, q)
     → IsCutIn low (15 - k) (least_part k writes) writes (least_part k sends) sends x
 cut_ranges k low writes sends p x q room wsmall ssmall h =
-  ((cut_codec low (15 - k) (least_part k writes) writes (least_part k sends) sends (omega arith) (least_part-le k writes) wsmall (least_part-le k sends) ssmall).takes p x q h).1
+    ((cut_codec low (15 - k) (least_part k writes) writes (least_part k sends) sends (omega arith) (least_part-le k writes) wsmall (least_part-le k sends) ssmall).takes p x q h).1
 
 pub cuts_step : (m k low writes sends : ℕ) (front : List Cut) (p : Place) (x : Cut) (q : Place) (whole : Read (List Cut)) → m ≡ suc k → writes < 2 ^ 32 → sends < 2 ^ 32
     → cut_in low (15 - k) (least_part k writes) writes (least_part k sends) sends p ≡ Ok (x, q)
     → Coming m low writes sends front p whole → Coming k (x.index + 1) (writes - x.writes) (sends - x.sends) (front ++ x ∷ []) q whole
 cuts_step m k low writes sends front p x q whole e wsmall ssmall h c =
-  let ranges = cut_ranges k low writes sends p x q (omega (arith, c.room, e)) wsmall ssmall h in
-  record {
-    read = sym (goes_on k low writes sends front p x q h) ∙ (ap (λ i. with_front front (cuts_of i low writes sends p)) (sym e) ∙ c.read);
-    room = omega (arith, ranges.0.1, c.room, e)
-  }
+    let ranges = cut_ranges k low writes sends p x q (omega (arith, c.room, e)) wsmall ssmall h in
+    record {
+      read = sym (goes_on k low writes sends front p x q h) ∙ (ap (λ i. with_front front (cuts_of i low writes sends p)) (sym e) ∙ c.read);
+      room = omega (arith, ranges.0.1, c.room, e);
+    }
 
 pub cuts_fail : (m k low writes sends : ℕ) (front : List Cut) (p q r : Place) (fault : FieldFault) (whole : Read (List Cut)) → m ≡ suc k
     → (let refusal : Result Cut FieldFault = Err fault in Reads refusal q (cut_in low (15 - k) (least_part k writes) writes (least_part k sends) sends p))

@@ -21,9 +21,9 @@ most_items = 4294967295
 -- a key, and a row or none
 unfoldable pub write_at : Place → Read Write
 write_at p =
-  string_at p >>= λ key.
-  option_at row_at key.1 >>= λ row.
-  Ok (record { key = key.0; row = row.0 }, row.1)
+    string_at p >>= λ key.
+    option_at row_at key.1 >>= λ row.
+    Ok (record { key = key.0; row = row.0 }, row.1)
 
 abbrev pub write_text : Write → List ℕ
 write_text write = bytes_text write.key ++ option_text row_text write.row
@@ -34,10 +34,10 @@ IsWrite write = IsString write.key × IsOption IsRow write.row
 -- a group, a position and a place
 unfoldable pub name_at : Place → Read Name
 name_at p =
-  group_at p >>= λ group.
-  position_at group.1 >>= λ position.
-  u32_at position.1 >>= λ place.
-  Ok (record { group = group.0; position = position.0; place = place.0 }, place.1)
+    group_at p >>= λ group.
+    position_at group.1 >>= λ position.
+    u32_at position.1 >>= λ place.
+    Ok (record { group = group.0; position = position.0; place = place.0 }, place.1)
 
 abbrev pub name_text : Name → List ℕ
 name_text name = group_text name.group ++ (position_text name.position ++ u32_text name.place)
@@ -55,10 +55,10 @@ IsQueue queue = IsTextIn 1 64 queue
 -- the receiver's group, a queue and a payload
 unfoldable pub send_at : Place → Read Send
 send_at p =
-  group_at p >>= λ to.
-  queue_at to.1 >>= λ queue.
-  string_at queue.1 >>= λ payload.
-  Ok (record { to = to.0; queue = queue.0; payload = payload.0 }, payload.1)
+    group_at p >>= λ to.
+    queue_at to.1 >>= λ queue.
+    string_at queue.1 >>= λ payload.
+    Ok (record { to = to.0; queue = queue.0; payload = payload.0 }, payload.1)
 
 abbrev pub send_text : Send → List ℕ
 send_text send = group_text send.to ++ (bytes_text send.queue ++ bytes_text send.payload)
@@ -69,10 +69,10 @@ IsSend send = IsGroup send.to × IsQueue send.queue × IsString send.payload
 -- a message's name, a queue and a payload
 unfoldable pub enter_at : Place → Read Enter
 enter_at p =
-  name_at p >>= λ name.
-  queue_at name.1 >>= λ queue.
-  string_at queue.1 >>= λ payload.
-  Ok (record { name = name.0; queue = queue.0; payload = payload.0 }, payload.1)
+    name_at p >>= λ name.
+    queue_at name.1 >>= λ queue.
+    string_at queue.1 >>= λ payload.
+    Ok (record { name = name.0; queue = queue.0; payload = payload.0 }, payload.1)
 
 abbrev pub enter_text : Enter → List ℕ
 enter_text enter = name_text enter.name ++ (bytes_text enter.queue ++ bytes_text enter.payload)
@@ -83,17 +83,17 @@ IsEnter enter = IsName enter.name × IsQueue enter.queue × IsString enter.paylo
 -- an index from low to high, and numbers of writes and of sends in their ranges
 unfoldable pub cut_in : ℕ → ℕ → ℕ → ℕ → ℕ → ℕ → Place → Read Cut
 cut_in low high least_writes most_writes least_sends most_sends p =
-  byte_in low high p >>= λ index.
-  number_in 4 least_writes most_writes index.1 >>= λ writes.
-  number_in 4 least_sends most_sends writes.1 >>= λ sends.
-  Ok (record { index = index.0; writes = writes.0; sends = sends.0 }, sends.1)
+    byte_in low high p >>= λ index.
+    number_in 4 least_writes most_writes index.1 >>= λ writes.
+    number_in 4 least_sends most_sends writes.1 >>= λ sends.
+    Ok (record { index = index.0; writes = writes.0; sends = sends.0 }, sends.1)
 
 abbrev pub cut_text : Cut → List ℕ
 cut_text cut = one_byte cut.index ++ (u32_text cut.writes ++ u32_text cut.sends)
 
 abbrev pub IsCutIn : ℕ → ℕ → ℕ → ℕ → ℕ → ℕ → Cut → Type 0
 IsCutIn low high least_writes most_writes least_sends most_sends cut =
-  IsBetween low high cut.index × IsBetween least_writes most_writes cut.writes × IsBetween least_sends most_sends cut.sends
+    IsBetween low high cut.index × IsBetween least_writes most_writes cut.writes × IsBetween least_sends most_sends cut.sends
 
 -- what a cut has at least of what is left, where k cuts follow: the last one has all
 abbrev pub least_part : ℕ → ℕ → ℕ
@@ -103,9 +103,9 @@ least_part k left = if k == 0 then left else 0
 unfoldable pub cuts_of : ℕ → ℕ → ℕ → ℕ → Place → Read (List Cut)
 cuts_of zero low writes sends p = Ok ([], p)
 cuts_of (suc k) low writes sends p =
-  cut_in low (15 - k) (least_part k writes) writes (least_part k sends) sends p >>= λ cut.
-  cuts_of k (cut.0.index + 1) (writes - cut.0.writes) (sends - cut.0.sends) cut.1 >>= λ cuts.
-  Ok (cut.0 ∷ cuts.0, cuts.1)
+    cut_in low (15 - k) (least_part k writes) writes (least_part k sends) sends p >>= λ cut.
+    cuts_of k (cut.0.index + 1) (writes - cut.0.writes) (sends - cut.0.sends) cut.1 >>= λ cuts.
+    Ok (cut.0 ∷ cuts.0, cuts.1)
 
 -- a single cut has not the index 0
 abbrev pub first_index : ℕ → ℕ
@@ -114,8 +114,8 @@ first_index count = if count == 1 then 1 else 0
 -- the cuts of that many writes and sends, at least one
 unfoldable pub cuts_at : ℕ → ℕ → Place → Read (List Cut)
 cuts_at writes sends p =
-  number_in 4 1 16 p >>= λ count.
-  cuts_of count.0 (first_index count.0) writes sends count.1
+    number_in 4 1 16 p >>= λ count.
+    cuts_of count.0 (first_index count.0) writes sends count.1
 
 abbrev pub RisesFrom : ℕ → List Cut → Type 0
 RisesFrom low [] = Unit {0}
@@ -131,38 +131,38 @@ pub record AreCuts (writes sends : ℕ) (cuts : List Cut) : Type 0 where
 -- an id that is there
 unfoldable pub some_op_at : Place → Read (Option OpId)
 some_op_at p =
-  byte_in 1 1 p >>= λ b.
-  op_at b.1 >>= λ op.
-  Ok (Some op.0, op.1)
+    byte_in 1 1 p >>= λ b.
+    op_at b.1 >>= λ op.
+    Ok (Some op.0, op.1)
 
 -- after the version 1: an entry with no cuts
 unfoldable pub plain_at : Place → Read Content
 plain_at p =
-  option_at op_at p >>= λ id.
-  node_at id.1 >>= λ leader.
-  list_in 0 most_items write_at leader.1 >>= λ writes.
-  list_in 0 most_items send_at writes.1 >>= λ sends.
-  list_in 0 most_items enter_at sends.1 >>= λ enters.
-  list_in 0 most_items name_at enters.1 >>= λ handles.
-  Ok (record { id = id.0; leader = leader.0; writes = writes.0; sends = sends.0; enters = enters.0; handles = handles.0; cuts = [] }, handles.1)
+    option_at op_at p >>= λ id.
+    node_at id.1 >>= λ leader.
+    list_in 0 most_items write_at leader.1 >>= λ writes.
+    list_in 0 most_items send_at writes.1 >>= λ sends.
+    list_in 0 most_items enter_at sends.1 >>= λ enters.
+    list_in 0 most_items name_at enters.1 >>= λ handles.
+    Ok (record { id = id.0; leader = leader.0; writes = writes.0; sends = sends.0; enters = enters.0; handles = handles.0; cuts = [] }, handles.1)
 
 -- after the version 2: an entry with cuts, which has an id, no enters and no handles
 unfoldable pub batch_at : Place → Read Content
 batch_at p =
-  some_op_at p >>= λ id.
-  node_at id.1 >>= λ leader.
-  list_in 0 most_items write_at leader.1 >>= λ writes.
-  list_in 0 most_items send_at writes.1 >>= λ sends.
-  list_in 0 0 enter_at sends.1 >>= λ enters.
-  list_in 0 0 name_at enters.1 >>= λ handles.
-  cuts_at (length writes.0) (length sends.0) handles.1 >>= λ cuts.
-  Ok (record { id = id.0; leader = leader.0; writes = writes.0; sends = sends.0; enters = enters.0; handles = handles.0; cuts = cuts.0 }, cuts.1)
+    some_op_at p >>= λ id.
+    node_at id.1 >>= λ leader.
+    list_in 0 most_items write_at leader.1 >>= λ writes.
+    list_in 0 most_items send_at writes.1 >>= λ sends.
+    list_in 0 0 enter_at sends.1 >>= λ enters.
+    list_in 0 0 name_at enters.1 >>= λ handles.
+    cuts_at (length writes.0) (length sends.0) handles.1 >>= λ cuts.
+    Ok (record { id = id.0; leader = leader.0; writes = writes.0; sends = sends.0; enters = enters.0; handles = handles.0; cuts = cuts.0 }, cuts.1)
 
 -- a version, 1 or 2, and the entry
 unfoldable pub entry_at : Place → Read Content
 entry_at p =
-  byte_in 1 2 p >>= λ version.
-  if version.0 == 1 then plain_at version.1 else batch_at version.1
+    byte_in 1 2 p >>= λ version.
+    if version.0 == 1 then plain_at version.1 else batch_at version.1
 
 -- the version: 1 where there are no cuts
 abbrev pub version_of : List Cut → ℕ
@@ -176,7 +176,7 @@ cuts_text (cut ∷ cuts) = list_text cut_text (cut ∷ cuts)
 
 abbrev pub content_text : Content → List ℕ
 content_text e =
-  option_text op_text e.id ++ (node_text e.leader ++ (list_text write_text e.writes ++ (list_text send_text e.sends
+    option_text op_text e.id ++ (node_text e.leader ++ (list_text write_text e.writes ++ (list_text send_text e.sends
     ++ (list_text enter_text e.enters ++ (list_text name_text e.handles ++ cuts_text e.cuts)))))
 
 abbrev pub entry_text : Content → List ℕ

@@ -7,8 +7,8 @@ use crate::content::{Content, Cut};
 use crate::cuts::take_cuts;
 use crate::entry::Entry;
 use mega_base::{
-    Bytes, Cursor, Field, FieldFault, Items, NoMemory, NodeId, OpId, put_list, put_option, put_u8, take_list,
-    take_option,
+    Bytes, Cursor, Field, FieldFault, Items, NoMemory, NodeId, OpId, put_list, put_option, put_u8,
+    take_list, take_option,
 };
 use std::alloc::Global;
 
@@ -20,8 +20,11 @@ impl Field for Entry {
     ghost use Rattle.mega_entry.specs.EntryLaws.{entry_codec};
 
     ghost reads = { entry_at };
+
     ghost spells = { entry_text };
+
     ghost opens = { IsText entry_text IsEntry };
+
     ghost fits = { IsEntry };
 
     fn take(alloc: Global, cursor: &mut Cursor<'_>) -> Result<Entry, FieldFault> {
@@ -35,6 +38,7 @@ impl Field for Entry {
     }
 
     ghost codec = { entry_codec };
+
     ghost opens_own = { own_text entry_text IsEntry };
 }
 

@@ -4,8 +4,8 @@ ghost use Rattle.mega_entry.specs.Entries.{cut_in};
 
 use crate::content::{Cut, Enter, Name, Send, Write};
 use mega_base::{
-    Bytes, Cursor, Field, FieldFault, GroupId, NoMemory, Position, put_bytes, put_option, put_u8, put_u32,
-    put_u64, take_option, take_text,
+    Bytes, Cursor, Field, FieldFault, GroupId, NoMemory, Position, put_bytes, put_option, put_u8,
+    put_u32, put_u64, take_option, take_text,
 };
 use std::alloc::Global;
 
@@ -17,8 +17,11 @@ impl Field for Write {
     ghost use Rattle.mega_entry.specs.EntryLaws.{write_codec};
 
     ghost reads = { write_at };
+
     ghost spells = { write_text };
+
     ghost opens = { IsText write_text IsWrite };
+
     ghost fits = { IsWrite };
 
     #[tactic(auto, unfolding(crate::specs::Entries::write_at))]
@@ -35,6 +38,7 @@ impl Field for Write {
     }
 
     ghost codec = { write_codec };
+
     ghost opens_own = { own_text write_text IsWrite };
 }
 
@@ -45,8 +49,11 @@ impl Field for Name {
     ghost use Rattle.mega_entry.specs.EntryLaws.{name_codec};
 
     ghost reads = { name_at };
+
     ghost spells = { name_text };
+
     ghost opens = { IsText name_text IsName };
+
     ghost fits = { IsName };
 
     #[tactic(auto, unfolding(crate::specs::Entries::name_at))]
@@ -69,6 +76,7 @@ impl Field for Name {
     }
 
     ghost codec = { name_codec };
+
     ghost opens_own = { own_text name_text IsName };
 }
 
@@ -80,8 +88,11 @@ impl Field for Send {
     ghost use Rattle.mega_entry.specs.EntryLaws.{send_codec};
 
     ghost reads = { send_at };
+
     ghost spells = { send_text };
+
     ghost opens = { IsText send_text IsSend };
+
     ghost fits = { IsSend };
 
     #[tactic(auto, unfolding(crate::specs::Entries::send_at))]
@@ -100,6 +111,7 @@ impl Field for Send {
     }
 
     ghost codec = { send_codec };
+
     ghost opens_own = { own_text send_text IsSend };
 }
 
@@ -111,8 +123,11 @@ impl Field for Enter {
     ghost use Rattle.mega_entry.specs.EntryLaws.{enter_codec};
 
     ghost reads = { enter_at };
+
     ghost spells = { enter_text };
+
     ghost opens = { IsText enter_text IsEnter };
+
     ghost fits = { IsEnter };
 
     #[tactic(auto, unfolding(crate::specs::Entries::enter_at))]
@@ -135,6 +150,7 @@ impl Field for Enter {
     }
 
     ghost codec = { enter_codec };
+
     ghost opens_own = { own_text enter_text IsEnter };
 }
 
@@ -146,8 +162,11 @@ impl Field for Cut {
     ghost use Rattle.mega_entry.specs.EntryLaws.{any_cut_codec};
 
     ghost reads = { cut_in 0 15 0 most_items 0 most_items };
+
     ghost spells = { cut_text };
+
     ghost opens = { IsText cut_text (IsCutIn 0 15 0 most_items 0 most_items) };
+
     ghost fits = { IsCutIn 0 15 0 most_items 0 most_items };
 
     fn take(_alloc: Global, cursor: &mut Cursor<'_>) -> Result<Cut, FieldFault> {
@@ -162,6 +181,7 @@ impl Field for Cut {
     }
 
     ghost codec = { any_cut_codec };
+
     ghost opens_own = { own_text cut_text (IsCutIn 0 15 0 most_items 0 most_items) };
 }
 

@@ -44,7 +44,7 @@ both : {A B : Type 0} {ra : Place → Read A} {sa : A → List ℕ} {Fa : A → 
 both {ra = ra} {sa = sa} {Fa = Fa} {rb = rb} {sb = sb} {Fb = Fb} a b = record {
   codec = plain_pair_codec ra sa Fa rb sb Fb a.codec b.codec b.some b.fits;
   some = (a.some, b.some);
-  fits = (a.fits, b.fits)
+  fits = (a.fits, b.fits);
 }
 
 before : {A B : Type 0} {ra : Place → Read A} {sa : A → List ℕ} {Fa : A → Type 0} {rb : Place → Read B} {sb : B → List ℕ} {Ob : List ℕ → Type 0} {Fb : B → Type 0}
@@ -52,7 +52,7 @@ before : {A B : Type 0} {ra : Place → Read A} {sa : A → List ℕ} {Fa : A �
 before {ra = ra} {sa = sa} {Fa = Fa} {rb = rb} {sb = sb} {Ob = Ob} {Fb = Fb} a b = record {
   codec = pair_codec ra sa Fa rb sb Ob Fb a.codec b.codec b.some b.shown;
   some = sa a.some ++ b.some;
-  shown = (a.some, b.some, a.fits, b.shown, refl)
+  shown = (a.some, b.some, a.fits, b.shown, refl);
 }
 
 -- the formats of the fields
@@ -69,9 +69,15 @@ top_position_format : Format top_position_at position_text (IsPositionIn 0 10000
 top_position_format = record { codec = position_codec 0 1000000 (omega arith) (omega arith); some = record { 0 = 1 }; fits = (omega arith, omega arith) }
 
 ballot_format : Format ballot_at ballot_text IsBallot
-ballot_format = record { codec = ballot_codec; some = record { round = 0; op = zero_op }; fits = record {
-  round = (omega arith, omega arith); op = ((omega arith, omega arith), (omega arith, omega arith), (omega arith, omega arith)); lowest = λ e. refl
-} }
+ballot_format = record {
+  codec = ballot_codec;
+  some = record { round = 0; op = zero_op };
+  fits = record {
+    round = (omega arith, omega arith);
+    op = ((omega arith, omega arith), (omega arith, omega arith), (omega arith, omega arith));
+    lowest = λ e. refl;
+  };
+}
 
 cell_format : Format cell_at one_byte (IsBetween 1 5)
 cell_format = record { codec = byte_codec 1 5 (omega arith); some = 1; fits = (omega arith, omega arith) }
@@ -99,7 +105,7 @@ entry_open : Open entry_field_at (nested_text entry_text) (OpensNested 65536 ent
 entry_open = record {
   codec = nested_codec 65536 entry_at entry_text IsEntry (omega arith) entry_codec some_entry.0 some_entry.1;
   some = shown_entry 0 some_entry.0;
-  shown = (0, some_entry.0, omega arith, some_entry.1, refl)
+  shown = (0, some_entry.0, omega arith, some_entry.1, refl);
 }
 
 abbrev OpensOption : List ℕ → Type 0
@@ -108,9 +114,9 @@ OpensOption text = (o : Option Content) × (n : ℕ) × (n ≤ 65536) × IsOptio
 option_open : Open (option_at entry_field_at) (option_text (nested_text entry_text)) OpensOption (IsOption (IsNested 65536 entry_text IsEntry))
 option_open = record {
   codec = option_codec entry_field_at (nested_text entry_text) (OpensNested 65536 entry_text IsEntry) OpensOption (IsNested 65536 entry_text IsEntry) entry_open.codec
-    (None, 0, omega arith, tt, refl) (λ t w. (Some w.1, w.0, w.2, w.3, ap (λ l. 1 ∷ l) w.4)) entry_open.some entry_open.shown;
+      (None, 0, omega arith, tt, refl) (λ t w. (Some w.1, w.0, w.2, w.3, ap (λ l. 1 ∷ l) w.4)) entry_open.some entry_open.shown;
   some = 0 ∷ [];
-  shown = (None, 0, omega arith, tt, refl)
+  shown = (None, 0, omega arith, tt, refl);
 }
 
 abbrev OpensVote : List ℕ → Type 0
@@ -118,14 +124,14 @@ OpensVote text = (o : Option (Ballot × Content)) × (n : ℕ) × (n ≤ 65536) 
 
 vote_open : Open (option_at (pair_at ballot_at entry_field_at)) (option_text (pair_text ballot_text (nested_text entry_text))) OpensVote (IsOption (IsPair IsBallot (IsNested 65536 entry_text IsEntry)))
 vote_open =
-  let pair = before ballot_format entry_open in record {
-  codec = option_codec (pair_at ballot_at entry_field_at) (pair_text ballot_text (nested_text entry_text)) (OpensPair ballot_text IsBallot (OpensNested 65536 entry_text IsEntry)) OpensVote (IsPair IsBallot (IsNested 65536 entry_text IsEntry)) pair.codec
-    (None, 0, omega arith, tt, refl)
-    (λ t w. (Some (w.0, w.3.1), w.3.0, w.3.2, (w.2, w.3.3), ap (λ l. 1 ∷ l) (ap (λ l. ballot_text w.0 ++ l) w.3.4 ∙ w.4)))
-    pair.some pair.shown;
-  some = 0 ∷ [];
-  shown = (None, 0, omega arith, tt, refl)
-}
+    let pair = before ballot_format entry_open in record {
+      codec = option_codec (pair_at ballot_at entry_field_at) (pair_text ballot_text (nested_text entry_text)) (OpensPair ballot_text IsBallot (OpensNested 65536 entry_text IsEntry)) OpensVote (IsPair IsBallot (IsNested 65536 entry_text IsEntry)) pair.codec
+          (None, 0, omega arith, tt, refl)
+          (λ t w. (Some (w.0, w.3.1), w.3.0, w.3.2, (w.2, w.3.3), ap (λ l. 1 ∷ l) (ap (λ l. ballot_text w.0 ++ l) w.3.4 ∙ w.4)))
+          pair.some pair.shown;
+      some = 0 ∷ [];
+      shown = (None, 0, omega arith, tt, refl);
+    }
 
 -- a body of that kind that fits, and the texts that open one
 abbrev IsOfKind : ℕ → Body → Type 0
@@ -142,7 +148,7 @@ embed_open : {A B : Type 0} {r : Place → Read A} {s : A → List ℕ} {O : Lis
 embed_open {r = r} {s = s} {O = O} {F = F} c make t U G to opens from = record {
   codec = embed_codec r s O F make t U G c.codec to opens from;
   some = c.some;
-  shown = opens c.some c.shown
+  shown = opens c.some c.shown;
 }
 
 open_of : {A : Type 0} {r : Place → Read A} {s : A → List ℕ} {F : A → Type 0} → Format r s F → Open r s (IsText s F) F
@@ -374,27 +380,27 @@ other k n e = grind (arith, nat_tests)
 body_open : (k : ℕ) → IsBetween 1 21 k → Open (body_of k) body_text (OpensBody k) (IsOfKind k)
 unfolding body_of
 body_open k f =
-  if_open (k == 1) (λ e. at_kind k 1 e where_open) (λ n1.
-  if_open (k == 2) (λ e. at_kind k 2 e top_open) (λ n2.
-  if_open (k == 3) (λ e. at_kind k 3 e accept_open) (λ n3.
-  if_open (k == 4) (λ e. at_kind k 4 e accepted_open) (λ n4.
-  if_open (k == 5) (λ e. at_kind k 5 e refused_open) (λ n5.
-  if_open (k == 6) (λ e. at_kind k 6 e prepare_open) (λ n6.
-  if_open (k == 7) (λ e. at_kind k 7 e promise_open) (λ n7.
-  if_open (k == 8) (λ e. at_kind k 8 e invalidate_open) (λ n8.
-  if_open (k == 9) (λ e. at_kind k 9 e invalidated_open) (λ n9.
-  if_open (k == 10) (λ e. at_kind k 10 e dead_open) (λ n10.
-  if_open (k == 11) (λ e. at_kind k 11 e held_open) (λ n11.
-  if_open (k == 12) (λ e. at_kind k 12 e unheld_open) (λ n12.
-  if_open (k == 13) (λ e. at_kind k 13 e decide_open) (λ n13.
-  if_open (k == 14) (λ e. at_kind k 14 e fetch_open) (λ n14.
-  if_open (k == 15) (λ e. at_kind k 15 e have_open) (λ n15.
-  if_open (k == 16) (λ e. at_kind k 16 e have_not_open) (λ n16.
-  if_open (k == 17) (λ e. at_kind k 17 e acquire_open) (λ n17.
-  if_open (k == 18) (λ e. at_kind k 18 e granted_open) (λ n18.
-  if_open (k == 19) (λ e. at_kind k 19 e past_open) (λ n19.
-  if_open (k == 20) (λ e. at_kind k 20 e request_open) (λ n20.
-  subst (λ (m : ℕ). Open (λ p. request_fields p >>= λ x. Ok (Reply x.0.0 x.0.1, x.1)) body_text (OpensBody m) (IsOfKind m)) (last_kind k f (other k 1 n1) (other k 2 n2) (other k 3 n3) (other k 4 n4) (other k 5 n5) (other k 6 n6) (other k 7 n7) (other k 8 n8) (other k 9 n9) (other k 10 n10) (other k 11 n11) (other k 12 n12) (other k 13 n13) (other k 14 n14) (other k 15 n15) (other k 16 n16) (other k 17 n17) (other k 18 n18) (other k 19 n19) (other k 20 n20)) reply_open))))))))))))))))))))
+    if_open (k == 1) (λ e. at_kind k 1 e where_open) (λ n1.
+    if_open (k == 2) (λ e. at_kind k 2 e top_open) (λ n2.
+    if_open (k == 3) (λ e. at_kind k 3 e accept_open) (λ n3.
+    if_open (k == 4) (λ e. at_kind k 4 e accepted_open) (λ n4.
+    if_open (k == 5) (λ e. at_kind k 5 e refused_open) (λ n5.
+    if_open (k == 6) (λ e. at_kind k 6 e prepare_open) (λ n6.
+    if_open (k == 7) (λ e. at_kind k 7 e promise_open) (λ n7.
+    if_open (k == 8) (λ e. at_kind k 8 e invalidate_open) (λ n8.
+    if_open (k == 9) (λ e. at_kind k 9 e invalidated_open) (λ n9.
+    if_open (k == 10) (λ e. at_kind k 10 e dead_open) (λ n10.
+    if_open (k == 11) (λ e. at_kind k 11 e held_open) (λ n11.
+    if_open (k == 12) (λ e. at_kind k 12 e unheld_open) (λ n12.
+    if_open (k == 13) (λ e. at_kind k 13 e decide_open) (λ n13.
+    if_open (k == 14) (λ e. at_kind k 14 e fetch_open) (λ n14.
+    if_open (k == 15) (λ e. at_kind k 15 e have_open) (λ n15.
+    if_open (k == 16) (λ e. at_kind k 16 e have_not_open) (λ n16.
+    if_open (k == 17) (λ e. at_kind k 17 e acquire_open) (λ n17.
+    if_open (k == 18) (λ e. at_kind k 18 e granted_open) (λ n18.
+    if_open (k == 19) (λ e. at_kind k 19 e past_open) (λ n19.
+    if_open (k == 20) (λ e. at_kind k 20 e request_open) (λ n20.
+    subst (λ (m : ℕ). Open (λ p. request_fields p >>= λ x. Ok (Reply x.0.0 x.0.1, x.1)) body_text (OpensBody m) (IsOfKind m)) (last_kind k f (other k 1 n1) (other k 2 n2) (other k 3 n3) (other k 4 n4) (other k 5 n5) (other k 6 n6) (other k 7 n7) (other k 8 n8) (other k 9 n9) (other k 10 n10) (other k 11 n11) (other k 12 n12) (other k 13 n13) (other k 14 n14) (other k 15 n15) (other k 16 n16) (other k 17 n17) (other k 18 n18) (other k 19 n19) (other k 20 n20)) reply_open))))))))))))))))))))
   where
     last_kind : (k : ℕ) → IsBetween 1 21 k → k ≢ 1 → k ≢ 2 → k ≢ 3 → k ≢ 4 → k ≢ 5 → k ≢ 6 → k ≢ 7 → k ≢ 8 → k ≢ 9 → k ≢ 10 → k ≢ 11 → k ≢ 12 → k ≢ 13 → k ≢ 14 → k ≢ 15 → k ≢ 16 → k ≢ 17 → k ≢ 18 → k ≢ 19 → k ≢ 20 → 21 ≡ k
     last_kind k f n1 n2 n3 n4 n5 n6 n7 n8 n9 n10 n11 n12 n13 n14 n15 n16 n17 n18 n19 n20 = omega (arith, f.0, f.1)
@@ -422,23 +428,32 @@ byte_format low high h = record { codec = byte_codec low high h; some = low; fit
 addressed_open : (k : ℕ) → IsBetween 1 21 k → Open (addressed_at k) addressed_text (OpensAddressed k) (IsAddressed k)
 unfolding addressed_at
 addressed_open k f =
-  embed_open (before (byte_format (least_from k) (greatest_from k) (range_of (k == 20)).1) (before (byte_format (least_to k) (greatest_to k) (range_of (k == 21)).1) (body_open k f)))
+    embed_open (before (byte_format (least_from k) (greatest_from k) (range_of (k == 20)).1) (before (byte_format (least_to k) (greatest_to k) (range_of (k == 21)).1) (body_open k f)))
     (λ x. made x.0 x.1.0 x.1.1) addressed_text (OpensAddressed k) (IsAddressed k)
     (λ x g. (refl, (g.1.1.0, fits_with (IsNested 65536 entry_text IsEntry) x.0 x.1.0 x.1.1 g.0 g.1.0 g.1.1.0 g.1.1.1)))
-    (λ l w. (made w.0 w.3.0 w.3.3.0, w.3.3.1, w.3.3.2, w.3.3.3, fits_with IsEntry w.0 w.3.0 w.3.3.0 w.2 w.3.2 w.3.3.3 w.3.3.4,
-      ap (λ t. w.0 ∷ t) (ap (λ t. w.3.0 ∷ t) w.3.3.5 ∙ w.3.4) ∙ w.4))
+    (λ l w. (
+      made w.0 w.3.0 w.3.3.0,
+      w.3.3.1,
+      w.3.3.2,
+      w.3.3.3,
+      fits_with IsEntry w.0 w.3.0 w.3.3.0 w.2 w.3.2 w.3.3.3 w.3.3.4,
+      ap (λ t. w.0 ∷ t) (ap (λ t. w.3.0 ∷ t) w.3.3.5 ∙ w.3.4) ∙ w.4,
+    ))
     (λ m g. ((m.from, (m.to, m.body)), (back_from m g, (back_to m g, (g.0, g.1.body))), refl))
   where
     made : ℕ → ℕ → Body → Message
     made from to body = record { from = from; to = to; body = body }
+
     fits_with : (P : Content → Type 0) (from to : ℕ) (body : Body) → IsBetween (least_from k) (greatest_from k) from → IsBetween (least_to k) (greatest_to k) to → kind_of body ≡ k → IsBodyWith P body → IsMessageWith P (made from to body)
     fits_with P from to body g h e b = record {
       from = subst (λ (kind : ℕ). IsBetween (least_from kind) (greatest_from kind) from) (sym e) g;
       to = subst (λ (kind : ℕ). IsBetween (least_to kind) (greatest_to kind) to) (sym e) h;
-      body = b
+      body = b;
     }
+
     back_from : (m : Message) → IsAddressed k m → IsBetween (least_from k) (greatest_from k) m.from
     back_from m g = subst (λ (kind : ℕ). IsBetween (least_from kind) (greatest_from kind) m.from) g.0 g.1.from
+
     back_to : (m : Message) → IsAddressed k m → IsBetween (least_to k) (greatest_to k) m.to
     back_to m g = subst (λ (kind : ℕ). IsBetween (least_to kind) (greatest_to kind) m.to) g.0 g.1.to
 
@@ -452,15 +467,15 @@ kinded_open : Open kinded_at kinded_text OpensKinded IsMessage
 unfolding kinded_at
 kinded_open = record {
   codec = bind_codec (byte_in 1 21) one_byte (IsBetween 1 21) addressed_at (λ k. addressed_text) OpensAddressed IsAddressed
-    kinded_text OpensKinded IsMessage
-    (byte_codec 1 21 (omega arith))
-    (λ k f. (addressed_open k f).codec)
-    (λ k m f g. (ap (λ z. z ∷ addressed_text m) g.0, g.1))
-    (λ k t f w. (w.0, w.1, w.2, w.4, ap (λ z. z ∷ after_kind (shown_entry w.1) w.0) w.3 ∙ ap (λ l. k ∷ l) w.5))
-    (λ m g. (kind_of m.body, kinds m.body, (refl, g)))
-    (λ k f. let c = addressed_open k f in (c.some, c.shown));
+      kinded_text OpensKinded IsMessage
+      (byte_codec 1 21 (omega arith))
+      (λ k f. (addressed_open k f).codec)
+      (λ k m f g. (ap (λ z. z ∷ addressed_text m) g.0, g.1))
+      (λ k t f w. (w.0, w.1, w.2, w.4, ap (λ z. z ∷ after_kind (shown_entry w.1) w.0) w.3 ∙ ap (λ l. k ∷ l) w.5))
+      (λ m g. (kind_of m.body, kinds m.body, (refl, g)))
+      (λ k f. let c = addressed_open k f in (c.some, c.shown));
   some = 1 ∷ (addressed_open 1 (omega arith, omega arith)).some;
-  shown = let w = (addressed_open 1 (omega arith, omega arith)).shown in (w.0, w.1, w.2, w.4, ap (λ z. z ∷ after_kind (shown_entry w.1) w.0) w.3 ∙ ap (λ l. 1 ∷ l) w.5)
+  shown = let w = (addressed_open 1 (omega arith, omega arith)).shown in (w.0, w.1, w.2, w.4, ap (λ z. z ∷ after_kind (shown_entry w.1) w.0) w.3 ∙ ap (λ l. 1 ∷ l) w.5);
 }
   where
     kinds : (body : Body) → IsBetween 1 21 (kind_of body)
@@ -492,15 +507,15 @@ mark_open : {A : Type 0} (mark : ℕ) {r : Place → Read A} {s : A → List ℕ
 unfolding mark_at
 mark_open {A} mark {r = r} {s = s} {O = O} {F = F} c = record {
   codec = bind_codec (byte_in mark mark) one_byte (IsBetween mark mark) (λ b. r) (λ b. s) (λ b. O) (λ b. F)
-    (λ x. mark ∷ s x) (λ text. (t : List ℕ) × O t × (mark ∷ t ≡ text)) F
-    (byte_codec mark mark (omega arith))
-    (λ b f. c.codec)
-    (λ b x f g. (ap (λ z. z ∷ s x) (same b f), g))
-    (λ b t f w. (t, w, ap (λ z. z ∷ t) (same b f)))
-    (λ x g. (mark, (omega arith, omega arith), g))
-    (λ b f. (c.some, c.shown));
+      (λ x. mark ∷ s x) (λ text. (t : List ℕ) × O t × (mark ∷ t ≡ text)) F
+      (byte_codec mark mark (omega arith))
+      (λ b f. c.codec)
+      (λ b x f g. (ap (λ z. z ∷ s x) (same b f), g))
+      (λ b t f w. (t, w, ap (λ z. z ∷ t) (same b f)))
+      (λ x g. (mark, (omega arith, omega arith), g))
+      (λ b f. (c.some, c.shown));
   some = mark ∷ c.some;
-  shown = (c.some, c.shown, refl)
+  shown = (c.some, c.shown, refl);
 }
   where
     same : (b : ℕ) → IsBetween mark mark b → mark ≡ b
@@ -509,13 +524,16 @@ mark_open {A} mark {r = r} {s = s} {O = O} {F = F} c = record {
 pub message_codec : Codec message_at message_text OpensMessage IsMessage
 unfolding message_at
 message_codec =
-  let marked = mark_open 0x4D (mark_open 0x53 (mark_open 1 kinded_open)) in
-  refit_codec message_at message_text message_text _ OpensMessage IsMessage IsMessage marked.codec
+    let marked = mark_open 0x4D (mark_open 0x53 (mark_open 1 kinded_open)) in
+    refit_codec message_at message_text message_text _ OpensMessage IsMessage IsMessage marked.codec
     (λ m g. (g, refl)) (λ m g. g)
-    (λ l w. let k = w.1.1.1 in (k.0, k.1, k.2, k.3,
-      ap (λ t. 0x4D ∷ 0x53 ∷ 1 ∷ t) k.4 ∙ (ap (λ t. 0x4D ∷ 0x53 ∷ t) w.1.1.2 ∙ (ap (λ t. 0x4D ∷ t) w.1.2 ∙ w.2))))
-
-
+    (λ l w. let k = w.1.1.1 in (
+      k.0,
+      k.1,
+      k.2,
+      k.3,
+      ap (λ t. 0x4D ∷ 0x53 ∷ 1 ∷ t) k.4 ∙ (ap (λ t. 0x4D ∷ 0x53 ∷ t) w.1.1.2 ∙ (ap (λ t. 0x4D ∷ t) w.1.2 ∙ w.2)),
+    ))
 
 -- the length of the text of a body's entry is one that opens it
 body_shows : (body : Body) → IsBody body → (n : ℕ) × (n ≤ 65536) × IsBodyWith IsEntry body × (body_with (shown_entry n) body ≡ body_text body)
@@ -546,5 +564,5 @@ body_shows (Reply token text) h = (0, omega arith, h, refl)
 -- the text of a message opens it
 pub message_opens : (m : Message) → IsMessage m → OpensMessage (message_text m)
 message_opens m f =
-  let w = body_shows m.body f.body in
-  (m, w.0, w.1, record { from = f.from; to = f.to; body = w.2 }, ap (λ l. 0x4D ∷ 0x53 ∷ 1 ∷ kind_of m.body ∷ m.from ∷ m.to ∷ l) w.3)
+    let w = body_shows m.body f.body in
+    (m, w.0, w.1, record { from = f.from; to = f.to; body = w.2 }, ap (λ l. 0x4D ∷ 0x53 ∷ 1 ∷ kind_of m.body ∷ m.from ∷ m.to ∷ l) w.3)

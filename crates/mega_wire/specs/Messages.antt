@@ -80,27 +80,27 @@ request_fields = pair_at u64_at string_at
 -- what a message of that kind says
 unfoldable pub body_of : ℕ → Place → Read Body
 body_of kind p =
-  if kind == 1 then (where_fields p >>= λ x. Ok (Where x.0.0 x.0.1, x.1))
-  else if kind == 2 then (top_fields p >>= λ x. Ok (Top x.0.0 x.0.1.0 x.0.1.1, x.1))
-  else if kind == 3 then (accept_fields p >>= λ x. Ok (Accept x.0.0 x.0.1.0 x.0.1.1.0 x.0.1.1.1.0 x.0.1.1.1.1, x.1))
-  else if kind == 4 then (accept_fields p >>= λ x. Ok (Accepted x.0.0 x.0.1.0 x.0.1.1.0 x.0.1.1.1.0 x.0.1.1.1.1, x.1))
-  else if kind == 5 then (refused_fields p >>= λ x. Ok (Refused x.0.0 x.0.1.0 x.0.1.1.0 x.0.1.1.1.0 x.0.1.1.1.1.0 x.0.1.1.1.1.1, x.1))
-  else if kind == 6 then (prepare_fields p >>= λ x. Ok (Prepare x.0.0 x.0.1.0 x.0.1.1.0 x.0.1.1.1, x.1))
-  else if kind == 7 then (promise_fields p >>= λ x. Ok (Promise x.0.0 x.0.1.0 x.0.1.1.0 x.0.1.1.1.0 x.0.1.1.1.1, x.1))
-  else if kind == 8 then (invalidate_fields p >>= λ x. Ok (Invalidate x.0.0 x.0.1.0 x.0.1.1, x.1))
-  else if kind == 9 then (invalidate_fields p >>= λ x. Ok (Invalidated x.0.0 x.0.1.0 x.0.1.1, x.1))
-  else if kind == 10 then (dead_fields p >>= λ x. Ok (Dead x.0.0 x.0.1.0 x.0.1.1, x.1))
-  else if kind == 11 then (dead_fields p >>= λ x. Ok (Held x.0.0 x.0.1.0 x.0.1.1, x.1))
-  else if kind == 12 then (dead_fields p >>= λ x. Ok (Unheld x.0.0 x.0.1.0 x.0.1.1, x.1))
-  else if kind == 13 then (decide_fields p >>= λ x. Ok (Decide x.0.0 x.0.1.0 x.0.1.1, x.1))
-  else if kind == 14 then (invalidate_fields p >>= λ x. Ok (Fetch x.0.0 x.0.1.0 x.0.1.1, x.1))
-  else if kind == 15 then (have_fields p >>= λ x. Ok (Have x.0.0 x.0.1.0 x.0.1.1.0 x.0.1.1.1, x.1))
-  else if kind == 16 then (invalidate_fields p >>= λ x. Ok (HaveNot x.0.0 x.0.1.0 x.0.1.1, x.1))
-  else if kind == 17 then (acquire_fields p >>= λ x. Ok (Acquire x.0.0 x.0.1.0 x.0.1.1, x.1))
-  else if kind == 18 then (acquire_fields p >>= λ x. Ok (Granted x.0.0 x.0.1.0 x.0.1.1, x.1))
-  else if kind == 19 then (past_fields p >>= λ x. Ok (Past x.0.0 x.0.1.0 x.0.1.1, x.1))
-  else if kind == 20 then (request_fields p >>= λ x. Ok (Request x.0.0 x.0.1, x.1))
-  else (request_fields p >>= λ x. Ok (Reply x.0.0 x.0.1, x.1))
+    if kind == 1 then (where_fields p >>= λ x. Ok (Where x.0.0 x.0.1, x.1))
+    else if kind == 2 then (top_fields p >>= λ x. Ok (Top x.0.0 x.0.1.0 x.0.1.1, x.1))
+    else if kind == 3 then (accept_fields p >>= λ x. Ok (Accept x.0.0 x.0.1.0 x.0.1.1.0 x.0.1.1.1.0 x.0.1.1.1.1, x.1))
+    else if kind == 4 then (accept_fields p >>= λ x. Ok (Accepted x.0.0 x.0.1.0 x.0.1.1.0 x.0.1.1.1.0 x.0.1.1.1.1, x.1))
+    else if kind == 5 then (refused_fields p >>= λ x. Ok (Refused x.0.0 x.0.1.0 x.0.1.1.0 x.0.1.1.1.0 x.0.1.1.1.1.0 x.0.1.1.1.1.1, x.1))
+    else if kind == 6 then (prepare_fields p >>= λ x. Ok (Prepare x.0.0 x.0.1.0 x.0.1.1.0 x.0.1.1.1, x.1))
+    else if kind == 7 then (promise_fields p >>= λ x. Ok (Promise x.0.0 x.0.1.0 x.0.1.1.0 x.0.1.1.1.0 x.0.1.1.1.1, x.1))
+    else if kind == 8 then (invalidate_fields p >>= λ x. Ok (Invalidate x.0.0 x.0.1.0 x.0.1.1, x.1))
+    else if kind == 9 then (invalidate_fields p >>= λ x. Ok (Invalidated x.0.0 x.0.1.0 x.0.1.1, x.1))
+    else if kind == 10 then (dead_fields p >>= λ x. Ok (Dead x.0.0 x.0.1.0 x.0.1.1, x.1))
+    else if kind == 11 then (dead_fields p >>= λ x. Ok (Held x.0.0 x.0.1.0 x.0.1.1, x.1))
+    else if kind == 12 then (dead_fields p >>= λ x. Ok (Unheld x.0.0 x.0.1.0 x.0.1.1, x.1))
+    else if kind == 13 then (decide_fields p >>= λ x. Ok (Decide x.0.0 x.0.1.0 x.0.1.1, x.1))
+    else if kind == 14 then (invalidate_fields p >>= λ x. Ok (Fetch x.0.0 x.0.1.0 x.0.1.1, x.1))
+    else if kind == 15 then (have_fields p >>= λ x. Ok (Have x.0.0 x.0.1.0 x.0.1.1.0 x.0.1.1.1, x.1))
+    else if kind == 16 then (invalidate_fields p >>= λ x. Ok (HaveNot x.0.0 x.0.1.0 x.0.1.1, x.1))
+    else if kind == 17 then (acquire_fields p >>= λ x. Ok (Acquire x.0.0 x.0.1.0 x.0.1.1, x.1))
+    else if kind == 18 then (acquire_fields p >>= λ x. Ok (Granted x.0.0 x.0.1.0 x.0.1.1, x.1))
+    else if kind == 19 then (past_fields p >>= λ x. Ok (Past x.0.0 x.0.1.0 x.0.1.1, x.1))
+    else if kind == 20 then (request_fields p >>= λ x. Ok (Request x.0.0 x.0.1, x.1))
+    else (request_fields p >>= λ x. Ok (Reply x.0.0 x.0.1, x.1))
 
 abbrev pub kind_of : Body → ℕ
 kind_of (Where op group) = 1
@@ -196,19 +196,19 @@ greatest_to kind = if kind == 21 then 0 else 9
 -- after the kind: from, to, and the fields
 unfoldable pub addressed_at : ℕ → Place → Read Message
 addressed_at kind p =
-  pair_at (byte_in (least_from kind) (greatest_from kind)) (pair_at (byte_in (least_to kind) (greatest_to kind)) (body_of kind)) p >>= λ x.
-  Ok (record { from = x.0.0; to = x.0.1.0; body = x.0.1.1 }, x.1)
+    pair_at (byte_in (least_from kind) (greatest_from kind)) (pair_at (byte_in (least_to kind) (greatest_to kind)) (body_of kind)) p >>= λ x.
+    Ok (record { from = x.0.0; to = x.0.1.0; body = x.0.1.1 }, x.1)
 
 unfoldable pub kinded_at : Place → Read Message
 kinded_at p =
-  byte_in 1 21 p >>= λ kind.
-  addressed_at kind.0 kind.1
+    byte_in 1 21 p >>= λ kind.
+    addressed_at kind.0 kind.1
 
 -- a fixed byte, and what follows it
 unfoldable pub mark_at : {A : Type 0} → ℕ → (Place → Read A) → Place → Read A
 mark_at mark read p =
-  byte_in mark mark p >>= λ b.
-  read b.1
+    byte_in mark mark p >>= λ b.
+    read b.1
 
 -- the letters M and S, the version 1, a kind, from, to, and the fields
 unfoldable pub message_at : Place → Read Message

@@ -44,7 +44,10 @@ fn take_entry(alloc: Global, cursor: &mut Cursor<'_>) -> Result<Entry, FieldFaul
 
 /// Operation and group.
 #[tactic(auto, unfolding(mega_base::specs::Pairs::pair_at))]
-pub(crate) fn take_where(alloc: Global, cursor: &mut Cursor<'_>) -> Result<(OpId, GroupId), FieldFault>
+pub(crate) fn take_where(
+    alloc: Global,
+    cursor: &mut Cursor<'_>,
+) -> Result<(OpId, GroupId), FieldFault>
     ensures { Reads result cursor.new (where_fields cursor.old) }
 {
     let op = OpId::take(alloc, cursor)?;
@@ -54,7 +57,10 @@ pub(crate) fn take_where(alloc: Global, cursor: &mut Cursor<'_>) -> Result<(OpId
 
 /// Operation, group and a position that may be 0.
 #[tactic(auto, unfolding(mega_base::specs::Pairs::pair_at))]
-pub(crate) fn take_top(alloc: Global, cursor: &mut Cursor<'_>) -> Result<(OpId, (GroupId, Position)), FieldFault>
+pub(crate) fn take_top(
+    alloc: Global,
+    cursor: &mut Cursor<'_>,
+) -> Result<(OpId, (GroupId, Position)), FieldFault>
     ensures { Reads result cursor.new (top_fields cursor.old) }
 {
     let op = OpId::take(alloc, cursor)?;
@@ -65,7 +71,10 @@ pub(crate) fn take_top(alloc: Global, cursor: &mut Cursor<'_>) -> Result<(OpId, 
 
 /// Operation, group and position.
 #[tactic(auto, unfolding(mega_base::specs::Pairs::pair_at))]
-pub(crate) fn take_place(alloc: Global, cursor: &mut Cursor<'_>) -> Result<(OpId, (GroupId, Position)), FieldFault>
+pub(crate) fn take_place(
+    alloc: Global,
+    cursor: &mut Cursor<'_>,
+) -> Result<(OpId, (GroupId, Position)), FieldFault>
     ensures { Reads result cursor.new (invalidate_fields cursor.old) }
 {
     let op = OpId::take(alloc, cursor)?;
@@ -110,7 +119,13 @@ pub(crate) fn take_accept(
 pub(crate) fn take_refused(
     alloc: Global,
     cursor: &mut Cursor<'_>,
-) -> Result<(OpId, (GroupId, (Position, (Ballot, (Ballot, Option<Entry>))))), FieldFault>
+) -> Result<
+    (
+        OpId,
+        (GroupId, (Position, (Ballot, (Ballot, Option<Entry>)))),
+    ),
+    FieldFault,
+>
     ensures { Reads result cursor.new (refused_fields cursor.old) }
 {
     let op = OpId::take(alloc, cursor)?;
@@ -140,7 +155,13 @@ fn take_maybe_entry(alloc: Global, cursor: &mut Cursor<'_>) -> Result<Option<Ent
 pub(crate) fn take_promise(
     alloc: Global,
     cursor: &mut Cursor<'_>,
-) -> Result<(OpId, (GroupId, (Position, (Ballot, Option<(Ballot, Entry)>)))), FieldFault>
+) -> Result<
+    (
+        OpId,
+        (GroupId, (Position, (Ballot, Option<(Ballot, Entry)>))),
+    ),
+    FieldFault,
+>
     ensures { Reads result cursor.new (promise_fields cursor.old) }
 {
     let op = OpId::take(alloc, cursor)?;
@@ -153,7 +174,10 @@ pub(crate) fn take_promise(
 
 /// A ballot and an entry, or nothing.
 #[tactic(auto, using(std::proofs::lemmas::Grind::common_steps), unfolding(mega_base::specs::Reading::option_at))]
-fn take_maybe_vote(alloc: Global, cursor: &mut Cursor<'_>) -> Result<Option<(Ballot, Entry)>, FieldFault>
+fn take_maybe_vote(
+    alloc: Global,
+    cursor: &mut Cursor<'_>,
+) -> Result<Option<(Ballot, Entry)>, FieldFault>
     ensures { Reads result cursor.new (option_at (pair_at ballot_at entry_field_at) cursor.old) }
 {
     let kind = cursor.take_u8_between(0, 1)?;
@@ -176,7 +200,10 @@ fn take_vote(alloc: Global, cursor: &mut Cursor<'_>) -> Result<(Ballot, Entry), 
 
 /// Operation, lock cell and node.
 #[tactic(auto, unfolding(mega_base::specs::Pairs::pair_at))]
-pub(crate) fn take_lock(alloc: Global, cursor: &mut Cursor<'_>) -> Result<(OpId, (u8, NodeId)), FieldFault>
+pub(crate) fn take_lock(
+    alloc: Global,
+    cursor: &mut Cursor<'_>,
+) -> Result<(OpId, (u8, NodeId)), FieldFault>
     ensures { Reads result cursor.new (dead_fields cursor.old) }
 {
     let op = OpId::take(alloc, cursor)?;
@@ -216,7 +243,10 @@ pub(crate) fn take_have(
 
 /// Lock cell, epoch and clock.
 #[tactic(auto, unfolding(mega_base::specs::Pairs::pair_at))]
-pub(crate) fn take_acquire(alloc: Global, cursor: &mut Cursor<'_>) -> Result<(u8, (Epoch, u64)), FieldFault>
+pub(crate) fn take_acquire(
+    alloc: Global,
+    cursor: &mut Cursor<'_>,
+) -> Result<(u8, (Epoch, u64)), FieldFault>
     ensures { Reads result cursor.new (acquire_fields cursor.old) }
 {
     let cell = cursor.take_u8_between(1, 5)?;
@@ -227,7 +257,10 @@ pub(crate) fn take_acquire(alloc: Global, cursor: &mut Cursor<'_>) -> Result<(u8
 
 /// Lock cell, the epoch asked and the greatest one granted.
 #[tactic(auto, unfolding(mega_base::specs::Pairs::pair_at))]
-pub(crate) fn take_past(alloc: Global, cursor: &mut Cursor<'_>) -> Result<(u8, (Epoch, Epoch)), FieldFault>
+pub(crate) fn take_past(
+    alloc: Global,
+    cursor: &mut Cursor<'_>,
+) -> Result<(u8, (Epoch, Epoch)), FieldFault>
     ensures { Reads result cursor.new (past_fields cursor.old) }
 {
     let cell = cursor.take_u8_between(1, 5)?;
@@ -238,7 +271,10 @@ pub(crate) fn take_past(alloc: Global, cursor: &mut Cursor<'_>) -> Result<(u8, (
 
 /// Token and bytes.
 #[tactic(auto, unfolding(mega_base::specs::Pairs::pair_at))]
-pub(crate) fn take_request(alloc: Global, cursor: &mut Cursor<'_>) -> Result<(u64, Bytes), FieldFault>
+pub(crate) fn take_request(
+    alloc: Global,
+    cursor: &mut Cursor<'_>,
+) -> Result<(u64, Bytes), FieldFault>
     ensures { Reads result cursor.new (request_fields cursor.old) }
 {
     let token = cursor.take_u64_between(0, u64::MAX)?;

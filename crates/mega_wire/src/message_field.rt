@@ -17,8 +17,11 @@ impl Field for Message {
     ghost use Rattle.mega_wire.specs.MessageLaws.{message_codec, message_opens};
 
     ghost reads = { message_at };
+
     ghost spells = { message_text };
+
     ghost opens = { OpensMessage };
+
     ghost fits = { IsMessage };
 
     #[tactic(auto, unfolding(crate::specs::Messages::message_at, crate::specs::Messages::mark_at))]
@@ -31,12 +34,20 @@ impl Field for Message {
 
     #[tactic(auto, using(mega_base::proofs::Keeps::keeps_front))]
     fn put(&self, out: &mut Bytes) -> Result<(), NoMemory> {
-        let head = [MARK[0], MARK[1], MARK[2], self.body.kind(), self.from, self.to];
+        let head = [
+            MARK[0],
+            MARK[1],
+            MARK[2],
+            self.body.kind(),
+            self.from,
+            self.to,
+        ];
         out.extend_from_slice(&head)?;
         self.body.put_fields(out)
     }
 
     ghost codec = { message_codec };
+
     ghost opens_own = { message_opens };
 }
 

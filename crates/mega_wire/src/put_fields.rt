@@ -7,7 +7,8 @@ ghost use Rattle.mega_entry.specs.Entries.{entry_text, IsEntry};
 
 use mega_ballot::Ballot;
 use mega_base::{
-    Bytes, Epoch, Field, GroupId, NoMemory, NodeId, OpId, Position, put_bytes, put_nested, put_u8, put_u64,
+    Bytes, Epoch, Field, GroupId, NoMemory, NodeId, OpId, Position, put_bytes, put_nested, put_u8,
+    put_u64,
 };
 use mega_entry::Entry;
 
@@ -25,7 +26,12 @@ pub(crate) fn put_where(op: OpId, group: &GroupId, out: &mut Bytes) -> Result<()
 
 /// Appends an operation, a group and a position.
 #[tactic(auto, using(mega_base::proofs::Keeps::keeps_front))]
-pub(crate) fn put_place(op: OpId, group: &GroupId, position: Position, out: &mut Bytes) -> Result<(), NoMemory>
+pub(crate) fn put_place(
+    op: OpId,
+    group: &GroupId,
+    position: Position,
+    out: &mut Bytes,
+) -> Result<(), NoMemory>
     requires op { IsOp op }
     requires group { IsGroup group.now }
     ensures ok { OnOk result (out.new ≡ out.old ++ (op_text op ++ (group_text group.now ++ position_text position))) }
@@ -74,7 +80,10 @@ pub(crate) fn put_maybe_entry(entry: &Option<Entry>, out: &mut Bytes) -> Result<
 
 /// Appends a ballot and an entry, or nothing.
 #[tactic(auto, using(mega_base::proofs::Keeps::keeps_front))]
-pub(crate) fn put_maybe_vote(vote: &Option<(Ballot, Entry)>, out: &mut Bytes) -> Result<(), NoMemory>
+pub(crate) fn put_maybe_vote(
+    vote: &Option<(Ballot, Entry)>,
+    out: &mut Bytes,
+) -> Result<(), NoMemory>
     requires { IsOption (IsPair IsBallot (IsNested 65536 entry_text IsEntry)) vote.now }
     ensures ok { OnOk result (out.new ≡ out.old ++ option_text (pair_text ballot_text (nested_text entry_text)) vote.now) }
     ensures err { OnErr result (take (length out.old) out.new ≡ out.old) }
@@ -90,7 +99,12 @@ pub(crate) fn put_maybe_vote(vote: &Option<(Ballot, Entry)>, out: &mut Bytes) ->
 
 /// Appends two ballots and an entry or none.
 #[tactic(auto, using(mega_base::proofs::Keeps::keeps_front))]
-pub(crate) fn put_refusal(asked: Ballot, shown: Ballot, entry: &Option<Entry>, out: &mut Bytes) -> Result<(), NoMemory>
+pub(crate) fn put_refusal(
+    asked: Ballot,
+    shown: Ballot,
+    entry: &Option<Entry>,
+    out: &mut Bytes,
+) -> Result<(), NoMemory>
     requires asked { IsBallot asked }
     requires shown { IsBallot shown }
     requires entry { IsOption (IsNested 65536 entry_text IsEntry) entry.now }
@@ -104,7 +118,11 @@ pub(crate) fn put_refusal(asked: Ballot, shown: Ballot, entry: &Option<Entry>, o
 
 /// Appends a ballot, and what was accepted or nothing.
 #[tactic(auto, using(mega_base::proofs::Keeps::keeps_front))]
-pub(crate) fn put_promise(ballot: Ballot, accepted: &Option<(Ballot, Entry)>, out: &mut Bytes) -> Result<(), NoMemory>
+pub(crate) fn put_promise(
+    ballot: Ballot,
+    accepted: &Option<(Ballot, Entry)>,
+    out: &mut Bytes,
+) -> Result<(), NoMemory>
     requires ballot { IsBallot ballot }
     requires accepted { IsOption (IsPair IsBallot (IsNested 65536 entry_text IsEntry)) accepted.now }
     ensures ok { OnOk result (out.new ≡ out.old ++ (ballot_text ballot ++ option_text (pair_text ballot_text (nested_text entry_text)) accepted.now)) }
@@ -128,7 +146,12 @@ pub(crate) fn put_lock(op: OpId, cell: u8, node: NodeId, out: &mut Bytes) -> Res
 
 /// Appends a group, a position and an entry.
 #[tactic(auto, using(mega_base::proofs::Keeps::keeps_front))]
-pub(crate) fn put_decide(group: &GroupId, position: Position, entry: &Entry, out: &mut Bytes) -> Result<(), NoMemory>
+pub(crate) fn put_decide(
+    group: &GroupId,
+    position: Position,
+    entry: &Entry,
+    out: &mut Bytes,
+) -> Result<(), NoMemory>
     requires group { IsGroup group.now }
     requires entry { IsNested 65536 entry_text IsEntry entry.now }
     ensures ok { OnOk result (out.new ≡ out.old ++ (group_text group.now ++ (position_text position ++ nested_text entry_text entry.now))) }
@@ -141,7 +164,12 @@ pub(crate) fn put_decide(group: &GroupId, position: Position, entry: &Entry, out
 
 /// Appends a lock cell, an epoch and a clock.
 #[tactic(auto, using(mega_base::proofs::Keeps::keeps_front))]
-pub(crate) fn put_acquire(cell: u8, epoch: Epoch, clock: u64, out: &mut Bytes) -> Result<(), NoMemory>
+pub(crate) fn put_acquire(
+    cell: u8,
+    epoch: Epoch,
+    clock: u64,
+    out: &mut Bytes,
+) -> Result<(), NoMemory>
     requires { IsEpoch epoch }
     ensures ok { OnOk result (out.new ≡ out.old ++ (one_byte cell ++ (epoch_text epoch ++ u64_text clock))) }
     ensures err { OnErr result (take (length out.old) out.new ≡ out.old) }
@@ -153,7 +181,12 @@ pub(crate) fn put_acquire(cell: u8, epoch: Epoch, clock: u64, out: &mut Bytes) -
 
 /// Appends a lock cell and two epochs.
 #[tactic(auto, using(mega_base::proofs::Keeps::keeps_front))]
-pub(crate) fn put_past(cell: u8, asked: Epoch, greatest: Epoch, out: &mut Bytes) -> Result<(), NoMemory>
+pub(crate) fn put_past(
+    cell: u8,
+    asked: Epoch,
+    greatest: Epoch,
+    out: &mut Bytes,
+) -> Result<(), NoMemory>
     requires asked { IsEpoch asked }
     requires greatest { IsEpoch greatest }
     ensures ok { OnOk result (out.new ≡ out.old ++ (one_byte cell ++ (epoch_text asked ++ epoch_text greatest))) }
