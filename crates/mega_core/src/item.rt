@@ -1,4 +1,5 @@
 ghost use Rattle.std.specs.Prelude.{List};
+
 use mega_base::{GroupId, Items, NodeId, OpId, Position, Text};
 use mega_entry::Entry;
 use mega_outcome::Answer;
@@ -8,13 +9,24 @@ use mega_wire::Message;
 #[derive(Drop)]
 pub enum Item {
     /// A node started, for the so manyth time.
-    Start { node: NodeId, start: u32 },
+    Start {
+        node: NodeId,
+        start: u32,
+    },
     /// An operation began; the text is its request.
-    Begin { op: OpId, text: Text },
+    Begin {
+        op: OpId,
+        text: Text,
+    },
     /// The message of this number was handed to its receiver.
-    Taken { number: u64 },
+    Taken {
+        number: u64,
+    },
     /// A message was sent; numbers count from 1.
-    Sent { number: u64, message: Message },
+    Sent {
+        number: u64,
+        message: Message,
+    },
     /// A node learned that a position of a group is decided.
     Decide {
         node: NodeId,
@@ -29,7 +41,10 @@ pub enum Item {
         position: Position,
     },
     /// An operation ended.
-    Answer { op: OpId, answer: Answer },
+    Answer {
+        op: OpId,
+        answer: Answer,
+    },
 }
 
 /// What a node notes down in a step, beside the messages that it takes and sends.

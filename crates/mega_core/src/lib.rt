@@ -10,8 +10,7 @@ mod outcome;
 mod spelling;
 mod step;
 
-
 pub use item::{Item, Note, Tape};
+pub use lines::text;
 pub use node::Node;
 pub use step::{Event, Step};
-pub use lines::text;

@@ -1,12 +1,10 @@
-use std::alloc::Global;
-
+use crate::item::Item;
+use crate::spelling::{kind, put_entry, put_message};
 use mega_base::{Bytes, GroupId, NoMemory, OpId};
 use mega_entry::Entry;
 use mega_outcome::Answer;
 use mega_wire::Message;
-
-use crate::item::Item;
-use crate::spelling::{kind, put_entry, put_message};
+use std::alloc::Global;
 
 /// Adds the transcript line of an item. A refusal may leave a part of it.
 pub fn text(alloc: Global, item: &Item, out: &mut Bytes) -> Result<(), NoMemory> {
@@ -15,7 +13,10 @@ pub fn text(alloc: Global, item: &Item, out: &mut Bytes) -> Result<(), NoMemory>
             put(out, &format!(in alloc; "start {} {start}\n", node.0)?)
         }
         Item::Begin { op, text } => {
-            put(out, &format!(in alloc; "begin {} {}\n", name(alloc, *op)?, text.as_str())?)
+            put(
+                out,
+                &format!(in alloc; "begin {} {}\n", name(alloc, *op)?, text.as_str())?,
+            )
         }
         Item::Taken { number } => put(out, &format!(in alloc; "taken {number}\n")?),
         Item::Sent { number, message } => {
@@ -23,7 +24,10 @@ pub fn text(alloc: Global, item: &Item, out: &mut Bytes) -> Result<(), NoMemory>
             let (_, kind) = kind(&message.body);
             let from = message.from;
             let to = message.to;
-            put(out, &format!(in alloc; "sent {number} {from} {to} {kind} {bytes}\n")?)
+            put(
+                out,
+                &format!(in alloc; "sent {number} {from} {to} {kind} {bytes}\n")?,
+            )
         }
         Item::Decide {
             node,
@@ -33,7 +37,10 @@ pub fn text(alloc: Global, item: &Item, out: &mut Bytes) -> Result<(), NoMemory>
         } => {
             let group = group_hex(alloc, group)?;
             let entry = entry_hex(alloc, entry)?;
-            put(out, &format!(in alloc; "decide {} {group} {} {entry}\n", node.0, position.0)?)
+            put(
+                out,
+                &format!(in alloc; "decide {} {group} {} {entry}\n", node.0, position.0)?,
+            )
         }
         Item::Apply {
             node,
@@ -41,11 +48,17 @@ pub fn text(alloc: Global, item: &Item, out: &mut Bytes) -> Result<(), NoMemory>
             position,
         } => {
             let group = group_hex(alloc, group)?;
-            put(out, &format!(in alloc; "apply {} {group} {}\n", node.0, position.0)?)
+            put(
+                out,
+                &format!(in alloc; "apply {} {group} {}\n", node.0, position.0)?,
+            )
         }
         Item::Answer { op, answer } => {
             let words = words(alloc, answer)?;
-            put(out, &format!(in alloc; "answer {} {words}\n", name(alloc, *op)?)?)
+            put(
+                out,
+                &format!(in alloc; "answer {} {words}\n", name(alloc, *op)?)?,
+            )
         }
     }
 }

@@ -1,8 +1,7 @@
-use std::alloc::Global;
-use std::collections::BTreeMap;
-
 use mega_base::{Copied, GroupId, NoMemory, Position};
 use mega_entry::Entry;
+use std::alloc::Global;
+use std::collections::BTreeMap;
 
 /// How a voter answers an entry that it is asked to accept at ballot zero.
 #[derive(Drop)]

@@ -1,13 +1,11 @@
-use std::alloc::Global;
-
-use mega_base::{Copied, Items, NoMemory, NodeId, OpId, Text};
-use mega_outcome::Request;
-use mega_wire::{Body, Message};
-
 use crate::item::Note;
 use crate::logs::Logs;
 use crate::operation::Operation;
 use crate::step::{Event, Step};
+use mega_base::{Copied, Items, NoMemory, NodeId, OpId, Text};
+use mega_outcome::Request;
+use mega_wire::{Body, Message};
+use std::alloc::Global;
 
 mod learner;
 mod proposer;

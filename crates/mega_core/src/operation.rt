@@ -1,8 +1,7 @@
-use std::alloc::Global;
-
 use mega_base::{Copied, GroupId, Items, NoMemory, NodeId, OpId, Position};
 use mega_entry::Entry;
 use mega_outcome::Transaction;
+use std::alloc::Global;
 
 /// How far an operation has come (CIDR 2011, write algorithm).
 #[derive(Drop)]
@@ -13,7 +12,9 @@ pub enum Stage {
         best: Position,
     },
     /// It waits until its node has decided all positions through this one.
-    Catching { through: Position },
+    Catching {
+        through: Position,
+    },
     /// It has asked the leader of the position to accept its entry at ballot zero.
     Asking {
         position: Position,
@@ -145,7 +146,9 @@ impl Operation {
     pub fn is_settled(&self, voters: &[NodeId]) -> bool {
         match &self.stage {
             Stage::Accepting { accepted, .. } => {
-                voters.iter().all(|voter| accepted.as_slice().contains(voter))
+                voters
+                    .iter()
+                    .all(|voter| accepted.as_slice().contains(voter))
             }
             _ => false,
         }

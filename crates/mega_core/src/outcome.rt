@@ -1,8 +1,7 @@
-use std::alloc::Global;
-
 use mega_base::{Bytes, Copied, GroupId, Items, NoMemory, NodeId, OpId};
 use mega_entry::{Content, Entry, Write};
 use mega_outcome::{Change, Transaction};
+use std::alloc::Global;
 
 /// The number of the one table, which spells the end of its row keys.
 const TABLE: u8 = 1;

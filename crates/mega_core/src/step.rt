@@ -1,10 +1,8 @@
-use std::alloc::Global;
-
+use crate::item::Note;
 use mega_base::{Items, NoMemory, Text};
 use mega_outcome::Request;
 use mega_wire::Message;
-
-use crate::item::Note;
+use std::alloc::Global;
 
 /// What happens at a node: it takes a message, or begins an operation, whose text is its request.
 #[derive(Drop)]

@@ -1,13 +1,11 @@
-use std::alloc::Global;
-
-use mega_base::{Copied, GroupId, Items, NoMemory, Position};
-use mega_entry::Entry;
-use mega_outcome::Answer;
-
 use crate::item::Note;
 use crate::node::Node;
 use crate::operation::Operation;
 use crate::step::Step;
+use mega_base::{Copied, GroupId, Items, NoMemory, Position};
+use mega_entry::Entry;
+use mega_outcome::Answer;
+use std::alloc::Global;
 
 impl Node {
     /// Learns that a position is decided. Where that is new it is noted down, with how far the log is

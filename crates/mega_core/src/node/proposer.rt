@@ -1,14 +1,12 @@
-use std::alloc::Global;
-
-use mega_ballot::Ballot;
-use mega_base::{Copied, GroupId, Items, NoMemory, NodeId, OpId, Position};
-use mega_entry::Entry;
-use mega_wire::{Body, Message};
-
 use crate::node::Node;
 use crate::operation::{Operation, Stage};
 use crate::outcome::entry_of;
 use crate::step::Step;
+use mega_ballot::Ballot;
+use mega_base::{Copied, GroupId, Items, NoMemory, NodeId, OpId, Position};
+use mega_entry::Entry;
+use mega_wire::{Body, Message};
+use std::alloc::Global;
 
 impl Node {
     /// An operation hears a voter's top position.
@@ -56,7 +54,9 @@ impl Node {
         let (stage, message) = self.ask(alloc, &operation, through)?;
         step.send(message)?;
         let Operation {
-            id, transaction, ..
+            id,
+            transaction,
+            ..
         } = operation;
         Ok(Operation {
             id,

@@ -1,13 +1,11 @@
-use std::alloc::Global;
-
+use crate::logs::Voted;
+use crate::node::Node;
+use crate::step::Step;
 use mega_ballot::Ballot;
 use mega_base::{Copied, GroupId, NoMemory, NodeId, OpId, Position};
 use mega_entry::Entry;
 use mega_wire::Body;
-
-use crate::logs::Voted;
-use crate::node::Node;
-use crate::step::Step;
+use std::alloc::Global;
 
 impl Node {
     /// Tells the greatest position of the group that this node accepted or decided.
