@@ -12,6 +12,10 @@ const HEADER: &str =
 const PUT: &str =
     "{\"do\":\"txn\",\"node\":1,\"group\":[\"User\",[101]],\"checks\":[],\"reads\":[],\"writes\":[{\"put\":\"User\",\"row\":{\"user_id\":101,\"name\":\"John\"}}],\"sends\":[]}\n";
 
+/// The transcript of one put whose 14 messages are delivered in order.
+const TRANSCRIPT: &str =
+    "start 1 1\nstart 2 1\nstart 3 1\nbegin 1.1.1 {\"checks\":[],\"do\":\"txn\",\"group\":[\"User\",[101]],\"node\":1,\"reads\":[],\"sends\":[],\"writes\":[{\"put\":\"User\",\"row\":{\"name\":\"John\",\"user_id\":101}}]}\nsent 1 1 1 where 4d530101010101000000010000000100000009018000000000000065\nsent 2 1 2 where 4d530101010201000000010000000100000009018000000000000065\nsent 3 1 3 where 4d530101010301000000010000000100000009018000000000000065\ntaken 1\nsent 4 1 1 top 4d5301020101010000000100000001000000090180000000000000650000000000000000\ntaken 2\nsent 5 2 1 top 4d5301020201010000000100000001000000090180000000000000650000000000000000\ntaken 3\nsent 6 3 1 top 4d5301020301010000000100000001000000090180000000000000650000000000000000\ntaken 4\ntaken 5\nsent 7 1 1 accept 4d53010301010100000001000000010000000901800000000000006500000000000000010000000000000000000000000000000048010101000000010000000101000000010000000a0180000000000000650101020100000001020000000000000065020000000104000000044a6f686e000000000000000000000000\ntaken 6\ntaken 7\nsent 8 1 1 accepted 4d53010401010100000001000000010000000901800000000000006500000000000000010000000000000000000000000000000048010101000000010000000101000000010000000a0180000000000000650101020100000001020000000000000065020000000104000000044a6f686e000000000000000000000000\ntaken 8\nsent 9 1 2 accept 4d53010301020100000001000000010000000901800000000000006500000000000000010000000000000000000000000000000048010101000000010000000101000000010000000a0180000000000000650101020100000001020000000000000065020000000104000000044a6f686e000000000000000000000000\nsent 10 1 3 accept 4d53010301030100000001000000010000000901800000000000006500000000000000010000000000000000000000000000000048010101000000010000000101000000010000000a0180000000000000650101020100000001020000000000000065020000000104000000044a6f686e000000000000000000000000\ntaken 9\nsent 11 2 1 accepted 4d53010402010100000001000000010000000901800000000000006500000000000000010000000000000000000000000000000048010101000000010000000101000000010000000a0180000000000000650101020100000001020000000000000065020000000104000000044a6f686e000000000000000000000000\ntaken 10\nsent 12 3 1 accepted 4d53010403010100000001000000010000000901800000000000006500000000000000010000000000000000000000000000000048010101000000010000000101000000010000000a0180000000000000650101020100000001020000000000000065020000000104000000044a6f686e000000000000000000000000\ntaken 11\ntaken 12\ndecide 1 018000000000000065 1 010101000000010000000101000000010000000a0180000000000000650101020100000001020000000000000065020000000104000000044a6f686e000000000000000000000000\napply 1 018000000000000065 1\nanswer 1.1.1 committed 1 []\nsent 13 1 2 decide 4d53010d010200000009018000000000000065000000000000000100000048010101000000010000000101000000010000000a0180000000000000650101020100000001020000000000000065020000000104000000044a6f686e000000000000000000000000\nsent 14 1 3 decide 4d53010d010300000009018000000000000065000000000000000100000048010101000000010000000101000000010000000a0180000000000000650101020100000001020000000000000065020000000104000000044a6f686e000000000000000000000000\ntaken 13\ndecide 2 018000000000000065 1 010101000000010000000101000000010000000a0180000000000000650101020100000001020000000000000065020000000104000000044a6f686e000000000000000000000000\napply 2 018000000000000065 1\ntaken 14\ndecide 3 018000000000000065 1 010101000000010000000101000000010000000a0180000000000000650101020100000001020000000000000065020000000104000000044a6f686e000000000000000000000000\napply 3 018000000000000065 1\n";
+
 const STARTS: &str = "start 1 1\nstart 2 1\nstart 3 1\n";
 
 const BEGUN: &str =
@@ -45,6 +49,30 @@ fn source_of(alloc: Global, parts: &[&str]) -> Result<MemSource, NoMemory> {
         bytes.extend_from_slice(part.as_bytes())?;
     }
     Ok(MemSource::new(bytes, Vec::new(alloc)))
+}
+
+/// The header, one put, and the deliveries of messages 1 to `last`.
+fn delivered(alloc: Global, last: u64) -> Result<MemSource, NoMemory> {
+    let mut bytes = Vec::new(alloc);
+    bytes.extend_from_slice(HEADER.as_bytes())?;
+    bytes.extend_from_slice(PUT.as_bytes())?;
+    for message in 0..last {
+        let number = message + 1;
+        let line = format!(in alloc; "{{\"do\":\"deliver\",\"message\":{number}}}\n")?;
+        bytes.extend_from_slice(line.as_bytes())?;
+    }
+    Ok(MemSource::new(bytes, Vec::new(alloc)))
+}
+
+#[test]
+fn one_put_is_committed(rt: HostRuntime) -> Result<(), Fail> {
+    let alloc = rt.alloc();
+    let mut input = delivered(alloc, 14)?;
+    let mut out = MemSink::new(alloc, Vec::new(alloc));
+    let status = run(alloc, replay_words(alloc)?.as_slice(), &mut input, &mut out);
+    assert_eq!(rt; status, 0);
+    assert_eq!(rt; out.bytes(), TRANSCRIPT.as_bytes());
+    Ok(())
 }
 
 #[test]
@@ -101,19 +129,6 @@ fn a_source_that_fails_at_once_leaves_nothing_written(rt: HostRuntime) -> Result
     Ok(())
 }
 
-#[test]
-fn a_sink_that_fails_holds_a_front(rt: HostRuntime) -> Result<(), Fail> {
-    let alloc = rt.alloc();
-    let mut input = source_of(alloc, &[HEADER])?;
-    let mut out = MemSink::new(alloc, vec![in alloc; 1]?);
-    assert_eq!(rt;
-        run(alloc, replay_words(alloc)?.as_slice(), &mut input, &mut out),
-        6
-    );
-    assert!(rt; STARTS.as_bytes().starts_with(out.bytes()));
-    Ok(())
-}
-
 /// A sink that takes one byte at a time.
 #[derive(Drop)]
 struct Narrow {
@@ -147,5 +162,21 @@ fn bytes_may_come_and_go_one_at_a_time(rt: HostRuntime) -> Result<(), Fail> {
         0
     );
     assert_eq!(rt; out.inner.bytes(), BEGUN.as_bytes());
+    Ok(())
+}
+
+#[test]
+fn a_sink_that_fails_at_a_call_holds_a_front(rt: HostRuntime) -> Result<(), Fail> {
+    let alloc = rt.alloc();
+    for calls in 0..STARTS.len() {
+        let mut input = source_of(alloc, &[HEADER])?;
+        let mut out = Narrow {
+            inner: MemSink::new(alloc, vec![in alloc; calls as u64 + 1]?),
+        };
+        let status = run(alloc, replay_words(alloc)?.as_slice(), &mut input, &mut out);
+        assert_eq!(rt; status, 6);
+        assert_eq!(rt; out.inner.bytes().len(), calls);
+        assert!(rt; STARTS.as_bytes().starts_with(out.inner.bytes()));
+    }
     Ok(())
 }
