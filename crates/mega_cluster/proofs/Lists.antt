@@ -1,6 +1,5 @@
 -- Lists that are there where each of their items is.
-use Rattle.std.proofs.Common.{◌≡◌, ℕ, suc, ◌+◌, ◌<◌, List, [], ◌∷◌, ◌++◌, length, drop, get_or, refl, sym, ap, ◌∙◌, append_assoc, append-nil, arith, Option, Some, None}
-use Rattle.toml.specs.Data.{Data, Items, no_items, item}
+use Rattle.std.proofs.Common.{◌≡◌, List, [], ◌∷◌, ◌++◌, refl, sym, ap, append_assoc, Option, Some, None}
 use Rattle.mega_cluster.specs.Header.{before}
 
 -- the items of front, before the others

@@ -1,5 +1,5 @@
 -- What was spelled is read again, whatever follows it.
-use Rattle.std.proofs.Common.{◌≡◌, ℕ, zero, suc, ◌+◌, ◌<◌, ◌≤◌, Bool, true, false, cond, List, [], ◌∷◌, ◌++◌, length, drop, refl, sym, ap, ◌∙◌, subst, arith, append_assoc, append-nil, length-append, Option, Some, None, Result, Ok, Err}
+use Rattle.std.proofs.Common.{◌≡◌, ℕ, suc, ◌<◌, Bool, true, false, cond, List, [], ◌∷◌, ◌++◌, length, drop, refl, sym, ap, ◌∙◌, arith, append_assoc, append-nil, length-append, Option, Some, None, Ok, Err}
 use Rattle.std.specs.Prelude.{codes}
 use Rattle.std.specs.List.{list_any, AllByRecursion}
 use Rattle.std.proofs.lemmas.Slice.Eq.{bytes_eq-Decides}
@@ -17,8 +17,8 @@ use Rattle.mega_schema.specs.declared.words.Statement.TheVariants.{Table, Index,
 use Rattle.mega_schema.specs.declared.words.Placed.{Placed}
 use Rattle.mega_schema.specs.declared.words.SchemaWords.{SchemaWords}
 use Rattle.mega_schema.specs.Names.{is_name, same}
-use Rattle.mega_schema.specs.Reading.{Texts, Read, ◌>>=◌, go_on, items_at, all_items_at, is_next, word_at, name_at, refused_if, comma_at, name_step, names_at, need_at, property_at, some_of, property_step, properties_at, is_root, is_scatter, is_inside, is_group, group_at, inside_at, entity_at, clause_at, clause_step, table_at, storing_at, index_at, change_at, by, created_at, statement_at, placed_step, schema_at}
-use Rattle.mega_schema.specs.Grammar.{spell_items, FitItems, IsName, spell_name, spell_names, FitsName, AreNames, need_word, spell_property, spell_properties, IsProperty, FitsProperty, spell_clause, spell_clause_item, FitsClause, spell_table, IsTable, spell_storing, spell_index, IsStoring, IsIndex, spell_change, IsChange, index_word, spell_statement, IsStatement, spell_placed, FitsPlaced, spell_schema, Spells}
+use Rattle.mega_schema.specs.Reading.{Texts, Read, ◌>>=◌, items_at, all_items_at, word_at, name_at, refused_if, name_step, names_at, need_at, property_at, some_of, property_step, properties_at, is_root, is_scatter, is_inside, is_group, group_at, inside_at, entity_at, clause_at, clause_step, table_at, storing_at, index_at, change_at, created_at, statement_at, placed_step, schema_at}
+use Rattle.mega_schema.specs.Grammar.{spell_items, FitItems, IsName, spell_name, spell_names, FitsName, AreNames, need_word, spell_property, spell_properties, IsProperty, FitsProperty, spell_clause, spell_clause_item, FitsClause, spell_table, IsTable, spell_storing, spell_index, IsStoring, IsIndex, spell_change, IsChange, index_word, spell_statement, IsStatement, spell_placed, FitsPlaced, Spells}
 use Rattle.mega_schema.proofs.Takes.{clauses_fit}
 use Rattle.mega_schema.proofs.Items.{StepAgain, items_again, items_long}
 

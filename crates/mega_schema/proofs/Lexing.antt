@@ -1,11 +1,11 @@
 -- Tokens from the left: blanks are passed over, a run of name bytes is one token, another byte is one.
-use Rattle.std.proofs.Common.{◌≡◌, ℕ, zero, suc, ◌+◌, ◌-◌, ◌<◌, ◌≤◌, cond, eqb, leb, Bool, true, false, ◌&&◌, ◌||◌, List, [], ◌∷◌, ◌++◌, length, take, drop, refl, sym, ap, ◌∙◌, subst, arith, add-one, add-zero, append_assoc}
+use Rattle.std.proofs.Common.{◌≡◌, ℕ, suc, ◌+◌, ◌<◌, cond, eqb, Bool, true, false, ◌&&◌, List, [], ◌∷◌, take, drop, refl, sym, ap, ◌∙◌, subst, arith, add-zero}
 use Rattle.std.specs.List.{prefix_len}
-use Rattle.std.proofs.lemmas.Bool.{false≢true, eq-eqb}
+use Rattle.std.proofs.lemmas.Bool.{eq-eqb}
 use Rattle.std.proofs.lemmas.Bool.Decides.{nat_tests}
 use Rattle.mega_schema.specs.declared.token.Token.{Token}
-use Rattle.mega_schema.specs.Names.{is_letter, is_name_byte}
-use Rattle.mega_schema.specs.Tokens.{is_blank, continues, join, tokens_from, tokens, Splits}
+use Rattle.mega_schema.specs.Names.{is_name_byte}
+use Rattle.mega_schema.specs.Tokens.{is_blank, continues, join, tokens_from, Splits}
 
 abbrev token : ℕ → List ℕ → Token
 token at text = record { at = at; text = text }

@@ -1,10 +1,10 @@
 -- A loop over steps, until one finds no more.
-use Rattle.std.proofs.Common.{◌≡◌, ℕ, zero, suc, ◌+◌, ◌<◌, List, [], ◌∷◌, ◌++◌, length, refl, sym, ap, ◌∙◌, subst, arith, Option, Some, None, Result, Ok, Err}
+use Rattle.std.proofs.Common.{◌≡◌, suc, ◌<◌, List, [], ◌∷◌, ◌++◌, length, sym, ap, ◌∙◌, arith, Option, Some, None, Ok}
 use Rattle.mega_schema.specs.declared.parser.Stop.{Stop}
 use Rattle.mega_schema.specs.declared.parser.Stop.TheVariants.{Left, Refused}
 use Rattle.mega_schema.specs.Stops.{Fails}
-use Rattle.mega_schema.specs.Reading.{Texts, Read, ◌>>=◌, go_on, items_at, all_items_at}
-use Rattle.mega_schema.proofs.Items.{StepTells, StepTakes, items_enough}
+use Rattle.mega_schema.specs.Reading.{Texts, Read, ◌>>=◌, go_on, items_at}
+use Rattle.mega_schema.proofs.Items.{StepTakes, items_enough}
 
 -- what is read from here is what is read of all
 abbrev pub IsWithin : {A : Type 0} → (List A → Texts → Read (Option A)) → List A → Texts → Read (List A) → Type 0

@@ -1,14 +1,14 @@
 -- From the exact answer to what it says of the text.
-use Rattle.std.proofs.Common.{◌≡◌, ℕ, List, [], ◌∷◌, length, refl, sym, ap, ◌∙◌, subst, Result, Ok, Err}
+use Rattle.std.proofs.Common.{◌≡◌, ℕ, List, length, refl, sym, ap, ◌∙◌, subst, Result, Ok, Err}
 use Rattle.mega_schema.specs.declared.token.Token.{Token}
 use Rattle.mega_schema.specs.declared.schema.Schema.{Schema}
 use Rattle.mega_schema.specs.declared.words.SchemaWords.{SchemaWords}
 use Rattle.mega_schema.specs.declared.fault.SchemaFault.{SchemaFault}
 use Rattle.mega_schema.specs.declared.fault.SchemaFault.TheVariants.{Syntax, Rule, NoMemory}
 use Rattle.mega_schema.specs.Tokens.{tokens, texts}
-use Rattle.mega_schema.specs.Reading.{Texts, Read, schema_at}
+use Rattle.mega_schema.specs.Reading.{Read, schema_at}
 use Rattle.mega_schema.specs.Grammar.{Spells}
-use Rattle.mega_schema.specs.Verdict.{Gives, offset, judge_all, ruled, answer_of, parse_of, Tells}
+use Rattle.mega_schema.specs.Verdict.{Gives, judge_all, ruled, answer_of, parse_of, Tells}
 use Rattle.mega_schema.proofs.Takes.{schema_taken}
 use Rattle.mega_schema.proofs.Again.{schema_again}
 

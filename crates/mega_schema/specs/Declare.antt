@@ -1,7 +1,6 @@
 -- What statements declare.
-use Rattle.std.specs.Prelude.{◌≡◌, ℕ, ◌+◌, min, Bool, true, false, List, [], ◌∷◌, ◌++◌, length, map, Option, Some, None, unwrap_or, position, slice_get, slice_set}
+use Rattle.std.specs.Prelude.{ℕ, ◌+◌, min, Bool, false, List, [], ◌∷◌, ◌++◌, length, map, Option, Some, None, unwrap_or, position, slice_get, slice_set}
 use Rattle.std.specs.List.{list_any}
-use Rattle.mega_base.specs.declared.values.Kind.{Kind}
 use Rattle.mega_base.specs.declared.values.Kind.TheVariants.{Int32}
 use Rattle.mega_schema.specs.declared.schema.Property.{Property}
 use Rattle.mega_schema.specs.declared.schema.Table.{Table}
@@ -11,7 +10,6 @@ use Rattle.mega_schema.specs.declared.words.PropertyWords.{PropertyWords}
 use Rattle.mega_schema.specs.declared.words.Clause.{Clause}
 use Rattle.mega_schema.specs.declared.words.TableWords.{TableWords}
 use Rattle.mega_schema.specs.declared.words.IndexWords.{IndexWords}
-use Rattle.mega_schema.specs.declared.words.ChangeWords.{ChangeWords}
 use Rattle.mega_schema.specs.declared.words.Statement.{Statement}
 use Rattle.mega_schema.specs.declared.words.Statement.TheVariants as statements
 use Rattle.mega_schema.specs.Names.{same}

@@ -1,5 +1,5 @@
 -- How each part of a text is spelled in tokens, and which parts have a spelling.
-use Rattle.std.specs.Prelude.{◌≡◌, ℕ, ◌+◌, Bool, true, false, List, [], ◌∷◌, ◌++◌, length, codes, Option, Some, None}
+use Rattle.std.specs.Prelude.{◌≡◌, ℕ, Bool, true, false, List, [], ◌∷◌, ◌++◌, length, codes, Option, Some, None}
 use Rattle.std.specs.List.{list_any, AllByRecursion}
 use Rattle.mega_schema.specs.declared.schema.Need.{Need}
 use Rattle.mega_schema.specs.declared.schema.Need.TheVariants.{Required, Optional, Repeated}

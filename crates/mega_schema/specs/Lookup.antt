@@ -1,13 +1,12 @@
 -- Looking things up by name.
-use Rattle.std.specs.Prelude.{◌≡◌, ℕ, ◌+◌, min, Bool, true, false, not, ◌&&◌, ◌||◌, List, [], ◌∷◌, ◌++◌, length, map, codes, Option, Some, None, if◌then◌else◌, find, position, ◌==◌, ◌-◌, slice_get}
-use Rattle.std.specs.List.{list_any, list_all}
+use Rattle.std.specs.Prelude.{ℕ, Bool, true, false, ◌||◌, List, [], ◌∷◌, codes, Option, Some, None, if◌then◌else◌, find, position, ◌==◌, ◌-◌, slice_get}
+use Rattle.std.specs.List.{list_any}
 use Rattle.mega_base.specs.declared.values.Kind.{Kind}
 use Rattle.mega_base.specs.declared.values.Kind.TheVariants.{Int32, Int64, Bool as Truth, Str, Raw}
 use Rattle.mega_schema.specs.declared.schema.Need.{Need}
-use Rattle.mega_schema.specs.declared.schema.Need.TheVariants.{Required, Optional, Repeated}
+use Rattle.mega_schema.specs.declared.schema.Need.TheVariants.{Required, Repeated}
 use Rattle.mega_schema.specs.declared.schema.Property.{Property}
 use Rattle.mega_schema.specs.declared.schema.Table.{Table}
-use Rattle.mega_schema.specs.declared.schema.Index.{Index}
 use Rattle.mega_schema.specs.declared.words.PropertyWords.{PropertyWords}
 use Rattle.mega_schema.specs.declared.words.Clause.{Clause}
 use Rattle.mega_schema.specs.declared.words.Clause.TheVariants.{Root, Scatter, Inside, Group}

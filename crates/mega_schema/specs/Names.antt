@@ -1,5 +1,5 @@
 -- Names: a letter or '_', and then letters, digits and '_'.
-use Rattle.std.specs.Prelude.{ℕ, Bool, true, false, ◌&&◌, ◌||◌, List, [], ◌∷◌, ◌==◌, nat_le, nat_eq}
+use Rattle.std.specs.Prelude.{ℕ, Bool, false, ◌&&◌, ◌||◌, List, [], ◌∷◌, ◌==◌, nat_le, nat_eq}
 use Rattle.std.specs.List.{list_all}
 use Rattle.std.specs.Cmp.Lexicographic.{pointwise}
 

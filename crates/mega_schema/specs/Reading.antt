@@ -1,5 +1,5 @@
 -- Reading the texts of tokens from left to right. A fault is told by how many tokens are left from it on.
-use Rattle.std.specs.Prelude.{◌≡◌, ℕ, zero, suc, ◌+◌, Bool, true, false, ◌||◌, List, [], ◌∷◌, ◌++◌, length, drop, codes, Option, Some, None, Result, Ok, Err, if◌then◌else◌}
+use Rattle.std.specs.Prelude.{ℕ, zero, suc, Bool, true, false, List, [], ◌∷◌, ◌++◌, length, drop, codes, Option, Some, None, Result, Ok, Err, if◌then◌else◌}
 use Rattle.std.specs.List.{list_any}
 use Rattle.mega_schema.specs.declared.schema.Need.{Need}
 use Rattle.mega_schema.specs.declared.schema.Need.TheVariants.{Required, Optional, Repeated}

@@ -1,12 +1,10 @@
 -- The rules that a statement may break, each by what was declared before it.
-use Rattle.std.specs.Prelude.{◌≡◌, ℕ, ◌+◌, Bool, true, false, not, ◌&&◌, ◌||◌, List, [], ◌∷◌, ◌++◌, length, take, map, Option, Some, None, is_none, is_some, if◌then◌else◌, nat_lt, nat_le, ◌==◌, count_by}
-use Rattle.std.specs.List.{list_any, list_all}
-use Rattle.std.specs.Cmp.Lexicographic.{pointwise}
+use Rattle.std.specs.Prelude.{ℕ, ◌+◌, Bool, true, false, not, ◌&&◌, ◌||◌, List, [], ◌∷◌, length, map, Option, Some, None, is_none, is_some, if◌then◌else◌, nat_lt, nat_le, count_by}
+use Rattle.std.specs.List.{list_any}
 use Rattle.mega_base.specs.declared.values.Kind.{Kind}
 use Rattle.mega_base.specs.declared.values.Kind.TheVariants.{Int32, Int64, Bool as Truth, Str, Raw}
 use Rattle.mega_schema.specs.declared.schema.Property.{Property}
 use Rattle.mega_schema.specs.declared.schema.Table.{Table}
-use Rattle.mega_schema.specs.declared.schema.Index.{Index}
 use Rattle.mega_schema.specs.declared.schema.Schema.{Schema}
 use Rattle.mega_schema.specs.declared.words.PropertyWords.{PropertyWords}
 use Rattle.mega_schema.specs.declared.words.Clause.{Clause}
@@ -17,7 +15,7 @@ use Rattle.mega_schema.specs.declared.words.Statement.{Statement}
 use Rattle.mega_schema.specs.declared.words.Statement.TheVariants as statements
 use Rattle.mega_schema.specs.Names.{same}
 use Rattle.mega_schema.specs.Reading.{is_root, is_scatter, is_inside, is_group}
-use Rattle.mega_schema.specs.Lookup.{kind_of, is_required, is_repeated, is_among, stands_twice, words_named, property_named, property_at, table_named, is_root_table, group_of, inside_of}
+use Rattle.mega_schema.specs.Lookup.{kind_of, is_required, is_repeated, stands_twice, words_named, property_named, property_at, table_named, is_root_table, group_of, inside_of}
 
 abbrev pub is_long : List ℕ → Bool
 is_long n = nat_lt 64 (length n)

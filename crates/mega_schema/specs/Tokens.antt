@@ -1,9 +1,6 @@
 -- The tokens of a text: each run of letters, digits and '_', and each other byte that is no blank.
-use Rattle.std.specs.Prelude.{◌≡◌, ℕ, suc, ◌+◌, ◌-◌, Bool, true, false, ◌&&◌, ◌||◌, List, [], ◌∷◌, ◌++◌, length, take, drop, map, ◌==◌, nat_le, if◌then◌else◌}
-use Rattle.std.specs.List.{list_all}
-use Rattle.std.specs.Cmp.Lexicographic.{pointwise}
-use Rattle.std.specs.Prelude.{nat_eq}
-use Rattle.mega_schema.specs.Names.{is_letter, is_name_byte}
+use Rattle.std.specs.Prelude.{◌≡◌, ℕ, ◌+◌, Bool, false, ◌&&◌, ◌||◌, List, [], ◌∷◌, take, drop, map, ◌==◌, if◌then◌else◌}
+use Rattle.mega_schema.specs.Names.{is_name_byte}
 use Rattle.mega_schema.specs.declared.token.Token.{Token}
 
 -- space, tab, line feed, carriage return

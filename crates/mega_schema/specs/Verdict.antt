@@ -1,5 +1,5 @@
 -- The answer for a text: the schema that it declares, or the first fault.
-use Rattle.std.specs.Prelude.{◌≡◌, ℕ, zero, suc, ◌+◌, ◌-◌, Bool, true, false, List, [], ◌∷◌, length, Option, Some, None, Result, Ok, Err, if◌then◌else◌, slice_get}
+use Rattle.std.specs.Prelude.{◌≡◌, ℕ, ◌-◌, List, [], ◌∷◌, length, Option, Some, None, Result, Ok, Err, if◌then◌else◌, slice_get}
 use Rattle.mega_schema.specs.declared.token.Token.{Token}
 use Rattle.mega_schema.specs.declared.schema.Schema.{Schema}
 use Rattle.mega_schema.specs.declared.words.Placed.{Placed}
@@ -7,7 +7,7 @@ use Rattle.mega_schema.specs.declared.words.SchemaWords.{SchemaWords}
 use Rattle.mega_schema.specs.declared.fault.SchemaFault.{SchemaFault}
 use Rattle.mega_schema.specs.declared.fault.SchemaFault.TheVariants.{Syntax, Rule, NoMemory}
 use Rattle.mega_schema.specs.Tokens.{tokens, texts}
-use Rattle.mega_schema.specs.Reading.{Texts, Read, schema_at}
+use Rattle.mega_schema.specs.Reading.{Read, schema_at}
 use Rattle.mega_schema.specs.Grammar.{Spells}
 use Rattle.mega_schema.specs.Rules.{is_long, broken}
 use Rattle.mega_schema.specs.Declare.{declare}

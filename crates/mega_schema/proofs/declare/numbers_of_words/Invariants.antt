@@ -1,5 +1,4 @@
-use Rattle.std.proofs.Common.{◌≡◌, ◌++◌, take}
-use Rattle.std.specs.Prelude.{map}
+use Rattle.std.proofs.Common.{◌≡◌, take}
 use Rattle.mega_schema.specs.Declare.{numbers_of_words}
 use Rattle.mega_schema.proofs.declare.numbers_of_words.Given as goal
 

@@ -1,5 +1,4 @@
-use Rattle.std.proofs.Common.{[], ◌∷◌}
-use Rattle.std.specs.Prelude.{codes}
+use Rattle.std.proofs.Common.{[]}
 use Rattle.mega_schema.specs.Reading.{placed_step, all_items_at}
 use Rattle.mega_schema.specs.Grammar.{FitsPlaced, spell_placed}
 use Rattle.mega_schema.proofs.Loop.{loop_ends, loop_fails, loop_less, loop_more}
