@@ -19,7 +19,7 @@ use Rattle.mega_coordinator.proofs.Epochs.{sound_calls}
 use Rattle.mega_coordinator.proofs.Kept.{same_group}
 
 -- ---- groups
-group_self : (g : GroupId) → is_group g g ≡ true
+pub group_self : (g : GroupId) → is_group g g ≡ true
 group_self g = go (group_cmp g g) (nat_list_cmp_total.antisymm g.key g.key)
   where
     go : (o : Ordering) → o ≡ ordering_reverse o → is_eq o ≡ true

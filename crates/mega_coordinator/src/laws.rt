@@ -1,10 +1,10 @@
 //! What follows from the rule of a coordinator over any list of calls, as contracts of functions that do
 //! nothing.
 
-ghost use Rattle.std.specs.Prelude.{◌≡◌, ℕ, List, ◌∷◌, true, false, Some};
+ghost use Rattle.std.specs.Prelude.{◌≡◌, ℕ, List, [], ◌∷◌, true, false, Some};
 ghost use Rattle.mega_base.specs.declared.names.Epoch.{Epoch};
 ghost use Rattle.mega_base.specs.declared.names.GroupId.{GroupId};
-ghost use Rattle.mega_coordinator.specs.History.{Call, ends, epoch_after, is_valid, serving};
+ghost use Rattle.mega_coordinator.specs.History.{Call, Grants, Validates, ends, epoch_after, is_valid, serving};
 ghost use Rattle.mega_coordinator.specs.Laws.{ServesAlone, ValidatedAbove, endings, epoch_at, is_counted};
 
 /// The present epoch is the start with the number of epochs that ended in it; there is none once the
@@ -27,4 +27,9 @@ pub fn serving_counts_no_new_cell()
 /// every invalidate of it in this epoch.
 pub fn valid_is_validated()
     ensures { (start cells : ℕ) (calls : List Call) (group : GroupId) → is_valid start cells calls group ≡ true → ValidatedAbove start cells calls group }
+{}
+
+/// An epoch may serve, and a group be valid in it: with one cell, after a grant and a validate.
+pub fn a_group_may_be_valid()
+    ensures { (group : GroupId) → is_valid 1 1 (Validates group 5 (record { start = 1; count = 0 }) ∷ Grants 1 (record { start = 1; count = 0 }) 100 0 ∷ []) group ≡ true }
 {}

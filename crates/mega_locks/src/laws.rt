@@ -1,8 +1,8 @@
 //! What follows from the rule of a cell over any list of calls, as contracts of functions that do nothing.
 
-ghost use Rattle.std.specs.Prelude.{◌≡◌, ◌≤◌, ◌++◌, ℕ, List, None};
+ghost use Rattle.std.specs.Prelude.{◌≡◌, ◌≤◌, [], ◌∷◌, ◌++◌, ℕ, List, None};
 ghost use Rattle.mega_base.specs.declared.names.Epoch.{Epoch};
-ghost use Rattle.mega_locks.specs.History.{Call, first_tick, held_for, lapse_for};
+ghost use Rattle.mega_locks.specs.History.{Asks, Call, Ticks, first_tick, held_for, lapse_for};
 ghost use Rattle.mega_locks.specs.Laws.{IsEnded, IsRising, StaysEnded, due_epoch, grants, marks, standing};
 
 /// What is held for a node is the epoch of its last grant, where no lapse follows it. So no two epochs
@@ -36,4 +36,9 @@ pub fn lapses_at_its_time()
 /// The first tick of a start ends no epoch.
 pub fn first_tick_ends_none()
     ensures { (calls : List Call) (now keep node : ℕ) → first_tick calls ≡ None → 1 ≤ keep → lapse_for calls now keep node ≡ None }
+{}
+
+/// An epoch may end: one granted at the clock reading 0 for 120 ends at the tick at 120.
+pub fn an_epoch_may_end()
+    ensures { (start count : ℕ) → IsEnded (Ticks 120 120 ∷ Asks 3 (record { start = start; count = count }) 0 120 ∷ Ticks 0 120 ∷ []) 3 (record { start = start; count = count }) }
 {}
