@@ -1,4 +1,6 @@
-use crate::{Failed, MemSink, MemSource, Sink, SinkError, Source, StdSink, StdSource, put};
+use crate::{
+    Failed, MemSink, MemSource, Sink, SinkError, Source, StdSink, StdSource, WriteBuffer, put,
+};
 use std::test::Fail;
 
 fn read_some<S: Source>(source: &mut S) -> Result<(usize, [u8; 4]), Failed> {
