@@ -131,22 +131,22 @@ pub trait Records {
     fn due(&self) -> bool
         ensures { result ≡ is_due self.now };
 
-    /// Puts one record in place of the whole list. After any refusal but `Full` the store answers
-    /// `Spent` until it is opened again.
+    /// Puts one record in place of the whole list, which is to be due. After any refusal but `Full` the
+    /// store answers `Spent` until it is opened again. A list that is never due may refuse with `Spent`,
+    /// which leaves it as it was.
     fn replace(&mut self, alloc: Global, body: &[u8]) -> Result<(), RecordError>
-        requires due { is_due self.old ≡ true }
         requires short { length body.now < 2 ^ 32 }
-        ensures replaced { is_told ≡ true → OnOk result (list self.new ≡ body.now ∷ []) }
-        ensures any_moment { is_told ≡ true → is_spent self.old ≡ false → LeavesOnly moment opened_since self.old self.new (IsOldOrReplaced (list self.old) body.now) }
-        ensures counted { OnOk result (count_of self.new ≡ 1) }
-        ensures not_counted { OnErr result (count_of self.new ≡ count_of self.old) }
-        ensures not_spent { OnOk result (is_spent self.new ≡ false) }
-        ensures spent { (result ≡ Err RecordError.Spent) ↔ (is_spent self.old ≡ true) }
+        ensures replaced { is_due self.old ≡ true → is_told ≡ true → OnOk result (list self.new ≡ body.now ∷ []) }
+        ensures any_moment { is_due self.old ≡ true → is_told ≡ true → is_spent self.old ≡ false → LeavesOnly moment opened_since self.old self.new (IsOldOrReplaced (list self.old) body.now) }
+        ensures counted { is_due self.old ≡ true → OnOk result (count_of self.new ≡ 1) }
+        ensures not_counted { is_due self.old ≡ true → OnErr result (count_of self.new ≡ count_of self.old) }
+        ensures not_spent { is_due self.old ≡ true → OnOk result (is_spent self.new ≡ false) }
+        ensures spent { is_due self.old ≡ true → ((result ≡ Err RecordError.Spent) ↔ (is_spent self.old ≡ true)) }
         ensures full { (n : ℕ) → result ≡ Err (RecordError.Full n) → (n ≡ length_replaced self.old (length body.now)) × (2 ^ 40 < n) }
-        ensures passes { is_spent self.old ≡ false → 2 ^ 40 < length_replaced self.old (length body.now) → result ≡ Err (RecordError.Full (length_replaced self.old (length body.now))) }
+        ensures passes { is_due self.old ≡ true → is_spent self.old ≡ false → 2 ^ 40 < length_replaced self.old (length body.now) → result ≡ Err (RecordError.Full (length_replaced self.old (length body.now))) }
         ensures unchanged { (n : ℕ) → result ≡ Err (RecordError.Full n) → self.new ≡ self.old }
         ensures idle { result ≡ Err RecordError.Spent → self.new ≡ self.old }
-        ensures refused { OnErr result (((n : ℕ) × (result ≡ Err (RecordError.Full n))) ⊎ (is_spent self.new ≡ true)) }
+        ensures refused { is_due self.old ≡ true → OnErr result (((n : ℕ) × (result ≡ Err (RecordError.Full n))) ⊎ (is_spent self.new ≡ true)) }
         ensures cause { result ≡ Err RecordError.DiskFault → Rose (faults self.old) (faults self.new) }
         ensures later { faults self.old ≤ faults self.new }
         ensures may_burn { MayBurn (fuse_left self.old) (fuse_left self.new) }

@@ -168,6 +168,6 @@ impl<D: Disk> Records for Journal<D> {
     }
 
     fn replace(&mut self, _alloc: Global, _body: &[u8]) -> Result<(), RecordError> {
-        unreachable!()
+        Err(RecordError::Spent)
     }
 }
