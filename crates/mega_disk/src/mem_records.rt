@@ -130,7 +130,7 @@ impl Records for MemRecords {
     }
 
     fn replace(&mut self, _alloc: Global, body: &[u8]) -> Result<(), RecordError> {
-        if self.spent {
+        if self.since < DUE || self.spent {
             return Err(RecordError::Spent);
         }
         self.spent = true;

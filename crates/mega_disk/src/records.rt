@@ -132,8 +132,8 @@ pub trait Records {
         ensures { result ≡ is_due self.now };
 
     /// Puts one record in place of the whole list, which is to be due. After any refusal but `Full` the
-    /// store answers `Spent` until it is opened again. A list that is never due may refuse with `Spent`,
-    /// which leaves it as it was.
+    /// store answers `Spent` until it is opened again. A list that is not due refuses with `Spent`, which
+    /// leaves it as it was.
     fn replace(&mut self, alloc: Global, body: &[u8]) -> Result<(), RecordError>
         requires short { length body.now < 2 ^ 32 }
         ensures replaced { is_due self.old ≡ true → is_told ≡ true → OnOk result (list self.new ≡ body.now ∷ []) }
@@ -145,6 +145,7 @@ pub trait Records {
         ensures full { (n : ℕ) → result ≡ Err (RecordError.Full n) → (n ≡ length_replaced self.old (length body.now)) × (2 ^ 40 < n) }
         ensures passes { is_due self.old ≡ true → is_spent self.old ≡ false → 2 ^ 40 < length_replaced self.old (length body.now) → result ≡ Err (RecordError.Full (length_replaced self.old (length body.now))) }
         ensures unchanged { (n : ℕ) → result ≡ Err (RecordError.Full n) → self.new ≡ self.old }
+        ensures not_due { is_due self.old ≡ false → result ≡ Err RecordError.Spent }
         ensures idle { result ≡ Err RecordError.Spent → self.new ≡ self.old }
         ensures refused { is_due self.old ≡ true → OnErr result (((n : ℕ) × (result ≡ Err (RecordError.Full n))) ⊎ (is_spent self.new ≡ true)) }
         ensures cause { result ≡ Err RecordError.DiskFault → Rose (faults self.old) (faults self.new) }
