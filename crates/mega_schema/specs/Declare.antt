@@ -6,14 +6,14 @@ use Rattle.mega_schema.specs.declared.schema.Property.{Property}
 use Rattle.mega_schema.specs.declared.schema.Table.{Table}
 use Rattle.mega_schema.specs.declared.schema.Index.{Index}
 use Rattle.mega_schema.specs.declared.schema.Schema.{Schema}
-use Rattle.mega_schema.specs.declared.words.PropertyWords.{PropertyWords}
-use Rattle.mega_schema.specs.declared.words.Clause.{Clause}
-use Rattle.mega_schema.specs.declared.words.TableWords.{TableWords}
-use Rattle.mega_schema.specs.declared.words.IndexWords.{IndexWords}
-use Rattle.mega_schema.specs.declared.words.Statement.{Statement}
-use Rattle.mega_schema.specs.declared.words.Statement.TheVariants as statements
-use Rattle.mega_schema.specs.Names.{same}
-use Rattle.mega_schema.specs.Reading.{is_scatter, is_inside}
+use Rattle.mega_syntax.specs.declared.words.PropertyWords.{PropertyWords}
+use Rattle.mega_syntax.specs.declared.words.Clause.{Clause}
+use Rattle.mega_syntax.specs.declared.words.TableWords.{TableWords}
+use Rattle.mega_syntax.specs.declared.words.IndexWords.{IndexWords}
+use Rattle.mega_syntax.specs.declared.words.Statement.{Statement}
+use Rattle.mega_syntax.specs.declared.words.Statement.TheVariants as statements
+use Rattle.mega_syntax.specs.Names.{same}
+use Rattle.mega_syntax.specs.Reading.{is_scatter, is_inside}
 use Rattle.mega_schema.specs.Lookup.{kind_of, property_place, table_named, table_place, group_of}
 use Rattle.mega_schema.specs.Rules.{properties_of}
 
@@ -81,13 +81,14 @@ index_of s i =
 abbrev pub grown : Table → List PropertyWords → Table
 grown t ps = record t { properties = t.properties ++ map property_of ps }
 
+abbrev pub grown_with : List Table → List PropertyWords → ℕ → Option Table → List Table
+grown_with ts ps i None = ts
+grown_with ts ps i (Some t) = slice_set ts i (grown t ps)
+
+-- the tables with more properties behind those of the one at a place
 abbrev pub grown_at : List Table → List PropertyWords → Option ℕ → List Table
 grown_at ts ps None = ts
-grown_at ts ps (Some i) = grow (slice_get ts i)
-  where
-    grow : Option Table → List Table
-    grow None = ts
-    grow (Some t) = slice_set ts i (grown t ps)
+grown_at ts ps (Some i) = grown_with ts ps i (slice_get ts i)
 
 abbrev pub declare : Schema → Statement → Schema
 declare s (statements.Table t) = record s { tables = s.tables ++ table_of s t ∷ [] }

@@ -1,10 +1,12 @@
-pub mod Names
-pub mod Tokens
-pub mod Reading
-pub mod Stops
-pub mod Grammar
+pub use Rattle.mega_syntax.specs.Names
+pub use Rattle.mega_syntax.specs.Tokens
+pub use Rattle.mega_syntax.specs.Reading
+pub use Rattle.mega_syntax.specs.Grammar
+pub use Rattle.mega_syntax.specs.Whole
+pub mod Named
 pub mod Lookup
 pub mod Rules
+pub mod Known
 pub mod Declare
 pub mod Verdict
 pub mod Shaping

@@ -3,14 +3,14 @@ use Rattle.std.specs.Prelude.{ℕ, Bool, true, false, ◌||◌, List, [], ◌∷
 use Rattle.std.specs.List.{list_any}
 use Rattle.mega_base.specs.declared.values.Kind.{Kind}
 use Rattle.mega_base.specs.declared.values.Kind.TheVariants.{Int32, Int64, Bool as Truth, Str, Raw}
-use Rattle.mega_schema.specs.declared.schema.Need.{Need}
-use Rattle.mega_schema.specs.declared.schema.Need.TheVariants.{Required, Repeated}
+use Rattle.mega_syntax.specs.declared.need.Need.{Need}
+use Rattle.mega_syntax.specs.declared.need.Need.TheVariants.{Required, Repeated}
 use Rattle.mega_schema.specs.declared.schema.Property.{Property}
 use Rattle.mega_schema.specs.declared.schema.Table.{Table}
-use Rattle.mega_schema.specs.declared.words.PropertyWords.{PropertyWords}
-use Rattle.mega_schema.specs.declared.words.Clause.{Clause}
-use Rattle.mega_schema.specs.declared.words.Clause.TheVariants.{Root, Scatter, Inside, Group}
-use Rattle.mega_schema.specs.Names.{same}
+use Rattle.mega_syntax.specs.declared.words.PropertyWords.{PropertyWords}
+use Rattle.mega_syntax.specs.declared.words.Clause.{Clause}
+use Rattle.mega_syntax.specs.declared.words.Clause.TheVariants.{Root, Scatter, Inside, Group}
+use Rattle.mega_syntax.specs.Names.{same}
 
 -- the kind that a type's word names
 abbrev pub kind_of : List ℕ → Option Kind

@@ -6,15 +6,15 @@ use Rattle.mega_base.specs.declared.values.Kind.TheVariants.{Int32, Int64, Bool 
 use Rattle.mega_schema.specs.declared.schema.Property.{Property}
 use Rattle.mega_schema.specs.declared.schema.Table.{Table}
 use Rattle.mega_schema.specs.declared.schema.Schema.{Schema}
-use Rattle.mega_schema.specs.declared.words.PropertyWords.{PropertyWords}
-use Rattle.mega_schema.specs.declared.words.Clause.{Clause}
-use Rattle.mega_schema.specs.declared.words.TableWords.{TableWords}
-use Rattle.mega_schema.specs.declared.words.IndexWords.{IndexWords}
-use Rattle.mega_schema.specs.declared.words.ChangeWords.{ChangeWords}
-use Rattle.mega_schema.specs.declared.words.Statement.{Statement}
-use Rattle.mega_schema.specs.declared.words.Statement.TheVariants as statements
-use Rattle.mega_schema.specs.Names.{same}
-use Rattle.mega_schema.specs.Reading.{is_root, is_scatter, is_inside, is_group}
+use Rattle.mega_syntax.specs.declared.words.PropertyWords.{PropertyWords}
+use Rattle.mega_syntax.specs.declared.words.Clause.{Clause}
+use Rattle.mega_syntax.specs.declared.words.TableWords.{TableWords}
+use Rattle.mega_syntax.specs.declared.words.IndexWords.{IndexWords}
+use Rattle.mega_syntax.specs.declared.words.ChangeWords.{ChangeWords}
+use Rattle.mega_syntax.specs.declared.words.Statement.{Statement}
+use Rattle.mega_syntax.specs.declared.words.Statement.TheVariants as statements
+use Rattle.mega_syntax.specs.Names.{same}
+use Rattle.mega_syntax.specs.Reading.{is_root, is_scatter, is_inside, is_group}
 use Rattle.mega_schema.specs.Lookup.{kind_of, is_required, is_repeated, stands_twice, words_named, property_named, property_at, table_named, is_root_table, group_of, inside_of}
 
 abbrev pub is_long : List ℕ → Bool

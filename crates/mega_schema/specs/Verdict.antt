@@ -1,14 +1,15 @@
 -- The answer for a text: the schema that it declares, or the first fault.
-use Rattle.std.specs.Prelude.{◌≡◌, ℕ, ◌-◌, List, [], ◌∷◌, length, Option, Some, None, Result, Ok, Err, if◌then◌else◌, slice_get}
-use Rattle.mega_schema.specs.declared.token.Token.{Token}
+use Rattle.std.specs.Prelude.{◌≡◌, ℕ, List, [], ◌∷◌, length, Option, Some, None, Result, Ok, Err, if◌then◌else◌}
+use Rattle.mega_syntax.specs.declared.token.Token.{Token}
 use Rattle.mega_schema.specs.declared.schema.Schema.{Schema}
-use Rattle.mega_schema.specs.declared.words.Placed.{Placed}
-use Rattle.mega_schema.specs.declared.words.SchemaWords.{SchemaWords}
+use Rattle.mega_syntax.specs.declared.words.Placed.{Placed}
+use Rattle.mega_syntax.specs.declared.words.SchemaWords.{SchemaWords}
+use Rattle.mega_syntax.specs.declared.whole.SchemaText.{SchemaText}
 use Rattle.mega_schema.specs.declared.fault.SchemaFault.{SchemaFault}
 use Rattle.mega_schema.specs.declared.fault.SchemaFault.TheVariants.{Syntax, Rule, NoMemory}
-use Rattle.mega_schema.specs.Tokens.{tokens, texts}
-use Rattle.mega_schema.specs.Reading.{Read, schema_at}
-use Rattle.mega_schema.specs.Grammar.{Spells}
+use Rattle.mega_syntax.specs.Tokens.{texts}
+use Rattle.mega_syntax.specs.Grammar.{Spells}
+use Rattle.mega_syntax.specs.Whole.{offset, read_of}
 use Rattle.mega_schema.specs.Rules.{is_long, broken}
 use Rattle.mega_schema.specs.Declare.{declare}
 
@@ -21,14 +22,6 @@ Refuses (Rule at rule) answer = answer ≡ Err (Rule at rule)
 abbrev pub Gives : Result Schema SchemaFault → Result Schema SchemaFault → Type 0
 Gives (Ok s) answer = answer ≡ Ok s
 Gives (Err fault) answer = Refuses fault answer
-
--- where the token begins from which on so many are left: the text's end where none is
-abbrev pub offset : List Token → ℕ → ℕ → ℕ
-offset ts end left = begin (slice_get ts (length ts - left))
-  where
-    begin : Option Token → ℕ
-    begin None = end
-    begin (Some t) = t.at
 
 -- a schema of this name that declares nothing
 abbrev pub empty : List ℕ → Schema
@@ -52,12 +45,12 @@ abbrev pub ruled : List Token → ℕ → Result Schema (ℕ × ℕ) → Result 
 ruled ts end (Ok s) = Ok s
 ruled ts end (Err f) = Err (Rule (offset ts end f.0) f.1)
 
-abbrev pub answer_of : List Token → ℕ → Read SchemaWords → Result Schema SchemaFault
-answer_of ts end (Err left) = Err (Syntax (offset ts end left))
-answer_of ts end (Ok x) = ruled ts end (judge_all x.0 (length ts))
+abbrev pub answer_of : ℕ → Result SchemaText ℕ → Result Schema SchemaFault
+answer_of end (Err at) = Err (Syntax at)
+answer_of end (Ok r) = ruled r.tokens end (judge_all r.words (length r.tokens))
 
 abbrev pub parse_of : List ℕ → Result Schema SchemaFault
-parse_of text = answer_of (tokens text) (length text) (schema_at (texts (tokens text)))
+parse_of text = answer_of (length text) (read_of text)
 
 -- What an answer says of the text: Ok, that its tokens spell a schema whose statements break no rule and declare just this; Rule,
 -- that they spell one, and which of its statements is the first to break a rule; Syntax, that they spell none.

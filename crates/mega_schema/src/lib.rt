@@ -4,19 +4,19 @@
 mod copies;
 mod declare;
 mod fault;
-mod lexer;
+mod growth;
+mod known;
 mod lookup;
-mod parser;
+mod named;
+mod places;
 mod rules;
 mod schema;
 mod shaping;
-mod syntax;
-mod token;
 mod verdict;
-mod words;
 
 pub use fault::SchemaFault;
-pub use schema::{Index, Need, Property, Schema, Table};
+pub use mega_syntax::Need;
+pub use schema::{Index, Property, Schema, Table};
 pub use verdict::parse;
 
 #[cfg(test)]

@@ -1,17 +1,20 @@
-ghost use Rattle.std.specs.Prelude.{◌≡◌, is_some, is_none, map, nat_lt, length};
+ghost use Rattle.std.specs.Prelude.{◌≡◌, IfOk, is_some, is_none, map, nat_lt, length};
 ghost use Rattle.std.specs.List.{list_any};
-ghost use Rattle.mega_schema.specs.Names.{same};
+ghost use Rattle.mega_syntax.specs.Names.{same};
 ghost use Rattle.mega_schema.specs.Lookup.{is_among, stands_twice};
 ghost use Rattle.mega_schema.specs.Rules.{is_long, words_names, is_table, is_loose, repeats, has_other_type, has_long_name, begins_with, same_kind, named_kind, differ, kind_at, kinds_differ, has_unknown, lacks, repeated_count, root_differs, group_unknown, inside_unknown, is_no_root, inside_another, table_rule_1, table_rule_2, table_rule_3, table_rule_4, table_rule_5, table_rule_7, table_rule_8, table_rule_9, table_rule_11, table_rule_12, table_rule_14, table_broken, index_rule_1, index_rule_6, index_rule_10, index_broken, properties_of, adds_known, adds_required, change_rule_1, change_rule_11, change_broken, broken};
 
-use crate::lookup::{
-    group_of, inside_of, is_repeated, is_required, is_root_table, kind_of, property_named,
-    table_named, words_named,
+use crate::known::{Known, KnownTable};
+use crate::lookup::{group_of, inside_of, is_repeated, is_required, is_root_table, kind_of};
+use crate::named::NamedTable;
+use crate::places::{stands_twice, words_twice};
+use crate::schema::Property;
+use mega_base::{Kind, NoMemory};
+use mega_syntax::{
+    ChangeWords, IndexWords, Name, PropertyWords, Statement, TableWords, has_group, has_inside,
+    has_root, has_scatter,
 };
-use crate::schema::{Property, Schema};
-use crate::syntax::{has_group, has_inside, has_root, has_scatter};
-use crate::words::{ChangeWords, IndexWords, Name, PropertyWords, Statement, TableWords};
-use mega_base::Kind;
+use std::alloc::Global;
 
 /// The most bytes that a name may have.
 const LONGEST_NAME: usize = 64;
@@ -25,31 +28,21 @@ pub fn is_long(name: &Name<'_>) -> bool
     LONGEST_NAME < name.as_bytes().len()
 }
 
-pub fn is_table(schema: &Schema, name: &Name<'_>) -> bool
-    ensures { result ≡ is_table schema.now name.now }
-{
-    schema
-        .tables
-        .as_slice()
-        .iter()
-        .any(|table| table.name.as_bytes() == name.as_bytes())
-}
-
 /// Whether a property is there under the name, and is optional or repeated.
-pub fn is_loose(properties: &[PropertyWords<'_>], name: &Name<'_>) -> bool
-    ensures { result ≡ is_loose properties.now name.now }
+pub fn is_loose<'a>(table: &NamedTable<'_, 'a>, name: &Name<'a>) -> bool
+    ensures { result ≡ is_loose table.now.properties name.now }
 {
-    match words_named(properties, name) {
+    match table.property_named(name) {
         Some(property) => !is_required(property.need),
         None => false,
     }
 }
 
 /// Whether a property is there under the name, and is repeated.
-pub fn repeats(properties: &[Property], name: &Name<'_>) -> bool
-    ensures { result ≡ repeats properties.now name.now }
+pub fn repeats<'a>(table: &KnownTable<'_, 'a>, name: &Name<'a>) -> bool
+    ensures { result ≡ repeats table.now.properties name.now }
 {
-    match property_named(properties, name) {
+    match table.property_named(name) {
         Some(property) => is_repeated(property.need),
         None => false,
     }
@@ -69,29 +62,38 @@ pub fn has_long_name(properties: &[PropertyWords<'_>]) -> bool
     properties.iter().any(|property| is_long(&property.name))
 }
 
-pub fn has_unknown(properties: &[PropertyWords<'_>], names: &[Name<'_>]) -> bool
-    ensures { result ≡ has_unknown properties.now names.now }
+pub fn has_unknown<'a>(table: &NamedTable<'_, 'a>, names: &[Name<'a>]) -> bool
+    ensures { result ≡ has_unknown table.now.properties names.now }
 {
-    names
-        .iter()
-        .any(|name| words_named(properties, name).is_none())
+    for name in names {
+        if table.property_named(name).is_none() {
+            return true;
+        }
+    }
+    false
 }
 
-pub fn lacks(properties: &[Property], names: &[Name<'_>]) -> bool
-    ensures { result ≡ lacks properties.now names.now }
+pub fn lacks<'a>(table: &KnownTable<'_, 'a>, names: &[Name<'a>]) -> bool
+    ensures { result ≡ lacks table.now.properties names.now }
 {
-    names
-        .iter()
-        .any(|name| property_named(properties, name).is_none())
+    for name in names {
+        if table.property_named(name).is_none() {
+            return true;
+        }
+    }
+    false
 }
 
-pub fn repeated_count(properties: &[Property], names: &[Name<'_>]) -> usize
-    ensures { result ≡ repeated_count properties.now names.now }
+pub fn repeated_count<'a>(table: &KnownTable<'_, 'a>, names: &[Name<'a>]) -> usize
+    ensures { result ≡ repeated_count table.now.properties names.now }
 {
-    names
-        .iter()
-        .filter(|name| repeats(properties, name))
-        .count()
+    let mut count = 0;
+    for name in names {
+        if repeats(table, name) {
+            count += 1;
+        }
+    }
+    count
 }
 
 /// Whether the names of the second list begin with those of the first.
@@ -108,53 +110,6 @@ pub fn begins_with(front: &[Name<'_>], names: &[Name<'_>]) -> bool
     true
 }
 
-fn is_among(names: &[Name<'_>], name: &Name<'_>) -> bool
-    ensures { result ≡ is_among names.now name.now }
-{
-    names
-        .iter()
-        .any(|other| other.as_bytes() == name.as_bytes())
-}
-
-/// Whether some name stands twice.
-pub fn stands_twice(names: &[Name<'_>]) -> bool
-    ensures { result ≡ stands_twice names.now }
-{
-    let mut left = names;
-    while let [first, rest @ ..] = left {
-        if is_among(rest, first) {
-            return true;
-        }
-        left = rest;
-    }
-    false
-}
-
-fn is_word_among(properties: &[PropertyWords<'_>], name: &Name<'_>) -> bool
-    ensures { result ≡ is_among (words_names properties.now) name.now }
-{
-    for property in properties {
-        if property.name.as_bytes() == name.as_bytes() {
-            return true;
-        }
-    }
-    false
-}
-
-/// Whether two properties have one name.
-pub fn words_twice(properties: &[PropertyWords<'_>]) -> bool
-    ensures { result ≡ stands_twice (words_names properties.now) }
-{
-    let mut left = properties;
-    while let [first, rest @ ..] = left {
-        if is_word_among(rest, &first.name) {
-            return true;
-        }
-        left = rest;
-    }
-    false
-}
-
 fn same_kind(one: Kind, other: Kind) -> bool
     ensures { result ≡ same_kind one other }
 {
@@ -168,10 +123,10 @@ fn same_kind(one: Kind, other: Kind) -> bool
     )
 }
 
-fn named_kind(properties: &[PropertyWords<'_>], name: &Name<'_>) -> Option<Kind>
-    ensures { result ≡ named_kind properties.now name.now }
+fn named_kind<'a>(table: &NamedTable<'_, 'a>, name: &Name<'a>) -> Option<Kind>
+    ensures { result ≡ named_kind table.now.properties name.now }
 {
-    match words_named(properties, name) {
+    match table.property_named(name) {
         Some(property) => kind_of(&property.kind),
         None => None,
     }
@@ -201,19 +156,18 @@ pub fn kind_at(properties: &[Property], number: u8) -> Option<Kind>
 }
 
 /// Whether the group key has not as many properties as the root's primary key, of the same kinds.
-pub fn kinds_differ(
-    properties: &[PropertyWords<'_>],
-    key: &[Name<'_>],
+pub fn kinds_differ<'a>(
+    table: &NamedTable<'_, 'a>,
+    key: &[Name<'a>],
     others: &[Property],
     primary: &[u8],
 ) -> bool
-    ensures { result ≡ kinds_differ properties.now key.now others.now primary.now }
+    ensures { result ≡ kinds_differ table.now.properties key.now others.now primary.now }
 {
     let mut rest = primary;
     for name in key {
         match rest {
-            [number, after @ ..]
-                if !differ(named_kind(properties, name), kind_at(others, *number)) => {
+            [number, after @ ..] if !differ(named_kind(table, name), kind_at(others, *number)) => {
                 rest = after;
             }
             _ => return true,
@@ -223,10 +177,10 @@ pub fn kinds_differ(
 }
 
 /// Whether another table has this name, or two of its properties have one.
-fn table_rule_1(schema: &Schema, table: &TableWords<'_>) -> bool
+fn table_rule_1<'a>(schema: &Known<'a>, table: &NamedTable<'_, 'a>) -> bool
     ensures { result ≡ table_rule_1 schema.now table.now }
 {
-    is_table(schema, &table.name) || words_twice(table.properties.as_slice())
+    schema.is_table(&table.words().name) || table.stands_twice()
 }
 
 /// Whether it has neither `ROOT` nor a group key.
@@ -237,35 +191,43 @@ fn table_rule_2(table: &TableWords<'_>) -> bool
     !has_root(clauses) && !has_group(clauses)
 }
 
+/// Whether one of these properties is optional or repeated.
+fn are_loose<'a>(table: &NamedTable<'_, 'a>, names: &[Name<'a>]) -> bool
+    ensures { result ≡ list_any (λ n. is_loose table.now.properties n) names.now }
+{
+    for name in names {
+        if is_loose(table, name) {
+            return true;
+        }
+    }
+    false
+}
+
 /// Whether a property of the primary key is optional or repeated.
-fn table_rule_3(table: &TableWords<'_>) -> bool
+fn table_rule_3<'a>(table: &NamedTable<'_, 'a>) -> bool
     ensures { result ≡ table_rule_3 table.now }
 {
-    let properties = table.properties.as_slice();
-    table
-        .primary
-        .as_slice()
-        .iter()
-        .any(|name| is_loose(properties, name))
+    are_loose(table, table.words().primary.as_slice())
 }
 
 /// Whether the table of this name is a root whose primary key is not of the kinds of the group key.
-fn root_differs(
-    schema: &Schema,
-    root: &Name<'_>,
-    properties: &[PropertyWords<'_>],
-    key: &[Name<'_>],
+fn root_differs<'a>(
+    schema: &Known<'a>,
+    root: &Name<'a>,
+    table: &NamedTable<'_, 'a>,
+    key: &[Name<'a>],
 ) -> bool
-    ensures { result ≡ root_differs schema.now properties.now key.now root.now }
+    ensures { result ≡ root_differs schema.now table.now.properties key.now root.now }
 {
-    match table_named(schema.tables.as_slice(), root) {
-        Some(table) => {
-            is_root_table(table)
+    match schema.table_named(root) {
+        Some(found) => {
+            let root = found.table();
+            is_root_table(root)
                 && kinds_differ(
-                    properties,
+                    table,
                     key,
-                    table.properties.as_slice(),
-                    table.primary.as_slice(),
+                    root.properties.as_slice(),
+                    root.primary.as_slice(),
                 )
         }
         None => false,
@@ -274,63 +236,62 @@ fn root_differs(
 
 /// Whether the primary key does not begin with the group key, or the group key is not of the kinds of the
 /// root's primary key.
-fn table_rule_4(schema: &Schema, table: &TableWords<'_>) -> bool
+fn table_rule_4<'a>(schema: &Known<'a>, table: &NamedTable<'_, 'a>) -> bool
     ensures { result ≡ table_rule_4 schema.now table.now }
 {
-    match group_of(table.clauses.as_slice()) {
+    let words = table.words();
+    match group_of(words.clauses.as_slice()) {
         Some((key, root)) => {
-            !begins_with(key.as_slice(), table.primary.as_slice())
-                || root_differs(schema, root, table.properties.as_slice(), key.as_slice())
+            !begins_with(key.as_slice(), words.primary.as_slice())
+                || root_differs(schema, root, table, key.as_slice())
         }
         None => false,
     }
 }
 
 /// Whether a group key refers to an unknown table, or has an unknown property.
-fn group_unknown(schema: &Schema, table: &TableWords<'_>) -> bool
+fn group_unknown<'a>(schema: &Known<'a>, table: &NamedTable<'_, 'a>) -> bool
     ensures { result ≡ group_unknown schema.now table.now }
 {
-    match group_of(table.clauses.as_slice()) {
-        Some((key, root)) => {
-            !is_table(schema, root) || has_unknown(table.properties.as_slice(), key.as_slice())
-        }
+    match group_of(table.words().clauses.as_slice()) {
+        Some((key, root)) => !schema.is_table(root) || has_unknown(table, key.as_slice()),
         None => false,
     }
 }
 
 /// Whether the table that the rows stand in is unknown.
-fn inside_unknown(schema: &Schema, table: &TableWords<'_>) -> bool
+fn inside_unknown<'a>(schema: &Known<'a>, table: &TableWords<'a>) -> bool
     ensures { result ≡ inside_unknown schema.now table.now }
 {
     match inside_of(table.clauses.as_slice()) {
-        Some(name) => !is_table(schema, name),
+        Some(name) => !schema.is_table(name),
         None => false,
     }
 }
 
 /// Whether it names an unknown table, a type that is none, or an unknown property in a key.
-fn table_rule_5(schema: &Schema, table: &TableWords<'_>) -> bool
+fn table_rule_5<'a>(schema: &Known<'a>, table: &NamedTable<'_, 'a>) -> bool
     ensures { result ≡ table_rule_5 schema.now table.now }
 {
-    let properties = table.properties.as_slice();
+    let words = table.words();
     group_unknown(schema, table)
-        || inside_unknown(schema, table)
-        || has_other_type(properties)
-        || has_unknown(properties, table.primary.as_slice())
+        || inside_unknown(schema, words)
+        || has_other_type(words.properties.as_slice())
+        || has_unknown(table, words.primary.as_slice())
 }
 
 /// Whether the table of this name is there and no root.
-fn is_no_root(schema: &Schema, name: &Name<'_>) -> bool
+fn is_no_root<'a>(schema: &Known<'a>, name: &Name<'a>) -> bool
     ensures { result ≡ is_no_root schema.now name.now }
 {
-    match table_named(schema.tables.as_slice(), name) {
-        Some(table) => !is_root_table(table),
+    match schema.table_named(name) {
+        Some(table) => !is_root_table(table.table()),
         None => false,
     }
 }
 
 /// Whether it has both `ROOT` and a group key, or refers to a table that is no root.
-fn table_rule_7(schema: &Schema, table: &TableWords<'_>) -> bool
+fn table_rule_7<'a>(schema: &Known<'a>, table: &TableWords<'a>) -> bool
     ensures { result ≡ table_rule_7 schema.now table.now }
 {
     let clauses = table.clauses.as_slice();
@@ -373,10 +334,10 @@ fn table_rule_9(table: &TableWords<'_>) -> bool
 }
 
 /// Whether 64 tables stand before it, or it has more than 64 properties.
-fn table_rule_11(schema: &Schema, table: &TableWords<'_>) -> bool
+fn table_rule_11(schema: &Known<'_>, table: &TableWords<'_>) -> bool
     ensures { result ≡ table_rule_11 schema.now table.now }
 {
-    MOST <= schema.tables.len() || MOST < table.properties.len()
+    MOST <= schema.schema().tables.len() || MOST < table.properties.len()
 }
 
 /// Whether its name or a property's is too long.
@@ -395,12 +356,13 @@ fn table_rule_14(table: &TableWords<'_>) -> bool
 }
 
 /// The smallest rule that a table's statement breaks.
-fn table_broken(schema: &Schema, table: &TableWords<'_>) -> Option<u8>
+fn table_broken<'a>(schema: &Known<'a>, table: &NamedTable<'_, 'a>) -> Option<u8>
     ensures { result ≡ table_broken schema.now table.now }
 {
+    let words = table.words();
     if table_rule_1(schema, table) {
         Some(1)
-    } else if table_rule_2(table) {
+    } else if table_rule_2(words) {
         Some(2)
     } else if table_rule_3(table) {
         Some(3)
@@ -408,17 +370,17 @@ fn table_broken(schema: &Schema, table: &TableWords<'_>) -> Option<u8>
         Some(4)
     } else if table_rule_5(schema, table) {
         Some(5)
-    } else if table_rule_7(schema, table) {
+    } else if table_rule_7(schema, words) {
         Some(7)
-    } else if table_rule_8(table) {
+    } else if table_rule_8(words) {
         Some(8)
-    } else if table_rule_9(table) {
+    } else if table_rule_9(words) {
         Some(9)
-    } else if table_rule_11(schema, table) {
+    } else if table_rule_11(schema, words) {
         Some(11)
-    } else if table_rule_12(table) {
+    } else if table_rule_12(words) {
         Some(12)
-    } else if table_rule_14(table) {
+    } else if table_rule_14(words) {
         Some(14)
     } else {
         None
@@ -426,62 +388,82 @@ fn table_broken(schema: &Schema, table: &TableWords<'_>) -> Option<u8>
 }
 
 /// Whether another index has its name.
-fn index_rule_1(schema: &Schema, index: &IndexWords<'_>) -> bool
+fn index_rule_1<'a>(schema: &Known<'a>, index: &IndexWords<'a>) -> bool
     ensures { result ≡ index_rule_1 schema.now index.now }
 {
-    schema
-        .indexes
-        .as_slice()
-        .iter()
-        .any(|other| other.name.as_bytes() == index.name.as_bytes())
+    schema.is_index(&index.name)
 }
 
 /// Whether it is over an unknown property, the same one twice, or two repeated ones.
-fn index_rule_6(schema: &Schema, index: &IndexWords<'_>) -> bool
-    ensures { result ≡ index_rule_6 schema.now index.now }
+fn index_rule_6<'a>(
+    alloc: Global,
+    schema: &Known<'a>,
+    index: &IndexWords<'a>,
+) -> Result<bool, NoMemory>
+    ensures { IfOk result (λ breaks. breaks ≡ index_rule_6 schema.now index.now) }
 {
     let names = index.indexed.as_slice();
-    match table_named(schema.tables.as_slice(), &index.table) {
-        Some(table) => {
-            let properties = table.properties.as_slice();
-            lacks(properties, names) || stands_twice(names) || 1 < repeated_count(properties, names)
-        }
-        None => false,
+    let twice = stands_twice(alloc, names)?;
+    match schema.table_named(&index.table) {
+        Some(table) => Ok(lacks(&table, names) || twice || 1 < repeated_count(&table, names)),
+        None => Ok(false),
     }
 }
 
 /// Whether it stores an unknown or repeated property, or one twice.
-fn index_rule_10(schema: &Schema, index: &IndexWords<'_>) -> bool
-    ensures { result ≡ index_rule_10 schema.now index.now }
+fn index_rule_10<'a>(
+    alloc: Global,
+    schema: &Known<'a>,
+    index: &IndexWords<'a>,
+) -> Result<bool, NoMemory>
+    ensures { IfOk result (λ breaks. breaks ≡ index_rule_10 schema.now index.now) }
 {
     let Some(stored) = &index.storing else {
-        return false;
+        return Ok(false);
     };
     let names = stored.as_slice();
-    match table_named(schema.tables.as_slice(), &index.table) {
-        Some(table) => {
-            let properties = table.properties.as_slice();
-            lacks(properties, names) || stands_twice(names) || 0 < repeated_count(properties, names)
-        }
-        None => false,
+    let twice = stands_twice(alloc, names)?;
+    match schema.table_named(&index.table) {
+        Some(table) => Ok(lacks(&table, names) || twice || 0 < repeated_count(&table, names)),
+        None => Ok(false),
     }
 }
 
 /// The smallest rule that an index's statement breaks.
-fn index_broken(schema: &Schema, index: &IndexWords<'_>) -> Option<u8>
+fn index_broken<'a>(
+    alloc: Global,
+    schema: &Known<'a>,
+    index: &IndexWords<'a>,
+) -> Result<Option<u8>, NoMemory>
+    ensures { IfOk result (λ rule. rule ≡ index_broken schema.now index.now) }
+{
+    let breaks_6 = index_rule_6(alloc, schema, index)?;
+    let breaks_10 = index_rule_10(alloc, schema, index)?;
+    Ok(first_of_index(schema, index, breaks_6, breaks_10))
+}
+
+/// The smallest rule that an index's statement breaks, by whether it breaks rules 6 and 10.
+fn first_of_index<'a>(
+    schema: &Known<'a>,
+    index: &IndexWords<'a>,
+    breaks_6: bool,
+    breaks_10: bool,
+) -> Option<u8>
+    requires six { breaks_6 ≡ index_rule_6 schema.now index.now }
+    requires ten { breaks_10 ≡ index_rule_10 schema.now index.now }
     ensures { result ≡ index_broken schema.now index.now }
 {
     if index_rule_1(schema, index) {
         Some(1)
-    } else if !is_table(schema, &index.table) {
+    } else if !schema.is_table(&index.table) {
         Some(5)
-    } else if index_rule_6(schema, index) {
+    } else if breaks_6 {
         Some(6)
     } else if index.indexed.is_empty() {
         Some(9)
-    } else if index_rule_10(schema, index) {
+    } else if breaks_10 {
         Some(10)
-    } else if MOST <= schema.indexes.len() {
+    } else if MOST <= schema.schema().indexes.len() {
         Some(11)
     } else if is_long(&index.name) {
         Some(12)
@@ -490,23 +472,16 @@ fn index_broken(schema: &Schema, index: &IndexWords<'_>) -> Option<u8>
     }
 }
 
-/// The properties of the table of this name, none where it is unknown.
-pub fn properties_of<'s>(schema: &'s Schema, name: &Name<'_>) -> &'s [Property]
-    ensures { result.now ≡ properties_of schema.now name.now }
+/// Whether an added name is that of an old property of the table.
+fn adds_known<'a>(schema: &Known<'a>, table: &Name<'a>, added: &[PropertyWords<'a>]) -> bool
+    ensures { result ≡ adds_known (properties_of schema.now table.now) added.now }
 {
-    match table_named(schema.tables.as_slice(), name) {
-        Some(table) => table.properties.as_slice(),
-        None => &[],
+    for property in added {
+        if schema.property_named(table, &property.name).is_some() {
+            return true;
+        }
     }
-}
-
-/// Whether an added name is that of an old property.
-fn adds_known(old: &[Property], added: &[PropertyWords<'_>]) -> bool
-    ensures { result ≡ adds_known old.now added.now }
-{
-    added
-        .iter()
-        .any(|property| property_named(old, &property.name).is_some())
+    false
 }
 
 /// Whether an added property is required.
@@ -517,29 +492,57 @@ fn adds_required(added: &[PropertyWords<'_>]) -> bool
 }
 
 /// Whether an added name is that of another property of the table.
-fn change_rule_1(schema: &Schema, change: &ChangeWords<'_>) -> bool
-    ensures { result ≡ change_rule_1 schema.now change.now }
+fn change_rule_1<'a>(
+    alloc: Global,
+    schema: &Known<'a>,
+    change: &ChangeWords<'a>,
+) -> Result<bool, NoMemory>
+    ensures { IfOk result (λ breaks. breaks ≡ change_rule_1 schema.now change.now) }
 {
     let added = change.properties.as_slice();
-    adds_known(properties_of(schema, &change.table), added) || words_twice(added)
+    let twice = words_twice(alloc, added)?;
+    Ok(adds_known(schema, &change.table, added) || twice)
+}
+
+/// How many properties the table of this name has, none where it is unknown.
+fn property_count<'a>(schema: &Known<'a>, name: &Name<'a>) -> usize
+    ensures { result ≡ length (properties_of schema.now name.now) }
+{
+    match schema.table_named(name) {
+        Some(table) => table.table().properties.len(),
+        None => 0,
+    }
 }
 
 /// Whether the table would have more than 64 properties.
-fn change_rule_11(schema: &Schema, change: &ChangeWords<'_>) -> bool
+fn change_rule_11<'a>(schema: &Known<'a>, change: &ChangeWords<'a>) -> bool
     ensures { result ≡ change_rule_11 schema.now change.now }
 {
-    let old = properties_of(schema, &change.table).len();
+    let old = property_count(schema, &change.table);
     MOST < old || MOST - old < change.properties.len()
 }
 
 /// The smallest rule that a change's statement breaks.
-fn change_broken(schema: &Schema, change: &ChangeWords<'_>) -> Option<u8>
+fn change_broken<'a>(
+    alloc: Global,
+    schema: &Known<'a>,
+    change: &ChangeWords<'a>,
+) -> Result<Option<u8>, NoMemory>
+    ensures { IfOk result (λ rule. rule ≡ change_broken schema.now change.now) }
+{
+    let breaks_1 = change_rule_1(alloc, schema, change)?;
+    Ok(first_of_change(schema, change, breaks_1))
+}
+
+/// The smallest rule that a change's statement breaks, by whether it breaks rule 1.
+fn first_of_change<'a>(schema: &Known<'a>, change: &ChangeWords<'a>, breaks_1: bool) -> Option<u8>
+    requires { breaks_1 ≡ change_rule_1 schema.now change.now }
     ensures { result ≡ change_broken schema.now change.now }
 {
     let added = change.properties.as_slice();
-    if change_rule_1(schema, change) {
+    if breaks_1 {
         Some(1)
-    } else if !is_table(schema, &change.table) || has_other_type(added) {
+    } else if !schema.is_table(&change.table) || has_other_type(added) {
         Some(5)
     } else if change_rule_11(schema, change) {
         Some(11)
@@ -553,12 +556,19 @@ fn change_broken(schema: &Schema, change: &ChangeWords<'_>) -> Option<u8>
 }
 
 /// The smallest rule that the statement breaks, by what was declared before it.
-pub fn broken(schema: &Schema, statement: &Statement<'_>) -> Option<u8>
-    ensures { result ≡ broken schema.now statement.now }
+pub fn broken<'a>(
+    alloc: Global,
+    schema: &Known<'a>,
+    statement: &Statement<'a>,
+) -> Result<Option<u8>, NoMemory>
+    ensures { IfOk result (λ rule. rule ≡ broken schema.now statement.now) }
 {
     match statement {
-        Statement::Table(table) => table_broken(schema, table),
-        Statement::Index(index) => index_broken(schema, index),
-        Statement::Change(change) => change_broken(schema, change),
+        Statement::Table(words) => {
+            let table = NamedTable::of(alloc, words)?;
+            Ok(table_broken(schema, &table))
+        }
+        Statement::Index(index) => index_broken(alloc, schema, index),
+        Statement::Change(change) => change_broken(alloc, schema, change),
     }
 }

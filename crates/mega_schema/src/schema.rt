@@ -1,12 +1,5 @@
 use mega_base::{Items, Kind, Text};
-
-/// Whether a property has a value: exactly one, at most one, or any number.
-#[derive(Clone, Copy, PartialEq, Eq, Debug, Drop)]
-pub enum Need {
-    Required,
-    Optional,
-    Repeated,
-}
+use mega_syntax::Need;
 
 /// A property of a table.
 #[derive(PartialEq, Debug, Drop)]

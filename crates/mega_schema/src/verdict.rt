@@ -1,44 +1,31 @@
 ghost use Rattle.std.specs.Prelude.{◌≡◌, length, List};
-ghost use Rattle.mega_schema.specs.Tokens.{tokens, texts};
-ghost use Rattle.mega_schema.specs.Grammar.{Spells};
-ghost use Rattle.mega_schema.specs.declared.words.SchemaWords.{SchemaWords};
-ghost use Rattle.mega_schema.specs.Verdict.{Gives, offset, empty, judge, judge_all, ruled, parse_of, Tells};
+ghost use Rattle.mega_syntax.specs.Tokens.{tokens, texts};
+ghost use Rattle.mega_syntax.specs.Grammar.{Spells};
+ghost use Rattle.mega_syntax.specs.declared.words.SchemaWords.{SchemaWords};
+ghost use Rattle.mega_schema.specs.Verdict.{Gives, empty, judge, judge_all, ruled, parse_of, Tells};
 
 use crate::declare::declare;
 use crate::fault::SchemaFault;
-use crate::lexer::tokens_of;
-use crate::parser::{Parser, Stop};
+use crate::known::Known;
 use crate::rules::{broken, is_long};
 use crate::schema::Schema;
-use crate::syntax::schema;
-use crate::token::Token;
-use crate::words::{Placed, SchemaWords};
-use mega_base::{Items, Text};
+use mega_base::Text;
+use mega_syntax::{Placed, SchemaWords, SyntaxFault, Token, offset, read};
 use std::alloc::Global;
 
-/// Where the token begins from which on so many are left, or the text's end.
-fn offset(tokens: &[Token<'_>], end: usize, left: usize) -> u64
-    ensures { result ≡ offset tokens.now end left }
-{
-    match tokens.get(tokens.len().saturating_sub(left)) {
-        Some(token) => token.at as u64,
-        None => end as u64,
-    }
-}
-
 /// Tries and declares the statements in turn.
-fn judge(
+fn judge<'a>(
     alloc: Global,
     tokens: &[Token<'_>],
     end: usize,
-    start: Schema,
-    statements: &[Placed<'_>],
+    start: Known<'a>,
+    statements: &[Placed<'a>],
 ) -> Result<Schema, SchemaFault>
-    ensures { Gives result (ruled tokens.now end (judge start statements.now)) }
+    ensures { Gives result (ruled tokens.now end (judge start.entry statements.now)) }
 {
     let mut schema = start;
     for placed in statements {
-        if let Some(rule) = broken(&schema, &placed.statement) {
+        if let Some(rule) = broken(alloc, &schema, &placed.statement)? {
             return Err(SchemaFault::Rule {
                 at: offset(tokens, end, placed.left),
                 rule,
@@ -46,7 +33,7 @@ fn judge(
         }
         schema = declare(alloc, schema, &placed.statement)?;
     }
-    Ok(schema)
+    Ok(schema.into_schema())
 }
 
 fn judge_all(
@@ -63,11 +50,7 @@ fn judge_all(
             rule: 12,
         });
     }
-    let start = Schema {
-        name: words.name.to_text(alloc)?,
-        tables: Items::new(alloc),
-        indexes: Items::new(alloc),
-    };
+    let start = Known::new(alloc, &words.name)?;
     judge(alloc, tokens, end, start, words.statements.as_slice())
 }
 
@@ -89,13 +72,9 @@ fn parse_exact(alloc: Global, text: &Text) -> Result<Schema, SchemaFault>
     ensures { Gives result (parse_of text.now) }
 {
     let bytes = text.as_bytes();
-    let tokens = tokens_of(alloc, bytes)?;
-    let mut parser = Parser::new(tokens.as_slice());
-    match schema(alloc, &mut parser) {
-        Err(Stop::Refused) => Err(SchemaFault::NoMemory),
-        Err(Stop::Left(left)) => Err(SchemaFault::Syntax {
-            at: offset(tokens.as_slice(), bytes.len(), left),
-        }),
-        Ok(words) => judge_all(alloc, tokens.as_slice(), bytes.len(), &words),
+    match read(alloc, bytes) {
+        Err(SyntaxFault::NoMemory) => Err(SchemaFault::NoMemory),
+        Err(SyntaxFault::Token { at }) => Err(SchemaFault::Syntax { at }),
+        Ok(read) => judge_all(alloc, read.tokens.as_slice(), bytes.len(), &read.words),
     }
 }

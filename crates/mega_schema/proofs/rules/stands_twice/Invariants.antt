@@ -1,9 +1,0 @@
-use Rattle.std.proofs.Common.{◌≡◌, length}
-use Rattle.mega_schema.specs.Lookup.{stands_twice}
-use Rattle.mega_schema.proofs.rules.stands_twice.Given as goal
-
-abbrev pub invariant-loop-left : goal.invariant-loop-left
-invariant-loop-left l = stands_twice l.left ≡ stands_twice l.names
-
-abbrev pub decreases-loop-left : goal.decreases-loop-left
-decreases-loop-left l = length l.left

@@ -1,0 +1,9 @@
+pub mod Lexing
+pub mod Items
+pub mod Takes
+pub mod Loop
+pub mod NameText
+pub mod Again
+pub mod Told
+pub mod Lawful
+pub mod Refusals
