@@ -25,7 +25,7 @@ use Rattle.mega_keys.proofs.Takes.{IsBytes, IsBytes-after, bind_ok, ok_parts, va
 same_eqb : (n : ℕ) → eqb n n ≡ true
 same_eqb n = grind (arith, nat_tests)
 
-byte_again : (b : ℕ) (rest : List ℕ) → byte_at b (b ∷ rest) ≡ Ok rest
+pub byte_again : (b : ℕ) (rest : List ℕ) → byte_at b (b ∷ rest) ≡ Ok rest
 unfolding byte_at
 byte_again b rest = ap (λ t. cond t (Ok rest) (Err (suc (length rest)))) (same_eqb b)
 
@@ -33,7 +33,7 @@ byte_of : (t : Bool) (b c : ℕ) (bytes rest : List ℕ) → eqb c b ≡ t → c
 byte_of true b c bytes rest e h = let is : c ≡ b = grind (arith, nat_tests) in let same : bytes ≡ rest = cc in (λ i. is i ∷ same i)
 byte_of false b c bytes rest e h = absurd (cc)
 
-byte_takes : (b : ℕ) (bytes rest : List ℕ) → byte_at b bytes ≡ Ok rest → bytes ≡ b ∷ rest
+pub byte_takes : (b : ℕ) (bytes rest : List ℕ) → byte_at b bytes ≡ Ok rest → bytes ≡ b ∷ rest
 unfolding byte_at
 byte_takes b [] rest h = absurd (cc)
 byte_takes b (c ∷ bytes) rest h = byte_of (eqb c b) b c bytes rest refl h
@@ -57,7 +57,7 @@ unfolding scattered
 agree_takes a b values n h = let same = agree_pair a b _ _ n h in (λ i. same.0 i ∷ same.1 i ∷ [])
 
 -- the root's part of a key
-root_again : (s : Bool) (ks : List Kind) (vs : List Value) (rest : List ℕ) → StandIn ks vs → root_at s ks ((scatter_of s vs ++ spell_all vs) ++ rest) ≡ Ok (vs, rest)
+pub root_again : (s : Bool) (ks : List Kind) (vs : List Value) (rest : List ℕ) → StandIn ks vs → root_at s ks ((scatter_of s vs ++ spell_all vs) ++ rest) ≡ Ok (vs, rest)
 unfolding root_at scattered marks_at
 root_again false ks vs rest h = values_again ks vs rest h
 root_again true ks vs rest h =
@@ -81,7 +81,7 @@ marked_takes ks bytes marked a b vs rest fits is h =
       stand = read.stand;
     })
 
-root_takes : (s : Bool) (ks : List Kind) (bytes : List ℕ) (vs : List Value) (rest : List ℕ) → IsBytes bytes → root_at s ks bytes ≡ Ok (vs, rest) → TakesRoot s ks bytes vs rest
+pub root_takes : (s : Bool) (ks : List Kind) (bytes : List ℕ) (vs : List Value) (rest : List ℕ) → IsBytes bytes → root_at s ks bytes ≡ Ok (vs, rest) → TakesRoot s ks bytes vs rest
 unfolding root_at marks_at
 root_takes false ks bytes vs rest fits h = let t = values_take ks bytes vs rest fits h in record { spelled = t.spelled; stand = t.stand }
 root_takes true ks [] vs rest fits h = absurd (cc)

@@ -6,3 +6,4 @@ pub mod Takes
 pub mod Order
 pub mod Keys
 pub mod Given
+pub mod Refusals

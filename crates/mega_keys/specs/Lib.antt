@@ -3,3 +3,4 @@ pub mod Fit
 pub mod Answers
 pub mod Reading
 pub mod Order
+pub mod Refusal

@@ -1,4 +1,4 @@
-ghost use Rattle.std.specs.Prelude.{◌≡◌, [], ◌++◌, List, ℕ, Ok};
+ghost use Rattle.std.specs.Prelude.{◌≡◌, ◌<◌, [], ◌++◌, List, ℕ, Ok, Err, length, slice_index};
 ghost use Rattle.std.specs.Ordering.{nat_cmp, ordering_then};
 ghost use Rattle.std.specs.Cmp.Lexicographic.{slice_cmp};
 ghost use Rattle.mega_base.specs.declared.values.Shape.{Shape};
@@ -6,7 +6,10 @@ ghost use Rattle.mega_base.specs.declared.values.Value.{Value};
 ghost use Rattle.mega_keys.specs.Spelling.{row_bytes, root_part, scatter_of};
 ghost use Rattle.mega_keys.specs.Fit.{StandIn, AreValues, IsKey, key_kinds};
 ghost use Rattle.mega_keys.specs.Answers.{row_key_of};
+ghost use Rattle.mega_keys.specs.declared.fault.KeyFault.TheVariants.{NotKey};
 ghost use Rattle.mega_keys.specs.Order.{values_cmp};
+ghost use Rattle.mega_keys.specs.Reading.{read_key_of};
+ghost use Rattle.mega_keys.specs.Refusal.{IsRefusedAt};
 
 /// Two rows have two keys, and no key is a front of another.
 pub fn keys_are_apart()
@@ -28,4 +31,13 @@ pub fn keys_are_ordered()
 pub fn keys_are_read_back()
     ensures { (shape : Shape) (values : List Value) (key : List ℕ) →
         AreValues values → row_key_of shape values ≡ Ok key → IsKey shape key values }
+{}
+
+/// Where a key is refused at one of its bytes, no key of the shape begins as it does: with the bytes through
+/// this one, or through the text that it belongs to, or, for the two bytes that scatter, through the root key
+/// values that say what they are.
+pub fn refusals_are_told_where_they_are()
+    ensures { (shape : Shape) (key : List ℕ) (at : ℕ) →
+        ((i : ℕ) → slice_index key i < 256) → at < length key →
+        read_key_of shape key ≡ Err (NotKey at) → IsRefusedAt shape key at }
 {}
