@@ -1,0 +1,14 @@
+pub mod Sames
+pub mod Orders
+pub mod Climbs
+pub mod Steps
+pub mod Placed
+pub mod Loading
+pub mod Flushed
+pub mod Formatted
+pub mod Replay
+pub mod Greatest
+pub mod Fitting
+pub mod Compacted
+pub mod Decided
+pub mod Formats

@@ -1,0 +1,9 @@
+pub mod Same
+pub mod Acceptor
+pub mod Faults
+pub mod Items
+pub mod ItemLaws
+pub mod History
+pub mod Kept
+pub mod Records
+pub mod Compaction
