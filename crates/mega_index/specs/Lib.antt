@@ -1,0 +1,9 @@
+pub mod Rows
+pub mod Cells
+pub mod Fits
+pub mod Same
+pub mod Entries
+pub mod LocalWrites
+pub mod Finding
+pub mod Fitted
+pub mod Answers

@@ -1,0 +1,30 @@
+ghost use Rattle.std.specs.Prelude.{◌≡◌};
+ghost use Rattle.mega_index.specs.Cells.{values_of};
+ghost use Rattle.mega_index.specs.Same.{same_values, same_row};
+
+use crate::cells::cell_of;
+use mega_base::{Items, Row, Same, Value};
+
+/// Whether the two rows are the same.
+pub fn same_row(mine: &Row, others: &Row) -> bool
+    ensures { result ≡ same_row mine.now others.now }
+{
+    mine.same_as(others)
+}
+
+fn same_values(mine: &Items<Value>, others: &Items<Value>) -> bool
+    ensures { result ≡ same_values mine.now others.now }
+{
+    mine.same_as(others)
+}
+
+/// Whether the row has exactly these values of the property with this number.
+#[tactic(auto, using(crate::proofs::SameLemmas::none_same))]
+pub fn values_are(row: &Row, property: u8, values: &Items<Value>) -> bool
+    ensures { result ≡ same_values (values_of row.now property) values.now }
+{
+    match cell_of(row, usize::from(property)) {
+        Some(cell) => same_values(&cell.values, values),
+        None => values.is_empty(),
+    }
+}
