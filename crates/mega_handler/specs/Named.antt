@@ -1,0 +1,38 @@
+-- Handlers under the names of their queues.
+use Rattle.std.specs.Prelude.{ℕ, ◌&&◌, Bool, List, [], ◌∷◌, find, position, nat_eq, is_some, Option, Some, None}
+use Rattle.std.specs.Cmp.Lexicographic.{pointwise}
+use Rattle.mega_entry.specs.declared.content.Enter.{Enter}
+use Rattle.mega_index.specs.Rows.{Listed}
+use Rattle.mega_handler.specs.Effects.{Effect}
+
+-- two names are one
+abbrev pub same_name : List ℕ → List ℕ → Bool
+same_name a b = pointwise nat_eq a b
+
+-- what a handler makes of a message and the rows of its group
+abbrev pub Meaning : Type 0
+Meaning = Enter → Listed → Effect
+
+-- queues, and what their handlers make of messages
+abbrev pub Meanings : Type 0
+Meanings = List (List ℕ × Meaning)
+
+-- the meaning of a queue's handler
+abbrev pub meaning_of : Option (List ℕ × Meaning) → Option Meaning
+meaning_of None = None
+meaning_of (Some one) = Some one.1
+
+abbrev pub meaning : Meanings → List ℕ → Option Meaning
+meaning all queue = meaning_of (find (λ (one : List ℕ × Meaning). same_name one.0 queue) all)
+
+-- a queue has a handler
+abbrev pub has : Meanings → List ℕ → Bool
+has all queue = is_some (meaning all queue)
+
+-- the effect of a meaning, empty where there is none
+abbrev pub effect_by : Option Meaning → Meaning
+effect_by None message rows = ([], [])
+effect_by (Some makes) message rows = makes message rows
+
+abbrev pub effect : Meanings → List ℕ → Meaning
+effect all queue message rows = effect_by (meaning all queue) message rows
