@@ -3,8 +3,10 @@
 #![tactic(auto)]
 
 mod answer;
+mod copies;
 mod request;
 mod transaction;
+mod turns;
 
 pub use answer::{Answer, Batch, Done, Mark, Shown, Turn};
 pub use request::{FindRequest, Mode, ReadRequest, Request};
