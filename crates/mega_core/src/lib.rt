@@ -1,7 +1,6 @@
 //! One node: what it keeps, and its step for one event (Lamport 2001; CIDR 2011, write algorithm).
 #![tactic(auto)]
 
-mod item;
 mod lines;
 mod logs;
 mod node;
@@ -10,7 +9,6 @@ mod outcome;
 mod spelling;
 mod step;
 
-pub use item::{Item, Note, Tape};
 pub use lines::text;
 pub use node::Node;
 pub use step::{Event, Step};

@@ -1,8 +1,8 @@
-use crate::item::Item;
 use crate::spelling::{kind, put_entry, put_message};
 use mega_base::{Bytes, GroupId, NoMemory, OpId};
 use mega_entry::Entry;
 use mega_outcome::Answer;
+use mega_transcript::Item;
 use mega_wire::Message;
 use std::alloc::Global;
 
@@ -60,6 +60,7 @@ pub fn text(alloc: Global, item: &Item, out: &mut Bytes) -> Result<(), NoMemory>
                 &format!(in alloc; "answer {} {words}\n", name(alloc, *op)?)?,
             )
         }
+        _ => Ok(()),
     }
 }
 

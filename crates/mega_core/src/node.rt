@@ -1,9 +1,9 @@
-use crate::item::Note;
 use crate::logs::Logs;
 use crate::operation::Operation;
 use crate::step::{Event, Step};
 use mega_base::{Copied, Items, NoMemory, NodeId, OpId, Text};
 use mega_outcome::Request;
+use mega_transcript::Note;
 use mega_wire::{Body, Message};
 use std::alloc::Global;
 

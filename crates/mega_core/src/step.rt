@@ -1,6 +1,6 @@
-use crate::item::Note;
 use mega_base::{Items, NoMemory, Text};
 use mega_outcome::Request;
+use mega_transcript::Note;
 use mega_wire::Message;
 use std::alloc::Global;
 

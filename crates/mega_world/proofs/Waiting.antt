@@ -5,11 +5,11 @@ use Rattle.std.specs.Ordering.{nat_cmp, is_eq}
 use Rattle.std.specs.BTreeSet.{contains}
 use Rattle.std.specs.List.{list_any}
 use Rattle.std.proofs.lemmas.List.{nil_from_length}
-use Rattle.mega_core.specs.declared.item.Item.{Item}
-use Rattle.mega_core.specs.declared.item.Item.TheVariants.{Start, Taken, Sent}
+use Rattle.mega_transcript.specs.declared.item.Item.{Item}
+use Rattle.mega_transcript.specs.declared.item.Item.TheVariants.{Start, Taken, Sent}
 use Rattle.mega_wire.specs.declared.message.Message.{Message}
-use Rattle.mega_core.specs.Tape.{newest, sent_count, is_taken, is_sent, waits, IsNote, Grows}
-use Rattle.mega_core.proofs.Tapes.{newest-append, grows-more, note_follows, note-sent_count, note-is_taken}
+use Rattle.mega_transcript.specs.Tape.{newest, sent_count, is_taken, is_sent, waits, IsNote, Grows}
+use Rattle.mega_transcript.proofs.Tapes.{newest-append, grows-more, note_follows, note-sent_count, note-is_taken}
 use Rattle.mega_world.specs.declared.world.World.{World}
 use Rattle.mega_world.specs.Represents.{Represents, opened}
 

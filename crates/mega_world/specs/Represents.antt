@@ -2,9 +2,9 @@
 use Rattle.std.specs.Prelude.{◌≡◌, ℕ, ◌+◌, zero, suc, true, false, ◌<◌, ◌⊎◌, List, [], ◌∷◌, length}
 use Rattle.std.specs.Ordering.{nat_cmp}
 use Rattle.std.specs.BTreeSet.{contains}
-use Rattle.mega_core.specs.declared.item.Item.{Item}
-use Rattle.mega_core.specs.declared.item.Item.TheVariants.{Start, Taken}
-use Rattle.mega_core.specs.Tape.{sent_count, is_taken, is_sent, waits, Grows}
+use Rattle.mega_transcript.specs.declared.item.Item.{Item}
+use Rattle.mega_transcript.specs.declared.item.Item.TheVariants.{Start, Taken}
+use Rattle.mega_transcript.specs.Tape.{sent_count, is_taken, is_sent, waits, Grows}
 use Rattle.mega_world.specs.declared.event.WorldEvent.{WorldEvent}
 use Rattle.mega_world.specs.declared.event.WorldEvent.TheVariants.{Deliver, Begin}
 use Rattle.mega_world.specs.declared.world.World.{World}

@@ -2,8 +2,9 @@ ghost use Rattle.std.specs.Prelude.{◌≡◌, ◌≤◌, ◌<◌, ◌↔◌, []
 
 use crate::event::{WorldEvent, WorldFault};
 use mega_base::{Copied, Items, NoMemory, NodeId, Text};
-use mega_core::{Event, Item, Node, Note, Step, Tape};
+use mega_core::{Event, Node, Step};
 use mega_outcome::Request;
+use mega_transcript::{Item, Note, Tape};
 use mega_wire::Message;
 use std::alloc::Global;
 use std::collections::BTreeSet;
@@ -26,8 +27,8 @@ fn voters_of(alloc: Global, count: u8) -> Result<Items<NodeId>, NoMemory> {
 }
 
 impl World {
-    ghost use Rattle.mega_core.specs.declared.item.Item.{Item};
-    ghost use Rattle.mega_core.specs.Tape.{newest, is_sent, Grows, IsQuiet};
+    ghost use Rattle.mega_transcript.specs.declared.item.Item.{Item};
+    ghost use Rattle.mega_transcript.specs.Tape.{newest, is_sent, Grows, IsQuiet};
     ghost use Rattle.mega_world.specs.Represents.{Represents, Extends, IsNoNode, IsRefused, opened};
 
     /// A cluster of so many full nodes, all started, and the items of their starts on the tape, which

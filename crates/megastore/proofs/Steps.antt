@@ -2,7 +2,7 @@
 use Rattle.std.proofs.Common.{◌≡◌, ◌≢◌, ◌⊎◌, ℕ, ◌+◌, ◌≤◌, ◌<◌, Option, Some, None, List, [], ◌∷◌, ◌++◌, length, refl, sym, ◌∙◌, ap, subst, inl, inr, length-append, arith}
 use Rattle.std.specs.Io.KnownBytes.{IsAtEnd}
 use Rattle.mega_io.specs.TextLines.{lines_of}
-use Rattle.mega_core.specs.declared.item.Item.{Item}
+use Rattle.mega_transcript.specs.declared.item.Item.{Item}
 use Rattle.mega_world.specs.declared.event.WorldEvent.{WorldEvent}
 use Rattle.mega_world.specs.declared.event.WorldEvent.TheVariants.{Deliver, Begin}
 use Rattle.mega_world.specs.Represents.{IsRefused, opened}

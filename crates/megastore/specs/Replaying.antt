@@ -2,9 +2,9 @@
 use Rattle.std.specs.Prelude.{◌≡◌, ◌≢◌, ℕ, ◌+◌, ◌≤◌, ◌<◌, ◌⊎◌, Bool, true, false, List, [], ◌∷◌, length, Option, Some, None}
 use Rattle.std.specs.Io.KnownBytes.{IsAtEnd}
 use Rattle.mega_io.specs.TextLines.{lines_of}
-use Rattle.mega_core.specs.declared.item.Item.{Item}
-use Rattle.mega_core.specs.declared.item.Item.TheVariants.{Taken}
-use Rattle.mega_core.specs.Tape.{is_sent, IsQuiet, Grows}
+use Rattle.mega_transcript.specs.declared.item.Item.{Item}
+use Rattle.mega_transcript.specs.declared.item.Item.TheVariants.{Taken}
+use Rattle.mega_transcript.specs.Tape.{is_sent, IsQuiet, Grows}
 use Rattle.mega_world.specs.Represents.{opened}
 use Rattle.megastore.specs.declared.header.TheConstants.{HEADER_NODES, HEADER_SCHEMA, HEADER_END}
 use Rattle.megastore.specs.PlainLines.{IsDelivery, IsPut}

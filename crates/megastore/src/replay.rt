@@ -2,7 +2,7 @@ ghost use Rattle.std.specs.Prelude.{◌≡◌, ◌≢◌, ◌≤◌, ◌<◌, �
 ghost use Rattle.std.specs.Io.KnownBytes.{prepend_known, IsAtEnd};
 ghost use Rattle.mega_base.specs.Causes.{Rose};
 ghost use Rattle.mega_io.specs.TextLines.{lines_of};
-ghost use Rattle.mega_core.specs.Tape.{newest, is_sent, IsQuiet, Grows};
+ghost use Rattle.mega_transcript.specs.Tape.{newest, is_sent, IsQuiet, Grows};
 ghost use Rattle.mega_world.specs.Represents.{Represents, opened};
 ghost use Rattle.megastore.specs.Replaying.{Follows, Differs, Ends, StopsUnbuiltAt, StopsUnsentAt, LeftIsDone, LeftIsUnbuilt, LeftIsRefused, InputDone, InputUnbuilt, InputRefused, IsHeaded, IsOther, IsStep, IsUnbuilt, IsUnsent};
 ghost use Rattle.megastore.specs.Stops.{IsReadStop, IsWriteStop, IsLineStop, IsWorldStop};
@@ -11,8 +11,9 @@ use crate::header::{HEADER_END, HEADER_NODES, HEADER_SCHEMA, Next, next_line};
 use crate::line::{Line, put_event, read_line};
 use crate::status::Stop;
 use mega_base::{Bytes, Items, Text};
-use mega_core::{Item, Tape, text};
+use mega_core::text;
 use mega_io::{LineReader, Sink, SinkError, Source, WriteBuffer};
+use mega_transcript::{Item, Tape};
 use mega_world::{World, WorldEvent, WorldFault};
 use std::alloc::Global;
 

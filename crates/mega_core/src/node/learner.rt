@@ -1,10 +1,10 @@
-use crate::item::Note;
 use crate::node::Node;
 use crate::operation::Operation;
 use crate::step::Step;
 use mega_base::{Copied, GroupId, Items, NoMemory, Position};
 use mega_entry::Entry;
 use mega_outcome::Answer;
+use mega_transcript::Note;
 use std::alloc::Global;
 
 impl Node {

@@ -1,5 +1,5 @@
 use Rattle.std.proofs.Common.{Err, ap}
-use Rattle.mega_core.specs.Tape.{newest}
+use Rattle.mega_transcript.specs.Tape.{newest}
 use Rattle.megastore.proofs.Steps.{begin_not_refused}
 use Rattle.megastore.proofs.replay.put.Goals as goal
 

@@ -1,6 +1,6 @@
 use Rattle.std.proofs.Common.{◌≤◌}
 use Rattle.std.specs.Io.KnownBytes.{prepend_known}
-use Rattle.mega_core.specs.Tape.{newest}
+use Rattle.mega_transcript.specs.Tape.{newest}
 use Rattle.mega_world.specs.Represents.{Represents}
 use Rattle.megastore.proofs.Steps.{RanTo}
 use Rattle.megastore.proofs.replay.run_lines.Given as goal

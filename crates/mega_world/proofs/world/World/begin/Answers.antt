@@ -1,6 +1,6 @@
 use Rattle.std.proofs.Common.{refl}
-use Rattle.mega_core.specs.Tape.{newest}
-use Rattle.mega_core.proofs.Tapes.{grows-refl}
+use Rattle.mega_transcript.specs.Tape.{newest}
+use Rattle.mega_transcript.proofs.Tapes.{grows-refl}
 use Rattle.mega_world.proofs.Waiting.{represents_nodes}
 use Rattle.mega_world.proofs.world.World.begin.Goals as goal
 

@@ -1,5 +1,5 @@
 use Rattle.std.proofs.Common.{subst, sym}
-use Rattle.mega_core.specs.Tape.{newest, Grows}
+use Rattle.mega_transcript.specs.Tape.{newest, Grows}
 use Rattle.mega_world.specs.Represents.{Represents}
 use Rattle.mega_world.proofs.Waiting.{represents_note, grows_note}
 use Rattle.mega_world.proofs.world.World.note.Goals as goal

@@ -1,6 +1,6 @@
 use Rattle.std.proofs.Common.{ℕ, List}
-use Rattle.mega_core.specs.declared.item.Item.{Item}
-use Rattle.mega_core.specs.Tape.{newest, Grows}
+use Rattle.mega_transcript.specs.declared.item.Item.{Item}
+use Rattle.mega_transcript.specs.Tape.{newest, Grows}
 use Rattle.mega_world.specs.Represents.{Represents}
 use Rattle.mega_world.proofs.world.World.note_all.Given as goal
 

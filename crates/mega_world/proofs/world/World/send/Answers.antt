@@ -1,5 +1,5 @@
 use Rattle.std.proofs.Common.{◌+◌, length, subst, sym, ap, refl, ◌∙◌, [], ◌∷◌, length-append}
-use Rattle.mega_core.specs.Tape.{newest, Grows}
+use Rattle.mega_transcript.specs.Tape.{newest, Grows}
 use Rattle.mega_world.specs.Represents.{Represents}
 use Rattle.mega_world.proofs.Waiting.{represents_sent, grows_sent}
 use Rattle.mega_world.proofs.world.World.send.Goals as goal

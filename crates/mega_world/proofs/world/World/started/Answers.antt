@@ -1,5 +1,5 @@
 use Rattle.std.proofs.Common.{◌≡◌, ◌+◌, ◌∷◌, [], ◌∙◌, ap, length, subst, sym, length-append}
-use Rattle.mega_core.specs.Tape.{newest}
+use Rattle.mega_transcript.specs.Tape.{newest}
 use Rattle.mega_world.specs.Represents.{opened}
 use Rattle.mega_world.proofs.Waiting.{started_more}
 use Rattle.mega_world.proofs.world.World.started.Goals as goal

@@ -1,5 +1,5 @@
 use Rattle.std.proofs.Common.{◌≡◌, length}
-use Rattle.mega_core.specs.Tape.{newest}
+use Rattle.mega_transcript.specs.Tape.{newest}
 use Rattle.mega_world.specs.Represents.{opened}
 use Rattle.mega_world.proofs.world.World.started.Given as goal
 

@@ -1,7 +1,7 @@
 use Rattle.std.proofs.Common.{◌≡◌, ◌∷◌, ◌∙◌, ap, refl, subst, sym}
-use Rattle.mega_core.specs.Tape.{newest}
-use Rattle.mega_core.specs.declared.item.Item.TheVariants.{Taken}
-use Rattle.mega_core.proofs.Tapes.{newest-append}
+use Rattle.mega_transcript.specs.Tape.{newest}
+use Rattle.mega_transcript.specs.declared.item.Item.TheVariants.{Taken}
+use Rattle.mega_transcript.proofs.Tapes.{newest-append}
 use Rattle.mega_world.specs.Represents.{Represents}
 use Rattle.mega_world.proofs.Waiting.{represents_taken}
 use Rattle.mega_world.proofs.world.World.take.Goals as goal

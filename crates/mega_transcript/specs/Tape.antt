@@ -1,7 +1,7 @@
 -- What a tape tells, looking back: here its newest item stands first, and what came before is the rest.
 use Rattle.std.specs.Prelude.{◌≡◌, ℕ, ◌+◌, ◌==◌, ◌||◌, ◌&&◌, nat_le, not, Bool, true, false, List, [], ◌∷◌, ◌⊎◌}
-use Rattle.mega_core.specs.declared.item.Item.{Item}
-use Rattle.mega_core.specs.declared.item.Item.TheVariants.{Start, Begin, Taken, Sent, Decide, Apply, Answer}
+use Rattle.mega_transcript.specs.declared.item.Item.{Item}
+use Rattle.mega_transcript.specs.declared.item.Item.TheVariants.{Start, Unsent, Tick, Begin, Taken, Dropped, Sent, Grant, Lapse, Counts, Forgets, Serving, Lost, Valid, Invalid, Decide, Apply, Answer, Crash, Cut, Unsafe}
 
 -- these items, oldest first, come onto the tape
 abbrev pub onto : List Item → List Item → List Item
@@ -39,8 +39,13 @@ IsQuiet tape = (n : ℕ) → waits tape n ≡ false
 -- the item is a note of a node
 abbrev pub IsNote : Item → Type 0
 IsNote (Start node start) = ⊥
+IsNote (Unsent node message) = ⊥
 IsNote (Taken number) = ⊥
+IsNote (Dropped number) = ⊥
 IsNote (Sent number message) = ⊥
+IsNote (Crash node) = ⊥
+IsNote Cut = ⊥
+IsNote Unsafe = ⊥
 IsNote _ = Unit {0}
 
 -- what may follow within a step: notes of the node, and messages, each with the next number

@@ -1,0 +1,16 @@
+-- What an object shows after a cell's values were put into it.
+use Rattle.std.proofs.Common.{◌≡◌, ℕ, List, true, Option, Some, String, Global, string_bytes, string_cmp, ap, ◌∙◌, sym}
+use Rattle.std.specs.BTreeMap.{insert_entry}
+use Rattle.serde_json.specs.Data.{put}
+use Rattle.serde_json.specs.View.{view, members_view}
+use Rattle.serde_json.specs.declared.value.Value.{Value as Json}
+use Rattle.serde_json.proofs.Views.{Entry, members_view-insert_entry}
+use Rattle.mega_base.specs.declared.values.Value.{Value}
+use Rattle.mega_schema.specs.declared.schema.Property.{Property}
+use Rattle.mega_transcript.specs.Rows.{fits_property, cell_data, with_cell}
+
+pub insert_cell : (before after : List Entry) (key : String Global) (v : Json) (property : Property) (values : List Value) (found : Option Property)
+    → after ≡ insert_entry string_cmp before key v → string_bytes key ≡ property.name → view v ≡ cell_data property values → Some property ≡ found → fits_property property values ≡ true
+    → members_view after ≡ with_cell found values (members_view before)
+insert_cell before after key v property values found inserted name shown at fits =
+    rw (inserted, members_view-insert_entry before key v, name, shown, sym at, fits)

@@ -1,0 +1,6 @@
+pub mod Tape
+pub mod Words
+pub mod Rows
+pub mod Answers
+pub mod Lines
+pub mod NoFloats
