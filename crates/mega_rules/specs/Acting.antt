@@ -1,0 +1,276 @@
+-- What an operation does once its node has heard and decided what the step brings: it ends, it goes on to its own proposal, or it reads on.
+use Rattle.std.specs.Prelude.{ℕ, zero, suc, ◌+◌, ◌==◌, ◌&&◌, ◌||◌, Bool, true, false, not, if◌then◌else◌, nat_le, nat_lt, List, [], ◌∷◌, ◌++◌, take, length, map, filter, filter_map, flat_map, find, slice_get, Option, Some, None, is_ok, is_some, Result, Ok, Err}
+use Rattle.std.specs.List.{list_any}
+use Rattle.mega_base.specs.declared.names.GroupId.{GroupId}
+use Rattle.mega_base.specs.declared.names.NodeId.{NodeId}
+use Rattle.mega_base.specs.declared.names.OpId.{OpId}
+use Rattle.mega_base.specs.declared.names.Epoch.{Epoch}
+use Rattle.mega_cluster.specs.declared.cluster.Cluster.{Cluster}
+use Rattle.mega_entry.specs.declared.content.Content.{Content}
+use Rattle.mega_entry.specs.declared.content.Enter.{Enter}
+use Rattle.mega_wire.specs.declared.message.Message.{Message}
+use Rattle.mega_coordinator.specs.declared.answers.NotValid.{NotValid}
+use Rattle.mega_outcome.specs.declared.answer.Answer.{Answer}
+use Rattle.mega_outcome.specs.declared.answer.Answer.TheVariants.{Committed, Conflict, Turned, Read as ReadAnswer, Found as FoundAnswer, LogFull, NothingToDo, NoHandler, Batched, AllTurned}
+use Rattle.mega_outcome.specs.declared.answer.Batch.{Batch}
+use Rattle.mega_outcome.specs.declared.answer.Done.{Done}
+use Rattle.mega_outcome.specs.declared.answer.Mark.{Mark}
+use Rattle.mega_outcome.specs.declared.answer.Shown.{Shown}
+use Rattle.mega_outcome.specs.declared.answer.Turn.{Turn}
+use Rattle.mega_outcome.specs.declared.request.Request.{Request}
+use Rattle.mega_outcome.specs.declared.request.Request.TheVariants.{Txn, Batch as BatchRequest, Read as ReadRequested, Find, PumpEnter, PumpHandle, Refresh}
+use Rattle.mega_outcome.specs.declared.request.ReadRequest.{ReadRequest}
+use Rattle.mega_outcome.specs.declared.request.FindRequest.{FindRequest}
+use Rattle.mega_outcome.specs.declared.transaction.Transaction.{Transaction}
+use Rattle.mega_index.specs.Rows.{Listed, Rows, after, list_after, no_rows}
+use Rattle.mega_outcome.specs.Outcome.{batch_outcome, entry_of_batch, entry_of_done, outcome}
+use Rattle.mega_outcome.specs.Reads.{all_rows, read_rows}
+use Rattle.mega_wal.specs.Same.{same_group, same_op, same_option}
+use Rattle.mega_propose.specs.Rounds.{Proposal, Site, Move as RoundMove, asks}
+use Rattle.mega_read.specs.Catching.{Reader, Reading, Stage, Polling, Catching, Move as ReadMove, asked_by, local_read, polled_read, seeks, site}
+use Rattle.mega_replica.specs.Applying.{after_read, applied, applied_log}
+use Rattle.mega_rules.specs.Met.{Met, Answers, Validates}
+use Rattle.mega_rules.specs.Members.{full_nodes, voters}
+use Rattle.mega_rules.specs.Clock.{clock_of}
+use Rattle.mega_rules.specs.Logs.{decided, groups_of, log_of, prefix_of, top_of}
+use Rattle.mega_rules.specs.Coordinators.{refused_at, serves_at, valid_at}
+use Rattle.mega_rules.specs.Queues.{Log, Posted, enter_entry, is_named, names_entered, next_to_enter, next_to_handle, oldest_unhandled}
+use Rattle.mega_rules.specs.Operations.{Node, Now, Operation, Phase, Promised, Proposes, Reads, Replies, Results, Setting}
+use Rattle.mega_rules.specs.Finding.{local_found}
+use Rattle.mega_index.specs.Fitted.{table_of}
+use Rattle.mega_handler.specs.Effects.{handle_entry, handled}
+use Rattle.mega_handler.specs.Named.{effect_by, has, meaning}
+use Rattle.mega_schema.specs.declared.schema.Schema.{Schema}
+use Rattle.mega_base.specs.declared.values.Row.{Row}
+use Rattle.mega_outcome.specs.declared.transaction.RowRef.{RowRef}
+
+-- what happens to an operation
+
+abbrev pub keeps : Now → Operation → Now
+keeps now o = record { met = now.met; stored = now.stored; kept = now.kept ++ o ∷ []; valid = now.valid; answers = now.answers; sends = now.sends }
+
+abbrev pub ends : Now → OpId → Answer → Now
+ends now op answer = record { met = now.met; stored = now.stored; kept = now.kept; valid = now.valid; answers = now.answers ++ Answers op answer ∷ []; sends = now.sends }
+
+abbrev pub sends_more : Now → List Message → Now
+sends_more now sends = record { met = now.met; stored = now.stored; kept = now.kept; valid = now.valid; answers = now.answers; sends = now.sends ++ sends }
+
+abbrev pub in_phase : Operation → Phase → Operation
+in_phase o phase = record { id = o.id; request = o.request; began = o.began; visited = o.visited; message = o.message; phase = phase }
+
+-- the logs of a node as far as they are applied, in order of group, and the positions of those that are not empty
+abbrev pub applied_in : Now → GroupId → Log
+applied_in now group = record { group = group; entries = applied_log (log_of now.met group) (now.stored group) }
+
+abbrev pub applied_logs : Now → List Log
+applied_logs now = map (applied_in now) (groups_of now.met)
+
+abbrev pub mark_of : Log → Option Mark
+mark_of log = if nat_lt 0 (length log.entries) then Some (record { group = log.group; position = record { 0 = length log.entries } }) else None
+
+abbrev pub applied_marks : Now → List Mark
+applied_marks now = filter_map mark_of (applied_logs now)
+
+-- the rows of a group after its first entries
+abbrev pub rows_at : Now → GroupId → ℕ → Rows
+rows_at now group p = after (take p (log_of now.met group)) no_rows
+
+abbrev pub listed_at : Now → GroupId → ℕ → Listed
+listed_at now group p = list_after (take p (log_of now.met group)) []
+
+-- an operation's own position is decided: committed where the entry is its own (CIDR 2011, write algorithm)
+abbrev pub committed : ℕ → Promised → Answer
+committed n (Replies replies) = Committed (record { 0 = n }) replies
+committed n (Results results) = Batched (record { 0 = n }) results
+
+abbrev pub verdict : OpId → ℕ → Promised → Content → Answer
+verdict op n promised entry = if same_option same_op entry.id (Some op) then committed n promised else Conflict (record { 0 = n }) entry.id
+
+abbrev pub unless_decided : Now → Operation → ℕ → Promised → Option Content → Now
+unless_decided now o n promised None = keeps now o
+unless_decided now o n promised (Some entry) = ends now o.id (verdict o.id n promised entry)
+
+-- the leader of the position after one: the node that the entry there names, and of position 1 the lowest voter
+abbrev pub named_leader : List ℕ → Option Content → Option ℕ
+named_leader members (Some entry) = Some (entry.leader).0
+named_leader members None = slice_get members 0
+
+abbrev pub leader_after : Setting → Now → GroupId → ℕ → Option ℕ
+leader_after s now group zero = slice_get (voters s.cluster) 0
+leader_after s now group (suc p) = named_leader (voters s.cluster) (decided now.met group (suc p))
+
+-- the operation proposes an entry at the position after the one through which it read; where that is decided already, it ends at once
+abbrev pub proposes_there : Setting → Now → Operation → GroupId → ℕ → List ℕ → Promised → RoundMove → Now
+proposes_there s now o group n asked promised t =
+    unless_decided (sends_more now t.sends) (in_phase o (Proposes group n asked t.proposal promised)) n promised (decided now.met group n)
+
+abbrev pub reader_of : Setting → OpId → GroupId → Reader
+reader_of s op group = record { op = op; group = group; voters = voters s.cluster; full = full_nodes s.cluster; cells = s.cluster.cells }
+
+abbrev pub proposes_by : Setting → Now → Operation → GroupId → Reading → ℕ → Content → Promised → Option ℕ → Now
+proposes_by s now o group r p own promised None = keeps now o
+proposes_by s now o group r p own promised (Some leader) =
+    proposes_there s now o group (p + 1) (asked_by r) promised (asks (site (reader_of s o.id group) (asked_by r) (p + 1)) leader own (clock_of now.met))
+
+abbrev pub proposes : Setting → Now → Operation → GroupId → Reading → ℕ → Content → Promised → Now
+proposes s now o group r p own promised = proposes_by s now o group r p own promised (leader_after s now group p)
+
+-- a current read is complete: all that it needs is stored, and one that polled under an epoch that served validates
+abbrev pub stored_with : (GroupId → ℕ) → GroupId → ℕ → GroupId → ℕ
+stored_with stored group count other = if same_group group other then count else stored other
+
+abbrev pub validated_by : Now → GroupId → ℕ → Option NotValid → Now
+validated_by now group p (Some refusal) = now
+validated_by now group p None =
+    record { met = Validates group p ∷ now.met; stored = now.stored; kept = now.kept; valid = now.valid ++ Validates group p ∷ []; answers = now.answers; sends = now.sends }
+
+abbrev pub validates : Setting → Now → GroupId → ℕ → Option Epoch → Now
+validates s now group p None = now
+validates s now group p (Some noted) = validated_by now group p (refused_at s.cluster now.met group p noted)
+
+abbrev pub completes_read : Setting → Now → GroupId → Reading → ℕ → Now
+completes_read s now group r p =
+    validates s (record { met = now.met; stored = stored_with now.stored group (after_read p (log_of now.met group) (now.stored group)); kept = now.kept; valid = now.valid; answers = now.answers; sends = now.sends })
+    group p r.noted
+
+-- a transaction's outcome on the rows through which it read (CIDR 2011, transactions)
+abbrev pub sealed : Setting → Now → Operation → GroupId → Reading → ℕ → Result Done Turn → Now
+sealed s now o group r p (Err turn) = ends now o.id (Turned turn)
+sealed s now o group r p (Ok done) = proposes s now o group r p (entry_of_done o.id done) (Replies done.replies)
+
+abbrev pub is_taken : Result (List (Option Shown)) Turn → Bool
+is_taken result = is_ok result
+
+abbrev pub batch_sealed : Setting → Now → Operation → GroupId → Reading → ℕ → Batch → Now
+batch_sealed s now o group r p b =
+    if list_any is_taken b.results
+    then proposes s now o group r p (entry_of_batch o.id b) (Results b.results)
+    else ends now o.id (AllTurned b.results)
+
+-- the rows that a read asked for, or all rows of its group's tables
+abbrev pub rows_answer : ℕ → Result (List (Option Shown)) Turn → Answer
+rows_answer p (Ok rows) = ReadAnswer (record { 0 = p }) rows
+rows_answer p (Err turn) = Turned turn
+
+abbrev pub read_answer : Setting → ReadRequest → ℕ → Rows → Listed → Answer
+read_answer s request p rows listed = by request.rows
+  where
+    by : List RowRef → Answer
+    by [] = ReadAnswer (record { 0 = p }) (all_rows s.cluster.schema request.group listed)
+    by (row ∷ more) = rows_answer p (read_rows s.cluster.schema request.group (row ∷ more) rows)
+
+-- a log that has reached its limit takes no further entry
+abbrev pub unless_full : Setting → Now → Operation → ℕ → Now → Now
+unless_full s now o p going_on = if nat_le (s.cluster.limit).0 p then ends now o.id (LogFull (record { 0 = p })) else going_on
+
+-- the rows of a group's tables: index entries and keys of no table are none of them
+abbrev pub table_rows : Schema → GroupId → Listed → Listed
+table_rows schema group listed = filter (λ (one : List ℕ × Row). is_some (table_of schema group.key one.0)) listed
+
+-- the entry that handles a message: of what its handler makes of it and of the rows of the group's tables, what fits the schema and the group
+abbrev pub handling : Setting → OpId → GroupId → Enter → Listed → Content
+handling s op group message rows =
+    handle_entry op message.name (handled s.cluster.schema group rows (effect_by (meaning s.handlers message.queue) message rows))
+
+-- a pump reads a group: the first time as any current read, and again only by a poll that notes no epoch, since an answer to its
+-- earlier poll may still come
+abbrev pub is_visited : Operation → GroupId → Bool
+is_visited o group = list_any (same_group group) o.visited
+
+abbrev pub read_begun : Setting → Now → Operation → GroupId → List ℕ → ReadMove
+read_begun s now o group asked =
+    if is_visited o group
+    then polled_read (reader_of s o.id group) None asked (clock_of now.met)
+    else (if valid_at s.cluster now.met group
+    then local_read asked (top_of now.met group)
+    else polled_read (reader_of s o.id group) (serves_at s.cluster now.met) asked (clock_of now.met))
+
+abbrev pub visiting : Operation → GroupId → Option Enter → ReadMove → Operation
+visiting o group message t =
+    record { id = o.id; request = o.request; began = o.began; visited = o.visited ++ group ∷ []; message = message; phase = Reads group t.reading }
+
+abbrev pub reads_group : Setting → (Now → Operation → Now) → Now → Operation → GroupId → Option Enter → ReadMove → Now
+reads_group s again now o group message t = again (sends_more now t.sends) (visiting o group message t)
+
+abbrev pub begins_read : Setting → (Now → Operation → Now) → Now → Operation → GroupId → Option Enter → List ℕ → Now
+begins_read s again now o group message asked = reads_group s again now o group message (read_begun s now o group asked)
+
+-- a pump picks the message, or the group, that it is to serve, and ends where there is none
+abbrev pub has_nothing : Now → Operation → Now
+has_nothing now o = ends now o.id (NothingToDo (applied_marks now))
+
+abbrev pub picks_message : Setting → (Now → Operation → Now) → Now → Operation → List ℕ → Option Posted → Now
+picks_message s again now o asked None = has_nothing now o
+picks_message s again now o asked (Some one) = begins_read s again now o one.to (Some one.message) asked
+
+abbrev pub picks_group : Setting → (Now → Operation → Now) → Now → Operation → List ℕ → Option GroupId → Now
+picks_group s again now o asked None = has_nothing now o
+picks_group s again now o asked (Some group) = begins_read s again now o group None asked
+
+abbrev pub picks_to_enter : Setting → (Now → Operation → Now) → Now → Operation → List ℕ → Now
+picks_to_enter s again now o asked = picks_message s again now o asked (next_to_enter o.id (applied_logs now))
+
+abbrev pub picks_to_handle : Setting → (Now → Operation → Now) → Now → Operation → List ℕ → Now
+picks_to_handle s again now o asked = picks_group s again now o asked (next_to_handle (applied_logs now))
+
+-- a pump that enters: its message, unless it is entered through the position already, and then it picks again
+abbrev pub enters : Setting → (Now → Operation → Now) → Now → Operation → GroupId → Reading → ℕ → Option Enter → Now
+enters s again now o group r p None = picks_to_enter s again now o (asked_by r)
+enters s again now o group r p (Some message) =
+    if is_named message.name (names_entered (take p (log_of now.met group)))
+    then picks_to_enter s again now o (asked_by r)
+    else proposes s now o group r p (enter_entry o.id message) (Replies [])
+
+-- a pump that handles: the group's oldest message that is not handled, if its queue has a handler; where there is none left it picks again
+abbrev pub handles_message : Setting → Now → Operation → GroupId → Reading → ℕ → Enter → Now
+handles_message s now o group r p message =
+    if has s.handlers message.queue
+    then proposes s now o group r p (handling s o.id group message (table_rows s.cluster.schema group (listed_at now group p))) (Replies [])
+    else ends now o.id (NoHandler message.queue)
+
+abbrev pub handles : Setting → (Now → Operation → Now) → Now → Operation → GroupId → Reading → ℕ → Option Enter → Now
+handles s again now o group r p None = picks_to_handle s again now o (asked_by r)
+handles s again now o group r p (Some message) = handles_message s now o group r p message
+
+-- what an operation does whose current read through a position is complete
+abbrev pub finishes : Setting → (Now → Operation → Now) → Now → Operation → GroupId → Reading → ℕ → Now
+finishes s again now o group r p = by o.request
+  where
+    by : Request → Now
+    by (Txn transaction) = unless_full s now o p (sealed s now o group r p (outcome s.cluster.schema transaction (rows_at now group p)))
+    by (BatchRequest own transactions) = unless_full s now o p (batch_sealed s now o group r p (batch_outcome s.cluster.schema own transactions (rows_at now group p)))
+    by (ReadRequested request) = ends now o.id (read_answer s request p (rows_at now group p) (listed_at now group p))
+    by (Find request) = ends now o.id (local_found s.cluster.schema request p (listed_at now group p))
+    by PumpEnter = unless_full s now o p (enters s again now o group r p o.message)
+    by PumpHandle = unless_full s now o p (handles s again now o group r p (oldest_unhandled (take p (log_of now.met group))))
+    by Refresh = keeps now o
+
+-- a read goes on once all positions through its own are decided, and else seeks the least that is not
+abbrev pub seeks_on : Operation → Now → GroupId → ReadMove → Now
+seeks_on o now group t = keeps (sends_more now t.sends) (in_phase o (Reads group t.reading))
+
+abbrev pub reads_on : Setting → (Now → Operation → Now) → Now → Operation → GroupId → Reading → Now
+reads_on s again now o group r = by r.stage
+  where
+    by : Stage → Now
+    by (Polling heard best sent) = keeps now o
+    by (Catching p search) =
+        if nat_le p (prefix_of now.met group)
+        then finishes s again (completes_read s now group r p) o group r p
+        else seeks_on o now group (seeks (reader_of s o.id group) r (prefix_of now.met group + 1) (clock_of now.met))
+
+abbrev pub acts : Setting → (Now → Operation → Now) → Now → Operation → Now
+acts s again now o = by o.phase
+  where
+    by : Phase → Now
+    by (Reads group r) = reads_on s again now o group r
+    by (Proposes group n asked proposal promised) = unless_decided now o n promised (decided now.met group n)
+
+-- a pump may pick again within a step, each time another group with entries that it reads locally, so at most as often as there are such
+-- groups: the last case is never reached
+abbrev pub acts_within : ℕ → Setting → Now → Operation → Now
+acts_within zero s now o = keeps now o
+acts_within (suc most) s now o = acts s (acts_within most s) now o
+
+abbrev pub goes_on : Setting → Now → Operation → Now
+goes_on s now o = acts_within (length (groups_of now.met) + 2) s now o

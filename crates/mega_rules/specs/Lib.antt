@@ -1,0 +1,14 @@
+pub mod Met
+pub mod Members
+pub mod Clock
+pub mod Voting
+pub mod Logs
+pub mod Locks
+pub mod Coordinators
+pub mod Replies
+pub mod Queues
+pub mod Operations
+pub mod Finding
+pub mod Acting
+pub mod Steps
+pub mod Examples
