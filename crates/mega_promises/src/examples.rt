@@ -1,0 +1,129 @@
+//! Worked runs: what the definition of a run gives for schedules whose transcripts are known, as contracts of functions that do
+//! nothing.
+
+ghost use Rattle.std.specs.Prelude.{◌≡◌, [], ◌∷◌, map, length, true, false, Ok, Err, None, Some};
+ghost use Rattle.std.specs.List.{range_with_len};
+ghost use Rattle.mega_base.specs.declared.values.NodeKind.TheVariants.{Witness, Read as ReadOnly};
+ghost use Rattle.mega_outcome.specs.declared.answer.Answer.TheVariants.{Batched, LogFull, NotHere, NothingToDo, Refreshed, Unknown};
+ghost use Rattle.mega_outcome.specs.declared.answer.Turn.TheVariants.{CheckFailed};
+ghost use Rattle.mega_outcome.specs.declared.request.Request.TheVariants.{PumpEnter, PumpHandle, Refresh};
+ghost use Rattle.mega_outcome.specs.declared.request.Mode.TheVariants.{Current, Snapshot};
+ghost use Rattle.mega_schedule.specs.declared.event.WorldEvent.TheVariants.{Deliver, Drain, Drop};
+ghost use Rattle.mega_rules.specs.Examples.{cluster, group};
+ghost use Rattle.mega_promises.specs.Runs.{CutByLog, Whole};
+ghost use Rattle.mega_promises.specs.Worked.{Lapses, Loses, Serves, Unsafe, Unsent, Valid, answers, begin, committed_at, conflict_at, crash, drain, fuse_log, ids_decided, marks, mixed, op, put_at, read_at, read_through, run, run_on, short_log, start, three, tick, told};
+
+/// One put, and the delivery of its fourteen messages in order: three starts, and 36 items more.
+#[tactic(auto, unfolding(mega_base::specs::Codec::number_text))]
+pub fn the_first_path()
+    ensures items { length (run (put_at 1 ∷ map Deliver (range_with_len 1 14))) ≡ 39 }
+    ensures answer { answers (run (put_at 1 ∷ map Deliver (range_with_len 1 14))) ≡ told (op 1 1 1) (committed_at 1) ∷ [] }
+{}
+
+/// Two rivals at ballot zero: the leader hears the third node first, and the second is told whose entry it was.
+#[tactic(auto, unfolding(mega_base::specs::Codec::number_text))]
+pub fn two_rivals()
+    ensures { answers (run (put_at 2 ∷ put_at 3 ∷ Drain 12 ∷ Deliver 14 ∷ drain ∷ [])) ≡ told (op 3 1 1) (committed_at 1) ∷ told (op 2 1 1) (conflict_at 1 (op 3 1 1)) ∷ [] }
+{}
+
+/// An entry whose proposer crashed is completed by the next operation's read, by a no-op's round.
+#[tactic(auto, unfolding(mega_base::specs::Codec::number_text))]
+pub fn completed_by_another()
+    ensures answer { answers (run (put_at 2 ∷ Drain 7 ∷ crash 2 ∷ start 2 ∷ put_at 3 ∷ drain ∷ [])) ≡ told (op 3 1 1) (committed_at 2) ∷ [] }
+    ensures log { ids_decided 3 (run (put_at 2 ∷ Drain 7 ∷ crash 2 ∷ start 2 ∷ put_at 3 ∷ drain ∷ [])) ≡ Some (op 2 1 1) ∷ Some (op 3 1 1) ∷ [] }
+{}
+
+/// An operation whose own entry another one completed is committed.
+#[tactic(auto, unfolding(mega_base::specs::Codec::number_text))]
+pub fn own_entry_completed()
+    ensures { answers (run (put_at 2 ∷ Drain 7 ∷ Drop 8 ∷ put_at 3 ∷ drain ∷ [])) ≡ told (op 2 1 1) (committed_at 1) ∷ told (op 3 1 1) (committed_at 2) ∷ [] }
+{}
+
+/// A proposal that is lost is made again at a tick, by a round above zero.
+#[tactic(auto, unfolding(mega_base::specs::Codec::number_text))]
+pub fn a_round_above_zero()
+    ensures { answers (run (put_at 2 ∷ Drain 6 ∷ Drop 7 ∷ tick 2 50 ∷ drain ∷ [])) ≡ told (op 2 1 1) (committed_at 1) ∷ [] }
+{}
+
+/// A voter that crashed after its record was kept shows its reply at its next start, and answers again.
+#[tactic(auto, unfolding(mega_base::specs::Codec::number_text))]
+pub fn a_kept_record_is_shown()
+    ensures unsent { marks (run_on cluster (CutByLog true) (put_at 1 ∷ Drain 8 ∷ fuse_log 2 3 1 ∷ Deliver 9 ∷ start 2 ∷ Deliver 9 ∷ drain ∷ [])) ≡ Unsent 2 ∷ [] }
+    ensures answer { answers (run_on cluster (CutByLog true) (put_at 1 ∷ Drain 8 ∷ fuse_log 2 3 1 ∷ Deliver 9 ∷ start 2 ∷ Deliver 9 ∷ drain ∷ [])) ≡ told (op 1 1 1) (committed_at 1) ∷ [] }
+{}
+
+/// Of a record that was lost nothing is shown; the voter answers all the same.
+#[tactic(auto, unfolding(mega_base::specs::Codec::number_text))]
+pub fn a_lost_record_is_not_shown()
+    ensures unsent { marks (run_on cluster (CutByLog false) (put_at 1 ∷ Drain 8 ∷ fuse_log 2 1 2 ∷ Deliver 9 ∷ start 2 ∷ Deliver 9 ∷ drain ∷ [])) ≡ [] }
+    ensures answer { answers (run_on cluster (CutByLog false) (put_at 1 ∷ Drain 8 ∷ fuse_log 2 1 2 ∷ Deliver 9 ∷ start 2 ∷ Deliver 9 ∷ drain ∷ [])) ≡ told (op 1 1 1) (committed_at 1) ∷ [] }
+{}
+
+/// A silent full node is covered once a majority of the cells holds nothing for it.
+#[tactic(auto, unfolding(mega_base::specs::Codec::number_text))]
+pub fn covered_by_the_cells()
+    ensures { answers (run (crash 3 ∷ put_at 1 ∷ drain ∷ tick 1 50 ∷ drain ∷ [])) ≡ told (op 1 1 1) (committed_at 1) ∷ [] }
+{}
+
+/// Where two cells still hold its lock, the operation waits for its patience to end, and is unknown.
+#[tactic(auto, unfolding(mega_base::specs::Codec::number_text))]
+pub fn held_until_patience_ends()
+    ensures { answers (run (tick 3 10 ∷ drain ∷ crash 3 ∷ put_at 1 ∷ drain ∷ tick 1 50 ∷ drain ∷ tick 1 1000 ∷ [])) ≡ told (op 1 1 1) Unknown ∷ [] }
+{}
+
+/// A lock that is regained is in a new epoch.
+#[tactic(auto)]
+pub fn a_lock_is_regained()
+    ensures { marks (run (tick 3 10 ∷ drain ∷ tick 3 110 ∷ drain ∷ [])) ≡ Serves 3 1 0 ∷ Loses 3 1 0 ∷ Serves 3 1 1 ∷ [] }
+{}
+
+/// A cell that lets an epoch lapse which is still counted shows that leases are not safe; before an earlier tick it lets none lapse.
+#[tactic(auto)]
+pub fn a_lapse_may_be_unsafe()
+    ensures lapses { marks (run (tick 1 0 ∷ tick 3 10 ∷ drain ∷ tick 1 120 ∷ [])) ≡ Serves 1 1 0 ∷ Serves 3 1 0 ∷ Loses 1 1 0 ∷ Lapses 1 1 ∷ Lapses 1 3 ∷ Unsafe ∷ [] }
+    ensures none_before { marks (run (tick 3 10 ∷ drain ∷ tick 1 120 ∷ [])) ≡ Serves 3 1 0 ∷ [] }
+{}
+
+/// A polled read makes the group valid at its node, and the next current read is local: no message is sent for it.
+#[tactic(auto, unfolding(mega_base::specs::Codec::number_text))]
+pub fn a_local_read()
+    ensures valid { marks (run (tick 1 10 ∷ drain ∷ put_at 1 ∷ drain ∷ read_at 1 Current ∷ [])) ≡ Serves 1 1 0 ∷ Valid 1 0 ∷ [] }
+    ensures answer { answers (run (tick 1 10 ∷ drain ∷ put_at 1 ∷ drain ∷ read_at 1 Current ∷ [])) ≡ told (op 1 1 1) (committed_at 1) ∷ told (op 1 1 2) (read_through 1) ∷ [] }
+{}
+
+/// A read-only node serves a snapshot and no current read; a witness serves neither.
+#[tactic(auto, unfolding(mega_base::specs::Codec::number_text))]
+pub fn kinds_of_nodes()
+    ensures { answers (run_on mixed Whole (put_at 1 ∷ drain ∷ read_at 3 Snapshot ∷ read_at 3 Current ∷ read_at 2 Snapshot ∷ [])) ≡ told (op 1 1 1) (committed_at 1) ∷ told (op 3 1 1) (read_through 1) ∷ told (op 3 1 2) (NotHere ReadOnly) ∷ told (op 2 1 1) (NotHere Witness) ∷ [] }
+{}
+
+/// A log that has reached its limit takes no further entry.
+#[tactic(auto, unfolding(mega_base::specs::Codec::number_text))]
+pub fn a_full_log()
+    ensures { answers (run_on short_log Whole (put_at 1 ∷ drain ∷ put_at 1 ∷ drain ∷ put_at 1 ∷ drain ∷ [])) ≡ told (op 1 1 1) (committed_at 1) ∷ told (op 1 1 2) (committed_at 2) ∷ told (op 1 1 3) (LogFull (record { 0 = 2 })) ∷ [] }
+{}
+
+/// Messages that are delivered again decide and answer nothing again.
+#[tactic(auto, unfolding(mega_base::specs::Codec::number_text))]
+pub fn repeats_change_nothing()
+    ensures { ids_decided 1 (run (put_at 1 ∷ drain ∷ map Deliver (range_with_len 1 14))) ≡ Some (op 1 1 1) ∷ [] }
+{}
+
+/// A batch of three at one position: the second sees what the first wrote, and is turned by its check.
+#[tactic(auto, unfolding(mega_base::specs::Codec::number_text))]
+pub fn a_batch_of_three()
+    ensures { answers (run (begin 1 three ∷ drain ∷ [])) ≡ told (op 1 1 1) (Batched (record { 0 = 1 }) (Ok [] ∷ Err (CheckFailed 0) ∷ Ok [] ∷ [])) ∷ [] }
+{}
+
+/// A pump finds nothing to do where no queue message stands in the applied logs, and a refresh brings the indexes to their positions.
+#[tactic(auto, unfolding(mega_base::specs::Codec::number_text))]
+pub fn pumps_and_a_refresh()
+    ensures { answers (run (put_at 1 ∷ drain ∷ begin 2 PumpEnter ∷ begin 3 PumpHandle ∷ begin 1 Refresh ∷ [])) ≡ told (op 1 1 1) (committed_at 1) ∷ told (op 2 1 1) (NothingToDo ((record { group = group; position = record { 0 = 1 } }) ∷ [])) ∷ told (op 3 1 1) (NothingToDo ((record { group = group; position = record { 0 = 1 } }) ∷ [])) ∷ told (op 1 1 2) (Refreshed ((record { group = group; position = record { 0 = 1 } }) ∷ [])) ∷ [] }
+{}
+
+/// What cells said of a node while an operation completed one position is not believed at its next: the third node completes the entry of the
+/// second, which is down, with the cells' help, and then waits for its own until patience ends.
+#[tactic(auto, unfolding(mega_base::specs::Codec::number_text))]
+pub fn an_earlier_answer_is_not_believed()
+    ensures { answers (run (put_at 2 ∷ Drain 7 ∷ crash 2 ∷ put_at 3 ∷ drain ∷ tick 3 50 ∷ drain ∷ tick 3 100 ∷ drain ∷ tick 3 150 ∷ drain ∷ tick 3 200 ∷ drain ∷ tick 3 1000 ∷ [])) ≡ told (op 3 1 1) Unknown ∷ [] }
+{}
