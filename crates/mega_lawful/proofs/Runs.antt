@@ -1,0 +1,434 @@
+-- A step or a start that a fuse cuts, a start that shows what is owed, and so every run, goes through good standings.
+use Rattle.std.proofs.Common.{◌≡◌, ◌⊎◌, inl, inr, ℕ, zero, suc, ◌+◌, ◌==◌, ◌&&◌, ◌||◌, ◌≤◌, ◌<◌, nat_lt, nat_le, Bool, true, false, not, cond, List, [], ◌∷◌, ◌++◌, map, filter, flat_map, fold, find, length, Option, Some, None, refl, sym, ap, ◌∙◌, subst, arith}
+use Rattle.mega_base.specs.declared.names.GroupId.{GroupId}
+use Rattle.mega_base.specs.declared.names.OpId.{OpId}
+use Rattle.mega_cluster.specs.declared.cluster.Cluster.{Cluster}
+use Rattle.mega_handler.specs.Named.{Meanings}
+use Rattle.mega_outcome.specs.declared.request.Request.{Request}
+use Rattle.mega_wire.specs.declared.message.Message.{Message}
+use Rattle.mega_schedule.specs.declared.event.WorldEvent.{WorldEvent}
+use Rattle.mega_schedule.specs.declared.event.WorldEvent.TheVariants.{Tick as TickEvent, Deliver, Drop, Drain, Crash as CrashEvent, Start as StartEvent, Fuse as FuseEvent, Begin as BeginEvent}
+use Rattle.mega_transcript.specs.declared.item.Item.{Item}
+use Rattle.mega_transcript.specs.declared.item.Item.TheVariants.{Taken, Dropped, Start, Tick as TickItem, Begin as BeginItem, Crash, Cut as CutItem}
+use Rattle.mega_promises.specs.Items.{number, shown}
+use Rattle.mega_promises.specs.Messages.{is_deliverable, is_dropped, message_of, next_delivery, receiver_up}
+use Rattle.mega_promises.specs.Runs.{Cuts, CutByData, CutByLog, Fate, Fuse, Happening, IsRun, Standing, Whole, after_event, appends, at_node, because, crashes, cut_start, cut_step, delivered, drained, fate_of, fated, fated_start, goes_on, handed, is_durable, log_fuse_after, marked, nothing_yet, opening, owes, receiver_down, records_after, refusal, set_at, setting, unless_none, unless_refused, up, whole_start, whole_step, with_item, with_items}
+use Rattle.mega_transcript.specs.Tape.{is_sent, is_taken}
+use Rattle.mega_rules.specs.Met.{Met, Applies, Begins, Crashes, Starts, Takes, Ticks, Unsends}
+use Rattle.mega_rules.specs.Members.{has_rows, is_node, nodes}
+use Rattle.mega_rules.specs.Clock.{is_up, start_of}
+use Rattle.mega_rules.specs.Logs.{groups_of, prefix_of}
+use Rattle.mega_rules.specs.Operations.{Node, Setting}
+use Rattle.mega_rules.specs.Steps.{Begin, Step, Take, Tick, crashed, onto, op_of, start, start_items, start_note, start_notes, step}
+use Rattle.mega_laws.specs.Places.{Place, moves}
+use Rattle.mega_laws.specs.Lawful.{Lawful}
+use Rattle.mega_laws.proofs.Ballots.{number_self}
+use Rattle.mega_laws.proofs.Lists.{some_is}
+use Rattle.mega_lawful.specs.Vouched.{Each}
+use Rattle.mega_lawful.proofs.Noted.{Follows, Note, TapeOn, each_note_on, notes_follow, one_note, tape_item, with_append}
+use Rattle.mega_lawful.proofs.Standing.{Good, IsNew, Owes, act_other, act_same, other_good, owes_on}
+use Rattle.mega_lawful.proofs.Stepping.{Next, Own, next_good}
+use Rattle.mega_lawful.proofs.Events.{IsPlain, each_flat_map, onto_append, plain_notes}
+use Rattle.mega_lawful.proofs.Steps.{begun_next, own_begin, stands_sent, whole_good}
+use Rattle.mega_lawful.proofs.Ticking.{own_tick, ticked_next}
+use Rattle.mega_lawful.proofs.Whole.{StepNext, own_taken, take_next}
+use Rattle.mega_lawful.proofs.Replied.{Fair, answer_fair}
+use Rattle.mega_lawful.specs.Shows.{Shows}
+use Rattle.mega_lawful.proofs.Turns.{Known}
+use Rattle.mega_laws.specs.Places.{Took}
+use Rattle.mega_laws.specs.Lawful.{message}
+use Rattle.std.specs.List.{cons_option}
+use Rattle.mega_rules.specs.Replies.{answer_to, reply_message, reply_to}
+use Rattle.mega_wire.specs.declared.message.Body.{Body}
+use Rattle.mega_rules.specs.Voting.{acts as acts_met}
+use Rattle.mega_laws.specs.Places.{acts}
+use Rattle.mega_disk.specs.declared.pair.Device.TheVariants.{Log, Data}
+use Rattle.mega_promises.specs.Promises.{Stands}
+
+old_moves : (c : Cluster) (now : Standing) (me : ℕ) → Good c now → (x : OpId) → x.node.0 ≡ me → IsNew (now.starts me) (now.node me).met x → (q : Place) → moves now.tape x q ≡ []
+old_moves c now me g x node new q = g.fresh x (subst (λ w. IsNew (now.starts w) (now.node w).met x) (sym node) new) q
+
+at_self : {X : Type 0} (f : ℕ → X) (me : ℕ) (x : X) → set_at f me x me ≡ x
+at_self f me x = ap (λ t. cond t x (f me)) (number_self me)
+
+at_other : {X : Type 0} (f : ℕ → X) (me : ℕ) (x : X) (v : ℕ) → (me == v) ≡ false → set_at f me x v ≡ f v
+at_other f me x v h = ap (λ t. cond t x (f v)) h
+
+starts_plain : (s : Setting) (met : List Met) → Each IsPlain (start_notes s met)
+starts_plain s met = if_rows (has_rows s.cluster s.me)
+  where
+    note_plain : (group : GroupId) → Each IsPlain (start_note met group)
+    note_plain group = go (nat_lt 0 (prefix_of met group))
+      where
+        go : (t : Bool) → Each IsPlain (cond t (Applies group (prefix_of met group) ∷ []) [])
+        go true = (tt, tt)
+        go false = tt
+
+    if_rows : (t : Bool) → Each IsPlain (cond t (flat_map (start_note met) (groups_of met)) [])
+    if_rows true = each_flat_map (start_note met) note_plain (groups_of met)
+    if_rows false = tt
+
+-- ---- what is owed
+
+owes_cons : (c : Cluster) (tape : List Item) (me : ℕ) (one : Met) (more : List Met) → Note c tape me one → Owes c tape me more → Owes c tape me (one ∷ more)
+owes_cons c tape me (Unsends m) more h k = absurd h
+owes_cons c tape me _ more h k = (h, k)
+
+owes_notes : (c : Cluster) (tape : List Item) (me : ℕ) (notes last : List Met) → Each (Note c tape me) notes → Owes c tape me last → Owes c tape me (filter is_durable notes ++ last)
+owes_notes c tape me [] last h k = k
+owes_notes c tape me (one ∷ notes) last h k = go (is_durable one) (owes_notes c tape me notes last h.1 k)
+  where
+    go : (t : Bool) → Owes c tape me (filter is_durable notes ++ last) → Owes c tape me (cond t (one ∷ filter is_durable notes) (filter is_durable notes) ++ last)
+    go true rest = owes_cons c tape me one (filter is_durable notes ++ last) h.0 rest
+    go false rest = rest
+
+owes_reply : (c : Cluster) (tape : List Item) (me : ℕ) (met : List Met) (m : Message) → Shows tape me met → Took tape (message m.from me m.body) → Owes c tape me (map Unsends (reply_to c me met m))
+owes_reply c tape me met m s took = go (answer_to c me met m.from m.body) (λ answer h. answer_fair c tape me m.from met s m.body took answer h)
+  where
+    go : (o : Option Body) → ((answer : Body) → o ≡ Some answer → Fair c tape (message me m.from answer) answer) → Owes c tape me (map Unsends (reply_message me m.from o))
+    go None h = tt
+    go (Some answer) h = (refl, (refl, ((h answer refl).0).1))
+
+owes_if : (c : Cluster) (tape : List Item) (me : ℕ) (t : Bool) (owed : List Met) → Owes c tape me owed → Owes c tape me (cond t owed [])
+owes_if c tape me true owed h = h
+owes_if c tape me false owed h = tt
+
+-- ---- cut steps
+
+cut_good : (c : Cluster) (now : Standing) (me : ℕ) (item : Item) (own : Met) (made : Step) (owed : List Met) (log_fuse data_fuse : ℕ → Option Fuse) → Good c now → ((n : ℕ → Node) → with_item c n now.tape item ≡ item ∷ now.tape)
+    → Own c now.tape item (now.node me).met own → Owes c (Crash (number me) ∷ item ∷ now.tape) me owed → Good c (cut_step c now me (item ∷ []) own made owed log_fuse data_fuse)
+cut_good c now me item own made owed log_fuse data_fuse g plain o owing = next_good c now me _ node2 log_fuse data_fuse now.starts now.records (set_at now.owed me owed) g
+    (subst (λ t. Next c now me t node2 now.starts (set_at now.owed me owed)) (sym (ap (λ t. with_item c (set_at now.node me node2) t (Crash (number me))) (plain (set_at now.node me node2)))) (record {
+      lawful = (tt, (o.on).lawful g.lawful);
+      stood = λ x s. inr ((o.on).stood x s);
+      mine = record {
+        made = λ q. o.made q.group q.position.0 ∙ (g.node me).made q ∙ sym ((o.on).made me q);
+        known = λ h n e d. inr ((o.on).stood _ ((g.node me).known h n e (sym (o.decides h n) ∙ d)));
+        held = tt;
+        rising = tt;
+      };
+      made = λ v apart q. (o.on).made v q;
+      moved = λ x apart q. (o.on).moved x q;
+      fresh = λ x node new q. (o.on).moved x q ∙ old_moves c now me g x node (older x new) q;
+      started = subst (λ n. n ≤ now.starts me) (sym o.start) (g.starts me);
+      starts_same = λ v apart. refl;
+      owes = subst (λ x. Owes c (Crash (number me) ∷ item ∷ now.tape) me x) (sym (at_self now.owed me owed)) owing;
+      owed_up = λ u. cc;
+      owed_same = at_other now.owed me owed;
+    }))
+  where
+    node2 : Node
+    node2 = crashed (record { met = own ∷ (now.node me).met; open_operations = []; stored = (now.node me).stored })
+
+    older : (x : OpId) → IsNew (now.starts me) node2.met x → IsNew (now.starts me) (now.node me).met x
+    older x (inl less) = inl less
+    older x (inr both) = inr (both.0 ∙ o.start, (let n = both.1 in let b = o.begun in omega (arith, n, b)))
+
+fated_good : (c : Cluster) (now : Standing) (me : ℕ) (item : Item) (own : Met) (made : Step) (replies : List Message) (fate : Fate) → Good c now → ((n : ℕ → Node) → with_item c n now.tape item ≡ item ∷ now.tape)
+    → Own c now.tape item (now.node me).met own → Owes c (Crash (number me) ∷ item ∷ now.tape) me (owes made replies) → Good c (whole_step c now me (item ∷ []) made) → Good c (fated c now me (item ∷ []) own made replies fate)
+fated_good c now me item own made replies Whole g plain o owing whole = whole
+fated_good c now me item own made replies (CutByLog kept) g plain o owing whole =
+    cut_good c now me item own made (cond kept (owes made replies) []) (set_at now.log_fuse me None) now.data_fuse g plain o (owes_if c (Crash (number me) ∷ item ∷ now.tape) me kept (owes made replies) owing)
+fated_good c now me item own made replies (CutByData kept) g plain o owing whole = cut_good c now me item own made [] now.log_fuse (set_at now.data_fuse me None) g plain o tt
+
+-- ---- crashes and starts that are cut
+
+down_next : (c : Cluster) (now : Standing) (me : ℕ) (starts : ℕ → ℕ) → Good c now → now.starts me ≤ starts me → ((v : ℕ) → (me == v) ≡ false → starts v ≡ now.starts v) → Next c now me (Crash (number me) ∷ now.tape) (crashed (now.node me)) starts now.owed
+down_next c now me starts g le same = record {
+  lawful = (tt, g.lawful);
+  stood = λ item s. inr s;
+  mine = record { made = (g.node me).made; known = λ h n e d. inr ((g.node me).known h n e d); held = tt; rising = tt };
+  made = λ v apart q. refl;
+  moved = λ x apart q. refl;
+  fresh = λ x node new q. old_moves c now me g x node (older x new) q;
+  started = (let first = g.starts me in omega (arith, first, le));
+  starts_same = same;
+  owes = owes_on c now.tape (Crash (number me) ∷ now.tape) me (λ item s. inr s) (λ q. refl) (now.owed me) (g.owes me);
+  owed_up = λ u. cc;
+  owed_same = λ v apart. refl;
+}
+  where
+    older : (x : OpId) → IsNew (starts me) (Crashes ∷ (now.node me).met) x → IsNew (now.starts me) (now.node me).met x
+    older x (inl less) = inl (omega (arith, less, le))
+    older x (inr both) = inr both
+
+crashes_good : (c : Cluster) (now : Standing) (me : ℕ) → Good c now → Good c (crashes now me)
+crashes_good c now me g = next_good c now me (Crash (number me) ∷ now.tape) (crashed (now.node me)) now.log_fuse now.data_fuse now.starts now.records now.owed g (down_next c now me now.starts g (omega arith) (λ v apart. refl))
+
+cut_start_good : (c : Cluster) (now : Standing) (me : ℕ) (kept : Bool) (log_fuse data_fuse : ℕ → Option Fuse) → Good c now → Good c (cut_start now me kept log_fuse data_fuse)
+cut_start_good c now me kept log_fuse data_fuse g = next_good c now me (Crash (number me) ∷ now.tape) (crashed (now.node me)) log_fuse data_fuse (set_at now.starts me (cond kept (now.starts me + 1) (now.starts me))) now.records now.owed g
+    (down_next c now me (set_at now.starts me (cond kept (now.starts me + 1) (now.starts me))) g (subst (λ n. now.starts me ≤ n) (sym (at_self now.starts me (cond kept (now.starts me + 1) (now.starts me)))) (le kept)) (at_other now.starts me (cond kept (now.starts me + 1) (now.starts me))))
+  where
+    le : (t : Bool) → now.starts me ≤ cond t (now.starts me + 1) (now.starts me)
+    le true = omega arith
+    le false = omega arith
+
+-- ---- starts
+
+-- what is owed is shown
+record Shown (c : Cluster) (me : ℕ) (old : List Item) (met : List Met) (new : List Item) (more : List Met) : Type 0 where
+  lawful : Lawful c old → Lawful c new
+  stood : (item : Item) → Stands item old → Stands item new
+  moved : (x : OpId) (q : Place) → moves new x q ≡ moves old x q
+  others : (v : ℕ) → (me == v) ≡ false → (q : Place) → acts new v q ≡ acts old v q
+  made : (q : Place) → acts_met more q.group q.position.0 ≡ acts new me q
+  known : Known me more new
+  started : start_of more ≡ start_of met
+
+owed_shown : (c : Cluster) (me : ℕ) (nodes' : ℕ → Node) (owed : List Met) (tape : List Item) (met : List Met) → Owes c tape me owed → ((q : Place) → acts_met met q.group q.position.0 ≡ acts tape me q) → Known me met tape
+    → Shown c me tape met (with_items c nodes' tape (flat_map (shown me) owed)) (onto owed met)
+owed_shown c me nodes' [] tape met h made known = record { lawful = λ l. l; stood = λ item s. s; moved = λ x q. refl; others = λ v apart q. refl; made = made; known = known; started = refl }
+owed_shown c me nodes' (Unsends m ∷ []) tape met h made known = record {
+  lawful = λ l. ((h.1).1, l);
+  stood = λ item s. inr s;
+  moved = λ x q. refl;
+  others = λ v apart q. ap (λ o. cons_option o (acts tape v q)) (act_other me v m q.group q.position.0 apart (inl (h.1).0));
+  made = λ q. λ i. cons_option (act_same me m q.group q.position.0 (inl (h.1).0) i) (made q i);
+  known = λ g n e d. inr (known g n e d);
+  started = refl;
+}
+owed_shown c me nodes' (Unsends m ∷ one ∷ more) tape met h made known = absurd (let none = h.0 in cc)
+owed_shown c me nodes' (one ∷ more) tape met h made known =
+    let first = one_note c me nodes' tape met one h.0 in
+    let mid = with_items c nodes' tape (shown me one) in
+    let rest = owed_shown c me nodes' more mid (one ∷ met) (owes_on c tape mid me (first.tape).stood ((first.tape).made me) more h.1)
+    (λ q. (first.met_on).made q.group q.position.0 ∙ made q ∙ sym ((first.tape).made me q)) (first.known known) in
+    subst (λ t. Shown c me tape met t (onto more (one ∷ met))) (sym (with_append c nodes' (shown me one) (flat_map (shown me) more) tape)) (record {
+      lawful = λ l. rest.lawful ((first.tape).lawful l);
+      stood = λ item s. rest.stood item ((first.tape).stood item s);
+      moved = λ x q. rest.moved x q ∙ (first.tape).moved x q;
+      others = λ v apart q. rest.others v apart q ∙ (first.tape).made v q;
+      made = rest.made;
+      known = rest.known;
+      started = rest.started ∙ (first.met_on).start;
+    })
+
+append_assoc : {X : Type 0} (xs ys zs : List X) → (xs ++ ys) ++ zs ≡ xs ++ (ys ++ zs)
+append_assoc [] ys zs = refl
+append_assoc (x ∷ xs) ys zs = ap (λ l. x ∷ l) (append_assoc xs ys zs)
+
+flat_append : (me : ℕ) (xs ys : List Met) → flat_map (shown me) (xs ++ ys) ≡ flat_map (shown me) xs ++ flat_map (shown me) ys
+flat_append me [] ys = refl
+flat_append me (x ∷ xs) ys = ap (λ l. shown me x ++ l) (flat_append me xs ys) ∙ sym (append_assoc (shown me x) (flat_map (shown me) xs) (flat_map (shown me) ys))
+
+start_good : (c : Cluster) (h : Meanings) (now : Standing) (me : ℕ) → Good c now
+    → Good c (whole_start c now me (start_items (setting c h me) (now.starts me + 1) (now.owed me) (now.node me).met) (start (setting c h me) (now.starts me + 1) (now.owed me) (now.node me).met))
+start_good c h now me g = next_good c now me _ node2 (log_fuse_after now me true) now.data_fuse (set_at now.starts me (now.starts me + 1)) (records_after now me true) (set_at now.owed me []) g
+    (coe 1 0 (i. Next c now me (tape_is i) (record { met = met_is i; open_operations = []; stored = node2.stored }) (set_at now.starts me (now.starts me + 1)) (set_at now.owed me [])) (record {
+      lawful = whole_lawful;
+      stood = λ item s. (follows.tape).stood item (first.stood item (inr s));
+      mine = record {
+        made = λ q. (follows.met_on).made q.group q.position.0 ∙ first.made q ∙ sym ((follows.tape).made me q);
+        known = follows.known first.known;
+        held = tt;
+        rising = tt;
+      };
+      made = λ v apart q. (follows.tape).made v q ∙ first.others v apart q;
+      moved = λ x apart q. (follows.tape).moved x q ∙ first.moved x q;
+      fresh = λ x node new q. (follows.tape).moved x q ∙ first.moved x q ∙ old_moves c now me g x node (inl (later x new)) q;
+      started = subst (λ n. start_of (onto notes met2) ≤ n) (sym (at_self now.starts me (now.starts me + 1))) (subst (λ n. n ≤ now.starts me + 1) (sym started) (omega arith));
+      starts_same = at_other now.starts me (now.starts me + 1);
+      owes = subst (λ o. Owes c tape3 me o) (sym (at_self now.owed me [])) tt;
+      owed_up = λ u. at_self now.owed me [];
+      owed_same = at_other now.owed me [];
+    }))
+  where
+    owed : List Met
+    owed = now.owed me
+
+    met1 : List Met
+    met1 = Starts (now.starts me + 1) ∷ (now.node me).met
+
+    met2 : List Met
+    met2 = onto owed met1
+
+    notes : List Met
+    notes = start_notes (setting c h me) met2
+
+    node2 : Node
+    node2 = start (setting c h me) (now.starts me + 1) owed (now.node me).met
+
+    nodes' : ℕ → Node
+    nodes' = set_at now.node me node2
+
+    tape1 : List Item
+    tape1 = Start (number me) (now.starts me + 1) ∷ now.tape
+
+    tape2 : List Item
+    tape2 = with_items c nodes' tape1 (flat_map (shown me) owed)
+
+    tape3 : List Item
+    tape3 = with_items c nodes' tape2 (flat_map (shown me) notes)
+
+    first : Shown c me tape1 met1 tape2 met2
+    first = owed_shown c me nodes' owed tape1 met1 (owes_on c now.tape tape1 me (λ item s. inr s) (λ q. refl) owed (g.owes me)) (λ q. (g.node me).made q) (λ h' n e d. inr ((g.node me).known h' n e d))
+
+    follows : Follows c me tape2 met2 tape3 (onto notes met2)
+    follows = notes_follow c me nodes' notes tape2 met2 (plain_notes c tape2 me notes (starts_plain (setting c h me) met2))
+
+    whole_lawful : Lawful c tape3
+    whole_lawful = (follows.tape).lawful (first.lawful (tt, g.lawful))
+
+    started : start_of (onto notes met2) ≡ now.starts me + 1
+    started = (follows.met_on).start ∙ first.started
+
+    tape_is : with_items c nodes' now.tape (flat_map (shown me) (start_items (setting c h me) (now.starts me + 1) owed (now.node me).met)) ≡ tape3
+    tape_is = ap (with_items c nodes' tape1) (flat_append me owed notes) ∙ with_append c nodes' (flat_map (shown me) owed) (flat_map (shown me) notes) tape1
+
+    met_is : node2.met ≡ onto notes met2
+    met_is = onto_append owed notes met1
+
+    later : (x : OpId) → IsNew (set_at now.starts me (now.starts me + 1) me) (onto notes met2) x → now.starts me < x.start
+    later x (inl less) = let is = at_self now.starts me (now.starts me + 1) in omega (arith, less, is)
+    later x (inr both) = let is = both.0 in let at = started in omega (arith, is, at)
+
+fated_start_good : (c : Cluster) (h : Meanings) (now : Standing) (me : ℕ) (fate : Fate) → Good c now → Good c (fated_start c h now me fate)
+fated_start_good c h now me Whole g = start_good c h now me g
+fated_start_good c h now me (CutByLog kept) g = cut_start_good c now me kept (set_at now.log_fuse me None) now.data_fuse g
+fated_start_good c h now me (CutByData kept) g = cut_start_good c now me kept now.log_fuse (set_at now.data_fuse me None) g
+
+-- ---- events
+
+handed_good : (c : Cluster) (h : Meanings) (cuts : Cuts) (now : Standing) (j : ℕ) (o : Option Message) → message_of now.tape j ≡ o → receiver_up (up now) o ≡ true → Good c now → Good c (handed c h cuts now j o)
+handed_good c h cuts now j None is r g = g
+handed_good c h cuts now j (Some m) is r g = fated_good c now m.to (Taken j) (Takes m) made (reply_to c m.to (now.node m.to).met m) (fate_of c now m.to (appends made) (cuts now.tape)) g (λ n. refl) (own_taken c now.tape j m (now.node m.to).met)
+    (owes_notes c tape2 m.to made.notes (map Unsends (reply_to c m.to (now.node m.to).met m)) (each_note_on c (Taken j ∷ now.tape) tape2 (λ item s. inr s) m.to made.notes next.1)
+    (owes_reply c tape2 m.to (now.node m.to).met m (record { made = (g.node m.to).made; decides = λ h' n e d. inr (inr ((g.node m.to).known h' n e d)) }) (record { number = j; sent = inr (inr (stands_sent now.tape j m is)); taken = inr (inl refl) })))
+    (whole_good s now (Taken j) (Takes m) made g (λ n. refl) next)
+  where
+    s : Setting
+    s = setting c h m.to
+
+    made : Step
+    made = step s (now.node m.to) (Take m)
+
+    tape2 : List Item
+    tape2 = Crash (number m.to) ∷ Taken j ∷ now.tape
+
+    next : StepNext s now (set_at now.node m.to made.node) (Taken j) (Takes m) made
+    next = take_next s now (set_at now.node m.to made.node) j m g r (stands_sent now.tape j m is)
+
+tick_good : (c : Cluster) (h : Meanings) (now : Standing) (me clock : ℕ) (cut : Fate) → is_up (now.node me).met ≡ true → Good c now → Good c (at_node c h now me (shown me (Ticks clock)) (Tick clock) cut)
+tick_good c h now me clock cut r g = fated_good c now me (TickItem (number me) clock) (Ticks clock) made [] (fate_of c now me (appends made) cut) g (λ n. refl) (own_tick c now.tape me clock (now.node me).met)
+    (owes_notes c (Crash (number me) ∷ TickItem (number me) clock ∷ now.tape) me made.notes [] (each_note_on c (TickItem (number me) clock ∷ now.tape) (Crash (number me) ∷ TickItem (number me) clock ∷ now.tape) (λ item s. inr s) me made.notes next.1) tt)
+    (whole_good s now (TickItem (number me) clock) (Ticks clock) made g (λ n. refl) next)
+  where
+    s : Setting
+    s = setting c h me
+
+    made : Step
+    made = step s (now.node me) (Tick clock)
+
+    next : StepNext s now (set_at now.node me made.node) (TickItem (number me) clock) (Ticks clock) made
+    next = ticked_next s now (set_at now.node me made.node) clock g r
+
+begin_good : (c : Cluster) (h : Meanings) (now : Standing) (me : ℕ) (request : Request) (text : List ℕ) (cut : Fate) → is_up (now.node me).met ≡ true → Good c now
+    → Good c (at_node c h now me (shown me (Begins (op_of (setting c h me) (now.node me).met) text)) (Begin request text) cut)
+begin_good c h now me request text cut r g = fated_good c now me (BeginItem id text) (Begins id text) made [] (fate_of c now me (appends made) cut) g (λ n. refl) (own_begin c now.tape id text (now.node me).met)
+    (owes_notes c (Crash (number me) ∷ BeginItem id text ∷ now.tape) me made.notes [] (each_note_on c (BeginItem id text ∷ now.tape) (Crash (number me) ∷ BeginItem id text ∷ now.tape) (λ item s. inr s) me made.notes next.1) tt)
+    (whole_good s now (BeginItem id text) (Begins id text) made g (λ n. refl) next)
+  where
+    s : Setting
+    s = setting c h me
+
+    id : OpId
+    id = op_of s (now.node me).met
+
+    made : Step
+    made = step s (now.node me) (Begin request text)
+
+    next : StepNext s now (set_at now.node me made.node) (BeginItem id text) (Begins id text) made
+    next = begun_next s now (set_at now.node me made.node) request text g r
+
+marked_good : (c : Cluster) (now : Standing) (item : Item) → TapeOn c now.tape (item ∷ now.tape) → Good c now → Good c (marked now item)
+marked_good c now item on g = record {
+  lawful = on.lawful g.lawful;
+  node = λ v. other_good c now.tape (item ∷ now.tape) v (now.node v) on.stood (on.made v) (λ x is q. on.moved x q) (g.node v);
+  starts = g.starts;
+  fresh = λ x new q. on.moved x q ∙ g.fresh x new q;
+  owes = λ v. owes_on c now.tape (item ∷ now.tape) v on.stood (on.made v) (now.owed v) (g.owes v);
+  owed = g.owed;
+}
+
+both_true : (a b : Bool) → (a && b) ≡ true → (a ≡ true) × (b ≡ true)
+both_true true b h = (refl, h)
+both_true false b h = cc
+
+found : (test : ℕ → Bool) (xs : List ℕ) (j : ℕ) → find test xs ≡ Some j → test j ≡ true
+found test [] j h = cc
+found test (x ∷ xs) j h = go (test x) refl h (found test xs j)
+  where
+    go : (t : Bool) → test x ≡ t → cond t (Some x) (find test xs) ≡ Some j → (find test xs ≡ Some j → test j ≡ true) → test j ≡ true
+    go true e k again = subst (λ y. test y ≡ true) (some_is x j k) e
+    go false e k again = again k
+
+deliverable_good : (c : Cluster) (h : Meanings) (cuts : Cuts) (now : Standing) (j : ℕ) → next_delivery (up now) now.tape ≡ Some j → Good c now → Good c (delivered c h cuts now j)
+deliverable_good c h cuts now j e g = handed_good c h cuts now j (message_of now.tape j) refl
+    (both_true (not (is_taken now.tape j) && not (is_dropped now.tape j)) (receiver_up (up now) (message_of now.tape j)) (found (is_deliverable (up now) now.tape) _ j e)).1 g
+
+drained_good : (c : Cluster) (h : Meanings) (cuts : Cuts) (most : ℕ) (now : Standing) → Good c now → Good c (drained c h cuts now most)
+drained_good c h cuts zero now g = go (next_delivery (up now) now.tape)
+  where
+    go : (o : Option ℕ) → Good c (unless_none now (λ j. marked now CutItem) o)
+    go None = g
+    go (Some j) = marked_good c now CutItem (tape_item c now.tape CutItem tt (λ x q. refl) (λ v q. refl)) g
+drained_good c h cuts (suc most) now g = go (next_delivery (up now) now.tape) refl (λ j. drained_good c h cuts most (delivered c h cuts now j))
+  where
+    go : (o : Option ℕ) → next_delivery (up now) now.tape ≡ o → ((j : ℕ) → Good c (delivered c h cuts now j) → Good c (drained c h cuts (delivered c h cuts now j) most))
+        → Good c (unless_none now (λ j. drained c h cuts (delivered c h cuts now j) most) o)
+    go None e more = g
+    go (Some j) e more = more j (deliverable_good c h cuts now j e g)
+
+not_because : (t : Bool) (why : ℕ) (other : Option ℕ) → because t why other ≡ None → (t ≡ false) × (other ≡ None)
+not_because true why other h = cc
+not_because false why other h = (refl, h)
+
+not_false : (t : Bool) → not t ≡ false → t ≡ true
+not_false true h = refl
+not_false false h = cc
+
+delivered_good : (c : Cluster) (h : Meanings) (cuts : Cuts) (now : Standing) (j : ℕ) (o : Option Message) → message_of now.tape j ≡ o → receiver_down now o ≡ false → Good c now → Good c (handed c h cuts now j o)
+delivered_good c h cuts now j None is r g = g
+delivered_good c h cuts now j (Some m) is r g = handed_good c h cuts now j (Some m) is (not_false (up now m.to) r) g
+
+event_good : (c : Cluster) (h : Meanings) (cuts : Cuts) (now : Standing) (event : WorldEvent) → refusal c now event ≡ None → Good c now → Good c (after_event c h cuts now event)
+event_good c h cuts now (TickEvent node clock) r g =
+    let second = (not_because (not (is_node c node.0)) 6 _ r).1 in let third = (not_because (not (up now node.0)) 1 _ second).0 in
+    tick_good c h now node.0 clock (cuts now.tape) (not_false (up now node.0) third) g
+event_good c h cuts now (Deliver j) r g =
+    let second = (not_because (not (is_sent now.tape j)) 3 _ r).1 in let third = (not_because (is_dropped now.tape j) 4 _ second).1 in
+    delivered_good c h cuts now j (message_of now.tape j) refl (not_because (receiver_down now (message_of now.tape j)) 1 None third).0 g
+event_good c h cuts now (Drop j) r g = marked_good c now (Dropped j) (tape_item c now.tape (Dropped j) tt (λ x q. refl) (λ v q. refl)) g
+event_good c h cuts now (Drain most) r g = drained_good c h cuts most now g
+event_good c h cuts now (CrashEvent node) r g = crashes_good c now node.0 g
+event_good c h cuts now (StartEvent node) r g = fated_start_good c h now node.0 (fate_of c now node.0 true (cuts now.tape)) g
+event_good c h cuts now (FuseEvent node calls image Log) r g = record { lawful = g.lawful; node = g.node; starts = g.starts; fresh = g.fresh; owes = g.owes; owed = g.owed }
+event_good c h cuts now (FuseEvent node calls image Data) r g = record { lawful = g.lawful; node = g.node; starts = g.starts; fresh = g.fresh; owes = g.owes; owed = g.owed }
+event_good c h cuts now (BeginEvent node request text) r g =
+    let second = (not_because (not (is_node c node.0)) 6 _ r).1 in let third = (not_because (not (up now node.0)) 1 _ second).0 in
+    begin_good c h now node.0 request text (cuts now.tape) (not_false (up now node.0) third) g
+
+run_good : (c : Cluster) (cuts : Cuts) (events : List Happening) (now : Standing) → Good c now → Good c (goes_on c cuts now events)
+run_good c cuts [] now g = g
+run_good c cuts (one ∷ events) now g = run_good c cuts events (unless_refused now (after_event c one.handlers cuts now one.event) (refusal c now one.event)) (go (refusal c now one.event) refl)
+  where
+    go : (o : Option ℕ) → refusal c now one.event ≡ o → Good c (unless_refused now (after_event c one.handlers cuts now one.event) o)
+    go None r = event_good c one.handlers cuts now one.event r g
+    go (Some why) r = g
+
+nothing_good : (c : Cluster) → Good c nothing_yet
+nothing_good c = record {
+  lawful = tt;
+  node = λ v. record { made = λ q. refl; known = λ g n e h. cc; held = tt; rising = tt };
+  starts = λ v. omega arith;
+  fresh = λ x new q. refl;
+  owes = λ v. tt;
+  owed = λ v h. refl;
+}
+
+opened_good : (c : Cluster) (h : Meanings) (those : List ℕ) (now : Standing) → Good c now → Good c (fold (λ now me. fated_start c h now me Whole) now those)
+opened_good c h [] now g = g
+opened_good c h (me ∷ those) now g = opened_good c h those (fated_start c h now me Whole) (start_good c h now me g)
+
+pub run_lawful : (c : Cluster) (first : Meanings) (events : List Happening) (tape : List Item) → IsRun c first events tape → Lawful c tape
+run_lawful c first events tape run = subst (Lawful c) (sym run.tape_is) (run_good c run.cuts events (opening c first) (opened_good c first (nodes c) nothing_yet (nothing_good c))).lawful

@@ -1,0 +1,195 @@
+-- A node at which an operation begins leaves a good standing; and so does each step that is whole.
+use Rattle.std.proofs.Common.{◌≡◌, inl, inr, ℕ, ◌+◌, ◌-◌, ◌==◌, ◌≤◌, ◌<◌, max, min, nat_le, Bool, true, false, cond, List, [], ◌∷◌, ◌++◌, flat_map, length, Option, Some, None, refl, sym, ap, ◌∙◌, subst, arith}
+use Rattle.std.proofs.lemmas.Bool.Decides.{nat_tests}
+use Rattle.mega_base.specs.declared.names.OpId.{OpId}
+use Rattle.mega_cluster.specs.declared.cluster.Cluster.{Cluster}
+use Rattle.mega_outcome.specs.declared.request.Request.{Request}
+use Rattle.mega_wire.specs.declared.message.Message.{Message}
+use Rattle.mega_transcript.specs.declared.item.Item.{Item}
+use Rattle.mega_transcript.specs.declared.item.Item.TheVariants.{Sent, Begin}
+use Rattle.mega_transcript.specs.Tape.{sent_count}
+use Rattle.mega_promises.specs.Items.{number, numbered, shown}
+use Rattle.mega_promises.specs.Promises.{Stands}
+use Rattle.mega_promises.specs.Runs.{Standing, log_fuse_after, records_after, appends, set_at, whole_step, with_item, with_items}
+use Rattle.mega_promises.specs.Messages.{message_of}
+use Rattle.mega_rules.specs.Met.{Met, Begins}
+use Rattle.mega_rules.specs.Members.{kind_of}
+use Rattle.mega_rules.specs.Clock.{begun_of, clock_of, last_number, is_up, start_of}
+use Rattle.mega_outcome.specs.declared.answer.Answer.{Answer}
+use Rattle.mega_outcome.specs.declared.answer.Answer.TheVariants.{Worn}
+use Rattle.mega_rules.specs.Logs.{decided}
+use Rattle.mega_rules.specs.Operations.{Node, Now, Operation, Setting}
+use Rattle.mega_rules.specs.Steps.{begin_step, at_open, new_operation, op_of, refusal, unless_refused, is_worn, unless_missing, missing_kind, Step, apply_notes, at_first, onto}
+use Rattle.mega_laws.specs.Places.{Place, moves}
+use Rattle.mega_laws.proofs.Lists.{some_is}
+use Rattle.mega_lawful.specs.Vouched.{Each, sent}
+use Rattle.mega_lawful.proofs.Sending.{Stood}
+use Rattle.mega_lawful.proofs.Opened.{Grew}
+use Rattle.mega_lawful.proofs.Turns.{Fine, Frame, Held, fine_turn, Known, each_on, held_on}
+use Rattle.mega_lawful.proofs.Noting.{begun_it}
+use Rattle.mega_lawful.proofs.Noted.{with_append, with_sent, Follows, Note, notes_follow, tape_item}
+use Rattle.mega_lawful.proofs.Beginning.{AllActed, begun_fine}
+use Rattle.mega_lawful.proofs.Standing.{Good}
+use Rattle.mega_lawful.proofs.Stepping.{Next, Own, next_good, step_next}
+use Rattle.mega_lawful.proofs.Events.{Noted, acted_sends, apply_plain, each_append, noted_lasts, notes_grew, onto_append, onto_decided, onto_grew, plain_notes}
+use Rattle.mega_laws.proofs.Ballots.{number_is}
+use Rattle.mega_rules.specs.Steps.{step}
+use Rattle.mega_lawful.proofs.Whole.{StepNext, held_first, none_before, up_onto}
+
+pub own_begin : (c : Cluster) (tape : List Item) (id : OpId) (text : List ℕ) (met : List Met) → Own c tape (Begin id text) met (Begins id text)
+own_begin c tape id text met = record { on = tape_item c tape (Begin id text) tt (λ x q. refl) (λ v q. refl); made = λ g n. refl; decides = λ g n. refl; start = refl; begun = omega arith; up = refl }
+
+not_worn : (t : Bool) (o : Option Answer) → cond t (Some Worn) o ≡ None → t ≡ false
+not_worn true o h = cc
+not_worn false o h = refl
+
+less_is : (a b : ℕ) → nat_le a b ≡ false → b < a
+less_is a b h = grind (arith, nat_tests)
+
+next_is : (b last : ℕ) → nat_le (last - 1) b ≡ false → min (b + 1) last ≡ b + 1
+next_is b last h = let less = less_is (last - 1) b h in omega (arith, less)
+
+next_small : (b last : ℕ) → min (b + 1) last ≤ b + 1
+next_small b last = omega arith
+
+pub stands_sent : (tape : List Item) (j : ℕ) (m : Message) → message_of tape j ≡ Some m → Stands (Sent j m) tape
+stands_sent [] j m h = cc
+stands_sent (Sent n one ∷ before) j m h = go (n == j) refl h (stands_sent before j m)
+  where
+    go : (t : Bool) → (n == j) ≡ t → cond t (Some one) (message_of before j) ≡ Some m → (message_of before j ≡ Some m → Stands (Sent j m) before) → Stands (Sent j m) (Sent n one ∷ before)
+    go true e k again = inl (λ i. Sent (number_is n j e i) (some_is one m k i))
+    go false e k again = inr (again k)
+stands_sent (_ ∷ before) j m h = inr (stands_sent before j m h)
+
+pub begun_next : (s : Setting) (now : Standing) (nodes' : ℕ → Node) (request : Request) (text : List ℕ) → Good s.cluster now → is_up (now.node s.me).met ≡ true
+    → StepNext s now nodes' (Begin (op_of s (now.node s.me).met) text) (Begins (op_of s (now.node s.me).met) text) (begin_step s (now.node s.me) request text)
+begun_next s now nodes' request text g up = (
+  step_next c now me nodes' (Begin id text) (Begins id text) notes k acted.sends acted.kept acted.stored _ g up (own_begin c now.tape id text met) all_may
+      (acted_sends s me st l k tape2 (onto notes met1) [] acted ((follows.tape).lawful (tt, g.lawful)) (none_before c me tape2 k) all_done grown) refl (up_onto c tape1 me notes met1 all_may up),
+  all_may,
+)
+  where
+    c : Cluster
+    c = s.cluster
+
+    me : ℕ
+    me = s.me
+
+    node : Node
+    node = now.node s.me
+
+    met : List Met
+    met = node.met
+
+    met1 : List Met
+    met1 = Begins (op_of s met) text ∷ met
+
+    st : ℕ
+    st = start_of met
+
+    l : ℕ
+    l = (begun_of met + 1) + 1
+
+    k : ℕ
+    k = sent_count now.tape + 1
+
+    id : OpId
+    id = op_of s met
+
+    first : List Met
+    first = met1
+
+    begin : Now
+    begin = at_open (at_first met1 node.stored) node.open_operations
+
+    o : Operation
+    o = new_operation id request (clock_of met)
+
+    acted : Now
+    acted = unless_refused s begin o (refusal s node request)
+
+    applies : List Met
+    applies = apply_notes s met node.stored acted.met acted.stored
+
+    notes : List Met
+    notes = (applies ++ acted.valid) ++ acted.answers
+
+    tape1 : List Item
+    tape1 = Begin (op_of s met) text ∷ now.tape
+
+    tape2 : List Item
+    tape2 = with_items c nodes' tape1 (flat_map (shown me) notes)
+
+    noted : Noted first acted
+    noted = begun_it (Noted first) (noted_lasts first) s begin o (refusal s node request)
+        (record { decides = λ h n e x. x; long = omega arith; valid = tt; answers = tt })
+
+    all_may : Each (Note c tape1 me) notes
+    all_may = each_append (Note c tape1 me) (applies ++ acted.valid) acted.answers
+        (each_append (Note c tape1 me) applies acted.valid (plain_notes c tape1 me applies (apply_plain s met node.stored acted.met acted.stored)) (plain_notes c tape1 me acted.valid noted.valid))
+        (plain_notes c tape1 me acted.answers noted.answers)
+
+    follows : Follows c me tape1 met1 tape2 (onto notes met1)
+    follows = notes_follow c me nodes' notes tape1 met1 all_may
+
+    spread : onto notes met1 ≡ onto acted.answers (onto acted.valid (onto applies first))
+    spread = onto_append (applies ++ acted.valid) acted.answers met1 ∙ ap (onto acted.answers) (onto_append applies acted.valid met1)
+
+    grown : Grew acted.met (onto notes met1)
+    grown = subst (Grew acted.met) (sym spread) (notes_grew first applies acted noted)
+
+    stood2 : Stood now.tape tape2
+    stood2 item x = (follows.tape).stood item (inr x)
+
+    moved2 : (x : OpId) (q : Place) → moves tape2 x q ≡ moves now.tape x q
+    moved2 x q = (follows.tape).moved x q
+
+    frame : Frame
+    frame = record { me = me; start = st; next = k + length {A = Message} []; base = tape2 }
+
+    known_first : Known me met1 tape2
+    known_first h n e x = follows.known (λ h' n' e' y. inr ((g.node me).known h' n' e' y)) h n e (ap (λ z. decided z h n) spread
+        ∙ onto_decided acted.answers (onto acted.valid (onto applies met1)) h n e (onto_decided acted.valid (onto applies met1) h n e (onto_decided applies met1 h n e x)))
+
+    open_fine : Fine c frame (begun_of met + 1) met1 node.open_operations []
+    open_fine = record {
+      lawful = (follows.tape).lawful (tt, g.lawful);
+      later = λ x h q. refl;
+      made = λ v q. refl;
+      known = known_first;
+      quiet = tt;
+      held = each_on (Held c tape2 me st (begun_of met + 1) met) (Held c tape2 me st (begun_of met + 1) met1)
+          (λ one held. held_on c tape2 tape2 me st (begun_of met + 1) (begun_of met + 1) met met1 one (record { stood = λ item x. x; moved = λ q. refl }) (onto_grew (Begins id text ∷ []) met) (omega arith) held) node.open_operations
+          (held_first c now.tape tape2 me node stood2 moved2 (g.node me));
+      rising = (g.node me).rising;
+    }
+
+    numbered_next : refusal s node request ≡ None → id.number ≡ begun_of met + 1
+    numbered_next h = next_is (begun_of met) last_number (not_worn (is_worn met) (unless_missing node.open_operations (missing_kind request (kind_of s.cluster s.me))) h)
+
+    unmoved : refusal s node request ≡ None → (q : Place) → moves tape2 id q ≡ []
+    unmoved h q = moved2 id q ∙ g.fresh id (inr (refl, (let is = numbered_next h in omega arith))) q
+
+    most_of : AllActed s frame (max (begun_of met + 1) (id.number + 1)) acted → AllActed s frame l acted
+    most_of a = record { k = a.k; most = (let le = a.most in let small = next_small (begun_of met) last_number in omega (arith, le, small)); fine = a.fine }
+
+    all_done : AllActed s frame l acted
+    all_done = most_of (begun_fine s frame (begun_of met + 1) begin o (refusal s node request) open_fine
+        (λ h. (fine_turn c frame (begun_of met + 1) met1 node.open_operations [] id open_fine (let is = numbered_next h in omega arith) refl refl, λ q above. inr (unmoved h q)))
+        (λ h. let is = numbered_next h in omega arith))
+
+-- ---- steps that are whole
+
+pub whole_good : (s : Setting) (now : Standing) (item : Item) (own : Met) (made : Step) → Good s.cluster now → ((n : ℕ → Node) → with_item s.cluster n now.tape item ≡ item ∷ now.tape)
+    → StepNext s now (set_at now.node s.me made.node) item own made → Good s.cluster (whole_step s.cluster now s.me (item ∷ []) made)
+whole_good s now item own made g plain next = next_good s.cluster now s.me _ made.node (log_fuse_after now s.me (appends made)) now.data_fuse now.starts (records_after now s.me (appends made)) now.owed g
+    (subst (λ t. Next s.cluster now s.me t made.node now.starts now.owed) (sym whole) next.0)
+  where
+    nodes' : ℕ → Node
+    nodes' = set_at now.node s.me made.node
+
+    whole : with_items s.cluster nodes' now.tape (((item ∷ []) ++ flat_map (shown s.me) made.notes) ++ numbered (sent_count now.tape + 1) made.sends)
+        ≡ sent (sent_count now.tape + 1) made.sends (with_items s.cluster nodes' (item ∷ now.tape) (flat_map (shown s.me) made.notes))
+    whole = with_append s.cluster nodes' ((item ∷ []) ++ flat_map (shown s.me) made.notes) (numbered (sent_count now.tape + 1) made.sends) now.tape
+        ∙ with_sent s.cluster nodes' (sent_count now.tape + 1) made.sends (with_items s.cluster nodes' now.tape ((item ∷ []) ++ flat_map (shown s.me) made.notes))
+        ∙ ap (λ t. sent (sent_count now.tape + 1) made.sends (with_items s.cluster nodes' t (flat_map (shown s.me) made.notes))) (plain nodes')

@@ -1,0 +1,305 @@
+-- The operations of a node act one after another: what holds between two of them, and while one acts.
+use Rattle.std.proofs.Common.{◌≡◌, ℕ, ◌+◌, ◌==◌, ◌&&◌, ◌≤◌, ◌<◌, nat_lt, Bool, true, false, cond, List, [], ◌∷◌, ◌++◌, length, Option, Some, None, refl, sym, ap, ◌∙◌, subst, arith}
+use Rattle.std.proofs.lemmas.Bool.Decides.{nat_tests}
+use Rattle.std.specs.List.{cons_option}
+use Rattle.mega_base.specs.declared.names.GroupId.{GroupId}
+use Rattle.mega_base.specs.declared.names.OpId.{OpId}
+use Rattle.mega_base.specs.declared.names.Position.{Position}
+use Rattle.mega_cluster.specs.declared.cluster.Cluster.{Cluster}
+use Rattle.mega_entry.specs.declared.content.Content.{Content}
+use Rattle.mega_wire.specs.declared.message.Message.{Message}
+use Rattle.mega_wire.specs.declared.message.Body.{Body}
+use Rattle.mega_wire.specs.declared.message.Body.TheVariants.{Accept, Accepted, Prepare, Promise}
+use Rattle.mega_wal.specs.Acceptor.{Act}
+use Rattle.mega_wal.specs.Same.{same_group, same_op}
+use Rattle.mega_wal.proofs.Sames.{same_op_equal}
+use Rattle.mega_transcript.specs.declared.item.Item.{Item}
+use Rattle.mega_transcript.specs.declared.item.Item.TheVariants.{Sent, Decide}
+use Rattle.mega_promises.specs.Items.{number}
+use Rattle.mega_promises.specs.Promises.{Stands}
+use Rattle.mega_rules.specs.Met.{Met}
+use Rattle.mega_rules.specs.Logs.{decided}
+use Rattle.mega_rules.specs.Operations.{Operation}
+use Rattle.mega_rules.specs.Voting.{act_in}
+use Rattle.mega_laws.specs.Places.{Move, Place, Prepares, Proposes, acts, is_move_at, move_if, move_in, moves}
+use Rattle.mega_laws.specs.Lawful.{Lawful}
+use Rattle.mega_lawful.specs.Vouched.{Each, sent}
+use Rattle.mega_lawful.proofs.Sending.{Stood, stood_sent}
+use Rattle.mega_lawful.proofs.Opened.{Acts, AreOfOp, Backed, Beside, Grew, Idle, OfOp, backed_on, idle_on, place_of, same_met}
+
+-- ---- lists
+
+pub each_on : {X : Type 0} (P Q : X → Type 0) → ((x : X) → P x → Q x) → (xs : List X) → Each P xs → Each Q xs
+each_on P Q f [] h = tt
+each_on P Q f (x ∷ xs) h = (f x h.0, each_on P Q f xs h.1)
+
+pub each_push : {X : Type 0} (P : X → Type 0) (xs : List X) (x : X) → Each P xs → P x → Each P (xs ++ x ∷ [])
+each_push P [] x h k = (k, tt)
+each_push P (y ∷ xs) x h k = (h.0, each_push P xs x h.1 k)
+
+pub sent_append : (n : ℕ) (xs ys : List Message) (tape : List Item) → sent n (xs ++ ys) tape ≡ sent (n + length xs) ys (sent n xs tape)
+sent_append n [] ys tape = ap (λ k. sent k ys tape) (omega arith)
+sent_append n (x ∷ xs) ys tape = sent_append (n + 1) xs ys (Sent n x ∷ tape) ∙ ap (λ k. sent k ys (sent (n + 1) xs (Sent n x ∷ tape))) (omega arith)
+
+-- operations in order of their numbers
+abbrev pub IsRising : ℕ → List Operation → Type 0
+IsRising least [] = Unit {0}
+IsRising least (o ∷ os) = (least ≤ (o.id).number) × IsRising ((o.id).number + 1) os
+
+pub rising_push : (least k : ℕ) (os : List Operation) (o : Operation) → IsRising least os → least ≤ k → Each (λ (x : Operation). (x.id).number < k) os → k ≤ (o.id).number → IsRising least (os ++ o ∷ [])
+rising_push least k [] o r le below at = ((omega arith), tt)
+rising_push least k (x ∷ os) o r le below at = (r.0, rising_push ((x.id).number + 1) k os o r.1 (let less = below.0 in omega arith) below.1 at)
+
+-- ---- messages of one operation
+
+apart_if : (t u : Bool) (move : Move) (ms : List Move) → t ≡ false → cons_option (move_if (t && u) move) ms ≡ ms
+apart_if true u move ms h = cc
+apart_if false u move ms h = refl
+
+apart_at : (o x : OpId) (g : GroupId) (q : Place) (n : Position) (move : Move) (ms : List Move) → same_op o x ≡ false → cons_option (move_if (is_move_at x q o g n) move) ms ≡ ms
+apart_at o x g q n move ms h = ap (λ t. cons_option (move_if ((t && same_group g q.group) && n.0 == q.position.0) move) ms) h
+
+op_apart : (op x : OpId) (q : Place) (body : Body) (ms : List Move) → same_op op x ≡ false → OfOp op body → cons_option (move_in x q body) ms ≡ ms
+op_apart op x q (Accept o g n b e) ms h of = apart_at o x g q n (Proposes b e) ms (ap (λ y. same_op y x) of ∙ h)
+op_apart op x q (Prepare o g n b) ms h of = apart_at o x g q n (Prepares b) ms (ap (λ y. same_op y x) of ∙ h)
+op_apart op x q _ ms h of = refl
+
+pub ops_apart : (op x : OpId) (q : Place) (n : ℕ) (ms : List Message) (tape : List Item) → same_op op x ≡ false → AreOfOp op ms → moves (sent n ms tape) x q ≡ moves tape x q
+ops_apart op x q n [] tape h of = refl
+ops_apart op x q n (m ∷ ms) tape h of = ops_apart op x q (n + 1) ms (Sent n m ∷ tape) h of.1 ∙ op_apart op x q m.body (moves tape x q) h of.0
+
+no_act : (t : Bool) (o : Option Act) (ms : List Act) → o ≡ None → cons_option (cond t o None) ms ≡ ms
+no_act true o ms h = ap (λ x. cons_option x ms) h
+no_act false o ms h = refl
+
+op_no_act : (op : OpId) (g : GroupId) (n : ℕ) (body : Body) → OfOp op body → act_in g n body ≡ None
+op_no_act op g n (Promise o h m b report) of = absurd of
+op_no_act op g n (Accepted o h m b e) of = absurd of
+op_no_act op g n _ of = refl
+
+pub ops_no_acts : (op : OpId) (voter : ℕ) (q : Place) (n : ℕ) (ms : List Message) (tape : List Item) → AreOfOp op ms → acts (sent n ms tape) voter q ≡ acts tape voter q
+ops_no_acts op voter q n [] tape of = refl
+ops_no_acts op voter q n (m ∷ ms) tape of =
+    ops_no_acts op voter q (n + 1) ms (Sent n m ∷ tape) of.1 ∙ no_act (m.from == voter) (act_in q.group q.position.0 m.body) (acts tape voter q) (op_no_act op q.group q.position.0 m.body of.0)
+
+-- no answer of a voter
+abbrev pub NoAct : Body → Type 0
+NoAct (Promise o g n b report) = ⊥
+NoAct (Accepted o g n b e) = ⊥
+NoAct _ = Unit {0}
+
+of_no_act : (op : OpId) (body : Body) → OfOp op body → NoAct body
+of_no_act op (Promise o g n b report) h = absurd h
+of_no_act op (Accepted o g n b e) h = absurd h
+of_no_act op _ h = tt
+
+ops_quiet : (op : OpId) (sends ms : List Message) → Each (λ (m : Message). NoAct m.body) sends → AreOfOp op ms → Each (λ (m : Message). NoAct m.body) (sends ++ ms)
+ops_quiet op [] [] h of = tt
+ops_quiet op [] (m ∷ ms) h of = (of_no_act op m.body of.0, ops_quiet op [] ms tt of.1)
+ops_quiet op (m ∷ sends) ms h of = (h.0, ops_quiet op sends ms h.1 of)
+
+-- ---- names
+
+-- an operation that a node began in a start before the one of a number
+abbrev pub could : ℕ → ℕ → ℕ → OpId → Bool
+could me st k x = x.node.0 == me && x.start == st && nat_lt x.number k
+
+and_true : (a b : Bool) → a ≡ true → b ≡ true → (a && b) ≡ true
+and_true true b h k = k
+and_true false b h k = cc
+
+both : (a b : Bool) → (a && b) ≡ true → (a ≡ true) × (b ≡ true)
+both true b h = (refl, h)
+both false b h = cc
+
+not_true : (t : Bool) → (t ≡ true → ⊥) → t ≡ false
+not_true true h = absurd (h refl)
+not_true false h = refl
+
+clash : (t : Bool) → t ≡ true → t ≡ false → ⊥
+clash t h k = cc
+
+number_self : (a b : ℕ) → a ≡ b → (a == b) ≡ true
+number_self a b h = grind (arith, nat_tests)
+
+less_is : (a b : ℕ) → a < b → nat_lt a b ≡ true
+less_is a b h = grind (arith, nat_tests)
+
+is_less : (a b : ℕ) → nat_lt a b ≡ true → a < b
+is_less a b h = grind (arith, nat_tests)
+
+pub could_be : (me st k : ℕ) (x : OpId) → x.node.0 ≡ me → x.start ≡ st → x.number < k → could me st k x ≡ true
+could_be me st k x node start below =
+    and_true (x.node.0 == me && x.start == st) (nat_lt x.number k) (and_true (x.node.0 == me) (x.start == st) (number_self x.node.0 me node) (number_self x.start st start)) (less_is x.number k below)
+
+pub could_more : (me st k l : ℕ) (x : OpId) → k ≤ l → could me st l x ≡ false → could me st k x ≡ false
+could_more me st k l x le h = not_true (could me st k x) (λ t.
+    let outer = both (x.node.0 == me && x.start == st) (nat_lt x.number k) t in
+    let less = is_less x.number k outer.1 in
+    clash (could me st l x) (and_true (x.node.0 == me && x.start == st) (nat_lt x.number l) outer.0 (less_is x.number l (omega arith))) h)
+
+pub other_name : (me st : ℕ) (op x : OpId) → op.node.0 ≡ me → op.start ≡ st → could me st (op.number + 1) x ≡ false → same_op op x ≡ false
+other_name me st op x node start h = not_true (same_op op x) (λ t.
+    clash (could me st (op.number + 1) x) (subst (λ y. could me st (op.number + 1) y ≡ true) (same_op_equal op x t) (could_be me st (op.number + 1) op node start (omega arith))) h)
+
+pub other_number : (op x : OpId) → x.number < op.number → same_op op x ≡ false
+other_number op x less = not_true (same_op op x) (λ t. let same = ap (λ (y : OpId). y.number) (same_op_equal op x t) in omega (arith, less))
+
+-- ---- between two operations, and while one acts
+
+-- the node, its start, and the tape before these operations sent anything, with the next number
+pub record Frame : Type 0 where
+  pub me : ℕ
+  pub start : ℕ
+  pub next : ℕ
+  pub base : List Item
+
+-- the tape with what they sent
+abbrev pub tape_of : Frame → List Message → List Item
+tape_of f sends = sent f.next sends f.base
+
+-- an operation that stays open
+pub record Held (c : Cluster) (tape : List Item) (me st k : ℕ) (met : List Met) (o : Operation) : Type 0 where
+  pub node : (o.id).node.0 ≡ me
+  pub start : (o.id).start ≡ st
+  pub below : (o.id).number < k
+  pub backed : Backed c tape met o.id o.phase
+  pub idle : Idle tape met o.id (place_of o.phase)
+
+pub held_on : (c : Cluster) (old new : List Item) (me st k l : ℕ) (met more : List Met) (o : Operation) → Beside o.id old new → Grew met more → k ≤ l → Held c old me st k met o → Held c new me st l more o
+held_on c old new me st k l met more o beside grew le h = record {
+  node = h.node;
+  start = h.start;
+  below = (let less = h.below in omega arith);
+  backed = backed_on c old new met more o.id beside grew o.phase h.backed;
+  idle = idle_on old new met more o.id (place_of o.phase) beside grew h.idle;
+}
+
+-- what a node decided stands on the tape
+abbrev pub Known : ℕ → List Met → List Item → Type 0
+Known me met tape = (g : GroupId) (n : ℕ) (e : Content) → decided met g n ≡ Some e → Stands (Decide (number me) g (record { 0 = n }) e) tape
+
+-- the operations below a number acted
+pub record Fine (c : Cluster) (f : Frame) (k : ℕ) (met : List Met) (kept : List Operation) (sends : List Message) : Type 0 where
+  pub lawful : Lawful c (tape_of f sends)
+  pub later : (x : OpId) → could f.me f.start k x ≡ false → (q : Place) → moves (tape_of f sends) x q ≡ moves f.base x q
+  pub made : (voter : ℕ) (q : Place) → acts (tape_of f sends) voter q ≡ acts f.base voter q
+  pub known : Known f.me met f.base
+  pub quiet : Each (λ (m : Message). NoAct m.body) sends
+  pub held : Each (Held c (tape_of f sends) f.me f.start k met) kept
+  pub rising : IsRising 0 kept
+
+-- one of them acts
+pub record Turn (c : Cluster) (f : Frame) (met : List Met) (kept : List Operation) (sends : List Message) (op : OpId) : Type 0 where
+  pub node : op.node.0 ≡ f.me
+  pub start : op.start ≡ f.start
+  pub lawful : Lawful c (tape_of f sends)
+  pub later : (x : OpId) → could f.me f.start (op.number + 1) x ≡ false → (q : Place) → moves (tape_of f sends) x q ≡ moves f.base x q
+  pub made : (voter : ℕ) (q : Place) → acts (tape_of f sends) voter q ≡ acts f.base voter q
+  pub known : Known f.me met f.base
+  pub quiet : Each (λ (m : Message). NoAct m.body) sends
+  pub held : Each (Held c (tape_of f sends) f.me f.start op.number met) kept
+  pub rising : IsRising 0 kept
+
+-- and is vouched for
+pub record Ready (c : Cluster) (f : Frame) (met : List Met) (kept : List Operation) (sends : List Message) (o : Operation) : Type 0 where
+  pub turn : Turn c f met kept sends o.id
+  pub backed : Backed c (tape_of f sends) met o.id o.phase
+  pub idle : Idle (tape_of f sends) met o.id (place_of o.phase)
+
+pub same_tape : (op : OpId) (tape : List Item) → Beside op tape tape
+same_tape op tape = record { stood = λ item s. s; moved = λ q. refl }
+
+pub fine_turn : (c : Cluster) (f : Frame) (k : ℕ) (met : List Met) (kept : List Operation) (sends : List Message) (op : OpId) → Fine c f k met kept sends → k ≤ op.number → op.node.0 ≡ f.me → op.start ≡ f.start → Turn c f met kept sends op
+fine_turn c f k met kept sends op h le node start = record {
+  node = node;
+  start = start;
+  lawful = h.lawful;
+  later = λ x other q. h.later x (could_more f.me f.start k (op.number + 1) x (omega arith) other) q;
+  made = h.made;
+  known = h.known;
+  quiet = h.quiet;
+  held = each_on (Held c (tape_of f sends) f.me f.start k met) (Held c (tape_of f sends) f.me f.start op.number met)
+      (λ o held. held_on c (tape_of f sends) (tape_of f sends) f.me f.start k op.number met met o (same_tape o.id (tape_of f sends)) (same_met met) le held) kept h.held;
+  rising = h.rising;
+}
+
+-- an operation that ends is kept no more
+pub turn_ends : (c : Cluster) (f : Frame) (met : List Met) (kept : List Operation) (sends : List Message) (op : OpId) → Turn c f met kept sends op → Fine c f (op.number + 1) met kept sends
+turn_ends c f met kept sends op h = record {
+  lawful = h.lawful;
+  later = h.later;
+  made = h.made;
+  known = h.known;
+  quiet = h.quiet;
+  held = each_on (Held c (tape_of f sends) f.me f.start op.number met) (Held c (tape_of f sends) f.me f.start (op.number + 1) met)
+      (λ o held. held_on c (tape_of f sends) (tape_of f sends) f.me f.start op.number (op.number + 1) met met o (same_tape o.id (tape_of f sends)) (same_met met) (omega arith) held) kept h.held;
+  rising = h.rising;
+}
+
+pub ready_keeps : (c : Cluster) (f : Frame) (met : List Met) (kept : List Operation) (sends : List Message) (o : Operation) → Ready c f met kept sends o → Fine c f ((o.id).number + 1) met (kept ++ o ∷ []) sends
+ready_keeps c f met kept sends o h = let ended = turn_ends c f met kept sends o.id h.turn in record {
+  lawful = ended.lawful;
+  later = ended.later;
+  made = ended.made;
+  known = ended.known;
+  quiet = ended.quiet;
+  held = each_push (Held c (tape_of f sends) f.me f.start ((o.id).number + 1) met) kept o ended.held
+      (record { node = (h.turn).node; start = (h.turn).start; below = omega arith; backed = h.backed; idle = h.idle });
+  rising = rising_push 0 (o.id).number kept o (h.turn).rising (omega arith)
+      (each_on (Held c (tape_of f sends) f.me f.start (o.id).number met) (λ (x : Operation). (x.id).number < (o.id).number) (λ x held. held.below) kept (h.turn).held) (omega arith);
+}
+
+-- what a node meets within the step leaves the turn
+pub turn_met : (c : Cluster) (f : Frame) (met more : List Met) (kept : List Operation) (sends : List Message) (op : OpId) → Grew met more → Known f.me more f.base → Turn c f met kept sends op → Turn c f more kept sends op
+turn_met c f met more kept sends op grew known h = record {
+  node = h.node;
+  start = h.start;
+  lawful = h.lawful;
+  later = h.later;
+  made = h.made;
+  known = known;
+  quiet = h.quiet;
+  held = each_on (Held c (tape_of f sends) f.me f.start op.number met) (Held c (tape_of f sends) f.me f.start op.number more)
+      (λ o held. held_on c (tape_of f sends) (tape_of f sends) f.me f.start op.number op.number met more o (same_tape o.id (tape_of f sends)) grew (omega arith) held) kept h.held;
+  rising = h.rising;
+}
+
+-- what it sends
+pub turn_sends : (c : Cluster) (f : Frame) (met : List Met) (kept : List Operation) (sends ms : List Message) (op : OpId) → Turn c f met kept sends op → AreOfOp op ms
+    → ((n : ℕ) → Lawful c (tape_of f sends) → Lawful c (sent n ms (tape_of f sends))) → Turn c f met kept (sends ++ ms) op
+turn_sends c f met kept sends ms op h own lawful = record {
+  node = h.node;
+  start = h.start;
+  lawful = subst (Lawful c) (sym after) (lawful (f.next + length sends) h.lawful);
+  later = λ x other q. ap (λ t. moves t x q) after ∙ ops_apart op x q (f.next + length sends) ms (tape_of f sends) (other_name f.me f.start op x h.node h.start other) own ∙ h.later x other q;
+  made = λ voter q. ap (λ t. acts t voter q) after ∙ ops_no_acts op voter q (f.next + length sends) ms (tape_of f sends) own ∙ h.made voter q;
+  known = h.known;
+  quiet = ops_quiet op sends ms h.quiet own;
+  held = each_on (Held c (tape_of f sends) f.me f.start op.number met) (Held c (tape_of f (sends ++ ms)) f.me f.start op.number met)
+      (λ o held. held_on c (tape_of f sends) (tape_of f (sends ++ ms)) f.me f.start op.number op.number met met o (beside o held.below) (same_met met) (omega arith) held) kept h.held;
+  rising = h.rising;
+}
+  where
+    after : tape_of f (sends ++ ms) ≡ sent (f.next + length sends) ms (tape_of f sends)
+    after = sent_append f.next sends ms f.base
+
+    beside : (o : Operation) → (o.id).number < op.number → Beside o.id (tape_of f sends) (tape_of f (sends ++ ms))
+    beside o less = record {
+      stood = subst (Stood (tape_of f sends)) (sym after) (stood_sent (f.next + length sends) ms (tape_of f sends));
+      moved = λ q. ap (λ t. moves t o.id q) after ∙ ops_apart op o.id q (f.next + length sends) ms (tape_of f sends) (other_number op o.id less) own;
+    }
+
+pub ready_sends : (c : Cluster) (f : Frame) (met : List Met) (kept : List Operation) (sends ms : List Message) (o : Operation) → Turn c f met kept sends o.id → Acts c (tape_of f sends) met o.id o.phase ms
+    → Ready c f met kept (sends ++ ms) o
+ready_sends c f met kept sends ms o h acts = record {
+  turn = turn_sends c f met kept sends ms o.id h acts.own acts.lawful;
+  backed = subst (λ t. Backed c t met o.id o.phase) (sym after) (acts.backed (f.next + length sends));
+  idle = subst (λ t. Idle t met o.id (place_of o.phase)) (sym after) (acts.idle (f.next + length sends));
+}
+  where
+    after : tape_of f (sends ++ ms) ≡ sent (f.next + length sends) ms (tape_of f sends)
+    after = sent_append f.next sends ms f.base
+
+pub could_not : (me st k : ℕ) (x : OpId) → k ≤ x.number → could me st k x ≡ false
+could_not me st k x le = not_true (could me st k x) (λ t. let less = is_less x.number k (both (x.node.0 == me && x.start == st) (nat_lt x.number k) t).1 in omega (arith, less, le))
