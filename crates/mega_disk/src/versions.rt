@@ -105,6 +105,7 @@ pub trait Versions {
         ensures cause { result ≡ Err StoreError.DiskFault → Rose (faults self.old) (faults self.new) }
         ensures later { faults self.old ≤ faults self.new }
         ensures bad { (n : ℕ) → result ≡ Err (StoreError.BadRecord n) → is_bad self.old n }
+        ensures bad_stays { (n : ℕ) → is_bad self.new n → is_bad self.old n }
         ensures never_full { (n : ℕ) → result ≡ Err (StoreError.Full n) → ⊥ }
         ensures may_burn { MayBurn (fuse_left self.old) (fuse_left self.new) }
         ensures burns { fails_by_fuse self.old ≡ true → result ≡ Err StoreError.DiskFault → Burns (fuse_left self.old) (fuse_left self.new) }
@@ -122,6 +123,7 @@ pub trait Versions {
         ensures cause { result ≡ Err StoreError.DiskFault → Rose (faults self.old) (faults self.new) }
         ensures later { faults self.old ≤ faults self.new }
         ensures bad { (n : ℕ) → result ≡ Err (StoreError.BadRecord n) → is_bad self.old n }
+        ensures bad_stays { (n : ℕ) → is_bad self.new n → is_bad self.old n }
         ensures never_full { (n : ℕ) → result ≡ Err (StoreError.Full n) → ⊥ }
         ensures may_burn { MayBurn (fuse_left self.old) (fuse_left self.new) }
         ensures burns { fails_by_fuse self.old ≡ true → result ≡ Err StoreError.DiskFault → Burns (fuse_left self.old) (fuse_left self.new) }
@@ -145,6 +147,7 @@ pub trait Versions {
         ensures cause { result ≡ Err StoreError.DiskFault → Rose (faults self.old) (faults self.new) }
         ensures later { faults self.old ≤ faults self.new }
         ensures bad { (n : ℕ) → result ≡ Err (StoreError.BadRecord n) → is_bad self.old n }
+        ensures bad_stays { (n : ℕ) → is_bad self.new n → is_bad self.old n }
         ensures never_full { (n : ℕ) → result ≡ Err (StoreError.Full n) → ⊥ }
         ensures may_burn { MayBurn (fuse_left self.old) (fuse_left self.new) }
         ensures burns { fails_by_fuse self.old ≡ true → result ≡ Err StoreError.DiskFault → Burns (fuse_left self.old) (fuse_left self.new) }
