@@ -45,6 +45,16 @@ two_accept = Sent 1 (accept_for 1 1 1 zero_ballot (entry_of 1))
 abbrev pub decided_at_zero : List Item
 decided_at_zero = two_accept ++ Taken 4 ∷ Decide (number 1) group first (entry_of 1) ∷ []
 
+-- node 3 accepts too, and node 1 hears of all three
+abbrev pub all_accept : List Item
+all_accept = two_accept
+    ++ Sent 5 (accept_for 1 3 1 zero_ballot (entry_of 1))
+    ∷ Taken 5
+    ∷ Sent 6 (accepted_from 1 3 1 zero_ballot (entry_of 1))
+    ∷ Taken 4
+    ∷ Taken 6
+    ∷ []
+
 -- node 1 crashes once its voter accepted; node 2 prepares, and is told of the entry
 abbrev pub reported : List Item
 reported = Sent 1 (accept_for 1 1 1 zero_ballot (entry_of 1))

@@ -7,9 +7,10 @@ ghost use Rattle.mega_transcript.specs.Tape.{newest};
 ghost use Rattle.mega_promises.specs.Items.{number};
 ghost use Rattle.mega_promises.specs.Promises.{Stands, StoodBefore};
 ghost use Rattle.mega_rules.specs.Examples.{cluster, entry_of, group, op_of};
-ghost use Rattle.mega_laws.specs.Examples.{asks_put, completed, decided_at_zero, early, first, forgotten, kept_own, not_its_own, polled, put_decided, rivals, told_too_soon, too_few};
+ghost use Rattle.mega_laws.specs.Examples.{all_accept, asks_put, completed, decided_at_zero, early, first, forgotten, kept_own, not_its_own, place, polled, put_decided, rivals, told_too_soon, too_few};
 ghost use Rattle.mega_laws.specs.Answers.{LawfulAnswers};
 ghost use Rattle.mega_laws.specs.Lawful.{Lawful};
+ghost use Rattle.mega_laws.specs.Settled.{IsSettled};
 ghost use Rattle.mega_laws.specs.Polls.{ArePolls, IsPolled};
 ghost use Rattle.mega_laws.specs.Writes.{LawfulWrites};
 
@@ -17,6 +18,17 @@ ghost use Rattle.mega_laws.specs.Writes.{LawfulWrites};
 pub fn a_decision_at_zero()
     ensures lawful { Lawful cluster (newest decided_at_zero) }
     ensures decided { Stands (Decide (number 1) group first (entry_of 1)) (newest decided_at_zero) }
+{}
+
+/// An entry that every full node accepted is settled.
+pub fn what_all_accept_is_settled()
+    ensures lawful { Lawful cluster (newest all_accept) }
+    ensures settled { IsSettled cluster (newest all_accept) (op_of 1) place (entry_of 1) }
+{}
+
+/// An entry that a majority accepted is not settled while a full node is not covered.
+pub fn an_uncovered_node_is_waited_for()
+    ensures { IsSettled cluster (newest decided_at_zero) (op_of 1) place (entry_of 1) → ⊥ }
 {}
 
 /// A position that a crash left open is completed by another's operation, at a ballot above zero, with the entry that was accepted.
