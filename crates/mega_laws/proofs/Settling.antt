@@ -1,12 +1,12 @@
 -- An entry that is settled, and one of which a full node is not covered.
-use Rattle.std.proofs.Common.{◌≡◌, inl, inr, ℕ, zero, suc, ◌||◌, Bool, true, false, List, [], ◌∷◌, refl, sym, ◌∙◌, ap}
+use Rattle.std.proofs.Common.{◌≡◌, inl, inr, ℕ, zero, suc, ◌||◌, Bool, true, false, List, [], ◌∷◌, refl, sym, ◌∙◌, ap, subst, arith}
 use Rattle.std.specs.List.{list_any}
 use Rattle.mega_ballot.specs.declared.ballot.Ballot.{Ballot}
 use Rattle.mega_ballot.specs.Order.{zero_ballot}
 use Rattle.mega_entry.specs.declared.content.Content.{Content}
 use Rattle.mega_wire.specs.declared.message.Message.{Message}
 use Rattle.mega_wire.specs.declared.message.Body.{Body}
-use Rattle.mega_wire.specs.declared.message.Body.TheVariants.{Accepted, Invalidate}
+use Rattle.mega_wire.specs.declared.message.Body.TheVariants.{Accepted, Invalidate, Invalidated}
 use Rattle.mega_transcript.specs.declared.item.Item.{Item}
 use Rattle.mega_transcript.specs.declared.item.Item.TheVariants.{Sent}
 use Rattle.mega_transcript.specs.Tape.{newest}
@@ -14,9 +14,9 @@ use Rattle.mega_promises.specs.Promises.{Stands}
 use Rattle.mega_rules.specs.Examples.{cluster, entry_of, group, op_of}
 use Rattle.mega_rules.specs.Members.{full_nodes}
 use Rattle.mega_laws.specs.Lawful.{Heard, Lawful}
-use Rattle.mega_laws.specs.Places.{In}
+use Rattle.mega_laws.specs.Places.{In, Place}
 use Rattle.mega_laws.specs.Settled.{IsCovered, IsSettled, Told, free, invalidated, voted}
-use Rattle.mega_laws.specs.Examples.{all_accept, decided_at_zero, first, place, two_accept}
+use Rattle.mega_laws.specs.Examples.{all_accept, asked_before, decided_at_zero, first, place, second}
 use Rattle.mega_laws.proofs.Witnesses.{first_two, two_accept_lawful, two_of_three}
 use Rattle.mega_laws.specs.Lawful.{lowest, spreads}
 
@@ -87,3 +87,22 @@ not_covered b e (free test most t alone each) = not_told t
 
 pub not_settled : IsSettled cluster (newest decided_at_zero) (op_of 1) place (entry_of 1) → ⊥
 not_settled s = not_covered s.ballot (entry_of 1) ((s.covered) 3 (inr (inr (inl refl))))
+
+-- ---- an answer to an earlier covering
+
+-- node 3 sent nothing
+unheard : (body : Body) → Heard (newest asked_before) 3 (op_of 1) body → ⊥
+unfolding is_from_three
+unheard body h = let e : false ≡ true = finds is_from_three (Sent h.number (record { from = 3; to = 1; body = body })) (newest asked_before) h.sent refl in cc
+
+-- it was told while position 1 was covered
+told_first : Told (newest asked_before) (op_of 1) place 3
+told_first = record { key = 1; sent = inr (inr (inr (inr (inr (inl refl))))) }
+
+pub not_believed : (b : Ballot) (e : Content) → IsCovered cluster (newest asked_before) (op_of 1) second b e 3 → ⊥
+not_believed b e (voted h) = unheard (Accepted (op_of 1) group (record { 0 = 2 }) b e) h
+not_believed b e (invalidated t h) = unheard (Invalidated (op_of 1) group (record { 0 = 2 })) h
+not_believed b e (free test most t alone each) =
+    let same : place ≡ second = alone place told_first in
+    let h : ◌≡◌ {A = ℕ} 1 2 = ap (λ (p : Place). p.position.0) same in
+    omega arith
