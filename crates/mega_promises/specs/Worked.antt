@@ -60,6 +60,10 @@ fuse_log node calls image = Fuse (record { 0 = node }) calls image Log
 abbrev pub drain : WorldEvent
 drain = Drain 200
 
+-- the put of node 2 is accepted by the leader alone, and both crash, the leader once a read of node 3 heard of the position
+abbrev pub filling : List WorldEvent
+filling = put_at 2 ∷ Drain 7 ∷ crash 2 ∷ start 2 ∷ read_at 3 Current ∷ Deliver 9 ∷ Deliver 11 ∷ Deliver 12 ∷ Deliver 13 ∷ crash 1 ∷ drain ∷ []
+
 abbrev pub happens : WorldEvent → Happening
 happens event = record { handlers = []; event = event }
 
