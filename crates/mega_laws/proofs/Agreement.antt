@@ -17,6 +17,7 @@ use Rattle.mega_promises.specs.Items.{number}
 use Rattle.mega_promises.specs.Promises.{Agree, Stands}
 use Rattle.mega_laws.specs.Places.{In, Place, Proposes, act_of, acts, move_of, moves}
 use Rattle.mega_laws.specs.Chosen.{Chosen}
+use Rattle.mega_laws.specs.Settled.{IsSettled}
 use Rattle.mega_laws.specs.Lawful.{Allowed, Lawful, Leads, MayDecide, MayPropose, asks, given, lowest, message, named, picks, repeats, settled, spreads, told}
 use Rattle.mega_laws.proofs.Ballots.{Below, order}
 use Rattle.mega_laws.proofs.Lists.{Source, in_tail, kept, lookback, some_is, source}
@@ -93,6 +94,14 @@ decided_chosen c p (item ∷ before) l node e (inl same) = chosen_then c p item 
     }
     go earlier (told from took) = earlier (number from) e (tell_decided c before l.1 took.number from node.0 p.group p.position e took.sent)
     go earlier (given from op took) = earlier (number from) e (have_decided c before l.1 took.number from node.0 op p.group p.position e took.sent)
+
+pub settled_chosen : (c : Cluster) (tape : List Item) → Lawful c tape → (op : OpId) (p : Place) (e : Content) → IsSettled c tape op p e → Chosen c p tape e
+settled_chosen c tape l op p e s = record {
+  ballot = s.ballot;
+  test = s.test;
+  majority = s.majority;
+  each = λ voter t. heard_act tape voter p (message voter op.node.0 (Accepted op p.group p.position s.ballot e)) (Voted s.ballot e) (voted_here voter p op.node.0 op s.ballot e) ((s.heard) voter t);
+}
 
 -- all decides of a place show one entry
 abbrev pub AgreeAt : Cluster → Place → Type 0

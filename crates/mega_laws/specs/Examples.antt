@@ -4,12 +4,14 @@ use Rattle.mega_base.specs.declared.names.Position.{Position}
 use Rattle.mega_ballot.specs.declared.ballot.Ballot.{Ballot}
 use Rattle.mega_ballot.specs.Order.{zero_ballot}
 use Rattle.mega_wire.specs.declared.message.Message.{Message}
-use Rattle.mega_wire.specs.declared.message.Body.TheVariants.{Prepare, Promise, Refused, Top, Where, Decide as Tell}
+use Rattle.mega_base.specs.declared.names.Epoch.{Epoch}
+use Rattle.mega_wire.specs.declared.message.Body.TheVariants.{Acquire, Granted as GrantedBody, Invalidate, Prepare, Promise, Refused, Top, Unheld, Where, Decide as Tell}
 use Rattle.mega_outcome.specs.declared.answer.Answer.TheVariants.{Committed, Conflict}
 use Rattle.mega_wal.specs.Acceptor.{Vote}
 use Rattle.mega_transcript.specs.declared.item.Item.{Item}
 use Rattle.mega_transcript.specs.declared.item.Item.TheVariants.{Answer, Begin, Crash, Decide, Sent, Start, Taken}
 use Rattle.mega_promises.specs.Items.{number}
+use Rattle.mega_rules.specs.Met.{Met, Grants, Lapses, Starts, Takes, Ticks}
 use Rattle.mega_rules.specs.Examples.{accept_for, accepted_from, entry_of, from_to, group, op_of, put}
 use Rattle.mega_laws.specs.Places.{Place}
 use Rattle.mega_laws.specs.Writes.{Usage}
@@ -44,6 +46,16 @@ two_accept = Sent 1 (accept_for 1 1 1 zero_ballot (entry_of 1))
 -- node 1 hears of it, and decides
 abbrev pub decided_at_zero : List Item
 decided_at_zero = two_accept ++ Taken 4 ∷ Decide (number 1) group first (entry_of 1) ∷ []
+
+-- node 3 accepts too, and node 1 hears of all three
+abbrev pub all_accept : List Item
+all_accept = two_accept
+    ++ Sent 5 (accept_for 1 3 1 zero_ballot (entry_of 1))
+    ∷ Taken 5
+    ∷ Sent 6 (accepted_from 1 3 1 zero_ballot (entry_of 1))
+    ∷ Taken 4
+    ∷ Taken 6
+    ∷ []
 
 -- node 1 crashes once its voter accepted; node 2 prepares, and is told of the entry
 abbrev pub reported : List Item
@@ -162,3 +174,38 @@ polled = put_decided
     ∷ Taken 7
     ∷ Taken 8
     ∷ []
+
+-- the next position of the group
+abbrev pub second : Place
+second = record { group = group; position = record { 0 = 2 } }
+
+abbrev pub told_by : ℕ → ℕ → ℕ → Message
+told_by node to n = from_to node to (Invalidate (op_of node) group (record { 0 = n }))
+
+abbrev pub unheld_at : ℕ → ℕ → ℕ → Message
+unheld_at node cell about = from_to cell node (Unheld (op_of node) cell (number about))
+
+-- node 1's operation told node 3 while it covered position 1, and again while it covers position 2, and two cells hold nothing for node 3
+abbrev pub asked_before : List Item
+asked_before = Sent 1 (told_by 1 3 1)
+    ∷ Sent 2 (told_by 1 3 2)
+    ∷ Sent 3 (unheld_at 1 1 3)
+    ∷ Sent 4 (unheld_at 1 2 3)
+    ∷ Taken 3
+    ∷ Taken 4
+    ∷ []
+
+-- the first epoch of a node's first start
+abbrev pub epoch : Epoch
+epoch = record { start = 1; count = 0 }
+
+-- the cell of node 1 granted the epoch to node 3, and let it lapse; newest first
+abbrev pub lapsed : List Met
+lapsed = Lapses 3 epoch ∷ Ticks 200 ∷ Grants 3 epoch ∷ Takes (from_to 3 1 (Acquire 1 epoch 10)) ∷ Ticks 0 ∷ Starts 1 ∷ []
+
+-- node 1 serves, and is told to invalidate the group at position 5
+abbrev pub granted_by : ℕ → Met
+granted_by cell = Takes (from_to cell 1 (GrantedBody cell epoch 0))
+
+abbrev pub beaten : List Met
+beaten = Takes (from_to 2 1 (Invalidate (op_of 2) group (record { 0 = 5 }))) ∷ granted_by 2 ∷ granted_by 1 ∷ Ticks 0 ∷ Starts 1 ∷ []

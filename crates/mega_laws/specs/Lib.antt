@@ -1,6 +1,7 @@
 pub mod Places
 pub mod Lawful
 pub mod Chosen
+pub mod Settled
 pub mod Writes
 pub mod Answers
 pub mod Polls

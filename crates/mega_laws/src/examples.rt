@@ -1,15 +1,22 @@
 //! Tapes that are lawful, so that the laws are about some, and tapes that are not, as contracts of functions that do nothing.
 
-ghost use Rattle.std.specs.Prelude.{Some, []};
+ghost use Rattle.std.specs.Prelude.{◌≡◌, None, Some, []};
+ghost use Rattle.mega_ballot.specs.declared.ballot.Ballot.{Ballot as Number};
+ghost use Rattle.mega_entry.specs.declared.content.Content.{Content};
+ghost use Rattle.mega_locks.specs.declared.asked.Asked.TheVariants.{Over};
+ghost use Rattle.mega_coordinator.specs.declared.answers.NotValid.TheVariants.{Beaten};
+ghost use Rattle.mega_rules.specs.Locks.{asked_for};
+ghost use Rattle.mega_rules.specs.Coordinators.{refused_at};
 ghost use Rattle.mega_outcome.specs.declared.answer.Answer.TheVariants.{Conflict};
 ghost use Rattle.mega_transcript.specs.declared.item.Item.TheVariants.{Answer, Begin, Decide};
 ghost use Rattle.mega_transcript.specs.Tape.{newest};
 ghost use Rattle.mega_promises.specs.Items.{number};
 ghost use Rattle.mega_promises.specs.Promises.{Stands, StoodBefore};
 ghost use Rattle.mega_rules.specs.Examples.{cluster, entry_of, group, op_of};
-ghost use Rattle.mega_laws.specs.Examples.{asks_put, completed, decided_at_zero, early, first, forgotten, kept_own, not_its_own, polled, put_decided, rivals, told_too_soon, too_few};
+ghost use Rattle.mega_laws.specs.Examples.{all_accept, asked_before, asks_put, beaten, completed, decided_at_zero, early, epoch, first, forgotten, kept_own, lapsed, not_its_own, place, polled, put_decided, rivals, second, told_too_soon, too_few};
 ghost use Rattle.mega_laws.specs.Answers.{LawfulAnswers};
 ghost use Rattle.mega_laws.specs.Lawful.{Lawful};
+ghost use Rattle.mega_laws.specs.Settled.{IsCovered, IsSettled};
 ghost use Rattle.mega_laws.specs.Polls.{ArePolls, IsPolled};
 ghost use Rattle.mega_laws.specs.Writes.{LawfulWrites};
 
@@ -17,6 +24,33 @@ ghost use Rattle.mega_laws.specs.Writes.{LawfulWrites};
 pub fn a_decision_at_zero()
     ensures lawful { Lawful cluster (newest decided_at_zero) }
     ensures decided { Stands (Decide (number 1) group first (entry_of 1)) (newest decided_at_zero) }
+{}
+
+/// An entry that every full node accepted is settled.
+pub fn what_all_accept_is_settled()
+    ensures lawful { Lawful cluster (newest all_accept) }
+    ensures settled { IsSettled cluster (newest all_accept) (op_of 1) place (entry_of 1) }
+{}
+
+/// An entry that a majority accepted is not settled while a full node is not covered.
+pub fn an_uncovered_node_is_waited_for()
+    ensures { IsSettled cluster (newest decided_at_zero) (op_of 1) place (entry_of 1) → ⊥ }
+{}
+
+/// What cells said of a node counts only where that node was asked about for the place that is covered, and for no other before.
+pub fn an_earlier_answer_covers_nothing()
+    ensures { (b : Number) (e : Content) → IsCovered cluster (newest asked_before) (op_of 1) second b e 3 → ⊥ }
+{}
+
+/// A cell does not grant an epoch again that it let lapse.
+pub fn a_lapsed_epoch_is_not_granted_again()
+    ensures { asked_for cluster 1 lapsed 3 epoch ≡ Over epoch }
+{}
+
+/// A read through a position below that of an invalidate does not make the group valid, and one through it does.
+pub fn a_validate_below_an_invalidate_is_refused()
+    ensures below { refused_at cluster beaten group 4 epoch ≡ Some (Beaten (record { 0 = 5 })) }
+    ensures through { refused_at cluster beaten group 5 epoch ≡ None }
 {}
 
 /// A position that a crash left open is completed by another's operation, at a ballot above zero, with the entry that was accepted.

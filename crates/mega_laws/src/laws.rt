@@ -16,6 +16,7 @@ ghost use Rattle.mega_promises.specs.Promises.{Agree, Stands, first_decided, log
 ghost use Rattle.mega_laws.specs.Chosen.{Chosen};
 ghost use Rattle.mega_laws.specs.Lawful.{Lawful, message};
 ghost use Rattle.mega_laws.specs.Places.{Place};
+ghost use Rattle.mega_laws.specs.Settled.{IsSettled};
 ghost use Rattle.mega_laws.specs.Writes.{IsFront, Knows};
 
 /// All decides of one position of a group show one entry, on every lawful tape of every cluster: with any number of operations and
@@ -24,11 +25,12 @@ pub fn one_decided_log()
     ensures { (c : Cluster) (tape : List Item) → Lawful c tape → Agree tape }
 {}
 
-/// A chosen entry stays: no other is chosen at its position, at any ballot; each proposal at a ballot above carries it; and what a node
-/// decides was chosen.
+/// A chosen entry stays: no other is chosen at its position, at any ballot; each proposal at a ballot above carries it; and what an
+/// operation settles, or a node decides, was chosen.
 pub fn a_chosen_entry_stays()
     ensures once { (c : Cluster) (tape : List Item) → Lawful c tape → (p : Place) (d e : Content) → Chosen c p tape d → Chosen c p tape e → d ≡ e }
     ensures carried { (c : Cluster) (tape : List Item) → Lawful c tape → (p : Place) (e f : Content) (b : Number) (op : Operation) (node to key : ℕ) (chosen : Chosen c p tape e) → Stands (Sent key (message node to (Accept op p.group p.position b f))) tape → is_ballot_below chosen.ballot b ≡ true → f ≡ e }
+    ensures settled { (c : Cluster) (tape : List Item) → Lawful c tape → (op : Operation) (p : Place) (e : Content) → IsSettled c tape op p e → Chosen c p tape e }
     ensures decided { (c : Cluster) (tape : List Item) → Lawful c tape → (p : Place) (node : Node) (e : Content) → Stands (Decide node p.group p.position e) tape → Chosen c p tape e }
 {}
 

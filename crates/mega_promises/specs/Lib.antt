@@ -4,4 +4,5 @@ pub mod Runs
 pub mod Promises
 pub mod Calm
 pub mod NodeRuns
+pub mod Served
 pub mod Worked

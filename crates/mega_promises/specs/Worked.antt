@@ -1,6 +1,7 @@
 -- Worked schedules on three full nodes with three cells, and what is looked at of their runs.
 use Rattle.std.specs.Prelude.{ℕ, ◌+◌, ◌*◌, ◌==◌, Bool, true, false, pos, List, [], ◌∷◌, ◌++◌, map, filter_map, reverse, length, Option, Some, None, codes}
 use Rattle.std.specs.List.{range_with_len, list_any}
+use Rattle.mega_base.specs.declared.names.Epoch.{Epoch}
 use Rattle.mega_base.specs.declared.names.GroupId.{GroupId}
 use Rattle.mega_base.specs.declared.names.OpId.{OpId}
 use Rattle.mega_base.specs.declared.values.NodeKind.TheVariants.{Full, Witness, Read as ReadOnly}
@@ -23,7 +24,11 @@ use Rattle.mega_schedule.specs.declared.event.WorldEvent.{WorldEvent}
 use Rattle.mega_schedule.specs.declared.event.WorldEvent.TheVariants.{Begin, Crash, Deliver, Drain, Drop, Fuse, Start, Tick}
 use Rattle.mega_transcript.specs.declared.item.Item.{Item}
 use Rattle.mega_transcript.specs.declared.item.Item.TheVariants.{Answer as Answered, Decide as Decided, Unsent as IsUnsent, Serving as IsServing, Lost as IsLost, Lapse as HasLapsed, Unsafe as IsUnsafe, Valid as IsValid}
-use Rattle.mega_rules.specs.Examples.{cluster, group, put, schema, user}
+use Rattle.mega_wire.specs.Messages.{message_text}
+use Rattle.mega_wire.specs.declared.message.Body.{Body}
+use Rattle.mega_wire.specs.declared.message.Body.TheVariants.{Request as Wished}
+use Rattle.mega_rules.specs.Examples.{cluster, from_to, group, put, schema, user}
+use Rattle.mega_promises.specs.Served.{Asks, Line, OfClient, OfNode, Put as PutOut, Turn, Wish, served}
 use Rattle.mega_promises.specs.Runs.{Fate, Happening, Whole, goes_on, opening}
 
 -- the events of a schedule
@@ -54,6 +59,10 @@ fuse_log node calls image = Fuse (record { 0 = node }) calls image Log
 
 abbrev pub drain : WorldEvent
 drain = Drain 200
+
+-- the put of node 2 is accepted by the leader alone, and both crash, the leader once a read of node 3 heard of the position
+abbrev pub filling : List WorldEvent
+filling = put_at 2 ∷ Drain 7 ∷ crash 2 ∷ start 2 ∷ read_at 3 Current ∷ Deliver 9 ∷ Deliver 11 ∷ Deliver 12 ∷ Deliver 13 ∷ crash 1 ∷ drain ∷ []
 
 abbrev pub happens : WorldEvent → Happening
 happens event = record { handlers = []; event = event }
@@ -164,3 +173,35 @@ three = Batch group
     ((record { group = group; checks = []; reads = []; writes = Put 1 user ∷ []; sends = [] })
     ∷ (record { group = group; checks = Gone user_101 ∷ []; reads = user_101 ∷ []; writes = Put 1 user ∷ []; sends = [] })
     ∷ empty_txn ∷ [])
+
+-- a node alone that is served; each client's object asks for the put
+abbrev pub wish_put : List ℕ → Wish
+wish_put json = Asks put json
+
+abbrev pub lines_of : List Turn → List Line
+lines_of turns = (served short_log 1 wish_put [] [] turns).lines
+
+-- the first epoch of the node's first start
+abbrev pub epoch : Epoch
+epoch = record { start = 1; count = 0 }
+
+-- nothing comes; a client asks under a token; a message of the node itself comes
+abbrev pub quiet : ℕ → Turn
+quiet clock = record { handlers = []; clock = clock; datagram = None }
+
+abbrev pub asked_by : ℕ → ℕ → Turn
+asked_by client token = record { handlers = []; clock = 5; datagram = Some (OfClient client, message_text (record { from = 0; to = 1; body = Wished token (codes "{}") })) }
+
+abbrev pub own : Body → Turn
+own body = record { handlers = []; clock = 5; datagram = Some (OfNode 1, message_text (from_to 1 1 body)) }
+
+abbrev pub strange : List ℕ → Turn
+strange bytes = record { handlers = []; clock = 5; datagram = Some (OfNode 1, bytes) }
+
+-- what goes to clients
+abbrev pub to_client : Line → Option (ℕ × List ℕ)
+to_client (PutOut (OfClient client) bytes) = Some (client, bytes)
+to_client _ = None
+
+abbrev pub replies : List Line → List (ℕ × List ℕ)
+replies lines = filter_map to_client lines

@@ -1,17 +1,25 @@
 //! Worked runs: what the definition of a run gives for schedules whose transcripts are known, as contracts of functions that do
 //! nothing.
 
-ghost use Rattle.std.specs.Prelude.{◌≡◌, [], ◌∷◌, map, length, true, false, Ok, Err, None, Some};
+ghost use Rattle.std.specs.Prelude.{◌≡◌, [], ◌∷◌, ◌++◌, codes, decimal, map, length, take, true, false, Ok, Err, None, Some};
 ghost use Rattle.std.specs.List.{range_with_len};
 ghost use Rattle.mega_base.specs.declared.values.NodeKind.TheVariants.{Witness, Read as ReadOnly};
-ghost use Rattle.mega_outcome.specs.declared.answer.Answer.TheVariants.{Batched, LogFull, NotHere, NothingToDo, Refreshed, Unknown};
+ghost use Rattle.mega_outcome.specs.declared.answer.Answer.TheVariants.{Batched, LogFull, NotHere, NothingToDo, Read as ReadAnswer, Refreshed, Unknown};
 ghost use Rattle.mega_outcome.specs.declared.answer.Turn.TheVariants.{CheckFailed};
 ghost use Rattle.mega_outcome.specs.declared.request.Request.TheVariants.{PumpEnter, PumpHandle, Refresh};
 ghost use Rattle.mega_outcome.specs.declared.request.Mode.TheVariants.{Current, Snapshot};
 ghost use Rattle.mega_schedule.specs.declared.event.WorldEvent.TheVariants.{Deliver, Drain, Drop};
-ghost use Rattle.mega_rules.specs.Examples.{cluster, group};
+ghost use Rattle.mega_ballot.specs.Order.{zero_ballot};
+ghost use Rattle.mega_wire.specs.declared.message.Body.TheVariants.{Accept, Accepted, Acquire, Reply, Top, Where};
+ghost use Rattle.mega_wire.specs.Messages.{message_text};
+ghost use Rattle.mega_transcript.specs.declared.item.Item.TheVariants.{Decide as Decided, Start as StartItem, Tick as TickItem};
+ghost use Rattle.mega_transcript.specs.Answers.{answer_words};
+ghost use Rattle.mega_transcript.specs.Lines.{line};
+ghost use Rattle.mega_promises.specs.Items.{number};
+ghost use Rattle.mega_promises.specs.Served.{Got, Noted, OfNode, Put, joined};
+ghost use Rattle.mega_rules.specs.Examples.{cluster, entry_of, from_to, group, no_op_of, schema};
 ghost use Rattle.mega_promises.specs.Runs.{CutByLog, Whole};
-ghost use Rattle.mega_promises.specs.Worked.{Lapses, Loses, Serves, Unsafe, Unsent, Valid, answers, begin, committed_at, conflict_at, crash, drain, fuse_log, ids_decided, marks, mixed, op, put_at, read_at, read_through, run, run_on, short_log, start, three, tick, told};
+ghost use Rattle.mega_promises.specs.Worked.{Lapses, Loses, Serves, Unsafe, Unsent, Valid, answers, asked_by, begin, committed_at, conflict_at, crash, drain, fuse_log, epoch, filling, ids_decided, lines_of, marks, mixed, op, own, put_at, quiet, read_at, read_through, replies, run, run_on, short_log, start, strange, three, tick, told};
 
 /// One put, and the delivery of its fourteen messages in order: three starts, and 36 items more.
 #[tactic(auto, unfolding(mega_base::specs::Codec::number_text))]
@@ -126,4 +134,41 @@ pub fn pumps_and_a_refresh()
 #[tactic(auto, unfolding(mega_base::specs::Codec::number_text))]
 pub fn an_earlier_answer_is_not_believed()
     ensures { answers (run (put_at 2 ∷ Drain 7 ∷ crash 2 ∷ put_at 3 ∷ drain ∷ tick 3 50 ∷ drain ∷ tick 3 100 ∷ drain ∷ tick 3 150 ∷ drain ∷ tick 3 200 ∷ drain ∷ tick 3 1000 ∷ [])) ≡ told (op 3 1 1) Unknown ∷ [] }
+{}
+
+/// A served node that nothing comes to asks for its lease at its first tick, and again fifty milliseconds later.
+#[tactic(auto, unfolding(mega_base::specs::Codec::number_text))]
+pub fn a_quiet_node()
+    ensures { lines_of (quiet 5 ∷ quiet 60 ∷ []) ≡ Noted (StartItem (number 1) 1) ∷ Noted (TickItem (number 1) 5) ∷ Put (OfNode 1) (message_text (from_to 1 1 (Acquire 1 epoch 5))) ∷ Noted (TickItem (number 1) 60) ∷ Put (OfNode 1) (message_text (from_to 1 1 (Acquire 1 epoch 60))) ∷ [] }
+{}
+
+/// A client's put is answered under its token once it is committed.
+#[tactic(auto, unfolding(mega_base::specs::Codec::number_text))]
+pub fn a_client_is_answered()
+    ensures { replies (lines_of (asked_by 1 7 ∷ own (Where (op 1 1 1) group) ∷ own (Top (op 1 1 1) group (record { 0 = 0 })) ∷ own (Accept (op 1 1 1) group (record { 0 = 1 }) zero_ballot (entry_of 1)) ∷ own (Accepted (op 1 1 1) group (record { 0 = 1 }) zero_ballot (entry_of 1)) ∷ [])) ≡ (1, message_text (record { from = 1; to = 0; body = Reply 7 (take 65000 (joined (answer_words schema (committed_at 1)))) })) ∷ [] }
+{}
+
+/// A datagram that is no message is recorded, and changes nothing.
+#[tactic(auto, unfolding(mega_base::specs::Codec::number_text))]
+pub fn a_strange_datagram()
+    ensures { lines_of (strange (0x4D ∷ 0x53 ∷ 1 ∷ 1 ∷ 1 ∷ []) ∷ []) ≡ Noted (StartItem (number 1) 1) ∷ Noted (TickItem (number 1) 5) ∷ Put (OfNode 1) (message_text (from_to 1 1 (Acquire 1 epoch 5))) ∷ Got (OfNode 1) (0x4D ∷ 0x53 ∷ 1 ∷ 1 ∷ 1 ∷ []) ∷ [] }
+{}
+
+/// A node that missed a decision fetches it for its next current read.
+#[tactic(auto, unfolding(mega_base::specs::Codec::number_text))]
+pub fn decided_by_have()
+    ensures answer { answers (run (put_at 1 ∷ Drain 12 ∷ Drop 14 ∷ drain ∷ read_at 3 Current ∷ drain ∷ [])) ≡ told (op 1 1 1) (committed_at 1) ∷ told (op 3 1 1) (read_through 1) ∷ [] }
+    ensures log { ids_decided 3 (run (put_at 1 ∷ Drain 12 ∷ Drop 14 ∷ drain ∷ read_at 3 Current ∷ drain ∷ [])) ≡ Some (op 1 1 1) ∷ [] }
+{}
+
+/// A position that only a crashed voter accepted is filled by a no-op, once the cells hold nothing for that voter; the read finds no row.
+#[tactic(auto, unfolding(mega_base::specs::Codec::number_text))]
+pub fn filled_by_a_no_op()
+    ensures answer { answers (run (filling ++ tick 3 50 ∷ drain ∷ tick 3 100 ∷ drain ∷ [])) ≡ told (op 3 1 1) (ReadAnswer (record { 0 = 1 }) (None ∷ [])) ∷ [] }
+    ensures log { ids_decided 3 (run (filling ++ tick 3 50 ∷ drain ∷ tick 3 100 ∷ drain ∷ [])) ≡ None ∷ [] }
+{}
+
+/// The line of a decided no-op: group and entry in hex.
+pub fn the_text_of_an_item()
+    ensures { line schema (Decided (number 1) group (record { 0 = 1 }) (no_op_of 1)) ≡ codes "decide" ++ 32 ∷ (decimal 1 ++ 32 ∷ (codes "018000000000000065" ++ 32 ∷ (decimal 1 ++ 32 ∷ (codes "01000100000000000000000000000000000000" ++ 10 ∷ [])))) }
 {}
