@@ -1,5 +1,6 @@
 -- The run of a node that is served over links: the record that it writes, what it puts out, and what its journal has then.
-use Rattle.std.specs.Prelude.{◌≡◌, ℕ, ◌==◌, ◌&&◌, Bool, if◌then◌else◌, List, [], ◌∷◌, ◌++◌, codes, decimal, filter, filter_map, find, flat_map, fold, map, reverse, take, Option, Some, None, Result, Ok, Err}
+use Rattle.std.specs.Prelude.{◌≡◌, ℕ, ◌+◌, ◌==◌, ◌&&◌, Bool, if◌then◌else◌, List, [], ◌∷◌, ◌++◌, codes, decimal, filter, filter_map, find, flat_map, fold, map, reverse, take, Option, Some, None, Result, Ok, Err}
+use Rattle.std.specs.List.{list_any}
 use Rattle.mega_base.specs.declared.names.OpId.{OpId}
 use Rattle.mega_cluster.specs.declared.cluster.Cluster.{Cluster}
 use Rattle.mega_schema.specs.declared.schema.Schema.{Schema}
@@ -18,7 +19,7 @@ use Rattle.mega_wal.specs.History.{starts_of}
 use Rattle.mega_transcript.specs.declared.item.Item.{Item}
 use Rattle.mega_transcript.specs.Answers.{answer_words}
 use Rattle.mega_rules.specs.Met.{Met, Answers, Begins, Decides, Grants, Lapses, Ticks}
-use Rattle.mega_rules.specs.Operations.{Node}
+use Rattle.mega_rules.specs.Operations.{Node, Operation}
 use Rattle.mega_rules.specs.Steps.{Event, Begin, Step, Take, Tick, op_of, start, start_items, step}
 use Rattle.mega_promises.specs.Items.{number, shown}
 use Rattle.mega_promises.specs.NodeRuns.{met_of}
@@ -98,11 +99,7 @@ answer_line schema me waiting _ = []
 
 -- those whose operation is open still
 abbrev pub is_open_at : Node → OpId → Bool
-is_open_at node op = by node.open_operations
-  where
-    by : List Rattle.mega_rules.specs.Operations.Operation → Bool
-    by [] = false
-    by (o ∷ more) = if same_op o.id op then true else by more
+is_open_at node op = list_any (λ (o : Operation). same_op o.id op) node.open_operations
 
 abbrev pub still_waiting : Node → List Waiting → List Waiting
 still_waiting node waiting = filter (λ (one : Waiting). is_open_at node one.op) waiting

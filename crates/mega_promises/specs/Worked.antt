@@ -1,5 +1,5 @@
 -- Worked schedules on three full nodes with three cells, and what is looked at of their runs.
-use Rattle.std.specs.Prelude.{ℕ, ◌+◌, ◌*◌, ◌==◌, Bool, true, false, pos, List, [], ◌∷◌, ◌++◌, map, filter_map, reverse, length, Option, Some, None, codes}
+use Rattle.std.specs.Prelude.{ℕ, ◌+◌, ◌*◌, ◌==◌, Bool, true, false, pos, List, [], ◌∷◌, ◌++◌, map, filter_map, fold, reverse, length, Option, Some, None, Err, Ok, codes}
 use Rattle.std.specs.List.{range_with_len, list_any}
 use Rattle.mega_base.specs.declared.names.Epoch.{Epoch}
 use Rattle.mega_base.specs.declared.names.GroupId.{GroupId}
@@ -26,9 +26,10 @@ use Rattle.mega_transcript.specs.declared.item.Item.{Item}
 use Rattle.mega_transcript.specs.declared.item.Item.TheVariants.{Answer as Answered, Decide as Decided, Unsent as IsUnsent, Serving as IsServing, Lost as IsLost, Lapse as HasLapsed, Unsafe as IsUnsafe, Valid as IsValid}
 use Rattle.mega_wire.specs.Messages.{message_text}
 use Rattle.mega_wire.specs.declared.message.Body.{Body}
-use Rattle.mega_wire.specs.declared.message.Body.TheVariants.{Request as Wished}
+use Rattle.mega_wire.specs.declared.message.Body.TheVariants.{Request as Wished, Where}
+use Rattle.mega_wire.specs.declared.message.Message.{Message}
 use Rattle.mega_rules.specs.Examples.{cluster, from_to, group, put, schema, user}
-use Rattle.mega_promises.specs.Served.{Asks, Line, OfClient, OfNode, Put as PutOut, Turn, Wish, served}
+use Rattle.mega_promises.specs.Served.{Asks, Got, Line, OfClient, OfNode, Peer, Put as PutOut, Served, Turn, Wish, given, served, served_start}
 use Rattle.mega_promises.specs.Runs.{Fate, Happening, Whole, goes_on, opening}
 
 -- the events of a schedule
@@ -185,18 +186,28 @@ lines_of turns = (served short_log 1 wish_put [] [] turns).lines
 abbrev pub epoch : Epoch
 epoch = record { start = 1; count = 0 }
 
--- nothing comes; a client asks under a token; a message of the node itself comes
 abbrev pub quiet : ℕ → Turn
 quiet clock = record { handlers = []; clock = clock; datagram = None }
 
-abbrev pub asked_by : ℕ → ℕ → Turn
-asked_by client token = record { handlers = []; clock = 5; datagram = Some (OfClient client, message_text (record { from = 0; to = 1; body = Wished token (codes "{}") })) }
+-- messages come: a client asks under a token, and the node's own go back to it
+abbrev pub gives : Served → Peer × Message → Served
+gives now one = given short_log 1 wish_put [] now (Got one.0 (message_text one.1) ∷ []) one.0 (Ok one.1)
 
-abbrev pub own : Body → Turn
-own body = record { handlers = []; clock = 5; datagram = Some (OfNode 1, message_text (from_to 1 1 body)) }
+abbrev pub lines_given : List (Peer × Message) → List Line
+lines_given messages = (fold gives (served_start short_log 1 [] []) messages).lines
 
-abbrev pub strange : List ℕ → Turn
-strange bytes = record { handlers = []; clock = 5; datagram = Some (OfNode 1, bytes) }
+abbrev pub asked_by : ℕ → ℕ → Peer × Message
+asked_by client token = (OfClient client, record { from = 0; to = 1; body = Wished token (codes "{}") })
+
+abbrev pub own : Body → Peer × Message
+own body = (OfNode 1, from_to 1 1 body)
+
+-- bytes come that are no message, or one of another sender
+abbrev pub strange : List Line
+strange = (given short_log 1 wish_put [] (served_start short_log 1 [] []) (Got (OfNode 1) (0x4D ∷ []) ∷ []) (OfNode 1) (Err 1)).lines
+
+abbrev pub forged : List Line
+forged = (gives (served_start short_log 1 [] []) (OfNode 1, from_to 2 1 (Where (op 2 1 1) group))).lines
 
 -- what goes to clients
 abbrev pub to_client : Line → Option (ℕ × List ℕ)

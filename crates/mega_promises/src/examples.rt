@@ -19,7 +19,7 @@ ghost use Rattle.mega_promises.specs.Items.{number};
 ghost use Rattle.mega_promises.specs.Served.{Got, Noted, OfNode, Put, joined};
 ghost use Rattle.mega_rules.specs.Examples.{cluster, entry_of, from_to, group, no_op_of, schema};
 ghost use Rattle.mega_promises.specs.Runs.{CutByLog, Whole};
-ghost use Rattle.mega_promises.specs.Worked.{Lapses, Loses, Serves, Unsafe, Unsent, Valid, answers, asked_by, begin, committed_at, conflict_at, crash, drain, fuse_log, epoch, filling, ids_decided, lines_of, marks, mixed, op, own, put_at, quiet, read_at, read_through, replies, run, run_on, short_log, start, strange, three, tick, told};
+ghost use Rattle.mega_promises.specs.Worked.{Lapses, Loses, Serves, Unsafe, Unsent, Valid, answers, asked_by, begin, committed_at, conflict_at, crash, drain, fuse_log, epoch, filling, forged, ids_decided, lines_given, lines_of, marks, mixed, op, own, put_at, quiet, read_at, read_through, replies, run, run_on, short_log, start, strange, three, tick, told};
 
 /// One put, and the delivery of its fourteen messages in order: three starts, and 36 items more.
 #[tactic(auto, unfolding(mega_base::specs::Codec::number_text))]
@@ -145,13 +145,14 @@ pub fn a_quiet_node()
 /// A client's put is answered under its token once it is committed.
 #[tactic(auto, unfolding(mega_base::specs::Codec::number_text))]
 pub fn a_client_is_answered()
-    ensures { replies (lines_of (asked_by 1 7 ∷ own (Where (op 1 1 1) group) ∷ own (Top (op 1 1 1) group (record { 0 = 0 })) ∷ own (Accept (op 1 1 1) group (record { 0 = 1 }) zero_ballot (entry_of 1)) ∷ own (Accepted (op 1 1 1) group (record { 0 = 1 }) zero_ballot (entry_of 1)) ∷ [])) ≡ (1, message_text (record { from = 1; to = 0; body = Reply 7 (take 65000 (joined (answer_words schema (committed_at 1)))) })) ∷ [] }
+    ensures { replies (lines_given (asked_by 1 7 ∷ own (Where (op 1 1 1) group) ∷ own (Top (op 1 1 1) group (record { 0 = 0 })) ∷ own (Accept (op 1 1 1) group (record { 0 = 1 }) zero_ballot (entry_of 1)) ∷ own (Accepted (op 1 1 1) group (record { 0 = 1 }) zero_ballot (entry_of 1)) ∷ [])) ≡ (1, message_text (record { from = 1; to = 0; body = Reply 7 (take 65000 (joined (answer_words schema (committed_at 1)))) })) ∷ [] }
 {}
 
-/// A datagram that is no message is recorded, and changes nothing.
+/// A datagram that is no message, or names another sender, is recorded and changes nothing.
 #[tactic(auto, unfolding(mega_base::specs::Codec::number_text))]
 pub fn a_strange_datagram()
-    ensures { lines_of (strange (0x4D ∷ 0x53 ∷ 1 ∷ 1 ∷ 1 ∷ []) ∷ []) ≡ Noted (StartItem (number 1) 1) ∷ Noted (TickItem (number 1) 5) ∷ Put (OfNode 1) (message_text (from_to 1 1 (Acquire 1 epoch 5))) ∷ Got (OfNode 1) (0x4D ∷ 0x53 ∷ 1 ∷ 1 ∷ 1 ∷ []) ∷ [] }
+    ensures malformed { strange ≡ Noted (StartItem (number 1) 1) ∷ Got (OfNode 1) (0x4D ∷ []) ∷ [] }
+    ensures forged { forged ≡ Noted (StartItem (number 1) 1) ∷ Got (OfNode 1) (message_text (from_to 2 1 (Where (op 2 1 1) group))) ∷ [] }
 {}
 
 /// A node that missed a decision fetches it for its next current read.
@@ -169,6 +170,7 @@ pub fn filled_by_a_no_op()
 {}
 
 /// The line of a decided no-op: group and entry in hex.
+#[tactic(auto, unfolding(mega_base::specs::Codec::number_text))]
 pub fn the_text_of_an_item()
     ensures { line schema (Decided (number 1) group (record { 0 = 1 }) (no_op_of 1)) ≡ codes "decide" ++ 32 ∷ (decimal 1 ++ 32 ∷ (codes "018000000000000065" ++ 32 ∷ (decimal 1 ++ 32 ∷ (codes "01000100000000000000000000000000000000" ++ 10 ∷ [])))) }
 {}
