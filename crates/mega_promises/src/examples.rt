@@ -12,12 +12,12 @@ ghost use Rattle.mega_schedule.specs.declared.event.WorldEvent.TheVariants.{Deli
 ghost use Rattle.mega_ballot.specs.Order.{zero_ballot};
 ghost use Rattle.mega_wire.specs.declared.message.Body.TheVariants.{Accept, Accepted, Acquire, Reply, Top, Where};
 ghost use Rattle.mega_wire.specs.Messages.{message_text};
-ghost use Rattle.mega_transcript.specs.declared.item.Item.TheVariants.{Decide as Decided, Start as StartItem, Tick as TickItem};
+ghost use Rattle.mega_transcript.specs.declared.item.Item.TheVariants.{Serving as ServingItem, Start as StartItem, Tick as TickItem};
 ghost use Rattle.mega_transcript.specs.Answers.{answer_words};
 ghost use Rattle.mega_transcript.specs.Lines.{line};
 ghost use Rattle.mega_promises.specs.Items.{number};
 ghost use Rattle.mega_promises.specs.Served.{Got, Noted, OfNode, Put, joined};
-ghost use Rattle.mega_rules.specs.Examples.{cluster, entry_of, from_to, group, no_op_of, schema};
+ghost use Rattle.mega_rules.specs.Examples.{cluster, entry_of, from_to, group, schema};
 ghost use Rattle.mega_promises.specs.Runs.{CutByLog, Whole};
 ghost use Rattle.mega_promises.specs.Worked.{Lapses, Loses, Serves, Unsafe, Unsent, Valid, answers, asked_by, begin, committed_at, conflict_at, crash, drain, fuse_log, epoch, filling, forged, ids_decided, lines_given, lines_of, marks, mixed, op, own, put_at, quiet, read_at, read_through, replies, run, run_on, short_log, start, strange, three, tick, told};
 
@@ -169,8 +169,7 @@ pub fn filled_by_a_no_op()
     ensures log { ids_decided 3 (run (filling ++ tick 3 50 ∷ drain ∷ tick 3 100 ∷ drain ∷ [])) ≡ None ∷ [] }
 {}
 
-/// The line of a decided no-op: group and entry in hex.
-#[tactic(auto, unfolding(mega_base::specs::Codec::number_text))]
+/// The line of a node that serves in its first epoch: words with spaces between them, and numbers in decimal.
 pub fn the_text_of_an_item()
-    ensures { line schema (Decided (number 1) group (record { 0 = 1 }) (no_op_of 1)) ≡ codes "decide" ++ 32 ∷ (decimal 1 ++ 32 ∷ (codes "018000000000000065" ++ 32 ∷ (decimal 1 ++ 32 ∷ (codes "01000100000000000000000000000000000000" ++ 10 ∷ [])))) }
+    ensures { line schema (ServingItem (number 1) epoch) ≡ codes "serving" ++ (32 ∷ decimal 1) ++ (32 ∷ (decimal 1 ++ 46 ∷ decimal 0)) ++ 10 ∷ [] }
 {}
