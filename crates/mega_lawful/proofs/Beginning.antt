@@ -71,7 +71,7 @@ FineAt s f k now = Fine s.cluster f k now.met now.kept now.sends
 ready_first : (s : Setting) (f : Frame) (k l : ℕ) (now : Now) (met : List Met) (o : Operation) → FineAt s f k now → k ≤ (o.id).number → Grew met now.met → Held s.cluster f.base f.me f.start l met o → ReadyAt s f now o
 ready_first s f k l now met o fine le grew h =
     let on = held_on s.cluster f.base (tape_of f now.sends) f.me f.start l l met now.met o beside grew (omega arith) h in
-    record { turn = fine_turn s.cluster f k now.met now.kept now.sends o.id fine le h.node h.start; backed = on.backed; idle = on.idle }
+    record { turn = fine_turn s.cluster f k now.met now.kept now.sends o.id fine le h.node h.start h.named; backed = on.backed; idle = on.idle }
   where
     beside : Beside o.id f.base (tape_of f now.sends)
     beside = record { stood = stood_sent f.next now.sends f.base; moved = λ q. fine.later o.id (could_not f.me f.start k o.id le) q }
@@ -188,5 +188,5 @@ begins_done s f now id Refresh began visited posted phase h free = turn_ends s.c
 
 pub begun_fine : (s : Setting) (f : Frame) (k : ℕ) (now : Now) (o : Operation) (refusal : Option Answer) → FineAt s f k now → (refusal ≡ None → TurnAt s f now o.id × FreeAt f now o.id) → (refusal ≡ None → k ≤ (o.id).number)
     → AllActed s f (max k ((o.id).number + 1)) (unless_refused s now o refusal)
-begun_fine s f k now o (Some answer) fine h le = record { k = k; most = omega arith; fine = record { lawful = fine.lawful; later = fine.later; made = fine.made; known = fine.known; quiet = fine.quiet; held = fine.held; rising = fine.rising } }
+begun_fine s f k now o (Some answer) fine h le = record { k = k; most = omega arith; fine = record { lawful = fine.lawful; later = fine.later; asked = fine.asked; made = fine.made; known = fine.known; quiet = fine.quiet; held = fine.held; rising = fine.rising } }
 begun_fine s f k now o None fine h le = record { k = (o.id).number + 1; most = omega arith; fine = begins_done s f now o.id o.request o.began o.visited o.message o.phase (h refl).0 (h refl).1 }

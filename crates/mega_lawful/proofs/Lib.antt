@@ -1,4 +1,5 @@
 pub mod Replied
+pub mod Told
 pub mod Counted
 pub mod Sending
 pub mod Free

@@ -22,14 +22,15 @@ use Rattle.mega_rules.specs.Operations.{Node, Setting}
 use Rattle.mega_rules.specs.Steps.{Begin, Step, Take, Tick, crashed, onto, op_of, start, start_items, start_note, start_notes, step}
 use Rattle.mega_laws.specs.Places.{Place, moves}
 use Rattle.mega_laws.specs.Lawful.{Lawful}
+use Rattle.mega_laws.specs.Polls.{ArePolls, has_asked}
 use Rattle.mega_laws.proofs.Ballots.{number_self}
 use Rattle.mega_laws.proofs.Lists.{some_is}
 use Rattle.mega_lawful.specs.Vouched.{Each}
 use Rattle.mega_lawful.proofs.Noted.{Follows, Note, TapeOn, each_note_on, notes_follow, one_note, tape_item, with_append}
-use Rattle.mega_lawful.proofs.Standing.{Good, IsNew, Owes, act_other, act_same, other_good, owes_on}
+use Rattle.mega_lawful.proofs.Standing.{Good, IsNew, Owes, act_other, act_same, other_good, owes_on, unmoved_on}
 use Rattle.mega_lawful.proofs.Stepping.{Next, Own, next_good}
 use Rattle.mega_lawful.proofs.Events.{IsPlain, each_flat_map, onto_append, plain_notes}
-use Rattle.mega_lawful.proofs.Steps.{begun_next, own_begin, stands_sent, whole_good}
+use Rattle.mega_lawful.proofs.Steps.{begun_next, never_asked, own_begin, stands_sent, whole_good}
 use Rattle.mega_lawful.proofs.Ticking.{own_tick, ticked_next}
 use Rattle.mega_lawful.proofs.Whole.{StepNext, own_taken, take_next}
 use Rattle.mega_lawful.proofs.Replied.{Fair, answer_fair}
@@ -47,6 +48,9 @@ use Rattle.mega_promises.specs.Promises.{Stands}
 
 old_moves : (c : Cluster) (now : Standing) (me : ℕ) → Good c now → (x : OpId) → x.node.0 ≡ me → IsNew (now.starts me) (now.node me).met x → (q : Place) → moves now.tape x q ≡ []
 old_moves c now me g x node new q = g.fresh x (subst (λ w. IsNew (now.starts w) (now.node w).met x) (sym node) new) q
+
+old_asked : (c : Cluster) (now : Standing) (me : ℕ) → Good c now → (x : OpId) → x.node.0 ≡ me → IsNew (now.starts me) (now.node me).met x → has_asked now.tape x ≡ false
+old_asked c now me g x node new = g.unasked x (subst (λ w. IsNew (now.starts w) (now.node w).met x) (sym node) new)
 
 at_self : {X : Type 0} (f : ℕ → X) (me : ℕ) (x : X) → set_at f me x me ≡ x
 at_self f me x = ap (λ t. cond t x (f me)) (number_self me)
@@ -109,7 +113,11 @@ cut_good c now me item own made owed log_fuse data_fuse g plain o owing = next_g
       };
       made = λ v apart q. (o.on).made v q;
       moved = λ x apart q. (o.on).moved x q;
+      polls = (tt, (o.on).polls g.polls);
+      asked = λ x apart. (o.on).asked x;
       fresh = λ x node new q. (o.on).moved x q ∙ old_moves c now me g x node (older x new) q;
+      unasked = λ x node new. (o.on).asked x ∙ old_asked c now me g x node (older x new);
+      worn = λ x le. unmoved_on now.tape (Crash (number me) ∷ item ∷ now.tape) x ((o.on).moved x) ((o.on).asked x) (g.worn x le);
       started = subst (λ n. n ≤ now.starts me) (sym o.start) (g.starts me);
       starts_same = λ v apart. refl;
       owes = subst (λ x. Owes c (Crash (number me) ∷ item ∷ now.tape) me x) (sym (at_self now.owed me owed)) owing;
@@ -140,7 +148,11 @@ down_next c now me starts g le same = record {
   mine = record { made = (g.node me).made; known = λ h n e d. inr ((g.node me).known h n e d); held = tt; rising = tt };
   made = λ v apart q. refl;
   moved = λ x apart q. refl;
+  polls = (tt, g.polls);
+  asked = λ x apart. refl;
   fresh = λ x node new q. old_moves c now me g x node (older x new) q;
+  unasked = λ x node new. old_asked c now me g x node (older x new);
+  worn = λ x le. unmoved_on now.tape (Crash (number me) ∷ now.tape) x (λ q. refl) refl (g.worn x le);
   started = (let first = g.starts me in omega (arith, first, le));
   starts_same = same;
   owes = owes_on c now.tape (Crash (number me) ∷ now.tape) me (λ item s. inr s) (λ q. refl) (now.owed me) (g.owes me);
@@ -169,7 +181,9 @@ cut_start_good c now me kept log_fuse data_fuse g = next_good c now me (Crash (n
 record Shown (c : Cluster) (me : ℕ) (old : List Item) (met : List Met) (new : List Item) (more : List Met) : Type 0 where
   lawful : Lawful c old → Lawful c new
   stood : (item : Item) → Stands item old → Stands item new
+  polls : ArePolls old → ArePolls new
   moved : (x : OpId) (q : Place) → moves new x q ≡ moves old x q
+  asked : (x : OpId) → has_asked new x ≡ has_asked old x
   others : (v : ℕ) → (me == v) ≡ false → (q : Place) → acts new v q ≡ acts old v q
   made : (q : Place) → acts_met more q.group q.position.0 ≡ acts new me q
   known : Known me more new
@@ -177,11 +191,13 @@ record Shown (c : Cluster) (me : ℕ) (old : List Item) (met : List Met) (new : 
 
 owed_shown : (c : Cluster) (me : ℕ) (nodes' : ℕ → Node) (owed : List Met) (tape : List Item) (met : List Met) → Owes c tape me owed → ((q : Place) → acts_met met q.group q.position.0 ≡ acts tape me q) → Known me met tape
     → Shown c me tape met (with_items c nodes' tape (flat_map (shown me) owed)) (onto owed met)
-owed_shown c me nodes' [] tape met h made known = record { lawful = λ l. l; stood = λ item s. s; moved = λ x q. refl; others = λ v apart q. refl; made = made; known = known; started = refl }
+owed_shown c me nodes' [] tape met h made known = record { lawful = λ l. l; stood = λ item s. s; polls = λ p. p; moved = λ x q. refl; asked = λ x. refl; others = λ v apart q. refl; made = made; known = known; started = refl }
 owed_shown c me nodes' (Unsends m ∷ []) tape met h made known = record {
   lawful = λ l. ((h.1).1, l);
   stood = λ item s. inr s;
+  polls = λ p. (tt, p);
   moved = λ x q. refl;
+  asked = λ x. refl;
   others = λ v apart q. ap (λ o. cons_option o (acts tape v q)) (act_other me v m q.group q.position.0 apart (inl (h.1).0));
   made = λ q. λ i. cons_option (act_same me m q.group q.position.0 (inl (h.1).0) i) (made q i);
   known = λ g n e d. inr (known g n e d);
@@ -196,7 +212,9 @@ owed_shown c me nodes' (one ∷ more) tape met h made known =
     subst (λ t. Shown c me tape met t (onto more (one ∷ met))) (sym (with_append c nodes' (shown me one) (flat_map (shown me) more) tape)) (record {
       lawful = λ l. rest.lawful ((first.tape).lawful l);
       stood = λ item s. rest.stood item ((first.tape).stood item s);
+      polls = λ p. rest.polls ((first.tape).polls p);
       moved = λ x q. rest.moved x q ∙ (first.tape).moved x q;
+      asked = λ x. rest.asked x ∙ (first.tape).asked x;
       others = λ v apart q. rest.others v apart q ∙ (first.tape).made v q;
       made = rest.made;
       known = rest.known;
@@ -225,7 +243,11 @@ start_good c h now me g = next_good c now me _ node2 (log_fuse_after now me true
       };
       made = λ v apart q. (follows.tape).made v q ∙ first.others v apart q;
       moved = λ x apart q. (follows.tape).moved x q ∙ first.moved x q;
+      polls = (follows.tape).polls (first.polls (tt, g.polls));
+      asked = λ x apart. (follows.tape).asked x ∙ first.asked x;
       fresh = λ x node new q. (follows.tape).moved x q ∙ first.moved x q ∙ old_moves c now me g x node (inl (later x new)) q;
+      unasked = λ x node new. (follows.tape).asked x ∙ first.asked x ∙ old_asked c now me g x node (inl (later x new));
+      worn = λ x le. unmoved_on now.tape tape3 x (λ q. (follows.tape).moved x q ∙ first.moved x q) ((follows.tape).asked x ∙ first.asked x) (g.worn x le);
       started = subst (λ n. start_of (onto notes met2) ≤ n) (sym (at_self now.starts me (now.starts me + 1))) (subst (λ n. n ≤ now.starts me + 1) (sym started) (omega arith));
       starts_same = at_other now.starts me (now.starts me + 1);
       owes = subst (λ o. Owes c tape3 me o) (sym (at_self now.owed me [])) tt;
@@ -324,7 +346,7 @@ tick_good c h now me clock cut r g = fated_good c now me (TickItem (number me) c
 
 begin_good : (c : Cluster) (h : Meanings) (now : Standing) (me : ℕ) (request : Request) (text : List ℕ) (cut : Fate) → is_up (now.node me).met ≡ true → Good c now
     → Good c (at_node c h now me (shown me (Begins (op_of (setting c h me) (now.node me).met) text)) (Begin request text) cut)
-begin_good c h now me request text cut r g = fated_good c now me (BeginItem id text) (Begins id text) made [] (fate_of c now me (appends made) cut) g (λ n. refl) (own_begin c now.tape id text (now.node me).met)
+begin_good c h now me request text cut r g = fated_good c now me (BeginItem id text) (Begins id text) made [] (fate_of c now me (appends made) cut) g (λ n. refl) (own_begin c now.tape id text (now.node me).met (never_asked s now g))
     (owes_notes c (Crash (number me) ∷ BeginItem id text ∷ now.tape) me made.notes [] (each_note_on c (BeginItem id text ∷ now.tape) (Crash (number me) ∷ BeginItem id text ∷ now.tape) (λ item s. inr s) me made.notes next.1) tt)
     (whole_good s now (BeginItem id text) (Begins id text) made g (λ n. refl) next)
   where
@@ -345,7 +367,10 @@ marked_good c now item on g = record {
   lawful = on.lawful g.lawful;
   node = λ v. other_good c now.tape (item ∷ now.tape) v (now.node v) on.stood (on.made v) (λ x is q. on.moved x q) (g.node v);
   starts = g.starts;
+  polls = on.polls g.polls;
   fresh = λ x new q. on.moved x q ∙ g.fresh x new q;
+  unasked = λ x new. on.asked x ∙ g.unasked x new;
+  worn = λ x le. unmoved_on now.tape (item ∷ now.tape) x (on.moved x) (on.asked x) (g.worn x le);
   owes = λ v. owes_on c now.tape (item ∷ now.tape) v on.stood (on.made v) (now.owed v) (g.owes v);
   owed = g.owed;
 }
@@ -371,7 +396,7 @@ drained_good c h cuts zero now g = go (next_delivery (up now) now.tape)
   where
     go : (o : Option ℕ) → Good c (unless_none now (λ j. marked now CutItem) o)
     go None = g
-    go (Some j) = marked_good c now CutItem (tape_item c now.tape CutItem tt (λ x q. refl) (λ v q. refl)) g
+    go (Some j) = marked_good c now CutItem (tape_item c now.tape CutItem tt (λ x q. refl) (λ v q. refl) (λ x. refl) tt) g
 drained_good c h cuts (suc most) now g = go (next_delivery (up now) now.tape) refl (λ j. drained_good c h cuts most (delivered c h cuts now j))
   where
     go : (o : Option ℕ) → next_delivery (up now) now.tape ≡ o → ((j : ℕ) → Good c (delivered c h cuts now j) → Good c (drained c h cuts (delivered c h cuts now j) most))
@@ -398,12 +423,12 @@ event_good c h cuts now (TickEvent node clock) r g =
 event_good c h cuts now (Deliver j) r g =
     let second = (not_because (not (is_sent now.tape j)) 3 _ r).1 in let third = (not_because (is_dropped now.tape j) 4 _ second).1 in
     delivered_good c h cuts now j (message_of now.tape j) refl (not_because (receiver_down now (message_of now.tape j)) 1 None third).0 g
-event_good c h cuts now (Drop j) r g = marked_good c now (Dropped j) (tape_item c now.tape (Dropped j) tt (λ x q. refl) (λ v q. refl)) g
+event_good c h cuts now (Drop j) r g = marked_good c now (Dropped j) (tape_item c now.tape (Dropped j) tt (λ x q. refl) (λ v q. refl) (λ x. refl) tt) g
 event_good c h cuts now (Drain most) r g = drained_good c h cuts most now g
 event_good c h cuts now (CrashEvent node) r g = crashes_good c now node.0 g
 event_good c h cuts now (StartEvent node) r g = fated_start_good c h now node.0 (fate_of c now node.0 true (cuts now.tape)) g
-event_good c h cuts now (FuseEvent node calls image Log) r g = record { lawful = g.lawful; node = g.node; starts = g.starts; fresh = g.fresh; owes = g.owes; owed = g.owed }
-event_good c h cuts now (FuseEvent node calls image Data) r g = record { lawful = g.lawful; node = g.node; starts = g.starts; fresh = g.fresh; owes = g.owes; owed = g.owed }
+event_good c h cuts now (FuseEvent node calls image Log) r g = record { lawful = g.lawful; node = g.node; starts = g.starts; polls = g.polls; fresh = g.fresh; unasked = g.unasked; worn = g.worn; owes = g.owes; owed = g.owed }
+event_good c h cuts now (FuseEvent node calls image Data) r g = record { lawful = g.lawful; node = g.node; starts = g.starts; polls = g.polls; fresh = g.fresh; unasked = g.unasked; worn = g.worn; owes = g.owes; owed = g.owed }
 event_good c h cuts now (BeginEvent node request text) r g =
     let second = (not_because (not (is_node c node.0)) 6 _ r).1 in let third = (not_because (not (up now node.0)) 1 _ second).0 in
     begin_good c h now node.0 request text (cuts now.tape) (not_false (up now node.0) third) g
@@ -421,7 +446,10 @@ nothing_good c = record {
   lawful = tt;
   node = λ v. record { made = λ q. refl; known = λ g n e h. cc; held = tt; rising = tt };
   starts = λ v. omega arith;
+  polls = tt;
   fresh = λ x new q. refl;
+  unasked = λ x new. refl;
+  worn = λ x le. record { moved = λ q. refl; asked = refl };
   owes = λ v. tt;
   owed = λ v h. refl;
 }
@@ -429,6 +457,9 @@ nothing_good c = record {
 opened_good : (c : Cluster) (h : Meanings) (those : List ℕ) (now : Standing) → Good c now → Good c (fold (λ now me. fated_start c h now me Whole) now those)
 opened_good c h [] now g = g
 opened_good c h (me ∷ those) now g = opened_good c h those (fated_start c h now me Whole) (start_good c h now me g)
+
+pub run_polls : (c : Cluster) (first : Meanings) (events : List Happening) (tape : List Item) → IsRun c first events tape → ArePolls tape
+run_polls c first events tape run = subst ArePolls (sym run.tape_is) (run_good c run.cuts events (opening c first) (opened_good c first (nodes c) nothing_yet (nothing_good c))).polls
 
 pub run_lawful : (c : Cluster) (first : Meanings) (events : List Happening) (tape : List Item) → IsRun c first events tape → Lawful c tape
 run_lawful c first events tape run = subst (Lawful c) (sym run.tape_is) (run_good c run.cuts events (opening c first) (opened_good c first (nodes c) nothing_yet (nothing_good c))).lawful

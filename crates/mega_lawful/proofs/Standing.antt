@@ -12,13 +12,14 @@ use Rattle.mega_transcript.specs.declared.item.Item.{Item}
 use Rattle.mega_transcript.specs.declared.item.Item.TheVariants.{Sent}
 use Rattle.mega_promises.specs.Runs.{Standing}
 use Rattle.mega_rules.specs.Met.{Met, Sends, Unsends}
-use Rattle.mega_rules.specs.Clock.{begun_of, is_up, start_of}
+use Rattle.mega_rules.specs.Clock.{begun_of, is_up, last_number, start_of}
 use Rattle.mega_rules.specs.Logs.{decided}
 use Rattle.mega_rules.specs.Operations.{Node}
 use Rattle.mega_rules.specs.Steps.{onto}
 use Rattle.mega_rules.specs.Voting.{act_in, acts as acts_met, prepared, voted}
 use Rattle.mega_laws.specs.Places.{Place, acts, moves}
 use Rattle.mega_laws.specs.Lawful.{Lawful, MayMake, a_prepare, an_accept}
+use Rattle.mega_laws.specs.Polls.{ArePolls, has_asked}
 use Rattle.mega_laws.proofs.Ballots.{number_self}
 use Rattle.mega_lawful.specs.Vouched.{Each, sent}
 use Rattle.mega_lawful.proofs.Sending.{Stood, took_on}
@@ -59,11 +60,22 @@ pub record NodeGood (c : Cluster) (tape : List Item) (me : ℕ) (node : Node) : 
 abbrev pub IsNew : ℕ → List Met → OpId → Type 0
 IsNew starts met x = (starts < x.start) ⊎ ((x.start ≡ start_of met) × (begun_of met < x.number))
 
+-- an operation that neither moved nor asked
+pub record Unmoved (tape : List Item) (x : OpId) : Type 0 where
+  pub moved : (q : Place) → moves tape x q ≡ []
+  pub asked : has_asked tape x ≡ false
+
+pub unmoved_on : (old new : List Item) (x : OpId) → ((q : Place) → moves new x q ≡ moves old x q) → has_asked new x ≡ has_asked old x → Unmoved old x → Unmoved new x
+unmoved_on old new x moved asked h = record { moved = λ q. moved q ∙ h.moved q; asked = asked ∙ h.asked }
+
 pub record Good (c : Cluster) (now : Standing) : Type 0 where
   pub lawful : Lawful c now.tape
   pub node : (me : ℕ) → NodeGood c now.tape me (now.node me)
   pub starts : (me : ℕ) → start_of (now.node me).met ≤ now.starts me
+  pub polls : ArePolls now.tape
   pub fresh : (x : OpId) → IsNew (now.starts x.node.0) (now.node x.node.0).met x → (q : Place) → moves now.tape x q ≡ []
+  pub unasked : (x : OpId) → IsNew (now.starts x.node.0) (now.node x.node.0).met x → has_asked now.tape x ≡ false
+  pub worn : (x : OpId) → last_number ≤ x.number → Unmoved now.tape x
   pub owes : (me : ℕ) → Owes c now.tape me (now.owed me)
   pub owed : (me : ℕ) → is_up (now.node me).met ≡ true → now.owed me ≡ []
 

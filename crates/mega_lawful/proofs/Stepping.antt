@@ -9,19 +9,20 @@ use Rattle.mega_transcript.specs.declared.item.Item.{Item}
 use Rattle.mega_promises.specs.Items.{shown}
 use Rattle.mega_promises.specs.Runs.{Fuse, Standing, set_at, with_items}
 use Rattle.mega_rules.specs.Met.{Met, Sends}
-use Rattle.mega_rules.specs.Clock.{begun_of, is_up, start_of}
+use Rattle.mega_rules.specs.Clock.{begun_of, is_up, last_number, start_of}
 use Rattle.mega_rules.specs.Logs.{decided}
 use Rattle.mega_rules.specs.Operations.{Node, Operation}
 use Rattle.mega_rules.specs.Steps.{onto}
 use Rattle.mega_rules.specs.Voting.{acts as acts_met}
 use Rattle.mega_laws.specs.Places.{Place, acts, moves}
 use Rattle.mega_laws.specs.Lawful.{Lawful}
+use Rattle.mega_laws.specs.Polls.{ArePolls, has_asked}
 use Rattle.mega_laws.proofs.Ballots.{number_is}
 use Rattle.mega_lawful.specs.Vouched.{Each, sent}
 use Rattle.mega_lawful.proofs.Sending.{Stood, stood_sent}
-use Rattle.mega_lawful.proofs.Turns.{Held, IsRising, Known, could, could_not}
+use Rattle.mega_lawful.proofs.Turns.{Held, IsRising, Known, could, could_not, within, worn_could}
 use Rattle.mega_lawful.proofs.Noted.{Follows, Note, TapeOn, notes_follow}
-use Rattle.mega_lawful.proofs.Standing.{FromMe, Good, IsNew, NodeGood, Owes, SentOn, other_good, owes_on, sends_elsewhere, sends_made, sends_on}
+use Rattle.mega_lawful.proofs.Standing.{FromMe, Good, IsNew, NodeGood, Owes, SentOn, Unmoved, other_good, owes_on, sends_elsewhere, sends_made, sends_on, unmoved_on}
 
 -- what one node's part of a run leaves good
 pub record Next (c : Cluster) (now : Standing) (me : ℕ) (tape : List Item) (node : Node) (starts : ℕ → ℕ) (owed : ℕ → List Met) : Type 0 where
@@ -30,7 +31,11 @@ pub record Next (c : Cluster) (now : Standing) (me : ℕ) (tape : List Item) (no
   pub mine : NodeGood c tape me node
   pub made : (v : ℕ) → (me == v) ≡ false → (q : Place) → acts tape v q ≡ acts now.tape v q
   pub moved : (x : OpId) → (me == x.node.0) ≡ false → (q : Place) → moves tape x q ≡ moves now.tape x q
+  pub polls : ArePolls tape
+  pub asked : (x : OpId) → (me == x.node.0) ≡ false → has_asked tape x ≡ has_asked now.tape x
   pub fresh : (x : OpId) → x.node.0 ≡ me → IsNew (starts me) node.met x → (q : Place) → moves tape x q ≡ []
+  pub unasked : (x : OpId) → x.node.0 ≡ me → IsNew (starts me) node.met x → has_asked tape x ≡ false
+  pub worn : (x : OpId) → last_number ≤ x.number → Unmoved tape x
   pub started : start_of node.met ≤ starts me
   pub starts_same : (v : ℕ) → (me == v) ≡ false → starts v ≡ now.starts v
   pub owes : Owes c tape me (owed me)
@@ -46,7 +51,10 @@ next_good c now me tape node log_fuse data_fuse starts records owed g n = record
   lawful = n.lawful;
   node = λ v. node_of v (me == v) refl;
   starts = λ v. starts_of v (me == v) refl;
+  polls = n.polls;
   fresh = λ x new q. fresh_of x q (me == x.node.0) refl new;
+  unasked = λ x new. unasked_of x (me == x.node.0) refl new;
+  worn = n.worn;
   owes = λ v. owes_of v (me == v) refl;
   owed = λ v up. owed_of v (me == v) refl up;
 }
@@ -62,6 +70,10 @@ next_good c now me tape node log_fuse data_fuse starts records owed g n = record
     fresh_of : (x : OpId) (q : Place) (t : Bool) → (me == x.node.0) ≡ t → IsNew (starts x.node.0) (cond t node (now.node x.node.0)).met x → moves tape x q ≡ []
     fresh_of x q true h new = let same = number_is me x.node.0 h in n.fresh x (sym same) (subst (λ w. IsNew (starts w) node.met x) (sym same) new) q
     fresh_of x q false h new = n.moved x h q ∙ g.fresh x (subst (λ k. IsNew k (now.node x.node.0).met x) (n.starts_same x.node.0 h) new) q
+
+    unasked_of : (x : OpId) (t : Bool) → (me == x.node.0) ≡ t → IsNew (starts x.node.0) (cond t node (now.node x.node.0)).met x → has_asked tape x ≡ false
+    unasked_of x true h new = let same = number_is me x.node.0 h in n.unasked x (sym same) (subst (λ w. IsNew (starts w) node.met x) (sym same) new)
+    unasked_of x false h new = n.asked x h ∙ g.unasked x (subst (λ k. IsNew k (now.node x.node.0).met x) (n.starts_same x.node.0 h) new)
 
     owes_of : (v : ℕ) (t : Bool) → (me == v) ≡ t → Owes c tape v (owed v)
     owes_of v true h = subst (λ w. Owes c tape w (owed w)) (number_is me v h) n.owes
@@ -85,20 +97,26 @@ pub record Own (c : Cluster) (tape : List Item) (item : Item) (met : List Met) (
 -- what a step sends behind its notes
 pub record SendsOn (c : Cluster) (me st l : ℕ) (tape : List Item) (met : List Met) (k : ℕ) (sends : List Message) (kept : List Operation) : Type 0 where
   pub lawful : Lawful c (sent k sends tape)
+  pub polls : ArePolls (sent k sends tape)
   pub moved : (x : OpId) → could me st l x ≡ false → (q : Place) → moves (sent k sends tape) x q ≡ moves tape x q
+  pub asked : (x : OpId) → could me st l x ≡ false → has_asked (sent k sends tape) x ≡ has_asked tape x
   pub mine : Each (FromMe me) sends
   pub held : Each (Held c (sent k sends tape) me st l (onto (map Sends sends) met)) kept
   pub rising : IsRising 0 kept
 
+apart : (a b : Bool) → a ≡ false → (a && b) ≡ false
+apart true b h = cc
+apart false b h = refl
+
 elsewhere : (me st l : ℕ) (x : OpId) → (me == x.node.0) ≡ false → could me st l x ≡ false
-elsewhere me st l x h = go (x.node.0 == me) refl
+elsewhere me st l x h = apart (within me st l x) (nat_lt x.number last_number) (go (x.node.0 == me) refl)
   where
     go : (t : Bool) → (x.node.0 == me) ≡ t → ((t && x.start == st) && nat_lt x.number l) ≡ false
     go true e = absurd (false_is me x.node.0 h (sym (number_is x.node.0 me e)))
     go false e = refl
 
 not_started : (me st l : ℕ) (x : OpId) → st < x.start → could me st l x ≡ false
-not_started me st l x less = go (x.start == st) refl (x.node.0 == me)
+not_started me st l x less = apart (within me st l x) (nat_lt x.number last_number) (go (x.start == st) refl (x.node.0 == me))
   where
     go : (t : Bool) → (x.start == st) ≡ t → (u : Bool) → ((u && t) && nat_lt x.number l) ≡ false
     go true e u = absurd (let same = number_is x.start st e in omega (arith, same, less))
@@ -122,7 +140,11 @@ step_next c now me nodes item own notes k sends kept stored tape g up o may s is
   };
   made = λ v apart q. sends_elsewhere me v k sends tape2 apart s.mine q ∙ (follows.tape).made v q ∙ (o.on).made v q;
   moved = λ x apart q. s.moved x (elsewhere me (start_of met) (begun_of met1 + 1) x apart) q ∙ (follows.tape).moved x q ∙ (o.on).moved x q;
+  polls = s.polls;
+  asked = λ x apart. same_asked x (elsewhere me (start_of met) (begun_of met1 + 1) x apart);
   fresh = λ x node new q. fresh x node q new;
+  unasked = λ x node new. unasked x node new;
+  worn = λ x le. unmoved_on now.tape (sent k sends tape2) x (same x (worn_could me (start_of met) (begun_of met1 + 1) x le)) (same_asked x (worn_could me (start_of met) (begun_of met1 + 1) x le)) (g.worn x le);
   started = subst (λ n. n ≤ now.starts me) (sym start3) (g.starts me);
   starts_same = λ v apart. refl;
   owes = subst (Owes c (sent k sends tape2) me) (sym (g.owed me up)) tt;
@@ -168,6 +190,18 @@ step_next c now me nodes item own notes k sends kept stored tape g up o may s is
 
     same : (x : OpId) → could me (start_of met) (begun_of met1 + 1) x ≡ false → (q : Place) → moves (sent k sends tape2) x q ≡ moves now.tape x q
     same x h q = s.moved x h q ∙ (follows.tape).moved x q ∙ (o.on).moved x q
+
+    same_asked : (x : OpId) → could me (start_of met) (begun_of met1 + 1) x ≡ false → has_asked (sent k sends tape2) x ≡ has_asked now.tape x
+    same_asked x h = s.asked x h ∙ (follows.tape).asked x ∙ (o.on).asked x
+
+    unasked_before : (x : OpId) → x.node.0 ≡ me → IsNew (now.starts me) met x → has_asked now.tape x ≡ false
+    unasked_before x node new = g.unasked x (subst (λ w. IsNew (now.starts w) (now.node w).met x) (sym node) new)
+
+    unasked : (x : OpId) → x.node.0 ≡ me → IsNew (now.starts me) met3 x → has_asked (sent k sends tape2) x ≡ false
+    unasked x node (inl later) = same_asked x (not_started me (start_of met) (begun_of met1 + 1) x (let first = g.starts me in omega (arith, first, later))) ∙ unasked_before x node (inl later)
+    unasked x node (inr both) =
+        same_asked x (could_not me (start_of met) (begun_of met1 + 1) x (let n = both.1 in let b = begun3 in omega (arith, n, b)))
+        ∙ unasked_before x node (inr (both.0 ∙ start3, (let n = both.1 in let b = begun3 in let c' = o.begun in omega (arith, n, b, c'))))
 
     fresh : (x : OpId) → x.node.0 ≡ me → (q : Place) → IsNew (now.starts me) met3 x → moves (sent k sends tape2) x q ≡ []
     fresh x node q (inl later) = same x (not_started me (start_of met) (begun_of met1 + 1) x (let first = g.starts me in omega (arith, first, later))) q ∙ before x node (inl later) q

@@ -1,5 +1,5 @@
 -- A node at which an operation begins leaves a good standing; and so does each step that is whole.
-use Rattle.std.proofs.Common.{◌≡◌, inl, inr, ℕ, ◌+◌, ◌-◌, ◌==◌, ◌≤◌, ◌<◌, max, min, nat_le, Bool, true, false, cond, List, [], ◌∷◌, ◌++◌, flat_map, length, Option, Some, None, refl, sym, ap, ◌∙◌, subst, arith}
+use Rattle.std.proofs.Common.{◌≡◌, inl, inr, ℕ, ◌+◌, ◌-◌, ◌==◌, ◌≤◌, ◌<◌, max, min, nat_le, nat_lt, Bool, true, false, cond, List, [], ◌∷◌, ◌++◌, flat_map, length, Option, Some, None, refl, sym, ap, ◌∙◌, subst, arith}
 use Rattle.std.proofs.lemmas.Bool.Decides.{nat_tests}
 use Rattle.mega_base.specs.declared.names.OpId.{OpId}
 use Rattle.mega_cluster.specs.declared.cluster.Cluster.{Cluster}
@@ -21,6 +21,7 @@ use Rattle.mega_rules.specs.Logs.{decided}
 use Rattle.mega_rules.specs.Operations.{Node, Now, Operation, Setting}
 use Rattle.mega_rules.specs.Steps.{begin_step, at_open, new_operation, op_of, refusal, unless_refused, is_worn, unless_missing, missing_kind, Step, apply_notes, at_first, onto}
 use Rattle.mega_laws.specs.Places.{Place, moves}
+use Rattle.mega_laws.specs.Polls.{has_asked}
 use Rattle.mega_laws.proofs.Lists.{some_is}
 use Rattle.mega_lawful.specs.Vouched.{Each, sent}
 use Rattle.mega_lawful.proofs.Sending.{Stood}
@@ -36,8 +37,8 @@ use Rattle.mega_laws.proofs.Ballots.{number_is}
 use Rattle.mega_rules.specs.Steps.{step}
 use Rattle.mega_lawful.proofs.Whole.{StepNext, held_first, none_before, up_onto}
 
-pub own_begin : (c : Cluster) (tape : List Item) (id : OpId) (text : List ℕ) (met : List Met) → Own c tape (Begin id text) met (Begins id text)
-own_begin c tape id text met = record { on = tape_item c tape (Begin id text) tt (λ x q. refl) (λ v q. refl); made = λ g n. refl; decides = λ g n. refl; start = refl; begun = omega arith; up = refl }
+pub own_begin : (c : Cluster) (tape : List Item) (id : OpId) (text : List ℕ) (met : List Met) → has_asked tape id ≡ false → Own c tape (Begin id text) met (Begins id text)
+own_begin c tape id text met unasked = record { on = tape_item c tape (Begin id text) tt (λ x q. refl) (λ v q. refl) (λ x. refl) unasked; made = λ g n. refl; decides = λ g n. refl; start = refl; begun = omega arith; up = refl }
 
 not_worn : (t : Bool) (o : Option Answer) → cond t (Some Worn) o ≡ None → t ≡ false
 not_worn true o h = cc
@@ -48,6 +49,23 @@ less_is a b h = grind (arith, nat_tests)
 
 next_is : (b last : ℕ) → nat_le (last - 1) b ≡ false → min (b + 1) last ≡ b + 1
 next_is b last h = let less = less_is (last - 1) b h in omega (arith, less)
+
+next_named : (b last : ℕ) → min (b + 1) last ≡ b + 1 → nat_le (last - 1) b ≡ false → min (b + 1) last < last
+next_named b last is h = let less = less_is (last - 1) b h in omega (arith, is, less)
+
+next_new : (b last : ℕ) → nat_lt b last ≡ true → b < min (b + 1) last
+next_new b last h = let less : b < last = grind (arith, nat_tests) in omega (arith, less)
+
+next_last : (b last : ℕ) → nat_lt b last ≡ false → last ≤ min (b + 1) last
+next_last b last h = let le : last ≤ b = grind (arith, nat_tests) in omega (arith, le)
+
+-- an operation that begins never asked
+pub never_asked : (s : Setting) (now : Standing) → Good s.cluster now → has_asked now.tape (op_of s (now.node s.me).met) ≡ false
+never_asked s now g = go (nat_lt (begun_of (now.node s.me).met) last_number) refl
+  where
+    go : (t : Bool) → nat_lt (begun_of (now.node s.me).met) last_number ≡ t → has_asked now.tape (op_of s (now.node s.me).met) ≡ false
+    go true h = g.unasked (op_of s (now.node s.me).met) (inr (refl, next_new (begun_of (now.node s.me).met) last_number h))
+    go false h = (g.worn (op_of s (now.node s.me).met) (next_last (begun_of (now.node s.me).met) last_number h)).asked
 
 next_small : (b last : ℕ) → min (b + 1) last ≤ b + 1
 next_small b last = omega arith
@@ -64,8 +82,8 @@ stands_sent (_ ∷ before) j m h = inr (stands_sent before j m h)
 pub begun_next : (s : Setting) (now : Standing) (nodes' : ℕ → Node) (request : Request) (text : List ℕ) → Good s.cluster now → is_up (now.node s.me).met ≡ true
     → StepNext s now nodes' (Begin (op_of s (now.node s.me).met) text) (Begins (op_of s (now.node s.me).met) text) (begin_step s (now.node s.me) request text)
 begun_next s now nodes' request text g up = (
-  step_next c now me nodes' (Begin id text) (Begins id text) notes k acted.sends acted.kept acted.stored _ g up (own_begin c now.tape id text met) all_may
-      (acted_sends s me st l k tape2 (onto notes met1) [] acted ((follows.tape).lawful (tt, g.lawful)) (none_before c me tape2 k) all_done grown) refl (up_onto c tape1 me notes met1 all_may up),
+  step_next c now me nodes' (Begin id text) (Begins id text) notes k acted.sends acted.kept acted.stored _ g up (own_begin c now.tape id text met (never_asked s now g)) all_may
+      (acted_sends s me st l k tape2 (onto notes met1) [] acted ((follows.tape).polls (never_asked s now g, g.polls)) (none_before c me tape2 k) all_done grown) refl (up_onto c tape1 me notes met1 all_may up),
   all_may,
 )
   where
@@ -155,6 +173,7 @@ begun_next s now nodes' request text g up = (
     open_fine = record {
       lawful = (follows.tape).lawful (tt, g.lawful);
       later = λ x h q. refl;
+      asked = λ x h. refl;
       made = λ v q. refl;
       known = known_first;
       quiet = tt;
@@ -167,6 +186,9 @@ begun_next s now nodes' request text g up = (
     numbered_next : refusal s node request ≡ None → id.number ≡ begun_of met + 1
     numbered_next h = next_is (begun_of met) last_number (not_worn (is_worn met) (unless_missing node.open_operations (missing_kind request (kind_of s.cluster s.me))) h)
 
+    named : refusal s node request ≡ None → id.number < last_number
+    named h = next_named (begun_of met) last_number (numbered_next h) (not_worn (is_worn met) (unless_missing node.open_operations (missing_kind request (kind_of s.cluster s.me))) h)
+
     unmoved : refusal s node request ≡ None → (q : Place) → moves tape2 id q ≡ []
     unmoved h q = moved2 id q ∙ g.fresh id (inr (refl, (let is = numbered_next h in omega arith))) q
 
@@ -175,7 +197,7 @@ begun_next s now nodes' request text g up = (
 
     all_done : AllActed s frame l acted
     all_done = most_of (begun_fine s frame (begun_of met + 1) begin o (refusal s node request) open_fine
-        (λ h. (fine_turn c frame (begun_of met + 1) met1 node.open_operations [] id open_fine (let is = numbered_next h in omega arith) refl refl, λ q above. inr (unmoved h q)))
+        (λ h. (fine_turn c frame (begun_of met + 1) met1 node.open_operations [] id open_fine (let is = numbered_next h in omega arith) refl refl (named h), λ q above. inr (unmoved h q)))
         (λ h. let is = numbered_next h in omega arith))
 
 -- ---- steps that are whole

@@ -49,13 +49,13 @@ background_free s met clock = free_if (has_rows s.cluster s.me && does_again s.c
     (each_flat IsFree (fetches_for s met) (λ group. free_if (nat_lt (prefix_of met group) (newest_of met group)) (map (fetch_to s met group) (others s.me (voters s.cluster))) (each_of IsFree (fetch_to s met group) (λ to. tt) (others s.me (voters s.cluster)))) (groups_of met))
 
 pub own_tick : (c : Cluster) (tape : List Item) (me clock : ℕ) (met : List Met) → Own c tape (Tick (number me) clock) met (Ticks clock)
-own_tick c tape me clock met = record { on = tape_item c tape (Tick (number me) clock) tt (λ x q. refl) (λ v q. refl); made = λ g n. refl; decides = λ g n. refl; start = refl; begun = omega arith; up = refl }
+own_tick c tape me clock met = record { on = tape_item c tape (Tick (number me) clock) tt (λ x q. refl) (λ v q. refl) (λ x. refl) tt; made = λ g n. refl; decides = λ g n. refl; start = refl; begun = omega arith; up = refl }
 
 pub ticked_next : (s : Setting) (now : Standing) (nodes' : ℕ → Node) (clock : ℕ) → Good s.cluster now → is_up (now.node s.me).met ≡ true
     → StepNext s now nodes' (Tick (number s.me) clock) (Ticks clock) (tick_step s (now.node s.me) clock)
 ticked_next s now nodes' clock g up = (
   step_next c now me nodes' (Tick (number s.me) clock) (Ticks clock) notes k ((pre ++ acted.sends) ++ background s met clock) acted.kept acted.stored _ g up (own_tick c now.tape me clock met) all_may
-      (behind c me st l k tape2 (onto notes met1) (pre ++ acted.sends) (background s met clock) acted.kept (acted_sends s me st l k tape2 (onto notes met1) pre acted ((follows.tape).lawful (tt, g.lawful)) before all_done grown) (background_free s met clock)) refl (up_onto c tape1 me notes met1 all_may up),
+      (behind c me st l k tape2 (onto notes met1) (pre ++ acted.sends) (background s met clock) acted.kept (acted_sends s me st l k tape2 (onto notes met1) pre acted ((follows.tape).polls (tt, g.polls)) before all_done grown) (background_free s met clock)) refl (up_onto c tape1 me notes met1 all_may up),
   all_may,
 )
   where

@@ -1,5 +1,5 @@
 -- A node that takes a message leaves a good standing.
-use Rattle.std.proofs.Common.{◌≡◌, inl, inr, ℕ, ◌+◌, ◌&&◌, Bool, true, false, not, cond, List, [], ◌∷◌, ◌++◌, map, flat_map, length, Option, Some, None, refl, sym, ap, ◌∙◌, subst, arith}
+use Rattle.std.proofs.Common.{◌≡◌, inl, inr, ℕ, ◌+◌, ◌&&◌, ◌||◌, Bool, true, false, not, cond, List, [], ◌∷◌, ◌++◌, map, flat_map, length, Option, Some, None, refl, sym, ap, ◌∙◌, subst, arith}
 use Rattle.std.specs.List.{cons_option}
 use Rattle.mega_base.specs.declared.names.GroupId.{GroupId}
 use Rattle.mega_base.specs.declared.names.OpId.{OpId}
@@ -24,9 +24,11 @@ use Rattle.mega_rules.specs.Replies.{answer_to, reply_message, reply_to}
 use Rattle.mega_rules.specs.Steps.{Decision, Heard, Step, all_act, apply_notes, at_first, decide_to, decision_note, first_settled, hears_message, if_new, news, onto, stored_after, take_step, taken, told_decision, told_notes}
 use Rattle.mega_laws.specs.Places.{In, Place, Took, moves}
 use Rattle.mega_laws.specs.Lawful.{Lawful, message}
+use Rattle.mega_laws.specs.Polls.{ArePolls, has_asked}
 use Rattle.mega_lawful.specs.Shows.{Shows}
 use Rattle.mega_lawful.specs.Vouched.{Each, sent}
 use Rattle.mega_lawful.proofs.Replied.{Fair, answer_fair}
+use Rattle.mega_lawful.proofs.Told.{Told, answer_told}
 use Rattle.mega_lawful.proofs.Sending.{Stood, stood_sent, took_on}
 use Rattle.mega_lawful.proofs.Opened.{Grew, same_met}
 use Rattle.mega_lawful.proofs.Turns.{Held, Known, each_on, held_on, sent_append}
@@ -78,12 +80,14 @@ in_shown me g n e (one ∷ notes) (inr i) = in_right (Decide (number me) g (reco
 -- ---- replies and news
 
 pub none_before : (c : Cluster) (me : ℕ) (tape : List Item) (k : ℕ) → Before c me tape k []
-none_before c me tape k = record { lawful = λ l. l; moved = λ x q. refl; mine = tt }
+none_before c me tape k = record { lawful = λ l. l; polls = λ p. p; moved = λ x q. refl; asked = λ x. refl; mine = tt }
 
 both_before : (c : Cluster) (me : ℕ) (tape : List Item) (k : ℕ) (xs ys : List Message) → Before c me tape k xs → Before c me (sent k xs tape) (k + length xs) ys → Before c me tape k (xs ++ ys)
 both_before c me tape k xs ys a b = record {
   lawful = λ l. subst (Lawful c) (sym whole) (b.lawful (a.lawful l));
+  polls = λ p. subst ArePolls (sym whole) (b.polls (a.polls p));
   moved = λ x q. ap (λ t. moves t x q) whole ∙ b.moved x q ∙ a.moved x q;
+  asked = λ x. ap (λ t. has_asked t x) whole ∙ b.asked x ∙ a.asked x;
   mine = each_append (FromMe me) xs ys a.mine b.mine;
 }
   where
@@ -91,13 +95,15 @@ both_before c me tape k xs ys a b = record {
     whole = sent_append k xs ys tape
 
 reply_before : (c : Cluster) (tape : List Item) (me : ℕ) (met : List Met) (m : Message) (k : ℕ) → Shows tape me met → Took tape (message m.from me m.body) → Before c me tape k (reply_to c me met m)
-reply_before c tape me met m k s took = go (answer_to c me met m.from m.body) (λ answer h. answer_fair c tape me m.from met s m.body took answer h)
+reply_before c tape me met m k s took = go (answer_to c me met m.from m.body) (λ answer h. (answer_fair c tape me m.from met s m.body took answer h, answer_told c tape me m.from met s m.body took answer h))
   where
-    go : (o : Option Body) → ((answer : Body) → o ≡ Some answer → Fair c tape (message me m.from answer) answer) → Before c me tape k (reply_message me m.from o)
+    go : (o : Option Body) → ((answer : Body) → o ≡ Some answer → Fair c tape (message me m.from answer) answer × Told tape (message me m.from answer) answer) → Before c me tape k (reply_message me m.from o)
     go None h = none_before c me tape k
-    go (Some answer) h = let fair = h answer refl in record {
+    go (Some answer) h = let fair = (h answer refl).0 in let told = (h answer refl).1 in record {
       lawful = λ l. ((fair.0).0, l);
+      polls = λ p. (told.0, p);
       moved = λ x q. ap (λ o. cons_option o (moves tape x q)) (fair.1 x q);
+      asked = λ x. ap (λ t. t || has_asked tape x) (told.1 x);
       mine = (inl refl, tt);
     }
 
@@ -105,7 +111,9 @@ told_before : (c : Cluster) (tape : List Item) (me : ℕ) (d : Decision) (k : �
 told_before c tape me d k [] s = none_before c me tape k
 told_before c tape me d k (one ∷ to) s = let rest = told_before c (Sent k (decide_to me d one) ∷ tape) me d (k + 1) to (inr s) in record {
   lawful = λ l. rest.lawful (s, l);
+  polls = λ p. rest.polls (tt, p);
   moved = λ x q. rest.moved x q;
+  asked = λ x. rest.asked x;
   mine = (inl refl, rest.mine);
 }
 
@@ -131,7 +139,7 @@ up_onto c tape me [] met h up = up
 up_onto c tape me (one ∷ notes) met h up = up_onto c tape me notes (one ∷ met) h.1 (up_one c tape me one met h.0 up)
 
 pub own_taken : (c : Cluster) (tape : List Item) (j : ℕ) (m : Message) (met : List Met) → Own c tape (Taken j) met (Takes m)
-own_taken c tape j m met = record { on = tape_item c tape (Taken j) tt (λ x q. refl) (λ v q. refl); made = λ g n. refl; decides = λ g n. refl; start = refl; begun = omega arith; up = refl }
+own_taken c tape j m met = record { on = tape_item c tape (Taken j) tt (λ x q. refl) (λ v q. refl) (λ x. refl) tt; made = λ g n. refl; decides = λ g n. refl; start = refl; begun = omega arith; up = refl }
 
 pub held_first : (c : Cluster) (old new : List Item) (me : ℕ) (node : Node) → Stood old new → ((x : OpId) (q : Place) → moves new x q ≡ moves old x q) → NodeGood c old me node
     → Each (Held c new me (start_of node.met) (begun_of node.met + 1) node.met) node.open_operations
@@ -146,7 +154,7 @@ pub taken_next : (s : Setting) (now : Standing) (nodes' : ℕ → Node) (j : ℕ
     (reply_to s.cluster s.me (now.node s.me).met m) (news s telling))
 taken_next s now nodes' j m d telling g up stands may same = (
   step_next c now me nodes' (Taken j) (Takes m) notes k ((reply ++ told_news) ++ acted.sends) acted.kept acted.stored _ g up (own_taken c now.tape j m met) all_may
-      (acted_sends s me st l k tape2 (onto notes met1) (reply ++ told_news) acted ((follows.tape).lawful ((own_taken c now.tape j m met).on.lawful g.lawful)) before all_done grown) refl (up_onto c tape1 me notes met1 all_may up),
+      (acted_sends s me st l k tape2 (onto notes met1) (reply ++ told_news) acted ((follows.tape).polls (tt, g.polls)) before all_done grown) refl (up_onto c tape1 me notes met1 all_may up),
   all_may,
 )
   where

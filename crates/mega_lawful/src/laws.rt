@@ -1,19 +1,24 @@
 //! Laws, as contracts of functions that do nothing.
 
-ghost use Rattle.std.specs.Prelude.{◌≡◌, ℕ, List, Some};
+ghost use Rattle.std.specs.Prelude.{◌≡◌, ℕ, ◌≤◌, List, Some};
+ghost use Rattle.mega_base.specs.declared.names.GroupId.{GroupId as Group};
+ghost use Rattle.mega_base.specs.declared.names.NodeId.{NodeId as Node};
 ghost use Rattle.mega_base.specs.declared.names.OpId.{OpId};
+ghost use Rattle.mega_base.specs.declared.names.Position.{Position as Index};
 ghost use Rattle.mega_cluster.specs.declared.cluster.Cluster.{Cluster};
 ghost use Rattle.mega_wire.specs.declared.message.Body.{Body};
 ghost use Rattle.mega_transcript.specs.declared.item.Item.{Item};
+ghost use Rattle.mega_transcript.specs.declared.item.Item.TheVariants.{Begin, Decide};
 ghost use Rattle.mega_propose.specs.Rounds.{Proposal, due, settled, takes};
 ghost use Rattle.mega_entry.specs.declared.content.Content.{Content};
 ghost use Rattle.mega_rules.specs.Met.{Met};
 ghost use Rattle.mega_rules.specs.Replies.{answer_to};
 ghost use Rattle.mega_laws.specs.Places.{Place, Took};
 ghost use Rattle.mega_handler.specs.Named.{Meanings};
-ghost use Rattle.mega_promises.specs.Promises.{Agree};
+ghost use Rattle.mega_promises.specs.Promises.{Agree, StoodBefore};
 ghost use Rattle.mega_promises.specs.Runs.{Happening, IsRun};
 ghost use Rattle.mega_laws.specs.Lawful.{Lawful, MayMake, MaySend, message};
+ghost use Rattle.mega_laws.specs.Polls.{ArePolls, IsPolled};
 ghost use Rattle.mega_lawful.specs.Shows.{Shows};
 ghost use Rattle.mega_lawful.specs.Vouched.{Chosen, Goes, Vouched, here};
 
@@ -40,4 +45,11 @@ pub fn runs_are_lawful()
 /// All decides of one position of a group show one entry, in every run of every cluster (Lamport 2001).
 pub fn runs_agree()
     ensures { (c : Cluster) (first : Meanings) (events : List Happening) (tape : List Item) → IsRun c first events tape → Agree tape }
+{}
+
+/// In every run voters answer polls as the law of polls asks, so a poll of a majority of them sees each position that was decided anywhere
+/// before its operation began, whether leases are safe or not (CIDR 2011, current reads).
+pub fn runs_poll()
+    ensures polls { (c : Cluster) (first : Meanings) (events : List Happening) (tape : List Item) → IsRun c first events tape → ArePolls tape }
+    ensures sees { (c : Cluster) (first : Meanings) (events : List Happening) (tape : List Item) → IsRun c first events tape → (op : OpId) (text : List ℕ) (group : Group) (n p : Index) (node : Node) (entry : Content) → StoodBefore (Decide node group n entry) (Begin op text) tape → IsPolled c tape op group p → n.0 ≤ p.0 }
 {}
