@@ -40,7 +40,7 @@ place_of (Proposes group n asked proposal promised) = Some (at_place group n)
 
 -- a search is at a position that its read needs, at or below the first that its node has not decided
 abbrev pub IsSought : List Met → GroupId → ℕ → ℕ → Type 0
-IsSought met group through position = (position ≤ through) × (position ≤ prefix_of met group + 1)
+IsSought met group through position = (position ≤ through) × (position ≤ prefix_of met group + 1) × (0 < position)
 
 abbrev pub BackedSearch : Cluster → List Item → List Met → OpId → GroupId → ℕ → Option Search → Type 0
 BackedSearch c tape met op group through None = Unit {0}
@@ -85,7 +85,7 @@ vouched_on c old new op p proposal s v = record {
 }
 
 sought_on : (old new : List Met) (g : GroupId) (through n : ℕ) → Grew old new → IsSought old g through n → IsSought new g through n
-sought_on old new g through n grew s = (s.0, (let more = grew g in let less = s.1 in omega arith))
+sought_on old new g through n grew s = (s.0, (let more = grew g in let less = s.1 in omega (arith, more, less)), s.2)
 
 search_on : (c : Cluster) (old new : List Item) (met more : List Met) (op : OpId) (g : GroupId) (through : ℕ) → Beside op old new → Grew met more → (search : Option Search)
     → BackedSearch c old met op g through search → BackedSearch c new more op g through search

@@ -179,7 +179,7 @@ pub seeks_acts : (c : Cluster) (tape : List Item) (met : List Met) (op : OpId) (
     → prefix_of met group + 1 ≤ through → BackedStage c tape met op group (Catching through search) → Idle tape met op (stage_place group (Catching through search))
     → Reads_on c tape met op group (seeks (who c op group) (record { noted = noted; asked = asked; stage = Catching through search }) (prefix_of met group + 1) now)
 seeks_acts c tape met op group noted asked through now None le b idle = fetches_acts c tape met op group (record { noted = noted; asked = asked_by (record { noted = noted; asked = asked; stage = Catching through None }); stage = Catching through None })
-    through (prefix_of met group + 1) now (le, omega arith) (unmoved idle) idle
+    through (prefix_of met group + 1) now (le, omega arith, omega arith) (unmoved idle) idle
   where
     unmoved : Idle tape met op None → moves tape op (at_place group (prefix_of met group + 1)) ≡ []
     unmoved i = elim (i (at_place group (prefix_of met group + 1)) (omega arith)) [ inl e ↦ cc | inr e ↦ e ]
@@ -188,7 +188,7 @@ seeks_acts c tape met op group noted asked through now (Some (Fetching position 
     (fetches (who c op group) (record { noted = noted; asked = asked_by (record { noted = noted; asked = asked; stage = Catching through (Some (Fetching position denials at)) }); stage = Catching through (Some (Fetching position denials at)) }) through (prefix_of met group + 1) now)
     (still c tape met op group (record { noted = noted; asked = asked; stage = Catching through (Some (Fetching position denials at)) }) b idle)
     (λ h. fetches_acts c tape met op group (record { noted = noted; asked = asked_by (record { noted = noted; asked = asked; stage = Catching through (Some (Fetching position denials at)) }); stage = Catching through (Some (Fetching position denials at)) })
-    through (prefix_of met group + 1) now (le, omega arith) (unmoved idle) idle)
+    through (prefix_of met group + 1) now (le, omega arith, omega arith) (unmoved idle) idle)
   where
     unmoved : Idle tape met op None → moves tape op (at_place group (prefix_of met group + 1)) ≡ []
     unmoved i = elim (i (at_place group (prefix_of met group + 1)) (omega arith)) [ inl e ↦ cc | inr e ↦ e ]
@@ -197,7 +197,7 @@ seeks_acts c tape met op group noted asked through now (Some (Filling position p
     (fetches (who c op group) (record { noted = noted; asked = asked_by (record { noted = noted; asked = asked; stage = Catching through (Some (Filling position proposal)) }); stage = Catching through (Some (Filling position proposal)) }) through (prefix_of met group + 1) now)
     (still c tape met op group (record { noted = noted; asked = asked; stage = Catching through (Some (Filling position proposal)) }) b idle)
     (λ h. fetches_acts c tape met op group (record { noted = noted; asked = asked_by (record { noted = noted; asked = asked; stage = Catching through (Some (Filling position proposal)) }); stage = Catching through (Some (Filling position proposal)) })
-    through (prefix_of met group + 1) now (le, omega arith) (unmoved (closed h)) (closed h))
+    through (prefix_of met group + 1) now (le, omega arith, omega arith) (unmoved (closed h)) (closed h))
   where
     unmoved : Idle tape met op None → moves tape op (at_place group (prefix_of met group + 1)) ≡ []
     unmoved i = elim (i (at_place group (prefix_of met group + 1)) (omega arith)) [ inl e ↦ cc | inr e ↦ e ]

@@ -1,6 +1,5 @@
 -- What a node answers to one that polls: no position below those that it accepted.
 use Rattle.std.proofs.Common.{◌≡◌, ◌⊎◌, inl, inr, ℕ, ◌==◌, ◌&&◌, ◌≤◌, max, Bool, true, false, cond, List, [], ◌∷◌, Option, Some, None, refl, sym, subst, arith}
-use Rattle.std.specs.List.{cons_option}
 use Rattle.mega_base.specs.declared.names.GroupId.{GroupId}
 use Rattle.mega_base.specs.declared.names.OpId.{OpId}
 use Rattle.mega_base.specs.declared.names.NodeId.{NodeId}
@@ -16,7 +15,7 @@ use Rattle.mega_wal.specs.declared.answers.Promised.{Promised as PromiseAnswer}
 use Rattle.mega_wal.specs.declared.answers.Promised.TheVariants as promise
 use Rattle.mega_wal.specs.declared.answers.Voted.{Voted as AcceptAnswer}
 use Rattle.mega_wal.specs.declared.answers.Voted.TheVariants as vote
-use Rattle.mega_wal.specs.Acceptor.{Act, Promised, Voted, accept_answer, promise_answer}
+use Rattle.mega_wal.specs.Acceptor.{Promised, Voted, accept_answer, promise_answer}
 use Rattle.mega_wal.specs.Same.{same_group}
 use Rattle.mega_transcript.specs.declared.item.Item.{Item}
 use Rattle.mega_locks.specs.declared.asked.Asked.{Asked}
@@ -27,13 +26,14 @@ use Rattle.mega_rules.specs.Locks.{asked_for, held_answer, held_at, lock_answer}
 use Rattle.mega_rules.specs.Members.{is_cell, is_full, is_voter}
 use Rattle.mega_rules.specs.Replies.{answer_to, fetched}
 use Rattle.mega_rules.specs.Voting.{act_if, act_in, acts, prepared, promise_body, vote_body, voted}
-use Rattle.mega_laws.specs.Places.{In, Place, Took, acts as acts_on}
+use Rattle.mega_laws.specs.Places.{In, Took}
 use Rattle.mega_laws.specs.Lawful.{message}
 use Rattle.mega_laws.specs.Polls.{MayPoll, MayTell, is_asking}
 use Rattle.mega_laws.proofs.Ballots.{number_is}
 use Rattle.mega_laws.proofs.Lists.{from_cons}
 use Rattle.mega_lawful.specs.Shows.{Shows}
 use Rattle.mega_lawful.proofs.Replied.{served}
+use Rattle.mega_lawful.proofs.Owned.{NoAccept}
 
 -- ---- the greatest position that a node accepted
 
@@ -79,21 +79,23 @@ top_most (Unsends m ∷ before) g n b e i = made_most g n m.body before b e (eli
 top_most (Decides h p entry ∷ before) g n b e i = if_most (same_group h g) n p (top_of before g) (top_most before g n b e i)
 top_most (_ ∷ before) g n b e i = top_most before g n b e i
 
--- ---- what is of no poll
+-- ---- what is of no poll, and proposes nothing
 
 abbrev NoPoll : Body → Type 0
 NoPoll (Where op g) = ⊥
 NoPoll (Top op g n) = ⊥
+NoPoll (Accept op g n b e) = ⊥
 NoPoll _ = Unit {0}
 
 -- an answer may be told, and asks nothing
 abbrev pub Told : List Item → Message → Body → Type 0
-Told tape m body = MayPoll tape m body × ((x : OpId) → is_asking x body ≡ false)
+Told tape m body = MayPoll tape m body × ((x : OpId) → is_asking x body ≡ false) × NoAccept body
 
 no_poll : (tape : List Item) (m : Message) (body : Body) → NoPoll body → Told tape m body
 no_poll tape m (Where op g) h = absurd h
 no_poll tape m (Top op g n) h = absurd h
-no_poll tape m _ h = (tt, λ x. refl)
+no_poll tape m (Accept op g n b e) h = absurd h
+no_poll tape m _ h = (tt, λ x. refl, tt)
 
 vote_plain : (op : OpId) (g : GroupId) (n : Position) (b : Ballot) (e : Content) (a : AcceptAnswer) → NoPoll (vote_body op g n b e a)
 vote_plain op g n b e vote.Yes = tt
@@ -136,9 +138,9 @@ answer_told c tape me from met s (Dead op cell node) asked answer h =
 answer_told c tape me from met s (Acquire cell epoch clock) asked answer h =
     served (cell == me && is_cell c me) (lock_answer cell epoch clock (asked_for c me met from epoch)) answer (λ body. Told tape (message me from body) body)
     (no_poll tape (message me from (lock_answer cell epoch clock (asked_for c me met from epoch))) (lock_answer cell epoch clock (asked_for c me met from epoch)) (lock_plain cell epoch clock (asked_for c me met from epoch))) h
-answer_told c tape me from met s (Where op group) asked answer h = served (is_voter c me) _ answer (λ body. Told tape (message me from body) body) (tells, λ x. refl) h
+answer_told c tape me from met s (Where op group) asked answer h = served (is_voter c me) _ answer (λ body. Told tape (message me from body) body) (tells, λ x. refl, tt) h
   where
     tells : MayTell tape from me op group (record { 0 = top_of met group })
     tells = record { asked = asked; most = λ n b e i. top_most met group n.0 b e (subst (In (Voted b e)) (sym (s.made (record { group = group; position = n }))) i) }
-answer_told c tape me from met s (Invalidate op group position) asked answer h = served (is_full c me) _ answer (λ body. Told tape (message me from body) body) (tt, λ x. refl) h
+answer_told c tape me from met s (Invalidate op group position) asked answer h = served (is_full c me) _ answer (λ body. Told tape (message me from body) body) (tt, λ x. refl, tt) h
 answer_told c tape me from met s _ asked answer h = cc

@@ -23,6 +23,8 @@ use Rattle.mega_rules.specs.Logs.{decided}
 use Rattle.mega_rules.specs.Operations.{Operation}
 use Rattle.mega_rules.specs.Voting.{act_in}
 use Rattle.mega_laws.specs.Places.{Move, Place, Prepares, Proposes, acts, is_move_at, move_if, move_in, moves}
+use Rattle.mega_laws.specs.Writes.{AreWritten}
+use Rattle.mega_lawful.proofs.Owned.{Owned, Users, owned_on}
 use Rattle.mega_laws.specs.Lawful.{Lawful}
 use Rattle.mega_laws.specs.Polls.{ArePolls, MayPoll, has_asked, is_asking}
 use Rattle.mega_lawful.specs.Vouched.{Each, sent}
@@ -200,20 +202,22 @@ abbrev pub tape_of : Frame → List Message → List Item
 tape_of f sends = sent f.next sends f.base
 
 -- an operation that stays open
-pub record Held (c : Cluster) (tape : List Item) (me st k : ℕ) (met : List Met) (o : Operation) : Type 0 where
+pub record Held (users : Users) (c : Cluster) (tape : List Item) (me st k : ℕ) (met : List Met) (o : Operation) : Type 0 where
   pub node : (o.id).node.0 ≡ me
   pub start : (o.id).start ≡ st
   pub below : (o.id).number < k
   pub named : (o.id).number < last_number
+  pub owned : users.fits → Owned users.usage tape o
   pub backed : Backed c tape met o.id o.phase
   pub idle : Idle tape met o.id (place_of o.phase)
 
-pub held_on : (c : Cluster) (old new : List Item) (me st k l : ℕ) (met more : List Met) (o : Operation) → Beside o.id old new → Grew met more → k ≤ l → Held c old me st k met o → Held c new me st l more o
-held_on c old new me st k l met more o beside grew le h = record {
+pub held_on : (users : Users) → (c : Cluster) (old new : List Item) (me st k l : ℕ) (met more : List Met) (o : Operation) → Beside o.id old new → Grew met more → k ≤ l → Held users c old me st k met o → Held users c new me st l more o
+held_on users c old new me st k l met more o beside grew le h = record {
   node = h.node;
   start = h.start;
   below = (let less = h.below in omega (arith, less, le));
   named = h.named;
+  owned = λ f. owned_on users.usage old new o beside (h.owned f);
   backed = backed_on c old new met more o.id beside grew o.phase h.backed;
   idle = idle_on old new met more o.id (place_of o.phase) beside grew h.idle;
 }
@@ -223,33 +227,36 @@ abbrev pub Known : ℕ → List Met → List Item → Type 0
 Known me met tape = (g : GroupId) (n : ℕ) (e : Content) → decided met g n ≡ Some e → Stands (Decide (number me) g (record { 0 = n }) e) tape
 
 -- the operations below a number acted
-pub record Fine (c : Cluster) (f : Frame) (k : ℕ) (met : List Met) (kept : List Operation) (sends : List Message) : Type 0 where
+pub record Fine (users : Users) (c : Cluster) (f : Frame) (k : ℕ) (met : List Met) (kept : List Operation) (sends : List Message) : Type 0 where
   pub lawful : Lawful c (tape_of f sends)
+  pub written : users.fits → AreWritten c.schema users.usage (tape_of f sends)
   pub later : (x : OpId) → could f.me f.start k x ≡ false → (q : Place) → moves (tape_of f sends) x q ≡ moves f.base x q
   pub asked : (x : OpId) → could f.me f.start k x ≡ false → has_asked (tape_of f sends) x ≡ has_asked f.base x
   pub made : (voter : ℕ) (q : Place) → acts (tape_of f sends) voter q ≡ acts f.base voter q
   pub known : Known f.me met f.base
   pub quiet : Each (λ (m : Message). NoAct m.body) sends
-  pub held : Each (Held c (tape_of f sends) f.me f.start k met) kept
+  pub held : Each (Held users c (tape_of f sends) f.me f.start k met) kept
   pub rising : IsRising 0 kept
 
 -- one of them acts
-pub record Turn (c : Cluster) (f : Frame) (met : List Met) (kept : List Operation) (sends : List Message) (op : OpId) : Type 0 where
+pub record Turn (users : Users) (c : Cluster) (f : Frame) (met : List Met) (kept : List Operation) (sends : List Message) (op : OpId) : Type 0 where
   pub node : op.node.0 ≡ f.me
   pub start : op.start ≡ f.start
   pub named : op.number < last_number
   pub lawful : Lawful c (tape_of f sends)
+  pub written : users.fits → AreWritten c.schema users.usage (tape_of f sends)
   pub later : (x : OpId) → could f.me f.start (op.number + 1) x ≡ false → (q : Place) → moves (tape_of f sends) x q ≡ moves f.base x q
   pub asked : (x : OpId) → could f.me f.start (op.number + 1) x ≡ false → has_asked (tape_of f sends) x ≡ has_asked f.base x
   pub made : (voter : ℕ) (q : Place) → acts (tape_of f sends) voter q ≡ acts f.base voter q
   pub known : Known f.me met f.base
   pub quiet : Each (λ (m : Message). NoAct m.body) sends
-  pub held : Each (Held c (tape_of f sends) f.me f.start op.number met) kept
+  pub held : Each (Held users c (tape_of f sends) f.me f.start op.number met) kept
   pub rising : IsRising 0 kept
 
 -- and is vouched for
-pub record Ready (c : Cluster) (f : Frame) (met : List Met) (kept : List Operation) (sends : List Message) (o : Operation) : Type 0 where
-  pub turn : Turn c f met kept sends o.id
+pub record Ready (users : Users) (c : Cluster) (f : Frame) (met : List Met) (kept : List Operation) (sends : List Message) (o : Operation) : Type 0 where
+  pub turn : Turn users c f met kept sends o.id
+  pub owned : users.fits → Owned users.usage (tape_of f sends) o
   pub backed : Backed c (tape_of f sends) met o.id o.phase
   pub idle : Idle (tape_of f sends) met o.id (place_of o.phase)
 
@@ -259,82 +266,87 @@ same_tape op tape = record { stood = λ item s. s; moved = λ q. refl }
 one_after : (k n : ℕ) → k ≤ n → k ≤ n + 1
 one_after k n le = omega arith
 
-pub fine_turn : (c : Cluster) (f : Frame) (k : ℕ) (met : List Met) (kept : List Operation) (sends : List Message) (op : OpId) → Fine c f k met kept sends → k ≤ op.number → op.node.0 ≡ f.me → op.start ≡ f.start → op.number < last_number → Turn c f met kept sends op
-fine_turn c f k met kept sends op h le node start named = record {
+pub fine_turn : (users : Users) → (c : Cluster) (f : Frame) (k : ℕ) (met : List Met) (kept : List Operation) (sends : List Message) (op : OpId) → Fine users c f k met kept sends → k ≤ op.number → op.node.0 ≡ f.me → op.start ≡ f.start → op.number < last_number → Turn users c f met kept sends op
+fine_turn users c f k met kept sends op h le node start named = record {
   node = node;
   start = start;
   named = named;
   lawful = h.lawful;
+  written = h.written;
   later = λ x other q. h.later x (could_more f.me f.start k (op.number + 1) x (one_after k op.number le) other) q;
   asked = λ x other. h.asked x (could_more f.me f.start k (op.number + 1) x (one_after k op.number le) other);
   made = h.made;
   known = h.known;
   quiet = h.quiet;
-  held = each_on (Held c (tape_of f sends) f.me f.start k met) (Held c (tape_of f sends) f.me f.start op.number met)
-      (λ o held. held_on c (tape_of f sends) (tape_of f sends) f.me f.start k op.number met met o (same_tape o.id (tape_of f sends)) (same_met met) le held) kept h.held;
+  held = each_on (Held users c (tape_of f sends) f.me f.start k met) (Held users c (tape_of f sends) f.me f.start op.number met)
+      (λ o held. held_on users c (tape_of f sends) (tape_of f sends) f.me f.start k op.number met met o (same_tape o.id (tape_of f sends)) (same_met met) le held) kept h.held;
   rising = h.rising;
 }
 
 -- an operation that ends is kept no more
-pub turn_ends : (c : Cluster) (f : Frame) (met : List Met) (kept : List Operation) (sends : List Message) (op : OpId) → Turn c f met kept sends op → Fine c f (op.number + 1) met kept sends
-turn_ends c f met kept sends op h = record {
+pub turn_ends : (users : Users) → (c : Cluster) (f : Frame) (met : List Met) (kept : List Operation) (sends : List Message) (op : OpId) → Turn users c f met kept sends op → Fine users c f (op.number + 1) met kept sends
+turn_ends users c f met kept sends op h = record {
   lawful = h.lawful;
+  written = h.written;
   later = h.later;
   asked = h.asked;
   made = h.made;
   known = h.known;
   quiet = h.quiet;
-  held = each_on (Held c (tape_of f sends) f.me f.start op.number met) (Held c (tape_of f sends) f.me f.start (op.number + 1) met)
-      (λ o held. held_on c (tape_of f sends) (tape_of f sends) f.me f.start op.number (op.number + 1) met met o (same_tape o.id (tape_of f sends)) (same_met met) (omega arith) held) kept h.held;
+  held = each_on (Held users c (tape_of f sends) f.me f.start op.number met) (Held users c (tape_of f sends) f.me f.start (op.number + 1) met)
+      (λ o held. held_on users c (tape_of f sends) (tape_of f sends) f.me f.start op.number (op.number + 1) met met o (same_tape o.id (tape_of f sends)) (same_met met) (omega arith) held) kept h.held;
   rising = h.rising;
 }
 
-pub ready_keeps : (c : Cluster) (f : Frame) (met : List Met) (kept : List Operation) (sends : List Message) (o : Operation) → Ready c f met kept sends o → Fine c f ((o.id).number + 1) met (kept ++ o ∷ []) sends
-ready_keeps c f met kept sends o h = let ended = turn_ends c f met kept sends o.id h.turn in record {
+pub ready_keeps : (users : Users) → (c : Cluster) (f : Frame) (met : List Met) (kept : List Operation) (sends : List Message) (o : Operation) → Ready users c f met kept sends o → Fine users c f ((o.id).number + 1) met (kept ++ o ∷ []) sends
+ready_keeps users c f met kept sends o h = let ended = turn_ends users c f met kept sends o.id h.turn in record {
   lawful = ended.lawful;
+  written = ended.written;
   later = ended.later;
   asked = ended.asked;
   made = ended.made;
   known = ended.known;
   quiet = ended.quiet;
-  held = each_push (Held c (tape_of f sends) f.me f.start ((o.id).number + 1) met) kept o ended.held
-      (record { node = (h.turn).node; start = (h.turn).start; below = omega arith; named = (h.turn).named; backed = h.backed; idle = h.idle });
+  held = each_push (Held users c (tape_of f sends) f.me f.start ((o.id).number + 1) met) kept o ended.held
+      (record { node = (h.turn).node; start = (h.turn).start; below = omega arith; named = (h.turn).named; owned = h.owned; backed = h.backed; idle = h.idle });
   rising = rising_push 0 (o.id).number kept o (h.turn).rising (omega arith)
-      (each_on (Held c (tape_of f sends) f.me f.start (o.id).number met) (λ (x : Operation). (x.id).number < (o.id).number) (λ x held. held.below) kept (h.turn).held) (omega arith);
+      (each_on (Held users c (tape_of f sends) f.me f.start (o.id).number met) (λ (x : Operation). (x.id).number < (o.id).number) (λ x held. held.below) kept (h.turn).held) (omega arith);
 }
 
 -- what a node meets within the step leaves the turn
-pub turn_met : (c : Cluster) (f : Frame) (met more : List Met) (kept : List Operation) (sends : List Message) (op : OpId) → Grew met more → Known f.me more f.base → Turn c f met kept sends op → Turn c f more kept sends op
-turn_met c f met more kept sends op grew known h = record {
+pub turn_met : (users : Users) → (c : Cluster) (f : Frame) (met more : List Met) (kept : List Operation) (sends : List Message) (op : OpId) → Grew met more → Known f.me more f.base → Turn users c f met kept sends op → Turn users c f more kept sends op
+turn_met users c f met more kept sends op grew known h = record {
   node = h.node;
   start = h.start;
   named = h.named;
   lawful = h.lawful;
+  written = h.written;
   later = h.later;
   asked = h.asked;
   made = h.made;
   known = known;
   quiet = h.quiet;
-  held = each_on (Held c (tape_of f sends) f.me f.start op.number met) (Held c (tape_of f sends) f.me f.start op.number more)
-      (λ o held. held_on c (tape_of f sends) (tape_of f sends) f.me f.start op.number op.number met more o (same_tape o.id (tape_of f sends)) grew (omega arith) held) kept h.held;
+  held = each_on (Held users c (tape_of f sends) f.me f.start op.number met) (Held users c (tape_of f sends) f.me f.start op.number more)
+      (λ o held. held_on users c (tape_of f sends) (tape_of f sends) f.me f.start op.number op.number met more o (same_tape o.id (tape_of f sends)) grew (omega arith) held) kept h.held;
   rising = h.rising;
 }
 
 -- what it sends
-pub turn_sends : (c : Cluster) (f : Frame) (met : List Met) (kept : List Operation) (sends ms : List Message) (op : OpId) → Turn c f met kept sends op → AreOfOp op ms
-    → ((n : ℕ) → Lawful c (tape_of f sends) → Lawful c (sent n ms (tape_of f sends))) → Turn c f met kept (sends ++ ms) op
-turn_sends c f met kept sends ms op h own lawful = record {
+pub turn_sends : (users : Users) → (c : Cluster) (f : Frame) (met : List Met) (kept : List Operation) (sends ms : List Message) (op : OpId) → Turn users c f met kept sends op → AreOfOp op ms
+    → ((n : ℕ) → Lawful c (tape_of f sends) → Lawful c (sent n ms (tape_of f sends))) → (users.fits → (n : ℕ) → AreWritten c.schema users.usage (sent n ms (tape_of f sends))) → Turn users c f met kept (sends ++ ms) op
+turn_sends users c f met kept sends ms op h own lawful written = record {
   node = h.node;
   start = h.start;
   named = h.named;
   lawful = subst (Lawful c) (sym after) (lawful (f.next + length sends) h.lawful);
+  written = λ fits. subst (AreWritten c.schema users.usage) (sym after) (written fits (f.next + length sends));
   later = λ x other q. ap (λ t. moves t x q) after ∙ ops_apart op x q (f.next + length sends) ms (tape_of f sends) (other_name f.me f.start op x h.node h.start h.named other) own ∙ h.later x other q;
   asked = λ x other. ap (λ t. has_asked t x) after ∙ ops_asked op x (f.next + length sends) ms (tape_of f sends) (other_name f.me f.start op x h.node h.start h.named other) own ∙ h.asked x other;
   made = λ voter q. ap (λ t. acts t voter q) after ∙ ops_no_acts op voter q (f.next + length sends) ms (tape_of f sends) own ∙ h.made voter q;
   known = h.known;
   quiet = ops_quiet op sends ms h.quiet own;
-  held = each_on (Held c (tape_of f sends) f.me f.start op.number met) (Held c (tape_of f (sends ++ ms)) f.me f.start op.number met)
-      (λ o held. held_on c (tape_of f sends) (tape_of f (sends ++ ms)) f.me f.start op.number op.number met met o (beside o held.below) (same_met met) (omega arith) held) kept h.held;
+  held = each_on (Held users c (tape_of f sends) f.me f.start op.number met) (Held users c (tape_of f (sends ++ ms)) f.me f.start op.number met)
+      (λ o held. held_on users c (tape_of f sends) (tape_of f (sends ++ ms)) f.me f.start op.number op.number met met o (beside o held.below) (same_met met) (omega arith) held) kept h.held;
   rising = h.rising;
 }
   where
@@ -347,10 +359,12 @@ turn_sends c f met kept sends ms op h own lawful = record {
       moved = λ q. ap (λ t. moves t o.id q) after ∙ ops_apart op o.id q (f.next + length sends) ms (tape_of f sends) (other_number op o.id less) own;
     }
 
-pub ready_sends : (c : Cluster) (f : Frame) (met : List Met) (kept : List Operation) (sends ms : List Message) (o : Operation) → Turn c f met kept sends o.id → Acts c (tape_of f sends) met o.id o.phase ms
-    → Ready c f met kept (sends ++ ms) o
-ready_sends c f met kept sends ms o h acts = record {
-  turn = turn_sends c f met kept sends ms o.id h acts.own acts.lawful;
+pub ready_sends : (users : Users) → (c : Cluster) (f : Frame) (met : List Met) (kept : List Operation) (sends ms : List Message) (o : Operation) → Turn users c f met kept sends o.id → Acts c (tape_of f sends) met o.id o.phase ms
+    → (users.fits → (n : ℕ) → AreWritten c.schema users.usage (sent n ms (tape_of f sends))) → (users.fits → (n : ℕ) → Owned users.usage (sent n ms (tape_of f sends)) o)
+    → Ready users c f met kept (sends ++ ms) o
+ready_sends users c f met kept sends ms o h acts written owned = record {
+  turn = turn_sends users c f met kept sends ms o.id h acts.own acts.lawful written;
+  owned = λ fits. subst (λ t. Owned users.usage t o) (sym after) (owned fits (f.next + length sends));
   backed = subst (λ t. Backed c t met o.id o.phase) (sym after) (acts.backed (f.next + length sends));
   idle = subst (λ t. Idle t met o.id (place_of o.phase)) (sym after) (acts.idle (f.next + length sends));
 }

@@ -20,7 +20,7 @@ use Rattle.mega_laws.proofs.Writing.{lawful, written}
 use Rattle.std.specs.List.{cons_option}
 
 pub writes : LawfulWrites cluster asks_put (newest polled)
-writes = record { lawful = (tt, (tt, (tt, (tt, (tt, (tt, (tt, (tt, (tt, lawful))))))))); written = (tt, (tt, (tt, (tt, (tt, (tt, (tt, (tt, (refl, written))))))))) }
+writes = record { lawful = (tt, (tt, (tt, (tt, (tt, (tt, (tt, (tt, (tt, lawful))))))))); written = (tt, (tt, (tt, (tt, (tt, (tt, (tt, (tt, (λ named. refl, written))))))))) }
 
 -- the one vote is at position 1
 one_vote : (n : Position) (b : Ballot) (e : Content) → In (Voted b e) (cons_option (act_if (1 == n.0) (Voted zero_ballot (entry_of 1))) []) → n.0 ≤ 1
