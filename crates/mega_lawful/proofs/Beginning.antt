@@ -12,23 +12,32 @@ use Rattle.mega_outcome.specs.declared.request.Request.{Request}
 use Rattle.mega_outcome.specs.declared.request.Request.TheVariants.{Txn, Batch as BatchRequest, Read, Find, PumpEnter, PumpHandle, Refresh}
 use Rattle.mega_outcome.specs.declared.request.ReadRequest.{ReadRequest}
 use Rattle.mega_outcome.specs.declared.request.FindRequest.{FindRequest}
-use Rattle.mega_propose.specs.Rounds.{due, takes}
+use Rattle.mega_propose.specs.Rounds.{Move as RoundMove, Proposal, due, takes}
+use Rattle.mega_read.specs.Catching.{Move as ReadMove, falls_due, hears}
+use Rattle.mega_ballot.specs.Order.{zero_ballot}
+use Rattle.mega_cluster.specs.declared.cluster.Cluster.{Cluster}
 use Rattle.mega_coordinator.specs.declared.answers.NotValid.{NotValid}
 use Rattle.mega_rules.specs.Met.{Met, Validates}
 use Rattle.mega_rules.specs.Operations.{Now, Operation, Phase, Proposes, Reads, Setting}
 use Rattle.mega_rules.specs.Acting.{ends, goes_on, sends_more, validated_by}
 use Rattle.mega_rules.specs.Steps.{Heard, acts_in_turn, all_act, begins, does_due, find_begins, hears_message, is_out, last_answer, local_find_begins, read_begins, ticked, unless_refused}
-use Rattle.mega_laws.specs.Places.{Took}
+use Rattle.mega_laws.specs.Places.{In, Place, Proposes as ProposesMove, Took, moves}
+use Rattle.mega_laws.specs.Writes.{AreWritten, Usage, again}
+use Rattle.mega_lawful.specs.Usages.{Brought}
+use Rattle.mega_lawful.proofs.Owned.{Began, Users, began_on, serves_on}
+use Rattle.mega_lawful.proofs.Said.{Speaks, due_speaks, takes_speaks}
+use Rattle.mega_lawful.proofs.Written.{Unproposed, moved_on, said_written}
+use Rattle.mega_lawful.proofs.Wrote.{WroteBy, falls_due_wrote, hears_wrote}
 use Rattle.mega_laws.specs.Lawful.{message}
-use Rattle.mega_lawful.specs.Vouched.{Each, here}
+use Rattle.mega_lawful.specs.Vouched.{Each, here, sent}
 use Rattle.mega_lawful.proofs.Sending.{stood_sent, took_on}
 use Rattle.mega_lawful.proofs.Rounds.{due_goes, takes_goes}
 use Rattle.mega_lawful.proofs.Opened.{Acts, Backed, Beside, Grew, Idle, acts_round, at_place, place_is, place_of}
-use Rattle.mega_lawful.proofs.Reading.{falls_due_acts, hears_acts}
+use Rattle.mega_lawful.proofs.Reading.{falls_due_acts, hears_acts, who}
 use Rattle.mega_lawful.proofs.Turns.{Fine, Frame, Held, IsRising, could_not, fine_turn, held_on, ready_sends, tape_of, turn_ends}
 use Rattle.mega_lawful.proofs.Prefixes.{prefix_more}
 use Rattle.mega_lawful.proofs.Noting.{Lasts, goes_on_it, ticked_it}
-use Rattle.mega_lawful.proofs.Acting.{DoneAt, FreeAt, ReadyAt, TurnAt, begins_read_done, goes_on_done, picks_to_enter_done, picks_to_handle_done}
+use Rattle.mega_lawful.proofs.Acting.{Asks, DoneAt, FreeAt, ReadyAt, TurnAt, turn_context, begins_read_done, goes_on_done, picks_to_enter_done, picks_to_handle_done}
 
 -- ---- what one operation hears, and what is due
 
@@ -64,43 +73,97 @@ same_id_due s now id request began visited posted (Proposes group n asked propos
 
 -- ---- one after another
 
-abbrev pub FineAt : Setting → Frame → ℕ → Now → Type 0
-FineAt s f k now = Fine s.cluster f k now.met now.kept now.sends
+abbrev pub FineAt : Users → Setting → Frame → ℕ → Now → Type 0
+FineAt users s f k now = Fine users s.cluster f k now.met now.kept now.sends
 
 -- an operation that did not act yet is as it was on the tape before
-ready_first : (s : Setting) (f : Frame) (k l : ℕ) (now : Now) (met : List Met) (o : Operation) → FineAt s f k now → k ≤ (o.id).number → Grew met now.met → Held s.cluster f.base f.me f.start l met o → ReadyAt s f now o
-ready_first s f k l now met o fine le grew h =
-    let on = held_on s.cluster f.base (tape_of f now.sends) f.me f.start l l met now.met o beside grew (omega arith) h in
-    record { turn = fine_turn s.cluster f k now.met now.kept now.sends o.id fine le h.node h.start; backed = on.backed; idle = on.idle }
+ready_first : (users : Users) → (s : Setting) → (users.fits → Brought users.usage s.handlers) → (f : Frame) (k l : ℕ) (now : Now) (met : List Met) (o : Operation) → FineAt users s f k now → k ≤ (o.id).number → Grew met now.met → Held users s.cluster f.base f.me f.start l met o → ReadyAt users s f now o
+ready_first users s brought f k l now met o fine le grew h =
+    let on = held_on users s.cluster f.base (tape_of f now.sends) f.me f.start l l met now.met o beside grew (omega arith) h in
+    record { turn = fine_turn users s.cluster f k now.met now.kept now.sends o.id fine le h.node h.start h.named; owned = on.owned; backed = on.backed; idle = on.idle }
   where
     beside : Beside o.id f.base (tape_of f now.sends)
     beside = record { stood = stood_sent f.next now.sends f.base; moved = λ q. fine.later o.id (could_not f.me f.start k o.id le) q }
 
-hears_ready : (s : Setting) (f : Frame) (now : Now) (clock : ℕ) (m : Message) (id : OpId) (request : Request) (began : ℕ) (visited : List GroupId) (posted : Option Enter) (phase : Phase)
-    → ReadyAt s f now (record { id = id; request = request; began = began; visited = visited; message = posted; phase = phase }) → Took f.base (message m.from id.node.0 m.body)
-    → ReadyAt s f (sends_more now (hears_message s clock m (record { id = id; request = request; began = began; visited = visited; message = posted; phase = phase })).sends)
-    (hears_message s clock m (record { id = id; request = request; began = began; visited = visited; message = posted; phase = phase })).operation
-hears_ready s f now clock m id request began visited posted (Reads group r) h took =
-    ready_sends s.cluster f now.met now.kept now.sends _ _ h.turn (hears_message_acts s (tape_of f now.sends) now.met clock m id request began visited posted (Reads group r) h.backed h.idle
-    (took_on f.base (tape_of f now.sends) (stood_sent f.next now.sends f.base) _ took))
-hears_ready s f now clock m id request began visited posted (Proposes group n asked proposal promised) h took =
-    ready_sends s.cluster f now.met now.kept now.sends _ _ h.turn (hears_message_acts s (tape_of f now.sends) now.met clock m id request began visited posted (Proposes group n asked proposal promised) h.backed h.idle
-    (took_on f.base (tape_of f now.sends) (stood_sent f.next now.sends f.base) _ took))
+-- what an operation sends that proposes is written, and it proposed its own entry
+proposing_written : (users : Users) → (c : Cluster) (tape : List Item) (id : OpId) (p : Place) (proposal : Proposal) (t : RoundMove) → Speaks tape id p proposal.own t → In (ProposesMove zero_ballot proposal.own) (moves tape id p)
+    → AreWritten c.schema users.usage tape → (n : ℕ) → AreWritten c.schema users.usage (sent n t.sends tape)
+proposing_written users c tape id p proposal t s i w n = said_written c.schema users.usage tape id p proposal.own n t.sends s.says s.of (again id zero_ballot i) w
 
-due_ready : (s : Setting) (f : Frame) (now : Now) (clock : ℕ) (id : OpId) (request : Request) (began : ℕ) (visited : List GroupId) (posted : Option Enter) (phase : Phase)
-    → ReadyAt s f now (record { id = id; request = request; began = began; visited = visited; message = posted; phase = phase })
-    → ReadyAt s f (sends_more now (does_due s clock (record { id = id; request = request; began = began; visited = visited; message = posted; phase = phase })).sends)
+proposing_mine : (tape : List Item) (id : OpId) (p : Place) (proposal : Proposal) (t : RoundMove) → Speaks tape id p proposal.own t → In (ProposesMove zero_ballot proposal.own) (moves tape id p)
+    → (n : ℕ) → In (ProposesMove zero_ballot (t.proposal).own) (moves (sent n t.sends tape) id p)
+proposing_mine tape id p proposal t s i n = subst (λ e. In (ProposesMove zero_ballot e) (moves (sent n t.sends tape) id p)) (sym s.own) (moved_on n t.sends tape id p (ProposesMove zero_ballot proposal.own) i)
+
+hears_ready : (users : Users) → (s : Setting) → (users.fits → Brought users.usage s.handlers) → (f : Frame) (now : Now) (clock : ℕ) (m : Message) (id : OpId) (request : Request) (began : ℕ) (visited : List GroupId) (posted : Option Enter) (phase : Phase)
+    → ReadyAt users s f now (record { id = id; request = request; began = began; visited = visited; message = posted; phase = phase }) → Took f.base (message m.from id.node.0 m.body)
+    → ReadyAt users s f (sends_more now (hears_message s clock m (record { id = id; request = request; began = began; visited = visited; message = posted; phase = phase })).sends)
+    (hears_message s clock m (record { id = id; request = request; began = began; visited = visited; message = posted; phase = phase })).operation
+hears_ready users s brought f now clock m id request began visited posted (Reads group r) h took =
+    ready_sends users s.cluster f now.met now.kept now.sends _ _ h.turn (hears_message_acts s (tape_of f now.sends) now.met clock m id request began visited posted (Reads group r) h.backed h.idle
+    (took_on f.base (tape_of f now.sends) (stood_sent f.next now.sends f.base) _ took))
+    (λ fits n. (wrote fits).written n)
+    (λ fits n. record {
+      began = began_on users.usage (tape_of f now.sends) (sent n t.sends (tape_of f now.sends)) id request (stood_sent n t.sends (tape_of f now.sends)) (h.owned fits).began;
+      mine = record { none = (wrote fits).none n; plain = (wrote fits).plain; serves = serves_on (tape_of f now.sends) (sent n t.sends (tape_of f now.sends)) id request posted group (stood_sent n t.sends (tape_of f now.sends)) ((h.owned fits).mine).serves };
+    })
+  where
+    t : ReadMove
+    t = hears (who s.cluster id group) r m.from clock m.body
+
+    wrote : users.fits → WroteBy s.cluster users.usage (tape_of f now.sends) id t
+    wrote fits = hears_wrote s.cluster users.usage (tape_of f now.sends) now.met id group r m.from clock m.body (turn_context users s.cluster f now.met now.kept now.sends id h.turn fits ((h.owned fits).mine).none) h.backed ((h.owned fits).mine).plain
+        (took_on f.base (tape_of f now.sends) (stood_sent f.next now.sends f.base) _ took)
+hears_ready users s brought f now clock m id request began visited posted (Proposes group n asked proposal promised) h took =
+    ready_sends users s.cluster f now.met now.kept now.sends _ _ h.turn (hears_message_acts s (tape_of f now.sends) now.met clock m id request began visited posted (Proposes group n asked proposal promised) h.backed h.idle
+    (took_on f.base (tape_of f now.sends) (stood_sent f.next now.sends f.base) _ took))
+    (λ fits k. proposing_written users s.cluster (tape_of f now.sends) id (at_place group n) proposal t speaks (h.owned fits).mine ((h.turn).written fits) k)
+    (λ fits k. record {
+      began = began_on users.usage (tape_of f now.sends) (sent k t.sends (tape_of f now.sends)) id request (stood_sent k t.sends (tape_of f now.sends)) (h.owned fits).began;
+      mine = proposing_mine (tape_of f now.sends) id (at_place group n) proposal t speaks (h.owned fits).mine k;
+    })
+  where
+    t : RoundMove
+    t = takes (here s.cluster id (at_place group n) asked) proposal m.from clock m.body
+
+    speaks : Speaks (tape_of f now.sends) id (at_place group n) proposal.own t
+    speaks = takes_speaks s.cluster (tape_of f now.sends) (h.turn).lawful id (at_place group n) asked proposal m.from clock m.body h.backed (took_on f.base (tape_of f now.sends) (stood_sent f.next now.sends f.base) _ took)
+
+due_ready : (users : Users) → (s : Setting) → (users.fits → Brought users.usage s.handlers) → (f : Frame) (now : Now) (clock : ℕ) (id : OpId) (request : Request) (began : ℕ) (visited : List GroupId) (posted : Option Enter) (phase : Phase)
+    → ReadyAt users s f now (record { id = id; request = request; began = began; visited = visited; message = posted; phase = phase })
+    → ReadyAt users s f (sends_more now (does_due s clock (record { id = id; request = request; began = began; visited = visited; message = posted; phase = phase })).sends)
     (does_due s clock (record { id = id; request = request; began = began; visited = visited; message = posted; phase = phase })).operation
-due_ready s f now clock id request began visited posted (Reads group r) h =
-    ready_sends s.cluster f now.met now.kept now.sends _ _ h.turn (does_due_acts s (tape_of f now.sends) now.met clock id request began visited posted (Reads group r) h.backed h.idle)
-due_ready s f now clock id request began visited posted (Proposes group n asked proposal promised) h =
-    ready_sends s.cluster f now.met now.kept now.sends _ _ h.turn (does_due_acts s (tape_of f now.sends) now.met clock id request began visited posted (Proposes group n asked proposal promised) h.backed h.idle)
+due_ready users s brought f now clock id request began visited posted (Reads group r) h =
+    ready_sends users s.cluster f now.met now.kept now.sends _ _ h.turn (does_due_acts s (tape_of f now.sends) now.met clock id request began visited posted (Reads group r) h.backed h.idle)
+    (λ fits n. (wrote fits).written n)
+    (λ fits n. record {
+      began = began_on users.usage (tape_of f now.sends) (sent n t.sends (tape_of f now.sends)) id request (stood_sent n t.sends (tape_of f now.sends)) (h.owned fits).began;
+      mine = record { none = (wrote fits).none n; plain = (wrote fits).plain; serves = serves_on (tape_of f now.sends) (sent n t.sends (tape_of f now.sends)) id request posted group (stood_sent n t.sends (tape_of f now.sends)) ((h.owned fits).mine).serves };
+    })
+  where
+    t : ReadMove
+    t = falls_due (who s.cluster id group) r s.cluster.retry clock
+
+    wrote : users.fits → WroteBy s.cluster users.usage (tape_of f now.sends) id t
+    wrote fits = falls_due_wrote s.cluster users.usage (tape_of f now.sends) now.met id group r s.cluster.retry clock (turn_context users s.cluster f now.met now.kept now.sends id h.turn fits ((h.owned fits).mine).none) h.backed ((h.owned fits).mine).plain
+due_ready users s brought f now clock id request began visited posted (Proposes group n asked proposal promised) h =
+    ready_sends users s.cluster f now.met now.kept now.sends _ _ h.turn (does_due_acts s (tape_of f now.sends) now.met clock id request began visited posted (Proposes group n asked proposal promised) h.backed h.idle)
+    (λ fits k. proposing_written users s.cluster (tape_of f now.sends) id (at_place group n) proposal t speaks (h.owned fits).mine ((h.turn).written fits) k)
+    (λ fits k. record {
+      began = began_on users.usage (tape_of f now.sends) (sent k t.sends (tape_of f now.sends)) id request (stood_sent k t.sends (tape_of f now.sends)) (h.owned fits).began;
+      mine = proposing_mine (tape_of f now.sends) id (at_place group n) proposal t speaks (h.owned fits).mine k;
+    })
+  where
+    t : RoundMove
+    t = due (here s.cluster id (at_place group n) asked) proposal s.cluster.retry clock
+
+    speaks : Speaks (tape_of f now.sends) id (at_place group n) proposal.own t
+    speaks = due_speaks s.cluster (tape_of f now.sends) id (at_place group n) asked proposal s.cluster.retry clock
 
 -- all of them acted
-pub record AllActed (s : Setting) (f : Frame) (l : ℕ) (now : Now) : Type 0 where
+pub record AllActed (users : Users) (s : Setting) (f : Frame) (l : ℕ) (now : Now) : Type 0 where
   pub k : ℕ
   pub most : k ≤ l
-  pub fine : Fine s.cluster f k now.met now.kept now.sends
+  pub fine : Fine users s.cluster f k now.met now.kept now.sends
 
 grew_lasts : (met : List Met) → Lasts (λ (now : Now). Grew met now.met)
 grew_lasts met = record {
@@ -115,46 +178,46 @@ grew_lasts met = record {
     validated now group p (Some why) h = h
     validated now group p None h = λ g. let less = h g in let more = prefix_more (Validates group p) now.met g in omega (arith, less, more)
 
-pub all_act_fine : (s : Setting) (f : Frame) (met : List Met) (clock : ℕ) (m : Message) (l : ℕ) (os : List Operation) (now : Now) (k least : ℕ) → FineAt s f k now → k ≤ least → k ≤ l → IsRising least os
-    → Each (Held s.cluster f.base f.me f.start l met) os → Grew met now.met → Took f.base (message m.from f.me m.body) → AllActed s f l (all_act s now (map (hears_message s clock m) os))
-all_act_fine s f met clock m l [] now k least fine le most r h grew took = record { k = k; most = most; fine = fine }
-all_act_fine s f met clock m l (o ∷ os) now k least fine le most r h grew took =
-    all_act_fine s f met clock m l os (acts_in_turn s now t) ((o.id).number + 1) ((o.id).number + 1) acted (omega arith) (let below = (h.0).below in omega arith) r.1 h.1 grown took
+pub all_act_fine : (users : Users) → (s : Setting) → (users.fits → Brought users.usage s.handlers) → (f : Frame) (met : List Met) (clock : ℕ) (m : Message) (l : ℕ) (os : List Operation) (now : Now) (k least : ℕ) → FineAt users s f k now → k ≤ least → k ≤ l → IsRising least os
+    → Each (Held users s.cluster f.base f.me f.start l met) os → Grew met now.met → Took f.base (message m.from f.me m.body) → AllActed users s f l (all_act s now (map (hears_message s clock m) os))
+all_act_fine users s brought f met clock m l [] now k least fine le most r h grew took = record { k = k; most = most; fine = fine }
+all_act_fine users s brought f met clock m l (o ∷ os) now k least fine le most r h grew took =
+    all_act_fine users s brought f met clock m l os (acts_in_turn s now t) ((o.id).number + 1) ((o.id).number + 1) acted (omega arith) (let below = (h.0).below in omega arith) r.1 h.1 grown took
   where
     t : Heard
     t = hears_message s clock m o
 
-    ready : ReadyAt s f (sends_more now t.sends) t.operation
-    ready = hears_ready s f now clock m o.id o.request o.began o.visited o.message o.phase (ready_first s f k l now met o fine (let first = r.0 in omega arith) grew h.0)
+    ready : ReadyAt users s f (sends_more now t.sends) t.operation
+    ready = hears_ready users s brought f now clock m o.id o.request o.began o.visited o.message o.phase (ready_first users s brought f k l now met o fine (let first = r.0 in omega arith) grew h.0)
         (subst (λ node. Took f.base (message m.from node m.body)) (sym (h.0).node) took)
 
-    acted : FineAt s f ((o.id).number + 1) (acts_in_turn s now t)
-    acted = subst (λ (x : OpId). FineAt s f (x.number + 1) (acts_in_turn s now t)) (same_id_heard s clock m o.id o.request o.began o.visited o.message o.phase) (goes_on_done s f (sends_more now t.sends) t.operation ready)
+    acted : FineAt users s f ((o.id).number + 1) (acts_in_turn s now t)
+    acted = subst (λ (x : OpId). FineAt users s f (x.number + 1) (acts_in_turn s now t)) (same_id_heard s clock m o.id o.request o.began o.visited o.message o.phase) (goes_on_done users s brought f (sends_more now t.sends) t.operation ready)
 
     grown : Grew met (acts_in_turn s now t).met
     grown = goes_on_it (λ (x : Now). Grew met x.met) (grew_lasts met) s (sends_more now t.sends) t.operation grew
 
-pub ticked_fine : (s : Setting) (f : Frame) (met : List Met) (clock : ℕ) (l : ℕ) (os : List Operation) (now : Now) (k least : ℕ) → FineAt s f k now → k ≤ least → k ≤ l → IsRising least os
-    → Each (Held s.cluster f.base f.me f.start l met) os → Grew met now.met → AllActed s f l (fold (ticked s clock) now os)
-ticked_fine s f met clock l [] now k least fine le most r h grew = record { k = k; most = most; fine = fine }
-ticked_fine s f met clock l (o ∷ os) now k least fine le most r h grew =
-    ticked_fine s f met clock l os (ticked s clock now o) ((o.id).number + 1) ((o.id).number + 1) acted (omega arith) (let below = (h.0).below in omega arith) r.1 h.1 grown
+pub ticked_fine : (users : Users) → (s : Setting) → (users.fits → Brought users.usage s.handlers) → (f : Frame) (met : List Met) (clock : ℕ) (l : ℕ) (os : List Operation) (now : Now) (k least : ℕ) → FineAt users s f k now → k ≤ least → k ≤ l → IsRising least os
+    → Each (Held users s.cluster f.base f.me f.start l met) os → Grew met now.met → AllActed users s f l (fold (ticked s clock) now os)
+ticked_fine users s brought f met clock l [] now k least fine le most r h grew = record { k = k; most = most; fine = fine }
+ticked_fine users s brought f met clock l (o ∷ os) now k least fine le most r h grew =
+    ticked_fine users s brought f met clock l os (ticked s clock now o) ((o.id).number + 1) ((o.id).number + 1) acted (omega arith) (let below = (h.0).below in omega arith) r.1 h.1 grown
   where
     t : Heard
     t = does_due s clock o
 
-    first : ReadyAt s f now o
-    first = ready_first s f k l now met o fine (let start = r.0 in omega arith) grew h.0
+    first : ReadyAt users s f now o
+    first = ready_first users s brought f k l now met o fine (let start = r.0 in omega arith) grew h.0
 
-    acted : FineAt s f ((o.id).number + 1) (ticked s clock now o)
+    acted : FineAt users s f ((o.id).number + 1) (ticked s clock now o)
     acted = go (is_out s clock o)
       where
-        going : FineAt s f ((o.id).number + 1) (acts_in_turn s now t)
-        going = subst (λ (x : OpId). FineAt s f (x.number + 1) (acts_in_turn s now t)) (same_id_due s clock o.id o.request o.began o.visited o.message o.phase)
-            (goes_on_done s f (sends_more now t.sends) t.operation (due_ready s f now clock o.id o.request o.began o.visited o.message o.phase first))
+        going : FineAt users s f ((o.id).number + 1) (acts_in_turn s now t)
+        going = subst (λ (x : OpId). FineAt users s f (x.number + 1) (acts_in_turn s now t)) (same_id_due s clock o.id o.request o.began o.visited o.message o.phase)
+            (goes_on_done users s brought f (sends_more now t.sends) t.operation (due_ready users s brought f now clock o.id o.request o.began o.visited o.message o.phase first))
 
-        go : (b : Bool) → FineAt s f ((o.id).number + 1) (cond b (ends now o.id (last_answer o)) (acts_in_turn s now t))
-        go true = turn_ends s.cluster f now.met now.kept now.sends o.id first.turn
+        go : (b : Bool) → FineAt users s f ((o.id).number + 1) (cond b (ends now o.id (last_answer o)) (acts_in_turn s now t))
+        go true = turn_ends users s.cluster f now.met now.kept now.sends o.id first.turn
         go false = going
 
     grown : Grew met (ticked s clock now o).met
@@ -162,31 +225,36 @@ ticked_fine s f met clock l (o ∷ os) now k least fine le most r h grew =
 
 -- ---- an operation that begins
 
-read_begins_done : (s : Setting) (f : Frame) (now : Now) (o : Operation) (request : ReadRequest) (mode : Mode) → TurnAt s f now o.id → FreeAt f now o.id → DoneAt s f o (read_begins s now o request mode)
-read_begins_done s f now o request Current h free = begins_read_done s f (goes_on s) now o request.group None [] (goes_on_done s f) h free
-read_begins_done s f now o request Snapshot h free = turn_ends s.cluster f now.met now.kept now.sends o.id h
-read_begins_done s f now o request Inconsistent h free = turn_ends s.cluster f now.met now.kept now.sends o.id h
+-- it began with its request, and proposed nothing
+pub record Starting (usage : Usage) (tape : List Item) (id : OpId) (request : Request) : Type 0 where
+  pub began : Began usage tape id request
+  pub none : Unproposed tape id
 
-local_find_done : (s : Setting) (f : Frame) (now : Now) (o : Operation) (request : FindRequest) (group : GroupId) (mode : Mode) → TurnAt s f now o.id → FreeAt f now o.id → DoneAt s f o (local_find_begins s now o request group mode)
-local_find_done s f now o request group Current h free = begins_read_done s f (goes_on s) now o group None [] (goes_on_done s f) h free
-local_find_done s f now o request group Snapshot h free = turn_ends s.cluster f now.met now.kept now.sends o.id h
-local_find_done s f now o request group Inconsistent h free = turn_ends s.cluster f now.met now.kept now.sends o.id h
+read_begins_done : (users : Users) → (s : Setting) → (users.fits → Brought users.usage s.handlers) → (f : Frame) (now : Now) (o : Operation) (request : ReadRequest) (mode : Mode) → TurnAt users s f now o.id → FreeAt f now o.id → (users.fits → Asks users.usage (tape_of f now.sends) o None request.group) → DoneAt users s f o (read_begins s now o request mode)
+read_begins_done users s brought f now o request Current h free asks = begins_read_done users s brought f (goes_on s) now o request.group None [] (goes_on_done users s brought f) h free asks
+read_begins_done users s brought f now o request Snapshot h free asks = turn_ends users s.cluster f now.met now.kept now.sends o.id h
+read_begins_done users s brought f now o request Inconsistent h free asks = turn_ends users s.cluster f now.met now.kept now.sends o.id h
 
-find_begins_done : (s : Setting) (f : Frame) (now : Now) (o : Operation) (request : FindRequest) (group : Option GroupId) → TurnAt s f now o.id → FreeAt f now o.id → DoneAt s f o (find_begins s now o request group)
-find_begins_done s f now o request None h free = turn_ends s.cluster f now.met now.kept now.sends o.id h
-find_begins_done s f now o request (Some group) h free = local_find_done s f now o request group request.mode h free
+local_find_done : (users : Users) → (s : Setting) → (users.fits → Brought users.usage s.handlers) → (f : Frame) (now : Now) (o : Operation) (request : FindRequest) (group : GroupId) (mode : Mode) → TurnAt users s f now o.id → FreeAt f now o.id → (users.fits → Asks users.usage (tape_of f now.sends) o None group) → DoneAt users s f o (local_find_begins s now o request group mode)
+local_find_done users s brought f now o request group Current h free asks = begins_read_done users s brought f (goes_on s) now o group None [] (goes_on_done users s brought f) h free asks
+local_find_done users s brought f now o request group Snapshot h free asks = turn_ends users s.cluster f now.met now.kept now.sends o.id h
+local_find_done users s brought f now o request group Inconsistent h free asks = turn_ends users s.cluster f now.met now.kept now.sends o.id h
 
-begins_done : (s : Setting) (f : Frame) (now : Now) (id : OpId) (request : Request) (began : ℕ) (visited : List GroupId) (posted : Option Enter) (phase : Phase)
-    → TurnAt s f now id → FreeAt f now id → DoneAt s f (record { id = id; request = request; began = began; visited = visited; message = posted; phase = phase }) (begins s now (record { id = id; request = request; began = began; visited = visited; message = posted; phase = phase }))
-begins_done s f now id (Txn transaction) began visited posted phase h free = begins_read_done s f (goes_on s) now (record { id = id; request = Txn transaction; began = began; visited = visited; message = posted; phase = phase }) transaction.group None [] (goes_on_done s f) h free
-begins_done s f now id (BatchRequest group transactions) began visited posted phase h free = begins_read_done s f (goes_on s) now (record { id = id; request = BatchRequest group transactions; began = began; visited = visited; message = posted; phase = phase }) group None [] (goes_on_done s f) h free
-begins_done s f now id (Read request) began visited posted phase h free = read_begins_done s f now (record { id = id; request = Read request; began = began; visited = visited; message = posted; phase = phase }) request request.mode h free
-begins_done s f now id (Find request) began visited posted phase h free = find_begins_done s f now (record { id = id; request = Find request; began = began; visited = visited; message = posted; phase = phase }) request request.group h free
-begins_done s f now id PumpEnter began visited posted phase h free = picks_to_enter_done s f (goes_on s) now (record { id = id; request = PumpEnter; began = began; visited = visited; message = posted; phase = phase }) [] (goes_on_done s f) h free
-begins_done s f now id PumpHandle began visited posted phase h free = picks_to_handle_done s f (goes_on s) now (record { id = id; request = PumpHandle; began = began; visited = visited; message = posted; phase = phase }) [] (goes_on_done s f) h free
-begins_done s f now id Refresh began visited posted phase h free = turn_ends s.cluster f now.met now.kept now.sends id h
+find_begins_done : (users : Users) → (s : Setting) → (users.fits → Brought users.usage s.handlers) → (f : Frame) (now : Now) (o : Operation) (request : FindRequest) (group : Option GroupId) → TurnAt users s f now o.id → FreeAt f now o.id → (users.fits → (group : GroupId) → Asks users.usage (tape_of f now.sends) o None group) → DoneAt users s f o (find_begins s now o request group)
+find_begins_done users s brought f now o request None h free asks = turn_ends users s.cluster f now.met now.kept now.sends o.id h
+find_begins_done users s brought f now o request (Some group) h free asks = local_find_done users s brought f now o request group request.mode h free (λ fits. asks fits group)
 
-pub begun_fine : (s : Setting) (f : Frame) (k : ℕ) (now : Now) (o : Operation) (refusal : Option Answer) → FineAt s f k now → (refusal ≡ None → TurnAt s f now o.id × FreeAt f now o.id) → (refusal ≡ None → k ≤ (o.id).number)
-    → AllActed s f (max k ((o.id).number + 1)) (unless_refused s now o refusal)
-begun_fine s f k now o (Some answer) fine h le = record { k = k; most = omega arith; fine = record { lawful = fine.lawful; later = fine.later; made = fine.made; known = fine.known; quiet = fine.quiet; held = fine.held; rising = fine.rising } }
-begun_fine s f k now o None fine h le = record { k = (o.id).number + 1; most = omega arith; fine = begins_done s f now o.id o.request o.began o.visited o.message o.phase (h refl).0 (h refl).1 }
+begins_done : (users : Users) → (s : Setting) → (users.fits → Brought users.usage s.handlers) → (f : Frame) (now : Now) (id : OpId) (request : Request) (began : ℕ) (visited : List GroupId) (posted : Option Enter) (phase : Phase)
+    → TurnAt users s f now id → FreeAt f now id → (users.fits → Starting users.usage (tape_of f now.sends) id request) → DoneAt users s f (record { id = id; request = request; began = began; visited = visited; message = posted; phase = phase }) (begins s now (record { id = id; request = request; began = began; visited = visited; message = posted; phase = phase }))
+begins_done users s brought f now id (Txn transaction) began visited posted phase h free st = begins_read_done users s brought f (goes_on s) now (record { id = id; request = Txn transaction; began = began; visited = visited; message = posted; phase = phase }) transaction.group None [] (goes_on_done users s brought f) h free (λ fits. record { began = (st fits).began; none = (st fits).none; serves = refl })
+begins_done users s brought f now id (BatchRequest group transactions) began visited posted phase h free st = begins_read_done users s brought f (goes_on s) now (record { id = id; request = BatchRequest group transactions; began = began; visited = visited; message = posted; phase = phase }) group None [] (goes_on_done users s brought f) h free (λ fits. record { began = (st fits).began; none = (st fits).none; serves = refl })
+begins_done users s brought f now id (Read request) began visited posted phase h free st = read_begins_done users s brought f now (record { id = id; request = Read request; began = began; visited = visited; message = posted; phase = phase }) request request.mode h free (λ fits. record { began = (st fits).began; none = (st fits).none; serves = refl })
+begins_done users s brought f now id (Find request) began visited posted phase h free st = find_begins_done users s brought f now (record { id = id; request = Find request; began = began; visited = visited; message = posted; phase = phase }) request request.group h free (λ fits group. record { began = (st fits).began; none = (st fits).none; serves = tt })
+begins_done users s brought f now id PumpEnter began visited posted phase h free st = picks_to_enter_done users s brought f (goes_on s) now (record { id = id; request = PumpEnter; began = began; visited = visited; message = posted; phase = phase }) [] (goes_on_done users s brought f) h free (λ fits. record { began = (st fits).began; none = (st fits).none; is = refl })
+begins_done users s brought f now id PumpHandle began visited posted phase h free st = picks_to_handle_done users s brought f (goes_on s) now (record { id = id; request = PumpHandle; began = began; visited = visited; message = posted; phase = phase }) [] (goes_on_done users s brought f) h free (λ fits. record { began = (st fits).began; none = (st fits).none; is = refl })
+begins_done users s brought f now id Refresh began visited posted phase h free st = turn_ends users s.cluster f now.met now.kept now.sends id h
+
+pub begun_fine : (users : Users) → (s : Setting) → (users.fits → Brought users.usage s.handlers) → (f : Frame) (k : ℕ) (now : Now) (o : Operation) (refusal : Option Answer) → FineAt users s f k now → (refusal ≡ None → TurnAt users s f now o.id × FreeAt f now o.id) → (refusal ≡ None → k ≤ (o.id).number) → (users.fits → refusal ≡ None → Starting users.usage (tape_of f now.sends) o.id o.request)
+    → AllActed users s f (max k ((o.id).number + 1)) (unless_refused s now o refusal)
+begun_fine users s brought f k now o (Some answer) fine h le st = record { k = k; most = omega arith; fine = record { lawful = fine.lawful; written = fine.written; later = fine.later; asked = fine.asked; made = fine.made; known = fine.known; quiet = fine.quiet; held = fine.held; rising = fine.rising } }
+begun_fine users s brought f k now o None fine h le st = record { k = (o.id).number + 1; most = omega arith; fine = begins_done users s brought f now o.id o.request o.began o.visited o.message o.phase (h refl).0 (h refl).1 (λ fits. st fits refl) }

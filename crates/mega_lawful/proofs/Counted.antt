@@ -156,12 +156,12 @@ new_report r (one ∷ reports) h = go (one.voter == r.voter) h (new_report r rep
     go true k again = cc
     go false k again = again k
 
-among_reported : (r : Report) (reports : List Report) → Among r reports → is_reported reports r.voter ≡ true
+pub among_reported : (r : Report) (reports : List Report) → Among r reports → is_reported reports r.voter ≡ true
 among_reported r [] i = absurd i
 among_reported r (one ∷ reports) (inl e) = left (one.voter == r.voter) (is_reported reports r.voter) (ap (λ (x : Report). x.voter == r.voter) e ∙ number_self r.voter)
 among_reported r (one ∷ reports) (inr i) = right (one.voter == r.voter) (is_reported reports r.voter) (among_reported r reports i)
 
-among_push : (r one : Report) (reports : List Report) → Among one (reports ++ r ∷ []) → Among one reports ⊎ (r ≡ one)
+pub among_push : (r one : Report) (reports : List Report) → Among one (reports ++ r ∷ []) → Among one reports ⊎ (r ≡ one)
 among_push r one [] (inl e) = inr e
 among_push r one [] (inr i) = absurd i
 among_push r one (other ∷ reports) (inl e) = inl (inl e)

@@ -20,6 +20,7 @@ use Rattle.mega_rules.specs.Logs.{decided}
 use Rattle.mega_rules.specs.Operations.{Operation, Phase, Proposes, Reads, Setting}
 use Rattle.mega_rules.specs.Steps.{Decision, decision_at, decision_note, first_settled, hears_message, if_new, read_decision, settled_by, told_decision}
 use Rattle.mega_laws.specs.Places.{Place, Took}
+use Rattle.mega_lawful.proofs.Owned.{Users}
 use Rattle.mega_laws.specs.Lawful.{MayDecide, given, message, settled, told}
 use Rattle.mega_laws.proofs.Lists.{some_is}
 use Rattle.mega_lawful.specs.Vouched.{Chosen, Each, Knows, sent}
@@ -80,9 +81,9 @@ settled_phase c tape me met id request began visited posted (Reads group r) n ms
 settled_phase c tape me met id request began visited posted (Proposes group position asked proposal promised) n ms node of b d h = settled_at c tape me id group position proposal n ms node of b.knows (settled_in proposal) refl d h
 
 -- what one that heard settled
-settled_heard : (s : Setting) (tape : List Item) (me st k : ℕ) (met : List Met) (clock : ℕ) (m : Message) (o : Operation) → Held s.cluster tape me st k met o → Took tape (message m.from me m.body)
+settled_heard : (users : Users) → (s : Setting) (tape : List Item) (me st k : ℕ) (met : List Met) (clock : ℕ) (m : Message) (o : Operation) → Held users s.cluster tape me st k met o → Took tape (message m.from me m.body)
     → (d : Decision) → settled_by (hears_message s clock m o).operation ≡ Some d → MayDecide s.cluster tape me (at_place d.group d.position) d.entry
-settled_heard s tape me st k met clock m o h took d is = by_phase o.phase h.backed h.idle is
+settled_heard users s tape me st k met clock m o h took d is = by_phase o.phase h.backed h.idle is
   where
     lit : Phase → Operation
     lit phase = record { id = o.id; request = o.request; began = o.began; visited = o.visited; message = o.message; phase = phase }
@@ -103,16 +104,16 @@ abbrev pub or_else : Option Decision → Option Decision → Option Decision
 or_else None other = other
 or_else (Some d) other = Some d
 
-pub first_may : (s : Setting) (tape : List Item) (me st k : ℕ) (met : List Met) (clock : ℕ) (m : Message) (os : List Operation) → Each (Held s.cluster tape me st k met) os → Took tape (message m.from me m.body)
+pub first_may : (users : Users) → (s : Setting) (tape : List Item) (me st k : ℕ) (met : List Met) (clock : ℕ) (m : Message) (os : List Operation) → Each (Held users s.cluster tape me st k met) os → Took tape (message m.from me m.body)
     → (d : Decision) → first_settled (map (hears_message s clock m) os) ≡ Some d → MayDecide s.cluster tape me (at_place d.group d.position) d.entry
-first_may s tape me st k met clock m [] h took d e = cc
-first_may s tape me st k met clock m (o ∷ os) h took d e =
-    go (settled_by (hears_message s clock m o).operation) refl e (λ x. first_may s tape me st k met clock m os h.1 took d x)
+first_may users s tape me st k met clock m [] h took d e = cc
+first_may users s tape me st k met clock m (o ∷ os) h took d e =
+    go (settled_by (hears_message s clock m o).operation) refl e (λ x. first_may users s tape me st k met clock m os h.1 took d x)
   where
     go : (one : Option Decision) → settled_by (hears_message s clock m o).operation ≡ one → or_else one (first_settled (map (hears_message s clock m) os)) ≡ Some d
         → (first_settled (map (hears_message s clock m) os) ≡ Some d → MayDecide s.cluster tape me (at_place d.group d.position) d.entry) → MayDecide s.cluster tape me (at_place d.group d.position) d.entry
     go None is x again = again x
-    go (Some one) is x again = settled_heard s tape me st k met clock m o h.0 took d (is ∙ x)
+    go (Some one) is x again = settled_heard users s tape me st k met clock m o h.0 took d (is ∙ x)
 
 pub told_may : (c : Cluster) (tape : List Item) (me from : ℕ) (body : Body) → Took tape (message from me body) → (d : Decision) → told_decision body ≡ Some d → MayDecide c tape me (at_place d.group d.position) d.entry
 told_may c tape me from (Decide group position entry) took d h = subst (λ (x : Decision). MayDecide c tape me (at_place x.group x.position) x.entry) (some_is _ d h) (told from took)

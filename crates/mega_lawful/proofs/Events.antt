@@ -12,7 +12,7 @@ use Rattle.mega_locks.specs.declared.asked.Asked.{Asked}
 use Rattle.mega_locks.specs.declared.asked.Asked.TheVariants.{Granted as AnswerGranted, Renewed, Taken as AnswerTaken, Over}
 use Rattle.mega_wire.specs.declared.message.Message.{Message}
 use Rattle.mega_wire.specs.declared.message.Body.{Body}
-use Rattle.mega_wire.specs.declared.message.Body.TheVariants.{Accepted, Promise, Acquire, Granted, Invalidate}
+use Rattle.mega_wire.specs.declared.message.Body.TheVariants.{Accept, Accepted, Promise, Acquire, Granted, Invalidate, Top}
 use Rattle.mega_transcript.specs.declared.item.Item.{Item}
 use Rattle.mega_rules.specs.Met.{Met, Sends, Grants, Lapses, Counts, Forgets, Serves, Loses, Validates, Invalidates, Applies, Answers}
 use Rattle.mega_rules.specs.Coordinators.{coordinator_calls, counts_notes, is_cell_in, tick_told, forget_notes, grant_notes, lost_note, tick_notes}
@@ -27,13 +27,17 @@ use Rattle.mega_rules.specs.Operations.{Now, Operation, Setting}
 use Rattle.mega_rules.specs.Acting.{validated_by}
 use Rattle.mega_rules.specs.Steps.{applied_at, apply_note, apply_notes, lapse_notes, lease_notes, onto, told_notes}
 use Rattle.mega_laws.specs.Places.{Place, moves}
+use Rattle.mega_lawful.proofs.Owned.{NoAccept, Users, quiet_written}
 use Rattle.mega_laws.specs.Lawful.{Lawful}
+use Rattle.mega_laws.specs.Polls.{ArePolls, has_asked}
+use Rattle.mega_laws.specs.Writes.{AreWritten, Usage}
+use Rattle.mega_schema.specs.declared.schema.Schema.{Schema}
 use Rattle.mega_lawful.specs.Vouched.{Each, sent}
 use Rattle.mega_lawful.proofs.Sending.{Stood, stood_sent}
-use Rattle.mega_lawful.proofs.Free.{AreFree, IsFree, free_lawful, free_moves}
+use Rattle.mega_lawful.proofs.Free.{AreFree, IsFree, free_asked, free_lawful, free_moves}
 use Rattle.mega_lawful.proofs.Prefixes.{decided_more, grew_by, prefix_more}
 use Rattle.mega_lawful.proofs.Opened.{Beside, Grew, same_met}
-use Rattle.mega_lawful.proofs.Turns.{Fine, Frame, Held, Known, NoAct, could_more, each_on, held_on, sent_append}
+use Rattle.mega_lawful.proofs.Turns.{Fine, Frame, Held, Known, NoAct, could_more, each_on, held_on, quiet_polls, sent_append}
 use Rattle.mega_lawful.proofs.Noting.{Lasts}
 use Rattle.mega_lawful.proofs.Noted.{Note}
 use Rattle.mega_lawful.proofs.Beginning.{AllActed}
@@ -181,39 +185,58 @@ noted_lasts first = record {
 
 pub record Before (c : Cluster) (me : ℕ) (tape : List Item) (k : ℕ) (ms : List Message) : Type 0 where
   pub lawful : Lawful c tape → Lawful c (sent k ms tape)
+  pub polls : ArePolls tape → ArePolls (sent k ms tape)
+  pub written : (schema : Schema) (usage : Usage) → AreWritten schema usage tape → AreWritten schema usage (sent k ms tape)
   pub moved : (x : OpId) (q : Place) → moves (sent k ms tape) x q ≡ moves tape x q
+  pub asked : (x : OpId) → has_asked (sent k ms tape) x ≡ has_asked tape x
   pub mine : Each (FromMe me) ms
 
 free_quiet : (body : Body) → IsFree body → NoAct body
 free_quiet (Promise o g n b report) h = absurd h
 free_quiet (Accepted o g n b e) h = absurd h
+free_quiet (Top o g n) h = absurd h
 free_quiet _ h = tt
 
 free_mine : (me : ℕ) (ms : List Message) → AreFree ms → Each (FromMe me) ms
 free_mine me [] h = tt
 free_mine me (m ∷ ms) h = (inr (free_quiet m.body h.0), free_mine me ms h.1)
 
+free_silent : (body : Body) → IsFree body → NoAccept body
+free_silent (Accept o g n b e) h = absurd h
+free_silent _ h = tt
+
+free_silents : (ms : List Message) → AreFree ms → Each (λ (m : Message). NoAccept m.body) ms
+free_silents [] h = tt
+free_silents (m ∷ ms) h = (free_silent m.body h.0, free_silents ms h.1)
+
+free_quiets : (ms : List Message) → AreFree ms → Each (λ (m : Message). NoAct m.body) ms
+free_quiets [] h = tt
+free_quiets (m ∷ ms) h = (free_quiet m.body h.0, free_quiets ms h.1)
+
 pub free_before : (c : Cluster) (me : ℕ) (tape : List Item) (k : ℕ) (ms : List Message) → AreFree ms → Before c me tape k ms
-free_before c me tape k ms h = record { lawful = λ l. free_lawful c k ms tape h l; moved = λ x q. free_moves x q k ms tape h; mine = free_mine me ms h }
+free_before c me tape k ms h = record { lawful = λ l. free_lawful c k ms tape h l; polls = λ p. quiet_polls k ms tape (free_quiets ms h) p; written = λ schema usage w. quiet_written schema usage k ms tape (free_silents ms h) w; moved = λ x q. free_moves x q k ms tape h; asked = λ x. free_asked x k ms tape h; mine = free_mine me ms h }
 
 quiet_mine : (me : ℕ) (ms : List Message) → Each (λ (m : Message). NoAct m.body) ms → Each (FromMe me) ms
 quiet_mine me [] h = tt
 quiet_mine me (m ∷ ms) h = (inr h.0, quiet_mine me ms h.1)
 
 -- the first operations begin on what stands
-pub first_fine : (c : Cluster) (f : Frame) (met : List Met) → Lawful c f.base → Known f.me met f.base → Fine c f 0 met [] []
-first_fine c f met l known = record { lawful = l; later = λ x h q. refl; made = λ v q. refl; known = known; quiet = tt; held = tt; rising = tt }
+pub first_fine : (users : Users) → (c : Cluster) (f : Frame) (met : List Met) → Lawful c f.base → (users.fits → AreWritten c.schema users.usage f.base) → Known f.me met f.base → Fine users c f 0 met [] []
+first_fine users c f met l written known = record { lawful = l; written = written; later = λ x h q. refl; asked = λ x h. refl; made = λ v q. refl; known = known; quiet = tt; held = tt; rising = tt }
 
 -- the operations of a step, put together with what is sent before them
-pub acted_sends : (s : Setting) (me st l k : ℕ) (tape : List Item) (met2 : List Met) (pre : List Message) (now : Now) → Lawful s.cluster tape → Before s.cluster me tape k pre
-    → AllActed s (record { me = me; start = st; next = k + length pre; base = sent k pre tape }) l now → Grew now.met met2
-    → SendsOn s.cluster me st l tape met2 k (pre ++ now.sends) now.kept
-acted_sends s me st l k tape met2 pre now law before acted grew = record {
+pub acted_sends : (users : Users) → (s : Setting) (me st l k : ℕ) (tape : List Item) (met2 : List Met) (pre : List Message) (now : Now) → ArePolls tape → Before s.cluster me tape k pre
+    → AllActed users s (record { me = me; start = st; next = k + length pre; base = sent k pre tape }) l now → Grew now.met met2
+    → SendsOn users s.cluster me st l tape met2 k (pre ++ now.sends) now.kept
+acted_sends users s me st l k tape met2 pre now polls before acted grew = record {
   lawful = subst (Lawful s.cluster) (sym whole) (acted.fine).lawful;
+  polls = subst ArePolls (sym whole) (quiet_polls (k + length pre) now.sends (sent k pre tape) (acted.fine).quiet (before.polls polls));
+  written = λ fits. subst (AreWritten s.cluster.schema users.usage) (sym whole) ((acted.fine).written fits);
+  asked = λ x other. ap (λ t. has_asked t x) whole ∙ (acted.fine).asked x (could_more me st acted.k l x acted.most other) ∙ before.asked x;
   moved = λ x other q. ap (λ t. moves t x q) whole ∙ (acted.fine).later x (could_more me st acted.k l x acted.most other) q ∙ before.moved x q;
   mine = each_append (FromMe me) pre now.sends before.mine (quiet_mine me now.sends (acted.fine).quiet);
-  held = each_on (Held s.cluster (sent (k + length pre) now.sends (sent k pre tape)) me st acted.k now.met) (Held s.cluster (sent k (pre ++ now.sends) tape) me st l (onto (map Sends (pre ++ now.sends)) met2))
-      (λ o held. held_on s.cluster (sent (k + length pre) now.sends (sent k pre tape)) (sent k (pre ++ now.sends) tape) me st acted.k l now.met (onto (map Sends (pre ++ now.sends)) met2) o (beside o) grown acted.most held) now.kept (acted.fine).held;
+  held = each_on (Held users s.cluster (sent (k + length pre) now.sends (sent k pre tape)) me st acted.k now.met) (Held users s.cluster (sent k (pre ++ now.sends) tape) me st l (onto (map Sends (pre ++ now.sends)) met2))
+      (λ o held. held_on users s.cluster (sent (k + length pre) now.sends (sent k pre tape)) (sent k (pre ++ now.sends) tape) me st acted.k l now.met (onto (map Sends (pre ++ now.sends)) met2) o (beside o) grown acted.most held) now.kept (acted.fine).held;
   rising = (acted.fine).rising;
 }
   where
@@ -231,13 +254,16 @@ map_append [] ys = refl
 map_append (x ∷ xs) ys = ap (λ zs. Sends x ∷ zs) (map_append xs ys)
 
 -- and behind them
-pub behind : (c : Cluster) (me st l k : ℕ) (tape : List Item) (met2 : List Met) (ms post : List Message) (kept : List Operation) → SendsOn c me st l tape met2 k ms kept → AreFree post → SendsOn c me st l tape met2 k (ms ++ post) kept
-behind c me st l k tape met2 ms post kept h free = record {
+pub behind : (users : Users) → (c : Cluster) (me st l k : ℕ) (tape : List Item) (met2 : List Met) (ms post : List Message) (kept : List Operation) → SendsOn users c me st l tape met2 k ms kept → AreFree post → SendsOn users c me st l tape met2 k (ms ++ post) kept
+behind users c me st l k tape met2 ms post kept h free = record {
   lawful = subst (Lawful c) (sym whole) (free_lawful c (k + length ms) post (sent k ms tape) free h.lawful);
+  polls = subst ArePolls (sym whole) (quiet_polls (k + length ms) post (sent k ms tape) (free_quiets post free) h.polls);
+  written = λ fits. subst (AreWritten c.schema users.usage) (sym whole) (quiet_written c.schema users.usage (k + length ms) post (sent k ms tape) (free_silents post free) (h.written fits));
+  asked = λ x other. ap (λ t. has_asked t x) whole ∙ free_asked x (k + length ms) post (sent k ms tape) free ∙ h.asked x other;
   moved = λ x other q. ap (λ t. moves t x q) whole ∙ free_moves x q (k + length ms) post (sent k ms tape) free ∙ h.moved x other q;
   mine = each_append (FromMe me) ms post h.mine (free_mine me post free);
-  held = each_on (Held c (sent k ms tape) me st l (onto (map Sends ms) met2)) (Held c (sent k (ms ++ post) tape) me st l (onto (map Sends (ms ++ post)) met2))
-      (λ o held. held_on c (sent k ms tape) (sent k (ms ++ post) tape) me st l l (onto (map Sends ms) met2) (onto (map Sends (ms ++ post)) met2) o (beside o) grown (omega arith) held) kept h.held;
+  held = each_on (Held users c (sent k ms tape) me st l (onto (map Sends ms) met2)) (Held users c (sent k (ms ++ post) tape) me st l (onto (map Sends (ms ++ post)) met2))
+      (λ o held. held_on users c (sent k ms tape) (sent k (ms ++ post) tape) me st l l (onto (map Sends ms) met2) (onto (map Sends (ms ++ post)) met2) o (beside o) grown (omega arith) held) kept h.held;
   rising = h.rising;
 }
   where

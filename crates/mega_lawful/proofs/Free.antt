@@ -1,16 +1,17 @@
--- Messages that make nothing and move nothing: anyone may send them.
-use Rattle.std.proofs.Common.{◌≡◌, ℕ, ◌+◌, List, [], ◌∷◌, ◌++◌, map, flat_map, refl, sym, ◌∙◌, subst}
+-- Messages that make nothing, move nothing and are of no poll: anyone may send them.
+use Rattle.std.proofs.Common.{◌≡◌, ℕ, ◌+◌, ◌||◌, false, List, [], ◌∷◌, ◌++◌, map, flat_map, refl, sym, ap, ◌∙◌, subst}
 use Rattle.std.specs.List.{cons_option}
 use Rattle.mega_base.specs.declared.names.OpId.{OpId}
 use Rattle.mega_cluster.specs.declared.cluster.Cluster.{Cluster}
 use Rattle.mega_wire.specs.declared.message.Message.{Message}
 use Rattle.mega_wire.specs.declared.message.Body.{Body}
-use Rattle.mega_wire.specs.declared.message.Body.TheVariants.{Accept, Accepted, Refused, Prepare, Promise, Decide, Have}
+use Rattle.mega_wire.specs.declared.message.Body.TheVariants.{Accept, Accepted, Refused, Prepare, Promise, Decide, Have, Top, Where}
 use Rattle.mega_transcript.specs.declared.item.Item.{Item}
 use Rattle.mega_transcript.specs.declared.item.Item.TheVariants.{Sent}
 use Rattle.mega_propose.specs.Rounds.{Proposal}
 use Rattle.mega_laws.specs.Places.{Place, move_in, moves, Move}
 use Rattle.mega_laws.specs.Lawful.{Lawful, MaySend}
+use Rattle.mega_laws.specs.Polls.{has_asked, is_asking}
 use Rattle.mega_lawful.specs.Vouched.{AreOfRound, Each, Goes, IsWithin, Knows, Latest, OfRound, sent}
 
 abbrev pub IsFree : Body → Type 0
@@ -21,6 +22,8 @@ IsFree (Prepare o g n b) = ⊥
 IsFree (Promise o g n b report) = ⊥
 IsFree (Decide g n e) = ⊥
 IsFree (Have o g n e) = ⊥
+IsFree (Where o g) = ⊥
+IsFree (Top o g n) = ⊥
 IsFree _ = Unit {0}
 
 abbrev pub AreFree : List Message → Type 0
@@ -41,12 +44,22 @@ free_round op p (Accept o g n b e) h = absurd h
 free_round op p (Accepted o g n b e) h = absurd h
 free_round op p (Prepare o g n b) h = absurd h
 free_round op p (Promise o g n b report) h = absurd h
+free_round op p (Where o g) h = absurd h
+free_round op p (Top o g n) h = absurd h
 free_round op p _ h = tt
 
 free_move : (o : OpId) (q : Place) (body : Body) (ms : List Move) → IsFree body → cons_option (move_in o q body) ms ≡ ms
 free_move o q (Accept own g n b e) ms h = absurd h
 free_move o q (Prepare own g n b) ms h = absurd h
 free_move o q _ ms h = refl
+
+free_ask : (x : OpId) (body : Body) → IsFree body → is_asking x body ≡ false
+free_ask x (Where o g) h = absurd h
+free_ask x _ h = refl
+
+pub free_asked : (x : OpId) (n : ℕ) (ms : List Message) (tape : List Item) → AreFree ms → has_asked (sent n ms tape) x ≡ has_asked tape x
+free_asked x n [] tape h = refl
+free_asked x n (m ∷ ms) tape h = free_asked x (n + 1) ms (Sent n m ∷ tape) h.1 ∙ ap (λ t. t || has_asked tape x) (free_ask x m.body h.0)
 
 pub free_lawful : (c : Cluster) (n : ℕ) (ms : List Message) (tape : List Item) → AreFree ms → Lawful c tape → Lawful c (sent n ms tape)
 free_lawful c n [] tape h l = l

@@ -1,11 +1,17 @@
 pub mod Replied
+pub mod Told
 pub mod Counted
 pub mod Sending
 pub mod Free
 pub mod Rounds
+pub mod Said
+pub mod Written
 pub mod Prefixes
 pub mod Opened
+pub mod Owned
 pub mod Reading
+pub mod Wrote
+pub mod Picked
 pub mod Turns
 pub mod Acting
 pub mod Noting

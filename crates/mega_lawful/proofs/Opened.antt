@@ -5,7 +5,7 @@ use Rattle.mega_base.specs.declared.names.OpId.{OpId}
 use Rattle.mega_cluster.specs.declared.cluster.Cluster.{Cluster}
 use Rattle.mega_wire.specs.declared.message.Message.{Message}
 use Rattle.mega_wire.specs.declared.message.Body.{Body}
-use Rattle.mega_wire.specs.declared.message.Body.TheVariants.{Accept, Accepted, Prepare, Promise}
+use Rattle.mega_wire.specs.declared.message.Body.TheVariants.{Accept, Accepted, Prepare, Promise, Top, Where}
 use Rattle.mega_wal.specs.Same.{same_group, same_op}
 use Rattle.mega_wal.proofs.Sames.{same_group_equal}
 use Rattle.mega_transcript.specs.declared.item.Item.{Item}
@@ -40,7 +40,7 @@ place_of (Proposes group n asked proposal promised) = Some (at_place group n)
 
 -- a search is at a position that its read needs, at or below the first that its node has not decided
 abbrev pub IsSought : List Met → GroupId → ℕ → ℕ → Type 0
-IsSought met group through position = (position ≤ through) × (position ≤ prefix_of met group + 1)
+IsSought met group through position = (position ≤ through) × (position ≤ prefix_of met group + 1) × (0 < position)
 
 abbrev pub BackedSearch : Cluster → List Item → List Met → OpId → GroupId → ℕ → Option Search → Type 0
 BackedSearch c tape met op group through None = Unit {0}
@@ -85,7 +85,7 @@ vouched_on c old new op p proposal s v = record {
 }
 
 sought_on : (old new : List Met) (g : GroupId) (through n : ℕ) → Grew old new → IsSought old g through n → IsSought new g through n
-sought_on old new g through n grew s = (s.0, (let more = grew g in let less = s.1 in omega arith))
+sought_on old new g through n grew s = (s.0, (let more = grew g in let less = s.1 in omega (arith, more, less)), s.2)
 
 search_on : (c : Cluster) (old new : List Item) (met more : List Met) (op : OpId) (g : GroupId) (through : ℕ) → Beside op old new → Grew met more → (search : Option Search)
     → BackedSearch c old met op g through search → BackedSearch c new more op g through search
@@ -111,12 +111,14 @@ same_met met g = omega arith
 
 -- ---- what an operation does
 
--- a message of an operation: no answer of a voter, and no move of another operation
+-- a message of an operation: no answer of a voter, and no move or question of another operation
 abbrev pub OfOp : OpId → Body → Type 0
 OfOp op (Accept o g n b e) = o ≡ op
 OfOp op (Prepare o g n b) = o ≡ op
 OfOp op (Promise o g n b report) = ⊥
 OfOp op (Accepted o g n b e) = ⊥
+OfOp op (Where o g) = o ≡ op
+OfOp op (Top o g n) = ⊥
 OfOp op _ = Unit {0}
 
 abbrev pub AreOfOp : OpId → List Message → Type 0
@@ -127,6 +129,8 @@ of_op op p (Accept o g n b e) h = h.0
 of_op op p (Prepare o g n b) h = h.0
 of_op op p (Promise o g n b report) h = absurd h
 of_op op p (Accepted o g n b e) h = absurd h
+of_op op p (Where o g) h = absurd h
+of_op op p (Top o g n) h = absurd h
 of_op op p _ h = tt
 
 pub are_of_op : (op : OpId) (p : Place) (ms : List Message) → AreOfRound op p ms → AreOfOp op ms
@@ -138,6 +142,8 @@ free_op op (Accept o g n b e) h = absurd h
 free_op op (Prepare o g n b) h = absurd h
 free_op op (Promise o g n b report) h = absurd h
 free_op op (Accepted o g n b e) h = absurd h
+free_op op (Where o g) h = absurd h
+free_op op (Top o g n) h = absurd h
 free_op op _ h = tt
 
 pub free_ops : (op : OpId) (ms : List Message) → AreFree ms → AreOfOp op ms

@@ -10,6 +10,7 @@ use Rattle.mega_wire.specs.declared.message.Body.{Body}
 use Rattle.mega_wire.specs.declared.message.Body.TheVariants.{Top, HaveNot}
 use Rattle.mega_wal.specs.Same.{same_group, same_op}
 use Rattle.mega_transcript.specs.declared.item.Item.{Item}
+use Rattle.mega_transcript.specs.declared.item.Item.TheVariants.{Sent}
 use Rattle.mega_propose.specs.Members.{has, is_majority, with_node, without}
 use Rattle.mega_propose.specs.Rounds.{Move as RoundMove, completes, due, is_due, takes}
 use Rattle.mega_read.specs.Catching.{Move as ReadMove, Reader, Reading, Search, Fetching, Filling, Stage, Polling, Catching, asked_by, denied, falls_due, fetch_to, fetches, filled, fills, hears, helpers, local_read, move, no_op, polled_read, seeks, stays, topped, where_to}
@@ -18,11 +19,12 @@ use Rattle.mega_rules.specs.Members.{full_nodes, voters}
 use Rattle.mega_rules.specs.Logs.{prefix_of}
 use Rattle.mega_rules.specs.Operations.{Reads}
 use Rattle.mega_laws.specs.Places.{Place, Took, moves}
-use Rattle.mega_laws.specs.Lawful.{message}
-use Rattle.mega_lawful.specs.Vouched.{Goes, here}
+use Rattle.mega_laws.specs.Lawful.{Lawful, message}
+use Rattle.mega_lawful.specs.Vouched.{Goes, here, sent}
+use Rattle.mega_lawful.proofs.Sending.{stood_sent}
 use Rattle.mega_lawful.proofs.Free.{IsFree, each_of}
 use Rattle.mega_lawful.proofs.Rounds.{completes_goes, due_goes, takes_goes}
-use Rattle.mega_lawful.proofs.Opened.{Acts, BackedStage, Idle, IsSought, acts_free, acts_round, at_place, idle_none, place_is, stage_place}
+use Rattle.mega_lawful.proofs.Opened.{Acts, BackedStage, Idle, IsSought, OfOp, acts_free, acts_round, at_place, idle_none, idle_on, place_is, same_met, stage_place}
 
 abbrev pub who : Cluster → OpId → GroupId → Reader
 who c op group = record { op = op; group = group; voters = voters c; full = full_nodes c; cells = c.cells }
@@ -30,6 +32,25 @@ who c op group = record { op = op; group = group; voters = voters c; full = full
 -- what a read comes to, as a phase
 abbrev pub Reads_on : Cluster → List Item → List Met → OpId → GroupId → ReadMove → Type 0
 Reads_on c tape met op group t = Acts c tape met op (Reads group t.reading) t.sends
+
+-- the voters are asked where the log ends
+asks_lawful : (c : Cluster) (reader : Reader) (n : ℕ) (to : List ℕ) (tape : List Item) → Lawful c tape → Lawful c (sent n (map (where_to reader) to) tape)
+asks_lawful c reader n [] tape l = l
+asks_lawful c reader n (one ∷ to) tape l = asks_lawful c reader (n + 1) to (Sent n (where_to reader one) ∷ tape) (tt, l)
+
+asks_moved : (reader : Reader) (x : OpId) (q : Place) (n : ℕ) (to : List ℕ) (tape : List Item) → moves (sent n (map (where_to reader) to) tape) x q ≡ moves tape x q
+asks_moved reader x q n [] tape = refl
+asks_moved reader x q n (one ∷ to) tape = asks_moved reader x q (n + 1) to (Sent n (where_to reader one) ∷ tape)
+
+asks_acts : (c : Cluster) (tape : List Item) (met : List Met) (op : OpId) (group : GroupId) (noted : Option Epoch) (asked : List ℕ) (heard : List ℕ) (best at : ℕ) (to : List ℕ) → Idle tape met op None
+    → Reads_on c tape met op group (record { reading = record { noted = noted; asked = asked; stage = Polling heard best at }; sends = map (where_to (who c op group)) to })
+asks_acts c tape met op group noted asked heard best at to idle = record {
+  own = each_of (OfOp op) (where_to (who c op group)) (λ one. refl) to;
+  lawful = λ n l. asks_lawful c (who c op group) n to tape l;
+  backed = λ n. tt;
+  idle = λ n. idle_on tape (sent n (map (where_to (who c op group)) to) tape) met met op None
+      (record { stood = stood_sent n (map (where_to (who c op group)) to) tape; moved = λ q. asks_moved (who c op group) op q n to tape }) (same_met met) idle;
+}
 
 still : (c : Cluster) (tape : List Item) (met : List Met) (op : OpId) (group : GroupId) (r : Reading) → BackedStage c tape met op group r.stage → Idle tape met op (stage_place group r.stage) → Reads_on c tape met op group (record { reading = r; sends = [] })
 still c tape met op group r b idle = acts_free c tape met op (Reads group r) [] tt b idle
@@ -110,8 +131,7 @@ due_by : (c : Cluster) (tape : List Item) (met : List Met) (op : OpId) (group : 
 due_by c tape met op group noted asked retry now (Polling heard best at) b idle =
     reads_if c tape met op group (is_due at retry now) (record { reading = record { noted = noted; asked = asked; stage = Polling heard best now }; sends = map (where_to (who c op group)) (without heard (voters c)) })
     (stays (record { noted = noted; asked = asked; stage = Polling heard best at }))
-    (λ h. acts_free c tape met op (Reads group (record { noted = noted; asked = asked; stage = Polling heard best now })) (map (where_to (who c op group)) (without heard (voters c)))
-    (each_of IsFree (where_to (who c op group)) (λ to. tt) (without heard (voters c))) tt idle)
+    (λ h. asks_acts c tape met op group noted asked heard best now (without heard (voters c)) idle)
     (still c tape met op group (record { noted = noted; asked = asked; stage = Polling heard best at }) tt idle)
 due_by c tape met op group noted asked retry now (Catching through None) b idle = still c tape met op group (record { noted = noted; asked = asked; stage = Catching through None }) tt idle
 due_by c tape met op group noted asked retry now (Catching through (Some (Fetching position denials at))) b idle =
@@ -159,7 +179,7 @@ pub seeks_acts : (c : Cluster) (tape : List Item) (met : List Met) (op : OpId) (
     → prefix_of met group + 1 ≤ through → BackedStage c tape met op group (Catching through search) → Idle tape met op (stage_place group (Catching through search))
     → Reads_on c tape met op group (seeks (who c op group) (record { noted = noted; asked = asked; stage = Catching through search }) (prefix_of met group + 1) now)
 seeks_acts c tape met op group noted asked through now None le b idle = fetches_acts c tape met op group (record { noted = noted; asked = asked_by (record { noted = noted; asked = asked; stage = Catching through None }); stage = Catching through None })
-    through (prefix_of met group + 1) now (le, omega arith) (unmoved idle) idle
+    through (prefix_of met group + 1) now (le, omega arith, omega arith) (unmoved idle) idle
   where
     unmoved : Idle tape met op None → moves tape op (at_place group (prefix_of met group + 1)) ≡ []
     unmoved i = elim (i (at_place group (prefix_of met group + 1)) (omega arith)) [ inl e ↦ cc | inr e ↦ e ]
@@ -168,7 +188,7 @@ seeks_acts c tape met op group noted asked through now (Some (Fetching position 
     (fetches (who c op group) (record { noted = noted; asked = asked_by (record { noted = noted; asked = asked; stage = Catching through (Some (Fetching position denials at)) }); stage = Catching through (Some (Fetching position denials at)) }) through (prefix_of met group + 1) now)
     (still c tape met op group (record { noted = noted; asked = asked; stage = Catching through (Some (Fetching position denials at)) }) b idle)
     (λ h. fetches_acts c tape met op group (record { noted = noted; asked = asked_by (record { noted = noted; asked = asked; stage = Catching through (Some (Fetching position denials at)) }); stage = Catching through (Some (Fetching position denials at)) })
-    through (prefix_of met group + 1) now (le, omega arith) (unmoved idle) idle)
+    through (prefix_of met group + 1) now (le, omega arith, omega arith) (unmoved idle) idle)
   where
     unmoved : Idle tape met op None → moves tape op (at_place group (prefix_of met group + 1)) ≡ []
     unmoved i = elim (i (at_place group (prefix_of met group + 1)) (omega arith)) [ inl e ↦ cc | inr e ↦ e ]
@@ -177,7 +197,7 @@ seeks_acts c tape met op group noted asked through now (Some (Filling position p
     (fetches (who c op group) (record { noted = noted; asked = asked_by (record { noted = noted; asked = asked; stage = Catching through (Some (Filling position proposal)) }); stage = Catching through (Some (Filling position proposal)) }) through (prefix_of met group + 1) now)
     (still c tape met op group (record { noted = noted; asked = asked; stage = Catching through (Some (Filling position proposal)) }) b idle)
     (λ h. fetches_acts c tape met op group (record { noted = noted; asked = asked_by (record { noted = noted; asked = asked; stage = Catching through (Some (Filling position proposal)) }); stage = Catching through (Some (Filling position proposal)) })
-    through (prefix_of met group + 1) now (le, omega arith) (unmoved (closed h)) (closed h))
+    through (prefix_of met group + 1) now (le, omega arith, omega arith) (unmoved (closed h)) (closed h))
   where
     unmoved : Idle tape met op None → moves tape op (at_place group (prefix_of met group + 1)) ≡ []
     unmoved i = elim (i (at_place group (prefix_of met group + 1)) (omega arith)) [ inl e ↦ cc | inr e ↦ e ]
@@ -195,5 +215,4 @@ local_acts c tape met op group asked top idle = still c tape met op group (recor
 
 pub polled_acts : (c : Cluster) (tape : List Item) (met : List Met) (op : OpId) (group : GroupId) (noted : Option Epoch) (asked : List ℕ) (now : ℕ) → Idle tape met op None
     → Reads_on c tape met op group (polled_read (who c op group) noted asked now)
-polled_acts c tape met op group noted asked now idle = acts_free c tape met op (Reads group (record { noted = noted; asked = asked; stage = Polling [] 0 now })) (map (where_to (who c op group)) (voters c))
-    (each_of IsFree (where_to (who c op group)) (λ to. tt) (voters c)) tt idle
+polled_acts c tape met op group noted asked now idle = asks_acts c tape met op group noted asked [] 0 now (voters c) idle

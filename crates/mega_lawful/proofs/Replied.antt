@@ -82,7 +82,7 @@ lock_fair c tape me from cell epoch clock Renewed = ((tt, tt), λ x q. refl)
 lock_fair c tape me from cell epoch clock (Taken greatest) = ((tt, tt), λ x q. refl)
 lock_fair c tape me from cell epoch clock (Over greatest) = ((tt, tt), λ x q. refl)
 
-served : (t : Bool) (made answer : Body) (P : Body → Type 0) → P made → where_served t made ≡ Some answer → P answer
+pub served : (t : Bool) (made answer : Body) (P : Body → Type 0) → P made → where_served t made ≡ Some answer → P answer
 served true made answer P p h = subst P (some_is made answer h) p
 served false made answer P p h = cc
 

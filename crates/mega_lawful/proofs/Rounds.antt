@@ -34,7 +34,7 @@ negated : (t : Bool) → not t ≡ true → t ≡ false
 negated true h = cc
 negated false h = refl
 
-ballot_is : (a b : Ballot) → same_ballot a b ≡ true → a ≡ b
+pub ballot_is : (a b : Ballot) → same_ballot a b ≡ true → a ≡ b
 ballot_is a b h = let parts = both (a.round == b.round) (same_op a.op b.op) h in λ i. record { round = number_is a.round b.round parts.0 i; op = same_op_equal a.op b.op parts.1 i }
 
 le_max : (a b : ℕ) → a ≤ max a b
@@ -44,7 +44,7 @@ newest_within : (seen : ℕ) (ms : List Move) (move : Move) → newest ms ≡ So
 newest_within seen [] move h w = cc
 newest_within seen (first ∷ ms) move h w = subst (λ m. round_of m ≤ seen) (some_is first move h) w.0
 
-here_is : (c : Cluster) (op : OpId) (p : Place) (asked : List ℕ) (o : OpId) (g : GroupId) (n : Position) → is_here (here c op p asked) o g n ≡ true
+pub here_is : (c : Cluster) (op : OpId) (p : Place) (asked : List ℕ) (o : OpId) (g : GroupId) (n : Position) → is_here (here c op p asked) o g n ≡ true
     → (o ≡ op) × (◌≡◌ {A = Place} (record { group = g; position = n }) p)
 here_is c op p asked o g n h =
     let outer = both (same_op op o && same_group p.group g) (n.0 == p.position.0) h in

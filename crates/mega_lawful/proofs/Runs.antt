@@ -1,5 +1,5 @@
 -- A step or a start that a fuse cuts, a start that shows what is owed, and so every run, goes through good standings.
-use Rattle.std.proofs.Common.{◌≡◌, ◌⊎◌, inl, inr, ℕ, zero, suc, ◌+◌, ◌==◌, ◌&&◌, ◌||◌, ◌≤◌, ◌<◌, nat_lt, nat_le, Bool, true, false, not, cond, List, [], ◌∷◌, ◌++◌, map, filter, flat_map, fold, find, length, Option, Some, None, refl, sym, ap, ◌∙◌, subst, arith}
+use Rattle.std.proofs.Common.{◌≡◌, ◌⊎◌, inl, inr, ℕ, zero, suc, ◌+◌, ◌==◌, ◌&&◌, ◌≤◌, ◌<◌, nat_lt, Bool, true, false, not, cond, List, [], ◌∷◌, ◌++◌, map, filter, flat_map, fold, find, Option, Some, None, refl, sym, ap, ◌∙◌, subst, arith}
 use Rattle.mega_base.specs.declared.names.GroupId.{GroupId}
 use Rattle.mega_base.specs.declared.names.OpId.{OpId}
 use Rattle.mega_cluster.specs.declared.cluster.Cluster.{Cluster}
@@ -21,15 +21,20 @@ use Rattle.mega_rules.specs.Logs.{groups_of, prefix_of}
 use Rattle.mega_rules.specs.Operations.{Node, Setting}
 use Rattle.mega_rules.specs.Steps.{Begin, Step, Take, Tick, crashed, onto, op_of, start, start_items, start_note, start_notes, step}
 use Rattle.mega_laws.specs.Places.{Place, moves}
+use Rattle.mega_lawful.proofs.Owned.{Users}
 use Rattle.mega_laws.specs.Lawful.{Lawful}
+use Rattle.mega_laws.specs.Polls.{ArePolls, has_asked}
+use Rattle.mega_laws.specs.Writes.{AreWritten, LawfulWrites, Usage, has_begun}
+use Rattle.mega_schema.specs.declared.schema.Schema.{Schema}
+use Rattle.mega_lawful.specs.Usages.{Brought, Fits, IsMeant}
 use Rattle.mega_laws.proofs.Ballots.{number_self}
 use Rattle.mega_laws.proofs.Lists.{some_is}
 use Rattle.mega_lawful.specs.Vouched.{Each}
 use Rattle.mega_lawful.proofs.Noted.{Follows, Note, TapeOn, each_note_on, notes_follow, one_note, tape_item, with_append}
-use Rattle.mega_lawful.proofs.Standing.{Good, IsNew, Owes, act_other, act_same, other_good, owes_on}
-use Rattle.mega_lawful.proofs.Stepping.{Next, Own, next_good}
+use Rattle.mega_lawful.proofs.Standing.{Good, IsNew, Owes, act_other, act_same, other_good, owes_on, unmoved_on}
+use Rattle.mega_lawful.proofs.Stepping.{Next, OtherThan, Own, next_good}
 use Rattle.mega_lawful.proofs.Events.{IsPlain, each_flat_map, onto_append, plain_notes}
-use Rattle.mega_lawful.proofs.Steps.{begun_next, own_begin, stands_sent, whole_good}
+use Rattle.mega_lawful.proofs.Steps.{begins_other, begun_next, never_asked, never_begun, own_begin, stands_sent, whole_good}
 use Rattle.mega_lawful.proofs.Ticking.{own_tick, ticked_next}
 use Rattle.mega_lawful.proofs.Whole.{StepNext, own_taken, take_next}
 use Rattle.mega_lawful.proofs.Replied.{Fair, answer_fair}
@@ -45,8 +50,14 @@ use Rattle.mega_laws.specs.Places.{acts}
 use Rattle.mega_disk.specs.declared.pair.Device.TheVariants.{Log, Data}
 use Rattle.mega_promises.specs.Promises.{Stands}
 
-old_moves : (c : Cluster) (now : Standing) (me : ℕ) → Good c now → (x : OpId) → x.node.0 ≡ me → IsNew (now.starts me) (now.node me).met x → (q : Place) → moves now.tape x q ≡ []
-old_moves c now me g x node new q = g.fresh x (subst (λ w. IsNew (now.starts w) (now.node w).met x) (sym node) new) q
+old_moves : (users : Users) → (c : Cluster) (now : Standing) (me : ℕ) → Good users c now → (x : OpId) → x.node.0 ≡ me → IsNew (now.starts me) (now.node me).met x → (q : Place) → moves now.tape x q ≡ []
+old_moves users c now me g x node new q = g.fresh x (subst (λ w. IsNew (now.starts w) (now.node w).met x) (sym node) new) q
+
+old_begun : (users : Users) → (c : Cluster) (now : Standing) (me : ℕ) → Good users c now → (x : OpId) → x.node.0 ≡ me → IsNew (now.starts me) (now.node me).met x → has_begun now.tape x ≡ false
+old_begun users c now me g x node new = g.unbegun x (subst (λ w. IsNew (now.starts w) (now.node w).met x) (sym node) new)
+
+old_asked : (users : Users) → (c : Cluster) (now : Standing) (me : ℕ) → Good users c now → (x : OpId) → x.node.0 ≡ me → IsNew (now.starts me) (now.node me).met x → has_asked now.tape x ≡ false
+old_asked users c now me g x node new = g.unasked x (subst (λ w. IsNew (now.starts w) (now.node w).met x) (sym node) new)
 
 at_self : {X : Type 0} (f : ℕ → X) (me : ℕ) (x : X) → set_at f me x me ≡ x
 at_self f me x = ap (λ t. cond t x (f me)) (number_self me)
@@ -95,10 +106,11 @@ owes_if c tape me false owed h = tt
 
 -- ---- cut steps
 
-cut_good : (c : Cluster) (now : Standing) (me : ℕ) (item : Item) (own : Met) (made : Step) (owed : List Met) (log_fuse data_fuse : ℕ → Option Fuse) → Good c now → ((n : ℕ → Node) → with_item c n now.tape item ≡ item ∷ now.tape)
-    → Own c now.tape item (now.node me).met own → Owes c (Crash (number me) ∷ item ∷ now.tape) me owed → Good c (cut_step c now me (item ∷ []) own made owed log_fuse data_fuse)
-cut_good c now me item own made owed log_fuse data_fuse g plain o owing = next_good c now me _ node2 log_fuse data_fuse now.starts now.records (set_at now.owed me owed) g
-    (subst (λ t. Next c now me t node2 now.starts (set_at now.owed me owed)) (sym (ap (λ t. with_item c (set_at now.node me node2) t (Crash (number me))) (plain (set_at now.node me node2)))) (record {
+cut_good : (users : Users) → (c : Cluster) (now : Standing) (me : ℕ) (item : Item) (own : Met) (made : Step) (owed : List Met) (log_fuse data_fuse : ℕ → Option Fuse) → Good users c now → ((n : ℕ → Node) → with_item c n now.tape item ≡ item ∷ now.tape)
+    → Own c now.tape item (now.node me).met own → ((x : OpId) → ((me == x.node.0) ≡ false) ⊎ IsNew (now.starts me) (own ∷ (now.node me).met) x → OtherThan own x)
+    → Owes c (Crash (number me) ∷ item ∷ now.tape) me owed → Good users c (cut_step c now me (item ∷ []) own made owed log_fuse data_fuse)
+cut_good users c now me item own made owed log_fuse data_fuse g plain o other owing = next_good users c now me _ node2 log_fuse data_fuse now.starts now.records (set_at now.owed me owed) g
+    (subst (λ t. Next users c now me t node2 now.starts (set_at now.owed me owed)) (sym (ap (λ t. with_item c (set_at now.node me node2) t (Crash (number me))) (plain (set_at now.node me node2)))) (record {
       lawful = (tt, (o.on).lawful g.lawful);
       stood = λ x s. inr ((o.on).stood x s);
       mine = record {
@@ -109,7 +121,14 @@ cut_good c now me item own made owed log_fuse data_fuse g plain o owing = next_g
       };
       made = λ v apart q. (o.on).made v q;
       moved = λ x apart q. (o.on).moved x q;
-      fresh = λ x node new q. (o.on).moved x q ∙ old_moves c now me g x node (older x new) q;
+      polls = (tt, (o.on).polls g.polls);
+      written = λ fits. (tt, (o.on).written c.schema users.usage (g.written fits));
+      begun = λ x apart. o.begins x (other x (inl apart));
+      unbegun = λ x node new. o.begins x (other x (inr new)) ∙ old_begun users c now me g x node (older x new);
+      asked = λ x apart. (o.on).asked x;
+      fresh = λ x node new q. (o.on).moved x q ∙ old_moves users c now me g x node (older x new) q;
+      unasked = λ x node new. (o.on).asked x ∙ old_asked users c now me g x node (older x new);
+      worn = λ x le. unmoved_on now.tape (Crash (number me) ∷ item ∷ now.tape) x ((o.on).moved x) ((o.on).asked x) (g.worn x le);
       started = subst (λ n. n ≤ now.starts me) (sym o.start) (g.starts me);
       starts_same = λ v apart. refl;
       owes = subst (λ x. Owes c (Crash (number me) ∷ item ∷ now.tape) me x) (sym (at_self now.owed me owed)) owing;
@@ -124,23 +143,31 @@ cut_good c now me item own made owed log_fuse data_fuse g plain o owing = next_g
     older x (inl less) = inl less
     older x (inr both) = inr (both.0 ∙ o.start, (let n = both.1 in let b = o.begun in omega (arith, n, b)))
 
-fated_good : (c : Cluster) (now : Standing) (me : ℕ) (item : Item) (own : Met) (made : Step) (replies : List Message) (fate : Fate) → Good c now → ((n : ℕ → Node) → with_item c n now.tape item ≡ item ∷ now.tape)
-    → Own c now.tape item (now.node me).met own → Owes c (Crash (number me) ∷ item ∷ now.tape) me (owes made replies) → Good c (whole_step c now me (item ∷ []) made) → Good c (fated c now me (item ∷ []) own made replies fate)
-fated_good c now me item own made replies Whole g plain o owing whole = whole
-fated_good c now me item own made replies (CutByLog kept) g plain o owing whole =
-    cut_good c now me item own made (cond kept (owes made replies) []) (set_at now.log_fuse me None) now.data_fuse g plain o (owes_if c (Crash (number me) ∷ item ∷ now.tape) me kept (owes made replies) owing)
-fated_good c now me item own made replies (CutByData kept) g plain o owing whole = cut_good c now me item own made [] now.log_fuse (set_at now.data_fuse me None) g plain o tt
+fated_good : (users : Users) → (c : Cluster) (now : Standing) (me : ℕ) (item : Item) (own : Met) (made : Step) (replies : List Message) (fate : Fate) → Good users c now → ((n : ℕ → Node) → with_item c n now.tape item ≡ item ∷ now.tape)
+    → Own c now.tape item (now.node me).met own → ((x : OpId) → ((me == x.node.0) ≡ false) ⊎ IsNew (now.starts me) (own ∷ (now.node me).met) x → OtherThan own x)
+    → Owes c (Crash (number me) ∷ item ∷ now.tape) me (owes made replies) → Good users c (whole_step c now me (item ∷ []) made) → Good users c (fated c now me (item ∷ []) own made replies fate)
+fated_good users c now me item own made replies Whole g plain o other owing whole = whole
+fated_good users c now me item own made replies (CutByLog kept) g plain o other owing whole =
+    cut_good users c now me item own made (cond kept (owes made replies) []) (set_at now.log_fuse me None) now.data_fuse g plain o other (owes_if c (Crash (number me) ∷ item ∷ now.tape) me kept (owes made replies) owing)
+fated_good users c now me item own made replies (CutByData kept) g plain o other owing whole = cut_good users c now me item own made [] now.log_fuse (set_at now.data_fuse me None) g plain o other tt
 
 -- ---- crashes and starts that are cut
 
-down_next : (c : Cluster) (now : Standing) (me : ℕ) (starts : ℕ → ℕ) → Good c now → now.starts me ≤ starts me → ((v : ℕ) → (me == v) ≡ false → starts v ≡ now.starts v) → Next c now me (Crash (number me) ∷ now.tape) (crashed (now.node me)) starts now.owed
-down_next c now me starts g le same = record {
+down_next : (users : Users) → (c : Cluster) (now : Standing) (me : ℕ) (starts : ℕ → ℕ) → Good users c now → now.starts me ≤ starts me → ((v : ℕ) → (me == v) ≡ false → starts v ≡ now.starts v) → Next users c now me (Crash (number me) ∷ now.tape) (crashed (now.node me)) starts now.owed
+down_next users c now me starts g le same = record {
   lawful = (tt, g.lawful);
   stood = λ item s. inr s;
   mine = record { made = (g.node me).made; known = λ h n e d. inr ((g.node me).known h n e d); held = tt; rising = tt };
   made = λ v apart q. refl;
   moved = λ x apart q. refl;
-  fresh = λ x node new q. old_moves c now me g x node (older x new) q;
+  polls = (tt, g.polls);
+  written = λ fits. (tt, g.written fits);
+  begun = λ x apart. refl;
+  unbegun = λ x node new. old_begun users c now me g x node (older x new);
+  asked = λ x apart. refl;
+  fresh = λ x node new q. old_moves users c now me g x node (older x new) q;
+  unasked = λ x node new. old_asked users c now me g x node (older x new);
+  worn = λ x le. unmoved_on now.tape (Crash (number me) ∷ now.tape) x (λ q. refl) refl (g.worn x le);
   started = (let first = g.starts me in omega (arith, first, le));
   starts_same = same;
   owes = owes_on c now.tape (Crash (number me) ∷ now.tape) me (λ item s. inr s) (λ q. refl) (now.owed me) (g.owes me);
@@ -152,12 +179,12 @@ down_next c now me starts g le same = record {
     older x (inl less) = inl (omega (arith, less, le))
     older x (inr both) = inr both
 
-crashes_good : (c : Cluster) (now : Standing) (me : ℕ) → Good c now → Good c (crashes now me)
-crashes_good c now me g = next_good c now me (Crash (number me) ∷ now.tape) (crashed (now.node me)) now.log_fuse now.data_fuse now.starts now.records now.owed g (down_next c now me now.starts g (omega arith) (λ v apart. refl))
+crashes_good : (users : Users) → (c : Cluster) (now : Standing) (me : ℕ) → Good users c now → Good users c (crashes now me)
+crashes_good users c now me g = next_good users c now me (Crash (number me) ∷ now.tape) (crashed (now.node me)) now.log_fuse now.data_fuse now.starts now.records now.owed g (down_next users c now me now.starts g (omega arith) (λ v apart. refl))
 
-cut_start_good : (c : Cluster) (now : Standing) (me : ℕ) (kept : Bool) (log_fuse data_fuse : ℕ → Option Fuse) → Good c now → Good c (cut_start now me kept log_fuse data_fuse)
-cut_start_good c now me kept log_fuse data_fuse g = next_good c now me (Crash (number me) ∷ now.tape) (crashed (now.node me)) log_fuse data_fuse (set_at now.starts me (cond kept (now.starts me + 1) (now.starts me))) now.records now.owed g
-    (down_next c now me (set_at now.starts me (cond kept (now.starts me + 1) (now.starts me))) g (subst (λ n. now.starts me ≤ n) (sym (at_self now.starts me (cond kept (now.starts me + 1) (now.starts me)))) (le kept)) (at_other now.starts me (cond kept (now.starts me + 1) (now.starts me))))
+cut_start_good : (users : Users) → (c : Cluster) (now : Standing) (me : ℕ) (kept : Bool) (log_fuse data_fuse : ℕ → Option Fuse) → Good users c now → Good users c (cut_start now me kept log_fuse data_fuse)
+cut_start_good users c now me kept log_fuse data_fuse g = next_good users c now me (Crash (number me) ∷ now.tape) (crashed (now.node me)) log_fuse data_fuse (set_at now.starts me (cond kept (now.starts me + 1) (now.starts me))) now.records now.owed g
+    (down_next users c now me (set_at now.starts me (cond kept (now.starts me + 1) (now.starts me))) g (subst (λ n. now.starts me ≤ n) (sym (at_self now.starts me (cond kept (now.starts me + 1) (now.starts me)))) (le kept)) (at_other now.starts me (cond kept (now.starts me + 1) (now.starts me))))
   where
     le : (t : Bool) → now.starts me ≤ cond t (now.starts me + 1) (now.starts me)
     le true = omega arith
@@ -169,7 +196,11 @@ cut_start_good c now me kept log_fuse data_fuse g = next_good c now me (Crash (n
 record Shown (c : Cluster) (me : ℕ) (old : List Item) (met : List Met) (new : List Item) (more : List Met) : Type 0 where
   lawful : Lawful c old → Lawful c new
   stood : (item : Item) → Stands item old → Stands item new
+  polls : ArePolls old → ArePolls new
+  written : (schema : Schema) (usage : Usage) → AreWritten schema usage old → AreWritten schema usage new
+  begun : (x : OpId) → has_begun new x ≡ has_begun old x
   moved : (x : OpId) (q : Place) → moves new x q ≡ moves old x q
+  asked : (x : OpId) → has_asked new x ≡ has_asked old x
   others : (v : ℕ) → (me == v) ≡ false → (q : Place) → acts new v q ≡ acts old v q
   made : (q : Place) → acts_met more q.group q.position.0 ≡ acts new me q
   known : Known me more new
@@ -177,11 +208,15 @@ record Shown (c : Cluster) (me : ℕ) (old : List Item) (met : List Met) (new : 
 
 owed_shown : (c : Cluster) (me : ℕ) (nodes' : ℕ → Node) (owed : List Met) (tape : List Item) (met : List Met) → Owes c tape me owed → ((q : Place) → acts_met met q.group q.position.0 ≡ acts tape me q) → Known me met tape
     → Shown c me tape met (with_items c nodes' tape (flat_map (shown me) owed)) (onto owed met)
-owed_shown c me nodes' [] tape met h made known = record { lawful = λ l. l; stood = λ item s. s; moved = λ x q. refl; others = λ v apart q. refl; made = made; known = known; started = refl }
+owed_shown c me nodes' [] tape met h made known = record { lawful = λ l. l; stood = λ item s. s; polls = λ p. p; written = λ schema usage w. w; begun = λ x. refl; moved = λ x q. refl; asked = λ x. refl; others = λ v apart q. refl; made = made; known = known; started = refl }
 owed_shown c me nodes' (Unsends m ∷ []) tape met h made known = record {
   lawful = λ l. ((h.1).1, l);
   stood = λ item s. inr s;
+  polls = λ p. (tt, p);
+  written = λ schema usage w. (tt, w);
+  begun = λ x. refl;
   moved = λ x q. refl;
+  asked = λ x. refl;
   others = λ v apart q. ap (λ o. cons_option o (acts tape v q)) (act_other me v m q.group q.position.0 apart (inl (h.1).0));
   made = λ q. λ i. cons_option (act_same me m q.group q.position.0 (inl (h.1).0) i) (made q i);
   known = λ g n e d. inr (known g n e d);
@@ -196,7 +231,11 @@ owed_shown c me nodes' (one ∷ more) tape met h made known =
     subst (λ t. Shown c me tape met t (onto more (one ∷ met))) (sym (with_append c nodes' (shown me one) (flat_map (shown me) more) tape)) (record {
       lawful = λ l. rest.lawful ((first.tape).lawful l);
       stood = λ item s. rest.stood item ((first.tape).stood item s);
+      polls = λ p. rest.polls ((first.tape).polls p);
+      written = λ schema usage w. rest.written schema usage ((first.tape).written schema usage w);
+      begun = λ x. rest.begun x ∙ first.begun x;
       moved = λ x q. rest.moved x q ∙ (first.tape).moved x q;
+      asked = λ x. rest.asked x ∙ (first.tape).asked x;
       others = λ v apart q. rest.others v apart q ∙ (first.tape).made v q;
       made = rest.made;
       known = rest.known;
@@ -211,10 +250,10 @@ flat_append : (me : ℕ) (xs ys : List Met) → flat_map (shown me) (xs ++ ys) �
 flat_append me [] ys = refl
 flat_append me (x ∷ xs) ys = ap (λ l. shown me x ++ l) (flat_append me xs ys) ∙ sym (append_assoc (shown me x) (flat_map (shown me) xs) (flat_map (shown me) ys))
 
-start_good : (c : Cluster) (h : Meanings) (now : Standing) (me : ℕ) → Good c now
-    → Good c (whole_start c now me (start_items (setting c h me) (now.starts me + 1) (now.owed me) (now.node me).met) (start (setting c h me) (now.starts me + 1) (now.owed me) (now.node me).met))
-start_good c h now me g = next_good c now me _ node2 (log_fuse_after now me true) now.data_fuse (set_at now.starts me (now.starts me + 1)) (records_after now me true) (set_at now.owed me []) g
-    (coe 1 0 (i. Next c now me (tape_is i) (record { met = met_is i; open_operations = []; stored = node2.stored }) (set_at now.starts me (now.starts me + 1)) (set_at now.owed me [])) (record {
+start_good : (users : Users) → (c : Cluster) (h : Meanings) (now : Standing) (me : ℕ) → Good users c now
+    → Good users c (whole_start c now me (start_items (setting c h me) (now.starts me + 1) (now.owed me) (now.node me).met) (start (setting c h me) (now.starts me + 1) (now.owed me) (now.node me).met))
+start_good users c h now me g = next_good users c now me _ node2 (log_fuse_after now me true) now.data_fuse (set_at now.starts me (now.starts me + 1)) (records_after now me true) (set_at now.owed me []) g
+    (coe 1 0 (i. Next users c now me (tape_is i) (record { met = met_is i; open_operations = []; stored = node2.stored }) (set_at now.starts me (now.starts me + 1)) (set_at now.owed me [])) (record {
       lawful = whole_lawful;
       stood = λ item s. (follows.tape).stood item (first.stood item (inr s));
       mine = record {
@@ -225,7 +264,14 @@ start_good c h now me g = next_good c now me _ node2 (log_fuse_after now me true
       };
       made = λ v apart q. (follows.tape).made v q ∙ first.others v apart q;
       moved = λ x apart q. (follows.tape).moved x q ∙ first.moved x q;
-      fresh = λ x node new q. (follows.tape).moved x q ∙ first.moved x q ∙ old_moves c now me g x node (inl (later x new)) q;
+      polls = (follows.tape).polls (first.polls (tt, g.polls));
+      written = λ fits. (follows.tape).written c.schema users.usage (first.written c.schema users.usage (tt, g.written fits));
+      begun = λ x apart. follows.begun x ∙ first.begun x;
+      unbegun = λ x node new. follows.begun x ∙ first.begun x ∙ old_begun users c now me g x node (inl (later x new));
+      asked = λ x apart. (follows.tape).asked x ∙ first.asked x;
+      fresh = λ x node new q. (follows.tape).moved x q ∙ first.moved x q ∙ old_moves users c now me g x node (inl (later x new)) q;
+      unasked = λ x node new. (follows.tape).asked x ∙ first.asked x ∙ old_asked users c now me g x node (inl (later x new));
+      worn = λ x le. unmoved_on now.tape tape3 x (λ q. (follows.tape).moved x q ∙ first.moved x q) ((follows.tape).asked x ∙ first.asked x) (g.worn x le);
       started = subst (λ n. start_of (onto notes met2) ≤ n) (sym (at_self now.starts me (now.starts me + 1))) (subst (λ n. n ≤ now.starts me + 1) (sym started) (omega arith));
       starts_same = at_other now.starts me (now.starts me + 1);
       owes = subst (λ o. Owes c tape3 me o) (sym (at_self now.owed me [])) tt;
@@ -282,19 +328,19 @@ start_good c h now me g = next_good c now me _ node2 (log_fuse_after now me true
     later x (inl less) = let is = at_self now.starts me (now.starts me + 1) in omega (arith, less, is)
     later x (inr both) = let is = both.0 in let at = started in omega (arith, is, at)
 
-fated_start_good : (c : Cluster) (h : Meanings) (now : Standing) (me : ℕ) (fate : Fate) → Good c now → Good c (fated_start c h now me fate)
-fated_start_good c h now me Whole g = start_good c h now me g
-fated_start_good c h now me (CutByLog kept) g = cut_start_good c now me kept (set_at now.log_fuse me None) now.data_fuse g
-fated_start_good c h now me (CutByData kept) g = cut_start_good c now me kept now.log_fuse (set_at now.data_fuse me None) g
+fated_start_good : (users : Users) → (c : Cluster) (h : Meanings) (now : Standing) (me : ℕ) (fate : Fate) → Good users c now → Good users c (fated_start c h now me fate)
+fated_start_good users c h now me Whole g = start_good users c h now me g
+fated_start_good users c h now me (CutByLog kept) g = cut_start_good users c now me kept (set_at now.log_fuse me None) now.data_fuse g
+fated_start_good users c h now me (CutByData kept) g = cut_start_good users c now me kept now.log_fuse (set_at now.data_fuse me None) g
 
 -- ---- events
 
-handed_good : (c : Cluster) (h : Meanings) (cuts : Cuts) (now : Standing) (j : ℕ) (o : Option Message) → message_of now.tape j ≡ o → receiver_up (up now) o ≡ true → Good c now → Good c (handed c h cuts now j o)
-handed_good c h cuts now j None is r g = g
-handed_good c h cuts now j (Some m) is r g = fated_good c now m.to (Taken j) (Takes m) made (reply_to c m.to (now.node m.to).met m) (fate_of c now m.to (appends made) (cuts now.tape)) g (λ n. refl) (own_taken c now.tape j m (now.node m.to).met)
+handed_good : (users : Users) → (c : Cluster) (h : Meanings) → (users.fits → Brought users.usage h) → (cuts : Cuts) (now : Standing) (j : ℕ) (o : Option Message) → message_of now.tape j ≡ o → receiver_up (up now) o ≡ true → Good users c now → Good users c (handed c h cuts now j o)
+handed_good users c h brought cuts now j None is r g = g
+handed_good users c h brought cuts now j (Some m) is r g = fated_good users c now m.to (Taken j) (Takes m) made (reply_to c m.to (now.node m.to).met m) (fate_of c now m.to (appends made) (cuts now.tape)) g (λ n. refl) (own_taken c now.tape j m (now.node m.to).met) (λ x other. tt)
     (owes_notes c tape2 m.to made.notes (map Unsends (reply_to c m.to (now.node m.to).met m)) (each_note_on c (Taken j ∷ now.tape) tape2 (λ item s. inr s) m.to made.notes next.1)
     (owes_reply c tape2 m.to (now.node m.to).met m (record { made = (g.node m.to).made; decides = λ h' n e d. inr (inr ((g.node m.to).known h' n e d)) }) (record { number = j; sent = inr (inr (stands_sent now.tape j m is)); taken = inr (inl refl) })))
-    (whole_good s now (Taken j) (Takes m) made g (λ n. refl) next)
+    (whole_good users s now (Taken j) (Takes m) made g (λ n. refl) next)
   where
     s : Setting
     s = setting c h m.to
@@ -305,13 +351,13 @@ handed_good c h cuts now j (Some m) is r g = fated_good c now m.to (Taken j) (Ta
     tape2 : List Item
     tape2 = Crash (number m.to) ∷ Taken j ∷ now.tape
 
-    next : StepNext s now (set_at now.node m.to made.node) (Taken j) (Takes m) made
-    next = take_next s now (set_at now.node m.to made.node) j m g r (stands_sent now.tape j m is)
+    next : StepNext users s now (set_at now.node m.to made.node) (Taken j) (Takes m) made
+    next = take_next users s brought now (set_at now.node m.to made.node) j m g r (stands_sent now.tape j m is)
 
-tick_good : (c : Cluster) (h : Meanings) (now : Standing) (me clock : ℕ) (cut : Fate) → is_up (now.node me).met ≡ true → Good c now → Good c (at_node c h now me (shown me (Ticks clock)) (Tick clock) cut)
-tick_good c h now me clock cut r g = fated_good c now me (TickItem (number me) clock) (Ticks clock) made [] (fate_of c now me (appends made) cut) g (λ n. refl) (own_tick c now.tape me clock (now.node me).met)
+tick_good : (users : Users) → (c : Cluster) (h : Meanings) → (users.fits → Brought users.usage h) → (now : Standing) (me clock : ℕ) (cut : Fate) → is_up (now.node me).met ≡ true → Good users c now → Good users c (at_node c h now me (shown me (Ticks clock)) (Tick clock) cut)
+tick_good users c h brought now me clock cut r g = fated_good users c now me (TickItem (number me) clock) (Ticks clock) made [] (fate_of c now me (appends made) cut) g (λ n. refl) (own_tick c now.tape me clock (now.node me).met) (λ x other. tt)
     (owes_notes c (Crash (number me) ∷ TickItem (number me) clock ∷ now.tape) me made.notes [] (each_note_on c (TickItem (number me) clock ∷ now.tape) (Crash (number me) ∷ TickItem (number me) clock ∷ now.tape) (λ item s. inr s) me made.notes next.1) tt)
-    (whole_good s now (TickItem (number me) clock) (Ticks clock) made g (λ n. refl) next)
+    (whole_good users s now (TickItem (number me) clock) (Ticks clock) made g (λ n. refl) next)
   where
     s : Setting
     s = setting c h me
@@ -319,14 +365,14 @@ tick_good c h now me clock cut r g = fated_good c now me (TickItem (number me) c
     made : Step
     made = step s (now.node me) (Tick clock)
 
-    next : StepNext s now (set_at now.node me made.node) (TickItem (number me) clock) (Ticks clock) made
-    next = ticked_next s now (set_at now.node me made.node) clock g r
+    next : StepNext users s now (set_at now.node me made.node) (TickItem (number me) clock) (Ticks clock) made
+    next = ticked_next users s brought now (set_at now.node me made.node) clock g r
 
-begin_good : (c : Cluster) (h : Meanings) (now : Standing) (me : ℕ) (request : Request) (text : List ℕ) (cut : Fate) → is_up (now.node me).met ≡ true → Good c now
-    → Good c (at_node c h now me (shown me (Begins (op_of (setting c h me) (now.node me).met) text)) (Begin request text) cut)
-begin_good c h now me request text cut r g = fated_good c now me (BeginItem id text) (Begins id text) made [] (fate_of c now me (appends made) cut) g (λ n. refl) (own_begin c now.tape id text (now.node me).met)
+begin_good : (users : Users) → (c : Cluster) (h : Meanings) → (users.fits → Brought users.usage h) → (now : Standing) (me : ℕ) (request : Request) (text : List ℕ) (cut : Fate) → (users.fits → (users.usage).meaning text ≡ Some request) → is_up (now.node me).met ≡ true → Good users c now
+    → Good users c (at_node c h now me (shown me (Begins (op_of (setting c h me) (now.node me).met) text)) (Begin request text) cut)
+begin_good users c h brought now me request text cut means r g = fated_good users c now me (BeginItem id text) (Begins id text) made [] (fate_of c now me (appends made) cut) g (λ n. refl) (own_begin c now.tape id text (now.node me).met (never_asked users s now g) (never_begun users s now g)) (begins_other users s now text g)
     (owes_notes c (Crash (number me) ∷ BeginItem id text ∷ now.tape) me made.notes [] (each_note_on c (BeginItem id text ∷ now.tape) (Crash (number me) ∷ BeginItem id text ∷ now.tape) (λ item s. inr s) me made.notes next.1) tt)
-    (whole_good s now (BeginItem id text) (Begins id text) made g (λ n. refl) next)
+    (whole_good users s now (BeginItem id text) (Begins id text) made g (λ n. refl) next)
   where
     s : Setting
     s = setting c h me
@@ -337,15 +383,20 @@ begin_good c h now me request text cut r g = fated_good c now me (BeginItem id t
     made : Step
     made = step s (now.node me) (Begin request text)
 
-    next : StepNext s now (set_at now.node me made.node) (BeginItem id text) (Begins id text) made
-    next = begun_next s now (set_at now.node me made.node) request text g r
+    next : StepNext users s now (set_at now.node me made.node) (BeginItem id text) (Begins id text) made
+    next = begun_next users s brought now (set_at now.node me made.node) request text means g r
 
-marked_good : (c : Cluster) (now : Standing) (item : Item) → TapeOn c now.tape (item ∷ now.tape) → Good c now → Good c (marked now item)
-marked_good c now item on g = record {
+marked_good : (users : Users) → (c : Cluster) (now : Standing) (item : Item) → TapeOn c now.tape (item ∷ now.tape) → ((x : OpId) → has_begun (item ∷ now.tape) x ≡ has_begun now.tape x) → Good users c now → Good users c (marked now item)
+marked_good users c now item on same g = record {
   lawful = on.lawful g.lawful;
-  node = λ v. other_good c now.tape (item ∷ now.tape) v (now.node v) on.stood (on.made v) (λ x is q. on.moved x q) (g.node v);
+  node = λ v. other_good users c now.tape (item ∷ now.tape) v (now.node v) on.stood (on.made v) (λ x is q. on.moved x q) (g.node v);
   starts = g.starts;
+  polls = on.polls g.polls;
+  written = λ fits. on.written c.schema users.usage (g.written fits);
+  unbegun = λ x new. same x ∙ g.unbegun x new;
   fresh = λ x new q. on.moved x q ∙ g.fresh x new q;
+  unasked = λ x new. on.asked x ∙ g.unasked x new;
+  worn = λ x le. unmoved_on now.tape (item ∷ now.tape) x (on.moved x) (on.asked x) (g.worn x le);
   owes = λ v. owes_on c now.tape (item ∷ now.tape) v on.stood (on.made v) (now.owed v) (g.owes v);
   owed = g.owed;
 }
@@ -362,22 +413,22 @@ found test (x ∷ xs) j h = go (test x) refl h (found test xs j)
     go true e k again = subst (λ y. test y ≡ true) (some_is x j k) e
     go false e k again = again k
 
-deliverable_good : (c : Cluster) (h : Meanings) (cuts : Cuts) (now : Standing) (j : ℕ) → next_delivery (up now) now.tape ≡ Some j → Good c now → Good c (delivered c h cuts now j)
-deliverable_good c h cuts now j e g = handed_good c h cuts now j (message_of now.tape j) refl
+deliverable_good : (users : Users) → (c : Cluster) (h : Meanings) → (users.fits → Brought users.usage h) → (cuts : Cuts) (now : Standing) (j : ℕ) → next_delivery (up now) now.tape ≡ Some j → Good users c now → Good users c (delivered c h cuts now j)
+deliverable_good users c h brought cuts now j e g = handed_good users c h brought cuts now j (message_of now.tape j) refl
     (both_true (not (is_taken now.tape j) && not (is_dropped now.tape j)) (receiver_up (up now) (message_of now.tape j)) (found (is_deliverable (up now) now.tape) _ j e)).1 g
 
-drained_good : (c : Cluster) (h : Meanings) (cuts : Cuts) (most : ℕ) (now : Standing) → Good c now → Good c (drained c h cuts now most)
-drained_good c h cuts zero now g = go (next_delivery (up now) now.tape)
+drained_good : (users : Users) → (c : Cluster) (h : Meanings) → (users.fits → Brought users.usage h) → (cuts : Cuts) (most : ℕ) (now : Standing) → Good users c now → Good users c (drained c h cuts now most)
+drained_good users c h brought cuts zero now g = go (next_delivery (up now) now.tape)
   where
-    go : (o : Option ℕ) → Good c (unless_none now (λ j. marked now CutItem) o)
+    go : (o : Option ℕ) → Good users c (unless_none now (λ j. marked now CutItem) o)
     go None = g
-    go (Some j) = marked_good c now CutItem (tape_item c now.tape CutItem tt (λ x q. refl) (λ v q. refl)) g
-drained_good c h cuts (suc most) now g = go (next_delivery (up now) now.tape) refl (λ j. drained_good c h cuts most (delivered c h cuts now j))
+    go (Some j) = marked_good users c now CutItem (tape_item c now.tape CutItem tt (λ x q. refl) (λ v q. refl) (λ x. refl) tt (λ schema usage. tt)) (λ x. refl) g
+drained_good users c h brought cuts (suc most) now g = go (next_delivery (up now) now.tape) refl (λ j. drained_good users c h brought cuts most (delivered c h cuts now j))
   where
-    go : (o : Option ℕ) → next_delivery (up now) now.tape ≡ o → ((j : ℕ) → Good c (delivered c h cuts now j) → Good c (drained c h cuts (delivered c h cuts now j) most))
-        → Good c (unless_none now (λ j. drained c h cuts (delivered c h cuts now j) most) o)
+    go : (o : Option ℕ) → next_delivery (up now) now.tape ≡ o → ((j : ℕ) → Good users c (delivered c h cuts now j) → Good users c (drained c h cuts (delivered c h cuts now j) most))
+        → Good users c (unless_none now (λ j. drained c h cuts (delivered c h cuts now j) most) o)
     go None e more = g
-    go (Some j) e more = more j (deliverable_good c h cuts now j e g)
+    go (Some j) e more = more j (deliverable_good users c h brought cuts now j e g)
 
 not_because : (t : Bool) (why : ℕ) (other : Option ℕ) → because t why other ≡ None → (t ≡ false) × (other ≡ None)
 not_because true why other h = cc
@@ -387,48 +438,73 @@ not_false : (t : Bool) → not t ≡ false → t ≡ true
 not_false true h = refl
 not_false false h = cc
 
-delivered_good : (c : Cluster) (h : Meanings) (cuts : Cuts) (now : Standing) (j : ℕ) (o : Option Message) → message_of now.tape j ≡ o → receiver_down now o ≡ false → Good c now → Good c (handed c h cuts now j o)
-delivered_good c h cuts now j None is r g = g
-delivered_good c h cuts now j (Some m) is r g = handed_good c h cuts now j (Some m) is (not_false (up now m.to) r) g
+delivered_good : (users : Users) → (c : Cluster) (h : Meanings) → (users.fits → Brought users.usage h) → (cuts : Cuts) (now : Standing) (j : ℕ) (o : Option Message) → message_of now.tape j ≡ o → receiver_down now o ≡ false → Good users c now → Good users c (handed c h cuts now j o)
+delivered_good users c h brought cuts now j None is r g = g
+delivered_good users c h brought cuts now j (Some m) is r g = handed_good users c h brought cuts now j (Some m) is (not_false (up now m.to) r) g
 
-event_good : (c : Cluster) (h : Meanings) (cuts : Cuts) (now : Standing) (event : WorldEvent) → refusal c now event ≡ None → Good c now → Good c (after_event c h cuts now event)
-event_good c h cuts now (TickEvent node clock) r g =
+event_good : (users : Users) → (c : Cluster) (h : Meanings) → (users.fits → Brought users.usage h) → (cuts : Cuts) (now : Standing) (event : WorldEvent) → (users.fits → IsMeant users.usage event) → refusal c now event ≡ None → Good users c now → Good users c (after_event c h cuts now event)
+event_good users c h brought cuts now (TickEvent node clock) meant r g =
     let second = (not_because (not (is_node c node.0)) 6 _ r).1 in let third = (not_because (not (up now node.0)) 1 _ second).0 in
-    tick_good c h now node.0 clock (cuts now.tape) (not_false (up now node.0) third) g
-event_good c h cuts now (Deliver j) r g =
+    tick_good users c h brought now node.0 clock (cuts now.tape) (not_false (up now node.0) third) g
+event_good users c h brought cuts now (Deliver j) meant r g =
     let second = (not_because (not (is_sent now.tape j)) 3 _ r).1 in let third = (not_because (is_dropped now.tape j) 4 _ second).1 in
-    delivered_good c h cuts now j (message_of now.tape j) refl (not_because (receiver_down now (message_of now.tape j)) 1 None third).0 g
-event_good c h cuts now (Drop j) r g = marked_good c now (Dropped j) (tape_item c now.tape (Dropped j) tt (λ x q. refl) (λ v q. refl)) g
-event_good c h cuts now (Drain most) r g = drained_good c h cuts most now g
-event_good c h cuts now (CrashEvent node) r g = crashes_good c now node.0 g
-event_good c h cuts now (StartEvent node) r g = fated_start_good c h now node.0 (fate_of c now node.0 true (cuts now.tape)) g
-event_good c h cuts now (FuseEvent node calls image Log) r g = record { lawful = g.lawful; node = g.node; starts = g.starts; fresh = g.fresh; owes = g.owes; owed = g.owed }
-event_good c h cuts now (FuseEvent node calls image Data) r g = record { lawful = g.lawful; node = g.node; starts = g.starts; fresh = g.fresh; owes = g.owes; owed = g.owed }
-event_good c h cuts now (BeginEvent node request text) r g =
+    delivered_good users c h brought cuts now j (message_of now.tape j) refl (not_because (receiver_down now (message_of now.tape j)) 1 None third).0 g
+event_good users c h brought cuts now (Drop j) meant r g = marked_good users c now (Dropped j) (tape_item c now.tape (Dropped j) tt (λ x q. refl) (λ v q. refl) (λ x. refl) tt (λ schema usage. tt)) (λ x. refl) g
+event_good users c h brought cuts now (Drain most) meant r g = drained_good users c h brought cuts most now g
+event_good users c h brought cuts now (CrashEvent node) meant r g = crashes_good users c now node.0 g
+event_good users c h brought cuts now (StartEvent node) meant r g = fated_start_good users c h now node.0 (fate_of c now node.0 true (cuts now.tape)) g
+event_good users c h brought cuts now (FuseEvent node calls image Log) meant r g = record { lawful = g.lawful; node = g.node; starts = g.starts; polls = g.polls; written = g.written; unbegun = g.unbegun; fresh = g.fresh; unasked = g.unasked; worn = g.worn; owes = g.owes; owed = g.owed }
+event_good users c h brought cuts now (FuseEvent node calls image Data) meant r g = record { lawful = g.lawful; node = g.node; starts = g.starts; polls = g.polls; written = g.written; unbegun = g.unbegun; fresh = g.fresh; unasked = g.unasked; worn = g.worn; owes = g.owes; owed = g.owed }
+event_good users c h brought cuts now (BeginEvent node request text) meant r g =
     let second = (not_because (not (is_node c node.0)) 6 _ r).1 in let third = (not_because (not (up now node.0)) 1 _ second).0 in
-    begin_good c h now node.0 request text (cuts now.tape) (not_false (up now node.0) third) g
+    begin_good users c h brought now node.0 request text (cuts now.tape) meant (not_false (up now node.0) third) g
 
-run_good : (c : Cluster) (cuts : Cuts) (events : List Happening) (now : Standing) → Good c now → Good c (goes_on c cuts now events)
-run_good c cuts [] now g = g
-run_good c cuts (one ∷ events) now g = run_good c cuts events (unless_refused now (after_event c one.handlers cuts now one.event) (refusal c now one.event)) (go (refusal c now one.event) refl)
+run_good : (users : Users) → (c : Cluster) (cuts : Cuts) (events : List Happening) (now : Standing) → (users.fits → Fits users.usage events) → Good users c now → Good users c (goes_on c cuts now events)
+run_good users c cuts [] now fits g = g
+run_good users c cuts (one ∷ events) now fits g = run_good users c cuts events (unless_refused now (after_event c one.handlers cuts now one.event) (refusal c now one.event)) (λ f. (fits f).1) (go (refusal c now one.event) refl)
   where
-    go : (o : Option ℕ) → refusal c now one.event ≡ o → Good c (unless_refused now (after_event c one.handlers cuts now one.event) o)
-    go None r = event_good c one.handlers cuts now one.event r g
+    go : (o : Option ℕ) → refusal c now one.event ≡ o → Good users c (unless_refused now (after_event c one.handlers cuts now one.event) o)
+    go None r = event_good users c one.handlers (λ f. ((fits f).0).brought) cuts now one.event (λ f. ((fits f).0).meant) r g
     go (Some why) r = g
 
-nothing_good : (c : Cluster) → Good c nothing_yet
-nothing_good c = record {
+nothing_good : (users : Users) → (c : Cluster) → Good users c nothing_yet
+nothing_good users c = record {
   lawful = tt;
   node = λ v. record { made = λ q. refl; known = λ g n e h. cc; held = tt; rising = tt };
   starts = λ v. omega arith;
+  polls = tt;
+  written = λ fits. tt;
+  unbegun = λ x new. refl;
   fresh = λ x new q. refl;
+  unasked = λ x new. refl;
+  worn = λ x le. record { moved = λ q. refl; asked = refl };
   owes = λ v. tt;
   owed = λ v h. refl;
 }
 
-opened_good : (c : Cluster) (h : Meanings) (those : List ℕ) (now : Standing) → Good c now → Good c (fold (λ now me. fated_start c h now me Whole) now those)
-opened_good c h [] now g = g
-opened_good c h (me ∷ those) now g = opened_good c h those (fated_start c h now me Whole) (start_good c h now me g)
+opened_good : (users : Users) → (c : Cluster) (h : Meanings) (those : List ℕ) (now : Standing) → Good users c now → Good users c (fold (λ now me. fated_start c h now me Whole) now those)
+opened_good users c h [] now g = g
+opened_good users c h (me ∷ those) now g = opened_good users c h those (fated_start c h now me Whole) (start_good users c h now me g)
+
+run_stands : (users : Users) → (c : Cluster) (first : Meanings) (events : List Happening) (tape : List Item) → (run : IsRun c first events tape) → (users.fits → Fits users.usage events) → Good users c (goes_on c run.cuts (opening c first) events)
+run_stands users c first events tape run fits = run_good users c run.cuts events (opening c first) fits (opened_good users c first (nodes c) nothing_yet (nothing_good users c))
+
+-- of any events, whatever was meant
+nobody : Users
+nobody = record { usage = record { meaning = λ text. None; handlers = λ moment. [] }; fits = ⊥ }
+
+no_fits : (events : List Happening) → nobody.fits → Fits nobody.usage events
+unfolding nobody
+no_fits events f = absurd f
+
+pub run_polls : (c : Cluster) (first : Meanings) (events : List Happening) (tape : List Item) → IsRun c first events tape → ArePolls tape
+run_polls c first events tape run = subst ArePolls (sym run.tape_is) (run_stands nobody c first events tape run (no_fits events)).polls
 
 pub run_lawful : (c : Cluster) (first : Meanings) (events : List Happening) (tape : List Item) → IsRun c first events tape → Lawful c tape
-run_lawful c first events tape run = subst (Lawful c) (sym run.tape_is) (run_good c run.cuts events (opening c first) (opened_good c first (nodes c) nothing_yet (nothing_good c))).lawful
+run_lawful c first events tape run = subst (Lawful c) (sym run.tape_is) (run_stands nobody c first events tape run (no_fits events)).lawful
+
+pub run_written : (c : Cluster) (usage : Usage) (first : Meanings) (events : List Happening) (tape : List Item) → IsRun c first events tape → Fits usage events → LawfulWrites c usage tape
+run_written c usage first events tape run fits = record {
+  lawful = run_lawful c first events tape run;
+  written = subst (AreWritten c.schema usage) (sym run.tape_is) ((run_stands (record { usage = usage; fits = Fits usage events }) c first events tape run (λ f. f)).written fits);
+}

@@ -12,13 +12,16 @@ use Rattle.mega_transcript.specs.declared.item.Item.{Item}
 use Rattle.mega_transcript.specs.declared.item.Item.TheVariants.{Sent}
 use Rattle.mega_promises.specs.Runs.{Standing}
 use Rattle.mega_rules.specs.Met.{Met, Sends, Unsends}
-use Rattle.mega_rules.specs.Clock.{begun_of, is_up, start_of}
+use Rattle.mega_rules.specs.Clock.{begun_of, is_up, last_number, start_of}
 use Rattle.mega_rules.specs.Logs.{decided}
 use Rattle.mega_rules.specs.Operations.{Node}
 use Rattle.mega_rules.specs.Steps.{onto}
 use Rattle.mega_rules.specs.Voting.{act_in, acts as acts_met, prepared, voted}
 use Rattle.mega_laws.specs.Places.{Place, acts, moves}
+use Rattle.mega_lawful.proofs.Owned.{Users}
 use Rattle.mega_laws.specs.Lawful.{Lawful, MayMake, a_prepare, an_accept}
+use Rattle.mega_laws.specs.Polls.{ArePolls, has_asked}
+use Rattle.mega_laws.specs.Writes.{AreWritten, has_begun}
 use Rattle.mega_laws.proofs.Ballots.{number_self}
 use Rattle.mega_lawful.specs.Vouched.{Each, sent}
 use Rattle.mega_lawful.proofs.Sending.{Stood, took_on}
@@ -49,32 +52,45 @@ owes_on c old new me s same (one ∷ more) h = (note_on c old new s me one h.0, 
 
 -- ---- nodes
 
-pub record NodeGood (c : Cluster) (tape : List Item) (me : ℕ) (node : Node) : Type 0 where
+pub record NodeGood (users : Users) (c : Cluster) (tape : List Item) (me : ℕ) (node : Node) : Type 0 where
   pub made : (q : Place) → acts_met node.met q.group q.position.0 ≡ acts tape me q
   pub known : Known me node.met tape
-  pub held : Each (Held c tape me (start_of node.met) (begun_of node.met + 1) node.met) node.open_operations
+  pub held : Each (Held users c tape me (start_of node.met) (begun_of node.met + 1) node.met) node.open_operations
   pub rising : IsRising 0 node.open_operations
 
 -- an operation that its node did not begin
 abbrev pub IsNew : ℕ → List Met → OpId → Type 0
 IsNew starts met x = (starts < x.start) ⊎ ((x.start ≡ start_of met) × (begun_of met < x.number))
 
-pub record Good (c : Cluster) (now : Standing) : Type 0 where
+-- an operation that neither moved nor asked
+pub record Unmoved (tape : List Item) (x : OpId) : Type 0 where
+  pub moved : (q : Place) → moves tape x q ≡ []
+  pub asked : has_asked tape x ≡ false
+
+pub unmoved_on : (old new : List Item) (x : OpId) → ((q : Place) → moves new x q ≡ moves old x q) → has_asked new x ≡ has_asked old x → Unmoved old x → Unmoved new x
+unmoved_on old new x moved asked h = record { moved = λ q. moved q ∙ h.moved q; asked = asked ∙ h.asked }
+
+pub record Good (users : Users) (c : Cluster) (now : Standing) : Type 0 where
   pub lawful : Lawful c now.tape
-  pub node : (me : ℕ) → NodeGood c now.tape me (now.node me)
+  pub node : (me : ℕ) → NodeGood users c now.tape me (now.node me)
   pub starts : (me : ℕ) → start_of (now.node me).met ≤ now.starts me
+  pub polls : ArePolls now.tape
   pub fresh : (x : OpId) → IsNew (now.starts x.node.0) (now.node x.node.0).met x → (q : Place) → moves now.tape x q ≡ []
+  pub unasked : (x : OpId) → IsNew (now.starts x.node.0) (now.node x.node.0).met x → has_asked now.tape x ≡ false
+  pub worn : (x : OpId) → last_number ≤ x.number → Unmoved now.tape x
+  pub written : users.fits → AreWritten c.schema users.usage now.tape
+  pub unbegun : (x : OpId) → IsNew (now.starts x.node.0) (now.node x.node.0).met x → has_begun now.tape x ≡ false
   pub owes : (me : ℕ) → Owes c now.tape me (now.owed me)
   pub owed : (me : ℕ) → is_up (now.node me).met ≡ true → now.owed me ≡ []
 
 -- a node that met nothing more
-pub other_good : (c : Cluster) (old new : List Item) (me : ℕ) (node : Node) → Stood old new → ((q : Place) → acts new me q ≡ acts old me q) → ((x : OpId) → x.node.0 ≡ me → (q : Place) → moves new x q ≡ moves old x q)
-    → NodeGood c old me node → NodeGood c new me node
-other_good c old new me node s same moved h = record {
+pub other_good : (users : Users) → (c : Cluster) (old new : List Item) (me : ℕ) (node : Node) → Stood old new → ((q : Place) → acts new me q ≡ acts old me q) → ((x : OpId) → x.node.0 ≡ me → (q : Place) → moves new x q ≡ moves old x q)
+    → NodeGood users c old me node → NodeGood users c new me node
+other_good users c old new me node s same moved h = record {
   made = λ q. h.made q ∙ sym (same q);
   known = λ g n e k. s _ (h.known g n e k);
-  held = each_on (Held c old me (start_of node.met) (begun_of node.met + 1) node.met) (Held c new me (start_of node.met) (begun_of node.met + 1) node.met)
-      (λ o held. held_on c old new me (start_of node.met) (begun_of node.met + 1) (begun_of node.met + 1) node.met node.met o (record { stood = s; moved = λ q. moved o.id held.node q }) (same_met node.met) (omega arith) held)
+  held = each_on (Held users c old me (start_of node.met) (begun_of node.met + 1) node.met) (Held users c new me (start_of node.met) (begun_of node.met + 1) node.met)
+      (λ o held. held_on users c old new me (start_of node.met) (begun_of node.met + 1) (begun_of node.met + 1) node.met node.met o (record { stood = s; moved = λ q. moved o.id held.node q }) (same_met node.met) (omega arith) held)
       node.open_operations h.held;
   rising = h.rising;
 }

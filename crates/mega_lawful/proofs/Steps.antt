@@ -1,5 +1,5 @@
 -- A node at which an operation begins leaves a good standing; and so does each step that is whole.
-use Rattle.std.proofs.Common.{◌≡◌, inl, inr, ℕ, ◌+◌, ◌-◌, ◌==◌, ◌≤◌, ◌<◌, max, min, nat_le, Bool, true, false, cond, List, [], ◌∷◌, ◌++◌, flat_map, length, Option, Some, None, refl, sym, ap, ◌∙◌, subst, arith}
+use Rattle.std.proofs.Common.{◌≡◌, ◌⊎◌, ◌||◌, inl, inr, ℕ, ◌+◌, ◌-◌, ◌==◌, ◌≤◌, ◌<◌, max, min, nat_le, nat_lt, Bool, true, false, cond, List, [], ◌∷◌, ◌++◌, flat_map, length, Option, Some, None, refl, sym, ap, ◌∙◌, subst, arith}
 use Rattle.std.proofs.lemmas.Bool.Decides.{nat_tests}
 use Rattle.mega_base.specs.declared.names.OpId.{OpId}
 use Rattle.mega_cluster.specs.declared.cluster.Cluster.{Cluster}
@@ -8,7 +8,7 @@ use Rattle.mega_wire.specs.declared.message.Message.{Message}
 use Rattle.mega_transcript.specs.declared.item.Item.{Item}
 use Rattle.mega_transcript.specs.declared.item.Item.TheVariants.{Sent, Begin}
 use Rattle.mega_transcript.specs.Tape.{sent_count}
-use Rattle.mega_promises.specs.Items.{number, numbered, shown}
+use Rattle.mega_promises.specs.Items.{numbered, shown}
 use Rattle.mega_promises.specs.Promises.{Stands}
 use Rattle.mega_promises.specs.Runs.{Standing, log_fuse_after, records_after, appends, set_at, whole_step, with_item, with_items}
 use Rattle.mega_promises.specs.Messages.{message_of}
@@ -20,7 +20,14 @@ use Rattle.mega_outcome.specs.declared.answer.Answer.TheVariants.{Worn}
 use Rattle.mega_rules.specs.Logs.{decided}
 use Rattle.mega_rules.specs.Operations.{Node, Now, Operation, Setting}
 use Rattle.mega_rules.specs.Steps.{begin_step, at_open, new_operation, op_of, refusal, unless_refused, is_worn, unless_missing, missing_kind, Step, apply_notes, at_first, onto}
-use Rattle.mega_laws.specs.Places.{Place, moves}
+use Rattle.mega_laws.specs.Places.{In, Place, Proposes as ProposesMove, moves}
+use Rattle.mega_laws.specs.Writes.{IsNamed, has_begun}
+use Rattle.mega_laws.proofs.Ballots.{clash, number_self}
+use Rattle.mega_wal.specs.Same.{same_op}
+use Rattle.mega_wal.proofs.Sames.{same_op_equal}
+use Rattle.mega_lawful.specs.Usages.{Brought}
+use Rattle.mega_lawful.proofs.Owned.{Users}
+use Rattle.mega_laws.specs.Polls.{has_asked}
 use Rattle.mega_laws.proofs.Lists.{some_is}
 use Rattle.mega_lawful.specs.Vouched.{Each, sent}
 use Rattle.mega_lawful.proofs.Sending.{Stood}
@@ -28,16 +35,15 @@ use Rattle.mega_lawful.proofs.Opened.{Grew}
 use Rattle.mega_lawful.proofs.Turns.{Fine, Frame, Held, fine_turn, Known, each_on, held_on}
 use Rattle.mega_lawful.proofs.Noting.{begun_it}
 use Rattle.mega_lawful.proofs.Noted.{with_append, with_sent, Follows, Note, notes_follow, tape_item}
-use Rattle.mega_lawful.proofs.Beginning.{AllActed, begun_fine}
-use Rattle.mega_lawful.proofs.Standing.{Good}
+use Rattle.mega_lawful.proofs.Beginning.{AllActed, Starting, begun_fine}
+use Rattle.mega_lawful.proofs.Standing.{Good, IsNew}
 use Rattle.mega_lawful.proofs.Stepping.{Next, Own, next_good, step_next}
 use Rattle.mega_lawful.proofs.Events.{Noted, acted_sends, apply_plain, each_append, noted_lasts, notes_grew, onto_append, onto_decided, onto_grew, plain_notes}
 use Rattle.mega_laws.proofs.Ballots.{number_is}
-use Rattle.mega_rules.specs.Steps.{step}
 use Rattle.mega_lawful.proofs.Whole.{StepNext, held_first, none_before, up_onto}
 
-pub own_begin : (c : Cluster) (tape : List Item) (id : OpId) (text : List ℕ) (met : List Met) → Own c tape (Begin id text) met (Begins id text)
-own_begin c tape id text met = record { on = tape_item c tape (Begin id text) tt (λ x q. refl) (λ v q. refl); made = λ g n. refl; decides = λ g n. refl; start = refl; begun = omega arith; up = refl }
+pub own_begin : (c : Cluster) (tape : List Item) (id : OpId) (text : List ℕ) (met : List Met) → has_asked tape id ≡ false → (IsNamed id → has_begun tape id ≡ false) → Own c tape (Begin id text) met (Begins id text)
+own_begin c tape id text met unasked unbegun = record { on = tape_item c tape (Begin id text) tt (λ x q. refl) (λ v q. refl) (λ x. refl) unasked (λ schema usage. unbegun); begins = λ x other. ap (λ t. t || has_begun tape x) other; made = λ g n. refl; decides = λ g n. refl; start = refl; begun = omega arith; up = refl }
 
 not_worn : (t : Bool) (o : Option Answer) → cond t (Some Worn) o ≡ None → t ≡ false
 not_worn true o h = cc
@@ -48,6 +54,44 @@ less_is a b h = grind (arith, nat_tests)
 
 next_is : (b last : ℕ) → nat_le (last - 1) b ≡ false → min (b + 1) last ≡ b + 1
 next_is b last h = let less = less_is (last - 1) b h in omega (arith, less)
+
+next_named : (b last : ℕ) → min (b + 1) last ≡ b + 1 → nat_le (last - 1) b ≡ false → min (b + 1) last < last
+next_named b last is h = let less = less_is (last - 1) b h in omega (arith, is, less)
+
+next_new : (b last : ℕ) → nat_lt b last ≡ true → b < min (b + 1) last
+next_new b last h = let less : b < last = grind (arith, nat_tests) in omega (arith, less)
+
+next_last : (b last : ℕ) → nat_lt b last ≡ false → last ≤ min (b + 1) last
+next_last b last h = let le : last ≤ b = grind (arith, nat_tests) in omega (arith, le)
+
+-- an operation that begins never asked
+pub never_asked : (users : Users) → (s : Setting) (now : Standing) → Good users s.cluster now → has_asked now.tape (op_of s (now.node s.me).met) ≡ false
+never_asked users s now g = go (nat_lt (begun_of (now.node s.me).met) last_number) refl
+  where
+    go : (t : Bool) → nat_lt (begun_of (now.node s.me).met) last_number ≡ t → has_asked now.tape (op_of s (now.node s.me).met) ≡ false
+    go true h = g.unasked (op_of s (now.node s.me).met) (inr (refl, next_new (begun_of (now.node s.me).met) last_number h))
+    go false h = (g.worn (op_of s (now.node s.me).met) (next_last (begun_of (now.node s.me).met) last_number h)).asked
+
+named_new : (b last : ℕ) → min (b + 1) last < last → b < min (b + 1) last
+named_new b last less = omega arith
+
+-- an operation that begins and has a name of its own did not begin before
+pub never_begun : (users : Users) → (s : Setting) (now : Standing) → Good users s.cluster now → IsNamed (op_of s (now.node s.me).met) → has_begun now.tape (op_of s (now.node s.me).met) ≡ false
+never_begun users s now g named = g.unbegun (op_of s (now.node s.me).met) (inr (refl, named_new (begun_of (now.node s.me).met) last_number named))
+
+-- and is none that its node did not begin
+pub begins_other : (users : Users) → (s : Setting) (now : Standing) (text : List ℕ) → Good users s.cluster now → (x : OpId)
+    → ((s.me == x.node.0) ≡ false) ⊎ IsNew (now.starts s.me) (Begins (op_of s (now.node s.me).met) text ∷ (now.node s.me).met) x → same_op (op_of s (now.node s.me).met) x ≡ false
+begins_other users s now text g x h = go (same_op (op_of s (now.node s.me).met) x) refl h
+  where
+    above : (b last n : ℕ) → b + 1 < n → min (b + 1) last ≡ n → ⊥
+    above b last n less is = omega (arith, less, is)
+
+    go : (t : Bool) → same_op (op_of s (now.node s.me).met) x ≡ t → ((s.me == x.node.0) ≡ false) ⊎ IsNew (now.starts s.me) (Begins (op_of s (now.node s.me).met) text ∷ (now.node s.me).met) x → t ≡ false
+    go false e k = refl
+    go true e (inl apart) = absurd (clash (s.me == s.me) (number_self s.me) (subst (λ (y : OpId). (s.me == y.node.0) ≡ false) (sym (same_op_equal (op_of s (now.node s.me).met) x e)) apart))
+    go true e (inr (inl later)) = absurd (let is = ap (λ (y : OpId). y.start) (same_op_equal (op_of s (now.node s.me).met) x e) in let first = g.starts s.me in omega (arith, is, first, later))
+    go true e (inr (inr both)) = absurd (above (begun_of (now.node s.me).met) last_number x.number both.1 (ap (λ (y : OpId). y.number) (same_op_equal (op_of s (now.node s.me).met) x e)))
 
 next_small : (b last : ℕ) → min (b + 1) last ≤ b + 1
 next_small b last = omega arith
@@ -61,11 +105,11 @@ stands_sent (Sent n one ∷ before) j m h = go (n == j) refl h (stands_sent befo
     go false e k again = inr (again k)
 stands_sent (_ ∷ before) j m h = inr (stands_sent before j m h)
 
-pub begun_next : (s : Setting) (now : Standing) (nodes' : ℕ → Node) (request : Request) (text : List ℕ) → Good s.cluster now → is_up (now.node s.me).met ≡ true
-    → StepNext s now nodes' (Begin (op_of s (now.node s.me).met) text) (Begins (op_of s (now.node s.me).met) text) (begin_step s (now.node s.me) request text)
-begun_next s now nodes' request text g up = (
-  step_next c now me nodes' (Begin id text) (Begins id text) notes k acted.sends acted.kept acted.stored _ g up (own_begin c now.tape id text met) all_may
-      (acted_sends s me st l k tape2 (onto notes met1) [] acted ((follows.tape).lawful (tt, g.lawful)) (none_before c me tape2 k) all_done grown) refl (up_onto c tape1 me notes met1 all_may up),
+pub begun_next : (users : Users) → (s : Setting) → (users.fits → Brought users.usage s.handlers) → (now : Standing) (nodes' : ℕ → Node) (request : Request) (text : List ℕ) → (users.fits → (users.usage).meaning text ≡ Some request) → Good users s.cluster now → is_up (now.node s.me).met ≡ true
+    → StepNext users s now nodes' (Begin (op_of s (now.node s.me).met) text) (Begins (op_of s (now.node s.me).met) text) (begin_step s (now.node s.me) request text)
+begun_next users s brought now nodes' request text means g up = (
+  step_next users c now me nodes' (Begin id text) (Begins id text) notes k acted.sends acted.kept acted.stored _ g up (own_begin c now.tape id text met (never_asked users s now g) (never_begun users s now g)) all_may
+      (acted_sends users s me st l k tape2 (onto notes met1) [] acted ((follows.tape).polls (never_asked users s now g, g.polls)) (none_before c me tape2 k) all_done grown) refl (begins_other users s now text g) (up_onto c tape1 me notes met1 all_may up),
   all_may,
 )
   where
@@ -151,39 +195,50 @@ begun_next s now nodes' request text g up = (
     known_first h n e x = follows.known (λ h' n' e' y. inr ((g.node me).known h' n' e' y)) h n e (ap (λ z. decided z h n) spread
         ∙ onto_decided acted.answers (onto acted.valid (onto applies met1)) h n e (onto_decided acted.valid (onto applies met1) h n e (onto_decided applies met1 h n e x)))
 
-    open_fine : Fine c frame (begun_of met + 1) met1 node.open_operations []
+    open_fine : Fine users c frame (begun_of met + 1) met1 node.open_operations []
     open_fine = record {
       lawful = (follows.tape).lawful (tt, g.lawful);
+      written = λ fits. (follows.tape).written c.schema users.usage (never_begun users s now g, g.written fits);
       later = λ x h q. refl;
+      asked = λ x h. refl;
       made = λ v q. refl;
       known = known_first;
       quiet = tt;
-      held = each_on (Held c tape2 me st (begun_of met + 1) met) (Held c tape2 me st (begun_of met + 1) met1)
-          (λ one held. held_on c tape2 tape2 me st (begun_of met + 1) (begun_of met + 1) met met1 one (record { stood = λ item x. x; moved = λ q. refl }) (onto_grew (Begins id text ∷ []) met) (omega arith) held) node.open_operations
-          (held_first c now.tape tape2 me node stood2 moved2 (g.node me));
+      held = each_on (Held users c tape2 me st (begun_of met + 1) met) (Held users c tape2 me st (begun_of met + 1) met1)
+          (λ one held. held_on users c tape2 tape2 me st (begun_of met + 1) (begun_of met + 1) met met1 one (record { stood = λ item x. x; moved = λ q. refl }) (onto_grew (Begins id text ∷ []) met) (omega arith) held) node.open_operations
+          (held_first users c now.tape tape2 me node stood2 moved2 (g.node me));
       rising = (g.node me).rising;
     }
 
     numbered_next : refusal s node request ≡ None → id.number ≡ begun_of met + 1
     numbered_next h = next_is (begun_of met) last_number (not_worn (is_worn met) (unless_missing node.open_operations (missing_kind request (kind_of s.cluster s.me))) h)
 
+    named : refusal s node request ≡ None → id.number < last_number
+    named h = next_named (begun_of met) last_number (numbered_next h) (not_worn (is_worn met) (unless_missing node.open_operations (missing_kind request (kind_of s.cluster s.me))) h)
+
     unmoved : refusal s node request ≡ None → (q : Place) → moves tape2 id q ≡ []
     unmoved h q = moved2 id q ∙ g.fresh id (inr (refl, (let is = numbered_next h in omega arith))) q
 
-    most_of : AllActed s frame (max (begun_of met + 1) (id.number + 1)) acted → AllActed s frame l acted
+    starting : users.fits → refusal s node request ≡ None → Starting users.usage tape2 id request
+    starting fits h = record {
+      began = record { text = text; stands = (follows.tape).stood _ (inl refl); means = means fits };
+      none = λ q b e i own. subst (In (ProposesMove b e)) (unmoved h q) i;
+    }
+
+    most_of : AllActed users s frame (max (begun_of met + 1) (id.number + 1)) acted → AllActed users s frame l acted
     most_of a = record { k = a.k; most = (let le = a.most in let small = next_small (begun_of met) last_number in omega (arith, le, small)); fine = a.fine }
 
-    all_done : AllActed s frame l acted
-    all_done = most_of (begun_fine s frame (begun_of met + 1) begin o (refusal s node request) open_fine
-        (λ h. (fine_turn c frame (begun_of met + 1) met1 node.open_operations [] id open_fine (let is = numbered_next h in omega arith) refl refl, λ q above. inr (unmoved h q)))
-        (λ h. let is = numbered_next h in omega arith))
+    all_done : AllActed users s frame l acted
+    all_done = most_of (begun_fine users s brought frame (begun_of met + 1) begin o (refusal s node request) open_fine
+        (λ h. (fine_turn users c frame (begun_of met + 1) met1 node.open_operations [] id open_fine (let is = numbered_next h in omega arith) refl refl (named h), λ q above. inr (unmoved h q)))
+        (λ h. let is = numbered_next h in omega arith) starting)
 
 -- ---- steps that are whole
 
-pub whole_good : (s : Setting) (now : Standing) (item : Item) (own : Met) (made : Step) → Good s.cluster now → ((n : ℕ → Node) → with_item s.cluster n now.tape item ≡ item ∷ now.tape)
-    → StepNext s now (set_at now.node s.me made.node) item own made → Good s.cluster (whole_step s.cluster now s.me (item ∷ []) made)
-whole_good s now item own made g plain next = next_good s.cluster now s.me _ made.node (log_fuse_after now s.me (appends made)) now.data_fuse now.starts (records_after now s.me (appends made)) now.owed g
-    (subst (λ t. Next s.cluster now s.me t made.node now.starts now.owed) (sym whole) next.0)
+pub whole_good : (users : Users) → (s : Setting) (now : Standing) (item : Item) (own : Met) (made : Step) → Good users s.cluster now → ((n : ℕ → Node) → with_item s.cluster n now.tape item ≡ item ∷ now.tape)
+    → StepNext users s now (set_at now.node s.me made.node) item own made → Good users s.cluster (whole_step s.cluster now s.me (item ∷ []) made)
+whole_good users s now item own made g plain next = next_good users s.cluster now s.me _ made.node (log_fuse_after now s.me (appends made)) now.data_fuse now.starts (records_after now s.me (appends made)) now.owed g
+    (subst (λ t. Next users s.cluster now s.me t made.node now.starts now.owed) (sym whole) next.0)
   where
     nodes' : ℕ → Node
     nodes' = set_at now.node s.me made.node

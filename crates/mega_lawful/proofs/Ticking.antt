@@ -19,6 +19,8 @@ use Rattle.mega_rules.specs.Logs.{decided, groups_of, newest_of, prefix_of}
 use Rattle.mega_rules.specs.Operations.{Node, Now, Setting}
 use Rattle.mega_rules.specs.Steps.{background, fetch_to, fetches_for, lapse_notes, lease_notes, portion_of, tick_step, ticked, apply_notes, at_first, onto}
 use Rattle.mega_laws.specs.Places.{Place, moves}
+use Rattle.mega_lawful.specs.Usages.{Brought}
+use Rattle.mega_lawful.proofs.Owned.{Users}
 use Rattle.mega_lawful.specs.Vouched.{Each, sent}
 use Rattle.mega_lawful.proofs.Sending.{Stood, stood_sent}
 use Rattle.mega_lawful.proofs.Opened.{Grew}
@@ -49,13 +51,13 @@ background_free s met clock = free_if (has_rows s.cluster s.me && does_again s.c
     (each_flat IsFree (fetches_for s met) (λ group. free_if (nat_lt (prefix_of met group) (newest_of met group)) (map (fetch_to s met group) (others s.me (voters s.cluster))) (each_of IsFree (fetch_to s met group) (λ to. tt) (others s.me (voters s.cluster)))) (groups_of met))
 
 pub own_tick : (c : Cluster) (tape : List Item) (me clock : ℕ) (met : List Met) → Own c tape (Tick (number me) clock) met (Ticks clock)
-own_tick c tape me clock met = record { on = tape_item c tape (Tick (number me) clock) tt (λ x q. refl) (λ v q. refl); made = λ g n. refl; decides = λ g n. refl; start = refl; begun = omega arith; up = refl }
+own_tick c tape me clock met = record { on = tape_item c tape (Tick (number me) clock) tt (λ x q. refl) (λ v q. refl) (λ x. refl) tt (λ schema usage. tt); begins = λ x other. refl; made = λ g n. refl; decides = λ g n. refl; start = refl; begun = omega arith; up = refl }
 
-pub ticked_next : (s : Setting) (now : Standing) (nodes' : ℕ → Node) (clock : ℕ) → Good s.cluster now → is_up (now.node s.me).met ≡ true
-    → StepNext s now nodes' (Tick (number s.me) clock) (Ticks clock) (tick_step s (now.node s.me) clock)
-ticked_next s now nodes' clock g up = (
-  step_next c now me nodes' (Tick (number s.me) clock) (Ticks clock) notes k ((pre ++ acted.sends) ++ background s met clock) acted.kept acted.stored _ g up (own_tick c now.tape me clock met) all_may
-      (behind c me st l k tape2 (onto notes met1) (pre ++ acted.sends) (background s met clock) acted.kept (acted_sends s me st l k tape2 (onto notes met1) pre acted ((follows.tape).lawful (tt, g.lawful)) before all_done grown) (background_free s met clock)) refl (up_onto c tape1 me notes met1 all_may up),
+pub ticked_next : (users : Users) → (s : Setting) → (users.fits → Brought users.usage s.handlers) → (now : Standing) (nodes' : ℕ → Node) (clock : ℕ) → Good users s.cluster now → is_up (now.node s.me).met ≡ true
+    → StepNext users s now nodes' (Tick (number s.me) clock) (Ticks clock) (tick_step s (now.node s.me) clock)
+ticked_next users s brought now nodes' clock g up = (
+  step_next users c now me nodes' (Tick (number s.me) clock) (Ticks clock) notes k ((pre ++ acted.sends) ++ background s met clock) acted.kept acted.stored _ g up (own_tick c now.tape me clock met) all_may
+      (behind users c me st l k tape2 (onto notes met1) (pre ++ acted.sends) (background s met clock) acted.kept (acted_sends users s me st l k tape2 (onto notes met1) pre acted ((follows.tape).polls (tt, g.polls)) before all_done grown) (background_free s met clock)) refl (λ x h. tt) (up_onto c tape1 me notes met1 all_may up),
   all_may,
 )
   where
@@ -154,9 +156,10 @@ ticked_next s now nodes' clock g up = (
     known_first h n e x = stood_sent k pre tape2 _ (follows.known (λ h' n' e' y. inr ((g.node me).known h' n' e' y)) h n e (ap (λ z. decided z h n) spread
         ∙ onto_decided acted.answers (onto acted.valid (onto applies first)) h n e (onto_decided acted.valid (onto applies first) h n e (onto_decided applies first h n e x))))
 
-    all_done : AllActed s (record { me = me; start = st; next = k + length pre; base = base }) l acted
-    all_done = ticked_fine s (record { me = me; start = st; next = k + length pre; base = base }) met clock l node.open_operations begin 0 0
-        (first_fine c (record { me = me; start = st; next = k + length pre; base = base }) first (before.lawful ((follows.tape).lawful (tt, g.lawful))) known_first)
+    all_done : AllActed users s (record { me = me; start = st; next = k + length pre; base = base }) l acted
+    all_done = ticked_fine users s brought (record { me = me; start = st; next = k + length pre; base = base }) met clock l node.open_operations begin 0 0
+        (first_fine users c (record { me = me; start = st; next = k + length pre; base = base }) first (before.lawful ((follows.tape).lawful (tt, g.lawful)))
+        (λ fits. before.written c.schema users.usage ((follows.tape).written c.schema users.usage (tt, g.written fits))) known_first)
         (omega arith) (omega arith) (g.node me).rising
-        (held_first c now.tape base me node (λ item x. stood_sent k pre tape2 item (stood2 item x)) (λ x q. before.moved x q ∙ moved2 x q) (g.node me))
+        (held_first users c now.tape base me node (λ item x. stood_sent k pre tape2 item (stood2 item x)) (λ x q. before.moved x q ∙ moved2 x q) (g.node me))
         (λ h. (let one = onto_grew (Ticks clock ∷ []) met h in let two = onto_grew told met1 h in let three = onto_grew later (onto told met1) h in omega (arith, one, two, three)))

@@ -1,5 +1,5 @@
 -- The operations of a node act one after another: what holds between two of them, and while one acts.
-use Rattle.std.proofs.Common.{◌≡◌, ℕ, ◌+◌, ◌==◌, ◌&&◌, ◌≤◌, ◌<◌, nat_lt, Bool, true, false, cond, List, [], ◌∷◌, ◌++◌, length, Option, Some, None, refl, sym, ap, ◌∙◌, subst, arith}
+use Rattle.std.proofs.Common.{◌≡◌, ℕ, ◌+◌, ◌==◌, ◌&&◌, ◌||◌, ◌≤◌, ◌<◌, nat_lt, Bool, true, false, cond, List, [], ◌∷◌, ◌++◌, length, Option, Some, None, refl, sym, ap, ◌∙◌, subst, arith}
 use Rattle.std.proofs.lemmas.Bool.Decides.{nat_tests}
 use Rattle.std.specs.List.{cons_option}
 use Rattle.mega_base.specs.declared.names.GroupId.{GroupId}
@@ -9,7 +9,7 @@ use Rattle.mega_cluster.specs.declared.cluster.Cluster.{Cluster}
 use Rattle.mega_entry.specs.declared.content.Content.{Content}
 use Rattle.mega_wire.specs.declared.message.Message.{Message}
 use Rattle.mega_wire.specs.declared.message.Body.{Body}
-use Rattle.mega_wire.specs.declared.message.Body.TheVariants.{Accept, Accepted, Prepare, Promise}
+use Rattle.mega_wire.specs.declared.message.Body.TheVariants.{Accept, Accepted, Prepare, Promise, Top, Where}
 use Rattle.mega_wal.specs.Acceptor.{Act}
 use Rattle.mega_wal.specs.Same.{same_group, same_op}
 use Rattle.mega_wal.proofs.Sames.{same_op_equal}
@@ -18,11 +18,15 @@ use Rattle.mega_transcript.specs.declared.item.Item.TheVariants.{Sent, Decide}
 use Rattle.mega_promises.specs.Items.{number}
 use Rattle.mega_promises.specs.Promises.{Stands}
 use Rattle.mega_rules.specs.Met.{Met}
+use Rattle.mega_rules.specs.Clock.{last_number}
 use Rattle.mega_rules.specs.Logs.{decided}
 use Rattle.mega_rules.specs.Operations.{Operation}
 use Rattle.mega_rules.specs.Voting.{act_in}
 use Rattle.mega_laws.specs.Places.{Move, Place, Prepares, Proposes, acts, is_move_at, move_if, move_in, moves}
+use Rattle.mega_laws.specs.Writes.{AreWritten}
+use Rattle.mega_lawful.proofs.Owned.{Owned, Users, owned_on}
 use Rattle.mega_laws.specs.Lawful.{Lawful}
+use Rattle.mega_laws.specs.Polls.{ArePolls, MayPoll, has_asked, is_asking}
 use Rattle.mega_lawful.specs.Vouched.{Each, sent}
 use Rattle.mega_lawful.proofs.Sending.{Stood, stood_sent}
 use Rattle.mega_lawful.proofs.Opened.{Acts, AreOfOp, Backed, Beside, Grew, Idle, OfOp, backed_on, idle_on, place_of, same_met}
@@ -68,6 +72,14 @@ pub ops_apart : (op x : OpId) (q : Place) (n : ℕ) (ms : List Message) (tape : 
 ops_apart op x q n [] tape h of = refl
 ops_apart op x q n (m ∷ ms) tape h of = ops_apart op x q (n + 1) ms (Sent n m ∷ tape) h of.1 ∙ op_apart op x q m.body (moves tape x q) h of.0
 
+asking_apart : (op x : OpId) (body : Body) → same_op op x ≡ false → OfOp op body → is_asking x body ≡ false
+asking_apart op x (Where o g) h of = ap (λ y. same_op y x) of ∙ h
+asking_apart op x _ h of = refl
+
+pub ops_asked : (op x : OpId) (n : ℕ) (ms : List Message) (tape : List Item) → same_op op x ≡ false → AreOfOp op ms → has_asked (sent n ms tape) x ≡ has_asked tape x
+ops_asked op x n [] tape h of = refl
+ops_asked op x n (m ∷ ms) tape h of = ops_asked op x (n + 1) ms (Sent n m ∷ tape) h of.1 ∙ ap (λ t. t || has_asked tape x) (asking_apart op x m.body h of.0)
+
 no_act : (t : Bool) (o : Option Act) (ms : List Act) → o ≡ None → cons_option (cond t o None) ms ≡ ms
 no_act true o ms h = ap (λ x. cons_option x ms) h
 no_act false o ms h = refl
@@ -86,11 +98,13 @@ ops_no_acts op voter q n (m ∷ ms) tape of =
 abbrev pub NoAct : Body → Type 0
 NoAct (Promise o g n b report) = ⊥
 NoAct (Accepted o g n b e) = ⊥
+NoAct (Top o g n) = ⊥
 NoAct _ = Unit {0}
 
 of_no_act : (op : OpId) (body : Body) → OfOp op body → NoAct body
 of_no_act op (Promise o g n b report) h = absurd h
 of_no_act op (Accepted o g n b e) h = absurd h
+of_no_act op (Top o g n) h = absurd h
 of_no_act op _ h = tt
 
 ops_quiet : (op : OpId) (sends ms : List Message) → Each (λ (m : Message). NoAct m.body) sends → AreOfOp op ms → Each (λ (m : Message). NoAct m.body) (sends ++ ms)
@@ -98,11 +112,23 @@ ops_quiet op [] [] h of = tt
 ops_quiet op [] (m ∷ ms) h of = (of_no_act op m.body of.0, ops_quiet op [] ms tt of.1)
 ops_quiet op (m ∷ sends) ms h of = (h.0, ops_quiet op sends ms h.1 of)
 
+quiet_poll : (tape : List Item) (m : Message) (body : Body) → NoAct body → MayPoll tape m body
+quiet_poll tape m (Top o g n) h = absurd h
+quiet_poll tape m _ h = tt
+
+-- what answers nothing is of no poll's answers
+pub quiet_polls : (n : ℕ) (ms : List Message) (tape : List Item) → Each (λ (m : Message). NoAct m.body) ms → ArePolls tape → ArePolls (sent n ms tape)
+quiet_polls n [] tape h p = p
+quiet_polls n (m ∷ ms) tape h p = quiet_polls (n + 1) ms (Sent n m ∷ tape) h.1 (quiet_poll tape m m.body h.0, p)
+
 -- ---- names
 
--- an operation that a node began in a start before the one of a number
+-- an operation that a node began in a start before the one of a number, and that was not worn
+abbrev pub within : ℕ → ℕ → ℕ → OpId → Bool
+within me st k x = x.node.0 == me && x.start == st && nat_lt x.number k
+
 abbrev pub could : ℕ → ℕ → ℕ → OpId → Bool
-could me st k x = x.node.0 == me && x.start == st && nat_lt x.number k
+could me st k x = within me st k x && nat_lt x.number last_number
 
 and_true : (a b : Bool) → a ≡ true → b ≡ true → (a && b) ≡ true
 and_true true b h k = k
@@ -128,19 +154,36 @@ less_is a b h = grind (arith, nat_tests)
 is_less : (a b : ℕ) → nat_lt a b ≡ true → a < b
 is_less a b h = grind (arith, nat_tests)
 
-pub could_be : (me st k : ℕ) (x : OpId) → x.node.0 ≡ me → x.start ≡ st → x.number < k → could me st k x ≡ true
-could_be me st k x node start below =
+within_be : (me st k : ℕ) (x : OpId) → x.node.0 ≡ me → x.start ≡ st → x.number < k → within me st k x ≡ true
+within_be me st k x node start below =
     and_true (x.node.0 == me && x.start == st) (nat_lt x.number k) (and_true (x.node.0 == me) (x.start == st) (number_self x.node.0 me node) (number_self x.start st start)) (less_is x.number k below)
+
+within_more : (me st k l : ℕ) (x : OpId) → k ≤ l → within me st k x ≡ true → within me st l x ≡ true
+within_more me st k l x le t =
+    let outer = both (x.node.0 == me && x.start == st) (nat_lt x.number k) t in
+    let less = is_less x.number k outer.1 in
+    and_true (x.node.0 == me && x.start == st) (nat_lt x.number l) outer.0 (less_is x.number l (omega (arith, less, le)))
+
+pub could_be : (me st k : ℕ) (x : OpId) → x.node.0 ≡ me → x.start ≡ st → x.number < k → x.number < last_number → could me st k x ≡ true
+could_be me st k x node start below named = and_true (within me st k x) (nat_lt x.number last_number) (within_be me st k x node start below) (less_is x.number last_number named)
 
 pub could_more : (me st k l : ℕ) (x : OpId) → k ≤ l → could me st l x ≡ false → could me st k x ≡ false
 could_more me st k l x le h = not_true (could me st k x) (λ t.
-    let outer = both (x.node.0 == me && x.start == st) (nat_lt x.number k) t in
-    let less = is_less x.number k outer.1 in
-    clash (could me st l x) (and_true (x.node.0 == me && x.start == st) (nat_lt x.number l) outer.0 (less_is x.number l (omega arith))) h)
+    let outer = both (within me st k x) (nat_lt x.number last_number) t in
+    clash (could me st l x) (and_true (within me st l x) (nat_lt x.number last_number) (within_more me st k l x le outer.0) outer.1) h)
 
-pub other_name : (me st : ℕ) (op x : OpId) → op.node.0 ≡ me → op.start ≡ st → could me st (op.number + 1) x ≡ false → same_op op x ≡ false
-other_name me st op x node start h = not_true (same_op op x) (λ t.
-    clash (could me st (op.number + 1) x) (subst (λ y. could me st (op.number + 1) y ≡ true) (same_op_equal op x t) (could_be me st (op.number + 1) op node start (omega arith))) h)
+pub worn_could : (me st k : ℕ) (x : OpId) → last_number ≤ x.number → could me st k x ≡ false
+worn_could me st k x le = not_true (could me st k x) (λ t. over x.number last_number (is_less x.number last_number (both (within me st k x) (nat_lt x.number last_number) t).1) le)
+  where
+    over : (a b : ℕ) → a < b → b ≤ a → ⊥
+    over a b less at = omega arith
+
+pub other_name : (me st : ℕ) (op x : OpId) → op.node.0 ≡ me → op.start ≡ st → op.number < last_number → could me st (op.number + 1) x ≡ false → same_op op x ≡ false
+other_name me st op x node start named h = not_true (same_op op x) (λ t.
+    clash (could me st (op.number + 1) x) (subst (λ y. could me st (op.number + 1) y ≡ true) (same_op_equal op x t) (could_be me st (op.number + 1) op node start (next_of op.number) named)) h)
+  where
+    next_of : (n : ℕ) → n < n + 1
+    next_of n = omega arith
 
 pub other_number : (op x : OpId) → x.number < op.number → same_op op x ≡ false
 other_number op x less = not_true (same_op op x) (λ t. let same = ap (λ (y : OpId). y.number) (same_op_equal op x t) in omega (arith, less))
@@ -159,18 +202,22 @@ abbrev pub tape_of : Frame → List Message → List Item
 tape_of f sends = sent f.next sends f.base
 
 -- an operation that stays open
-pub record Held (c : Cluster) (tape : List Item) (me st k : ℕ) (met : List Met) (o : Operation) : Type 0 where
+pub record Held (users : Users) (c : Cluster) (tape : List Item) (me st k : ℕ) (met : List Met) (o : Operation) : Type 0 where
   pub node : (o.id).node.0 ≡ me
   pub start : (o.id).start ≡ st
   pub below : (o.id).number < k
+  pub named : (o.id).number < last_number
+  pub owned : users.fits → Owned users.usage tape o
   pub backed : Backed c tape met o.id o.phase
   pub idle : Idle tape met o.id (place_of o.phase)
 
-pub held_on : (c : Cluster) (old new : List Item) (me st k l : ℕ) (met more : List Met) (o : Operation) → Beside o.id old new → Grew met more → k ≤ l → Held c old me st k met o → Held c new me st l more o
-held_on c old new me st k l met more o beside grew le h = record {
+pub held_on : (users : Users) → (c : Cluster) (old new : List Item) (me st k l : ℕ) (met more : List Met) (o : Operation) → Beside o.id old new → Grew met more → k ≤ l → Held users c old me st k met o → Held users c new me st l more o
+held_on users c old new me st k l met more o beside grew le h = record {
   node = h.node;
   start = h.start;
-  below = (let less = h.below in omega arith);
+  below = (let less = h.below in omega (arith, less, le));
+  named = h.named;
+  owned = λ f. owned_on users.usage old new o beside (h.owned f);
   backed = backed_on c old new met more o.id beside grew o.phase h.backed;
   idle = idle_on old new met more o.id (place_of o.phase) beside grew h.idle;
 }
@@ -180,104 +227,126 @@ abbrev pub Known : ℕ → List Met → List Item → Type 0
 Known me met tape = (g : GroupId) (n : ℕ) (e : Content) → decided met g n ≡ Some e → Stands (Decide (number me) g (record { 0 = n }) e) tape
 
 -- the operations below a number acted
-pub record Fine (c : Cluster) (f : Frame) (k : ℕ) (met : List Met) (kept : List Operation) (sends : List Message) : Type 0 where
+pub record Fine (users : Users) (c : Cluster) (f : Frame) (k : ℕ) (met : List Met) (kept : List Operation) (sends : List Message) : Type 0 where
   pub lawful : Lawful c (tape_of f sends)
+  pub written : users.fits → AreWritten c.schema users.usage (tape_of f sends)
   pub later : (x : OpId) → could f.me f.start k x ≡ false → (q : Place) → moves (tape_of f sends) x q ≡ moves f.base x q
+  pub asked : (x : OpId) → could f.me f.start k x ≡ false → has_asked (tape_of f sends) x ≡ has_asked f.base x
   pub made : (voter : ℕ) (q : Place) → acts (tape_of f sends) voter q ≡ acts f.base voter q
   pub known : Known f.me met f.base
   pub quiet : Each (λ (m : Message). NoAct m.body) sends
-  pub held : Each (Held c (tape_of f sends) f.me f.start k met) kept
+  pub held : Each (Held users c (tape_of f sends) f.me f.start k met) kept
   pub rising : IsRising 0 kept
 
 -- one of them acts
-pub record Turn (c : Cluster) (f : Frame) (met : List Met) (kept : List Operation) (sends : List Message) (op : OpId) : Type 0 where
+pub record Turn (users : Users) (c : Cluster) (f : Frame) (met : List Met) (kept : List Operation) (sends : List Message) (op : OpId) : Type 0 where
   pub node : op.node.0 ≡ f.me
   pub start : op.start ≡ f.start
+  pub named : op.number < last_number
   pub lawful : Lawful c (tape_of f sends)
+  pub written : users.fits → AreWritten c.schema users.usage (tape_of f sends)
   pub later : (x : OpId) → could f.me f.start (op.number + 1) x ≡ false → (q : Place) → moves (tape_of f sends) x q ≡ moves f.base x q
+  pub asked : (x : OpId) → could f.me f.start (op.number + 1) x ≡ false → has_asked (tape_of f sends) x ≡ has_asked f.base x
   pub made : (voter : ℕ) (q : Place) → acts (tape_of f sends) voter q ≡ acts f.base voter q
   pub known : Known f.me met f.base
   pub quiet : Each (λ (m : Message). NoAct m.body) sends
-  pub held : Each (Held c (tape_of f sends) f.me f.start op.number met) kept
+  pub held : Each (Held users c (tape_of f sends) f.me f.start op.number met) kept
   pub rising : IsRising 0 kept
 
 -- and is vouched for
-pub record Ready (c : Cluster) (f : Frame) (met : List Met) (kept : List Operation) (sends : List Message) (o : Operation) : Type 0 where
-  pub turn : Turn c f met kept sends o.id
+pub record Ready (users : Users) (c : Cluster) (f : Frame) (met : List Met) (kept : List Operation) (sends : List Message) (o : Operation) : Type 0 where
+  pub turn : Turn users c f met kept sends o.id
+  pub owned : users.fits → Owned users.usage (tape_of f sends) o
   pub backed : Backed c (tape_of f sends) met o.id o.phase
   pub idle : Idle (tape_of f sends) met o.id (place_of o.phase)
 
 pub same_tape : (op : OpId) (tape : List Item) → Beside op tape tape
 same_tape op tape = record { stood = λ item s. s; moved = λ q. refl }
 
-pub fine_turn : (c : Cluster) (f : Frame) (k : ℕ) (met : List Met) (kept : List Operation) (sends : List Message) (op : OpId) → Fine c f k met kept sends → k ≤ op.number → op.node.0 ≡ f.me → op.start ≡ f.start → Turn c f met kept sends op
-fine_turn c f k met kept sends op h le node start = record {
+one_after : (k n : ℕ) → k ≤ n → k ≤ n + 1
+one_after k n le = omega arith
+
+pub fine_turn : (users : Users) → (c : Cluster) (f : Frame) (k : ℕ) (met : List Met) (kept : List Operation) (sends : List Message) (op : OpId) → Fine users c f k met kept sends → k ≤ op.number → op.node.0 ≡ f.me → op.start ≡ f.start → op.number < last_number → Turn users c f met kept sends op
+fine_turn users c f k met kept sends op h le node start named = record {
   node = node;
   start = start;
+  named = named;
   lawful = h.lawful;
-  later = λ x other q. h.later x (could_more f.me f.start k (op.number + 1) x (omega arith) other) q;
+  written = h.written;
+  later = λ x other q. h.later x (could_more f.me f.start k (op.number + 1) x (one_after k op.number le) other) q;
+  asked = λ x other. h.asked x (could_more f.me f.start k (op.number + 1) x (one_after k op.number le) other);
   made = h.made;
   known = h.known;
   quiet = h.quiet;
-  held = each_on (Held c (tape_of f sends) f.me f.start k met) (Held c (tape_of f sends) f.me f.start op.number met)
-      (λ o held. held_on c (tape_of f sends) (tape_of f sends) f.me f.start k op.number met met o (same_tape o.id (tape_of f sends)) (same_met met) le held) kept h.held;
+  held = each_on (Held users c (tape_of f sends) f.me f.start k met) (Held users c (tape_of f sends) f.me f.start op.number met)
+      (λ o held. held_on users c (tape_of f sends) (tape_of f sends) f.me f.start k op.number met met o (same_tape o.id (tape_of f sends)) (same_met met) le held) kept h.held;
   rising = h.rising;
 }
 
 -- an operation that ends is kept no more
-pub turn_ends : (c : Cluster) (f : Frame) (met : List Met) (kept : List Operation) (sends : List Message) (op : OpId) → Turn c f met kept sends op → Fine c f (op.number + 1) met kept sends
-turn_ends c f met kept sends op h = record {
+pub turn_ends : (users : Users) → (c : Cluster) (f : Frame) (met : List Met) (kept : List Operation) (sends : List Message) (op : OpId) → Turn users c f met kept sends op → Fine users c f (op.number + 1) met kept sends
+turn_ends users c f met kept sends op h = record {
   lawful = h.lawful;
+  written = h.written;
   later = h.later;
+  asked = h.asked;
   made = h.made;
   known = h.known;
   quiet = h.quiet;
-  held = each_on (Held c (tape_of f sends) f.me f.start op.number met) (Held c (tape_of f sends) f.me f.start (op.number + 1) met)
-      (λ o held. held_on c (tape_of f sends) (tape_of f sends) f.me f.start op.number (op.number + 1) met met o (same_tape o.id (tape_of f sends)) (same_met met) (omega arith) held) kept h.held;
+  held = each_on (Held users c (tape_of f sends) f.me f.start op.number met) (Held users c (tape_of f sends) f.me f.start (op.number + 1) met)
+      (λ o held. held_on users c (tape_of f sends) (tape_of f sends) f.me f.start op.number (op.number + 1) met met o (same_tape o.id (tape_of f sends)) (same_met met) (omega arith) held) kept h.held;
   rising = h.rising;
 }
 
-pub ready_keeps : (c : Cluster) (f : Frame) (met : List Met) (kept : List Operation) (sends : List Message) (o : Operation) → Ready c f met kept sends o → Fine c f ((o.id).number + 1) met (kept ++ o ∷ []) sends
-ready_keeps c f met kept sends o h = let ended = turn_ends c f met kept sends o.id h.turn in record {
+pub ready_keeps : (users : Users) → (c : Cluster) (f : Frame) (met : List Met) (kept : List Operation) (sends : List Message) (o : Operation) → Ready users c f met kept sends o → Fine users c f ((o.id).number + 1) met (kept ++ o ∷ []) sends
+ready_keeps users c f met kept sends o h = let ended = turn_ends users c f met kept sends o.id h.turn in record {
   lawful = ended.lawful;
+  written = ended.written;
   later = ended.later;
+  asked = ended.asked;
   made = ended.made;
   known = ended.known;
   quiet = ended.quiet;
-  held = each_push (Held c (tape_of f sends) f.me f.start ((o.id).number + 1) met) kept o ended.held
-      (record { node = (h.turn).node; start = (h.turn).start; below = omega arith; backed = h.backed; idle = h.idle });
+  held = each_push (Held users c (tape_of f sends) f.me f.start ((o.id).number + 1) met) kept o ended.held
+      (record { node = (h.turn).node; start = (h.turn).start; below = omega arith; named = (h.turn).named; owned = h.owned; backed = h.backed; idle = h.idle });
   rising = rising_push 0 (o.id).number kept o (h.turn).rising (omega arith)
-      (each_on (Held c (tape_of f sends) f.me f.start (o.id).number met) (λ (x : Operation). (x.id).number < (o.id).number) (λ x held. held.below) kept (h.turn).held) (omega arith);
+      (each_on (Held users c (tape_of f sends) f.me f.start (o.id).number met) (λ (x : Operation). (x.id).number < (o.id).number) (λ x held. held.below) kept (h.turn).held) (omega arith);
 }
 
 -- what a node meets within the step leaves the turn
-pub turn_met : (c : Cluster) (f : Frame) (met more : List Met) (kept : List Operation) (sends : List Message) (op : OpId) → Grew met more → Known f.me more f.base → Turn c f met kept sends op → Turn c f more kept sends op
-turn_met c f met more kept sends op grew known h = record {
+pub turn_met : (users : Users) → (c : Cluster) (f : Frame) (met more : List Met) (kept : List Operation) (sends : List Message) (op : OpId) → Grew met more → Known f.me more f.base → Turn users c f met kept sends op → Turn users c f more kept sends op
+turn_met users c f met more kept sends op grew known h = record {
   node = h.node;
   start = h.start;
+  named = h.named;
   lawful = h.lawful;
+  written = h.written;
   later = h.later;
+  asked = h.asked;
   made = h.made;
   known = known;
   quiet = h.quiet;
-  held = each_on (Held c (tape_of f sends) f.me f.start op.number met) (Held c (tape_of f sends) f.me f.start op.number more)
-      (λ o held. held_on c (tape_of f sends) (tape_of f sends) f.me f.start op.number op.number met more o (same_tape o.id (tape_of f sends)) grew (omega arith) held) kept h.held;
+  held = each_on (Held users c (tape_of f sends) f.me f.start op.number met) (Held users c (tape_of f sends) f.me f.start op.number more)
+      (λ o held. held_on users c (tape_of f sends) (tape_of f sends) f.me f.start op.number op.number met more o (same_tape o.id (tape_of f sends)) grew (omega arith) held) kept h.held;
   rising = h.rising;
 }
 
 -- what it sends
-pub turn_sends : (c : Cluster) (f : Frame) (met : List Met) (kept : List Operation) (sends ms : List Message) (op : OpId) → Turn c f met kept sends op → AreOfOp op ms
-    → ((n : ℕ) → Lawful c (tape_of f sends) → Lawful c (sent n ms (tape_of f sends))) → Turn c f met kept (sends ++ ms) op
-turn_sends c f met kept sends ms op h own lawful = record {
+pub turn_sends : (users : Users) → (c : Cluster) (f : Frame) (met : List Met) (kept : List Operation) (sends ms : List Message) (op : OpId) → Turn users c f met kept sends op → AreOfOp op ms
+    → ((n : ℕ) → Lawful c (tape_of f sends) → Lawful c (sent n ms (tape_of f sends))) → (users.fits → (n : ℕ) → AreWritten c.schema users.usage (sent n ms (tape_of f sends))) → Turn users c f met kept (sends ++ ms) op
+turn_sends users c f met kept sends ms op h own lawful written = record {
   node = h.node;
   start = h.start;
+  named = h.named;
   lawful = subst (Lawful c) (sym after) (lawful (f.next + length sends) h.lawful);
-  later = λ x other q. ap (λ t. moves t x q) after ∙ ops_apart op x q (f.next + length sends) ms (tape_of f sends) (other_name f.me f.start op x h.node h.start other) own ∙ h.later x other q;
+  written = λ fits. subst (AreWritten c.schema users.usage) (sym after) (written fits (f.next + length sends));
+  later = λ x other q. ap (λ t. moves t x q) after ∙ ops_apart op x q (f.next + length sends) ms (tape_of f sends) (other_name f.me f.start op x h.node h.start h.named other) own ∙ h.later x other q;
+  asked = λ x other. ap (λ t. has_asked t x) after ∙ ops_asked op x (f.next + length sends) ms (tape_of f sends) (other_name f.me f.start op x h.node h.start h.named other) own ∙ h.asked x other;
   made = λ voter q. ap (λ t. acts t voter q) after ∙ ops_no_acts op voter q (f.next + length sends) ms (tape_of f sends) own ∙ h.made voter q;
   known = h.known;
   quiet = ops_quiet op sends ms h.quiet own;
-  held = each_on (Held c (tape_of f sends) f.me f.start op.number met) (Held c (tape_of f (sends ++ ms)) f.me f.start op.number met)
-      (λ o held. held_on c (tape_of f sends) (tape_of f (sends ++ ms)) f.me f.start op.number op.number met met o (beside o held.below) (same_met met) (omega arith) held) kept h.held;
+  held = each_on (Held users c (tape_of f sends) f.me f.start op.number met) (Held users c (tape_of f (sends ++ ms)) f.me f.start op.number met)
+      (λ o held. held_on users c (tape_of f sends) (tape_of f (sends ++ ms)) f.me f.start op.number op.number met met o (beside o held.below) (same_met met) (omega arith) held) kept h.held;
   rising = h.rising;
 }
   where
@@ -290,10 +359,12 @@ turn_sends c f met kept sends ms op h own lawful = record {
       moved = λ q. ap (λ t. moves t o.id q) after ∙ ops_apart op o.id q (f.next + length sends) ms (tape_of f sends) (other_number op o.id less) own;
     }
 
-pub ready_sends : (c : Cluster) (f : Frame) (met : List Met) (kept : List Operation) (sends ms : List Message) (o : Operation) → Turn c f met kept sends o.id → Acts c (tape_of f sends) met o.id o.phase ms
-    → Ready c f met kept (sends ++ ms) o
-ready_sends c f met kept sends ms o h acts = record {
-  turn = turn_sends c f met kept sends ms o.id h acts.own acts.lawful;
+pub ready_sends : (users : Users) → (c : Cluster) (f : Frame) (met : List Met) (kept : List Operation) (sends ms : List Message) (o : Operation) → Turn users c f met kept sends o.id → Acts c (tape_of f sends) met o.id o.phase ms
+    → (users.fits → (n : ℕ) → AreWritten c.schema users.usage (sent n ms (tape_of f sends))) → (users.fits → (n : ℕ) → Owned users.usage (sent n ms (tape_of f sends)) o)
+    → Ready users c f met kept (sends ++ ms) o
+ready_sends users c f met kept sends ms o h acts written owned = record {
+  turn = turn_sends users c f met kept sends ms o.id h acts.own acts.lawful written;
+  owned = λ fits. subst (λ t. Owned users.usage t o) (sym after) (owned fits (f.next + length sends));
   backed = subst (λ t. Backed c t met o.id o.phase) (sym after) (acts.backed (f.next + length sends));
   idle = subst (λ t. Idle t met o.id (place_of o.phase)) (sym after) (acts.idle (f.next + length sends));
 }
@@ -302,4 +373,8 @@ ready_sends c f met kept sends ms o h acts = record {
     after = sent_append f.next sends ms f.base
 
 pub could_not : (me st k : ℕ) (x : OpId) → k ≤ x.number → could me st k x ≡ false
-could_not me st k x le = not_true (could me st k x) (λ t. let less = is_less x.number k (both (x.node.0 == me && x.start == st) (nat_lt x.number k) t).1 in omega (arith, less, le))
+could_not me st k x le = not_true (could me st k x) (λ t.
+    let less = is_less x.number k (both (x.node.0 == me && x.start == st) (nat_lt x.number k) (both (within me st k x) (nat_lt x.number last_number) t).0).1 in over x.number k less le)
+  where
+    over : (a b : ℕ) → a < b → b ≤ a → ⊥
+    over a b less at = omega arith

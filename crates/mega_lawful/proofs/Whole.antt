@@ -1,5 +1,5 @@
 -- A node that takes a message leaves a good standing.
-use Rattle.std.proofs.Common.{◌≡◌, inl, inr, ℕ, ◌+◌, ◌&&◌, Bool, true, false, not, cond, List, [], ◌∷◌, ◌++◌, map, flat_map, length, Option, Some, None, refl, sym, ap, ◌∙◌, subst, arith}
+use Rattle.std.proofs.Common.{◌≡◌, inl, inr, ℕ, ◌+◌, ◌&&◌, ◌||◌, Bool, true, false, not, cond, List, [], ◌∷◌, ◌++◌, map, flat_map, length, Option, Some, None, refl, sym, ap, ◌∙◌, subst, arith}
 use Rattle.std.specs.List.{cons_option}
 use Rattle.mega_base.specs.declared.names.GroupId.{GroupId}
 use Rattle.mega_base.specs.declared.names.OpId.{OpId}
@@ -23,10 +23,15 @@ use Rattle.mega_rules.specs.Operations.{Node, Now, Setting}
 use Rattle.mega_rules.specs.Replies.{answer_to, reply_message, reply_to}
 use Rattle.mega_rules.specs.Steps.{Decision, Heard, Step, all_act, apply_notes, at_first, decide_to, decision_note, first_settled, hears_message, if_new, news, onto, stored_after, take_step, taken, told_decision, told_notes}
 use Rattle.mega_laws.specs.Places.{In, Place, Took, moves}
+use Rattle.mega_lawful.proofs.Owned.{Users, quiet_written}
 use Rattle.mega_laws.specs.Lawful.{Lawful, message}
+use Rattle.mega_laws.specs.Polls.{ArePolls, has_asked}
+use Rattle.mega_laws.specs.Writes.{AreWritten}
+use Rattle.mega_lawful.specs.Usages.{Brought}
 use Rattle.mega_lawful.specs.Shows.{Shows}
 use Rattle.mega_lawful.specs.Vouched.{Each, sent}
 use Rattle.mega_lawful.proofs.Replied.{Fair, answer_fair}
+use Rattle.mega_lawful.proofs.Told.{Told, answer_told}
 use Rattle.mega_lawful.proofs.Sending.{Stood, stood_sent, took_on}
 use Rattle.mega_lawful.proofs.Opened.{Grew, same_met}
 use Rattle.mega_lawful.proofs.Turns.{Held, Known, each_on, held_on, sent_append}
@@ -78,12 +83,15 @@ in_shown me g n e (one ∷ notes) (inr i) = in_right (Decide (number me) g (reco
 -- ---- replies and news
 
 pub none_before : (c : Cluster) (me : ℕ) (tape : List Item) (k : ℕ) → Before c me tape k []
-none_before c me tape k = record { lawful = λ l. l; moved = λ x q. refl; mine = tt }
+none_before c me tape k = record { lawful = λ l. l; polls = λ p. p; written = λ schema usage w. w; moved = λ x q. refl; asked = λ x. refl; mine = tt }
 
 both_before : (c : Cluster) (me : ℕ) (tape : List Item) (k : ℕ) (xs ys : List Message) → Before c me tape k xs → Before c me (sent k xs tape) (k + length xs) ys → Before c me tape k (xs ++ ys)
 both_before c me tape k xs ys a b = record {
   lawful = λ l. subst (Lawful c) (sym whole) (b.lawful (a.lawful l));
+  polls = λ p. subst ArePolls (sym whole) (b.polls (a.polls p));
+  written = λ schema usage w. subst (AreWritten schema usage) (sym whole) (b.written schema usage (a.written schema usage w));
   moved = λ x q. ap (λ t. moves t x q) whole ∙ b.moved x q ∙ a.moved x q;
+  asked = λ x. ap (λ t. has_asked t x) whole ∙ b.asked x ∙ a.asked x;
   mine = each_append (FromMe me) xs ys a.mine b.mine;
 }
   where
@@ -91,13 +99,16 @@ both_before c me tape k xs ys a b = record {
     whole = sent_append k xs ys tape
 
 reply_before : (c : Cluster) (tape : List Item) (me : ℕ) (met : List Met) (m : Message) (k : ℕ) → Shows tape me met → Took tape (message m.from me m.body) → Before c me tape k (reply_to c me met m)
-reply_before c tape me met m k s took = go (answer_to c me met m.from m.body) (λ answer h. answer_fair c tape me m.from met s m.body took answer h)
+reply_before c tape me met m k s took = go (answer_to c me met m.from m.body) (λ answer h. (answer_fair c tape me m.from met s m.body took answer h, answer_told c tape me m.from met s m.body took answer h))
   where
-    go : (o : Option Body) → ((answer : Body) → o ≡ Some answer → Fair c tape (message me m.from answer) answer) → Before c me tape k (reply_message me m.from o)
+    go : (o : Option Body) → ((answer : Body) → o ≡ Some answer → Fair c tape (message me m.from answer) answer × Told tape (message me m.from answer) answer) → Before c me tape k (reply_message me m.from o)
     go None h = none_before c me tape k
-    go (Some answer) h = let fair = h answer refl in record {
+    go (Some answer) h = let fair = (h answer refl).0 in let told = (h answer refl).1 in record {
       lawful = λ l. ((fair.0).0, l);
+      polls = λ p. (told.0, p);
+      written = λ schema usage w. quiet_written schema usage k (message me m.from answer ∷ []) tape (told.2, tt) w;
       moved = λ x q. ap (λ o. cons_option o (moves tape x q)) (fair.1 x q);
+      asked = λ x. ap (λ t. t || has_asked tape x) (told.1 x);
       mine = (inl refl, tt);
     }
 
@@ -105,7 +116,10 @@ told_before : (c : Cluster) (tape : List Item) (me : ℕ) (d : Decision) (k : �
 told_before c tape me d k [] s = none_before c me tape k
 told_before c tape me d k (one ∷ to) s = let rest = told_before c (Sent k (decide_to me d one) ∷ tape) me d (k + 1) to (inr s) in record {
   lawful = λ l. rest.lawful (s, l);
+  polls = λ p. rest.polls (tt, p);
+  written = λ schema usage w. rest.written schema usage (tt, w);
   moved = λ x q. rest.moved x q;
+  asked = λ x. rest.asked x;
   mine = (inl refl, rest.mine);
 }
 
@@ -116,9 +130,9 @@ news_before s tape (Some d) k h = told_before s.cluster tape s.me d k (others s.
 -- ---- a message
 
 -- what a step notes and sends leads on
-abbrev pub StepNext : Setting → Standing → (ℕ → Node) → Item → Met → Step → Type 0
-StepNext s now nodes' item own made =
-    Next s.cluster now s.me (sent (sent_count now.tape + 1) made.sends (with_items s.cluster nodes' (item ∷ now.tape) (flat_map (shown s.me) made.notes))) made.node now.starts now.owed
+abbrev pub StepNext : Users → Setting → Standing → (ℕ → Node) → Item → Met → Step → Type 0
+StepNext users s now nodes' item own made =
+    Next users s.cluster now s.me (sent (sent_count now.tape + 1) made.sends (with_items s.cluster nodes' (item ∷ now.tape) (flat_map (shown s.me) made.notes))) made.node now.starts now.owed
     × Each (Note s.cluster (item ∷ now.tape) s.me) made.notes
 
 up_one : (c : Cluster) (tape : List Item) (me : ℕ) (one : Met) (met : List Met) → Note c tape me one → is_up met ≡ true → is_up (one ∷ met) ≡ true
@@ -131,22 +145,22 @@ up_onto c tape me [] met h up = up
 up_onto c tape me (one ∷ notes) met h up = up_onto c tape me notes (one ∷ met) h.1 (up_one c tape me one met h.0 up)
 
 pub own_taken : (c : Cluster) (tape : List Item) (j : ℕ) (m : Message) (met : List Met) → Own c tape (Taken j) met (Takes m)
-own_taken c tape j m met = record { on = tape_item c tape (Taken j) tt (λ x q. refl) (λ v q. refl); made = λ g n. refl; decides = λ g n. refl; start = refl; begun = omega arith; up = refl }
+own_taken c tape j m met = record { on = tape_item c tape (Taken j) tt (λ x q. refl) (λ v q. refl) (λ x. refl) tt (λ schema usage. tt); begins = λ x other. refl; made = λ g n. refl; decides = λ g n. refl; start = refl; begun = omega arith; up = refl }
 
-pub held_first : (c : Cluster) (old new : List Item) (me : ℕ) (node : Node) → Stood old new → ((x : OpId) (q : Place) → moves new x q ≡ moves old x q) → NodeGood c old me node
-    → Each (Held c new me (start_of node.met) (begun_of node.met + 1) node.met) node.open_operations
-held_first c old new me node s same g = each_on (Held c old me (start_of node.met) (begun_of node.met + 1) node.met) (Held c new me (start_of node.met) (begun_of node.met + 1) node.met)
-    (λ o held. held_on c old new me (start_of node.met) (begun_of node.met + 1) (begun_of node.met + 1) node.met node.met o (record { stood = s; moved = λ q. same o.id q }) (same_met node.met) (omega arith) held) node.open_operations g.held
+pub held_first : (users : Users) → (c : Cluster) (old new : List Item) (me : ℕ) (node : Node) → Stood old new → ((x : OpId) (q : Place) → moves new x q ≡ moves old x q) → NodeGood users c old me node
+    → Each (Held users c new me (start_of node.met) (begun_of node.met + 1) node.met) node.open_operations
+held_first users c old new me node s same g = each_on (Held users c old me (start_of node.met) (begun_of node.met + 1) node.met) (Held users c new me (start_of node.met) (begun_of node.met + 1) node.met)
+    (λ o held. held_on users c old new me (start_of node.met) (begun_of node.met + 1) (begun_of node.met + 1) node.met node.met o (record { stood = s; moved = λ q. same o.id q }) (same_met node.met) (omega arith) held) node.open_operations g.held
 
-pub taken_next : (s : Setting) (now : Standing) (nodes' : ℕ → Node) (j : ℕ) (m : Message) (d : Option Decision) (telling : Option Decision) → Good s.cluster now → is_up (now.node s.me).met ≡ true
+pub taken_next : (users : Users) → (s : Setting) → (users.fits → Brought users.usage s.handlers) → (now : Standing) (nodes' : ℕ → Node) (j : ℕ) (m : Message) (d : Option Decision) (telling : Option Decision) → Good users s.cluster now → is_up (now.node s.me).met ≡ true
     → Stands (Sent j (message m.from s.me m.body)) now.tape
     → (Took (Taken j ∷ now.tape) (message m.from s.me m.body) → Each (Note s.cluster (Taken j ∷ now.tape) s.me) (decision_note d))
     → ((one : Decision) → telling ≡ Some one → d ≡ Some one)
-    → StepNext s now nodes' (Taken j) (Takes m) (taken s (now.node s.me) m (told_notes s (now.node s.me).met m.from m.body) (map (hears_message s (clock_of (now.node s.me).met) m) (now.node s.me).open_operations) d
+    → StepNext users s now nodes' (Taken j) (Takes m) (taken s (now.node s.me) m (told_notes s (now.node s.me).met m.from m.body) (map (hears_message s (clock_of (now.node s.me).met) m) (now.node s.me).open_operations) d
     (reply_to s.cluster s.me (now.node s.me).met m) (news s telling))
-taken_next s now nodes' j m d telling g up stands may same = (
-  step_next c now me nodes' (Taken j) (Takes m) notes k ((reply ++ told_news) ++ acted.sends) acted.kept acted.stored _ g up (own_taken c now.tape j m met) all_may
-      (acted_sends s me st l k tape2 (onto notes met1) (reply ++ told_news) acted ((follows.tape).lawful ((own_taken c now.tape j m met).on.lawful g.lawful)) before all_done grown) refl (up_onto c tape1 me notes met1 all_may up),
+taken_next users s brought now nodes' j m d telling g up stands may same = (
+  step_next users c now me nodes' (Taken j) (Takes m) notes k ((reply ++ told_news) ++ acted.sends) acted.kept acted.stored _ g up (own_taken c now.tape j m met) all_may
+      (acted_sends users s me st l k tape2 (onto notes met1) (reply ++ told_news) acted ((follows.tape).polls (tt, g.polls)) before all_done grown) refl (λ x h. tt) (up_onto c tape1 me notes met1 all_may up),
   all_may,
 )
   where
@@ -257,11 +271,12 @@ taken_next s now nodes' j m d telling g up stands may same = (
     known_first h n e x = stood_sent k (reply ++ told_news) tape2 _ (follows.known (λ h' n' e' y. inr ((g.node me).known h' n' e' y)) h n e (ap (λ z. decided z h n) spread
         ∙ onto_decided acted.answers (onto acted.valid (onto applies first)) h n e (onto_decided acted.valid (onto applies first) h n e (onto_decided applies first h n e x))))
 
-    all_done : AllActed s (record { me = me; start = st; next = k + length (reply ++ told_news); base = base }) l acted
-    all_done = all_act_fine s (record { me = me; start = st; next = k + length (reply ++ told_news); base = base }) met (clock_of met) m l node.open_operations begin 0 0
-        (first_fine c (record { me = me; start = st; next = k + length (reply ++ told_news); base = base }) first (before.lawful ((follows.tape).lawful ((own_taken c now.tape j m met).on.lawful g.lawful))) known_first)
+    all_done : AllActed users s (record { me = me; start = st; next = k + length (reply ++ told_news); base = base }) l acted
+    all_done = all_act_fine users s brought (record { me = me; start = st; next = k + length (reply ++ told_news); base = base }) met (clock_of met) m l node.open_operations begin 0 0
+        (first_fine users c (record { me = me; start = st; next = k + length (reply ++ told_news); base = base }) first (before.lawful ((follows.tape).lawful ((own_taken c now.tape j m met).on.lawful g.lawful)))
+        (λ fits. before.written c.schema users.usage ((follows.tape).written c.schema users.usage (tt, g.written fits))) known_first)
         (omega arith) (omega arith) (g.node me).rising
-        (held_first c now.tape base me node (λ item x. stood_sent k (reply ++ told_news) tape2 item (stood2 item x)) (λ x q. before.moved x q ∙ moved2 x q) (g.node me))
+        (held_first users c now.tape base me node (λ item x. stood_sent k (reply ++ told_news) tape2 item (stood2 item x)) (λ x q. before.moved x q ∙ moved2 x q) (g.node me))
         (λ h. (let one = onto_grew (Takes m ∷ []) met h in let two = onto_grew told met1 h in let three = onto_grew (decision_note d) (onto told met1) h in omega (arith, one, two, three)))
         (took_on tape1 base (λ item x. stood_sent k (reply ++ told_news) tape2 item ((follows.tape).stood item x)) (message m.from me m.body) took)
 
@@ -270,19 +285,19 @@ abbrev take_by : Setting → Node → Message → List Heard → Option Decision
 take_by s node m ts (Some d) = taken s node m (told_notes s node.met m.from m.body) ts (if_new node.met (Some d)) (reply_to s.cluster s.me node.met m) []
 take_by s node m ts None = taken s node m (told_notes s node.met m.from m.body) ts (if_new node.met (first_settled ts)) (reply_to s.cluster s.me node.met m) (news s (if_new node.met (first_settled ts)))
 
-pub take_next : (s : Setting) (now : Standing) (nodes' : ℕ → Node) (j : ℕ) (m : Message) → Good s.cluster now → is_up (now.node s.me).met ≡ true
-    → Stands (Sent j (message m.from s.me m.body)) now.tape → StepNext s now nodes' (Taken j) (Takes m) (take_step s (now.node s.me) m)
-take_next s now nodes' j m g up stands = go (told_decision m.body) refl
+pub take_next : (users : Users) → (s : Setting) → (users.fits → Brought users.usage s.handlers) → (now : Standing) (nodes' : ℕ → Node) (j : ℕ) (m : Message) → Good users s.cluster now → is_up (now.node s.me).met ≡ true
+    → Stands (Sent j (message m.from s.me m.body)) now.tape → StepNext users s now nodes' (Taken j) (Takes m) (take_step s (now.node s.me) m)
+take_next users s brought now nodes' j m g up stands = go (told_decision m.body) refl
   where
     ts : List Heard
     ts = map (hears_message s (clock_of (now.node s.me).met) m) (now.node s.me).open_operations
 
-    go : (e : Option Decision) → told_decision m.body ≡ e → StepNext s now nodes' (Taken j) (Takes m) (take_by s (now.node s.me) m ts e)
-    go (Some d) is = taken_next s now nodes' j m (if_new (now.node s.me).met (Some d)) None g up stands
+    go : (e : Option Decision) → told_decision m.body ≡ e → StepNext users s now nodes' (Taken j) (Takes m) (take_by s (now.node s.me) m ts e)
+    go (Some d) is = taken_next users s brought now nodes' j m (if_new (now.node s.me).met (Some d)) None g up stands
         (λ took. new_may s.cluster (Taken j ∷ now.tape) s.me (now.node s.me).met (Some d) (λ x h. told_may s.cluster (Taken j ∷ now.tape) s.me m.from m.body took x (is ∙ h)))
         (λ one h. cc)
-    go None is = taken_next s now nodes' j m (if_new (now.node s.me).met (first_settled ts)) (if_new (now.node s.me).met (first_settled ts)) g up stands
+    go None is = taken_next users s brought now nodes' j m (if_new (now.node s.me).met (first_settled ts)) (if_new (now.node s.me).met (first_settled ts)) g up stands
         (λ took. new_may s.cluster (Taken j ∷ now.tape) s.me (now.node s.me).met (first_settled ts)
-        (first_may s (Taken j ∷ now.tape) s.me (start_of (now.node s.me).met) (begun_of (now.node s.me).met + 1) (now.node s.me).met (clock_of (now.node s.me).met) m (now.node s.me).open_operations
-        (held_first s.cluster now.tape (Taken j ∷ now.tape) s.me (now.node s.me) (λ item x. inr x) (λ x q. refl) (g.node s.me)) took))
+        (first_may users s (Taken j ∷ now.tape) s.me (start_of (now.node s.me).met) (begun_of (now.node s.me).met + 1) (now.node s.me).met (clock_of (now.node s.me).met) m (now.node s.me).open_operations
+        (held_first users s.cluster now.tape (Taken j ∷ now.tape) s.me (now.node s.me) (λ item x. inr x) (λ x q. refl) (g.node s.me)) took))
         (λ one h. h)

@@ -1,2 +1,3 @@
 pub mod Shows
 pub mod Vouched
+pub mod Usages

@@ -7,7 +7,7 @@ use Rattle.mega_cluster.specs.declared.cluster.Cluster.{Cluster}
 use Rattle.mega_entry.specs.declared.content.Content.{Content}
 use Rattle.mega_wire.specs.declared.message.Message.{Message}
 use Rattle.mega_wire.specs.declared.message.Body.{Body}
-use Rattle.mega_wire.specs.declared.message.Body.TheVariants.{Accept, Accepted, Prepare, Promise}
+use Rattle.mega_wire.specs.declared.message.Body.TheVariants.{Accept, Accepted, Prepare, Promise, Top, Where}
 use Rattle.mega_wal.specs.Acceptor.{Vote}
 use Rattle.mega_transcript.specs.declared.item.Item.{Item}
 use Rattle.mega_transcript.specs.declared.item.Item.TheVariants.{Sent}
@@ -26,12 +26,14 @@ abbrev pub Each : {X : Type 0} → (X → Type 0) → List X → Type 0
 Each P [] = Unit {0}
 Each P (x ∷ xs) = P x × Each P xs
 
--- a message of an operation's round at a place: no answer of a voter, and no move of another operation or elsewhere
+-- a message of an operation's round at a place: no question or answer of a poll, no answer of a voter, and no move of another operation or elsewhere
 abbrev pub OfRound : OpId → Place → Body → Type 0
 OfRound op p (Accept o g n b e) = (o ≡ op) × (◌≡◌ {A = Place} (record { group = g; position = n }) p)
 OfRound op p (Prepare o g n b) = (o ≡ op) × (◌≡◌ {A = Place} (record { group = g; position = n }) p)
 OfRound op p (Promise o g n b report) = ⊥
 OfRound op p (Accepted o g n b e) = ⊥
+OfRound op p (Where o g) = ⊥
+OfRound op p (Top o g n) = ⊥
 OfRound op p _ = Unit {0}
 
 abbrev pub AreOfRound : OpId → Place → List Message → Type 0

@@ -1,19 +1,27 @@
 //! Laws, as contracts of functions that do nothing.
 
-ghost use Rattle.std.specs.Prelude.{◌≡◌, ℕ, List, Some};
+ghost use Rattle.std.specs.Prelude.{◌≡◌, ℕ, ◌≤◌, true, List, Some, slice_get, take};
+ghost use Rattle.mega_base.specs.declared.names.GroupId.{GroupId as Group};
+ghost use Rattle.mega_base.specs.declared.names.NodeId.{NodeId as Node};
 ghost use Rattle.mega_base.specs.declared.names.OpId.{OpId};
+ghost use Rattle.mega_base.specs.declared.names.Position.{Position as Index};
 ghost use Rattle.mega_cluster.specs.declared.cluster.Cluster.{Cluster};
 ghost use Rattle.mega_wire.specs.declared.message.Body.{Body};
 ghost use Rattle.mega_transcript.specs.declared.item.Item.{Item};
+ghost use Rattle.mega_transcript.specs.declared.item.Item.TheVariants.{Begin, Decide};
 ghost use Rattle.mega_propose.specs.Rounds.{Proposal, due, settled, takes};
 ghost use Rattle.mega_entry.specs.declared.content.Content.{Content};
 ghost use Rattle.mega_rules.specs.Met.{Met};
 ghost use Rattle.mega_rules.specs.Replies.{answer_to};
 ghost use Rattle.mega_laws.specs.Places.{Place, Took};
 ghost use Rattle.mega_handler.specs.Named.{Meanings};
-ghost use Rattle.mega_promises.specs.Promises.{Agree};
+ghost use Rattle.mega_promises.specs.Promises.{Agree, AreMessages, StoodBefore, asked_for, comes_to, group_written, is_write, log_of};
 ghost use Rattle.mega_promises.specs.Runs.{Happening, IsRun};
 ghost use Rattle.mega_laws.specs.Lawful.{Lawful, MayMake, MaySend, message};
+ghost use Rattle.mega_laws.specs.Polls.{ArePolls, IsPolled};
+ghost use Rattle.mega_laws.specs.Writes.{LawfulWrites, Usage};
+ghost use Rattle.mega_outcome.specs.declared.request.Request.{Request};
+ghost use Rattle.mega_lawful.specs.Usages.{Fits};
 ghost use Rattle.mega_lawful.specs.Shows.{Shows};
 ghost use Rattle.mega_lawful.specs.Vouched.{Chosen, Goes, Vouched, here};
 
@@ -40,4 +48,26 @@ pub fn runs_are_lawful()
 /// All decides of one position of a group show one entry, in every run of every cluster (Lamport 2001).
 pub fn runs_agree()
     ensures { (c : Cluster) (first : Meanings) (events : List Happening) (tape : List Item) → IsRun c first events tape → Agree tape }
+{}
+
+/// In every run voters answer polls as the law of polls asks, so a poll of a majority of them sees each position that was decided anywhere
+/// before its operation began, whether leases are safe or not (CIDR 2011, current reads).
+pub fn runs_poll()
+    ensures polls { (c : Cluster) (first : Meanings) (events : List Happening) (tape : List Item) → IsRun c first events tape → ArePolls tape }
+    ensures sees { (c : Cluster) (first : Meanings) (events : List Happening) (tape : List Item) → IsRun c first events tape → (op : OpId) (text : List ℕ) (group : Group) (n p : Index) (node : Node) (entry : Content) → StoodBefore (Decide node group n entry) (Begin op text) tape → IsPolled c tape op group p → n.0 ≤ p.0 }
+{}
+
+/// In every run each entry that is proposed is an operation's own over the entries that its node decided below, where each text means the
+/// request that begins with it and the handlers of each event are there at some moment; so the logs are as of one thread (CIDR 2011,
+/// transactions): an entry with the id of a transaction or a batch is its outcome over the entries below, and an id stands once.
+pub fn runs_write()
+    ensures written { (c : Cluster) (usage : Usage) (first : Meanings) (events : List Happening) (tape : List Item) → IsRun c first events tape → Fits usage events → LawfulWrites c usage tape }
+    ensures entries { (c : Cluster) (usage : Usage) (first : Meanings) (events : List Happening) (tape : List Item) → IsRun c first events tape → Fits usage events → (group : Group) (n : ℕ) (entry : Content) (op : OpId) (request : Request) → slice_get (log_of tape group) n ≡ Some entry → entry.id ≡ Some op → asked_for usage.meaning tape op ≡ Some request → is_write request ≡ true → (group_written request ≡ Some group) × (comes_to c.schema op request (take n (log_of tape group)) ≡ Some entry) }
+    ensures once { (c : Cluster) (usage : Usage) (first : Meanings) (events : List Happening) (tape : List Item) → IsRun c first events tape → Fits usage events → (g h : Group) (m n : ℕ) (d e : Content) (op : OpId) → slice_get (log_of tape g) m ≡ Some d → slice_get (log_of tape h) n ≡ Some e → d.id ≡ Some op → e.id ≡ Some op → (g ≡ h) × (m ≡ n) }
+{}
+
+/// In every run with the same handlers throughout, messages are entered once and handled once, the oldest first, as they were sent
+/// (CIDR 2011, queues).
+pub fn runs_deliver()
+    ensures { (c : Cluster) (usage : Usage) (handlers first : Meanings) (events : List Happening) (tape : List Item) → ((moment : List Item) → usage.handlers moment ≡ handlers) → IsRun c first events tape → Fits usage events → AreMessages c.schema handlers tape }
 {}

@@ -2,4 +2,5 @@
 //! Replies and rounds are one law each, and on them stands the law of all runs. No code stands on this crate.
 #![tactic(auto)]
 
+pub mod examples;
 pub mod laws;

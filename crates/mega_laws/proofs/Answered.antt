@@ -12,7 +12,7 @@ use Rattle.mega_wire.specs.declared.message.Body.{Body}
 use Rattle.mega_wire.specs.declared.message.Body.TheVariants.{Accept, Prepare}
 use Rattle.mega_index.specs.Rows.{after, no_rows}
 use Rattle.mega_outcome.specs.declared.answer.Answer.{Answer}
-use Rattle.mega_outcome.specs.declared.answer.Answer.TheVariants.{AllTurned, Batched, Committed, Conflict, Turned, Read as ReadAnswer}
+use Rattle.mega_outcome.specs.declared.answer.Answer.TheVariants.{AllTurned, Batched, Committed, Conflict, Turned, Read as ReadAnswer, Worn}
 use Rattle.mega_outcome.specs.declared.answer.Done.{Done}
 use Rattle.mega_outcome.specs.declared.answer.Shown.{Shown}
 use Rattle.mega_outcome.specs.declared.answer.Turn.{Turn}
@@ -28,11 +28,12 @@ use Rattle.mega_transcript.specs.declared.item.Item.TheVariants.{Answer as Answe
 use Rattle.mega_rules.specs.Steps.{is_current}
 use Rattle.mega_promises.specs.Promises.{IsSerial, Stands, asked_for, is_negative, is_write, log_of, rows_shown}
 use Rattle.mega_laws.specs.Places.{In, Place, Prepares, Proposes, is_move_at, move_in, move_of, moves}
-use Rattle.mega_laws.specs.Writes.{AreWritten, IsFront, Usage}
+use Rattle.mega_laws.specs.Writes.{AreWritten, IsFront, Usage, IsNamed}
 use Rattle.mega_laws.specs.Answers.{AreAnswered, IsAnswered, IsDoomed, KnowsBelow, LawfulAnswers, Lost, MayCommit, MayCommitAll, MayConflict, MaySpeak, MayRead, MayTurn, MayTurnAll, ShowsFront, Replied, has_failed, of_pump, of_read, of_transaction, of_write}
 use Rattle.mega_laws.proofs.Lists.{from_cons}
 use Rattle.mega_laws.proofs.Made.{move_is, moved_at, proposal_entry}
 use Rattle.mega_laws.proofs.Agreement.{agreement}
+use Rattle.mega_laws.proofs.Ballots.{clash}
 use Rattle.mega_laws.proofs.Origins.{Origin, asked_then, id_is}
 use Rattle.mega_laws.proofs.Serial.{decide_origin, id_once, same_request, serial_entries}
 use Rattle.mega_laws.proofs.Complete.{known_is_front}
@@ -46,19 +47,27 @@ answered schema usage Q item lasts held [] w a s = absurd s
 answered schema usage Q item lasts held (other ∷ before) w a (inl same) = subst (λ x. Q (x ∷ before)) (sym same) (held before (subst (IsAnswered schema usage before) same a.0))
 answered schema usage Q item lasts held (other ∷ before) w a (inr s) = lasts other before w a (answered schema usage Q item lasts held before w.1 a.1 s)
 
+abbrev is_worn : Answer → Bool
+is_worn Worn = true
+is_worn _ = false
+
+-- who is answered anything else has a name of its own
+named_at : (schema : Schema) (usage : Usage) (tape : List Item) → AreWritten schema usage tape → AreAnswered schema usage tape → (op : OpId) (answer : Answer) → Stands (AnswerItem op answer) tape → is_worn answer ≡ false → IsNamed op
+named_at schema usage tape w a op answer s other = answered schema usage (λ x. IsNamed op) (AnswerItem op answer) (λ item before w a q. q) (λ before a. elim (a.1).1 [ inl worn ↦ absurd (clash (is_worn answer) (ap is_worn worn) other) | inr named ↦ named ]) tape w a s
+
 -- what an operation's node knew it still knows
 below_then : (item : Item) (before : List Item) (op : OpId) (group : GroupId) (below : List Content) (n : Position) → KnowsBelow before op group below n → KnowsBelow (item ∷ before) op group below n
 below_then item before op group below n k = record { known = λ j d is. inr ((k.known) j d is); reaches = k.reaches }
 
 -- ---- committed
 
-commit_then : (schema : Schema) (usage : Usage) (op : OpId) (n : Position) (replies : List (Option Shown)) (other : Item) (before : List Item) → AreWritten schema usage (other ∷ before)
+commit_then : (schema : Schema) (usage : Usage) (op : OpId) → IsNamed op → (n : Position) (replies : List (Option Shown)) (other : Item) (before : List Item) → AreWritten schema usage (other ∷ before)
     → MayCommit schema usage before op n replies → MayCommit schema usage (other ∷ before) op n replies
-commit_then schema usage op n replies other before w m = record { group = m.group; entry = m.entry; stands = inr m.stands; is_own = m.is_own; replied = go m.replied }
+commit_then schema usage op named n replies other before w m = record { group = m.group; entry = m.entry; stands = inr m.stands; is_own = m.is_own; replied = go m.replied }
   where
     go : Replied schema usage before op m.group n replies → Replied schema usage (other ∷ before) op m.group n replies
-    go (of_transaction transaction below done asked knows comes shows) = of_transaction transaction below done (asked_then schema usage other before w.0 op _ asked) (below_then other before op m.group below n knows) comes shows
-    go (of_pump request asked reads) = of_pump request (asked_then schema usage other before w.0 op _ asked) reads
+    go (of_transaction transaction below done asked knows comes shows) = of_transaction transaction below done (asked_then schema usage other before w.0 op named _ asked) (below_then other before op m.group below n knows) comes shows
+    go (of_pump request asked reads) = of_pump request (asked_then schema usage other before w.0 op named _ asked) reads
 
 transaction_is : (x y : Transaction) → Txn x ≡ Txn y → x ≡ y
 transaction_is x y h = cc
@@ -86,7 +95,7 @@ committed_at : (c : Cluster) (usage : Usage) (tape : List Item) → LawfulAnswer
     → (group : GroupId) × (entry : Content) × Stands (Decide op.node group n entry) tape × (entry.id ≡ Some op) × Replies c usage tape op group n replies
 committed_at c usage tape l op n replies s =
     let m = answered c.schema usage (λ x. MayCommit c.schema usage x op n replies) (AnswerItem op (Committed n replies))
-    (λ other before w a q. commit_then c.schema usage op n replies other before w q) (λ before a. kept before a.0) tape (l.writes).written l.answered s in
+    (λ other before w a q. commit_then c.schema usage op (named_at c.schema usage tape (l.writes).written l.answered op (Committed n replies) s refl) n replies other before w q) (λ before a. kept before a.0) tape (l.writes).written l.answered s in
     (m.group, m.entry, m.stands, m.is_own, committed_shows c usage tape l op m.group n replies m.replied)
   where
     kept : (before : List Item) → MayCommit c.schema usage before op n replies → MayCommit c.schema usage (AnswerItem op (Committed n replies) ∷ before) op n replies
@@ -131,7 +140,7 @@ batched_at c usage tape l op n results s = (m.group, m.entry, m.stands, m.is_own
   where
     m : MayCommitAll c.schema usage tape op n results
     m = answered c.schema usage (λ x. MayCommitAll c.schema usage x op n results) (AnswerItem op (Batched n results))
-        (λ other before w a q. commit_all_then c.schema usage op n results other before (λ request h. asked_then c.schema usage other before w.0 op request h) q)
+        (λ other before w a q. commit_all_then c.schema usage op n results other before (λ request h. asked_then c.schema usage other before w.0 op (named_at c.schema usage tape (l.writes).written l.answered op (Batched n results) s refl) request h) q)
         (λ before a. commit_all_then c.schema usage op n results (AnswerItem op (Batched n results)) before (λ request h. h) a.0) tape (l.writes).written l.answered s
 
     shows : (own : GroupId) (transactions : List Transaction) → asked_for usage.meaning tape op ≡ Some (BatchRequest own transactions)
@@ -179,7 +188,7 @@ turned_at : (c : Cluster) (usage : Usage) (tape : List Item) → LawfulAnswers c
     → asked_for usage.meaning tape op ≡ Some (Txn transaction) → TurnedOn c tape turn transaction
 turned_at c usage tape l op turn transaction s asks = turned_on c usage tape l op turn transaction asks
     (answered c.schema usage (λ x. MayTurn c.schema usage x op turn) (AnswerItem op (Turned turn))
-    (λ other before w a q. turn_then c.schema usage op turn other before (λ request h. asked_then c.schema usage other before w.0 op request h) q)
+    (λ other before w a q. turn_then c.schema usage op turn other before (λ request h. asked_then c.schema usage other before w.0 op (named_at c.schema usage tape (l.writes).written l.answered op (Turned turn) s refl) request h) q)
     (λ before a. turn_then c.schema usage op turn (AnswerItem op (Turned turn)) before (λ request h. h) a.0) tape (l.writes).written l.answered s)
 
 turn_all_then : (schema : Schema) (usage : Usage) (op : OpId) (results : Results) (other : Item) (before : List Item)
@@ -203,7 +212,7 @@ all_turned_at c usage tape l op results own transactions s asks =
   where
     m : MayTurnAll c.schema usage tape op results
     m = answered c.schema usage (λ x. MayTurnAll c.schema usage x op results) (AnswerItem op (AllTurned results))
-        (λ other before w a q. turn_all_then c.schema usage op results other before (λ request h. asked_then c.schema usage other before w.0 op request h) q)
+        (λ other before w a q. turn_all_then c.schema usage op results other before (λ request h. asked_then c.schema usage other before w.0 op (named_at c.schema usage tape (l.writes).written l.answered op (AllTurned results) s refl) request h) q)
         (λ before a. turn_all_then c.schema usage op results (AnswerItem op (AllTurned results)) before (λ request h. h) a.0) tape (l.writes).written l.answered s
 
     same : BatchRequest m.own m.transactions ≡ BatchRequest own transactions
@@ -230,12 +239,12 @@ read_then schema usage op p rows other before asks m = record {
 }
 
 -- what an operation began with is what it asked for
-began_with : (schema : Schema) (usage : Usage) (tape : List Item) → AreWritten schema usage tape → (op : OpId) (text : List ℕ) (request : Request)
+pub began_with : (schema : Schema) (usage : Usage) (tape : List Item) → AreWritten schema usage tape → (op : OpId) → IsNamed op → (text : List ℕ) (request : Request)
     → Stands (Begin op text) tape → usage.meaning text ≡ Some request → asked_for usage.meaning tape op ≡ Some request
-began_with schema usage [] w op text request s h = absurd s
-began_with schema usage (item ∷ before) w op text request (inl same) h =
+began_with schema usage [] w op named text request s h = absurd s
+began_with schema usage (item ∷ before) w op named text request (inl same) h =
     subst (λ x. asked_for usage.meaning (x ∷ before) op ≡ Some request) (sym same) (ap (λ t. cond t (usage.meaning text) (asked_for usage.meaning before op)) (same_op_self op) ∙ h)
-began_with schema usage (item ∷ before) w op text request (inr s) h = asked_then schema usage item before w.0 op request (began_with schema usage before w.1 op text request s h)
+began_with schema usage (item ∷ before) w op named text request (inr s) h = asked_then schema usage item before w.0 op named request (began_with schema usage before w.1 op named text request s h)
 
 read_is : (x y : ReadRequest) → ReadRequested x ≡ ReadRequested y → x ≡ y
 read_is x y h = cc
@@ -246,13 +255,16 @@ pub read_at : (c : Cluster) (usage : Usage) (tape : List Item) → LawfulAnswers
 read_at c usage tape l op text request p rows begins means current s =
     subst (λ below. rows_shown c.schema request below request.rows ≡ Ok rows) (front.is ∙ ap (λ k. take k (log_of tape request.group)) (sym found.reaches)) found.shows
   where
+    named : IsNamed op
+    named = named_at c.schema usage tape (l.writes).written l.answered op (ReadAnswer p rows) s refl
+
     m : MayRead c.schema usage tape op p rows
     m = answered c.schema usage (λ x. MayRead c.schema usage x op p rows) (AnswerItem op (ReadAnswer p rows))
-        (λ other before w a q. read_then c.schema usage op p rows other before (λ r h. asked_then c.schema usage other before w.0 op r h) q)
+        (λ other before w a q. read_then c.schema usage op p rows other before (λ r h. asked_then c.schema usage other before w.0 op named r h) q)
         (λ before a. read_then c.schema usage op p rows (AnswerItem op (ReadAnswer p rows)) before (λ r h. h) a.0) tape (l.writes).written l.answered s
 
     same : m.request ≡ request
-    same = read_is m.request request (same_request usage tape op op (ReadRequested m.request) (ReadRequested request) refl m.asked (began_with c.schema usage tape (l.writes).written op text (ReadRequested request) begins means))
+    same = read_is m.request request (same_request usage tape op op (ReadRequested m.request) (ReadRequested request) refl m.asked (began_with c.schema usage tape (l.writes).written op named text (ReadRequested request) begins means))
 
     found : ShowsFront c.schema tape op request p rows
     found = subst (λ r. ShowsFront c.schema tape op r p rows) same ((m.current) (ap (λ (r : ReadRequest). is_current r.mode) same ∙ current))
@@ -314,7 +326,7 @@ nowhere_at c usage tape l op answer node group n entry s negative stands id = lo
     failed = answered c.schema usage (λ x. Failed x op) (AnswerItem op answer) (λ other before w a q. doomed_then c.schema usage op other before a.0 q)
         (λ before a. record {
           has = both_true (same_op op op) (is_negative answer) (has_failed before op) (same_op_self op) negative;
-          doomed = λ q b e i named. lost_then (AnswerItem op answer) before op q (a.1 negative q b e i named);
+          doomed = λ q b e i named. lost_then (AnswerItem op answer) before op q ((a.1).0 negative q b e i named);
         }) tape (l.writes).written l.answered s
 
     from : Origin c.schema usage tape p entry

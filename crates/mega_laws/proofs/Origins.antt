@@ -16,7 +16,7 @@ use Rattle.mega_transcript.specs.declared.item.Item.{Item}
 use Rattle.mega_transcript.specs.declared.item.Item.TheVariants.{Begin, Sent}
 use Rattle.mega_promises.specs.Promises.{asked_for, handled_by}
 use Rattle.mega_laws.specs.Places.{In, Move, Place, Prepares, Proposes, is_move_at, move_in, move_of, moves}
-use Rattle.mega_laws.specs.Writes.{AreWritten, IsWritten, Knows, MaySay, MayWrite, OwnEntry, Usage, again, enters, fills, handles, has_begun, own, runs, runs_all}
+use Rattle.mega_laws.specs.Writes.{AreWritten, IsNamed, IsWritten, Knows, MaySay, MayWrite, OwnEntry, Usage, again, enters, fills, handles, has_begun, own, runs, runs_all}
 use Rattle.mega_laws.proofs.Lists.{from_cons, in_tail, some_is}
 use Rattle.mega_laws.proofs.Made.{move_is, moved_at, proposal_entry}
 
@@ -31,30 +31,32 @@ asked_begun usage (Begin began text ∷ before) op request h = go (same_op began
     go false earlier k = earlier k
 asked_begun usage (_ ∷ before) op request h = asked_begun usage before op request h
 
-pub asked_then : (schema : Schema) (usage : Usage) (item : Item) (before : List Item) → IsWritten schema usage before item → (op : OpId) (request : Request)
+pub asked_then : (schema : Schema) (usage : Usage) (item : Item) (before : List Item) → IsWritten schema usage before item → (op : OpId) → IsNamed op → (request : Request)
     → asked_for usage.meaning before op ≡ Some request → asked_for usage.meaning (item ∷ before) op ≡ Some request
-asked_then schema usage (Begin began text) before w op request h = go (same_op began op) refl
+asked_then schema usage (Begin began text) before w op named request h = go (same_op began op) refl
   where
     go : (t : Bool) → same_op began op ≡ t → cond t ((usage.meaning) text) (asked_for usage.meaning before op) ≡ Some request
     go true same =
         let begun : has_begun before began ≡ true = subst (λ o. has_begun before o ≡ true) (sym (same_op_equal began op same)) (asked_begun usage before op request h) in
+        let once : has_begun before began ≡ false = w (subst IsNamed (sym (same_op_equal began op same)) named) in
         cc
     go false same = h
-asked_then schema usage _ before w op request h = h
+asked_then schema usage _ before w op named request h = h
 
-own_then : (schema : Schema) (usage : Usage) (item : Item) (before : List Item) → IsWritten schema usage before item → (op : OpId) (group : GroupId) (below : List Content) (e : Content)
+own_then : (schema : Schema) (usage : Usage) (item : Item) (before : List Item) → IsWritten schema usage before item → (op : OpId) → IsNamed op → (group : GroupId) (below : List Content) (e : Content)
     → OwnEntry schema usage before op group below e → OwnEntry schema usage (item ∷ before) op group below e
-own_then schema usage item before w op group below e (fills is) = fills is
-own_then schema usage item before w op group below e (runs transaction done asked at comes is) = runs transaction done (asked_then schema usage item before w op _ asked) at comes is
-own_then schema usage item before w op group below e (runs_all transactions asked is) = runs_all transactions (asked_then schema usage item before w op _ asked) is
-own_then schema usage item before w op group below e (enters message sent one asked known posted to says fresh is) = enters message sent one (asked_then schema usage item before w op _ asked) (λ k d there. inr (known k d there)) posted to says fresh is
-own_then schema usage item before w op group below e (handles message moment asked oldest is) = handles message moment (asked_then schema usage item before w op _ asked) oldest is
+own_then schema usage item before w op named group below e (fills is) = fills is
+own_then schema usage item before w op named group below e (runs transaction done asked at comes is) = runs transaction done (asked_then schema usage item before w op named _ asked) at comes is
+own_then schema usage item before w op named group below e (runs_all transactions asked is) = runs_all transactions (asked_then schema usage item before w op named _ asked) is
+own_then schema usage item before w op named group below e (enters message sent one asked known posted to says fresh is) = enters message sent one (asked_then schema usage item before w op named _ asked) (λ k d there. inr (known k d there)) posted to says fresh is
+own_then schema usage item before w op named group below e (handles message moment asked oldest is) = handles message moment (asked_then schema usage item before w op named _ asked) oldest is
 
 -- ---- origins
 
 -- the operation whose own entry it is, which proposed it at the place
 pub record Origin (schema : Schema) (usage : Usage) (tape : List Item) (p : Place) (e : Content) : Type 0 where
   pub op : OpId
+  pub named : IsNamed op
   pub node : ℕ
   pub below : List Content
   pub reaches : p.position.0 ≡ suc (length below)
@@ -66,11 +68,12 @@ pub record Origin (schema : Schema) (usage : Usage) (tape : List Item) (p : Plac
 origin_then : (schema : Schema) (usage : Usage) (item : Item) (before : List Item) → IsWritten schema usage before item → (p : Place) (e : Content) → Origin schema usage before p e → Origin schema usage (item ∷ before) p e
 origin_then schema usage item before w p e o = record {
   op = o.op;
+  named = o.named;
   node = o.node;
   below = o.below;
   reaches = o.reaches;
   known = λ k d is. inr ((o.known) k d is);
-  entry = own_then schema usage item before w o.op p.group o.below e o.entry;
+  entry = own_then schema usage item before w o.op o.named p.group o.below e o.entry;
   ballot = o.ballot;
   stands = in_tail (move_of o.op p item) (moves before o.op p) (Proposes o.ballot e) o.stands;
 }
@@ -104,11 +107,12 @@ origin schema usage (item ∷ before) w op p b e i = elim (from_cons (move_of op
     go earlier node (again other d j) = origin_then schema usage item before w.0 p e (earlier other d j)
     go earlier node (own o) = record {
       op = op;
+      named = o.named;
       node = node;
       below = o.below;
       reaches = o.reaches;
       known = λ k d is. inr ((o.known) k d is);
-      entry = own_then schema usage item before w.0 op p.group o.below e o.entry;
+      entry = own_then schema usage item before w.0 op o.named p.group o.below e o.entry;
       ballot = b;
       stands = i;
     }

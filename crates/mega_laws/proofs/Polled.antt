@@ -6,7 +6,6 @@ use Rattle.mega_base.specs.declared.names.OpId.{OpId}
 use Rattle.mega_base.specs.declared.names.Position.{Position}
 use Rattle.mega_ballot.specs.declared.ballot.Ballot.{Ballot}
 use Rattle.mega_cluster.specs.declared.cluster.Cluster.{Cluster}
-use Rattle.mega_schema.specs.declared.schema.Schema.{Schema}
 use Rattle.mega_entry.specs.declared.content.Content.{Content}
 use Rattle.mega_wire.specs.declared.message.Body.TheVariants.{Top, Where}
 use Rattle.mega_wal.specs.Acceptor.{Voted}
@@ -16,8 +15,8 @@ use Rattle.mega_transcript.specs.declared.item.Item.TheVariants.{Begin, Decide, 
 use Rattle.mega_promises.specs.Promises.{Stands, StoodBefore}
 use Rattle.mega_laws.specs.Lawful.{Lawful, message}
 use Rattle.mega_laws.specs.Places.{In, IsMajority, Place, act_of, acts}
-use Rattle.mega_laws.specs.Polls.{ArePolls, IsPolled, IsPolling, MayTell}
-use Rattle.mega_laws.specs.Writes.{AreWritten, IsWritten, LawfulWrites, Usage, has_begun}
+use Rattle.mega_laws.specs.Polls.{ArePolls, IsPolled, IsPolling, MayTell, has_asked, is_asking}
+use Rattle.mega_wal.proofs.Sames.{same_op_self}
 use Rattle.mega_laws.proofs.Ballots.{clash}
 use Rattle.mega_laws.proofs.Lists.{in_tail}
 use Rattle.mega_laws.proofs.Majorities.{Shared, meet}
@@ -50,50 +49,55 @@ vote_stays p item voter b e [] s = absurd s
 vote_stays p item voter b e (other ∷ before) (inl (same, i)) = in_tail (act_of voter p other) (acts before voter p) (Voted b e) i
 vote_stays p item voter b e (other ∷ before) (inr s) = in_tail (act_of voter p other) (acts before voter p) (Voted b e) (vote_stays p item voter b e before s)
 
--- ---- who is told asked, and who asked began
+-- ---- who is told asked
 
-begun_then : (item : Item) (before : List Item) (op : OpId) → has_begun before op ≡ true → has_begun (item ∷ before) op ≡ true
-begun_then (Begin began text) before op h = go (same_op began op) (has_begun before op) h
+asked_then : (item : Item) (before : List Item) (op : OpId) → has_asked before op ≡ true → has_asked (item ∷ before) op ≡ true
+asked_then (Sent number m) before op h = go (is_asking op m.body) (has_asked before op) h
   where
     go : (t u : Bool) → u ≡ true → (t || u) ≡ true
     go true u k = refl
     go false u k = k
-begun_then _ before op h = h
+asked_then _ before op h = h
 
-asked_begun : (tape : List Item) → ArePolls tape → (key from to : ℕ) (op : OpId) (group : GroupId) → Stands (Sent key (message from to (Where op group))) tape → has_begun tape op ≡ true
-asked_begun [] w key from to op group s = absurd s
-asked_begun (item ∷ before) w key from to op group (inl same) = begun_then item before op (subst (IsPolling before) same w.0)
-asked_begun (item ∷ before) w key from to op group (inr s) = begun_then item before op (asked_begun before w.1 key from to op group s)
+either : (t u : Bool) → t ≡ true → (t || u) ≡ true
+either true u h = refl
+either false u h = cc
 
-told_begun : (tape : List Item) → ArePolls tape → (key voter to : ℕ) (op : OpId) (group : GroupId) (top : Position) → Stands (Sent key (message voter to (Top op group top))) tape → has_begun tape op ≡ true
-told_begun [] w key voter to op group top s = absurd s
-told_begun (item ∷ before) w key voter to op group top (inl same) =
+asked_is : (tape : List Item) (key from to : ℕ) (op : OpId) (group : GroupId) → Stands (Sent key (message from to (Where op group))) tape → has_asked tape op ≡ true
+asked_is [] key from to op group s = absurd s
+asked_is (item ∷ before) key from to op group (inl same) =
+    subst (λ x. has_asked (x ∷ before) op ≡ true) (sym same) (either (same_op op op) (has_asked before op) (same_op_self op))
+asked_is (item ∷ before) key from to op group (inr s) = asked_then item before op (asked_is before key from to op group s)
+
+told_asked : (tape : List Item) → ArePolls tape → (key voter to : ℕ) (op : OpId) (group : GroupId) (top : Position) → Stands (Sent key (message voter to (Top op group top))) tape → has_asked tape op ≡ true
+told_asked [] w key voter to op group top s = absurd s
+told_asked (item ∷ before) w key voter to op group top (inl same) =
     let may : MayTell before to voter op group top = subst (IsPolling before) same w.0 in
-    begun_then item before op (asked_begun before w.1 (may.asked).number to voter op group (may.asked).sent)
-told_begun (item ∷ before) w key voter to op group top (inr s) = begun_then item before op (told_begun before w.1 key voter to op group top s)
+    asked_then item before op (asked_is before (may.asked).number to voter op group (may.asked).sent)
+told_asked (item ∷ before) w key voter to op group top (inr s) = asked_then item before op (told_asked before w.1 key voter to op group top s)
 
 abbrev is_begin : Item → Bool
 is_begin (Begin op text) = true
 is_begin _ = false
 
 -- a voter tells no position below one that it had accepted when the operation began
-told_most : (schema : Schema) (usage : Usage) (p : Place) (op : OpId) (text : List ℕ) (voter : ℕ) (b : Ballot) (e : Content) (key to : ℕ) (top : Position) (tape : List Item) → AreWritten schema usage tape → ArePolls tape
+told_most : (p : Place) (op : OpId) (text : List ℕ) (voter : ℕ) (b : Ballot) (e : Content) (key to : ℕ) (top : Position) (tape : List Item) → ArePolls tape
     → Since (Begin op text) (λ s. In (Voted b e) (acts s voter p)) tape → Stands (Sent key (message voter to (Top op p.group top))) tape → p.position.0 ≤ top.0
-told_most schema usage p op text voter b e key to top [] w q s t = absurd s
-told_most schema usage p op text voter b e key to top (item ∷ before) w q (inl (begins, i)) (inl tells) = absurd (clash true (refl) (ap is_begin (sym begins ∙ tells)))
-told_most schema usage p op text voter b e key to top (item ∷ before) w q (inl (begins, i)) (inr t) =
-    let fresh : has_begun before op ≡ false = subst (IsWritten schema usage before) begins w.0 in
-    absurd (clash (has_begun before op) (told_begun before q.1 key voter to op p.group top t) fresh)
-told_most schema usage p op text voter b e key to top (item ∷ before) w q (inr s) (inl tells) =
+told_most p op text voter b e key to top [] q s t = absurd s
+told_most p op text voter b e key to top (item ∷ before) q (inl (begins, i)) (inl tells) = absurd (clash true (refl) (ap is_begin (sym begins ∙ tells)))
+told_most p op text voter b e key to top (item ∷ before) q (inl (begins, i)) (inr t) =
+    let fresh : has_asked before op ≡ false = subst (IsPolling before) begins q.0 in
+    absurd (clash (has_asked before op) (told_asked before q.1 key voter to op p.group top t) fresh)
+told_most p op text voter b e key to top (item ∷ before) q (inr s) (inl tells) =
     let may : MayTell before to voter op p.group top = subst (IsPolling before) tells q.0 in
     (may.most) p.position b e (vote_stays p (Begin op text) voter b e before s)
-told_most schema usage p op text voter b e key to top (item ∷ before) w q (inr s) (inr t) = told_most schema usage p op text voter b e key to top before w.1 q.1 s t
+told_most p op text voter b e key to top (item ∷ before) q (inr s) (inr t) = told_most p op text voter b e key to top before q.1 s t
 
-pub polled_above : (c : Cluster) (usage : Usage) (tape : List Item) → LawfulWrites c usage tape → ArePolls tape → (op : OpId) (text : List ℕ) (group : GroupId) (n p : Position) (node : NodeId) (entry : Content)
+pub polled_above : (c : Cluster) (tape : List Item) → Lawful c tape → ArePolls tape → (op : OpId) (text : List ℕ) (group : GroupId) (n p : Position) (node : NodeId) (entry : Content)
     → StoodBefore (Decide node group n entry) (Begin op text) tape → IsPolled c tape op group p → n.0 ≤ p.0
-polled_above c usage tape l q op text group n p node entry s polled =
+polled_above c tape l q op text group n p node entry s polled =
     let told = (polled.heard) voter.node voter.second in
-    let most = told_most c.schema usage place op text voter.node chosen.ballot entry (told.1).number op.node.0 told.0 tape l.written q ((chosen.each) voter.node voter.first) (told.1).sent in
+    let most = told_most place op text voter.node chosen.ballot entry (told.1).number op.node.0 told.0 tape q ((chosen.each) voter.node voter.first) (told.1).sent in
     let above = told.2 in
     omega arith
   where
@@ -101,7 +105,7 @@ polled_above c usage tape l q op text group n p node entry s polled =
     place = record { group = group; position = n }
 
     chosen : ChosenSince c place (Begin op text) entry tape
-    chosen = chosen_since c place (Begin op text) node entry tape l.lawful s
+    chosen = chosen_since c place (Begin op text) node entry tape l s
 
     voter : Shared chosen.test polled.test
     voter = meet c chosen.test polled.test chosen.majority polled.majority

@@ -20,7 +20,7 @@ use Rattle.mega_laws.proofs.Writing.{lawful, written}
 use Rattle.std.specs.List.{cons_option}
 
 pub writes : LawfulWrites cluster asks_put (newest polled)
-writes = record { lawful = (tt, (tt, (tt, (tt, (tt, (tt, (tt, (tt, (tt, lawful))))))))); written = (tt, (tt, (tt, (tt, (tt, (tt, (tt, (tt, (refl, written))))))))) }
+writes = record { lawful = (tt, (tt, (tt, (tt, (tt, (tt, (tt, (tt, (tt, lawful))))))))); written = (tt, (tt, (tt, (tt, (tt, (tt, (tt, (tt, (λ named. refl, written))))))))) }
 
 -- the one vote is at position 1
 one_vote : (n : Position) (b : Ballot) (e : Content) → In (Voted b e) (cons_option (act_if (1 == n.0) (Voted zero_ballot (entry_of 1))) []) → n.0 ≤ 1
@@ -31,7 +31,7 @@ one_vote n b e i = go (1 == n.0) (number_is 1 n.0) i
     go false is j = absurd j
 
 pub polls : ArePolls (newest polled)
-polls = (tt, (tt, (record { asked = record { number = 6; sent = inr (inr (inr (inl refl))); taken = inl refl }; most = one_vote }, (tt, (record { asked = record { number = 5; sent = inr (inr (inl refl)); taken = inl refl }; most = one_vote }, (tt, (refl, (refl, (tt, (tt, (tt, (tt, (tt, (tt, (tt, (tt, (tt, (tt, (tt, tt)))))))))))))))))))
+polls = (tt, (tt, (record { asked = record { number = 6; sent = inr (inr (inr (inl refl))); taken = inl refl }; most = one_vote }, (tt, (record { asked = record { number = 5; sent = inr (inr (inl refl)); taken = inl refl }; most = one_vote }, (tt, (tt, (tt, (refl, (tt, (tt, (tt, (tt, (tt, (tt, (tt, (tt, (tt, (refl, tt)))))))))))))))))))
 
 pub asked : IsPolled cluster (newest polled) (op_of 2) group first
 asked = record { test = first_two; majority = two_of_three; heard = heard }

@@ -45,15 +45,15 @@ begun = Begin (op_of 2) [] ∷ Begin (op_of 1) [] ∷ []
 
 first_own : Own cluster.schema asks_put begun 1 (op_of 1) place (entry_of 1)
 unfolding begun
-first_own = record { below = []; reaches = refl; known = λ k d is. absurd (nothing d is); entry = runs transaction done refl refl comes refl; home = λ q b other i. absurd i }
+first_own = record { named = omega arith; below = []; reaches = refl; known = λ k d is. absurd (nothing d is); entry = runs transaction done refl refl comes refl; home = λ q b other i. absurd i }
 
 second_own : Own cluster.schema asks_put (Sent 1 (accept_for 1 1 1 zero_ballot (entry_of 1)) ∷ begun) 2 (op_of 2) place (entry_of 2)
 unfolding begun
-second_own = record { below = []; reaches = refl; known = λ k d is. absurd (nothing d is); entry = runs transaction done refl refl comes refl; home = λ q b other i. absurd i }
+second_own = record { named = omega arith; below = []; reaches = refl; known = λ k d is. absurd (nothing d is); entry = runs transaction done refl refl comes refl; home = λ q b other i. absurd i }
 
 written : AreWritten cluster.schema asks_put (newest rivals)
 unfolding begun
-written = (tt, (tt, (tt, (tt, (tt, (tt, (tt, (tt, (tt, (again (op_of 1) zero_ballot (inl refl), (tt, (tt, (tt, (tt, (tt, (own second_own, (own first_own, (refl, (refl, tt)))))))))))))))))))
+written = (tt, (tt, (tt, (tt, (tt, (tt, (tt, (tt, (tt, (again (op_of 1) zero_ballot (inl refl), (tt, (tt, (tt, (tt, (tt, (own second_own, (own first_own, (λ named. refl, (λ named. refl, tt)))))))))))))))))))
 
 -- ---- answered
 
@@ -95,7 +95,7 @@ doomed p b e i id =
 
 answered : AreAnswered cluster.schema asks_put (newest rivals)
 unfolding learned decided
-answered = ((conflicts, λ h. doomed), (tt, (tt, (tt, ((commits, λ h. absurd (clash false h refl)), (tt, (tt, (tt, (tt, (silent, (tt, (tt, (tt, (tt, (tt, (silent, (silent, (tt, (tt, tt)))))))))))))))))))
+answered = ((conflicts, (λ h. doomed, inr (omega arith))), (tt, (tt, (tt, ((commits, (λ h. absurd (clash false h refl), inr (omega arith))), (tt, (tt, (tt, (tt, (silent, (tt, (tt, (tt, (tt, (tt, (silent, (silent, (tt, (tt, tt)))))))))))))))))))
 
 pub answers : LawfulAnswers cluster asks_put (newest rivals)
 answers = record { writes = record { lawful = lawful; written = written }; answered = answered }

@@ -18,12 +18,12 @@ use Rattle.mega_laws.proofs.Serial.{own_entry}
 
 -- ---- elements of lists
 
-to_in : {X : Type 0} (xs : List X) (x : X) → Contains xs x → In x xs
+pub to_in : {X : Type 0} (xs : List X) (x : X) → Contains xs x → In x xs
 to_in [] x (k, less, is) = absurd (omega arith)
 to_in (y ∷ ys) x (zero, less, is) = inl is
 to_in (y ∷ ys) x (suc k, less, is) = inr (to_in ys x (k, omega arith, is))
 
-from_in : {X : Type 0} (xs : List X) (x : X) → In x xs → Contains xs x
+pub from_in : {X : Type 0} (xs : List X) (x : X) → In x xs → Contains xs x
 from_in [] x i = absurd i
 from_in (y ∷ ys) x (inl is) = (0, omega arith, is)
 from_in (y ∷ ys) x (inr i) = let c = from_in ys x i in let less = c.1 in (suc c.0, omega arith, c.2)

@@ -62,13 +62,13 @@ proposed : OwnEntry cluster.schema asks_put (Begin (op_of 1) [] ∷ []) (op_of 1
 proposed = runs transaction done refl refl comes refl
 
 first_own : Own cluster.schema asks_put (Begin (op_of 1) [] ∷ []) 1 (op_of 1) place (entry_of 1)
-first_own = record { below = []; reaches = refl; known = λ k d is. absurd (nothing is); entry = proposed; home = λ q b other i. absurd i }
+first_own = record { named = omega arith; below = []; reaches = refl; known = λ k d is. absurd (nothing is); entry = proposed; home = λ q b other i. absurd i }
   where
     nothing : {d : Content} → None ≡ Some d → ⊥
     nothing h = cc
 
 pub written : AreWritten cluster.schema asks_put (newest put_decided)
-written = (tt, (tt, (tt, (tt, (again (op_of 1) zero_ballot (inl refl), (tt, (tt, (tt, (own first_own, (refl, tt))))))))))
+written = (tt, (tt, (tt, (tt, (again (op_of 1) zero_ballot (inl refl), (tt, (tt, (tt, (own first_own, (λ named. refl, tt))))))))))
 
 pub writes : LawfulWrites cluster asks_put (newest put_decided)
 writes = record { lawful = lawful; written = written }

@@ -1,5 +1,5 @@
 -- A tape of lawful writes on which each answer of an operation has its cause (CIDR 2011, transactions).
-use Rattle.std.specs.Prelude.{◌≡◌, ◌≢◌, suc, ◌&&◌, ◌||◌, Bool, true, false, List, [], ◌∷◌, length, Option, Some, Result, Ok, Err}
+use Rattle.std.specs.Prelude.{◌≡◌, ◌≢◌, ◌⊎◌, suc, ◌&&◌, ◌||◌, Bool, true, false, List, [], ◌∷◌, length, Option, Some, Result, Ok, Err}
 use Rattle.mega_base.specs.declared.names.GroupId.{GroupId}
 use Rattle.mega_base.specs.declared.names.NodeId.{NodeId}
 use Rattle.mega_base.specs.declared.names.OpId.{OpId}
@@ -12,7 +12,7 @@ use Rattle.mega_wire.specs.declared.message.Body.{Body}
 use Rattle.mega_wire.specs.declared.message.Body.TheVariants.{Accept}
 use Rattle.mega_index.specs.Rows.{after, no_rows}
 use Rattle.mega_outcome.specs.declared.answer.Answer.{Answer}
-use Rattle.mega_outcome.specs.declared.answer.Answer.TheVariants.{AllTurned, Batched, Committed, Conflict, Turned, Read as ReadAnswer}
+use Rattle.mega_outcome.specs.declared.answer.Answer.TheVariants.{AllTurned, Batched, Committed, Conflict, Turned, Worn, Read as ReadAnswer}
 use Rattle.mega_outcome.specs.declared.answer.Done.{Done}
 use Rattle.mega_outcome.specs.declared.answer.Shown.{Shown}
 use Rattle.mega_outcome.specs.declared.answer.Turn.{Turn}
@@ -27,7 +27,7 @@ use Rattle.mega_transcript.specs.declared.item.Item.TheVariants.{Answer as Answe
 use Rattle.mega_rules.specs.Steps.{is_current}
 use Rattle.mega_promises.specs.Promises.{Stands, asked_for, is_negative, is_write, rows_shown}
 use Rattle.mega_laws.specs.Places.{In, Place, Proposes, moves}
-use Rattle.mega_laws.specs.Writes.{Knows, LawfulWrites, Usage}
+use Rattle.mega_laws.specs.Writes.{IsNamed, Knows, LawfulWrites, Usage}
 
 -- a place is lost to an operation: an entry without its id is decided there
 pub record Lost (tape : List Item) (op : OpId) (p : Place) : Type 0 where
@@ -126,8 +126,9 @@ abbrev pub MaySpeak : List Item → Body → Type 0
 MaySpeak tape (Accept op g n b e) = has_failed tape op ≡ true → e.id ≡ Some op → Lost tape op (record { group = g; position = n })
 MaySpeak tape _ = Unit {0}
 
+-- where an operation has no name of its own, its node's start is worn, and it is told so
 abbrev pub IsAnswered : Schema → Usage → List Item → Item → Type 0
-IsAnswered schema usage tape (AnswerItem op answer) = HasCause schema usage tape op answer × (is_negative answer ≡ true → IsDoomed tape op)
+IsAnswered schema usage tape (AnswerItem op answer) = HasCause schema usage tape op answer × ((is_negative answer ≡ true → IsDoomed tape op) × ((answer ≡ Worn) ⊎ IsNamed op))
 IsAnswered schema usage tape (Sent number m) = MaySpeak tape m.body
 IsAnswered schema usage tape _ = Unit {0}
 

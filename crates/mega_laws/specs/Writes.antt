@@ -1,6 +1,6 @@
 -- A lawful tape on which each entry that is proposed is the own one of an operation, made over the entries that its node decided below, and
--- each operation begins once (CIDR 2011, transactions and queues).
-use Rattle.std.specs.Prelude.{◌≡◌, ℕ, suc, ◌≤◌, Contains, ◌||◌, Bool, false, List, [], ◌∷◌, length, take, slice_get, Option, Some, None, Ok}
+-- each operation that has a name of its own begins once (CIDR 2011, transactions and queues).
+use Rattle.std.specs.Prelude.{◌≡◌, ℕ, suc, ◌≤◌, ◌<◌, Contains, ◌||◌, Bool, false, List, [], ◌∷◌, length, take, slice_get, Option, Some, None, Ok}
 use Rattle.mega_base.specs.declared.names.GroupId.{GroupId}
 use Rattle.mega_base.specs.declared.names.OpId.{OpId}
 use Rattle.mega_ballot.specs.declared.ballot.Ballot.{Ballot}
@@ -20,6 +20,7 @@ use Rattle.mega_outcome.specs.Outcome.{batch_outcome, entry_of_batch, entry_of_d
 use Rattle.mega_wal.specs.Same.{same_op}
 use Rattle.mega_transcript.specs.declared.item.Item.{Item}
 use Rattle.mega_transcript.specs.declared.item.Item.TheVariants.{Begin, Decide, Sent}
+use Rattle.mega_rules.specs.Clock.{last_number}
 use Rattle.mega_rules.specs.Queues.{Posted, enter_entry, is_named, names_entered, oldest_unhandled, sent_in}
 use Rattle.mega_promises.specs.Items.{number}
 use Rattle.mega_promises.specs.Promises.{Stands, asked_for, handled_by}
@@ -64,8 +65,13 @@ pub data OwnEntry (schema : Schema) (usage : Usage) (tape : List Item) (op : OpI
   handles : (message : Enter) (moment : List Item) → asked_for usage.meaning tape op ≡ Some PumpHandle → oldest_unhandled below ≡ Some message
       → e ≡ handled_by schema ((usage.handlers) moment) group op message below → OwnEntry schema usage tape op group below e
 
+-- an operation has a name of its own: the last number of a start stands still, and operations that get it do nothing
+abbrev pub IsNamed : OpId → Type 0
+IsNamed op = op.number < last_number
+
 -- an operation's own entry at a place: its node decided all below, and it proposed an entry with its id nowhere else
 pub record Own (schema : Schema) (usage : Usage) (tape : List Item) (node : ℕ) (op : OpId) (p : Place) (e : Content) : Type 0 where
+  pub named : IsNamed op
   pub below : List Content
   pub reaches : p.position.0 ≡ suc (length below)
   pub known : Knows tape node p.group below
@@ -81,9 +87,9 @@ abbrev pub MaySay : Schema → Usage → List Item → ℕ → Body → Type 0
 MaySay schema usage tape node (Accept op g n b e) = MayWrite schema usage tape node op (record { group = g; position = n }) e
 MaySay schema usage tape node _ = Unit {0}
 
--- an operation begins once
+-- an operation with a name of its own begins once
 abbrev pub IsWritten : Schema → Usage → List Item → Item → Type 0
-IsWritten schema usage tape (Begin op text) = has_begun tape op ≡ false
+IsWritten schema usage tape (Begin op text) = IsNamed op → has_begun tape op ≡ false
 IsWritten schema usage tape (Sent number m) = MaySay schema usage tape m.from m.body
 IsWritten schema usage tape _ = Unit {0}
 

@@ -10,11 +10,11 @@ ghost use Rattle.mega_entry.specs.declared.content.Content.{Content};
 ghost use Rattle.mega_transcript.specs.declared.item.Item.{Item};
 ghost use Rattle.mega_transcript.specs.declared.item.Item.TheVariants.{Begin, Decide};
 ghost use Rattle.mega_promises.specs.Promises.{StoodBefore};
+ghost use Rattle.mega_laws.specs.Lawful.{Lawful};
 ghost use Rattle.mega_laws.specs.Polls.{ArePolls, IsPolled};
-ghost use Rattle.mega_laws.specs.Writes.{LawfulWrites, Usage};
 
 /// A poll of a majority of the voters sees each position that was decided anywhere before its operation began: whether leases are safe or
 /// not (CIDR 2011, current reads).
 pub fn a_poll_sees_what_was_decided()
-    ensures { (c : Cluster) (usage : Usage) (tape : List Item) → LawfulWrites c usage tape → ArePolls tape → (op : Operation) (text : List ℕ) (group : Group) (n p : Index) (node : Node) (entry : Content) → StoodBefore (Decide node group n entry) (Begin op text) tape → IsPolled c tape op group p → n.0 ≤ p.0 }
+    ensures { (c : Cluster) (tape : List Item) → Lawful c tape → ArePolls tape → (op : Operation) (text : List ℕ) (group : Group) (n p : Index) (node : Node) (entry : Content) → StoodBefore (Decide node group n entry) (Begin op text) tape → IsPolled c tape op group p → n.0 ≤ p.0 }
 {}
