@@ -20,3 +20,10 @@ pub mod Sending
 pub mod Rivals
 pub mod Polled
 pub mod Polling
+pub mod Placed
+pub mod Spelled
+pub mod RowKeys
+pub mod IndexKeys
+pub mod IndexEntries
+pub mod IndexKept
+pub mod IndexShown
