@@ -27,3 +27,4 @@ pub mod IndexKeys
 pub mod IndexEntries
 pub mod IndexKept
 pub mod IndexShown
+pub mod IndexAdd

@@ -370,7 +370,7 @@ standing_group_of s n t group key row st is =
     spells shape.root_kinds (root_part shape vs) (group_bytes shape (root_part shape vs)) (of_front shape.root_kinds shape.rest_kinds vs sp.kinds) short
     ∙ ap Ok (standing_group s n t group key row st is)
 
-abbrev of_ok : Result (List ℕ) KeyFault → List ℕ
+abbrev pub of_ok : Result (List ℕ) KeyFault → List ℕ
 of_ok (Ok group) = group
 of_ok (Err fault) = []
 
