@@ -61,7 +61,7 @@ entry_in s group n t at row key w most r h =
     only (inl found) = found
     only (inr none) = cc
 
-keyed : (s : Schema) (group : List ℕ) (n : ℕ) (t : Table) (row : Row) (key : List ℕ) (w : Row) (e : InLocal 1 (indexes_of s) n group (key_values t.primary row) row key w)
+pub keyed : (s : Schema) (group : List ℕ) (n : ℕ) (t : Table) (row : Row) (key : List ℕ) (w : Row) (e : InLocal 1 (indexes_of s) n group (key_values t.primary row) row key w)
     → EntryKey (1 + e.place) e.index group (key_values t.primary row) row key
 keyed s group n t row key w e = entry_key (1 + e.place) e.index group (key_values t.primary row) row key e.local e.has_key
 

@@ -28,3 +28,4 @@ pub mod IndexEntries
 pub mod IndexKept
 pub mod IndexShown
 pub mod IndexAdd
+pub mod IndexSteps
