@@ -29,3 +29,4 @@ pub mod IndexKept
 pub mod IndexShown
 pub mod IndexAdd
 pub mod IndexSteps
+pub mod IndexLogs
