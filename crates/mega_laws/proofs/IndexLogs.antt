@@ -85,31 +85,20 @@ seen_rows : (s : Schema) (group : GroupId) (listed : Listed) (k : List ℕ) (n :
 seen_rows s group listed k n at =
     lookup-filter-keys (λ other. same_key k other) (λ key. is_some (table_of s group.key key)) true (λ other same. ap (λ key. is_some (table_of s group.key key)) (sym (key_is k other same)) ∙ ap is_some at) listed
 
--- ---- what was asked for
-
-asked_values : (usage : Usage) → AskValues usage → (tape : List Item) (op : OpId) (request : Request) → asked_for usage.meaning tape op ≡ Some request → AsksValues request
-asked_values usage ask [] op request h = cc
-asked_values usage ask (Begin began text ∷ before) op request h = by (same_op began op) (asked_values usage ask before op request) h
-  where
-    by : (b : Bool) → (asked_for usage.meaning before op ≡ Some request → AsksValues request) → (if b then usage.meaning text else asked_for usage.meaning before op) ≡ Some request → AsksValues request
-    by true more g = ask text request g
-    by false more g = more g
-asked_values usage ask (_ ∷ before) op request h = asked_values usage ask before op request h
-
 -- ---- entries and logs
 
-entry_kept : (s : Schema) (usage : Usage) → IsDeclared s → AskValues usage → (tape : List Item) (op : OpId) (group : GroupId) (below : List Content) (e : Content) → OwnEntry s usage tape op group below e
+entry_kept : (s : Schema) (usage : Usage) → IsDeclared s → (tape : List Item) → AskValues usage tape → (op : OpId) (group : GroupId) (below : List Content) (e : Content) → OwnEntry s usage tape op group below e
     → Kept s group.key (after below no_rows) → Kept s group.key (written e.writes (after below no_rows))
-entry_kept s usage d ask tape op group below e (fills is) kept = subst (λ (x : Content). Kept s group.key (written x.writes (after below no_rows))) (sym is) kept
-entry_kept s usage d ask tape op group below e (runs transaction done asked at comes is) kept =
+entry_kept s usage d tape ask op group below e (fills is) kept = subst (λ (x : Content). Kept s group.key (written x.writes (after below no_rows))) (sym is) kept
+entry_kept s usage d tape ask op group below e (runs transaction done asked at comes is) kept =
     subst (λ (x : Content). Kept s group.key (written x.writes (after below no_rows))) (sym is)
-    (outcome_kept s d.most group.key (after below no_rows) kept transaction done (asked_values usage ask tape op _ asked) (ap (λ (g : GroupId). outcome_in s g.key transaction (after below no_rows)) (sym at) ∙ comes))
-entry_kept s usage d ask tape op group below e (runs_all transactions asked is) kept =
+    (outcome_kept s d.most group.key (after below no_rows) kept transaction done (ask op _ asked) (ap (λ (g : GroupId). outcome_in s g.key transaction (after below no_rows)) (sym at) ∙ comes))
+entry_kept s usage d tape ask op group below e (runs_all transactions asked is) kept =
     subst (λ (x : Content). Kept s group.key (written x.writes (after below no_rows))) (sym is)
-    (batch_kept s d.most group.key (after below no_rows) transactions no_batch kept (asked_values usage ask tape op _ asked))
-entry_kept s usage d ask tape op group below e (enters message sent one asked known posted to says fresh is) kept =
+    (batch_kept s d.most group.key (after below no_rows) transactions no_batch kept (ask op _ asked))
+entry_kept s usage d tape ask op group below e (enters message sent one asked known posted to says fresh is) kept =
     subst (λ (x : Content). Kept s group.key (written x.writes (after below no_rows))) (sym is) kept
-entry_kept s usage d ask tape op group below e (handles message moment asked oldest is) kept =
+entry_kept s usage d tape ask op group below e (handles message moment asked oldest is) kept =
     subst (λ (x : Content). Kept s group.key (written x.writes (after below no_rows))) (sym is)
     (tested (nat_lt most_bytes (length (entry_text (entry_handling op message.name effect)))))
   where
@@ -153,7 +142,7 @@ after_next : (log : List Content) (e : Content) (rows : Rows) → after (log ++ 
 after_next [] e rows = refl
 after_next (d ∷ log) e rows = after_next log e (written d.writes rows)
 
-log_kept : (c : Cluster) (usage : Usage) (tape : List Item) → LawfulWrites c usage tape → IsDeclared c.schema → AskValues usage → (group : GroupId) (p : ℕ) → Kept c.schema group.key (after (take p (log_of tape group)) no_rows)
+log_kept : (c : Cluster) (usage : Usage) (tape : List Item) → LawfulWrites c usage tape → IsDeclared c.schema → AskValues usage tape → (group : GroupId) (p : ℕ) → Kept c.schema group.key (after (take p (log_of tape group)) no_rows)
 log_kept c usage tape l d ask group zero = none_kept c.schema group.key
 log_kept c usage tape l d ask group (suc p) = by (slice_get (log_of tape group) p) refl (log_kept c usage tape l d ask group p)
   where
@@ -162,9 +151,9 @@ log_kept c usage tape l d ask group (suc p) = by (slice_get (log_of tape group) 
     by (Some e) is kept =
         let own = own_entry c usage tape l group p e is in
         subst (λ log. Kept c.schema group.key (after log no_rows)) (sym (take_next (log_of tape group) p e is))
-        (subst (Kept c.schema group.key) (sym (after_next (take p (log_of tape group)) e no_rows)) (entry_kept c.schema usage d ask tape own.0 group (take p (log_of tape group)) e own.1 kept))
+        (subst (Kept c.schema group.key) (sym (after_next (take p (log_of tape group)) e no_rows)) (entry_kept c.schema usage d tape ask own.0 group (take p (log_of tape group)) e own.1 kept))
 
-pub indexed : (c : Cluster) (usage : Usage) (tape : List Item) → LawfulWrites c usage tape → IsDeclared c.schema → AskValues usage → (group : GroupId) (p : ℕ) → IsIndexed c.schema group (list_after (take p (log_of tape group)) [])
+pub indexed : (c : Cluster) (usage : Usage) (tape : List Item) → LawfulWrites c usage tape → IsDeclared c.schema → AskValues usage tape → (group : GroupId) (p : ℕ) → IsIndexed c.schema group (list_after (take p (log_of tape group)) [])
 indexed c usage tape l d ask group p =
     is_indexed c.schema d group (list_after (take p (log_of tape group)) []) (after-ascends (take p (log_of tape group)) [] tt)
     (subst (Kept c.schema group.key) (sym (after_is (take p (log_of tape group)) [] tt)) (log_kept c usage tape l d ask group p))

@@ -1,6 +1,7 @@
 -- When the index rows of a group are those of the rows of its tables.
 use Rattle.std.specs.Prelude.{◌≡◌, ℕ, ◌+◌, ◌≤◌, if◌then◌else◌, true, false, List, [], ◌∷◌, ◌++◌, length, map, Option, Some, None}
 use Rattle.mega_base.specs.declared.names.GroupId.{GroupId}
+use Rattle.mega_base.specs.declared.names.OpId.{OpId}
 use Rattle.mega_base.specs.declared.values.Cell.{Cell}
 use Rattle.mega_base.specs.declared.values.Row.{Row}
 use Rattle.mega_schema.specs.declared.schema.Table.{Table}
@@ -18,7 +19,9 @@ use Rattle.mega_outcome.specs.declared.request.Request.TheVariants.{Txn, Batch a
 use Rattle.mega_outcome.specs.declared.transaction.Change.{Change}
 use Rattle.mega_outcome.specs.declared.transaction.Change.TheVariants.{Put}
 use Rattle.mega_outcome.specs.declared.transaction.Transaction.{Transaction}
+use Rattle.mega_transcript.specs.declared.item.Item.{Item}
 use Rattle.mega_rules.specs.Acting.{table_rows}
+use Rattle.mega_promises.specs.Promises.{asked_for}
 use Rattle.mega_laws.specs.Writes.{Usage}
 
 -- an index entry as it is stored: under its key the properties that the index stores
@@ -69,5 +72,6 @@ AsksValues (Txn transaction) = PutValues transaction.writes
 AsksValues (BatchRequest group transactions) = AllPutValues transactions
 AsksValues _ = Unit {0}
 
-abbrev pub AskValues : Usage → Type 0
-AskValues usage = (text : List ℕ) (request : Request) → usage.meaning text ≡ Some request → AsksValues request
+-- so do all requests with which operations began
+abbrev pub AskValues : Usage → List Item → Type 0
+AskValues usage tape = (op : OpId) (request : Request) → asked_for usage.meaning tape op ≡ Some request → AsksValues request

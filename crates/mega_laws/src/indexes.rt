@@ -13,5 +13,5 @@ ghost use Rattle.mega_laws.specs.Writes.{LawfulWrites, Usage};
 /// After any number of a log's entries what stands under keys other than the tables' row keys is what the local indexes have over the
 /// tables' rows, and nothing else, where the schema is one that can be declared and requests hold values of the program.
 pub fn index_rows_are_those_of_the_tables()
-    ensures { (c : Cluster) (usage : Usage) (tape : List Item) → LawfulWrites c usage tape → IsDeclared c.schema → AskValues usage → (group : Group) (p : ℕ) → IsIndexed c.schema group (list_after (take p (log_of tape group)) []) }
+    ensures { (c : Cluster) (usage : Usage) (tape : List Item) → LawfulWrites c usage tape → IsDeclared c.schema → AskValues usage tape → (group : Group) (p : ℕ) → IsIndexed c.schema group (list_after (take p (log_of tape group)) []) }
 {}
