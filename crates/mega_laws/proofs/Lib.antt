@@ -30,3 +30,4 @@ pub mod IndexShown
 pub mod IndexAdd
 pub mod IndexSteps
 pub mod IndexLogs
+pub mod Declared
