@@ -31,3 +31,4 @@ pub mod IndexAdd
 pub mod IndexSteps
 pub mod IndexLogs
 pub mod Declared
+pub mod IndexWitnesses

@@ -6,3 +6,4 @@ pub mod Indexed
 pub mod Answers
 pub mod Polls
 pub mod Examples
+pub mod IndexExamples
