@@ -12,6 +12,7 @@ use Rattle.mega_entry.specs.Entries.{entry_text}
 use Rattle.mega_schema.specs.declared.schema.Table.{Table}
 use Rattle.mega_schema.specs.declared.schema.Schema.{Schema}
 use Rattle.mega_index.specs.Rows.{Rows, Listed, same_key, row_under, no_rows, changed, written, after, list_after}
+use Rattle.mega_index.specs.Fits.{numbered, stands_in}
 use Rattle.mega_index.specs.Fitted.{table_of, fitted_writes, most_bytes}
 use Rattle.mega_handler.specs.Effects.{Effect, handled, entry_handling, handle_entry}
 use Rattle.mega_handler.specs.Named.{Meanings, effect_by, meaning}
@@ -32,9 +33,10 @@ use Rattle.mega_transcript.specs.declared.item.Item.TheVariants.{Begin}
 use Rattle.mega_rules.specs.Acting.{table_rows}
 use Rattle.mega_promises.specs.Promises.{asked_for, handled_by, log_of}
 use Rattle.mega_laws.specs.Writes.{LawfulWrites, OwnEntry, Usage, enters, fills, handles, runs, runs_all}
-use Rattle.mega_laws.specs.Indexed.{AllPutValues, AskValues, AsksValues, IsDeclared, IsIndexed, PutValues}
+use Rattle.mega_laws.specs.Indexed.{AllPutValues, AreRows, AskValues, AsksValues, IsDeclared, IsIndexed, PutValues}
 use Rattle.mega_laws.proofs.Serial.{own_entry}
 use Rattle.mega_laws.proofs.Placed.{key_is, after-ascends, after_is}
+use Rattle.mega_laws.proofs.RowKeys.{OfTable, of_table, Standing, stands}
 use Rattle.mega_laws.proofs.IndexKept.{Kept}
 use Rattle.mega_laws.proofs.IndexSteps.{bind_turn, changes_kept, fitted_kept}
 use Rattle.mega_laws.proofs.IndexShown.{is_indexed}
@@ -153,7 +155,16 @@ log_kept c usage tape l d ask group (suc p) = by (slice_get (log_of tape group) 
         subst (λ log. Kept c.schema group.key (after log no_rows)) (sym (take_next (log_of tape group) p e is))
         (subst (Kept c.schema group.key) (sym (after_next (take p (log_of tape group)) e no_rows)) (entry_kept c.schema usage d tape ask own.0 group (take p (log_of tape group)) e own.1 kept))
 
+-- the same of the list of the rows
+list_kept : (c : Cluster) (usage : Usage) (tape : List Item) → LawfulWrites c usage tape → IsDeclared c.schema → AskValues usage tape → (group : GroupId) (p : ℕ) → Kept c.schema group.key (row_under (list_after (take p (log_of tape group)) []))
+list_kept c usage tape l d ask group p = subst (Kept c.schema group.key) (sym (after_is (take p (log_of tape group)) [] tt)) (log_kept c usage tape l d ask group p)
+
 pub indexed : (c : Cluster) (usage : Usage) (tape : List Item) → LawfulWrites c usage tape → IsDeclared c.schema → AskValues usage tape → (group : GroupId) (p : ℕ) → IsIndexed c.schema group (list_after (take p (log_of tape group)) [])
 indexed c usage tape l d ask group p =
-    is_indexed c.schema d group (list_after (take p (log_of tape group)) []) (after-ascends (take p (log_of tape group)) [] tt)
-    (subst (Kept c.schema group.key) (sym (after_is (take p (log_of tape group)) [] tt)) (log_kept c usage tape l d ask group p))
+    is_indexed c.schema d group (list_after (take p (log_of tape group)) []) (after-ascends (take p (log_of tape group)) [] tt) (list_kept c usage tape l d ask group p)
+
+pub rows_fit : (c : Cluster) (usage : Usage) (tape : List Item) → LawfulWrites c usage tape → IsDeclared c.schema → AskValues usage tape → (group : GroupId) (p : ℕ) → AreRows c.schema group (list_after (take p (log_of tape group)) [])
+rows_fit c usage tape l d ask group p key n row at there =
+    let t = of_table c.schema group.key key n d.most at in
+    let kept = list_kept c usage tape l d ask group p in
+    ap (λ o. stands_in c.schema n o key row) t.numbered_is ∙ stands c.schema n t.table key row (kept.fit key n t.table row at t.numbered_is there)

@@ -11,7 +11,7 @@ use Rattle.mega_schema.specs.Lookup.{is_root_table}
 use Rattle.mega_keys.specs.Fit.{AreValues}
 use Rattle.mega_index.specs.declared.found.Found.{Found}
 use Rattle.mega_index.specs.Rows.{Listed, row_under}
-use Rattle.mega_index.specs.Fits.{numbered, indexes_of}
+use Rattle.mega_index.specs.Fits.{numbered, indexes_of, stands_in}
 use Rattle.mega_index.specs.Entries.{index_of}
 use Rattle.mega_index.specs.Fitted.{table_of}
 use Rattle.mega_outcome.specs.declared.request.Request.{Request}
@@ -41,6 +41,11 @@ local_index_rows schema number (x ∷ xs) rows = entry_rows schema number x rows
 abbrev pub IsIndexed : Schema → GroupId → Listed → Type 0
 IsIndexed schema group listed = (key : List ℕ) → table_of schema group.key key ≡ None
     → row_under listed key ≡ row_under (local_index_rows schema 1 (indexes_of schema) (table_rows schema group listed)) key
+
+-- each row under a row key of the group's tables fits its table and stands under its own key
+abbrev pub AreRows : Schema → GroupId → Listed → Type 0
+AreRows schema group listed = (key : List ℕ) (n : ℕ) (row : Row) → table_of schema group.key key ≡ Some n → row_under listed key ≡ Some row
+    → stands_in schema n (numbered schema.tables n) key row ≡ true
 
 -- what a schema that is declared keeps: at most 64 tables; a root is its own root, and another table has a root that is one, whose
 -- groups are scattered where its own are

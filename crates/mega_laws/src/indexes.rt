@@ -17,13 +17,15 @@ ghost use Rattle.mega_rules.specs.Examples.{group, user};
 ghost use Rattle.mega_promises.specs.Promises.{log_of};
 ghost use Rattle.mega_laws.specs.Examples.{asks_put, put_decided};
 ghost use Rattle.mega_laws.specs.IndexExamples.{john_key, named_users, no_text, no_text_key, nothing_stored, put_writes, whole, without_entry, without_user, word_group, word_schema};
-ghost use Rattle.mega_laws.specs.Indexed.{AskValues, IsDeclared, IsIndexed, local_index_rows};
+ghost use Rattle.mega_laws.specs.Indexed.{AreRows, AskValues, IsDeclared, IsIndexed, local_index_rows};
 ghost use Rattle.mega_laws.specs.Writes.{LawfulWrites, Usage};
 
 /// After any number of a log's entries what stands under keys other than the tables' row keys is what the local indexes have over the
-/// tables' rows, and nothing else, where the schema is one that can be declared and requests hold values of the program.
+/// tables' rows, and nothing else; and each of those rows fits its table and stands under its own key. The schema is one that can be
+/// declared, and the requests hold values of the program.
 pub fn index_rows_are_those_of_the_tables()
-    ensures { (c : Cluster) (usage : Usage) (tape : List Item) → LawfulWrites c usage tape → IsDeclared c.schema → AskValues usage tape → (group : Group) (p : ℕ) → IsIndexed c.schema group (list_after (take p (log_of tape group)) []) }
+    ensures indexed { (c : Cluster) (usage : Usage) (tape : List Item) → LawfulWrites c usage tape → IsDeclared c.schema → AskValues usage tape → (group : Group) (p : ℕ) → IsIndexed c.schema group (list_after (take p (log_of tape group)) []) }
+    ensures rows { (c : Cluster) (usage : Usage) (tape : List Item) → LawfulWrites c usage tape → IsDeclared c.schema → AskValues usage tape → (group : Group) (p : ℕ) → AreRows c.schema group (list_after (take p (log_of tape group)) []) }
 {}
 
 /// A schema that a text declares keeps what the law asks of it.
