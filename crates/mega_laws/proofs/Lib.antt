@@ -31,4 +31,5 @@ pub mod IndexAdd
 pub mod IndexSteps
 pub mod IndexLogs
 pub mod Declared
+pub mod DeclaredClusters
 pub mod IndexWitnesses

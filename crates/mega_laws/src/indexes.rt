@@ -6,6 +6,7 @@ ghost use Rattle.mega_base.specs.declared.names.GroupId.{GroupId as Group};
 ghost use Rattle.mega_schema.specs.declared.schema.Schema.{Schema};
 ghost use Rattle.mega_schema.specs.Verdict.{parse_of};
 ghost use Rattle.mega_cluster.specs.declared.cluster.Cluster.{Cluster};
+ghost use Rattle.mega_cluster.specs.Header.{read_of};
 ghost use Rattle.mega_index.specs.Fits.{indexes_of};
 ghost use Rattle.mega_index.specs.Rows.{list_after, no_rows};
 ghost use Rattle.mega_outcome.specs.declared.transaction.Change.TheVariants.{Put};
@@ -28,9 +29,10 @@ pub fn index_rows_are_those_of_the_tables()
     ensures rows { (c : Cluster) (usage : Usage) (tape : List Item) → LawfulWrites c usage tape → IsDeclared c.schema → AskValues usage tape → (group : Group) (p : ℕ) → AreRows c.schema group (list_after (take p (log_of tape group)) []) }
 {}
 
-/// A schema that a text declares keeps what the law asks of it.
+/// A schema that a text declares keeps what the law asks of it, and so does that of a cluster whose header is accepted.
 pub fn declared_schemas_keep_their_roots()
-    ensures { (text : List ℕ) (schema : Schema) → parse_of text ≡ Ok schema → IsDeclared schema }
+    ensures schemas { (text : List ℕ) (schema : Schema) → parse_of text ≡ Ok schema → IsDeclared schema }
+    ensures clusters { (least : ℕ) (text : List ℕ) (c : Cluster) → read_of least text ≡ Ok c → IsDeclared c.schema }
 {}
 
 /// A put of a user writes the row and its entry by name, which are then all that stands; the schema can be declared, and the put holds values.
