@@ -1,16 +1,12 @@
 -- A schema that a text declares keeps what the law of index rows asks of it.
-use Rattle.std.proofs.Common.{◌≡◌, ◌⊎◌, inl, inr, ℕ, zero, suc, ◌+◌, ◌-◌, ◌<◌, ◌≤◌, min, cond, eqb, ltb, Bool, true, false, ◌&&◌, ◌||◌, not, if◌then◌else◌, List, [], ◌∷◌, ◌++◌, length, map, find, position, slice_get, nat_le, nat_lt, refl, sym, ap, ◌∙◌, subst, arith, length-append, lt-ltb, leb-false, Option, Some, None, option_map, Result, Ok, Err}
-use Rattle.std.proofs.lemmas.Bool.Decides.{nat_tests}
+use Rattle.std.proofs.Common.{◌≡◌, ◌⊎◌, inl, inr, ℕ, zero, suc, ◌+◌, ◌<◌, ◌≤◌, min, cond, Bool, true, false, ◌||◌, not, List, [], ◌∷◌, ◌++◌, length, map, find, slice_get, nat_le, refl, sym, ap, ◌∙◌, subst, arith, length-append, lt-ltb, leb-false, Option, Some, None, Result, Ok, Err}
 use Rattle.std.proofs.lemmas.List.Folds.{find_at}
 use Rattle.std.specs.Prelude.{slice_set}
 use Rattle.std.specs.List.{list_any, position_or_len}
 use Rattle.mega_schema.specs.declared.schema.Table.{Table}
-use Rattle.mega_schema.specs.declared.schema.Index.{Index}
 use Rattle.mega_schema.specs.declared.schema.Schema.{Schema}
-use Rattle.mega_schema.specs.declared.fault.SchemaFault.{SchemaFault}
 use Rattle.mega_syntax.specs.declared.token.Token.{Token}
 use Rattle.mega_syntax.specs.declared.words.PropertyWords.{PropertyWords}
-use Rattle.mega_syntax.specs.declared.words.Clause.{Clause}
 use Rattle.mega_syntax.specs.declared.words.TableWords.{TableWords}
 use Rattle.mega_syntax.specs.declared.words.Statement.{Statement}
 use Rattle.mega_syntax.specs.declared.words.Statement.TheVariants as statements
@@ -20,12 +16,12 @@ use Rattle.mega_syntax.specs.Names.{same}
 use Rattle.mega_syntax.specs.Reading.{is_inside}
 use Rattle.mega_syntax.specs.Whole.{read_of}
 use Rattle.mega_schema.specs.Lookup.{table_named, table_place, is_root_table, group_of}
-use Rattle.mega_schema.specs.Rules.{is_long, are_empty, has_unknown, of_group, of_table, is_table, is_no_root, group_unknown, inside_unknown, has_other_type, table_rule_1, table_rule_2, table_rule_3, table_rule_4, table_rule_5, table_rule_7, table_rule_8, table_rule_9, table_rule_11, table_rule_12, table_rule_14, first_broken, table_broken, broken}
+use Rattle.mega_schema.specs.Rules.{is_long, are_empty, has_unknown, of_group, is_table, is_no_root, group_unknown, inside_unknown, has_other_type, table_rule_1, table_rule_2, table_rule_3, table_rule_4, table_rule_5, table_rule_7, table_rule_8, table_rule_9, table_rule_11, table_rule_12, table_rule_14, first_broken, table_broken, broken}
 use Rattle.mega_schema.specs.Declare.{number_of, property_of, numbers_of_words, root_number, group_numbers, is_scattered, scatters, table_of, grown, grown_with, grown_at, declare}
 use Rattle.mega_schema.specs.Verdict.{empty, refused_or, judge, judge_all, ruled, answer_of, parse_of}
 use Rattle.mega_index.specs.Fits.{numbered}
 use Rattle.mega_laws.specs.Indexed.{IsDeclared}
-use Rattle.mega_laws.proofs.RowKeys.{Numbered, numbered_at, at_number}
+use Rattle.mega_laws.proofs.RowKeys.{numbered_at, at_number}
 
 -- ---- what of a table the law is about
 
@@ -67,7 +63,7 @@ get_either : {X : Type 0} (xs : List X) (x : X) (k : ℕ) (y : X) → slice_get 
 get_either [] x zero y h = inr (refl, cc)
 get_either [] x (suc k) y h = cc
 get_either (z ∷ xs) x zero y h = inl h
-get_either (z ∷ xs) x (suc k) y h = elim (get_either xs x k y h) [ | inl old ↦ inl old | inr new ↦ inr (ap suc new.0, new.1) ]
+get_either (z ∷ xs) x (suc k) y h = elim (get_either xs x k y h) [ inl old ↦ inl old | inr new ↦ inr (ap suc new.0, new.1) ]
 
 get_less : {X : Type 0} (xs : List X) (k : ℕ) (x : X) → slice_get xs k ≡ Some x → k < length xs
 get_less [] k x h = cc
@@ -88,8 +84,8 @@ rooted_more ts t old new = record {
   others = λ place u at child. elim (get_either ts t place u at) [
     | inl before ↦ let o = old.others place u before child in (o.0, o.1, o.2, get_front ts t o.0 o.1 o.3, o.4, o.5)
     | inr here ↦
-      let o = new.other (sym (ap is_root_table here.1) ∙ child) in
-      (o.0, o.1, ap (λ (x : Table). x.root) here.1 ∙ o.2, get_front ts t o.0 o.1 o.3, o.4, ap (λ (x : Table). x.scatter) here.1 ∙ o.5)
+        let o = new.other (sym (ap is_root_table here.1) ∙ child) in
+        (o.0, o.1, ap (λ (x : Table). x.root) here.1 ∙ o.2, get_front ts t o.0 o.1 o.3, o.4, ap (λ (x : Table). x.scatter) here.1 ∙ o.5)
   ];
 }
 
@@ -199,9 +195,14 @@ rooted_same ts us h old = record {
   others = λ place u at child.
       let t = outlined ts us h place u at in
       let o = old.others place t.0 t.1 (ap (λ (o : Outline). o.is_root) t.2 ∙ child) in
-      let r = outlined us ts (sym h) o.0 o.1 o.3 in
-      (o.0, r.0, sym (ap (λ (o : Outline). o.root) t.2) ∙ o.2, r.1, ap (λ (o : Outline). o.is_root) r.2 ∙ o.4,
-      sym (ap (λ (o : Outline). o.scatter) t.2) ∙ o.5 ∙ sym (ap (λ (o : Outline). o.scatter) r.2));
+      let r = outlined us ts (sym h) o.0 o.1 o.3 in (
+        o.0,
+        r.0,
+        sym (ap (λ (o : Outline). o.root) t.2) ∙ o.2,
+        r.1,
+        ap (λ (o : Outline). o.is_root) r.2 ∙ o.4,
+        sym (ap (λ (o : Outline). o.scatter) t.2) ∙ o.5 ∙ sym (ap (λ (o : Outline). o.scatter) r.2),
+      );
 }
 
 -- what is written in the place of a table of the same outline

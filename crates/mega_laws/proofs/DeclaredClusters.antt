@@ -1,9 +1,7 @@
 -- The schema of a cluster is one that a text declares.
-use Rattle.std.proofs.Common.{◌≡◌, ℕ, Bool, true, false, List, [], ◌∷◌, not, length, codes, cond, if◌then◌else◌, nat_lt, refl, sym, subst, Option, Some, None, Result, Ok, Err}
+use Rattle.std.proofs.Common.{◌≡◌, ℕ, Bool, true, false, List, not, length, codes, if◌then◌else◌, nat_lt, refl, subst, Option, Some, None, Result, Ok, Err}
 use Rattle.std.specs.List.{list_any}
-use Rattle.std.specs.Str.{is_utf8}
 use Rattle.toml.specs.Data.{Data, string, Members, get_member}
-use Rattle.toml.specs.Parse.{parse_document}
 use Rattle.mega_schema.specs.declared.schema.Schema.{Schema}
 use Rattle.mega_schema.specs.declared.fault.SchemaFault.{SchemaFault}
 use Rattle.mega_schema.specs.Verdict.{parse_of}

@@ -1,6 +1,5 @@
 -- A row that fits still fits, under its own key, once a number is added to one of its properties.
-use Rattle.std.proofs.Common.{◌≡◌, ◌⊎◌, inl, inr, ℕ, zero, suc, ◌+◌, ◌<◌, ◌≤◌, cond, eqb, Bool, true, false, ◌&&◌, ◌||◌, ◌==◌, not, if◌then◌else◌, ℤ, List, [], ◌∷◌, ◌++◌, length, map, fold, find, refl, sym, ap, ◌∙◌, subst, arith, length-append, eqb-true, nat_lt, Option, Some, None, option_map, is_none, is_ok, Ok}
-use Rattle.std.proofs.lemmas.Bool.Decides.{nat_tests}
+use Rattle.std.proofs.Common.{◌≡◌, ◌⊎◌, inl, inr, ℕ, suc, ◌+◌, cond, Bool, true, false, ◌&&◌, ◌||◌, ◌==◌, if◌then◌else◌, ℤ, List, [], ◌∷◌, ◌++◌, length, map, fold, find, refl, sym, ap, ◌∙◌, subst, arith, length-append, eqb-true, nat_lt, Option, Some, None, option_map, is_none, is_ok}
 use Rattle.std.specs.Option.{option_or, option_map_or}
 use Rattle.mega_base.specs.declared.values.Value.{Value}
 use Rattle.mega_base.specs.declared.values.Value.TheVariants.{Int32, Int64}
@@ -17,7 +16,7 @@ use Rattle.mega_schema.specs.declared.schema.Schema.{Schema}
 use Rattle.mega_keys.specs.Spelling.{spell, spell_all, index_bytes}
 use Rattle.mega_keys.specs.Fit.{has_kind}
 use Rattle.mega_index.specs.Cells.{values_of, key_values, leading, is_listed, cell_set, row_set}
-use Rattle.mega_index.specs.Fits.{numbered, cell_fits, cells_fit, is_count, is_filled, has_required, properties_fit, group_of, key_of, has_place, row_fits, with_each, extended, choices, prefix_of, index_keys, first_long, long_in, long_key, indexes_of, group_bytes_of}
+use Rattle.mega_index.specs.Fits.{numbered, cell_fits, cells_fit, is_count, is_filled, has_required, properties_fit, group_of, key_of, has_place, row_fits, with_each, extended, choices, prefix_of, long_in, long_key, indexes_of, group_bytes_of}
 use Rattle.mega_outcome.specs.Changes.{is_number, number_of, number_value}
 use Rattle.mega_laws.proofs.RowKeys.{Standing, both, of_ok}
 use Rattle.mega_laws.proofs.IndexKeys.{values_in}
@@ -224,7 +223,7 @@ set_cells_fit ps p q v at count kind low (c ∷ cs) h = by (c.property == q) ref
     by true is more =
         let number : c.property ≡ q = eqb-true c.property q is in
         let fits : cell_fits (numbered ps c.property) (v ∷ []) ≡ true =
-            ap (λ n. cell_fits (numbered ps n) (v ∷ [])) number ∙ ap (λ o. cell_fits o (v ∷ [])) at ∙ (λ i. count i && (kind i && true)) in
+        ap (λ n. cell_fits (numbered ps n) (v ∷ [])) number ∙ ap (λ o. cell_fits o (v ∷ [])) at ∙ (λ i. count i && (kind i && true)) in
         (λ i. above i && (fits i && more parts.1 i))
     by false is more = (λ i. above i && (parts.0 i && more parts.1 i))
 

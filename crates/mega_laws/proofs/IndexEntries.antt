@@ -1,5 +1,5 @@
 -- What stands under a key among the index entries of a row, and in the indexes over rows.
-use Rattle.std.proofs.Common.{◌≡◌, ◌⊎◌, inl, inr, ℕ, zero, suc, ◌+◌, cond, eqb, Bool, true, false, ◌&&◌, ◌==◌, not, if◌then◌else◌, List, [], ◌∷◌, ◌++◌, map, fold, slice_get, refl, sym, ap, ◌∙◌, subst, arith, eqb-true, Option, Some, None}
+use Rattle.std.proofs.Common.{◌≡◌, ◌⊎◌, inl, inr, ℕ, zero, suc, ◌+◌, cond, eqb, Bool, true, false, ◌&&◌, ◌==◌, not, if◌then◌else◌, List, [], ◌∷◌, map, fold, slice_get, refl, sym, ap, ◌∙◌, subst, arith, eqb-true, Option, Some, None}
 use Rattle.std.proofs.lemmas.Bool.Decides.{nat_tests}
 use Rattle.mega_base.specs.declared.values.Value.{Value}
 use Rattle.mega_base.specs.declared.values.Row.{Row}
@@ -9,8 +9,8 @@ use Rattle.mega_schema.specs.declared.schema.Schema.{Schema}
 use Rattle.mega_index.specs.declared.found.Found.{Found}
 use Rattle.mega_index.specs.Rows.{Listed, same_key}
 use Rattle.mega_index.specs.Cells.{key_values, row_with}
-use Rattle.mega_index.specs.Fits.{numbered, entry_keys, indexes_of, group_bytes_of, row_fits, stands_in}
-use Rattle.mega_index.specs.Entries.{placed, found_of, with_row, with_row_under, index_of, with_local, local_in, local_entries}
+use Rattle.mega_index.specs.Fits.{numbered, entry_keys, group_bytes_of, stands_in}
+use Rattle.mega_index.specs.Entries.{placed, found_of, with_row, with_row_under, index_of, with_local, local_in}
 use Rattle.mega_laws.specs.Places.{In}
 use Rattle.mega_laws.specs.Indexed.{stored_row, entry_rows, local_index_rows}
 use Rattle.mega_laws.proofs.Placed.{under, There, placed_from, placed_keeps, placed_there, append_from, append_front, append_back}
@@ -55,14 +55,14 @@ local_from number (x ∷ xs) n group values row es key w h = by (local_from (num
         → InLocal number (x ∷ xs) n group values row key w ⊎ (under es key ≡ Some w)
     here true is g = elim (placed_from (entry_keys number x group values row) es (row_with x.storing row) w key g) [
       | inl found ↦ inl (record {
-          place = 0;
-          index = x;
-          there = refl;
-          table_is = (local_table x n is).0;
-          local = (local_table x n is).1;
-          has_key = subst (λ m. In key (entry_keys m x group values row)) (sym first_place) found.0;
-          stored_is = found.1;
-        })
+        place = 0;
+        index = x;
+        there = refl;
+        table_is = (local_table x n is).0;
+        local = (local_table x n is).1;
+        has_key = subst (λ m. In key (entry_keys m x group values row)) (sym first_place) found.0;
+        stored_is = found.1;
+      })
       | inr before ↦ inr before
     ]
     here false is g = inr g
@@ -139,7 +139,7 @@ none_there : {A : Type 0} {x : A} → None ≡ Some x → ⊥
 none_there h = cc
 
 pub index_from : (s : Schema) (number : ℕ) (x : Index) (rows : Listed) (key : List ℕ) (f : Found) → under (index_of s number x rows) key ≡ Some f → InIndex s number x rows key f
-index_from s number x rows key f h = elim (over_from s number x (numbered s.tables x.table) refl rows [] key f h) [ | inl r ↦ r | inr none ↦ absurd (none_there none) ]
+index_from s number x rows key f h = elim (over_from s number x (numbered s.tables x.table) refl rows [] key f h) [ inl r ↦ r | inr none ↦ absurd (none_there none) ]
 
 over_keeps : (s : Schema) (number : ℕ) (x : Index) (o : Option Table) (rows : Listed) (es : List (List ℕ × Found)) (key : List ℕ) → There es key
     → There (fold (λ entries one. with_row_under s number x o entries one) es rows) key

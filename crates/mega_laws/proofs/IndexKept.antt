@@ -1,5 +1,5 @@
 -- Index rows are those of the tables' rows, and stay so where a row is replaced along with its local index writes.
-use Rattle.std.proofs.Common.{◌≡◌, ◌⊎◌, inl, inr, ℕ, zero, suc, ◌+◌, ◌<◌, ◌≤◌, cond, Bool, true, false, if◌then◌else◌, List, [], ◌∷◌, ◌++◌, length, take, slice_get, fold, refl, sym, ap, ◌∙◌, subst, arith, take_all, Option, Some, None, is_none}
+use Rattle.std.proofs.Common.{◌≡◌, ◌⊎◌, inl, inr, ℕ, zero, suc, ◌+◌, ◌<◌, ◌≤◌, cond, Bool, true, false, if◌then◌else◌, List, [], ◌∷◌, ◌++◌, length, slice_get, refl, sym, ap, ◌∙◌, subst, arith, Option, Some, None, is_none}
 use Rattle.std.proofs.lemmas.List.Sums.{fold-append}
 use Rattle.mega_base.specs.declared.values.Row.{Row}
 use Rattle.mega_entry.specs.declared.content.Write.{Write}
@@ -7,16 +7,15 @@ use Rattle.mega_schema.specs.declared.schema.Table.{Table}
 use Rattle.mega_schema.specs.declared.schema.Index.{Index}
 use Rattle.mega_schema.specs.declared.schema.Schema.{Schema}
 use Rattle.mega_index.specs.Rows.{Rows, Listed, same_key, row_under, changed, written}
-use Rattle.mega_index.specs.Cells.{key_values, row_with}
-use Rattle.mega_index.specs.Fits.{numbered, entry_keys, indexes_of, group_bytes_of, row_fits}
+use Rattle.mega_index.specs.Cells.{key_values}
+use Rattle.mega_index.specs.Fits.{numbered, indexes_of, group_bytes_of}
 use Rattle.mega_index.specs.Entries.{local_in, local_entries}
 use Rattle.mega_index.specs.Fitted.{table_of}
 use Rattle.mega_index.specs.LocalWrites.{gone_one, gone, fresh, turned, index_writes, index_writes_in}
 use Rattle.mega_index.proofs.Turning.{fresh-keeps}
 use Rattle.mega_index.proofs.Ascending.{local_turns}
-use Rattle.mega_laws.specs.Places.{In}
-use Rattle.mega_laws.proofs.Placed.{under, key_is, same_self, same_or_not, key_apart, not_key}
-use Rattle.mega_laws.proofs.RowKeys.{Standing, IsKeyOf, OfTable, of_table, key_behind, behind_one, group_is, Numbered, numbered_at}
+use Rattle.mega_laws.proofs.Placed.{under, same_self, same_or_not, key_apart, not_key}
+use Rattle.mega_laws.proofs.RowKeys.{Standing, IsKeyOf, of_table, key_behind, behind_one, group_is, numbered_at}
 use Rattle.mega_laws.proofs.IndexKeys.{EntryKey, entry_key, entry_behind, entries_one}
 use Rattle.mega_laws.proofs.IndexEntries.{InLocal, local_from}
 
@@ -53,7 +52,7 @@ pub entry_in : (s : Schema) (group : List ℕ) (n : ℕ) (t : Table) (at : List 
 entry_in s group n t at row key w most r h =
     let values = key_values t.primary row in
     let there : under (local_in 1 (indexes_of s) n (group_bytes_of s n t row) values row []) key ≡ Some w =
-        sym (ap (λ b. under (if b then local_in 1 (indexes_of s) n (group_bytes_of s n t row) values row [] else []) key) (r.standing).fits) ∙ h in
+    sym (ap (λ b. under (if b then local_in 1 (indexes_of s) n (group_bytes_of s n t row) values row [] else []) key) (r.standing).fits) ∙ h in
     subst (λ g. InLocal 1 (indexes_of s) n g values row key w) (group_is s n t group at row r.standing (key_of_table s group at n t most r.of_table r.numbered_is))
     (only (local_from 1 (indexes_of s) n (group_bytes_of s n t row) values row [] key w there))
   where
@@ -150,9 +149,8 @@ data AtKey (rows now : Rows) (old new : Listed) (key : List ℕ) : Type 0 where
   leaves : row_under old key ≡ None → row_under new key ≡ None → now key ≡ rows key → AtKey rows now old new key
 
 module _ (s : Schema) (most : length s.tables ≤ 64) (group : List ℕ) (rows : Rows) (kept : Kept s group rows)
-         (at : List ℕ) (n : ℕ) (t : Table) (of_number : table_of s group at ≡ Some n) (is : numbered s.tables n ≡ Some t)
-         (new : Option Row) (fits : (row : Row) → new ≡ Some row → Standing s n t at row) where
-
+    (at : List ℕ) (n : ℕ) (t : Table) (of_number : table_of s group at ≡ Some n) (is : numbered s.tables n ≡ Some t)
+    (new : Option Row) (fits : (row : Row) → new ≡ Some row → Standing s n t at row) where
   abbrev was : Listed
   was = local_entries s n t (rows at)
 
@@ -243,14 +241,14 @@ module _ (s : Schema) (most : length s.tables ≤ 64) (group : List ℕ) (rows :
   now_fit : (k : List ℕ) (m : ℕ) (u : Table) (row : Row) → table_of s group k ≡ Some m → numbered s.tables m ≡ Some u → now k ≡ Some row → Standing s m u k row
   now_fit k m u row h g e = elim (same_or_not at k) [
     | inl same ↦
-      let tables = same_table m u k same h g in
-      let row_is : new ≡ Some row = sym (ap (λ b. cond b new (rows k)) (ap (same_key at) (sym same) ∙ same_self at)) ∙ sym (row_now k m h) ∙ e in
-      coe 0 1 (i. Standing s (tables.0 i) (tables.1 i) (same i) row) (fits row row_is)
+        let tables = same_table m u k same h g in
+        let row_is : new ≡ Some row = sym (ap (λ b. cond b new (rows k)) (ap (same_key at) (sym same) ∙ same_self at)) ∙ sym (row_now k m h) ∙ e in
+        coe 0 1 (i. Standing s (tables.0 i) (tables.1 i) (same i) row) (fits row row_is)
     | inr apart ↦ kept.fit k m u row h g (sym (ap (λ b. cond b new (rows k)) apart) ∙ sym (row_now k m h) ∙ e)
   ]
 
   now_have : (key : List ℕ) (stored : Row) → table_of s group key ≡ None → Owner s group now key stored → now key ≡ Some stored
-  now_have key stored none o = elim (same_or_not at o.at) [ | inl same ↦ here same (at_key key none) | inr apart ↦ there apart (at_key key none) ]
+  now_have key stored none o = elim (same_or_not at o.at) [ inl same ↦ here same (at_key key none) | inr apart ↦ there apart (at_key key none) ]
     where
       here : at ≡ o.at → AtKey rows now was becomes key → now key ≡ Some stored
       here same a =
@@ -268,8 +266,14 @@ module _ (s : Schema) (most : length s.tables ≤ 64) (group : List ℕ) (rows :
         where
           old : Owner s group rows key stored
           old = record {
-            number = o.number; table = o.table; at = o.at; row = o.row; of_table = o.of_table; numbered_is = o.numbered_is;
-            stands = sym (ap (λ b. cond b new (rows o.at)) apart) ∙ sym (row_now o.at o.number o.of_table) ∙ o.stands; entry = o.entry;
+            number = o.number;
+            table = o.table;
+            at = o.at;
+            row = o.row;
+            of_table = o.of_table;
+            numbered_is = o.numbered_is;
+            stands = sym (ap (λ b. cond b new (rows o.at)) apart) ∙ sym (row_now o.at o.number o.of_table) ∙ o.stands;
+            entry = o.entry;
           }
 
           none_old : (p : Option Row) → under was key ≡ p → under was key ≡ None
@@ -295,18 +299,30 @@ module _ (s : Schema) (most : length s.tables ≤ 64) (group : List ℕ) (rows :
       by (turns some e) =
           let r = entry_of new key stored (sym e ∙ h) in
           record {
-            number = n; table = t; at = at; row = r.0; of_table = of_number; numbered_is = is;
-            stands = row_now at n of_number ∙ ap (λ b. cond b new (rows at)) (same_self at) ∙ r.1; entry = r.2;
+            number = n;
+            table = t;
+            at = at;
+            row = r.0;
+            of_table = of_number;
+            numbered_is = is;
+            stands = row_now at n of_number ∙ ap (λ b. cond b new (rows at)) (same_self at) ∙ r.1;
+            entry = r.2;
           }
       by (leaves e f g) =
           let o = kept.only key stored none (sym g ∙ h) in
           let apart = not_key at o.at (λ same.
-              let tables = same_table o.number o.table o.at same o.of_table o.numbered_is in
-              let here : under was key ≡ Some stored = ap (λ r. under (local_entries s n t r) key) (ap rows same ∙ o.stands) ∙ (λ i. under (local_entries s (tables.0 i) (tables.1 i) (Some o.row)) key) ∙ o.entry in
-              cc) in
+          let tables = same_table o.number o.table o.at same o.of_table o.numbered_is in
+          let here : under was key ≡ Some stored = ap (λ r. under (local_entries s n t r) key) (ap rows same ∙ o.stands) ∙ (λ i. under (local_entries s (tables.0 i) (tables.1 i) (Some o.row)) key) ∙ o.entry in
+          cc) in
           record {
-            number = o.number; table = o.table; at = o.at; row = o.row; of_table = o.of_table; numbered_is = o.numbered_is;
-            stands = row_now o.at o.number o.of_table ∙ ap (λ b. cond b new (rows o.at)) apart ∙ o.stands; entry = o.entry;
+            number = o.number;
+            table = o.table;
+            at = o.at;
+            row = o.row;
+            of_table = o.of_table;
+            numbered_is = o.numbered_is;
+            stands = row_now o.at o.number o.of_table ∙ ap (λ b. cond b new (rows o.at)) apart ∙ o.stands;
+            entry = o.entry;
           }
 
   now_kept : Kept s group now

@@ -1,5 +1,5 @@
 -- The keys of index entries: each is that of one row and one index alone, and none is a row key of its group.
-use Rattle.std.proofs.Common.{◌≡◌, ◌⊎◌, inl, inr, ℕ, zero, suc, ◌+◌, ◌-◌, ◌<◌, ◌≤◌, cond, eqb, Bool, true, false, ◌&&◌, ◌==◌, if◌then◌else◌, List, [], ◌∷◌, ◌++◌, length, map, filter, find, fold, flat_map, slice_get, refl, sym, ap, ◌∙◌, subst, arith, append_assoc, append-nil, eqb-true, Option, Some, None, Result, Ok, Err}
+use Rattle.std.proofs.Common.{◌≡◌, ◌⊎◌, inl, inr, ℕ, ◌+◌, cond, Bool, true, false, ◌&&◌, ◌==◌, if◌then◌else◌, List, [], ◌∷◌, ◌++◌, length, map, filter, find, fold, refl, sym, ap, ◌∙◌, append-nil, eqb-true, Option, Some, None}
 use Rattle.std.specs.List.{list_all}
 use Rattle.std.specs.Option.{option_map_or}
 use Rattle.mega_base.specs.declared.values.Value.{Value}
@@ -13,18 +13,18 @@ use Rattle.mega_schema.specs.declared.schema.Schema.{Schema}
 use Rattle.mega_schema.specs.Shaping.{shape_of}
 use Rattle.mega_keys.specs.Spelling.{spell_all, index_bytes}
 use Rattle.mega_keys.specs.Fit.{has_kind}
-use Rattle.mega_index.specs.Cells.{values_of, key_values, row_with}
-use Rattle.mega_index.specs.Fits.{numbered, cell_fits, cells_fit, is_count, properties_fit, has_place, row_fits, with_each, extended, choices, prefix_of, index_keys, entry_keys, indexes_of, group_bytes_of}
+use Rattle.mega_index.specs.Cells.{values_of, key_values}
+use Rattle.mega_index.specs.Fits.{numbered, cell_fits, cells_fit, is_count, properties_fit, has_place, row_fits, with_each, extended, choices, prefix_of, index_keys, entry_keys}
 use Rattle.mega_laws.specs.Places.{In}
-use Rattle.mega_laws.proofs.Spelled.{Alike, SameKinds, same_kinds, fronts, values_split, alike_rows}
-use Rattle.mega_laws.proofs.RowKeys.{Standing, IsKeyOf, Behind, Spelt, key_spelt, key_behind, behind_one, group_is, both}
+use Rattle.mega_laws.proofs.Spelled.{SameKinds, same_kinds, fronts, values_split, alike_rows}
+use Rattle.mega_laws.proofs.RowKeys.{Standing, Behind, key_spelt, both}
 
 -- ---- members of lists
 
 pub in_append : {X : Type 0} (x : X) (xs ys : List X) → In x (xs ++ ys) → In x xs ⊎ In x ys
 in_append x [] ys i = inr i
 in_append x (z ∷ xs) ys (inl same) = inl (inl same)
-in_append x (z ∷ xs) ys (inr i) = elim (in_append x xs ys i) [ | inl j ↦ inl (inr j) | inr j ↦ inr j ]
+in_append x (z ∷ xs) ys (inr i) = elim (in_append x xs ys i) [ inl j ↦ inl (inr j) | inr j ↦ inr j ]
 
 pub in_map : {X Y : Type 0} (f : X → Y) (xs : List X) (y : Y) → In y (map f xs) → (x : X) × In x xs × (y ≡ f x)
 in_map f [] y i = absurd i

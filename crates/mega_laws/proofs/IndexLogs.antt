@@ -1,42 +1,36 @@
 -- In every log the index rows are those of the rows of the group's tables, after any number of entries.
-use Rattle.std.proofs.Common.{◌≡◌, ◌⊎◌, inl, inr, ℕ, zero, suc, ◌+◌, ◌≤◌, cond, Bool, true, false, if◌then◌else◌, List, [], ◌∷◌, ◌++◌, length, take, slice_get, fold, filter, is_some, nat_lt, refl, sym, ap, ◌∙◌, subst, Option, Some, None, Result, Ok, Err}
+use Rattle.std.proofs.Common.{◌≡◌, ℕ, zero, suc, ◌≤◌, cond, Bool, true, false, if◌then◌else◌, List, [], ◌∷◌, ◌++◌, length, take, slice_get, fold, is_some, nat_lt, refl, sym, ap, ◌∙◌, subst, Option, Some, None, Result, Ok, Err}
 use Rattle.std.proofs.lemmas.List.Sums.{fold-append}
 use Rattle.std.proofs.lemmas.Map.Entries.{lookup-filter-keys}
 use Rattle.mega_base.specs.declared.names.GroupId.{GroupId}
 use Rattle.mega_base.specs.declared.names.OpId.{OpId}
-use Rattle.mega_base.specs.declared.values.Row.{Row}
 use Rattle.mega_cluster.specs.declared.cluster.Cluster.{Cluster}
 use Rattle.mega_entry.specs.declared.content.Content.{Content}
-use Rattle.mega_entry.specs.declared.content.Enter.{Enter}
 use Rattle.mega_entry.specs.Entries.{entry_text}
-use Rattle.mega_schema.specs.declared.schema.Table.{Table}
 use Rattle.mega_schema.specs.declared.schema.Schema.{Schema}
 use Rattle.mega_index.specs.Rows.{Rows, Listed, same_key, row_under, no_rows, changed, written, after, list_after}
-use Rattle.mega_index.specs.Fits.{numbered, stands_in}
-use Rattle.mega_index.specs.Fitted.{table_of, fitted_writes, most_bytes}
-use Rattle.mega_handler.specs.Effects.{Effect, handled, entry_handling, handle_entry}
-use Rattle.mega_handler.specs.Named.{Meanings, effect_by, meaning}
+use Rattle.mega_index.specs.Fits.{stands_in}
+use Rattle.mega_index.specs.Fitted.{table_of, most_bytes}
+use Rattle.mega_handler.specs.Effects.{Effect, handled, entry_handling}
+use Rattle.mega_handler.specs.Named.{effect_by, meaning}
 use Rattle.mega_outcome.specs.declared.answer.Turn.{Turn}
 use Rattle.mega_outcome.specs.declared.answer.Turn.TheVariants.{TooLarge}
 use Rattle.mega_outcome.specs.declared.answer.Done.{Done}
 use Rattle.mega_outcome.specs.declared.answer.Batch.{Batch}
-use Rattle.mega_outcome.specs.declared.request.Request.{Request}
 use Rattle.mega_outcome.specs.declared.transaction.Transaction.{Transaction}
 use Rattle.mega_outcome.specs.Places.{◌>>=◌}
 use Rattle.mega_outcome.specs.Checks.{all_checks}
 use Rattle.mega_outcome.specs.Reads.{all_reads}
 use Rattle.mega_outcome.specs.Changes.{all_changes}
-use Rattle.mega_outcome.specs.Outcome.{all_sends, longest, unless_large, first_read, first_change, first_send, outcome_in, outcome, no_batch, left_out, taken, batch_length, taken_unless_large, with_result, with_next, with_all}
-use Rattle.mega_wal.specs.Same.{same_op}
+use Rattle.mega_outcome.specs.Outcome.{all_sends, longest, unless_large, first_read, first_change, first_send, outcome_in, no_batch, left_out, taken, batch_length, with_result, with_next}
 use Rattle.mega_transcript.specs.declared.item.Item.{Item}
-use Rattle.mega_transcript.specs.declared.item.Item.TheVariants.{Begin}
 use Rattle.mega_rules.specs.Acting.{table_rows}
-use Rattle.mega_promises.specs.Promises.{asked_for, handled_by, log_of}
+use Rattle.mega_promises.specs.Promises.{log_of}
 use Rattle.mega_laws.specs.Writes.{LawfulWrites, OwnEntry, Usage, enters, fills, handles, runs, runs_all}
-use Rattle.mega_laws.specs.Indexed.{AllPutValues, AreRows, AskValues, AsksValues, IsDeclared, IsIndexed, PutValues}
+use Rattle.mega_laws.specs.Indexed.{AllPutValues, AreRows, AskValues, IsDeclared, IsIndexed, PutValues}
 use Rattle.mega_laws.proofs.Serial.{own_entry}
 use Rattle.mega_laws.proofs.Placed.{key_is, after-ascends, after_is}
-use Rattle.mega_laws.proofs.RowKeys.{OfTable, of_table, Standing, stands}
+use Rattle.mega_laws.proofs.RowKeys.{of_table, stands}
 use Rattle.mega_laws.proofs.IndexKept.{Kept}
 use Rattle.mega_laws.proofs.IndexSteps.{bind_turn, changes_kept, fitted_kept}
 use Rattle.mega_laws.proofs.IndexShown.{is_indexed}
@@ -47,15 +41,15 @@ module _ (s : Schema) (most : length s.tables ≤ 64) (group : List ℕ) where
   outcome_kept : (rows : Rows) → Kept s group rows → (transaction : Transaction) (done : Done) → PutValues transaction.writes → outcome_in s group transaction rows ≡ Ok done → Kept s group (written done.writes rows)
   outcome_kept rows kept transaction done held h =
       let checks = bind_turn (all_checks s group rows 0 transaction.checks) (λ _. all_reads s group rows (first_read transaction) transaction.reads >>= λ replies.
-          all_changes s group rows (first_change transaction) transaction.writes >>= λ writes. all_sends s (first_send transaction) transaction.sends >>= λ _.
-          unless_large (longest group writes transaction.sends) (record { replies = replies; writes = writes; sends = transaction.sends })) done h in
+      all_changes s group rows (first_change transaction) transaction.writes >>= λ writes. all_sends s (first_send transaction) transaction.sends >>= λ _.
+      unless_large (longest group writes transaction.sends) (record { replies = replies; writes = writes; sends = transaction.sends })) done h in
       let reads = bind_turn (all_reads s group rows (first_read transaction) transaction.reads) (λ replies.
-          all_changes s group rows (first_change transaction) transaction.writes >>= λ writes. all_sends s (first_send transaction) transaction.sends >>= λ _.
-          unless_large (longest group writes transaction.sends) (record { replies = replies; writes = writes; sends = transaction.sends })) done checks.2 in
+      all_changes s group rows (first_change transaction) transaction.writes >>= λ writes. all_sends s (first_send transaction) transaction.sends >>= λ _.
+      unless_large (longest group writes transaction.sends) (record { replies = replies; writes = writes; sends = transaction.sends })) done checks.2 in
       let changes = bind_turn (all_changes s group rows (first_change transaction) transaction.writes) (λ writes. all_sends s (first_send transaction) transaction.sends >>= λ _.
-          unless_large (longest group writes transaction.sends) (record { replies = reads.0; writes = writes; sends = transaction.sends })) done reads.2 in
+      unless_large (longest group writes transaction.sends) (record { replies = reads.0; writes = writes; sends = transaction.sends })) done reads.2 in
       let sends = bind_turn (all_sends s (first_send transaction) transaction.sends) (λ _.
-          unless_large (longest group changes.0 transaction.sends) (record { replies = reads.0; writes = changes.0; sends = transaction.sends })) done changes.2 in
+      unless_large (longest group changes.0 transaction.sends) (record { replies = reads.0; writes = changes.0; sends = transaction.sends })) done changes.2 in
       let same = small (nat_lt most_bytes (longest group changes.0 transaction.sends)) (longest group changes.0 transaction.sends) (record { replies = reads.0; writes = changes.0; sends = transaction.sends }) done sends.2 in
       subst (λ (d : Done). Kept s group (written d.writes rows)) same (changes_kept s most group rows kept (first_change transaction) transaction.writes changes.0 held changes.1)
     where

@@ -1,5 +1,5 @@
 -- Where the rows of a list are kept, its index rows are those of the local indexes over the rows of the group's tables.
-use Rattle.std.proofs.Common.{◌≡◌, ◌⊎◌, inl, inr, ℕ, zero, suc, ◌+◌, ◌<◌, ◌≤◌, cond, Bool, true, false, ◌||◌, if◌then◌else◌, List, [], ◌∷◌, ◌++◌, length, take, drop, slice_get, filter, is_some, refl, sym, ap, ◌∙◌, subst, arith, append_assoc, Option, Some, None}
+use Rattle.std.proofs.Common.{◌≡◌, ◌⊎◌, inl, inr, ℕ, ◌+◌, cond, Bool, true, false, ◌||◌, if◌then◌else◌, List, [], ◌∷◌, ◌++◌, drop, slice_get, filter, is_some, refl, sym, ap, ◌∙◌, subst, arith, Option, Some, None}
 use Rattle.mega_base.specs.declared.names.GroupId.{GroupId}
 use Rattle.mega_base.specs.declared.values.Value.{Value}
 use Rattle.mega_base.specs.declared.values.Kind.{Kind}
@@ -13,18 +13,18 @@ use Rattle.mega_keys.specs.Spelling.{spell_all, scattered, scatter_of, root_part
 use Rattle.mega_keys.specs.Fit.{key_kinds}
 use Rattle.mega_index.specs.Rows.{Listed, row_under}
 use Rattle.mega_index.specs.Cells.{key_values, row_with}
-use Rattle.mega_index.specs.Fits.{numbered, entry_keys, indexes_of, group_bytes_of, row_fits, stands_in}
+use Rattle.mega_index.specs.Fits.{numbered, entry_keys, indexes_of, group_bytes_of, stands_in}
 use Rattle.mega_index.specs.Entries.{local_in, local_entries}
 use Rattle.mega_index.specs.Fitted.{table_of}
 use Rattle.mega_rules.specs.Acting.{table_rows}
 use Rattle.mega_laws.specs.Places.{In}
 use Rattle.mega_laws.specs.Indexed.{IsDeclared, IsIndexed, local_index_rows}
 use Rattle.mega_laws.proofs.Placed.{under, There, Ascends, in_under, under_in}
-use Rattle.mega_laws.proofs.Spelled.{AreOf, SameKinds, same_kinds, fronts, values_split}
-use Rattle.mega_laws.proofs.RowKeys.{Standing, standing, stands, IsKeyOf, OfTable, of_table, Spelt, key_spelt, of_front, group_is, behind_one}
-use Rattle.mega_laws.proofs.IndexKeys.{in_filter, EntryKey, entry_key, entry_behind}
+use Rattle.mega_laws.proofs.Spelled.{AreOf, same_kinds, values_split}
+use Rattle.mega_laws.proofs.RowKeys.{Standing, standing, stands, OfTable, of_table, Spelt, key_spelt, of_front, group_is, behind_one}
+use Rattle.mega_laws.proofs.IndexKeys.{in_filter, entry_key, entry_behind}
 use Rattle.mega_laws.proofs.IndexEntries.{InLocal, local_there, InIndexes, indexes_from, indexes_there}
-use Rattle.mega_laws.proofs.IndexKept.{RowOf, key_of_table, entry_in, Owner, Kept}
+use Rattle.mega_laws.proofs.IndexKept.{RowOf, key_of_table, entry_in, Kept}
 
 -- ---- a row key has one table
 
@@ -92,7 +92,7 @@ heads_split false ks vs ws xs ys h g e = (values_split vs ws xs ys (same_kinds k
 -- two tables in which a row stands under one key are one
 pub one_table : (s : Schema) → IsDeclared s → (m n : ℕ) (u t : Table) (key : List ℕ) (row : Row) → numbered s.tables m ≡ Some u → numbered s.tables n ≡ Some t → Standing s m u key row → Standing s n t key row → m ≡ n
 one_table s d m n u t key row a b st sd =
-    elim (spaces_same s d m n u t a b space) [ | inl same ↦ same | inr both ↦ rooted both.0 both.1 ]
+    elim (spaces_same s d m n u t a b space) [ inl same ↦ same | inr both ↦ rooted both.0 both.1 ]
   where
     vs : List Value
     vs = key_values u.primary row
@@ -117,9 +117,9 @@ one_table s d m n u t key row a b st sd =
         let of_q = of_front (root_kinds (numbered s.tables t.root)) _ ws other.kinds in
         let e = ap (drop 1) (sym one.is ∙ other.is) in
         let behind : m ∷ spell_all (rest_part (shape_of s m u) vs) ≡ n ∷ spell_all (rest_part (shape_of s n t) ws) =
-            heads_split u.scatter (root_kinds (numbered s.tables u.root)) p q (m ∷ spell_all (rest_part (shape_of s m u) vs)) (n ∷ spell_all (rest_part (shape_of s n t) ws)) of_p
-            (subst (λ r. AreOf (root_kinds (numbered s.tables r)) q) (sym root) of_q)
-            (e ∙ ap (λ b. (scatter_of b q ++ spell_all q) ++ n ∷ spell_all (rest_part (shape_of s n t) ws)) (sym scatter)) in
+        heads_split u.scatter (root_kinds (numbered s.tables u.root)) p q (m ∷ spell_all (rest_part (shape_of s m u) vs)) (n ∷ spell_all (rest_part (shape_of s n t) ws)) of_p
+        (subst (λ r. AreOf (root_kinds (numbered s.tables r)) q) (sym root) of_q)
+        (e ∙ ap (λ b. (scatter_of b q ++ spell_all q) ++ n ∷ spell_all (rest_part (shape_of s n t) ws)) (sym scatter)) in
         cc
 
 -- ---- the entries of the rows of a list
@@ -134,7 +134,6 @@ some_table None h = cc
 some_table (Some n) h = (n, refl)
 
 module _ (s : Schema) (d : IsDeclared s) (group : GroupId) (listed : Listed) (up : Ascends listed) (kept : Kept s group.key (row_under listed)) where
-
   abbrev rows : Listed
   rows = table_rows s group listed
 

@@ -1,10 +1,8 @@
 -- What transactions and handlers write replaces rows along with their local index writes, so that index rows stay those of the tables' rows.
-use Rattle.std.proofs.Common.{◌≡◌, ◌⊎◌, inl, inr, ℕ, zero, suc, ◌+◌, ◌<◌, ◌≤◌, cond, Bool, true, false, ◌&&◌, not, ◌==◌, if◌then◌else◌, ℤ, ◌+ℤ◌, List, [], ◌∷◌, ◌++◌, length, fold, find, is_some, refl, sym, ap, ◌∙◌, subst, arith, nat_lt, Option, Some, None, Result, Ok, Err}
+use Rattle.std.proofs.Common.{◌≡◌, ℕ, ◌+◌, ◌≤◌, cond, Bool, true, false, ◌&&◌, not, ◌==◌, if◌then◌else◌, ℤ, ◌+ℤ◌, List, [], ◌∷◌, ◌++◌, length, find, is_some, refl, sym, ap, ◌∙◌, subst, arith, Option, Some, None, Result, Ok, Err}
 use Rattle.std.specs.Option.{option_map_or}
 use Rattle.std.proofs.lemmas.List.Sums.{fold-append}
-use Rattle.mega_base.specs.declared.names.GroupId.{GroupId}
 use Rattle.mega_base.specs.declared.values.Value.{Value}
-use Rattle.mega_base.specs.declared.values.Kind.{Kind}
 use Rattle.mega_base.specs.declared.values.Cell.{Cell}
 use Rattle.mega_base.specs.declared.values.Row.{Row}
 use Rattle.mega_entry.specs.declared.content.Write.{Write}
@@ -13,7 +11,7 @@ use Rattle.mega_schema.specs.declared.schema.Table.{Table}
 use Rattle.mega_schema.specs.declared.schema.Schema.{Schema}
 use Rattle.mega_schema.specs.Shaping.{shape_of}
 use Rattle.mega_keys.specs.declared.fault.KeyFault.{KeyFault}
-use Rattle.mega_keys.specs.Spelling.{root_part, row_bytes, group_bytes}
+use Rattle.mega_keys.specs.Spelling.{root_part}
 use Rattle.mega_keys.specs.Fit.{AreValues}
 use Rattle.mega_index.specs.Rows.{Rows, same_key, changed, written}
 use Rattle.mega_index.specs.Cells.{values_of, key_values, leading, is_listed, row_set}
@@ -21,20 +19,17 @@ use Rattle.mega_index.specs.Fits.{numbered, group_of, key_of, row_fits, fits, fi
 use Rattle.mega_index.specs.LocalWrites.{index_writes}
 use Rattle.mega_index.specs.Fitted.{table_of, is_kept, kept_write, fitted_writes}
 use Rattle.mega_outcome.specs.declared.answer.Turn.{Turn}
-use Rattle.mega_outcome.specs.declared.answer.Turn.TheVariants.{BadRow, OtherGroup, NoRow}
-use Rattle.mega_outcome.specs.declared.answer.Done.{Done}
-use Rattle.mega_outcome.specs.declared.answer.Batch.{Batch}
+use Rattle.mega_outcome.specs.declared.answer.Turn.TheVariants.{BadRow, OtherGroup}
 use Rattle.mega_outcome.specs.declared.transaction.Change.{Change}
 use Rattle.mega_outcome.specs.declared.transaction.Change.TheVariants.{Put, Delete, Add}
 use Rattle.mega_outcome.specs.declared.transaction.RowRef.{RowRef}
-use Rattle.mega_outcome.specs.declared.transaction.Transaction.{Transaction}
 use Rattle.mega_outcome.specs.Places.{◌>>=◌, spelled, placed, key_in_table, key_in}
 use Rattle.mega_outcome.specs.Changes.{replaced, put_in, delete_at, is_number, number_of, number_value, or_overflow, sum_of, add_to, add_in, add_at, change, all_changes}
 use Rattle.mega_laws.specs.Indexed.{HoldValues, PutsValues, PutValues}
 use Rattle.mega_laws.proofs.Placed.{key_is}
-use Rattle.mega_laws.proofs.RowKeys.{Standing, standing, IsKeyOf, of_table, OfTable, key_behind, behind_one, Behind, spelt_behind, key_spelt, group_spelt, put_key, table_is, both}
+use Rattle.mega_laws.proofs.RowKeys.{Standing, standing, of_table, key_behind, behind_one, Behind, spelt_behind, key_spelt, group_spelt, put_key, table_is}
 use Rattle.mega_laws.proofs.IndexKeys.{values_in, entry_behind}
-use Rattle.mega_laws.proofs.IndexKept.{RowOf, table_least, entry_in, keyed, Owner, Kept, replaced_kept}
+use Rattle.mega_laws.proofs.IndexKept.{RowOf, table_least, entry_in, keyed, Kept, replaced_kept}
 use Rattle.mega_laws.proofs.IndexAdd.{number_facts, add_stands}
 
 -- ---- results
@@ -94,7 +89,6 @@ row_kept s n key None = true
 row_kept s n key (Some row) = stands_in s n (numbered s.tables n) key row
 
 module _ (s : Schema) (most : length s.tables ≤ 64) (group : List ℕ) where
-
   -- where a row stands under the key that key values spell in a table, the key is one of that table
   row_table : (rows : Rows) → Kept s group rows → (n : ℕ) (t : Table) (values : List Value) (key : List ℕ) (old : Row) → numbered s.tables n ≡ Some t → group_of s n t values ≡ Ok group → key_of s n t values ≡ Ok key
       → rows key ≡ Some old → table_of s group key ≡ Some n

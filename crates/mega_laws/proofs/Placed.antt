@@ -9,7 +9,7 @@ use Rattle.std.specs.Cmp.Lexicographic.{nat_list_cmp_total}
 use Rattle.mega_base.specs.declared.values.Row.{Row}
 use Rattle.mega_entry.specs.declared.content.Write.{Write}
 use Rattle.mega_entry.specs.declared.content.Content.{Content}
-use Rattle.mega_index.specs.Rows.{Rows, Listed, key_cmp, same_key, row_under, no_rows, changed, written, after, list_changed, list_written, list_after}
+use Rattle.mega_index.specs.Rows.{Listed, key_cmp, same_key, row_under, changed, written, after, list_changed, list_written, list_after}
 use Rattle.mega_index.specs.Entries.{placed}
 use Rattle.mega_index.proofs.Turning.{same_key-Decides}
 use Rattle.mega_laws.specs.Places.{In}
@@ -33,7 +33,7 @@ same_or_not a b = by (same_key a b) refl
     by false is = inr is
 
 pub not_key : (a b : List ℕ) → (a ≡ b → ⊥) → same_key a b ≡ false
-not_key a b h = elim (same_or_not a b) [ | inl is ↦ absurd (h is) | inr is ↦ is ]
+not_key a b h = elim (same_or_not a b) [ inl is ↦ absurd (h is) | inr is ↦ is ]
 
 pub same_turned : (a b : List ℕ) → same_key a b ≡ same_key b a
 same_turned a b = elim (same_or_not a b) [
@@ -186,7 +186,6 @@ pub placed_from : {A : Type 0} (keys : List (List ℕ)) (es : List (List ℕ × 
 placed_from [] es v w k h = inr h
 placed_from {A} (q ∷ qs) es v w k h = by (placed_from qs (insert_entry key_cmp es q v) v w k h)
   where
-
     by : (In k qs × (w ≡ v)) ⊎ (under (insert_entry key_cmp es q v) k ≡ Some w) → (In k (q ∷ qs) × (w ≡ v)) ⊎ (under es k ≡ Some w)
     by (inl both) = inl (inr both.0, both.1)
     by (inr g) = elim (same_or_not k q) [

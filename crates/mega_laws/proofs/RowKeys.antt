@@ -1,5 +1,5 @@
 -- Row keys of a group: each is that of one table alone, and behind the group's bytes it has the table's number.
-use Rattle.std.proofs.Common.{◌≡◌, ◌⊎◌, inl, inr, ℕ, zero, suc, ◌+◌, ◌-◌, ◌<◌, ◌≤◌, cond, ltb, eqb, Bool, true, false, ◌&&◌, ◌==◌, if◌then◌else◌, List, [], ◌∷◌, ◌++◌, length, take, drop, slice_get, refl, sym, ap, ◌∙◌, subst, arith, append_assoc, append-nil, length-append, take_at, drop_at, take_all, le-ltb, ltb-false, eqb-true, Option, Some, None, Result, Ok, Err}
+use Rattle.std.proofs.Common.{◌≡◌, ℕ, zero, suc, ◌+◌, ◌-◌, ◌≤◌, cond, ltb, eqb, Bool, true, false, ◌&&◌, List, [], ◌∷◌, ◌++◌, length, take, drop, slice_get, refl, sym, ap, ◌∙◌, subst, arith, length-append, take_at, take_all, le-ltb, ltb-false, Option, Some, None, Result, Ok, Err}
 use Rattle.std.proofs.lemmas.Bool.Decides.{nat_tests}
 use Rattle.mega_base.specs.declared.values.Value.{Value}
 use Rattle.mega_base.specs.declared.values.Kind.{Kind}
@@ -9,11 +9,11 @@ use Rattle.mega_schema.specs.declared.schema.Table.{Table}
 use Rattle.mega_schema.specs.declared.schema.Schema.{Schema}
 use Rattle.mega_schema.specs.Shaping.{shape_of}
 use Rattle.mega_keys.specs.declared.fault.KeyFault.{KeyFault}
-use Rattle.mega_keys.specs.declared.fault.KeyFault.TheVariants.{Kind as OtherKind, Missing, TooLong, NotKey}
+use Rattle.mega_keys.specs.declared.fault.KeyFault.TheVariants.{Missing, TooLong, NotKey}
 use Rattle.mega_keys.specs.Spelling.{spell_all, scattered, scatter_of, head_bytes, root_part, rest_part, row_bytes, group_bytes}
 use Rattle.mega_keys.specs.Fit.{has_kind, misplaced, key_kinds, AreValues}
 use Rattle.mega_keys.specs.Answers.{limited, fault_or_missing, fault_of, unless_fault, row_key_of, group_key_of}
-use Rattle.mega_keys.specs.Reading.{Read, ◌>>=◌, values_at, byte_at, marks_at, agree, root_at, key_front_at, key_at, answer_of, read_key_of}
+use Rattle.mega_keys.specs.Reading.{◌>>=◌, values_at, byte_at, marks_at, agree, root_at, key_front_at, key_at, answer_of, read_key_of}
 use Rattle.mega_keys.proofs.Takes.{bind_ok, ok_parts}
 use Rattle.mega_keys.proofs.Keys.{byte_takes, read_only, key_read_back}
 use Rattle.mega_index.specs.Rows.{same_key}
@@ -21,7 +21,7 @@ use Rattle.mega_index.specs.Cells.{key_values}
 use Rattle.mega_index.specs.Fits.{numbered, group_of, key_of, group_bytes_of, row_fits, stands_in}
 use Rattle.mega_index.specs.Fitted.{is_key_of, table_in, table_of}
 use Rattle.mega_laws.proofs.Placed.{key_is, same_self}
-use Rattle.mega_laws.proofs.Spelled.{Alike, AreOf, SameKinds, same_kinds, fronts, values_split, alike_group, alike_rows, Passed, PassedAll, values_pass, values_reread, RereadAll, alike_head}
+use Rattle.mega_laws.proofs.Spelled.{Alike, AreOf, fronts, Passed, values_pass, values_reread, RereadAll, alike_head}
 
 -- ---- values that have no fault
 
@@ -366,7 +366,7 @@ standing_group_of s n t group key row st is =
     let vs = key_values t.primary row in
     let sp = key_spelt shape vs key st.own in
     let short : length (group_bytes shape (root_part shape vs)) ≤ 1024 =
-        omega (arith, sp.short, ap length sp.is, length-append (head_bytes shape.space shape.scatter (root_part shape vs)) (shape.table ∷ spell_all (rest_part shape vs))) in
+    omega (arith, sp.short, ap length sp.is, length-append (head_bytes shape.space shape.scatter (root_part shape vs)) (shape.table ∷ spell_all (rest_part shape vs))) in
     spells shape.root_kinds (root_part shape vs) (group_bytes shape (root_part shape vs)) (of_front shape.root_kinds shape.rest_kinds vs sp.kinds) short
     ∙ ap Ok (standing_group s n t group key row st is)
 

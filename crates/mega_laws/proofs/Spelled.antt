@@ -1,5 +1,5 @@
 -- Values that are spelled alike: what is spelled tells where each value ends, also of numbers that no program holds.
-use Rattle.std.proofs.Common.{◌≡◌, ℕ, zero, suc, ◌+◌, ◌-◌, ◌^◌, ◌<◌, ◌≤◌, cond, ltb, eqb, Bool, true, false, List, [], ◌∷◌, ◌++◌, length, take, drop, get_or, refl, sym, ap, ◌∙◌, subst, arith, append_assoc, length-append, length-take-le, take-append-drop, take_at, drop_at, le-ltb, ltb-false, Ok, Err, Result}
+use Rattle.std.proofs.Common.{◌≡◌, ℕ, zero, suc, ◌+◌, ◌^◌, ◌<◌, ◌≤◌, cond, ltb, eqb, Bool, true, false, List, [], ◌∷◌, ◌++◌, length, take, drop, get_or, refl, sym, ap, ◌∙◌, arith, append_assoc, length-append, length-take-le, take-append-drop, take_at, drop_at, le-ltb, ltb-false, Ok, Err}
 use Rattle.std.specs.Int.{Width, w32, w64, byte_len, to_be_bytes, from_be_bytes}
 use Rattle.std.specs.List.{flat_map}
 use Rattle.std.specs.Str.{is_utf8}
@@ -9,7 +9,7 @@ use Rattle.mega_base.specs.declared.values.Value.TheVariants.{Int32, Int64, Bool
 use Rattle.mega_base.specs.declared.values.Kind.{Kind}
 use Rattle.mega_base.specs.declared.values.Kind.TheVariants as kinds
 use Rattle.mega_base.specs.declared.values.Shape.{Shape}
-use Rattle.mega_keys.specs.Spelling.{raised, escaped, bit_of, spell, plain, spell_all, scattered, scatter_of, head_bytes, root_part, rest_part, row_bytes, group_bytes}
+use Rattle.mega_keys.specs.Spelling.{raised, escaped, spell, plain, spell_all, scattered, scatter_of, head_bytes, root_part, rest_part, row_bytes, group_bytes}
 use Rattle.mega_keys.specs.Fit.{has_kind}
 use Rattle.mega_keys.specs.Reading.{Read, ◌>>=◌, number_at, lowered, int32_at, int64_at, truth_at, unescaped, raw_at, text_of, text_at, value_at, values_at}
 use Rattle.mega_keys.proofs.Again.{unescaped_again}
@@ -273,7 +273,7 @@ values_pass (k ∷ ks) bytes vs left h =
     let first = value_passes k bytes (a.0).0 (a.0).1 a.1 in
     let more = values_pass ks (a.0).1 (b.0).0 (b.0).1 b.1 in
     let all : length (first.front ++ (more.passed).front) ≡ length (spell_all ((a.0).0 ∷ (b.0).0)) =
-        length-append first.front (more.passed).front ∙ (λ i. first.length_is i + (more.passed).length_is i) ∙ sym (length-append (spell (a.0).0) (spell_all (b.0).0)) in
+    length-append first.front (more.passed).front ∙ (λ i. first.length_is i + (more.passed).length_is i) ∙ sym (length-append (spell (a.0).0) (spell_all (b.0).0)) in
     rw (← parts.0) (record {
       passed = record {
         front = first.front ++ (more.passed).front;

@@ -1,5 +1,5 @@
 -- Rows of a group with a local index, and what is no rows of it.
-use Rattle.std.specs.Prelude.{ℕ, false, List, [], ◌∷◌, ◌++◌, codes, Some, None}
+use Rattle.std.specs.Prelude.{ℕ, false, List, [], ◌∷◌, ◌++◌, codes, Some}
 use Rattle.mega_base.specs.declared.names.GroupId.{GroupId}
 use Rattle.mega_base.specs.declared.values.Kind.TheVariants.{Str}
 use Rattle.mega_base.specs.declared.values.Row.{Row}
