@@ -1,5 +1,5 @@
 -- Rows that are indexed, and rows that are not.
-use Rattle.std.proofs.Common.{◌≡◌, ◌∙◌, ℕ, zero, suc, ◌+◌, cond, Bool, true, false, if◌then◌else◌, List, [], ◌∷◌, slice_get, codes, refl, sym, ap, subst, arith, Option, Some, None, Ok}
+use Rattle.std.proofs.Common.{◌≡◌, inl, inr, ◌<◌, ◌∙◌, ℕ, zero, suc, ◌+◌, cond, Bool, true, false, ◌++◌, if◌then◌else◌, List, [], ◌∷◌, slice_get, codes, refl, sym, ap, subst, arith, Option, Some, None, Ok}
 use Rattle.std.proofs.lemmas.Str.{IsUtf8-from_is_utf8}
 use Rattle.mega_base.specs.declared.names.OpId.{OpId}
 use Rattle.mega_base.specs.declared.values.Row.{Row}
@@ -22,6 +22,22 @@ use Rattle.mega_promises.specs.Promises.{asked_for}
 use Rattle.mega_laws.specs.Examples.{asks_put}
 use Rattle.mega_laws.specs.Indexed.{AskValues, AsksValues, IsDeclared, IsIndexed, local_index_rows}
 use Rattle.mega_laws.specs.IndexExamples.{john_key, named_users, no_text, no_text_key, nothing_stored, put_writes, user_key, whole, without_entry, without_user, word_group, word_schema}
+use Rattle.mega_ballot.specs.Order.{zero_ballot}
+use Rattle.mega_entry.specs.declared.content.Content.{Content}
+use Rattle.mega_wire.specs.declared.message.Body.TheVariants.{Accepted}
+use Rattle.mega_index.specs.Rows.{after, list_after}
+use Rattle.mega_outcome.specs.Outcome.{outcome}
+use Rattle.mega_transcript.specs.declared.item.Item.TheVariants.{Taken}
+use Rattle.mega_transcript.specs.Tape.{newest}
+use Rattle.mega_rules.specs.Examples.{op_of}
+use Rattle.mega_promises.specs.Promises.{log_of}
+use Rattle.mega_laws.specs.Places.{IsMajority}
+use Rattle.mega_laws.specs.Lawful.{Heard, Lawful, asks, lowest, settled, spreads}
+use Rattle.mega_laws.specs.Writes.{AreWritten, LawfulWrites, Own, OwnEntry, again, own, runs}
+use Rattle.mega_laws.specs.Examples.{first, place}
+use Rattle.mega_laws.specs.IndexExamples.{named_begun, named_cluster, named_entry, named_put}
+use Rattle.mega_laws.proofs.Witnesses.{first_two}
+use Rattle.mega_laws.proofs.Writing.{transaction}
 use Rattle.mega_laws.proofs.Lists.{some_is}
 use Rattle.mega_laws.proofs.Placed.{key_is}
 use Rattle.mega_laws.proofs.RowKeys.{numbered_at}
@@ -95,6 +111,42 @@ put_values tape op request h = subst AsksValues (is_put tape op request h) held
   where
     held : AsksValues put
     held = (((omega arith, tt), ((IsUtf8-from_is_utf8 (codes "John") john_is_text, tt), tt)), tt)
+
+-- ---- a lawful tape with the put
+
+two_heard : (voter : ℕ) → first_two voter ≡ true → Heard (Taken 4 ∷ newest named_begun) voter (op_of 1) (Accepted (op_of 1) group first zero_ballot named_entry)
+two_heard zero h = cc
+two_heard (suc zero) h = record { number = 2; sent = inr (inr (inr (inr (inr (inl refl))))); taken = inr (inr (inr (inr (inl refl)))) }
+two_heard (suc (suc zero)) h = record { number = 4; sent = inr (inl refl); taken = inl refl }
+two_heard (suc (suc (suc n))) h = cc
+
+two_of_three : IsMajority named_cluster first_two
+two_of_three = let h : 3 < 4 = omega arith in h
+
+lawful : Lawful named_cluster (newest named_put)
+lawful = (settled (op_of 1) zero_ballot first_two refl two_of_three two_heard, (tt, (record { asked = record { number = 3; sent = inr (inl refl); taken = inl refl }; answer = refl }, (tt, (spreads 1 refl (lowest refl refl) (record { number = 2; sent = inr (inl refl); taken = inl refl }), (tt, (record { asked = record { number = 1; sent = inr (inl refl); taken = inl refl }; answer = refl }, (tt, (asks refl (lowest refl refl), (tt, tt))))))))))
+
+comes : outcome named_users transaction (after [] no_rows) ≡ Ok (record { replies = []; writes = put_writes; sends = [] })
+unfolding Rattle.mega_base.specs.Codec.number_text
+comes = refl
+
+proposed : OwnEntry named_users asks_put (Begin (op_of 1) [] ∷ []) (op_of 1) group [] named_entry
+proposed = runs transaction (record { replies = []; writes = put_writes; sends = [] }) refl refl comes refl
+
+first_own : Own named_users asks_put (Begin (op_of 1) [] ∷ []) 1 (op_of 1) place named_entry
+first_own = record { below = []; reaches = refl; known = λ k d is. absurd (nothing is); entry = proposed; home = λ q b other i. absurd i }
+  where
+    nothing : {d : Content} → None ≡ Some d → ⊥
+    nothing h = cc
+
+written : AreWritten named_users asks_put (newest named_put)
+written = (tt, (tt, (tt, (tt, (again (op_of 1) zero_ballot (inl refl), (tt, (tt, (tt, (own first_own, (refl, tt))))))))))
+
+pub named_writes : LawfulWrites named_cluster asks_put (newest named_put)
+named_writes = record { lawful = lawful; written = written }
+
+pub named_log : list_after (log_of (newest named_put) group) [] ≡ whole
+named_log = refl
 
 -- ---- a word that is no text
 

@@ -4,13 +4,20 @@ use Rattle.mega_base.specs.declared.names.GroupId.{GroupId}
 use Rattle.mega_base.specs.declared.values.Kind.TheVariants.{Str}
 use Rattle.mega_base.specs.declared.values.Row.{Row}
 use Rattle.mega_base.specs.declared.values.Value.TheVariants.{Str as Word}
+use Rattle.mega_ballot.specs.Order.{zero_ballot}
+use Rattle.mega_cluster.specs.declared.cluster.Cluster.{Cluster}
+use Rattle.mega_entry.specs.declared.content.Content.{Content}
 use Rattle.mega_entry.specs.declared.content.Write.{Write}
 use Rattle.mega_schema.specs.declared.schema.Index.{Index}
 use Rattle.mega_schema.specs.declared.schema.Schema.{Schema}
 use Rattle.mega_schema.specs.declared.schema.Table.{Table}
 use Rattle.mega_syntax.specs.declared.need.Need.TheVariants.{Required}
 use Rattle.mega_index.specs.Rows.{Listed}
-use Rattle.mega_rules.specs.Examples.{group, user, users}
+use Rattle.mega_transcript.specs.declared.item.Item.{Item}
+use Rattle.mega_transcript.specs.declared.item.Item.TheVariants.{Begin, Decide, Sent, Taken}
+use Rattle.mega_promises.specs.Items.{number}
+use Rattle.mega_rules.specs.Examples.{accept_for, accepted_from, cluster, group, op_of, user, users}
+use Rattle.mega_laws.specs.Examples.{first}
 
 -- users, with a local index by name
 abbrev pub by_name : Index
@@ -41,6 +48,27 @@ without_user = (john_key, nothing_stored) ∷ []
 
 abbrev pub put_writes : List Write
 put_writes = record { key = user_key; row = Some user } ∷ record { key = john_key; row = Some nothing_stored } ∷ []
+
+-- node 1's operation puts the user in a cluster with this schema, and decides its entry
+abbrev pub named_cluster : Cluster
+named_cluster = record cluster { schema = named_users }
+
+abbrev pub named_entry : Content
+named_entry = record { id = Some (op_of 1); leader = record { 0 = 1 }; writes = put_writes; sends = []; enters = []; handles = []; cuts = [] }
+
+abbrev pub named_begun : List Item
+named_begun = Begin (op_of 1) []
+    ∷ Sent 1 (accept_for 1 1 1 zero_ballot named_entry)
+    ∷ Taken 1
+    ∷ Sent 2 (accepted_from 1 1 1 zero_ballot named_entry)
+    ∷ Taken 2
+    ∷ Sent 3 (accept_for 1 2 1 zero_ballot named_entry)
+    ∷ Taken 3
+    ∷ Sent 4 (accepted_from 1 2 1 zero_ballot named_entry)
+    ∷ []
+
+abbrev pub named_put : List Item
+named_put = named_begun ++ Taken 4 ∷ Decide (number 1) group first named_entry ∷ []
 
 -- a table of words, and a row whose word is no text
 abbrev pub words : Table

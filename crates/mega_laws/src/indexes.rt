@@ -16,8 +16,8 @@ ghost use Rattle.mega_transcript.specs.Tape.{newest};
 ghost use Rattle.mega_rules.specs.Acting.{table_rows};
 ghost use Rattle.mega_rules.specs.Examples.{group, user};
 ghost use Rattle.mega_promises.specs.Promises.{log_of};
-ghost use Rattle.mega_laws.specs.Examples.{asks_put, put_decided};
-ghost use Rattle.mega_laws.specs.IndexExamples.{john_key, named_users, no_text, no_text_key, nothing_stored, put_writes, whole, without_entry, without_user, word_group, word_schema};
+ghost use Rattle.mega_laws.specs.Examples.{asks_put};
+ghost use Rattle.mega_laws.specs.IndexExamples.{john_key, named_cluster, named_put, named_users, no_text, no_text_key, nothing_stored, put_writes, whole, without_entry, without_user, word_group, word_schema};
 ghost use Rattle.mega_laws.specs.Indexed.{AreRows, AskValues, IsDeclared, IsIndexed, local_index_rows};
 ghost use Rattle.mega_laws.specs.Writes.{LawfulWrites, Usage};
 
@@ -35,13 +35,15 @@ pub fn declared_schemas_keep_their_roots()
     ensures clusters { (least : ℕ) (text : List ℕ) (c : Cluster) → read_of least text ≡ Ok c → IsDeclared c.schema }
 {}
 
-/// A put of a user writes the row and its entry by name, which are then all that stands; the schema can be declared, and the put holds values.
+/// A put of a user writes the row and its entry by name; on a lawful tape on which it is decided these are all that stands.
 pub fn a_put_has_its_entry()
     ensures writes { all_changes named_users group.key no_rows 0 (Put 1 user ∷ []) ≡ Ok put_writes }
     ensures entries { local_index_rows named_users 1 (indexes_of named_users) (table_rows named_users group whole) ≡ (john_key, nothing_stored) ∷ [] }
     ensures indexed { IsIndexed named_users group whole }
-    ensures declared { IsDeclared named_users }
-    ensures values { AskValues asks_put (newest put_decided) }
+    ensures declared { IsDeclared named_cluster.schema }
+    ensures values { AskValues asks_put (newest named_put) }
+    ensures written { LawfulWrites named_cluster asks_put (newest named_put) }
+    ensures log { list_after (log_of (newest named_put) group) [] ≡ whole }
 {}
 
 /// A user without the entry by name, and the entry without its user, are not indexed.
