@@ -138,7 +138,7 @@ over_from s number x (Some t) is (one ∷ rows) es key f h = by (over_from s num
 none_there : {A : Type 0} {x : A} → None ≡ Some x → ⊥
 none_there h = cc
 
-pub index_from : (s : Schema) (number : ℕ) (x : Index) (rows : Listed) (key : List ℕ) (f : Found) → under (index_of s number x rows) key ≡ Some f → InIndex s number x rows key f
+index_from : (s : Schema) (number : ℕ) (x : Index) (rows : Listed) (key : List ℕ) (f : Found) → under (index_of s number x rows) key ≡ Some f → InIndex s number x rows key f
 index_from s number x rows key f h = elim (over_from s number x (numbered s.tables x.table) refl rows [] key f h) [ inl r ↦ r | inr none ↦ absurd (none_there none) ]
 
 over_keeps : (s : Schema) (number : ℕ) (x : Index) (o : Option Table) (rows : Listed) (es : List (List ℕ × Found)) (key : List ℕ) → There es key
@@ -161,7 +161,7 @@ over_there s number x t (first ∷ rows) es key one (inl same) st has_key =
     (subst (λ b. There (if b then with_row s number x t es one.1 else es) key) (sym st)
     (placed_there (entry_keys number x (group_bytes_of s x.table t one.1) (key_values t.primary one.1) one.1) es (found_of x t one.1) key has_key)))
 
-pub index_there : (s : Schema) (number : ℕ) (x : Index) (t : Table) (rows : Listed) (key : List ℕ) (one : List ℕ × Row) → numbered s.tables x.table ≡ Some t → In one rows
+index_there : (s : Schema) (number : ℕ) (x : Index) (t : Table) (rows : Listed) (key : List ℕ) (one : List ℕ × Row) → numbered s.tables x.table ≡ Some t → In one rows
     → stands_in s x.table (Some t) one.0 one.1 ≡ true → In key (entry_keys number x (group_bytes_of s x.table t one.1) (key_values t.primary one.1) one.1) → There (index_of s number x rows) key
 index_there s number x t rows key one is i st has_key =
     subst (λ o. There (fold (λ entries one. with_row_under s number x o entries one) [] rows) key) (sym is) (over_there s number x t rows [] key one i st has_key)

@@ -65,7 +65,7 @@ pub keyed : (s : Schema) (group : List ℕ) (n : ℕ) (t : Table) (row : Row) (k
 keyed s group n t row key w e = entry_key (1 + e.place) e.index group (key_values t.primary row) row key e.local e.has_key
 
 -- the key of an entry is no row key
-pub entry_no_row : (s : Schema) (group : List ℕ) (n : ℕ) (t : Table) (at : List ℕ) (row : Row) (key : List ℕ) (w : Row) → length s.tables ≤ 64 → RowOf s group n t at row
+entry_no_row : (s : Schema) (group : List ℕ) (n : ℕ) (t : Table) (at : List ℕ) (row : Row) (key : List ℕ) (w : Row) → length s.tables ≤ 64 → RowOf s group n t at row
     → under (local_entries s n t (Some row)) key ≡ Some w → table_of s group key ≡ None
 entry_no_row s group n t at row key w most r h = by (table_of s group key) refl
   where
@@ -79,7 +79,7 @@ entry_no_row s group n t at row key w most r h = by (table_of s group key) refl
         absurd (omega (arith, same))
 
 -- a key is that of an entry of one row alone
-pub entry_once : (s : Schema) (group : List ℕ) (m n : ℕ) (t u : Table) (first second : List ℕ) (row other : Row) (key : List ℕ) (v w : Row) → length s.tables ≤ 64
+entry_once : (s : Schema) (group : List ℕ) (m n : ℕ) (t u : Table) (first second : List ℕ) (row other : Row) (key : List ℕ) (v w : Row) → length s.tables ≤ 64
     → RowOf s group m t first row → RowOf s group n u second other → under (local_entries s m t (Some row)) key ≡ Some v → under (local_entries s n u (Some other)) key ≡ Some w → first ≡ second
 entry_once s group m n t u first second row other key v w most a b h g =
     let d = entry_in s group m t first row key v most a h in
@@ -118,7 +118,7 @@ gone_leaves new (e ∷ es) R k h = by (same_key k e.0) refl h
     by false is g left cleared = one is (is_none (row_under new e.0)) g (left g) (cleared g)
 
 -- a key of neither the old entries nor the new ones is left
-pub turned_leaves : (old new : Listed) (R : Rows) (k : List ℕ) → row_under old k ≡ None → row_under new k ≡ None → written (turned old new) R k ≡ R k
+turned_leaves : (old new : Listed) (R : Rows) (k : List ℕ) → row_under old k ≡ None → row_under new k ≡ None → written (turned old new) R k ≡ R k
 turned_leaves old new R k h g =
     ap (λ (S : Rows). S k) (fold-append changed R (gone new old) (fresh old new)) ∙ fresh-keeps old new (written (gone new old) R) k g ∙ gone_leaves new old R k h
 

@@ -21,12 +21,12 @@ use Rattle.mega_laws.proofs.RowKeys.{Standing, Behind, key_spelt, both}
 
 -- ---- members of lists
 
-pub in_append : {X : Type 0} (x : X) (xs ys : List X) → In x (xs ++ ys) → In x xs ⊎ In x ys
+in_append : {X : Type 0} (x : X) (xs ys : List X) → In x (xs ++ ys) → In x xs ⊎ In x ys
 in_append x [] ys i = inr i
 in_append x (z ∷ xs) ys (inl same) = inl (inl same)
 in_append x (z ∷ xs) ys (inr i) = elim (in_append x xs ys i) [ inl j ↦ inl (inr j) | inr j ↦ inr j ]
 
-pub in_map : {X Y : Type 0} (f : X → Y) (xs : List X) (y : Y) → In y (map f xs) → (x : X) × In x xs × (y ≡ f x)
+in_map : {X Y : Type 0} (f : X → Y) (xs : List X) (y : Y) → In y (map f xs) → (x : X) × In x xs × (y ≡ f x)
 in_map f [] y i = absurd i
 in_map f (x ∷ xs) y (inl same) = (x, inl refl, sym same)
 in_map f (x ∷ xs) y (inr i) = let r = in_map f xs y i in (r.0, inr r.1, r.2)
@@ -74,10 +74,10 @@ value_kind ps low (c ∷ cs) n v h i = by (c.property == n) refl (value_kind ps 
     by true is more j = cell_kind ps n c.values v (ap (λ m. cell_fits (numbered ps m) c.values) (sym (eqb-true c.property n is)) ∙ parts.0) j
     by false is more j = more parts.1 j
 
-pub fits_properties : (s : Schema) (n : ℕ) (t : Table) (row : Row) → row_fits s n t row ≡ true → properties_fit t row ≡ true
+fits_properties : (s : Schema) (n : ℕ) (t : Table) (row : Row) → row_fits s n t row ≡ true → properties_fit t row ≡ true
 fits_properties s n t row h = (both (properties_fit t row) _ (both (has_place s n t row) _ h).0).0
 
-pub row_kind : (s : Schema) (n : ℕ) (t : Table) (row : Row) (m : ℕ) (v : Value) → row_fits s n t row ≡ true → In v (values_of row m) → OfKind t.properties m v
+row_kind : (s : Schema) (n : ℕ) (t : Table) (row : Row) (m : ℕ) (v : Value) → row_fits s n t row ≡ true → In v (values_of row m) → OfKind t.properties m v
 row_kind s n t row m v h i = value_kind t.properties 0 row.cells m v (both (cells_fit t.properties 0 row.cells) _ (fits_properties s n t row h)).0 i
 
 -- ---- choices of values

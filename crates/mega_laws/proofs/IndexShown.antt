@@ -90,7 +90,7 @@ heads_split true ks vs ws xs ys h g e = (values_split vs ws xs ys (same_kinds ks
 heads_split false ks vs ws xs ys h g e = (values_split vs ws xs ys (same_kinds ks vs ws h g) e).1
 
 -- two tables in which a row stands under one key are one
-pub one_table : (s : Schema) → IsDeclared s → (m n : ℕ) (u t : Table) (key : List ℕ) (row : Row) → numbered s.tables m ≡ Some u → numbered s.tables n ≡ Some t → Standing s m u key row → Standing s n t key row → m ≡ n
+one_table : (s : Schema) → IsDeclared s → (m n : ℕ) (u t : Table) (key : List ℕ) (row : Row) → numbered s.tables m ≡ Some u → numbered s.tables n ≡ Some t → Standing s m u key row → Standing s n t key row → m ≡ n
 one_table s d m n u t key row a b st sd =
     elim (spaces_same s d m n u t a b space) [ inl same ↦ same | inr both ↦ rooted both.0 both.1 ]
   where

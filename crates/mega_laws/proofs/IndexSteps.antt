@@ -38,7 +38,7 @@ pub bind_turn : {A B : Type 0} (r : Result A Turn) (f : A → Result B Turn) (y 
 bind_turn (Ok x) f y h = (x, refl, h)
 bind_turn (Err e) f y h = absurd (cc)
 
-pub guarded : {A : Type 0} (b : Bool) (x y : A) (e : Turn) → cond b (Ok x) (Err e) ≡ Ok y → (b ≡ true) × (x ≡ y)
+guarded : {A : Type 0} (b : Bool) (x y : A) (e : Turn) → cond b (Ok x) (Err e) ≡ Ok y → (b ≡ true) × (x ≡ y)
 guarded true x y e h = (refl, cc)
 guarded false x y e h = absurd (cc)
 
@@ -193,7 +193,7 @@ module _ (s : Schema) (most : length s.tables ≤ 64) (group : List ℕ) where
           tested true true number free e = absurd (cc)
           tested false l number free e = absurd (cc)
 
-  pub change_kept : (rows : Rows) → Kept s group rows → (i : ℕ) (c : Change) (writes : List Write) → PutsValues c → change s group rows i c ≡ Ok writes → Kept s group (written writes rows)
+  change_kept : (rows : Rows) → Kept s group rows → (i : ℕ) (c : Change) (writes : List Write) → PutsValues c → change s group rows i c ≡ Ok writes → Kept s group (written writes rows)
   change_kept rows kept i (Put n row) writes held h = put_kept rows kept i n row writes held h
   change_kept rows kept i (Delete row) writes held h = delete_kept rows kept i row writes h
   change_kept rows kept i (Add row property sum) writes held h = add_kept rows kept i row property sum writes h

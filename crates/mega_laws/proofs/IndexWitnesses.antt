@@ -1,5 +1,5 @@
 -- Rows that are indexed, and rows that are not.
-use Rattle.std.proofs.Common.{◌≡◌, inl, inr, ◌<◌, ◌∙◌, ℕ, zero, suc, ◌+◌, cond, Bool, true, false, ◌++◌, if◌then◌else◌, List, [], ◌∷◌, slice_get, codes, refl, sym, ap, subst, arith, Option, Some, None, Ok}
+use Rattle.std.proofs.Common.{◌≡◌, inl, inr, ◌<◌, ◌∙◌, ℕ, zero, suc, ◌+◌, cond, Bool, true, false, if◌then◌else◌, List, [], ◌∷◌, slice_get, codes, refl, sym, ap, subst, arith, Option, Some, None, Ok}
 use Rattle.std.proofs.lemmas.Str.{IsUtf8-from_is_utf8}
 use Rattle.mega_base.specs.declared.names.OpId.{OpId}
 use Rattle.mega_base.specs.declared.values.Row.{Row}

@@ -35,7 +35,7 @@ same_or_not a b = by (same_key a b) refl
 pub not_key : (a b : List ℕ) → (a ≡ b → ⊥) → same_key a b ≡ false
 not_key a b h = elim (same_or_not a b) [ inl is ↦ absurd (h is) | inr is ↦ is ]
 
-pub same_turned : (a b : List ℕ) → same_key a b ≡ same_key b a
+same_turned : (a b : List ℕ) → same_key a b ≡ same_key b a
 same_turned a b = elim (same_or_not a b) [
   | inl is ↦ ap (λ x. same_key x b) is ∙ ap (λ x. same_key b x) (sym is)
   | inr is ↦ is ∙ sym (not_key b a (λ same. key_apart a b is (sym same)))
@@ -58,7 +58,7 @@ swapped true true x y z h = absurd (h refl refl)
 swapped true false x y z h = refl
 swapped false b x y z h = refl
 
-pub under-insert : {A : Type 0} (es : List (List ℕ × A)) (q : List ℕ) (v : A) (k : List ℕ) → under (insert_entry key_cmp es q v) k ≡ cond (same_key k q) (Some v) (under es k)
+under-insert : {A : Type 0} (es : List (List ℕ × A)) (q : List ℕ) (v : A) (k : List ℕ) → under (insert_entry key_cmp es q v) k ≡ cond (same_key k q) (Some v) (under es k)
 under-insert [] q v k = refl
 under-insert (e ∷ es) q v k = by (key_cmp q e.0) refl (under-insert es q v k)
   where
@@ -95,7 +95,7 @@ insert-below k q v (e ∷ es) h below =
     elim (key_cmp q e.0) as (λ o. Below k (match_ordering o ((q, v) ∷ e ∷ es) ((e.0, v) ∷ es) (e ∷ insert_entry key_cmp es q v)))
     [ Less ↦ (h, below) | Equal ↦ below | Greater ↦ (below.0, insert-below k q v es h below.1) ]
 
-pub insert-ascends : {A : Type 0} (q : List ℕ) (v : A) (es : List (List ℕ × A)) → Ascends es → Ascends (insert_entry key_cmp es q v)
+insert-ascends : {A : Type 0} (q : List ℕ) (v : A) (es : List (List ℕ × A)) → Ascends es → Ascends (insert_entry key_cmp es q v)
 insert-ascends q v [] up = (tt, tt)
 insert-ascends q v (e ∷ es) up = by (key_cmp q e.0) refl (insert-ascends q v es up.1)
   where
@@ -108,7 +108,7 @@ remove-below : {A : Type 0} (test : List ℕ → Bool) (k : List ℕ) (es : List
 remove-below test k [] below = tt
 remove-below test k (e ∷ es) below = elim (test e.0) as (λ b. Below k (cond b es (e ∷ remove_entry test es))) [ true ↦ below.1 | false ↦ (below.0, remove-below test k es below.1) ]
 
-pub remove-ascends : {A : Type 0} (test : List ℕ → Bool) (es : List (List ℕ × A)) → Ascends es → Ascends (remove_entry test es)
+remove-ascends : {A : Type 0} (test : List ℕ → Bool) (es : List (List ℕ × A)) → Ascends es → Ascends (remove_entry test es)
 remove-ascends test [] up = tt
 remove-ascends test (e ∷ es) up = elim (test e.0) as (λ b. Ascends (cond b es (e ∷ remove_entry test es))) [ true ↦ up.1 | false ↦ (remove-below test e.0 es up.0, remove-ascends test es up.1) ]
 
@@ -120,7 +120,7 @@ either_none : {A : Type 0} (b : Bool) → ◌≡◌ {A = Option A} None (cond b 
 either_none true = refl
 either_none false = refl
 
-pub under-remove : {A : Type 0} (es : List (List ℕ × A)) (q k : List ℕ) → Ascends es → under (remove_entry (λ other. same_key q other) es) k ≡ cond (same_key q k) None (under es k)
+under-remove : {A : Type 0} (es : List (List ℕ × A)) (q k : List ℕ) → Ascends es → under (remove_entry (λ other. same_key q other) es) k ≡ cond (same_key q k) None (under es k)
 under-remove [] q k up = either_none (same_key q k)
 under-remove (e ∷ es) q k up = by (same_key q e.0) refl (under-remove es q k up.1)
   where
@@ -161,11 +161,11 @@ changed-ascends listed write up = by write.row
     by None = remove-ascends (λ other. same_key write.key other) listed up
     by (Some row) = insert-ascends write.key row listed up
 
-pub written-ascends : (writes : List Write) (listed : Listed) → Ascends listed → Ascends (list_written writes listed)
+written-ascends : (writes : List Write) (listed : Listed) → Ascends listed → Ascends (list_written writes listed)
 written-ascends [] listed up = up
 written-ascends (write ∷ writes) listed up = written-ascends writes (list_changed listed write) (changed-ascends listed write up)
 
-pub written_is : (writes : List Write) (listed : Listed) → Ascends listed → row_under (list_written writes listed) ≡ written writes (row_under listed)
+written_is : (writes : List Write) (listed : Listed) → Ascends listed → row_under (list_written writes listed) ≡ written writes (row_under listed)
 written_is [] listed up = refl
 written_is (write ∷ writes) listed up =
     written_is writes (list_changed listed write) (changed-ascends listed write up) ∙ ap (written writes) (λ i k. changed_is listed write k up i)

@@ -119,11 +119,11 @@ front_behind shape key vs left h =
     }
 
 -- what was read of a key, and of which bytes
-pub record Read_key (shape : Shape) (key : List ℕ) (vs : List Value) : Type 0 where
+pub record ReadFront (shape : Shape) (key : List ℕ) (vs : List Value) : Type 0 where
   pub left : List ℕ
   pub read : key_front_at shape key ≡ Ok (vs, left)
 
-read_front : (shape : Shape) (key : List ℕ) (vs : List Value) → read_key_of shape key ≡ Ok vs → Read_key shape key vs
+read_front : (shape : Shape) (key : List ℕ) (vs : List Value) → read_key_of shape key ≡ Ok vs → ReadFront shape key vs
 unfolding key_at
 read_front shape key vs h =
     let a = answer_ok (key_at shape (take 1024 key)) h in
@@ -144,7 +144,7 @@ read_front shape key vs h =
         by false e f = (let same : ws ≡ vs = cc in ap Ok same, ltb-false 1024 (length key) e)
     answer_ok (Err n) g = absurd (cc)
 
-pub read_behind : (shape : Shape) (key : List ℕ) (vs : List Value) (group : List ℕ) → read_key_of shape key ≡ Ok vs → group_key_of shape (root_part shape vs) ≡ Ok group → Behind group key shape.table
+read_behind : (shape : Shape) (key : List ℕ) (vs : List Value) (group : List ℕ) → read_key_of shape key ≡ Ok vs → group_key_of shape (root_part shape vs) ≡ Ok group → Behind group key shape.table
 read_behind shape key vs group h g =
     let r = read_front shape key vs h in
     subst (λ x. Behind x key shape.table) (sym (group_spelt shape (root_part shape vs) group g).is) (front_behind shape key vs r.left r.read)
@@ -164,7 +164,7 @@ of_front [] ls vs h = tt
 of_front (k ∷ ks) ls [] h = absurd h
 of_front (k ∷ ks) ls (v ∷ vs) h = (h.0, of_front ks ls vs h.1)
 
-pub read_group : (shape : Shape) (vs ws : List Value) (key group : List ℕ) → row_key_of shape vs ≡ Ok key → read_key_of shape key ≡ Ok ws → group_key_of shape (root_part shape ws) ≡ Ok group
+read_group : (shape : Shape) (vs ws : List Value) (key group : List ℕ) → row_key_of shape vs ≡ Ok key → read_key_of shape key ≡ Ok ws → group_key_of shape (root_part shape ws) ≡ Ok group
     → group_bytes shape (root_part shape vs) ≡ group
 unfolding key_front_at
 read_group shape vs ws key group spelled read is =
@@ -337,7 +337,7 @@ put_key s n t group key values held own of_group = record {
 }
 
 -- the group of a row that stands under a row key of the group is the group
-pub standing_group : (s : Schema) (n : ℕ) (t : Table) (group key : List ℕ) (row : Row) → Standing s n t key row → IsKeyOf s n t group key
+standing_group : (s : Schema) (n : ℕ) (t : Table) (group key : List ℕ) (row : Row) → Standing s n t key row → IsKeyOf s n t group key
     → group_bytes (shape_of s n t) (root_part (shape_of s n t) (key_values t.primary row)) ≡ group
 standing_group s n t group key row st is = read_group (shape_of s n t) (key_values t.primary row) is.values key group st.own is.read is.group_is
 
@@ -360,7 +360,7 @@ spells ks vs bytes h short =
     ∙ ap (λ b. unless_fault (cond b (Err (Missing (length vs))) (Ok tt)) bytes) (le-ltb (length vs) (length ks) (let long = of_length ks vs h in omega (arith, long)))
     ∙ ap (λ b. cond b (Err (TooLong (length bytes))) (Ok bytes)) (le-ltb 1024 (length bytes) short)
 
-pub standing_group_of : (s : Schema) (n : ℕ) (t : Table) (group key : List ℕ) (row : Row) → Standing s n t key row → IsKeyOf s n t group key → group_of s n t (key_values t.primary row) ≡ Ok group
+standing_group_of : (s : Schema) (n : ℕ) (t : Table) (group key : List ℕ) (row : Row) → Standing s n t key row → IsKeyOf s n t group key → group_of s n t (key_values t.primary row) ≡ Ok group
 standing_group_of s n t group key row st is =
     let shape = shape_of s n t in
     let vs = key_values t.primary row in

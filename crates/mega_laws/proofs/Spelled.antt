@@ -9,7 +9,7 @@ use Rattle.mega_base.specs.declared.values.Value.TheVariants.{Int32, Int64, Bool
 use Rattle.mega_base.specs.declared.values.Kind.{Kind}
 use Rattle.mega_base.specs.declared.values.Kind.TheVariants as kinds
 use Rattle.mega_base.specs.declared.values.Shape.{Shape}
-use Rattle.mega_keys.specs.Spelling.{raised, escaped, spell, plain, spell_all, scattered, scatter_of, head_bytes, root_part, rest_part, row_bytes, group_bytes}
+use Rattle.mega_keys.specs.Spelling.{raised, escaped, spell, plain, spell_all, scattered, scatter_of, head_bytes, root_part, rest_part, row_bytes}
 use Rattle.mega_keys.specs.Fit.{has_kind}
 use Rattle.mega_keys.specs.Reading.{Read, ◌>>=◌, number_at, lowered, int32_at, int64_at, truth_at, unescaped, raw_at, text_of, text_at, value_at, values_at}
 use Rattle.mega_keys.proofs.Again.{unescaped_again}
@@ -58,7 +58,7 @@ fronts a b xs ys long h = (
 texts_split : (s t xs ys : List ℕ) → escaped s ++ xs ≡ escaped t ++ ys → (s ≡ t) × (xs ≡ ys)
 texts_split s t xs ys h = ok_parts (sym (unescaped_again s xs) ∙ ap unescaped h ∙ unescaped_again t ys)
 
-pub value_split : (k : Kind) (v w : Value) (xs ys : List ℕ) → has_kind k v ≡ true → has_kind k w ≡ true → spell v ++ xs ≡ spell w ++ ys → AlikeOne v w × (xs ≡ ys)
+value_split : (k : Kind) (v w : Value) (xs ys : List ℕ) → has_kind k v ≡ true → has_kind k w ≡ true → spell v ++ xs ≡ spell w ++ ys → AlikeOne v w × (xs ≡ ys)
 value_split kinds.Int32 (Int32 a) (Int32 b) xs ys h g e = let s = fronts (spell (Int32 a)) (spell (Int32 b)) xs ys refl e in ((s.0, s.0), s.1)
 value_split kinds.Int64 (Int64 a) (Int64 b) xs ys h g e = let s = fronts (spell (Int64 a)) (spell (Int64 b)) xs ys refl e in ((s.0, s.0), s.1)
 value_split kinds.Bool (Truth a) (Truth b) xs ys h g e = let s = fronts (spell (Truth a)) (spell (Truth b)) xs ys refl e in ((s.0, s.0), s.1)
@@ -77,7 +77,7 @@ values_split (v ∷ vs) (w ∷ ws) xs ys h e =
 
 -- ---- what is alike gives the same keys
 
-pub alike_spelled : (vs ws : List Value) → Alike vs ws → spell_all vs ≡ spell_all ws
+alike_spelled : (vs ws : List Value) → Alike vs ws → spell_all vs ≡ spell_all ws
 alike_spelled [] [] h = refl
 alike_spelled [] (w ∷ ws) h = absurd h
 alike_spelled (v ∷ vs) [] h = absurd h
@@ -103,16 +103,13 @@ alike_drop (suc n) [] (w ∷ ws) h = absurd h
 alike_drop (suc n) (v ∷ vs) [] h = absurd h
 alike_drop (suc n) (v ∷ vs) (w ∷ ws) h = alike_drop n vs ws h.1
 
-pub alike_scatters : (s : Bool) (vs ws : List Value) → Alike vs ws → scatter_of s vs ≡ scatter_of s ws
+alike_scatters : (s : Bool) (vs ws : List Value) → Alike vs ws → scatter_of s vs ≡ scatter_of s ws
 unfolding scattered
 alike_scatters true vs ws h = rw (alike_plain vs ws h) refl
 alike_scatters false vs ws h = refl
 
 pub alike_head : (first : ℕ) (s : Bool) (vs ws : List Value) → Alike vs ws → head_bytes first s vs ≡ head_bytes first s ws
 alike_head first s vs ws h = let a = alike_scatters s vs ws h in let b = alike_spelled vs ws h in (λ i. first ∷ (a i ++ b i))
-
-pub alike_group : (shape : Shape) (vs ws : List Value) → Alike vs ws → group_bytes shape (root_part shape vs) ≡ group_bytes shape (root_part shape ws)
-alike_group shape vs ws h = alike_head shape.root shape.scatter (root_part shape vs) (root_part shape ws) (alike_take (length shape.root_kinds) vs ws h)
 
 pub alike_rows : (shape : Shape) (vs ws : List Value) → Alike vs ws → row_bytes shape vs ≡ row_bytes shape ws
 alike_rows shape vs ws h =
@@ -152,7 +149,7 @@ pub record Reread (v w : Value) (rest left : List ℕ) : Type 0 where
   pub alike : AlikeOne v w
   pub left_is : left ≡ rest
 
-pub value_reread : (k : Kind) (v w : Value) (rest left : List ℕ) → has_kind k v ≡ true → value_at k (spell v ++ rest) ≡ Ok (w, left) → Reread v w rest left
+value_reread : (k : Kind) (v w : Value) (rest left : List ℕ) → has_kind k v ≡ true → value_at k (spell v ++ rest) ≡ Ok (w, left) → Reread v w rest left
 unfolding int32_at int64_at truth_at raw_at text_at text_of
 value_reread kinds.Int32 (Int32 z) w rest left h e =
     let n = raised (2 ^ 31) z in
@@ -230,7 +227,7 @@ truth_passes true c byte bytes v left h = let parts = ok_parts h in rw (← part
 truth_passes false true byte bytes v left h = let parts = ok_parts h in rw (← parts.0) (record { front = byte ∷ []; is = ap (λ x. byte ∷ x) parts.1; length_is = refl })
 truth_passes false false byte bytes v left h = absurd (cc)
 
-pub value_passes : (k : Kind) (bytes : List ℕ) (v : Value) (left : List ℕ) → value_at k bytes ≡ Ok (v, left) → Passed bytes (length (spell v)) left
+value_passes : (k : Kind) (bytes : List ℕ) (v : Value) (left : List ℕ) → value_at k bytes ≡ Ok (v, left) → Passed bytes (length (spell v)) left
 unfolding int32_at int64_at truth_at raw_at text_at text_of
 value_passes kinds.Int32 bytes v left h =
     let b = bind_ok (number_at w32 bytes) (λ n. Ok (Int32 (lowered (2 ^ 31) n.0), n.1)) (v, left) h in
