@@ -21,3 +21,16 @@ pub mod Sending
 pub mod Rivals
 pub mod Polled
 pub mod Polling
+pub mod Placed
+pub mod Spelled
+pub mod RowKeys
+pub mod IndexKeys
+pub mod IndexEntries
+pub mod IndexKept
+pub mod IndexShown
+pub mod IndexAdd
+pub mod IndexSteps
+pub mod IndexLogs
+pub mod Declared
+pub mod DeclaredClusters
+pub mod IndexWitnesses

@@ -3,6 +3,8 @@ pub mod Lawful
 pub mod Chosen
 pub mod Settled
 pub mod Writes
+pub mod Indexed
 pub mod Answers
 pub mod Polls
 pub mod Examples
+pub mod IndexExamples

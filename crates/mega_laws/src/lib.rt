@@ -5,6 +5,7 @@
 
 pub mod answers;
 pub mod examples;
+pub mod indexes;
 pub mod laws;
 pub mod reads;
 pub mod writes;
