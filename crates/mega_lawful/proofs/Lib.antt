@@ -25,3 +25,4 @@ pub mod Whole
 pub mod Ticking
 pub mod Steps
 pub mod Runs
+pub mod Indexing

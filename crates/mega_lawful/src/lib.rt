@@ -3,4 +3,5 @@
 #![tactic(auto)]
 
 pub mod examples;
+pub mod indexes;
 pub mod laws;
