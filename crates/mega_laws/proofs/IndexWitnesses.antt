@@ -134,13 +134,13 @@ proposed : OwnEntry named_users asks_put (Begin (op_of 1) [] ∷ []) (op_of 1) g
 proposed = runs transaction (record { replies = []; writes = put_writes; sends = [] }) refl refl comes refl
 
 first_own : Own named_users asks_put (Begin (op_of 1) [] ∷ []) 1 (op_of 1) place named_entry
-first_own = record { below = []; reaches = refl; known = λ k d is. absurd (nothing is); entry = proposed; home = λ q b other i. absurd i }
+first_own = record { named = omega arith; below = []; reaches = refl; known = λ k d is. absurd (nothing is); entry = proposed; home = λ q b other i. absurd i }
   where
     nothing : {d : Content} → None ≡ Some d → ⊥
     nothing h = cc
 
 written : AreWritten named_users asks_put (newest named_put)
-written = (tt, (tt, (tt, (tt, (again (op_of 1) zero_ballot (inl refl), (tt, (tt, (tt, (own first_own, (refl, tt))))))))))
+written = (tt, (tt, (tt, (tt, (again (op_of 1) zero_ballot (inl refl), (tt, (tt, (tt, (own first_own, ((λ named. refl), tt))))))))))
 
 pub named_writes : LawfulWrites named_cluster asks_put (newest named_put)
 named_writes = record { lawful = lawful; written = written }
