@@ -1,6 +1,6 @@
 -- What is found is what the wanted rows add.
 use Rattle.std.proofs.Common.{◌≡◌, ◌∙◌, ap, sym, refl, ℕ, zero, suc, ◌+◌, ◌-◌, ◌≤◌, ◌<◌, Bool, true, false, cond, List, [], ◌∷◌, ◌++◌, ◌&&◌, ◌||◌, length, arith, append-nil}
-use Rattle.std.specs.Prelude.{Option, Some, None, filter, flat_map, map, fold, nat_eq, nat_le, nat_lt, slice_get, if◌then◌else◌, ◌==◌}
+use Rattle.std.specs.Prelude.{Option, Some, None, Result, Ok, Err, filter, flat_map, map, fold, nat_eq, nat_le, nat_lt, slice_get, if◌then◌else◌, ◌==◌}
 use Rattle.std.specs.declared.cmp.Ordering.{Ordering}
 use Rattle.std.specs.declared.cmp.Ordering.TheVariants.{Less, Equal, Greater}
 use Rattle.std.specs.Ordering.{match_ordering}
@@ -18,7 +18,8 @@ use Rattle.mega_index.specs.Rows.{Listed, key_cmp, same_key}
 use Rattle.mega_index.specs.Cells.{key_values}
 use Rattle.mega_index.specs.Fits.{numbered, index_keys, entry_keys, indexes_of, group_bytes_of, stands_in}
 use Rattle.mega_index.specs.Entries.{placed, found_of, with_row_under, index_of}
-use Rattle.mega_index.specs.Finding.{begun_by, front_of}
+use Rattle.mega_index.specs.Finding.{begun_by, found_in, front_of, indexed_kinds, unless_misplaced}
+use Rattle.mega_keys.specs.Fit.{misplaced}
 use Rattle.mega_index.specs.Keeping.{values_in}
 use Rattle.mega_keys.specs.Spelling.{spell_all, index_bytes}
 use Rattle.std.proofs.lemmas.Bool.Decides.{nat_tests}
@@ -287,3 +288,18 @@ front_global n x values global = by x.global ∙ ap (λ bytes. (127 + n) ∷ byt
     by : (b : Bool) → (if b then [] else []) ++ (127 + n) ∷ spell_all values ≡ (127 + n) ∷ spell_all values
     by true = refl
     by false = refl
+
+not_short : (front : List ℕ) → (if nat_le (length front) 1024 then Some front else None) ≡ None → nat_le (length front) 1024 ≡ false
+not_short front h = by_test (nat_le (length front) 1024) _
+    (λ yes. absurd (differ (sym (ap (λ b. if b then Some front else None) yes) ∙ h)))
+    (λ long. long)
+  where
+    differ : Some front ≡ None → ⊥
+    differ e = cc
+
+pub long_found : (s : Schema) (n : ℕ) (x : Index) (values : List Value) (rows : Listed) → x.global ≡ true → misplaced (indexed_kinds s x) values 0 ≡ None
+    → (if nat_le (length (index_bytes n [] values [])) 1024 then Some (index_bytes n [] values []) else None) ≡ None → found_in s n x [] values rows ≡ Ok []
+long_found s n x values rows global none long =
+    ap (λ o. unless_misplaced o (begun_by (front_of n x [] values) (index_of s n x rows))) none
+    ∙ ap Ok (ap (λ f. begun_by f (index_of s n x rows)) (front_global n x values global)
+        ∙ long_finds (index_bytes n [] values []) s n x rows (not_short (index_bytes n [] values []) long))

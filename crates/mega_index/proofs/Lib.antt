@@ -10,3 +10,4 @@ pub mod Wanting
 pub mod Joined
 pub mod Fronted
 pub mod Marking
+pub mod Kept
