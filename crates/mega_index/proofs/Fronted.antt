@@ -63,11 +63,11 @@ filter-insert front (e ∷ es) k v up =
         ap (λ b. cond b ((e.0, v) ∷ filter (in_front front) es) (filter (in_front front) es)) is
         ∙ sym (step_in (filter (in_front front) es) equal)
         ∙ sym (ap (λ b. cond b (insert_entry key_cmp (filter (in_front front) (e ∷ es)) k v) (filter (in_front front) (e ∷ es))) (ap (begins front) (equal_keys k e.0 equal) ∙ is)
-            ∙ ap (λ b. insert_entry key_cmp (cond b (e ∷ filter (in_front front) es) (filter (in_front front) es)) k v) is)
+        ∙ ap (λ b. insert_entry key_cmp (cond b (e ∷ filter (in_front front) es) (filter (in_front front) es)) k v) is)
     here equal false is =
         ap (λ b. cond b ((e.0, v) ∷ filter (in_front front) es) (filter (in_front front) es)) is
         ∙ sym (ap (λ b. cond b (insert_entry key_cmp (filter (in_front front) (e ∷ es)) k v) (filter (in_front front) (e ∷ es))) (ap (begins front) (equal_keys k e.0 equal) ∙ is)
-            ∙ ap (λ b. cond b (e ∷ filter (in_front front) es) (filter (in_front front) es)) is)
+        ∙ ap (λ b. cond b (e ∷ filter (in_front front) es) (filter (in_front front) es)) is)
 
     swap : (c : Bool) → e ∷ cond c (insert_entry key_cmp (filter (in_front front) es) k v) (filter (in_front front) es)
         ≡ cond c (e ∷ insert_entry key_cmp (filter (in_front front) es) k v) (e ∷ filter (in_front front) es)
@@ -164,13 +164,13 @@ one_index : (p : List ℕ → Bool) (s : Schema) (xs : List Index) (m i : ℕ) (
 one_index p s [] m i x k row there global all = cc
 one_index p s (y ∷ ys) m zero x k row there global all =
     let parts : (list_all p (global_keys_of s m y k row) ≡ true) × (list_all p (global_keys_in s (m + 1) ys k row) ≡ true) =
-        both_true (list_all p (global_keys_of s m y k row)) (list_all p (global_keys_in s (m + 1) ys k row)) (sym (list_all-append p (global_keys_of s m y k row) (global_keys_in s (m + 1) ys k row)) ∙ all) in
+    both_true (list_all p (global_keys_of s m y k row)) (list_all p (global_keys_in s (m + 1) ys k row)) (sym (list_all-append p (global_keys_of s m y k row) (global_keys_in s (m + 1) ys k row)) ∙ all) in
     let same : y ≡ x = cc in
     let count : m + zero ≡ m = omega arith in
     ap (λ n. list_all p (row_keys s n x k row)) count ∙ here_index p s m x k row x.global global (ap (λ (y : Index). list_all p (global_keys_of s m y k row)) (sym same) ∙ parts.0)
 one_index p s (y ∷ ys) m (suc i) x k row there global all =
     let parts : (list_all p (global_keys_of s m y k row) ≡ true) × (list_all p (global_keys_in s (m + 1) ys k row) ≡ true) =
-        both_true (list_all p (global_keys_of s m y k row)) (list_all p (global_keys_in s (m + 1) ys k row)) (sym (list_all-append p (global_keys_of s m y k row) (global_keys_in s (m + 1) ys k row)) ∙ all) in
+    both_true (list_all p (global_keys_of s m y k row)) (list_all p (global_keys_in s (m + 1) ys k row)) (sym (list_all-append p (global_keys_of s m y k row) (global_keys_in s (m + 1) ys k row)) ∙ all) in
     let count : m + suc i ≡ (m + 1) + i = omega arith in
     ap (λ n. list_all p (row_keys s n x k row)) count ∙ one_index p s ys (m + 1) i x k row there global parts.1
 
@@ -216,10 +216,10 @@ group_adds front s n x hints wanted g (e ∷ rows) es there global covered hinte
     let parts : (row_is_hinted s hints g e ≡ true) × (rows_are_hinted s hints g rows ≡ true) = both_true (row_is_hinted s hints g e) (rows_are_hinted s hints g rows) hinted in
     by_test (is_wanted wanted g e.0) _
     (λ yes. ap (λ b. with_fronts front s n x es (cond b (e ∷ filter (λ (e : List ℕ × Row). is_wanted wanted g e.0) rows) (filter (λ (e : List ℕ × Row). is_wanted wanted g e.0) rows))) yes
-        ∙ group_adds front s n x hints wanted g rows (with_front front s n x es e) there global covered parts.1)
+    ∙ group_adds front s n x hints wanted g rows (with_front front s n x es e) there global covered parts.1)
     (λ no_. ap (λ b. with_fronts front s n x es (cond b (e ∷ filter (λ (e : List ℕ × Row). is_wanted wanted g e.0) rows) (filter (λ (e : List ℕ × Row). is_wanted wanted g e.0) rows))) no_
-        ∙ group_adds front s n x hints wanted g rows es there global covered parts.1
-        ∙ ap (λ es. with_fronts front s n x es rows) (sym (adds_nothing front s n x hints wanted g e es there global covered parts.0 no_)))
+    ∙ group_adds front s n x hints wanted g rows es there global covered parts.1
+    ∙ ap (λ es. with_fronts front s n x es rows) (sym (adds_nothing front s n x hints wanted g e es there global covered parts.0 no_)))
 
 fronts-append : (front : List ℕ) (s : Schema) (n : ℕ) (x : Index) (es : Es) (a b : Listed) → with_fronts front s n x es (a ++ b) ≡ with_fronts front s n x (with_fronts front s n x es a) b
 fronts-append front s n x es [] b = refl
@@ -257,9 +257,9 @@ long_none front [] long = refl
 long_none front (k ∷ keys) long =
     by_test (nat_le (length k) 1024) _
     (λ short. ap (λ b. filter (begins front) (cond b (k ∷ filter (λ k. nat_le (length k) 1024) keys) (filter (λ k. nat_le (length k) 1024) keys))) short
-        ∙ by_test (begins front k) _
-        (λ begin. absurd (too_long (length front) (length k) (as_long front k begin) short long))
-        (λ other. ap (λ b. cond b (k ∷ filter (begins front) (filter (λ k. nat_le (length k) 1024) keys)) (filter (begins front) (filter (λ k. nat_le (length k) 1024) keys))) other ∙ long_none front keys long))
+    ∙ by_test (begins front k) _
+    (λ begin. absurd (too_long (length front) (length k) (as_long front k begin) short long))
+    (λ other. ap (λ b. cond b (k ∷ filter (begins front) (filter (λ k. nat_le (length k) 1024) keys)) (filter (begins front) (filter (λ k. nat_le (length k) 1024) keys))) other ∙ long_none front keys long))
     (λ tall. ap (λ b. filter (begins front) (cond b (k ∷ filter (λ k. nat_le (length k) 1024) keys) (filter (λ k. nat_le (length k) 1024) keys))) tall ∙ long_none front keys long)
   where
     too_long : (f k : ℕ) → f ≤ k → nat_le k 1024 ≡ true → nat_le f 1024 ≡ false → ⊥
@@ -302,4 +302,4 @@ pub long_found : (s : Schema) (n : ℕ) (x : Index) (values : List Value) (rows 
 long_found s n x values rows global none long =
     ap (λ o. unless_misplaced o (begun_by (front_of n x [] values) (index_of s n x rows))) none
     ∙ ap Ok (ap (λ f. begun_by f (index_of s n x rows)) (front_global n x values global)
-        ∙ long_finds (index_bytes n [] values []) s n x rows (not_short (index_bytes n [] values []) long))
+    ∙ long_finds (index_bytes n [] values []) s n x rows (not_short (index_bytes n [] values []) long))

@@ -35,8 +35,8 @@ between (f ∷ fs) (y ∷ ys) (x ∷ xs) h after before =
     by_order (nat_cmp f y) _
     (λ less. absurd (later y x ys xs (nat_later f y x less parts.0) before))
     (λ equal. true_both (nat_eq f y) (begins fs ys) (nat_alike f y equal)
-        (between fs ys xs parts.1 (sym (ap (λ o. is_le (ordering_then o (key_cmp fs ys))) equal) ∙ after)
-        (sym (ap (λ o. ordering_then o (key_cmp ys xs)) (nat_level f y x equal parts.0)) ∙ before)))
+    (between fs ys xs parts.1 (sym (ap (λ o. is_le (ordering_then o (key_cmp fs ys))) equal) ∙ after)
+    (sym (ap (λ o. ordering_then o (key_cmp ys xs)) (nat_level f y x equal parts.0)) ∙ before)))
     (λ greater. absurd (never (sym (ap (λ o. is_le (ordering_then o (key_cmp fs ys))) greater) ∙ after)))
   where
     never : false ≡ true → ⊥

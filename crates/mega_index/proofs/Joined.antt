@@ -53,7 +53,7 @@ module _ {X Y Z : Type 0} (f : List ℕ → X → Y → List Z) where
       ap (λ o. by_some (λ x. f b.0 x b.1) o ++ through_second (a ∷ xs) ys) (below-none b.0 (a ∷ xs) (turn_less a.0 b.0 greater, below-trans b.0 a.0 xs (turn_less a.0 b.0 greater) below))
       ∙ first_on a xs ys below up.1
       ∙ sym (ap (λ o. by_some (f a.0 a.1) (cond (is_eq o) (Some b.1) (lookup (same_key a.0) ys)) ++ through_second xs (b ∷ ys)) greater
-          ∙ ap (λ o. by_some (f a.0 a.1) (lookup (same_key a.0) ys) ++ (by_some (λ x. f b.0 x b.1) o ++ through_second xs ys)) (below-none b.0 xs (below-trans b.0 a.0 xs (turn_less a.0 b.0 greater) below))))
+      ∙ ap (λ o. by_some (f a.0 a.1) (lookup (same_key a.0) ys) ++ (by_some (λ x. f b.0 x b.1) o ++ through_second xs ys)) (below-none b.0 xs (below-trans b.0 a.0 xs (turn_less a.0 b.0 greater) below))))
     where
       at : key_cmp a.0 b.0 ≡ Equal → a.0 ≡ b.0 → through_second (a ∷ xs) (b ∷ ys) ≡ by_some (f a.0 a.1) (lookup (same_key a.0) (b ∷ ys)) ++ through_second xs (b ∷ ys)
       at equal same =
@@ -61,8 +61,8 @@ module _ {X Y Z : Type 0} (f : List ℕ → X → Y → List Z) where
           ap (λ o. by_some (λ x. f b.0 x b.1) (cond (is_eq o) (Some a.1) (lookup (same_key b.0) xs)) ++ through_second (a ∷ xs) ys) back
           ∙ ap (λ rest. f b.0 a.1 b.1 ++ rest) (skip a xs ys (subst-below (sym same) up.0))
           ∙ sym (ap (λ o. by_some (f a.0 a.1) (cond (is_eq o) (Some b.1) (lookup (same_key a.0) ys)) ++ through_second xs (b ∷ ys)) equal
-              ∙ ap (λ k. f k a.1 b.1 ++ through_second xs (b ∷ ys)) same
-              ∙ ap (λ o. f b.0 a.1 b.1 ++ (by_some (λ x. f b.0 x b.1) o ++ through_second xs ys)) (below-none b.0 xs (coe 0 1 (i. Below (same i) xs) below)))
+          ∙ ap (λ k. f k a.1 b.1 ++ through_second xs (b ∷ ys)) same
+          ∙ ap (λ o. f b.0 a.1 b.1 ++ (by_some (λ x. f b.0 x b.1) o ++ through_second xs ys)) (below-none b.0 xs (coe 0 1 (i. Below (same i) xs) below)))
         where
           subst-below : b.0 ≡ a.0 → Below b.0 ys → Below a.0 ys
           subst-below e h = coe 0 1 (i. Below (e i) ys) h

@@ -42,9 +42,9 @@ module _ {X : Type 0} (p : List ℕ × X → Bool) where
       by_order (key_cmp k e.0) _
       (λ h. ap (λ o. list_all p (match_ordering o ((k, v) ∷ e ∷ es) ((e.0, v) ∷ es) (e ∷ insert_entry key_cmp es k v))) h ∙ true_both (p (k, v)) (list_all p (e ∷ es)) one all)
       (λ h. ap (λ o. list_all p (match_ordering o ((k, v) ∷ e ∷ es) ((e.0, v) ∷ es) (e ∷ insert_entry key_cmp es k v))) h
-          ∙ true_both (p (e.0, v)) (list_all p es) (ap (λ k. p (k, v)) (sym (equal_keys k e.0 h)) ∙ one) parts.1)
+      ∙ true_both (p (e.0, v)) (list_all p es) (ap (λ k. p (k, v)) (sym (equal_keys k e.0 h)) ∙ one) parts.1)
       (λ h. ap (λ o. list_all p (match_ordering o ((k, v) ∷ e ∷ es) ((e.0, v) ∷ es) (e ∷ insert_entry key_cmp es k v))) h
-          ∙ true_both (p e) (list_all p (insert_entry key_cmp es k v)) parts.0 (all-insert es k v parts.1 one))
+      ∙ true_both (p e) (list_all p (insert_entry key_cmp es k v)) parts.0 (all-insert es k v parts.1 one))
 
   all-remove : (es : List (List ℕ × X)) (test : List ℕ → Bool) → list_all p es ≡ true → list_all p (remove_entry test es) ≡ true
   all-remove [] test all = refl
@@ -72,7 +72,7 @@ marked-hinted s h (m ∷ marks) g all =
     let parts : (rows_are_hinted s h m.0 m.1.rows ≡ true) × (all_hinted s h marks ≡ true) = both_true (rows_are_hinted s h m.0 m.1.rows) (all_hinted s h marks) all in
     by_test (same_key g m.0) _
     (λ is. ap (λ b. rows_are_hinted s h g (unwrap_or (cond b (Some m.1) (lookup (same_key g) marks)) unmarked).rows) is
-        ∙ ap (λ g. rows_are_hinted s h g m.1.rows) ((same_key-Decides g m.0).0 is) ∙ parts.0)
+    ∙ ap (λ g. rows_are_hinted s h g m.1.rows) ((same_key-Decides g m.0).0 is) ∙ parts.0)
     (λ other. ap (λ b. rows_are_hinted s h g (unwrap_or (cond b (Some m.1) (lookup (same_key g) marks)) unmarked).rows) other ∙ marked-hinted s h marks g parts.1)
 
 pub moved-hinted : (s : Schema) (h : Hints) (marks : Marks) (g : List ℕ) (count : ℕ) (ws : List Write) → all_hinted s h marks ≡ true → writes_are_hinted s h g ws ≡ true

@@ -41,10 +41,10 @@ set-insert [] k v w up there = cc
 set-insert (e ∷ es) k v w up there = by_order (key_cmp k e.0) _
     (λ less. some_none (lookup (same_key k) (e ∷ es)) w there (below-none k (e ∷ es) (less, below-trans k e.0 es less up.0)))
     (λ equal. ap (λ o. cond (is_eq o) ((e.0, v) ∷ es) (e ∷ set_value (same_key k) es v)) equal
-        ∙ sym (ap (λ o. match_ordering o ((k, v) ∷ e ∷ es) ((e.0, v) ∷ es) (e ∷ insert_entry key_cmp es k v)) equal))
+    ∙ sym (ap (λ o. match_ordering o ((k, v) ∷ e ∷ es) ((e.0, v) ∷ es) (e ∷ insert_entry key_cmp es k v)) equal))
     (λ greater. ap (λ o. cond (is_eq o) ((e.0, v) ∷ es) (e ∷ set_value (same_key k) es v)) greater
-        ∙ ap (λ fs. e ∷ fs) (set-insert es k v w up.1 (sym (ap (λ o. cond (is_eq o) (Some e.1) (lookup (same_key k) es)) greater) ∙ there))
-        ∙ sym (ap (λ o. match_ordering o ((k, v) ∷ e ∷ es) ((e.0, v) ∷ es) (e ∷ insert_entry key_cmp es k v)) greater))
+    ∙ ap (λ fs. e ∷ fs) (set-insert es k v w up.1 (sym (ap (λ o. cond (is_eq o) (Some e.1) (lookup (same_key k) es)) greater) ∙ there))
+    ∙ sym (ap (λ o. match_ordering o ((k, v) ∷ e ∷ es) ((e.0, v) ∷ es) (e ∷ insert_entry key_cmp es k v)) greater))
 
 -- a mark that does not move
 pub set-same : (es : Groups) (k : List ℕ) (v w : Held) → lookup (same_key k) es ≡ Some w → marked_of v ≡ marked_of w → marks_in (set_value (same_key k) es v) ≡ marks_in es

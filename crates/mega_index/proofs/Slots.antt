@@ -74,14 +74,14 @@ held-set_some [] k row up there = cc
 held-set_some ((q, None) ∷ es) k row up there = by_order (key_cmp k q) _
     (λ h. no_slot (has_slot ((q, None) ∷ es) k) there (slot_before k (q, None) es up h))
     (λ h. ap held_rows (set_here k (q, None) es (Some row) h)
-        ∙ sym (ap (λ k. insert_entry key_cmp (held_rows es) k row) (equal_keys k q h) ∙ insert-front q row (held_rows es) (below-held q es up.0)))
+    ∙ sym (ap (λ k. insert_entry key_cmp (held_rows es) k row) (equal_keys k q h) ∙ insert-front q row (held_rows es) (below-held q es up.0)))
     (λ h. ap held_rows (set_there k (q, None) es (Some row) h) ∙ held-set_some es k row up.1 (sym (slot_there k (q, None) es h) ∙ there))
 held-set_some ((q, Some old) ∷ es) k row up there = by_order (key_cmp k q) _
     (λ h. no_slot (has_slot ((q, Some old) ∷ es) k) there (slot_before k (q, Some old) es up h))
     (λ h. ap held_rows (set_here k (q, Some old) es (Some row) h) ∙ sym (insert_at (held_rows es) q old row k Equal h))
     (λ h. ap held_rows (set_there k (q, Some old) es (Some row) h)
-        ∙ ap (λ listed. (q, old) ∷ listed) (held-set_some es k row up.1 (sym (slot_there k (q, Some old) es h) ∙ there))
-        ∙ sym (insert_at (held_rows es) q old row k Greater h))
+    ∙ ap (λ listed. (q, old) ∷ listed) (held-set_some es k row up.1 (sym (slot_there k (q, Some old) es h) ∙ there))
+    ∙ sym (insert_at (held_rows es) q old row k Greater h))
 
 -- a key before all of these is not removed
 remove-below : (k : List ℕ) (es : Listed) → Below k es → remove_entry (same_key k) es ≡ es
@@ -95,15 +95,15 @@ held-set_none [] k up there = cc
 held-set_none ((q, None) ∷ es) k up there = by_order (key_cmp k q) _
     (λ h. no_slot (has_slot ((q, None) ∷ es) k) there (slot_before k (q, None) es up h))
     (λ h. ap held_rows (set_here k (q, None) es None h)
-        ∙ sym (ap (λ k. remove_entry (same_key k) (held_rows es)) (equal_keys k q h) ∙ remove-below q (held_rows es) (below-held q es up.0)))
+    ∙ sym (ap (λ k. remove_entry (same_key k) (held_rows es)) (equal_keys k q h) ∙ remove-below q (held_rows es) (below-held q es up.0)))
     (λ h. ap held_rows (set_there k (q, None) es None h) ∙ held-set_none es k up.1 (sym (slot_there k (q, None) es h) ∙ there))
 held-set_none ((q, Some old) ∷ es) k up there = by_order (key_cmp k q) _
     (λ h. no_slot (has_slot ((q, Some old) ∷ es) k) there (slot_before k (q, Some old) es up h))
     (λ h. ap held_rows (set_here k (q, Some old) es None h)
-        ∙ sym (ap (λ o. cond (is_eq o) (held_rows es) ((q, old) ∷ remove_entry (same_key k) (held_rows es))) h))
+    ∙ sym (ap (λ o. cond (is_eq o) (held_rows es) ((q, old) ∷ remove_entry (same_key k) (held_rows es))) h))
     (λ h. ap held_rows (set_there k (q, Some old) es None h)
-        ∙ ap (λ listed. (q, old) ∷ listed) (held-set_none es k up.1 (sym (slot_there k (q, Some old) es h) ∙ there))
-        ∙ sym (ap (λ o. cond (is_eq o) (held_rows es) ((q, old) ∷ remove_entry (same_key k) (held_rows es))) h))
+    ∙ ap (λ listed. (q, old) ∷ listed) (held-set_none es k up.1 (sym (slot_there k (q, Some old) es h) ∙ there))
+    ∙ sym (ap (λ o. cond (is_eq o) (held_rows es) ((q, old) ∷ remove_entry (same_key k) (held_rows es))) h))
 
 insert_slot : (e : List ℕ × Option Row) (es : Slots) (k : List ℕ) (v : Option Row) (o : Ordering) → key_cmp k e.0 ≡ o
     → insert_entry key_cmp (e ∷ es) k v ≡ match_ordering o ((k, v) ∷ e ∷ es) ((e.0, v) ∷ es) (e ∷ insert_entry key_cmp es k v)
@@ -120,7 +120,7 @@ held-insert_none (e ∷ es) k none = by_order (key_cmp k e.0) _
     (λ h. ap held_rows (insert_slot e es k None Less h))
     (λ h. no_slot (has_slot (e ∷ es) k) (ap (λ o. is_eq o || has_slot es k) h) none)
     (λ h. ap held_rows (insert_slot e es k None Greater h)
-        ∙ held_rest e (insert_entry key_cmp es k None) es (held-insert_none es k (sym (slot_there k e es h) ∙ none)))
+    ∙ held_rest e (insert_entry key_cmp es k None) es (held-insert_none es k (sym (slot_there k e es h) ∙ none)))
 
 -- what a set at a place comes to
 pub held-set : (es : Slots) (k : List ℕ) (row : Option Row) → Ascends es → has_slot es k ≡ true

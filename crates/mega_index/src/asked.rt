@@ -19,11 +19,7 @@ fn push_kind(kinds: &mut Vec<Kind>, property: Option<&Property>) -> Result<(), N
     Ok(())
 }
 
-fn kinds_of(
-    alloc: Global,
-    properties: &[Property],
-    numbers: &[u8],
-) -> Result<Vec<Kind>, NoMemory>
+fn kinds_of(alloc: Global, properties: &[Property], numbers: &[u8]) -> Result<Vec<Kind>, NoMemory>
     ensures { IfOk result (λ kinds. kinds.items ≡ flat_map (λ n. kind_of (numbered properties.now n)) numbers.now) }
 {
     let mut kinds = Vec::new(alloc);

@@ -181,14 +181,7 @@ fn add_group(
 {
     match held {
         Some(held) => add_rows(
-            alloc,
-            entries,
-            schema,
-            number,
-            index,
-            front,
-            &held.rows,
-            keys,
+            alloc, entries, schema, number, index, front, &held.rows, keys,
         ),
         None => Ok(()),
     }

@@ -68,13 +68,7 @@ impl GlobalIndex {
             &group.key,
             writes.as_slice(),
         )?;
-        hold(
-            alloc,
-            &mut self.groups,
-            &group.key,
-            entries.len(),
-            writes,
-        )?;
+        hold(alloc, &mut self.groups, &group.key, entries.len(), writes)?;
         Ok(())
     }
 

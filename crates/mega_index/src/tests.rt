@@ -1,6 +1,8 @@
-use crate::{local_writes, row_fits, table_at};
-use mega_base::{Cell, Items, NoMemory, Row, Text, Value};
-use mega_entry::Write;
+use crate::{
+    Found, GlobalIndex, IndexFault, group_of, key_of, key_values, local_writes, row_fits, table_at,
+};
+use mega_base::{Bytes, Cell, Copied, GroupId, Items, NoMemory, NodeId, Row, Text, Value};
+use mega_entry::{Content, Entry, Write};
 use mega_schema::{Schema, parse};
 use std::alloc::Global;
 use std::test::Fail;
@@ -26,9 +28,20 @@ fn add(alloc: Global, cells: &mut Items<Cell>, property: u8, value: Value) -> Re
 
 /// A photo of user 101 with the number 500, taken at this time, with these tags.
 fn photo(alloc: Global, time: i64, tags: &[&str]) -> Result<Row, NoMemory> {
+    photo_of(alloc, 101, 500, time, tags)
+}
+
+/// A photo of this user with this number.
+fn photo_of(
+    alloc: Global,
+    user: i64,
+    number: i32,
+    time: i64,
+    tags: &[&str],
+) -> Result<Row, NoMemory> {
     let mut cells = Items::new(alloc);
-    add(alloc, &mut cells, 1, Value::Int64(101))?;
-    add(alloc, &mut cells, 2, Value::Int32(500))?;
+    add(alloc, &mut cells, 1, Value::Int64(user))?;
+    add(alloc, &mut cells, 2, Value::Int32(number))?;
     add(alloc, &mut cells, 3, Value::Int64(time))?;
     add(
         alloc,
@@ -60,6 +73,119 @@ fn shown(writes: &[Write]) -> [(u8, u8, bool); 4] {
         }
     }
     shown
+}
+
+/// The same schema, with both indexes global.
+fn global_schema(alloc: Global) -> Result<Schema, Fail> {
+    let mut schema = photo_schema(alloc)?;
+    let mut indexes = Items::new(alloc);
+    for index in schema.indexes.as_slice() {
+        let mut global = index.copy(alloc)?;
+        global.global = true;
+        indexes.push(global)?;
+    }
+    schema.indexes = indexes;
+    Ok(schema)
+}
+
+/// An entry that puts these photos of a user's group, and the group.
+fn entry(alloc: Global, schema: &Schema, photos: Vec<Row>) -> Result<(GroupId, Entry), Fail> {
+    let table = table_at(schema, 2).ok_or("no table")?;
+    let mut group = GroupId {
+        key: Bytes::new(alloc),
+    };
+    let mut writes = Items::new(alloc);
+    for row in photos {
+        let values = key_values(alloc, table.primary.as_slice(), &row)?;
+        let key = key_of(alloc, schema, 2, table, values.as_slice())?;
+        group = group_of(alloc, schema, 2, table, values.as_slice())?;
+        writes.push(Write {
+            key,
+            row: Some(row),
+        })?;
+    }
+    let content = Content {
+        id: None,
+        leader: NodeId(1),
+        writes,
+        sends: Items::new(alloc),
+        enters: Items::new(alloc),
+        handles: Items::new(alloc),
+        cuts: Items::new(alloc),
+    };
+    Ok((group, Entry::new(alloc, content)?))
+}
+
+/// The numbers of the photos found.
+fn numbers(found: &[Found]) -> [i32; 3] {
+    let mut numbers = [0; 3];
+    for (slot, one) in numbers.iter_mut().zip(found) {
+        if let [Value::Int64(_), Value::Int32(number)] = one.key.as_slice() {
+            *slot = *number;
+        }
+    }
+    numbers
+}
+
+/// The photos with this tag.
+fn tagged(
+    alloc: Global,
+    index: &GlobalIndex,
+    schema: &Schema,
+    tag: &str,
+) -> Result<[i32; 3], Fail> {
+    let value = Value::Str(Text::from_str(alloc, tag)?);
+    let found = index.find(alloc, schema, 2, &[value])?;
+    Ok(numbers(found.as_slice()))
+}
+
+#[test]
+fn a_find_shows_the_marks(rt: HostRuntime) -> Result<(), Fail> {
+    let alloc = rt.alloc();
+    let schema = global_schema(alloc)?;
+    let mut index = GlobalIndex::new(alloc);
+    let mut photos = Vec::new(alloc);
+    photos.push(photo_of(alloc, 101, 500, 1000, &["Dinner", "Paris", "Paris"])?)?;
+    photos.push(photo_of(alloc, 101, 502, 900, &["Betty", "Paris"])?)?;
+    let (group, first) = entry(alloc, &schema, photos)?;
+    assert_eq!(rt; tagged(alloc, &index, &schema, "Paris")?, [0, 0, 0]);
+    assert_eq!(rt; index.mark(&group).0, 0);
+    index.refresh(alloc, &schema, &group, &[first])?;
+    assert_eq!(rt; tagged(alloc, &index, &schema, "Paris")?, [500, 502, 0]);
+    assert_eq!(rt; index.mark(&group).0, 1);
+    let by_time = index.find(alloc, &schema, 1, &[Value::Int64(101)])?;
+    assert_eq!(rt; numbers(by_time.as_slice()), [502, 500, 0]);
+    Ok(())
+}
+
+#[test]
+fn a_tag_that_is_removed_is_not_found(rt: HostRuntime) -> Result<(), Fail> {
+    let alloc = rt.alloc();
+    let schema = global_schema(alloc)?;
+    let mut index = GlobalIndex::new(alloc);
+    for (user, number, tag) in [
+        (101, 500, "Paris"),
+        (102, 501, "Paris"),
+        (101, 500, "Dinner"),
+    ] {
+        let mut photos = Vec::new(alloc);
+        photos.push(photo_of(alloc, user, number, 1000, &[tag])?)?;
+        let (group, next) = entry(alloc, &schema, photos)?;
+        index.refresh(alloc, &schema, &group, &[next])?;
+    }
+    assert_eq!(rt; tagged(alloc, &index, &schema, "Paris")?, [501, 0, 0]);
+    assert_eq!(rt; tagged(alloc, &index, &schema, "Dinner")?, [500, 0, 0]);
+    Ok(())
+}
+
+#[test]
+fn a_value_of_another_kind_is_refused(rt: HostRuntime) -> Result<(), Fail> {
+    let alloc = rt.alloc();
+    let schema = global_schema(alloc)?;
+    let index = GlobalIndex::new(alloc);
+    let refused = index.find(alloc, &schema, 1, &[Value::Int64(101), Value::Int32(1000)]);
+    assert!(rt; matches!(refused, Err(IndexFault::Kind { place: 1 })));
+    Ok(())
 }
 
 #[test]

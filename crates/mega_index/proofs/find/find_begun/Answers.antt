@@ -10,5 +10,5 @@ returns c = λ hinted.
     (λ found is.
     is ∙ ap values_in c.in_ok-entries.ensures
     ∙ wanted_found c.args.front.now c.args.schema.now c.args.number c.args.index.now c.args.hints.now c.in_ok-places.places (marks_in c.args.groups.now.entries)
-        c.requires.there c.requires.global c.in_ok-places.ensures hinted)
+    c.requires.there c.requires.global c.in_ok-places.ensures hinted)
     c.values_in.ensures

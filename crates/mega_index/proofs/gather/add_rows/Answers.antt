@@ -13,4 +13,4 @@ returns c =
     ∙ c.loop-key.invariant
     ∙ ap (λ (ks : List (List ℕ)). with_fronts c.args.front.now c.args.schema.now c.args.number c.args.index.now c.args.entries.now.entries (picked slots ks)) gives.0
     ∙ ap (λ (rows : Listed). with_fronts c.args.front.now c.args.schema.now c.args.number c.args.index.now c.args.entries.now.entries rows)
-        (picked-wanted slots c.args.keys.now (ascends-sorted slots c.len.ensures.ordered) gives.4)
+    (picked-wanted slots c.args.keys.now (ascends-sorted slots c.len.ensures.ordered) gives.4)

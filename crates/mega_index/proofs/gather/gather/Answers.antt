@@ -15,4 +15,4 @@ returns c =
     ∙ ap (λ es. with_fronts c.args.front.now c.args.schema.now c.args.number c.args.index.now es (picked_groups groups c.into_iter-group-iterator.result)) c.new-entries.ensures.empty
     ∙ ap (λ (ws : List (List ℕ × BTreeSet (List ℕ))). with_fronts c.args.front.now c.args.schema.now c.args.number c.args.index.now [] (picked_groups groups ws)) gives.0
     ∙ ap (λ (rows : Listed). with_fronts c.args.front.now c.args.schema.now c.args.number c.args.index.now [] rows)
-        (groups-wanted groups c.args.wanted.now (ascends-sorted groups c.len.ensures.ordered) (ascends-sorted c.args.wanted.now.entries gives.5))
+    (groups-wanted groups c.args.wanted.now (ascends-sorted groups c.len.ensures.ordered) (ascends-sorted c.args.wanted.now.entries gives.5))

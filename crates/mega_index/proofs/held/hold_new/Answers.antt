@@ -16,5 +16,5 @@ returns-clause-ok c =
     ap marks_in (c.in_ok-insert.ensures.entries ∙ ap (λ (k : List ℕ). insert_entry key_cmp es k new) c.in_ok-own.ensures)
     ∙ marks-insert es k new
     ∙ ap (λ (m : Marked). insert_entry key_cmp (marks_in es) k m) (c.in_ok-advance.ensures.ok
-        ∙ ap (λ (es : List (List ℕ × Option Row)). moved c.args.count c.args.writes.items (record { position = 0; rows = held_rows es })) c.new.ensures.empty
-        ∙ ap (moved c.args.count c.args.writes.items) (sym (marked-in es k None c.requires)))
+    ∙ ap (λ (es : List (List ℕ × Option Row)). moved c.args.count c.args.writes.items (record { position = 0; rows = held_rows es })) c.new.ensures.empty
+    ∙ ap (moved c.args.count c.args.writes.items) (sym (marked-in es k None c.requires)))

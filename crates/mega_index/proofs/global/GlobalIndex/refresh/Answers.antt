@@ -24,7 +24,7 @@ returns-clause-ok c =
     let g = c.args.group.now.key in
     c.in_ok-hold.ensures.ok
     ∙ ap (λ (m : Marked). insert_entry key_cmp marks g m)
-        (ap (λ (ws : List Write). moved (length c.args.entries.now) ws (marked_in marks g)) c.in_ok-writes.ensures ∙ moved-advanced c.args.entries.now (marked_in marks g))
+    (ap (λ (ws : List Write). moved (length c.args.entries.now) ws (marked_in marks g)) c.in_ok-writes.ensures ∙ moved-advanced c.args.entries.now (marked_in marks g))
 
 pub returns-clause-kept : goal.returns-clause-kept
 returns-clause-kept c = λ h.
@@ -32,5 +32,5 @@ returns-clause-kept c = λ h.
     let g = c.args.group.now.key in
     ap (λ (marks : Marks). all_hinted c.args.schema.now c.hint_writes.new.hints marks) c.in_ok-hold.ensures.ok
     ∙ moved-hinted c.args.schema.now c.hint_writes.new.hints marks g _ c.in_ok-writes.writes.items
-        (marks_more c.args.schema.now c.args.self.now.hints c.hint_writes.new.hints marks c.hint_writes.ensures.kept h)
-        (ap (λ (ws : List Write). writes_are_hinted c.args.schema.now c.hint_writes.new.hints g ws) (sym c.as_slice.ensures.value) ∙ c.in_ok-hint_writes.ensures.there)
+    (marks_more c.args.schema.now c.args.self.now.hints c.hint_writes.new.hints marks c.hint_writes.ensures.kept h)
+    (ap (λ (ws : List Write). writes_are_hinted c.args.schema.now c.hint_writes.new.hints g ws) (sym c.as_slice.ensures.value) ∙ c.in_ok-hint_writes.ensures.there)
