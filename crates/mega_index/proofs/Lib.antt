@@ -11,3 +11,4 @@ pub mod Joined
 pub mod Fronted
 pub mod Marking
 pub mod Kept
+pub mod Forgetting

@@ -11,3 +11,4 @@ pub mod Marks
 pub mod Hints
 pub mod Wanted
 pub mod Keeping
+pub mod Forgetting

@@ -6,6 +6,7 @@ ghost use Rattle.mega_index.specs.Keeping.{marks_of, is_kept_under};
 
 use crate::fault::IndexFault;
 use crate::find::{find_in, global_at};
+use crate::forget::{forget, touched_by};
 use crate::found::Found;
 use crate::held::{Held, hold};
 use crate::hints::Hints;
@@ -61,6 +62,13 @@ impl GlobalIndex {
         ensures kept { is_kept_under schema.now self.old ≡ true → is_kept_under schema.now self.new ≡ true }
     {
         let writes = writes_of(alloc, entries)?;
+        let touched = touched_by(
+            alloc,
+            schema,
+            &self.groups,
+            &group.key,
+            writes.as_slice(),
+        )?;
         hint_writes(
             alloc,
             &mut self.hints,
@@ -69,6 +77,14 @@ impl GlobalIndex {
             writes.as_slice(),
         )?;
         hold(alloc, &mut self.groups, &group.key, entries.len(), writes)?;
+        forget(
+            alloc,
+            &mut self.hints,
+            schema,
+            &self.groups,
+            &group.key,
+            touched.as_slice(),
+        );
         Ok(())
     }
 

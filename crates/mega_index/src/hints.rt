@@ -1,6 +1,8 @@
 ghost use Rattle.std.specs.Prelude.{◌≡◌, true, IfOk, OnOk};
-ghost use Rattle.std.specs.List.{list_any};
+ghost use Rattle.std.specs.List.{list_all, list_any};
+ghost use Rattle.std.specs.Option.{option_copied};
 ghost use Rattle.mega_index.specs.Hints.{is_place, is_hinted, KeepsHints};
+ghost use Rattle.mega_index.specs.Forgetting.{are_only, DropsHint};
 
 use mega_base::{Bytes, Copied, Items, NoMemory};
 use std::alloc::Global;
@@ -85,5 +87,30 @@ pub fn add_hint(
             hints.insert(entry, places)?;
             Ok(())
         }
+    }
+}
+
+fn are_place(places: &[Place], group: &Bytes, key: &Bytes) -> bool
+    ensures { result ≡ list_all (is_place group.now key.now) places.now }
+{
+    places.iter().all(|place| is_place(place, group, key))
+}
+
+/// Whether there are places, and all of them are that of the key in the group.
+fn is_only(places: Option<&Items<Place>>, group: &Bytes, key: &Bytes) -> bool
+    ensures { result ≡ are_only group.now key.now (option_copied places.entry) }
+{
+    match places {
+        Some(places) => are_place(places.as_slice(), group, key),
+        None => false,
+    }
+}
+
+/// Lets go of the hint of an entry, where the row under the key in the group is the only one that it names.
+pub fn drop_hint(hints: &mut Hints, entry: &Bytes, group: &Bytes, key: &Bytes)
+    ensures { DropsHint entry.now group.now key.now hints.old hints.new }
+{
+    if is_only(hints.get(entry), group, key) {
+        hints.remove(entry);
     }
 }

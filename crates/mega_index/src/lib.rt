@@ -8,6 +8,7 @@ mod entries;
 mod fault;
 mod find;
 mod fits;
+mod forget;
 mod found;
 mod gather;
 mod global;

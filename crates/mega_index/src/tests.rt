@@ -1,7 +1,7 @@
 use crate::{
     Found, GlobalIndex, IndexFault, group_of, key_of, key_values, local_writes, row_fits, table_at,
 };
-use mega_base::{Bytes, Cell, Copied, GroupId, Items, NoMemory, NodeId, Row, Text, Value};
+use mega_base::{Bytes, Cell, Copied, Items, NoMemory, NodeId, Row, Text, Value};
 use mega_entry::{Content, Entry, Write};
 use mega_schema::{Schema, parse};
 use std::alloc::Global;
@@ -88,32 +88,41 @@ fn global_schema(alloc: Global) -> Result<Schema, Fail> {
     Ok(schema)
 }
 
-/// An entry that puts these photos of a user's group, and the group.
-fn entry(alloc: Global, schema: &Schema, photos: Vec<Row>) -> Result<(GroupId, Entry), Fail> {
-    let table = table_at(schema, 2).ok_or("no table")?;
-    let mut group = GroupId {
-        key: Bytes::new(alloc),
-    };
+/// An entry that puts a row and nothing else.
+fn entry(alloc: Global, key: Bytes, row: Row) -> Result<Entry, NoMemory> {
     let mut writes = Items::new(alloc);
-    for row in photos {
-        let values = key_values(alloc, table.primary.as_slice(), &row)?;
-        let key = key_of(alloc, schema, 2, table, values.as_slice())?;
-        group = group_of(alloc, schema, 2, table, values.as_slice())?;
-        writes.push(Write {
-            key,
-            row: Some(row),
-        })?;
-    }
-    let content = Content {
-        id: None,
-        leader: NodeId(1),
-        writes,
-        sends: Items::new(alloc),
-        enters: Items::new(alloc),
-        handles: Items::new(alloc),
-        cuts: Items::new(alloc),
-    };
-    Ok((group, Entry::new(alloc, content)?))
+    writes.push(Write {
+        key,
+        row: Some(row),
+    })?;
+    Entry::new(
+        alloc,
+        Content {
+            id: None,
+            leader: NodeId(1),
+            writes,
+            sends: Items::new(alloc),
+            enters: Items::new(alloc),
+            handles: Items::new(alloc),
+            cuts: Items::new(alloc),
+        },
+    )
+}
+
+/// Refreshes the group of a photo by an entry that puts it, and gives the group's mark.
+fn put(
+    alloc: Global,
+    index: &mut GlobalIndex,
+    schema: &Schema,
+    photo: Row,
+) -> Result<u64, Fail> {
+    let table = table_at(schema, 2).ok_or("no table")?;
+    let values = key_values(alloc, table.primary.as_slice(), &photo)?;
+    let key = key_of(alloc, schema, 2, table, values.as_slice())?;
+    let group = group_of(alloc, schema, 2, table, values.as_slice())?;
+    let next = entry(alloc, key, photo)?;
+    index.refresh(alloc, schema, &group, &[next])?;
+    Ok(index.mark(&group).0)
 }
 
 /// The numbers of the photos found.
@@ -139,42 +148,43 @@ fn tagged(
     Ok(numbers(found.as_slice()))
 }
 
+/// Photos that are put one after another, by user, number, time and tags; the mark of the group behind
+/// each, and the photos that are then found under Paris.
+const PUTS: [(i64, i32, i64, [&str; 3], u64, [i32; 3]); 5] = [
+    (101, 500, 1000, ["Dinner", "Paris", "Paris"], 1, [500, 0, 0]),
+    (101, 502, 900, ["Betty", "Paris", "Z"], 2, [500, 502, 0]),
+    (102, 501, 950, ["A", "Paris", "Z"], 1, [500, 502, 501]),
+    (101, 500, 1000, ["Dinner", "A", "B"], 3, [502, 501, 0]),
+    (102, 501, 950, ["Parisian", "A", "Z"], 2, [502, 0, 0]),
+];
+
 #[test]
 fn a_find_shows_the_marks(rt: HostRuntime) -> Result<(), Fail> {
     let alloc = rt.alloc();
     let schema = global_schema(alloc)?;
     let mut index = GlobalIndex::new(alloc);
-    let mut photos = Vec::new(alloc);
-    photos.push(photo_of(alloc, 101, 500, 1000, &["Dinner", "Paris", "Paris"])?)?;
-    photos.push(photo_of(alloc, 101, 502, 900, &["Betty", "Paris"])?)?;
-    let (group, first) = entry(alloc, &schema, photos)?;
-    assert_eq!(rt; tagged(alloc, &index, &schema, "Paris")?, [0, 0, 0]);
-    assert_eq!(rt; index.mark(&group).0, 0);
-    index.refresh(alloc, &schema, &group, &[first])?;
-    assert_eq!(rt; tagged(alloc, &index, &schema, "Paris")?, [500, 502, 0]);
-    assert_eq!(rt; index.mark(&group).0, 1);
-    let by_time = index.find(alloc, &schema, 1, &[Value::Int64(101)])?;
-    assert_eq!(rt; numbers(by_time.as_slice()), [502, 500, 0]);
+    let mut before = [0, 0, 0];
+    for (user, number, time, tags, mark, found) in PUTS {
+        let photo = photo_of(alloc, user, number, time, tags.as_slice())?;
+        assert_eq!(rt; tagged(alloc, &index, &schema, "Paris")?, before);
+        assert_eq!(rt; put(alloc, &mut index, &schema, photo)?, mark);
+        before = found;
+    }
+    assert_eq!(rt; tagged(alloc, &index, &schema, "Paris")?, before);
     Ok(())
 }
 
 #[test]
-fn a_tag_that_is_removed_is_not_found(rt: HostRuntime) -> Result<(), Fail> {
+fn photos_are_found_in_order_of_time(rt: HostRuntime) -> Result<(), Fail> {
     let alloc = rt.alloc();
     let schema = global_schema(alloc)?;
     let mut index = GlobalIndex::new(alloc);
-    for (user, number, tag) in [
-        (101, 500, "Paris"),
-        (102, 501, "Paris"),
-        (101, 500, "Dinner"),
-    ] {
-        let mut photos = Vec::new(alloc);
-        photos.push(photo_of(alloc, user, number, 1000, &[tag])?)?;
-        let (group, next) = entry(alloc, &schema, photos)?;
-        index.refresh(alloc, &schema, &group, &[next])?;
+    for (number, time) in [(500, 1000), (502, 900)] {
+        let photo = photo_of(alloc, 101, number, time, &[])?;
+        put(alloc, &mut index, &schema, photo)?;
     }
-    assert_eq!(rt; tagged(alloc, &index, &schema, "Paris")?, [501, 0, 0]);
-    assert_eq!(rt; tagged(alloc, &index, &schema, "Dinner")?, [500, 0, 0]);
+    let found = index.find(alloc, &schema, 1, &[Value::Int64(101)])?;
+    assert_eq!(rt; numbers(found.as_slice()), [502, 500, 0]);
     Ok(())
 }
 

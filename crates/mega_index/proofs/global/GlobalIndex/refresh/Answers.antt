@@ -30,7 +30,8 @@ pub returns-clause-kept : goal.returns-clause-kept
 returns-clause-kept c = λ h.
     let marks = marks_in c.args.self.now.groups.entries in
     let g = c.args.group.now.key in
-    ap (λ (marks : Marks). all_hinted c.args.schema.now c.hint_writes.new.hints marks) c.in_ok-hold.ensures.ok
+    c.forget.ensures
+    (ap (λ (marks : Marks). all_hinted c.args.schema.now c.hint_writes.new.hints marks) c.in_ok-hold.ensures.ok
     ∙ moved-hinted c.args.schema.now c.hint_writes.new.hints marks g _ c.in_ok-writes.writes.items
     (marks_more c.args.schema.now c.args.self.now.hints c.hint_writes.new.hints marks c.hint_writes.ensures.kept h)
-    (ap (λ (ws : List Write). writes_are_hinted c.args.schema.now c.hint_writes.new.hints g ws) (sym c.as_slice.ensures.value) ∙ c.in_ok-hint_writes.ensures.there)
+    (ap (λ (ws : List Write). writes_are_hinted c.args.schema.now c.hint_writes.new.hints g ws) (sym c.as_slice-2.ensures.value) ∙ c.in_ok-hint_writes.ensures.there))
