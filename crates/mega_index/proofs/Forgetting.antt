@@ -1,5 +1,5 @@
 -- Hints that no row has any more are let go, and no other.
-use Rattle.std.proofs.Common.{◌≡◌, ◌∙◌, ap, sym, refl, ℕ, Bool, true, false, cond, List, [], ◌∷◌, ◌++◌, ◌||◌, ◌&&◌}
+use Rattle.std.proofs.Common.{◌≡◌, ◌∙◌, ap, sym, refl, ℕ, Bool, true, false, cond, List, [], ◌∷◌, ◌||◌, ◌&&◌}
 use Rattle.std.specs.Prelude.{Option, Some, None}
 use Rattle.std.specs.Ordering.{is_eq}
 use Rattle.std.specs.List.{list_any, list_all}
@@ -10,11 +10,11 @@ use Rattle.mega_schema.specs.declared.schema.Schema.{Schema}
 use Rattle.mega_index.specs.declared.hints.Place.{Place}
 use Rattle.mega_index.specs.declared.held.Held.{Held}
 use Rattle.mega_index.specs.Rows.{Listed, key_cmp, same_key}
-use Rattle.mega_index.specs.Marks.{Marked, Marks, held_rows}
+use Rattle.mega_index.specs.Marks.{Marks, held_rows}
 use Rattle.mega_index.specs.Hints.{Hints, is_place, is_among, is_hinted, global_keys, row_is_hinted, rows_are_hinted, all_hinted}
-use Rattle.mega_index.specs.Keeping.{marks_in, marked_of}
-use Rattle.mega_index.specs.Forgetting.{is_row_of, are_only, DropsHint, keys_of_row, Spares, OnlyRow, OnlyRows, row_in, row_held}
-use Rattle.mega_index.proofs.Ordered.{Below, Ascends, below-none, by_test, both_true, true_both}
+use Rattle.mega_index.specs.Keeping.{marks_in}
+use Rattle.mega_index.specs.Forgetting.{is_row_of, are_only, DropsHint, keys_of_row, Spares, OnlyRow, OnlyRows, row_in}
+use Rattle.mega_index.proofs.Ordered.{Below, Ascends, by_test, both_true, true_both}
 use Rattle.mega_index.proofs.Turning.{same_key-Decides}
 
 true-false : {P : Type 0} (b : Bool) → b ≡ true → b ≡ false → P
@@ -152,12 +152,14 @@ pub only_rows : (group key : List ℕ) (now : Option Row) (groups : List (List �
     → ((held : Held) → lookup (same_key group) groups ≡ Some held → OnlyRow key now (held_rows held.rows.entries)) → OnlyRows group key now (marks_in groups)
 only_rows group key now [] up inside = tt
 only_rows group key now (g ∷ groups) up inside = by_test (same_key group g.0) _
-    (λ same.
-    (λ again. inside g.1 (ap (λ b. cond b (Some g.1) (lookup (same_key group) groups)) same),
-    groups_below group key now groups (coe 0 1 (i. Below (sym ((same_key-Decides group g.0).0 same) i) groups) up.0)))
-    (λ other.
-    (λ same. true-false (same_key group g.0) same other,
-    only_rows group key now groups up.1 (λ held there. inside held (ap (λ b. cond b (Some g.1) (lookup (same_key group) groups)) other ∙ there))))
+    (λ same. (
+      λ again. inside g.1 (ap (λ b. cond b (Some g.1) (lookup (same_key group) groups)) same),
+      groups_below group key now groups (coe 0 1 (i. Below (sym ((same_key-Decides group g.0).0 same) i) groups) up.0),
+    ))
+    (λ other. (
+      λ same. true-false (same_key group g.0) same other,
+      only_rows group key now groups up.1 (λ held there. inside held (ap (λ b. cond b (Some g.1) (lookup (same_key group) groups)) other ∙ there)),
+    ))
 
 pub same_some : (a b : Held) → Some a ≡ Some b → a ≡ b
 same_some a b h = cc

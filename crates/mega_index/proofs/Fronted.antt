@@ -1,20 +1,19 @@
 -- What is found is what the wanted rows add.
-use Rattle.std.proofs.Common.{◌≡◌, ◌∙◌, ap, sym, refl, ℕ, zero, suc, ◌+◌, ◌-◌, ◌≤◌, ◌<◌, Bool, true, false, cond, List, [], ◌∷◌, ◌++◌, ◌&&◌, ◌||◌, length, arith, append-nil}
-use Rattle.std.specs.Prelude.{Option, Some, None, Result, Ok, Err, filter, flat_map, map, fold, nat_eq, nat_le, nat_lt, slice_get, if◌then◌else◌, ◌==◌}
+use Rattle.std.proofs.Common.{◌≡◌, ◌∙◌, ap, sym, refl, ℕ, zero, suc, ◌+◌, ◌-◌, ◌≤◌, Bool, true, false, cond, List, [], ◌∷◌, ◌++◌, length, arith, append-nil}
+use Rattle.std.specs.Prelude.{Option, Some, None, Ok, filter, map, fold, nat_eq, nat_le, slice_get, if◌then◌else◌, ◌==◌}
 use Rattle.std.specs.declared.cmp.Ordering.{Ordering}
-use Rattle.std.specs.declared.cmp.Ordering.TheVariants.{Less, Equal, Greater}
+use Rattle.std.specs.declared.cmp.Ordering.TheVariants.{Equal, Greater}
 use Rattle.std.specs.Ordering.{match_ordering}
-use Rattle.std.specs.List.{list_all, starts_with}
+use Rattle.std.specs.List.{list_all}
 use Rattle.std.specs.BTreeMap.{insert_entry}
 use Rattle.std.proofs.lemmas.List.Folds.{list_all-append}
-use Rattle.std.proofs.lemmas.List.Sums.{fold-append}
 use Rattle.mega_base.specs.declared.values.Value.{Value}
 use Rattle.mega_base.specs.declared.values.Row.{Row}
 use Rattle.mega_schema.specs.declared.schema.Table.{Table}
 use Rattle.mega_schema.specs.declared.schema.Index.{Index}
 use Rattle.mega_schema.specs.declared.schema.Schema.{Schema}
 use Rattle.mega_index.specs.declared.found.Found.{Found}
-use Rattle.mega_index.specs.Rows.{Listed, key_cmp, same_key}
+use Rattle.mega_index.specs.Rows.{Listed, key_cmp}
 use Rattle.mega_index.specs.Cells.{key_values}
 use Rattle.mega_index.specs.Fits.{numbered, index_keys, entry_keys, indexes_of, group_bytes_of, stands_in}
 use Rattle.mega_index.specs.Entries.{placed, found_of, with_row_under, index_of}
@@ -23,11 +22,11 @@ use Rattle.mega_keys.specs.Fit.{misplaced}
 use Rattle.mega_index.specs.Keeping.{values_in}
 use Rattle.mega_keys.specs.Spelling.{spell_all, index_bytes}
 use Rattle.std.proofs.lemmas.Bool.Decides.{nat_tests}
-use Rattle.mega_index.specs.Marks.{Marked, Marks, rows_marked}
+use Rattle.mega_index.specs.Marks.{Marks, rows_marked}
 use Rattle.mega_index.specs.Hints.{Hints, table_keys, row_keys, global_keys, global_keys_of, global_keys_in, is_hinted, row_is_hinted, rows_are_hinted, all_hinted}
 use Rattle.mega_index.specs.Wanted.{Wanted, is_wanted, begins, front_keys, with_front, with_front_in, with_fronts, all_wanted}
 use Rattle.mega_index.proofs.Ordered.{Below, Ascends, insert-ascends, insert-front, by_order, by_test, both_true, equal_keys, below-trans}
-use Rattle.mega_index.proofs.Wanting.{below-filter, ascends-filter}
+use Rattle.mega_index.proofs.Wanting.{below-filter}
 
 abbrev Es : Type 0
 Es = List (List ℕ × Found)

@@ -1,7 +1,7 @@
 -- Two lists in order of key, joined by their keys: it is one whichever of the two is gone through.
 use Rattle.std.proofs.Common.{◌≡◌, ◌∙◌, ap, sym, refl, ℕ, Bool, true, false, cond, List, [], ◌∷◌, ◌++◌, ◌||◌}
-use Rattle.std.specs.Prelude.{Option, Some, None, filter, flat_map, map}
-use Rattle.std.specs.declared.cmp.Ordering.TheVariants.{Less, Equal, Greater}
+use Rattle.std.specs.Prelude.{Option, Some, None, filter}
+use Rattle.std.specs.declared.cmp.Ordering.TheVariants.{Less, Equal}
 use Rattle.std.specs.Ordering.{is_eq}
 use Rattle.std.specs.Map.{lookup}
 use Rattle.std.specs.List.{AllByRecursion, list_any}
@@ -11,9 +11,9 @@ use Rattle.std.specs.BTreeSet.{BTreeSet, contains}
 use Rattle.mega_base.specs.declared.values.Row.{Row}
 use Rattle.mega_index.specs.declared.held.Held.{Held}
 use Rattle.mega_index.specs.Rows.{Listed, key_cmp, same_key}
-use Rattle.mega_index.specs.Marks.{Marked, Marks, held_rows}
-use Rattle.mega_index.specs.Wanted.{Wanted, is_in, is_wanted, rows_wanted, all_wanted}
-use Rattle.mega_index.specs.Keeping.{marks_in, marked_of, rows_at, group_wanted}
+use Rattle.mega_index.specs.Marks.{held_rows}
+use Rattle.mega_index.specs.Wanted.{Wanted, is_in, rows_wanted, all_wanted}
+use Rattle.mega_index.specs.Keeping.{marks_in, rows_at, group_wanted}
 use Rattle.mega_index.proofs.Ordered.{Below, Ascends, below-none, below-trans, turn_less, turn_greater, by_order, by_test, equal_keys}
 
 abbrev pub by_some : {Y Z : Type 0} → (Y → List Z) → Option Y → List Z

@@ -1,8 +1,7 @@
 -- After a refresh the entries of all rows are hinted still.
-use Rattle.std.proofs.Common.{◌≡◌, ◌∙◌, ap, sym, refl, ℕ, ◌+◌, ◌-◌, ◌^◌, min, Bool, true, false, cond, List, [], ◌∷◌, ◌++◌, ◌&&◌, length}
+use Rattle.std.proofs.Common.{◌≡◌, ◌∙◌, ap, sym, refl, ℕ, ◌+◌, ◌-◌, ◌^◌, min, Bool, true, cond, List, [], ◌∷◌, ◌++◌, length}
 use Rattle.std.specs.Prelude.{Option, Some, None}
 use Rattle.std.specs.Option.{unwrap_or}
-use Rattle.std.specs.declared.cmp.Ordering.TheVariants.{Less, Equal, Greater}
 use Rattle.std.specs.Ordering.{match_ordering}
 use Rattle.std.specs.List.{list_all}
 use Rattle.std.specs.Map.{lookup, remove_entry}
@@ -12,7 +11,7 @@ use Rattle.mega_entry.specs.declared.content.Write.{Write}
 use Rattle.mega_entry.specs.declared.content.Content.{Content}
 use Rattle.mega_schema.specs.declared.schema.Schema.{Schema}
 use Rattle.mega_index.specs.Rows.{Listed, key_cmp, same_key, list_changed, list_written, list_after}
-use Rattle.mega_index.specs.Marks.{Marked, Marks, unmarked, marked_in, advanced, refreshed, writes_of}
+use Rattle.mega_index.specs.Marks.{Marked, Marks, unmarked, marked_in, advanced, writes_of}
 use Rattle.mega_index.specs.Hints.{Hints, KeepsHints, is_hinted, global_keys, row_is_hinted, rows_are_hinted, all_hinted, write_is_hinted, writes_are_hinted}
 use Rattle.mega_index.specs.Keeping.{moved}
 use Rattle.mega_index.proofs.Ordered.{by_order, by_test, equal_keys, both_true, true_both, all_imply}

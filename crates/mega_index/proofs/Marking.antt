@@ -1,16 +1,15 @@
 -- The marks of groups that are held.
-use Rattle.std.proofs.Common.{◌≡◌, ◌∙◌, ap, sym, refl, ℕ, Bool, true, false, cond, List, [], ◌∷◌}
+use Rattle.std.proofs.Common.{◌≡◌, ◌∙◌, ap, sym, refl, ℕ, true, cond, List, [], ◌∷◌}
 use Rattle.std.specs.Prelude.{Option, Some, None, option_map}
 use Rattle.std.specs.Option.{unwrap_or}
-use Rattle.std.specs.declared.cmp.Ordering.TheVariants.{Less, Equal, Greater}
 use Rattle.std.specs.Ordering.{is_eq, match_ordering}
 use Rattle.std.specs.Map.{lookup, set_value}
 use Rattle.std.specs.BTreeMap.{insert_entry}
 use Rattle.mega_index.specs.declared.held.Held.{Held}
 use Rattle.mega_index.specs.Rows.{key_cmp, same_key}
-use Rattle.mega_index.specs.Marks.{Marked, Marks, unmarked, marked_in}
+use Rattle.mega_index.specs.Marks.{unmarked, marked_in}
 use Rattle.mega_index.specs.Keeping.{marked_of, marks_in}
-use Rattle.mega_index.proofs.Ordered.{Below, Ascends, below-none, below-trans, by_order, by_test}
+use Rattle.mega_index.proofs.Ordered.{Ascends, below-none, below-trans, by_order, by_test}
 
 abbrev Groups : Type 0
 Groups = List (List ℕ × Held)

@@ -1,16 +1,15 @@
 -- Places for rows: one that is made holds none, and one that is set holds its row.
-use Rattle.std.proofs.Common.{◌≡◌, ◌∙◌, ap, sym, subst, refl, ℕ, Bool, true, false, cond, List, [], ◌∷◌, ◌||◌}
+use Rattle.std.proofs.Common.{◌≡◌, ◌∙◌, ap, sym, refl, ℕ, Bool, true, false, cond, List, [], ◌∷◌, ◌||◌}
 use Rattle.std.specs.Prelude.{Option, Some, None, is_some}
 use Rattle.std.specs.declared.cmp.Ordering.{Ordering}
 use Rattle.std.specs.declared.cmp.Ordering.TheVariants.{Less, Equal, Greater}
 use Rattle.std.specs.Ordering.{is_eq, match_ordering}
-use Rattle.std.specs.List.{list_any}
-use Rattle.std.specs.Map.{keys_of, lookup, set_value, remove_entry}
+use Rattle.std.specs.Map.{lookup, set_value, remove_entry}
 use Rattle.std.specs.BTreeMap.{insert_entry}
 use Rattle.std.specs.Cmp.Lexicographic.{nat_list_cmp_total}
 use Rattle.mega_base.specs.declared.values.Row.{Row}
 use Rattle.mega_index.specs.Rows.{Listed, key_cmp, same_key, list_changed}
-use Rattle.mega_index.specs.Marks.{held_row, held_rows, has_slot}
+use Rattle.mega_index.specs.Marks.{held_rows, has_slot}
 use Rattle.mega_index.proofs.Ordered.{Below, Ascends, below-none, insert-front, by_order, by_test, equal_keys}
 
 abbrev Slots : Type 0

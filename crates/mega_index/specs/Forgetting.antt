@@ -1,13 +1,13 @@
 -- Which hints may be let go: those of entries that the row in their place has no more.
 use Rattle.std.specs.Prelude.{◌≡◌, true, false, ℕ, ◌&&◌, Bool, List, [], ◌∷◌, Option, Some, None}
 use Rattle.std.specs.List.{list_any, list_all}
-use Rattle.std.specs.BTreeMap.{BTreeMap, get}
+use Rattle.std.specs.BTreeMap.{get}
 use Rattle.mega_base.specs.declared.values.Row.{Row}
 use Rattle.mega_schema.specs.declared.schema.Schema.{Schema}
 use Rattle.mega_index.specs.declared.hints.Place.{Place}
 use Rattle.mega_index.specs.declared.held.Held.{Held}
 use Rattle.mega_index.specs.Rows.{Listed, key_cmp, same_key}
-use Rattle.mega_index.specs.Marks.{Marked, Marks}
+use Rattle.mega_index.specs.Marks.{Marks}
 use Rattle.mega_index.specs.Hints.{Hints, is_place, is_hinted, global_keys}
 
 -- the place is that of this key in this group

@@ -1,5 +1,5 @@
 -- What the global indexes of a node hold.
-use Rattle.std.specs.Prelude.{ℕ, ◌+◌, ◌-◌, ◌^◌, min, if◌then◌else◌, Bool, List, [], ◌∷◌, ◌++◌, map, fold, Option, Some, None}
+use Rattle.std.specs.Prelude.{ℕ, ◌+◌, ◌-◌, ◌^◌, min, if◌then◌else◌, Bool, List, [], ◌∷◌, map, Option, Some, None}
 use Rattle.std.specs.BTreeSet.{BTreeSet}
 use Rattle.mega_base.specs.declared.values.Row.{Row}
 use Rattle.mega_schema.specs.declared.schema.Index.{Index}

@@ -1,5 +1,5 @@
 -- What global indexes know of each group: a mark, and the rows there.
-use Rattle.std.specs.Prelude.{ℕ, ◌+◌, ◌-◌, ◌^◌, min, Bool, List, [], ◌∷◌, ◌++◌, length, map, flat_map, if◌then◌else◌, option_map, Option, Some, None, Result, Ok, Err}
+use Rattle.std.specs.Prelude.{ℕ, ◌+◌, ◌-◌, ◌^◌, min, Bool, List, [], ◌∷◌, ◌++◌, length, flat_map, if◌then◌else◌, option_map, Option, Some, None, Result, Ok}
 use Rattle.std.specs.Option.{unwrap_or}
 use Rattle.std.specs.List.{filter_map, list_any, list_all}
 use Rattle.std.specs.Map.{lookup, keys_of}

@@ -1,5 +1,5 @@
 -- The rows that a find looks at, by their places in order, and what they add.
-use Rattle.std.specs.Prelude.{◌≡◌, true, ℕ, if◌then◌else◌, nat_eq, Bool, false, List, [], ◌∷◌, map, filter, flat_map, fold, Option, Some, None}
+use Rattle.std.specs.Prelude.{◌≡◌, true, ℕ, if◌then◌else◌, nat_eq, Bool, false, List, filter, flat_map, fold, Option, Some, None}
 use Rattle.std.specs.List.{starts_with, list_any}
 use Rattle.std.specs.BTreeMap.{BTreeMap, get}
 use Rattle.std.specs.BTreeSet.{BTreeSet, contains}
@@ -11,7 +11,7 @@ use Rattle.mega_index.specs.declared.found.Found.{Found}
 use Rattle.mega_index.specs.declared.hints.Place.{Place}
 use Rattle.mega_index.specs.Hints.{is_place}
 use Rattle.mega_index.specs.Marks.{Marked, Marks}
-use Rattle.mega_index.specs.Rows.{Listed, key_cmp, same_key}
+use Rattle.mega_index.specs.Rows.{Listed, key_cmp}
 use Rattle.mega_index.specs.Cells.{key_values}
 use Rattle.mega_index.specs.Fits.{numbered, entry_keys, group_bytes_of, stands_in}
 use Rattle.mega_index.specs.Entries.{placed, found_of}

@@ -43,11 +43,7 @@ fn row_in<'a>(held: &'a Held, key: &Bytes) -> Option<&'a Row>
 }
 
 /// The row under a key in a group, as it is held.
-fn row_at<'a>(
-    groups: &'a BTreeMap<Bytes, Held>,
-    group: &Bytes,
-    key: &Bytes,
-) -> Option<&'a Row>
+fn row_at<'a>(groups: &'a BTreeMap<Bytes, Held>, group: &Bytes, key: &Bytes) -> Option<&'a Row>
     ensures { OnlyRows group.now key.now (option_copied result) (marks_in groups.now.entries) }
 {
     if groups.len() == 0 {
@@ -119,13 +115,7 @@ fn drop_stale(hints: &mut Hints, now: &[Bytes], entry: &Bytes, group: &Bytes, ke
     drop_hint(hints, entry, group, key);
 }
 
-fn drop_all_stale(
-    hints: &mut Hints,
-    now: &[Bytes],
-    entries: &[Bytes],
-    group: &Bytes,
-    key: &Bytes,
-)
+fn drop_all_stale(hints: &mut Hints, now: &[Bytes], entries: &[Bytes], group: &Bytes, key: &Bytes)
     ensures { Spares group.now key.now now.now hints.old hints.new }
 {
     for entry in entries {

@@ -62,13 +62,7 @@ impl GlobalIndex {
         ensures kept { is_kept_under schema.now self.old ≡ true → is_kept_under schema.now self.new ≡ true }
     {
         let writes = writes_of(alloc, entries)?;
-        let touched = touched_by(
-            alloc,
-            schema,
-            &self.groups,
-            &group.key,
-            writes.as_slice(),
-        )?;
+        let touched = touched_by(alloc, schema, &self.groups, &group.key, writes.as_slice())?;
         hint_writes(
             alloc,
             &mut self.hints,

@@ -110,12 +110,7 @@ fn entry(alloc: Global, key: Bytes, row: Row) -> Result<Entry, NoMemory> {
 }
 
 /// Refreshes the group of a photo by an entry that puts it, and gives the group's mark.
-fn put(
-    alloc: Global,
-    index: &mut GlobalIndex,
-    schema: &Schema,
-    photo: Row,
-) -> Result<u64, Fail> {
+fn put(alloc: Global, index: &mut GlobalIndex, schema: &Schema, photo: Row) -> Result<u64, Fail> {
     let table = table_at(schema, 2).ok_or("no table")?;
     let values = key_values(alloc, table.primary.as_slice(), &photo)?;
     let key = key_of(alloc, schema, 2, table, values.as_slice())?;

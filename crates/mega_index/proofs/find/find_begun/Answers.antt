@@ -1,4 +1,4 @@
-use Rattle.std.proofs.Common.{◌∙◌, ap, sym}
+use Rattle.std.proofs.Common.{◌∙◌, ap}
 use Rattle.mega_index.specs.Keeping.{marks_in, values_in}
 use Rattle.mega_index.proofs.Fronted.{wanted_found}
 use Rattle.mega_index.proofs.Wanting.{if_ok}

@@ -1,5 +1,5 @@
 use Rattle.std.proofs.Common.{◌∙◌, sym}
-use Rattle.mega_index.proofs.Forgetting.{spared, spares_same}
+use Rattle.mega_index.proofs.Forgetting.{spared}
 use Rattle.mega_index.proofs.forget.drop_stale.Goals as goal
 
 pub returns : goal.returns

@@ -1,5 +1,4 @@
-use Rattle.std.proofs.Common.{◌≡◌, ◌∙◌, sym, subst, Some, None}
-use Rattle.std.specs.Prelude.{Option}
+use Rattle.std.proofs.Common.{◌∙◌, subst, None}
 use Rattle.std.specs.Option.{option_copied}
 use Rattle.mega_index.specs.declared.held.Held.{Held}
 use Rattle.mega_index.specs.Marks.{held_rows}

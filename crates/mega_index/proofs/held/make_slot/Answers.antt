@@ -1,5 +1,4 @@
-use Rattle.std.proofs.Common.{◌∙◌, ap, sym, true, false, None}
-use Rattle.std.specs.Prelude.{is_some}
+use Rattle.std.proofs.Common.{◌∙◌, ap, sym, None}
 use Rattle.mega_index.specs.Marks.{held_rows, has_slot}
 use Rattle.std.specs.BTreeMap.{insert_entry}
 use Rattle.mega_index.specs.Rows.{key_cmp}

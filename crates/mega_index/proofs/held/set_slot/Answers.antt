@@ -1,9 +1,7 @@
-use Rattle.std.proofs.Common.{◌∙◌, ap, sym, true, Some, None}
-use Rattle.std.specs.Prelude.{is_some, Option}
-use Rattle.mega_base.specs.declared.values.Row.{Row}
+use Rattle.std.proofs.Common.{◌∙◌, ap, sym}
 use Rattle.mega_index.specs.Marks.{held_rows}
 use Rattle.mega_index.proofs.Ordered.{ascends-sorted}
-use Rattle.mega_index.proofs.Slots.{held-set, slot-is_some, none_there}
+use Rattle.mega_index.proofs.Slots.{held-set, none_there}
 use Rattle.mega_index.proofs.held.set_slot.Goals as goal
 
 pub returns-in-Some-clause-held : goal.returns-in-Some-clause-held

@@ -1,5 +1,4 @@
 use Rattle.std.proofs.Common.{◌∙◌, refl, ◌∷◌, [], List, ℕ}
-use Rattle.std.specs.List.{list_all}
 use Rattle.std.proofs.lemmas.List.Folds.{list_all-append}
 use Rattle.mega_index.specs.Hints.{is_hinted}
 use Rattle.mega_index.proofs.Ordered.{all_imply, true_both}

@@ -1,4 +1,4 @@
-use Rattle.std.proofs.Common.{◌≡◌, ◌++◌, true}
+use Rattle.std.proofs.Common.{◌≡◌, true}
 use Rattle.std.specs.List.{list_all}
 use Rattle.mega_index.specs.Hints.{KeepsHints, is_hinted}
 use Rattle.mega_index.proofs.refresh.add_hints.Given as goal

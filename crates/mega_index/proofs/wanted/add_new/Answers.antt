@@ -1,4 +1,4 @@
-use Rattle.std.proofs.Common.{◌∙◌, ap, sym, cond, Some, ℕ, List}
+use Rattle.std.proofs.Common.{◌∙◌, ap, cond, Some, ℕ, List}
 use Rattle.std.specs.BTreeMap.{get}
 use Rattle.mega_index.specs.Rows.{key_cmp, same_key}
 use Rattle.mega_index.proofs.Wanting.{wanted_new}

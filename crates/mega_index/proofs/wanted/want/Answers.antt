@@ -1,4 +1,4 @@
-use Rattle.std.proofs.Common.{◌∙◌, ap, sym, List, ℕ}
+use Rattle.std.proofs.Common.{◌∙◌, ap, sym}
 use Rattle.mega_index.specs.Wanted.{is_wanted}
 use Rattle.mega_index.proofs.Wanting.{place_wanted, on_ok}
 use Rattle.mega_index.proofs.wanted.want.Goals as goal

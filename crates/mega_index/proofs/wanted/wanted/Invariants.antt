@@ -1,4 +1,3 @@
-use Rattle.std.proofs.Common.{◌≡◌}
 use Rattle.mega_index.proofs.Ordered.{Ascends}
 use Rattle.mega_index.proofs.Wanting.{After, LeftWants}
 use Rattle.mega_index.proofs.wanted.wanted.Given as goal

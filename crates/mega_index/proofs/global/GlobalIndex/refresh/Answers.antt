@@ -1,4 +1,4 @@
-use Rattle.std.proofs.Common.{◌≡◌, ◌∙◌, ap, sym, subst, true, length}
+use Rattle.std.proofs.Common.{◌∙◌, ap, sym, length}
 use Rattle.std.specs.Prelude.{List}
 use Rattle.std.specs.BTreeMap.{insert_entry}
 use Rattle.mega_entry.specs.declared.content.Write.{Write}
