@@ -1,3 +1,14 @@
 pub mod SameLemmas
 pub mod Turning
+pub mod Ordered
 pub mod Ascending
+pub mod Slots
+pub mod Hinting
+pub mod Places
+pub mod Fronts
+pub mod Wanting
+pub mod Joined
+pub mod Fronted
+pub mod Marking
+pub mod Kept
+pub mod Forgetting

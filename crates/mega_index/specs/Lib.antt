@@ -7,3 +7,8 @@ pub mod LocalWrites
 pub mod Finding
 pub mod Fitted
 pub mod Answers
+pub mod Marks
+pub mod Hints
+pub mod Wanted
+pub mod Keeping
+pub mod Forgetting

@@ -1,6 +1,8 @@
-use crate::{local_writes, row_fits, table_at};
-use mega_base::{Cell, Items, NoMemory, Row, Text, Value};
-use mega_entry::Write;
+use crate::{
+    Found, GlobalIndex, IndexFault, group_of, key_of, key_values, local_writes, row_fits, table_at,
+};
+use mega_base::{Bytes, Cell, Copied, Items, NoMemory, NodeId, Row, Text, Value};
+use mega_entry::{Content, Entry, Write};
 use mega_schema::{Schema, parse};
 use std::alloc::Global;
 use std::test::Fail;
@@ -26,9 +28,20 @@ fn add(alloc: Global, cells: &mut Items<Cell>, property: u8, value: Value) -> Re
 
 /// A photo of user 101 with the number 500, taken at this time, with these tags.
 fn photo(alloc: Global, time: i64, tags: &[&str]) -> Result<Row, NoMemory> {
+    photo_of(alloc, 101, 500, time, tags)
+}
+
+/// A photo of this user with this number.
+fn photo_of(
+    alloc: Global,
+    user: i64,
+    number: i32,
+    time: i64,
+    tags: &[&str],
+) -> Result<Row, NoMemory> {
     let mut cells = Items::new(alloc);
-    add(alloc, &mut cells, 1, Value::Int64(101))?;
-    add(alloc, &mut cells, 2, Value::Int32(500))?;
+    add(alloc, &mut cells, 1, Value::Int64(user))?;
+    add(alloc, &mut cells, 2, Value::Int32(number))?;
     add(alloc, &mut cells, 3, Value::Int64(time))?;
     add(
         alloc,
@@ -60,6 +73,124 @@ fn shown(writes: &[Write]) -> [(u8, u8, bool); 4] {
         }
     }
     shown
+}
+
+/// The same schema, with both indexes global.
+fn global_schema(alloc: Global) -> Result<Schema, Fail> {
+    let mut schema = photo_schema(alloc)?;
+    let mut indexes = Items::new(alloc);
+    for index in schema.indexes.as_slice() {
+        let mut global = index.copy(alloc)?;
+        global.global = true;
+        indexes.push(global)?;
+    }
+    schema.indexes = indexes;
+    Ok(schema)
+}
+
+/// An entry that puts a row and nothing else.
+fn entry(alloc: Global, key: Bytes, row: Row) -> Result<Entry, NoMemory> {
+    let mut writes = Items::new(alloc);
+    writes.push(Write {
+        key,
+        row: Some(row),
+    })?;
+    Entry::new(
+        alloc,
+        Content {
+            id: None,
+            leader: NodeId(1),
+            writes,
+            sends: Items::new(alloc),
+            enters: Items::new(alloc),
+            handles: Items::new(alloc),
+            cuts: Items::new(alloc),
+        },
+    )
+}
+
+/// Refreshes the group of a photo by an entry that puts it, and gives the group's mark.
+fn put(alloc: Global, index: &mut GlobalIndex, schema: &Schema, photo: Row) -> Result<u64, Fail> {
+    let table = table_at(schema, 2).ok_or("no table")?;
+    let values = key_values(alloc, table.primary.as_slice(), &photo)?;
+    let key = key_of(alloc, schema, 2, table, values.as_slice())?;
+    let group = group_of(alloc, schema, 2, table, values.as_slice())?;
+    let next = entry(alloc, key, photo)?;
+    index.refresh(alloc, schema, &group, &[next])?;
+    Ok(index.mark(&group).0)
+}
+
+/// The numbers of the photos found.
+fn numbers(found: &[Found]) -> [i32; 3] {
+    let mut numbers = [0; 3];
+    for (slot, one) in numbers.iter_mut().zip(found) {
+        if let [Value::Int64(_), Value::Int32(number)] = one.key.as_slice() {
+            *slot = *number;
+        }
+    }
+    numbers
+}
+
+/// The photos with this tag.
+fn tagged(
+    alloc: Global,
+    index: &GlobalIndex,
+    schema: &Schema,
+    tag: &str,
+) -> Result<[i32; 3], Fail> {
+    let value = Value::Str(Text::from_str(alloc, tag)?);
+    let found = index.find(alloc, schema, 2, &[value])?;
+    Ok(numbers(found.as_slice()))
+}
+
+/// Photos that are put one after another, by user, number, time and tags; the mark of the group behind
+/// each, and the photos that are then found under Paris.
+const PUTS: [(i64, i32, i64, [&str; 3], u64, [i32; 3]); 5] = [
+    (101, 500, 1000, ["Dinner", "Paris", "Paris"], 1, [500, 0, 0]),
+    (101, 502, 900, ["Betty", "Paris", "Z"], 2, [500, 502, 0]),
+    (102, 501, 950, ["A", "Paris", "Z"], 1, [500, 502, 501]),
+    (101, 500, 1000, ["Dinner", "A", "B"], 3, [502, 501, 0]),
+    (102, 501, 950, ["Parisian", "A", "Z"], 2, [502, 0, 0]),
+];
+
+#[test]
+fn a_find_shows_the_marks(rt: HostRuntime) -> Result<(), Fail> {
+    let alloc = rt.alloc();
+    let schema = global_schema(alloc)?;
+    let mut index = GlobalIndex::new(alloc);
+    let mut before = [0, 0, 0];
+    for (user, number, time, tags, mark, found) in PUTS {
+        let photo = photo_of(alloc, user, number, time, tags.as_slice())?;
+        assert_eq!(rt; tagged(alloc, &index, &schema, "Paris")?, before);
+        assert_eq!(rt; put(alloc, &mut index, &schema, photo)?, mark);
+        before = found;
+    }
+    assert_eq!(rt; tagged(alloc, &index, &schema, "Paris")?, before);
+    Ok(())
+}
+
+#[test]
+fn photos_are_found_in_order_of_time(rt: HostRuntime) -> Result<(), Fail> {
+    let alloc = rt.alloc();
+    let schema = global_schema(alloc)?;
+    let mut index = GlobalIndex::new(alloc);
+    for (number, time) in [(500, 1000), (502, 900)] {
+        let photo = photo_of(alloc, 101, number, time, &[])?;
+        put(alloc, &mut index, &schema, photo)?;
+    }
+    let found = index.find(alloc, &schema, 1, &[Value::Int64(101)])?;
+    assert_eq!(rt; numbers(found.as_slice()), [502, 500, 0]);
+    Ok(())
+}
+
+#[test]
+fn a_value_of_another_kind_is_refused(rt: HostRuntime) -> Result<(), Fail> {
+    let alloc = rt.alloc();
+    let schema = global_schema(alloc)?;
+    let index = GlobalIndex::new(alloc);
+    let refused = index.find(alloc, &schema, 1, &[Value::Int64(101), Value::Int32(1000)]);
+    assert!(rt; matches!(refused, Err(IndexFault::Kind { place: 1 })));
+    Ok(())
 }
 
 #[test]
