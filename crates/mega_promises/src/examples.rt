@@ -8,7 +8,7 @@ ghost use Rattle.mega_outcome.specs.declared.answer.Answer.TheVariants.{Batched,
 ghost use Rattle.mega_outcome.specs.declared.answer.Turn.TheVariants.{CheckFailed};
 ghost use Rattle.mega_outcome.specs.declared.request.Request.TheVariants.{PumpEnter, PumpHandle, Refresh};
 ghost use Rattle.mega_outcome.specs.declared.request.Mode.TheVariants.{Current, Snapshot};
-ghost use Rattle.mega_schedule.specs.declared.event.WorldEvent.TheVariants.{Deliver, Drain, Drop};
+ghost use Rattle.mega_schedule.specs.declared.world_event.WorldEvent.TheVariants.{Deliver, Drain, Drop};
 ghost use Rattle.mega_rules.specs.Examples.{cluster, group};
 ghost use Rattle.mega_promises.specs.Runs.{CutByLog, Whole};
 ghost use Rattle.mega_promises.specs.Worked.{Lapses, Loses, Serves, Unsafe, Unsent, Valid, answers, begin, committed_at, conflict_at, crash, drain, fuse_log, ids_decided, marks, mixed, op, put_at, read_at, read_through, run, run_on, short_log, start, three, tick, told};
