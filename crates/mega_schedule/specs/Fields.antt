@@ -96,14 +96,22 @@ hex_among (Some s) = if is_hex s then Fine else WrongKind
 abbrev pub hex_check : Data → Verdict
 hex_check d = hex_among (as_str d)
 
--- a table's name, and a list of values
+-- the items of a list of two
+abbrev pub pair_of : Items → Option (Data × Data)
+pair_of no_items = None
+pair_of (item first no_items) = None
+pair_of (item first (item second no_items)) = Some (first, second)
+pair_of (item first (item second (item d ds))) = None
+
+abbrev pub pair_check : Option (Data × Data) → Verdict
+pair_check None = WrongKind
+pair_check (Some pair) = text_check pair.0 ⊓ values_check pair.1
+
 abbrev pub group_among : Option Items → Verdict
 group_among None = WrongKind
-group_among (Some no_items) = WrongKind
-group_among (Some (item table no_items)) = WrongKind
-group_among (Some (item table (item values no_items))) = text_check table ⊓ values_check values
-group_among (Some (item table (item values (item d ds)))) = WrongKind
+group_among (Some ds) = pair_check (pair_of ds)
 
+-- a list of a table's name and a list of values
 abbrev pub group_check : Data → Verdict
 group_check d = group_among (as_array d)
 

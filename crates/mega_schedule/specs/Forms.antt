@@ -1,6 +1,6 @@
 -- The forms of lines, and what is wrong with a line of a form.
-use Rattle.std.specs.Prelude.{ℕ, ◌+◌, ◌^◌, ◌&&◌, if◌then◌else◌, nat_le, List, codes, Option, Some, None, is_some}
-use Rattle.serde_json.specs.Data.{Data, Items, no_items, item}
+use Rattle.std.specs.Prelude.{ℕ, ◌+◌, ◌^◌, ◌&&◌, if◌then◌else◌, nat_le, nat_lt, List, codes, Option, Some, None, is_some}
+use Rattle.serde_json.specs.Data.{Data, Items}
 use Rattle.serde_json.specs.Find.{get, as_str, as_array}
 use Rattle.serde_json.specs.Events.{items_len}
 use Rattle.mega_syntax.specs.Names.{same}
@@ -92,11 +92,13 @@ read_line_check d =
     at_most 5 d ⊓ node_check d ⊓ required mode_check (get (codes "mode") d) ⊓ required group_check (get (codes "group") d)
     ⊓ required (each read_check) (get (codes "rows") d)
 
+abbrev pub something : Items → Verdict
+something ds = if nat_lt 0 (items_len ds) then Fine else OutOfRange
+
 -- a list with something in it
 abbrev pub some_check : Option Items → Verdict
 some_check None = WrongKind
-some_check (Some no_items) = OutOfRange
-some_check (Some (item d ds)) = Fine
+some_check (Some ds) = something ds
 
 abbrev pub find_values_check : Data → Verdict
 find_values_check d = values_check d ⊓ some_check (as_array d)

@@ -19,7 +19,7 @@ use Rattle.mega_schema.specs.Rules.{kind_at}
 use Rattle.mega_schema.specs.Shaping.{table_at, shape_of}
 use Rattle.mega_keys.specs.declared.fault.KeyFault.{KeyFault}
 use Rattle.mega_keys.specs.Answers.{group_key_of}
-use Rattle.mega_schedule.specs.Fields.{is_hex}
+use Rattle.mega_schedule.specs.Fields.{is_hex, pair_of}
 
 -- a field's text, number, signed number or list, or none where it has none
 abbrev pub text_in : Option Data → List ℕ
@@ -129,11 +129,9 @@ group_in schema n (Some t) ds = if is_root_table t then group_or_none (group_key
 abbrev pub group_named : Schema → List ℕ → Items → GroupId
 group_named schema name ds = group_in schema (table_number schema name) (table_at schema.tables (table_number schema name)) ds
 
-abbrev pub group_pair : Schema → Items → GroupId
-group_pair schema no_items = no_group
-group_pair schema (item table no_items) = no_group
-group_pair schema (item table (item values no_items)) = group_named schema (text_in (Some table)) (list_in (Some values))
-group_pair schema (item table (item values (item d ds))) = no_group
+abbrev pub group_pair : Schema → Option (Data × Data) → GroupId
+group_pair schema None = no_group
+group_pair schema (Some pair) = group_named schema (text_in (Some pair.0)) (list_in (Some pair.1))
 
 abbrev pub group_of : Schema → Option Data → GroupId
-group_of schema o = group_pair schema (list_in o)
+group_of schema o = group_pair schema (pair_of (list_in o))

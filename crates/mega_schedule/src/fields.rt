@@ -1,10 +1,11 @@
-ghost use Rattle.std.specs.Prelude.{◌≡◌, Some};
+ghost use Rattle.std.specs.Prelude.{◌≡◌, Some, option_map};
+ghost use Rattle.std.specs.List.{list_all};
 ghost use Rattle.serde_json.specs.Data.{Data};
 ghost use Rattle.serde_json.specs.Find.{get};
 ghost use Rattle.serde_json.specs.View.{view, number_view, items_view};
 ghost use Rattle.mega_schedule.specs.declared.verdict.Verdict.{Verdict};
 ghost use Rattle.mega_schedule.specs.declared.verdict.Verdict.TheVariants.{Fine};
-ghost use Rattle.mega_schedule.specs.Fields.{at_most, required, optional, text_check, between, number_within, whole_check, value_check, values_check, worst, each, is_hex_digit, is_hex, hex_check, group_check, floats_check};
+ghost use Rattle.mega_schedule.specs.Fields.{at_most, required, optional, text_check, between, number_within, whole_check, value_check, values_check, worst, each, is_hex_digit, is_hex, hex_check, pair_of, group_check, floats_check};
 
 use crate::floats::has_float;
 use crate::verdict::Verdict;
@@ -39,6 +40,7 @@ pub(crate) fn optional<C: Checked>(object: &Json, name: &str) -> Verdict
 }
 
 /// An object that has all of its fields has one too many where it has more members than those.
+#[tactic(auto, using(crate::proofs::Counts::members_count))]
 pub(crate) fn at_most(object: &Json, fields: usize) -> Verdict
     ensures { result ≡ at_most fields (view object.now) }
 {
@@ -174,11 +176,17 @@ fn is_hex_digit(byte: u8) -> bool
     (48 <= byte && byte <= 57) || (97 <= byte && byte <= 102)
 }
 
+fn are_hex_digits(text: &[u8]) -> bool
+    ensures { result ≡ list_all is_hex_digit text.now }
+{
+    text.iter().all(|byte| is_hex_digit(*byte))
+}
+
 /// Whether the bytes are lower-case hex digits, two for each byte.
 pub(crate) fn is_hex(text: &[u8]) -> bool
     ensures { result ≡ is_hex text.now }
 {
-    text.len() % 2 == 0 && text.iter().all(|byte| is_hex_digit(*byte))
+    text.len() % 2 == 0 && are_hex_digits(text)
 }
 
 /// Bytes as lower-case hex.
@@ -201,6 +209,18 @@ impl Checked for HexField {
     }
 }
 
+/// The items of a list of two.
+#[tactic(auto, using(crate::proofs::Pairs::a_pair, crate::proofs::Pairs::no_pair))]
+pub(crate) fn pair_of(items: &[Json]) -> Option<(&Json, &Json)>
+    ensures { option_map (λ pair. (view pair.0.now, view pair.1.now)) result ≡ pair_of (items_view items.now) }
+{
+    if items.len() == 2 {
+        Some((&items[0], &items[1]))
+    } else {
+        None
+    }
+}
+
 /// A table's name and a list of values.
 pub(crate) struct GroupField;
 
@@ -211,9 +231,9 @@ impl Checked for GroupField {
         let Some(items) = value.as_array() else {
             return Verdict::WrongKind;
         };
-        match items.as_slice() {
-            [table, values] => TextField::check(table).and(ValuesField::check(values)),
-            _ => Verdict::WrongKind,
+        match pair_of(items.as_slice()) {
+            Some((table, values)) => TextField::check(table).and(ValuesField::check(values)),
+            None => Verdict::WrongKind,
         }
     }
 }

@@ -33,7 +33,7 @@ fn items_have_float(items: &Vec<Json>) -> bool
 fn members_have_float(members: &Map<String, Json>) -> bool
     ensures { result ≡ members_have_float (members_view members.now.entries) }
 {
-    for (_key, member) in members.iter() {
+    for (_, member) in members.iter() {
         if has_float(member) {
             return true;
         }

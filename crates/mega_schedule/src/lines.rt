@@ -3,7 +3,7 @@ ghost use Rattle.serde_json.specs.Find.{get, as_array};
 ghost use Rattle.serde_json.specs.View.{view, items_view};
 ghost use Rattle.mega_schedule.specs.declared.verdict.Verdict.TheVariants.{Fine, OutOfRange};
 ghost use Rattle.mega_schedule.specs.declared.form.Form.TheVariants as forms;
-ghost use Rattle.mega_schedule.specs.Forms.{node_check, mode_check, device_check, pump_check, present, fuse_check, txn_check, few_check, txns_check, batch_check, read_line_check, some_check, find_values_check, find_check, fields_check, line_check};
+ghost use Rattle.mega_schedule.specs.Forms.{node_check, mode_check, device_check, pump_check, present, fuse_check, txn_check, few_check, txns_check, batch_check, read_line_check, something, some_check, find_values_check, find_check, fields_check, line_check};
 
 use crate::fields::{
     Checked, GroupField, TextField, ValuesField, at_most, between, floats, optional, required, worst,
@@ -106,7 +106,7 @@ fn txn_check(line: &Json) -> Verdict
 }
 
 /// 1 to 16 transactions.
-#[tactic(auto, using(serde_json::proofs::Views::items_len_items_view))]
+#[tactic(auto, using(crate::proofs::Counts::items_count))]
 fn few_check(items: &[Json]) -> Verdict
     ensures { result ≡ few_check (items_view items.now) }
 {
@@ -163,16 +163,25 @@ impl Checked for FindValuesField {
     }
 }
 
+/// There is something in the list.
+#[tactic(auto, using(crate::proofs::Counts::items_count))]
+fn something(items: &[Json]) -> Verdict
+    ensures { result ≡ something (items_view items.now) }
+{
+    if 0 < items.len() {
+        Verdict::Fine
+    } else {
+        Verdict::OutOfRange
+    }
+}
+
 /// A list with something in it.
 fn some_check(value: &Json) -> Verdict
     ensures { result ≡ some_check (as_array (view value.now)) }
 {
-    let Some(items) = value.as_array() else {
-        return Verdict::WrongKind;
-    };
-    match items.as_slice() {
-        [] => Verdict::OutOfRange,
-        _ => Verdict::Fine,
+    match value.as_array() {
+        Some(items) => something(items.as_slice()),
+        None => Verdict::WrongKind,
     }
 }
 

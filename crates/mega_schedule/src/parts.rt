@@ -90,7 +90,7 @@ fn worst_cell(members: &Map<String, Json>) -> Verdict
     ensures { result ≡ worst_cell Fine (members_view members.now.entries) }
 {
     let mut found = Verdict::Fine;
-    for (_name, value) in members.iter() {
+    for (_, value) in members.iter() {
         found = found.and(cell_check(value));
     }
     found

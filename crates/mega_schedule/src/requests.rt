@@ -1,8 +1,8 @@
-ghost use Rattle.std.specs.Prelude.{◌≡◌, codes, IfOk, Some, is_some};
+ghost use Rattle.std.specs.Prelude.{◌≡◌, codes, IfOk, position};
 ghost use Rattle.std.specs.Option.{option_copied};
 ghost use Rattle.serde_json.specs.Find.{get};
 ghost use Rattle.serde_json.specs.View.{view, items_view};
-ghost use Rattle.mega_index.specs.Fits.{numbered};
+ghost use Rattle.mega_syntax.specs.Names.{same};
 ghost use Rattle.mega_schedule.specs.Values.{list_in};
 ghost use Rattle.mega_schedule.specs.Rows.{each_in, transaction_of};
 ghost use Rattle.mega_schedule.specs.Requests.{mode_in, batch_of, read_request, index_number, has_its_fields, indexed_values, index_in, index_or_none, group_if, find_request, pump_of};
@@ -67,13 +67,17 @@ pub(crate) fn read_request(
     })
 }
 
+fn index_place(indexes: &[Index], name: &str) -> Option<usize>
+    ensures { result ≡ position (λ i. same i.name name.now) indexes.now }
+{
+    indexes.iter().position(|index| same(index.name.as_str(), name))
+}
+
 /// The number of the index that a line names, or 0.
 fn index_in(schema: &Schema, line: &Json) -> u8
     ensures { result ≡ index_in schema.now (view line.now) }
 {
-    let name = text_in(line, "index");
-    let indexes = schema.indexes.as_slice();
-    number_of_place(indexes.iter().position(|index| same(index.name.as_str(), name)))
+    number_of_place(index_place(schema.indexes.as_slice(), text_in(line, "index")))
 }
 
 /// A local index has a mode and a group, a global one has neither.

@@ -9,7 +9,7 @@ ghost use Rattle.mega_keys.specs.Answers.{group_key_of};
 ghost use Rattle.mega_index.specs.Fits.{numbered};
 ghost use Rattle.mega_schedule.specs.Values.{text_in, number_in, whole_in, list_in, byte_in, is_int32, number_value, bytes_of, text_value, value_of, first_kind, others, values_at, number_of_place, table_number, property_number, properties_of, primary_of, key_in, group_or_none, group_in, group_named, group_of, no_group};
 
-use crate::fields::is_hex;
+use crate::fields::{is_hex, pair_of};
 use crate::form::same;
 use hex::FromHexError;
 use mega_base::{Bytes, GroupId, Items, Kind, NoMemory, Shape, Text, Value};
@@ -219,19 +219,30 @@ pub(crate) fn number_of_place(place: Option<usize>) -> u8
     }
 }
 
+fn table_place(tables: &[Table], name: &str) -> Option<usize>
+    ensures { result ≡ position (λ t. same t.name name.now) tables.now }
+{
+    tables.iter().position(|table| same(table.name.as_str(), name))
+}
+
 /// The number of the table with this name, or 0.
 pub(crate) fn table_number(schema: &Schema, name: &str) -> u8
     ensures { result ≡ table_number schema.now name.now }
 {
-    let tables = schema.tables.as_slice();
-    number_of_place(tables.iter().position(|table| same(table.name.as_str(), name)))
+    number_of_place(table_place(schema.tables.as_slice(), name))
+}
+
+fn property_place(properties: &[Property], name: &str) -> Option<usize>
+    ensures { result ≡ position (λ p. same p.name name.now) properties.now }
+{
+    properties.iter().position(|property| same(property.name.as_str(), name))
 }
 
 /// The number of the property with this name, or 0.
 pub(crate) fn property_number(properties: &[Property], name: &str) -> u8
     ensures { result ≡ property_number properties.now name.now }
 {
-    number_of_place(properties.iter().position(|property| same(property.name.as_str(), name)))
+    number_of_place(property_place(properties, name))
 }
 
 /// The properties of a table, or none where there is no such table.
@@ -328,8 +339,8 @@ pub(crate) fn group_in(
 ) -> Result<GroupId, NoMemory>
     ensures { IfOk result (λ made. made ≡ group_of schema.now (get name.now (view object.now))) }
 {
-    match list_in(object, name) {
-        [table, values] => group_named(alloc, schema, text_of(table), list_of(values)),
-        _ => Ok(no_group(alloc)),
+    match pair_of(list_in(object, name)) {
+        Some((table, values)) => group_named(alloc, schema, text_of(table), list_of(values)),
+        None => Ok(no_group(alloc)),
     }
 }
