@@ -17,3 +17,6 @@ mod world_event;
 pub use world_event::{LineFault, WorldEvent};
 pub use read::event;
 
+
+#[cfg(test)]
+mod tests;
