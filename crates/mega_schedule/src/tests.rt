@@ -1,8 +1,10 @@
+mod begins;
+mod edges;
 mod lines;
 
 use super::*;
 use mega_base::Text;
-use mega_outcome::Request;
+
 use mega_schema::{Schema, parse};
 use std::alloc::Global;
 use std::process::Abort;
