@@ -1,7 +1,6 @@
 //! Schedule lines: one JSON object a line, and the event that it stands for.
 #![tactic(auto)]
 
-
 mod fields;
 mod floats;
 mod form;
@@ -14,9 +13,8 @@ mod values;
 mod verdict;
 mod world_event;
 
-pub use world_event::{LineFault, WorldEvent};
 pub use read::event;
-
+pub use world_event::{LineFault, WorldEvent};
 
 #[cfg(test)]
 mod tests;

@@ -6,7 +6,8 @@ ghost use Rattle.mega_schedule.specs.declared.form.Form.TheVariants as forms;
 ghost use Rattle.mega_schedule.specs.Forms.{node_check, mode_check, device_check, pump_check, present, fuse_check, txn_check, few_check, txns_check, batch_check, read_line_check, something, some_check, find_values_check, find_check, fields_check, line_check};
 
 use crate::fields::{
-    Checked, GroupField, TextField, ValuesField, at_most, between, floats, optional, required, worst,
+    Checked, GroupField, TextField, ValuesField, at_most, between, floats, optional, required,
+    worst,
 };
 use crate::form::{Form, device_named, mode_named, pump_named};
 use crate::parts::{ReadsField, TransactionPart, items_check};
@@ -79,11 +80,7 @@ fn present(line: &Json, name: &str) -> usize
     ensures value { result ≡ present (get name.now (view line.now)) }
     ensures few { result ≤ 1 }
 {
-    if line.get(name).is_some() {
-        1
-    } else {
-        0
-    }
+    if line.get(name).is_some() { 1 } else { 0 }
 }
 
 fn fuse_check(line: &Json) -> Verdict

@@ -6,12 +6,12 @@ ghost use Rattle.mega_schedule.specs.Forms.{form_named};
 ghost use Rattle.mega_schedule.specs.Events.{node_in, device_in, fuse_in, begun, request_in, event_in, object_of, of_form, of_word, of_object, event_of};
 ghost use Rattle.mega_schedule.specs.Answers.{Gives, GivesOrReason};
 
-use crate::world_event::{LineFault, WorldEvent};
 use crate::form::{Form, device_named, form_named};
 use crate::lines::line_check;
 use crate::requests::{batch_of, find_request, pump_of, read_request};
 use crate::rows::transaction_of;
 use crate::values::{byte_in, number_in};
+use crate::world_event::{LineFault, WorldEvent};
 use mega_base::{NoMemory, NodeId, Text};
 use mega_disk::Device;
 use mega_outcome::Request;
@@ -144,12 +144,7 @@ fn fuse(line: &Json) -> WorldEvent
 }
 
 /// What a line that begins an operation asks for.
-fn request_in(
-    alloc: Global,
-    schema: &Schema,
-    form: Form,
-    line: &Json,
-) -> Result<Request, NoMemory>
+fn request_in(alloc: Global, schema: &Schema, form: Form, line: &Json) -> Result<Request, NoMemory>
     ensures { IfOk result (λ made. made ≡ request_in schema.now form (view line.now)) }
 {
     match form {
@@ -163,12 +158,7 @@ fn request_in(
 }
 
 /// The event of a line of this form that has no fault.
-fn event_in(
-    alloc: Global,
-    schema: &Schema,
-    form: Form,
-    line: &Json,
-) -> Result<WorldEvent, NoMemory>
+fn event_in(alloc: Global, schema: &Schema, form: Form, line: &Json) -> Result<WorldEvent, NoMemory>
     requires { has_float (view line.now) ≡ false }
     ensures { IfOk result (λ made. made ≡ event_in schema.now form (view line.now)) }
 {
@@ -186,8 +176,12 @@ fn event_in(
         Form::Drain => Ok(WorldEvent::Drain {
             most: number_in(line, "most"),
         }),
-        Form::Crash => Ok(WorldEvent::Crash { node: node_in(line) }),
-        Form::Start => Ok(WorldEvent::Start { node: node_in(line) }),
+        Form::Crash => Ok(WorldEvent::Crash {
+            node: node_in(line),
+        }),
+        Form::Start => Ok(WorldEvent::Start {
+            node: node_in(line),
+        }),
         Form::Fuse => Ok(fuse(line)),
         _ => {
             let request = request_in(alloc, schema, form, line)?;

@@ -9,7 +9,9 @@ ghost use Rattle.mega_schedule.specs.Requests.{mode_in, batch_of, read_request, 
 
 use crate::form::{Pump, mode_named, pump_named, same};
 use crate::rows::{parts_in, transaction_of};
-use crate::values::{group_in, list_in, number_of_place, numbered, properties_of, text_in, values_at};
+use crate::values::{
+    group_in, list_in, number_of_place, numbered, properties_of, text_in, values_at,
+};
 use mega_base::{GroupId, Items, NoMemory, Value};
 use mega_outcome::{FindRequest, Mode, ReadRequest, Request, Transaction};
 use mega_schema::{Index, Schema};
@@ -27,11 +29,7 @@ fn mode_in(line: &Json) -> Mode
 }
 
 /// The transactions of a batch.
-fn transactions(
-    alloc: Global,
-    schema: &Schema,
-    line: &Json,
-) -> Result<Items<Transaction>, NoMemory>
+fn transactions(alloc: Global, schema: &Schema, line: &Json) -> Result<Items<Transaction>, NoMemory>
     ensures { IfOk result (λ made. made ≡ each_in (transaction_of schema.now (get (codes "group") (view line.now))) (list_in (get (codes "txns") (view line.now)))) }
 {
     let mut made = Items::new(alloc);
@@ -70,7 +68,9 @@ pub(crate) fn read_request(
 fn index_place(indexes: &[Index], name: &str) -> Option<usize>
     ensures { result ≡ position (λ i. same i.name name.now) indexes.now }
 {
-    indexes.iter().position(|index| same(index.name.as_str(), name))
+    indexes
+        .iter()
+        .position(|index| same(index.name.as_str(), name))
 }
 
 /// The number of the index that a line names, or 0.
@@ -132,7 +132,11 @@ fn index_or_none(schema: &Schema, line: &Json) -> u8
 {
     let number = index_in(schema, line);
     let index = numbered(schema.indexes.as_slice(), number);
-    if has_its_fields(index, line.get("mode").is_some(), line.get("group").is_some()) {
+    if has_its_fields(
+        index,
+        line.get("mode").is_some(),
+        line.get("group").is_some(),
+    ) {
         number
     } else {
         0

@@ -61,7 +61,11 @@ fn named_in<'a>(schema: &'a Schema, object: &Json, name: &str) -> Option<&'a Tab
 fn row_of(alloc: Global, schema: &Schema, object: &Json, word: &str) -> Result<RowRef, NoMemory>
     ensures { IfOk result (λ made. made ≡ row_of schema.now word.now (view object.now)) }
 {
-    let key = key_in(alloc, named_in(schema, object, word), list_in(object, "key"))?;
+    let key = key_in(
+        alloc,
+        named_in(schema, object, word),
+        list_in(object, "key"),
+    )?;
     Ok(RowRef {
         table: table_in(schema, object, word),
         key,
@@ -80,7 +84,10 @@ impl Part for RowRef {
 fn property_in(schema: &Schema, object: &Json, word: &str) -> u8
     ensures { result ≡ property_in schema.now (get word.now (view object.now)) (get (codes "property") (view object.now)) }
 {
-    property_number(properties_of(named_in(schema, object, word)), text_in(object, "property"))
+    property_number(
+        properties_of(named_in(schema, object, word)),
+        text_in(object, "property"),
+    )
 }
 
 /// Values of one kind.
@@ -196,11 +203,7 @@ fn put_known(
 fn number_behind(number: u8) -> u8
     ensures { result ≡ number_behind number }
 {
-    if number < 255 {
-        number + 1
-    } else {
-        255
-    }
+    if number < 255 { number + 1 } else { 255 }
 }
 
 /// Adds the cells of the properties that are there.

@@ -1,10 +1,11 @@
 mod begins;
 mod edges;
 mod lines;
+mod requests;
+mod world;
 
 use super::*;
 use mega_base::Text;
-
 use mega_schema::{Schema, parse};
 use std::alloc::Global;
 use std::process::Abort;

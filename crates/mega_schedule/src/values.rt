@@ -49,11 +49,7 @@ pub(crate) fn byte_in(object: &Json, name: &str) -> u8
     ensures { result ≡ byte_in (get name.now (view object.now)) }
 {
     let number = number_in(object, name);
-    if number < 256 {
-        number as u8
-    } else {
-        0
-    }
+    if number < 256 { number as u8 } else { 0 }
 }
 
 fn whole_of(value: &Json) -> i64
@@ -208,13 +204,7 @@ pub(crate) fn number_of_place(place: Option<usize>) -> u8
     ensures { result ≡ number_of_place place }
 {
     match place {
-        Some(place) => {
-            if place < 255 {
-                place as u8 + 1
-            } else {
-                0
-            }
-        }
+        Some(place) => { if place < 255 { place as u8 + 1 } else { 0 } }
         None => 0,
     }
 }
@@ -222,7 +212,9 @@ pub(crate) fn number_of_place(place: Option<usize>) -> u8
 fn table_place(tables: &[Table], name: &str) -> Option<usize>
     ensures { result ≡ position (λ t. same t.name name.now) tables.now }
 {
-    tables.iter().position(|table| same(table.name.as_str(), name))
+    tables
+        .iter()
+        .position(|table| same(table.name.as_str(), name))
 }
 
 /// The number of the table with this name, or 0.
@@ -235,7 +227,9 @@ pub(crate) fn table_number(schema: &Schema, name: &str) -> u8
 fn property_place(properties: &[Property], name: &str) -> Option<usize>
     ensures { result ≡ position (λ p. same p.name name.now) properties.now }
 {
-    properties.iter().position(|property| same(property.name.as_str(), name))
+    properties
+        .iter()
+        .position(|property| same(property.name.as_str(), name))
 }
 
 /// The number of the property with this name, or 0.
@@ -265,7 +259,12 @@ pub(crate) fn key_in(
 {
     match table {
         Some(table) => {
-            values_at(alloc, table.properties.as_slice(), table.primary.as_slice(), items)
+            values_at(
+                alloc,
+                table.properties.as_slice(),
+                table.primary.as_slice(),
+                items,
+            )
         }
         None => values_at(alloc, &[], &[], items),
     }

@@ -44,14 +44,16 @@ const TEXTS: [(&str, &str); 8] = [
 ];
 
 /// The request and the text of a line that begins an operation.
-fn begun(alloc: Global, line: &str) -> Result<(Request, Text), Fail> {
+pub fn begun(alloc: Global, line: &str) -> Result<(Request, Text), Fail> {
     let schema = schema(alloc)?;
     match event(alloc, line.as_bytes(), 1, &schema) {
-        Ok(WorldEvent::Begin {
-            node: _,
-            request,
-            text,
-        }) => Ok((request, text)),
+        Ok(
+            WorldEvent::Begin {
+                node: _,
+                request,
+                text,
+            },
+        ) => Ok((request, text)),
         _ => Err(Fail::from("no operation begins")),
     }
 }

@@ -29,7 +29,10 @@ pub const WORDS: [(u8, &str); 22] = [
 /// Lines of the world itself.
 pub const WORLD: [(u8, &str); 47] = [
     (0, r#"{"do":"tick","node":1,"now":0}"#),
-    (0, r#" { "now" : 1000000000000 , "node" : 9 , "do" : "tick" } "#),
+    (
+        0,
+        r#" { "now" : 1000000000000 , "node" : 9 , "do" : "tick" } "#,
+    ),
     (3, r#"{"do":"tick","now":0}"#),
     (3, r#"{"do":"tick","node":1}"#),
     (6, r#"{"do":"tick","node":1,"now":0,"at":0}"#),
@@ -67,92 +70,290 @@ pub const WORLD: [(u8, &str); 47] = [
     (4, r#"{"do":"start","node":-0}"#),
     (5, r#"{"do":"start","node":10}"#),
     (0, r#"{"do":"fuse","node":1,"calls":0,"image":0}"#),
-    (0, r#"{"do":"fuse","node":1,"calls":1000000,"image":2,"device":"data"}"#),
+    (
+        0,
+        r#"{"do":"fuse","node":1,"calls":1000000,"image":2,"device":"data"}"#,
+    ),
     (3, r#"{"do":"fuse","node":1,"calls":0,"device":"log"}"#),
-    (6, r#"{"do":"fuse","node":1,"calls":0,"image":0,"disk":"log"}"#),
-    (6, r#"{"do":"fuse","node":1,"calls":0,"image":0,"device":"log","disk":0}"#),
-    (4, r#"{"do":"fuse","node":1,"calls":0,"image":0,"device":null}"#),
+    (
+        6,
+        r#"{"do":"fuse","node":1,"calls":0,"image":0,"disk":"log"}"#,
+    ),
+    (
+        6,
+        r#"{"do":"fuse","node":1,"calls":0,"image":0,"device":"log","disk":0}"#,
+    ),
+    (
+        4,
+        r#"{"do":"fuse","node":1,"calls":0,"image":0,"device":null}"#,
+    ),
     (5, r#"{"do":"fuse","node":1,"calls":0,"image":3}"#),
     (5, r#"{"do":"fuse","node":1,"calls":1000001,"image":0}"#),
-    (5, r#"{"do":"fuse","node":1,"calls":0,"image":0,"device":"Log"}"#),
+    (
+        5,
+        r#"{"do":"fuse","node":1,"calls":0,"image":0,"device":"Log"}"#,
+    ),
 ];
 
 /// Transactions.
 pub const TRANSACTIONS: [(u8, &str); 41] = [
-    (0, r#"{"do":"txn","node":1,"group":["A",[1]],"checks":[],"reads":[],"writes":[],"sends":[]}"#),
-    (0, r#"{"do":"txn","node":1,"group":["A",[1]],"checks":[{"there":"A","key":[1]},{"gone":"B","key":[]},{"is":"A","key":[1],"property":"n","values":[1,"x",true]}],"reads":[],"writes":[],"sends":[]}"#),
-    (0, r#"{"do":"txn","node":1,"group":["A",[1]],"checks":[],"reads":[{"row":"A","key":[9223372036854775807,-9223372036854775808]}],"writes":[],"sends":[]}"#),
-    (0, r#"{"do":"txn","node":1,"group":["A",[1]],"checks":[],"reads":[],"writes":[{"put":"A","row":{"id":1,"many":[1,2],"none":[]}},{"delete":"A","key":[1]},{"add":"A","key":[1],"property":"n","by":-9223372036854775808}],"sends":[]}"#),
-    (0, r#"{"do":"txn","node":1,"group":["A",[1]],"checks":[],"reads":[],"writes":[],"sends":[{"to":["A",[2]],"queue":"","payload":""}]}"#),
-    (3, r#"{"do":"txn","node":1,"group":["A",[1]],"checks":[],"reads":[],"writes":[]}"#),
-    (6, r#"{"do":"txn","node":1,"group":["A",[1]],"checks":[],"reads":[],"writes":[],"sends":[],"txns":[]}"#),
-    (4, r#"{"do":"txn","node":1,"group":["A"],"checks":[],"reads":[],"writes":[],"sends":[]}"#),
-    (4, r#"{"do":"txn","node":1,"group":["A",[1],0],"checks":[],"reads":[],"writes":[],"sends":[]}"#),
-    (4, r#"{"do":"txn","node":1,"group":[1,[1]],"checks":[],"reads":[],"writes":[],"sends":[]}"#),
-    (4, r#"{"do":"txn","node":1,"group":["A",1],"checks":[],"reads":[],"writes":[],"sends":[]}"#),
-    (5, r#"{"do":"txn","node":1,"group":["A",[9223372036854775808]],"checks":[],"reads":[],"writes":[],"sends":[]}"#),
-    (4, r#"{"do":"txn","node":1,"group":["A",[9223372036854775808.0]],"checks":[],"reads":[],"writes":[],"sends":[]}"#),
-    (4, r#"{"do":"txn","node":1,"group":["A",[1]],"checks":{},"reads":[],"writes":[],"sends":[]}"#),
-    (4, r#"{"do":"txn","node":1,"group":["A",[1]],"checks":[1],"reads":[],"writes":[],"sends":[]}"#),
-    (3, r#"{"do":"txn","node":1,"group":["A",[1]],"checks":[{"here":"A","key":[1]}],"reads":[],"writes":[],"sends":[]}"#),
-    (3, r#"{"do":"txn","node":1,"group":["A",[1]],"checks":[{"there":"A"}],"reads":[],"writes":[],"sends":[]}"#),
-    (6, r#"{"do":"txn","node":1,"group":["A",[1]],"checks":[{"there":"A","key":[1],"gone":"A"}],"reads":[],"writes":[],"sends":[]}"#),
-    (4, r#"{"do":"txn","node":1,"group":["A",[1]],"checks":[{"gone":1,"key":[1]}],"reads":[],"writes":[],"sends":[]}"#),
-    (4, r#"{"do":"txn","node":1,"group":["A",[1]],"checks":[{"gone":"A","key":[null]}],"reads":[],"writes":[],"sends":[]}"#),
-    (3, r#"{"do":"txn","node":1,"group":["A",[1]],"checks":[{"is":"A","key":[1],"property":"n"}],"reads":[],"writes":[],"sends":[]}"#),
-    (4, r#"{"do":"txn","node":1,"group":["A",[1]],"checks":[{"is":"A","key":[1],"property":"n","values":1}],"reads":[],"writes":[],"sends":[]}"#),
-    (4, r#"{"do":"txn","node":1,"group":["A",[1]],"checks":[],"reads":[[]],"writes":[],"sends":[]}"#),
-    (3, r#"{"do":"txn","node":1,"group":["A",[1]],"checks":[],"reads":[{"key":[1]}],"writes":[],"sends":[]}"#),
-    (6, r#"{"do":"txn","node":1,"group":["A",[1]],"checks":[],"reads":[{"row":"A","key":[1],"mode":"current"}],"writes":[],"sends":[]}"#),
-    (5, r#"{"do":"txn","node":1,"group":["A",[1]],"checks":[],"reads":[{"row":"A","key":[18446744073709551615]}],"writes":[],"sends":[]}"#),
-    (3, r#"{"do":"txn","node":1,"group":["A",[1]],"checks":[],"reads":[],"writes":[{}],"sends":[]}"#),
-    (3, r#"{"do":"txn","node":1,"group":["A",[1]],"checks":[],"reads":[],"writes":[{"put":"A","key":[1]}],"sends":[]}"#),
-    (4, r#"{"do":"txn","node":1,"group":["A",[1]],"checks":[],"reads":[],"writes":[{"put":"A","row":[]}],"sends":[]}"#),
-    (4, r#"{"do":"txn","node":1,"group":["A",[1]],"checks":[],"reads":[],"writes":[{"put":"A","row":{"id":null}}],"sends":[]}"#),
-    (4, r#"{"do":"txn","node":1,"group":["A",[1]],"checks":[],"reads":[],"writes":[{"put":"A","row":{"id":[[1]]}}],"sends":[]}"#),
-    (5, r#"{"do":"txn","node":1,"group":["A",[1]],"checks":[],"reads":[],"writes":[{"put":"A","row":{"id":[9223372036854775808]}}],"sends":[]}"#),
-    (6, r#"{"do":"txn","node":1,"group":["A",[1]],"checks":[],"reads":[],"writes":[{"delete":"A","key":[1],"row":{}}],"sends":[]}"#),
-    (4, r#"{"do":"txn","node":1,"group":["A",[1]],"checks":[],"reads":[],"writes":[{"add":"A","key":[1],"property":"n","by":"1"}],"sends":[]}"#),
-    (5, r#"{"do":"txn","node":1,"group":["A",[1]],"checks":[],"reads":[],"writes":[{"add":"A","key":[1],"property":"n","by":9223372036854775808}],"sends":[]}"#),
-    (4, r#"{"do":"txn","node":1,"group":["A",[1]],"checks":[],"reads":[],"writes":[{"add":"A","key":[1],"property":"n","by":-9223372036854775809}],"sends":[]}"#),
-    (3, r#"{"do":"txn","node":1,"group":["A",[1]],"checks":[],"reads":[],"writes":[],"sends":[{"to":["A",[2]],"queue":"q"}]}"#),
-    (4, r#"{"do":"txn","node":1,"group":["A",[1]],"checks":[],"reads":[],"writes":[],"sends":[{"to":["A",[2]],"queue":"q","payload":"0"}]}"#),
-    (4, r#"{"do":"txn","node":1,"group":["A",[1]],"checks":[],"reads":[],"writes":[],"sends":[{"to":["A",[2]],"queue":"q","payload":"0A"}]}"#),
-    (4, r#"{"do":"txn","node":1,"group":["A",[1]],"checks":[],"reads":[],"writes":[],"sends":[{"to":"A","queue":"q","payload":""}]}"#),
-    (6, r#"{"do":"txn","node":1,"group":["A",[1]],"checks":[],"reads":[],"writes":[],"sends":[{"to":["A",[2]],"queue":"q","payload":"","at":1}]}"#),
+    (
+        0,
+        r#"{"do":"txn","node":1,"group":["A",[1]],"checks":[],"reads":[],"writes":[],"sends":[]}"#,
+    ),
+    (
+        0,
+        r#"{"do":"txn","node":1,"group":["A",[1]],"checks":[{"there":"A","key":[1]},{"gone":"B","key":[]},{"is":"A","key":[1],"property":"n","values":[1,"x",true]}],"reads":[],"writes":[],"sends":[]}"#,
+    ),
+    (
+        0,
+        r#"{"do":"txn","node":1,"group":["A",[1]],"checks":[],"reads":[{"row":"A","key":[9223372036854775807,-9223372036854775808]}],"writes":[],"sends":[]}"#,
+    ),
+    (
+        0,
+        r#"{"do":"txn","node":1,"group":["A",[1]],"checks":[],"reads":[],"writes":[{"put":"A","row":{"id":1,"many":[1,2],"none":[]}},{"delete":"A","key":[1]},{"add":"A","key":[1],"property":"n","by":-9223372036854775808}],"sends":[]}"#,
+    ),
+    (
+        0,
+        r#"{"do":"txn","node":1,"group":["A",[1]],"checks":[],"reads":[],"writes":[],"sends":[{"to":["A",[2]],"queue":"","payload":""}]}"#,
+    ),
+    (
+        3,
+        r#"{"do":"txn","node":1,"group":["A",[1]],"checks":[],"reads":[],"writes":[]}"#,
+    ),
+    (
+        6,
+        r#"{"do":"txn","node":1,"group":["A",[1]],"checks":[],"reads":[],"writes":[],"sends":[],"txns":[]}"#,
+    ),
+    (
+        4,
+        r#"{"do":"txn","node":1,"group":["A"],"checks":[],"reads":[],"writes":[],"sends":[]}"#,
+    ),
+    (
+        4,
+        r#"{"do":"txn","node":1,"group":["A",[1],0],"checks":[],"reads":[],"writes":[],"sends":[]}"#,
+    ),
+    (
+        4,
+        r#"{"do":"txn","node":1,"group":[1,[1]],"checks":[],"reads":[],"writes":[],"sends":[]}"#,
+    ),
+    (
+        4,
+        r#"{"do":"txn","node":1,"group":["A",1],"checks":[],"reads":[],"writes":[],"sends":[]}"#,
+    ),
+    (
+        5,
+        r#"{"do":"txn","node":1,"group":["A",[9223372036854775808]],"checks":[],"reads":[],"writes":[],"sends":[]}"#,
+    ),
+    (
+        4,
+        r#"{"do":"txn","node":1,"group":["A",[9223372036854775808.0]],"checks":[],"reads":[],"writes":[],"sends":[]}"#,
+    ),
+    (
+        4,
+        r#"{"do":"txn","node":1,"group":["A",[1]],"checks":{},"reads":[],"writes":[],"sends":[]}"#,
+    ),
+    (
+        4,
+        r#"{"do":"txn","node":1,"group":["A",[1]],"checks":[1],"reads":[],"writes":[],"sends":[]}"#,
+    ),
+    (
+        3,
+        r#"{"do":"txn","node":1,"group":["A",[1]],"checks":[{"here":"A","key":[1]}],"reads":[],"writes":[],"sends":[]}"#,
+    ),
+    (
+        3,
+        r#"{"do":"txn","node":1,"group":["A",[1]],"checks":[{"there":"A"}],"reads":[],"writes":[],"sends":[]}"#,
+    ),
+    (
+        6,
+        r#"{"do":"txn","node":1,"group":["A",[1]],"checks":[{"there":"A","key":[1],"gone":"A"}],"reads":[],"writes":[],"sends":[]}"#,
+    ),
+    (
+        4,
+        r#"{"do":"txn","node":1,"group":["A",[1]],"checks":[{"gone":1,"key":[1]}],"reads":[],"writes":[],"sends":[]}"#,
+    ),
+    (
+        4,
+        r#"{"do":"txn","node":1,"group":["A",[1]],"checks":[{"gone":"A","key":[null]}],"reads":[],"writes":[],"sends":[]}"#,
+    ),
+    (
+        3,
+        r#"{"do":"txn","node":1,"group":["A",[1]],"checks":[{"is":"A","key":[1],"property":"n"}],"reads":[],"writes":[],"sends":[]}"#,
+    ),
+    (
+        4,
+        r#"{"do":"txn","node":1,"group":["A",[1]],"checks":[{"is":"A","key":[1],"property":"n","values":1}],"reads":[],"writes":[],"sends":[]}"#,
+    ),
+    (
+        4,
+        r#"{"do":"txn","node":1,"group":["A",[1]],"checks":[],"reads":[[]],"writes":[],"sends":[]}"#,
+    ),
+    (
+        3,
+        r#"{"do":"txn","node":1,"group":["A",[1]],"checks":[],"reads":[{"key":[1]}],"writes":[],"sends":[]}"#,
+    ),
+    (
+        6,
+        r#"{"do":"txn","node":1,"group":["A",[1]],"checks":[],"reads":[{"row":"A","key":[1],"mode":"current"}],"writes":[],"sends":[]}"#,
+    ),
+    (
+        5,
+        r#"{"do":"txn","node":1,"group":["A",[1]],"checks":[],"reads":[{"row":"A","key":[18446744073709551615]}],"writes":[],"sends":[]}"#,
+    ),
+    (
+        3,
+        r#"{"do":"txn","node":1,"group":["A",[1]],"checks":[],"reads":[],"writes":[{}],"sends":[]}"#,
+    ),
+    (
+        3,
+        r#"{"do":"txn","node":1,"group":["A",[1]],"checks":[],"reads":[],"writes":[{"put":"A","key":[1]}],"sends":[]}"#,
+    ),
+    (
+        4,
+        r#"{"do":"txn","node":1,"group":["A",[1]],"checks":[],"reads":[],"writes":[{"put":"A","row":[]}],"sends":[]}"#,
+    ),
+    (
+        4,
+        r#"{"do":"txn","node":1,"group":["A",[1]],"checks":[],"reads":[],"writes":[{"put":"A","row":{"id":null}}],"sends":[]}"#,
+    ),
+    (
+        4,
+        r#"{"do":"txn","node":1,"group":["A",[1]],"checks":[],"reads":[],"writes":[{"put":"A","row":{"id":[[1]]}}],"sends":[]}"#,
+    ),
+    (
+        5,
+        r#"{"do":"txn","node":1,"group":["A",[1]],"checks":[],"reads":[],"writes":[{"put":"A","row":{"id":[9223372036854775808]}}],"sends":[]}"#,
+    ),
+    (
+        6,
+        r#"{"do":"txn","node":1,"group":["A",[1]],"checks":[],"reads":[],"writes":[{"delete":"A","key":[1],"row":{}}],"sends":[]}"#,
+    ),
+    (
+        4,
+        r#"{"do":"txn","node":1,"group":["A",[1]],"checks":[],"reads":[],"writes":[{"add":"A","key":[1],"property":"n","by":"1"}],"sends":[]}"#,
+    ),
+    (
+        5,
+        r#"{"do":"txn","node":1,"group":["A",[1]],"checks":[],"reads":[],"writes":[{"add":"A","key":[1],"property":"n","by":9223372036854775808}],"sends":[]}"#,
+    ),
+    (
+        4,
+        r#"{"do":"txn","node":1,"group":["A",[1]],"checks":[],"reads":[],"writes":[{"add":"A","key":[1],"property":"n","by":-9223372036854775809}],"sends":[]}"#,
+    ),
+    (
+        3,
+        r#"{"do":"txn","node":1,"group":["A",[1]],"checks":[],"reads":[],"writes":[],"sends":[{"to":["A",[2]],"queue":"q"}]}"#,
+    ),
+    (
+        4,
+        r#"{"do":"txn","node":1,"group":["A",[1]],"checks":[],"reads":[],"writes":[],"sends":[{"to":["A",[2]],"queue":"q","payload":"0"}]}"#,
+    ),
+    (
+        4,
+        r#"{"do":"txn","node":1,"group":["A",[1]],"checks":[],"reads":[],"writes":[],"sends":[{"to":["A",[2]],"queue":"q","payload":"0A"}]}"#,
+    ),
+    (
+        4,
+        r#"{"do":"txn","node":1,"group":["A",[1]],"checks":[],"reads":[],"writes":[],"sends":[{"to":"A","queue":"q","payload":""}]}"#,
+    ),
+    (
+        6,
+        r#"{"do":"txn","node":1,"group":["A",[1]],"checks":[],"reads":[],"writes":[],"sends":[{"to":["A",[2]],"queue":"q","payload":"","at":1}]}"#,
+    ),
 ];
 
 /// Batches, reads, finds, pumps and refreshes.
 pub const REQUESTS: [(u8, &str); 40] = [
-    (0, r#"{"do":"batch","node":1,"group":["A",[1]],"txns":[{"checks":[],"reads":[],"writes":[],"sends":[]}]}"#),
-    (0, r#"{"do":"batch","node":1,"group":["A",[1]],"txns":[{"checks":[],"reads":[],"writes":[],"sends":[]},{"checks":[],"reads":[],"writes":[],"sends":[]},{"checks":[],"reads":[],"writes":[],"sends":[]},{"checks":[],"reads":[],"writes":[],"sends":[]},{"checks":[],"reads":[],"writes":[],"sends":[]},{"checks":[],"reads":[],"writes":[],"sends":[]},{"checks":[],"reads":[],"writes":[],"sends":[]},{"checks":[],"reads":[],"writes":[],"sends":[]},{"checks":[],"reads":[],"writes":[],"sends":[]},{"checks":[],"reads":[],"writes":[],"sends":[]},{"checks":[],"reads":[],"writes":[],"sends":[]},{"checks":[],"reads":[],"writes":[],"sends":[]},{"checks":[],"reads":[],"writes":[],"sends":[]},{"checks":[],"reads":[],"writes":[],"sends":[]},{"checks":[],"reads":[],"writes":[],"sends":[]},{"checks":[],"reads":[],"writes":[],"sends":[]}]}"#),
-    (5, r#"{"do":"batch","node":1,"group":["A",[1]],"txns":[{"checks":[],"reads":[],"writes":[],"sends":[]},{"checks":[],"reads":[],"writes":[],"sends":[]},{"checks":[],"reads":[],"writes":[],"sends":[]},{"checks":[],"reads":[],"writes":[],"sends":[]},{"checks":[],"reads":[],"writes":[],"sends":[]},{"checks":[],"reads":[],"writes":[],"sends":[]},{"checks":[],"reads":[],"writes":[],"sends":[]},{"checks":[],"reads":[],"writes":[],"sends":[]},{"checks":[],"reads":[],"writes":[],"sends":[]},{"checks":[],"reads":[],"writes":[],"sends":[]},{"checks":[],"reads":[],"writes":[],"sends":[]},{"checks":[],"reads":[],"writes":[],"sends":[]},{"checks":[],"reads":[],"writes":[],"sends":[]},{"checks":[],"reads":[],"writes":[],"sends":[]},{"checks":[],"reads":[],"writes":[],"sends":[]},{"checks":[],"reads":[],"writes":[],"sends":[]},{"checks":[],"reads":[],"writes":[],"sends":[]}]}"#),
+    (
+        0,
+        r#"{"do":"batch","node":1,"group":["A",[1]],"txns":[{"checks":[],"reads":[],"writes":[],"sends":[]}]}"#,
+    ),
+    (
+        0,
+        r#"{"do":"batch","node":1,"group":["A",[1]],"txns":[{"checks":[],"reads":[],"writes":[],"sends":[]},{"checks":[],"reads":[],"writes":[],"sends":[]},{"checks":[],"reads":[],"writes":[],"sends":[]},{"checks":[],"reads":[],"writes":[],"sends":[]},{"checks":[],"reads":[],"writes":[],"sends":[]},{"checks":[],"reads":[],"writes":[],"sends":[]},{"checks":[],"reads":[],"writes":[],"sends":[]},{"checks":[],"reads":[],"writes":[],"sends":[]},{"checks":[],"reads":[],"writes":[],"sends":[]},{"checks":[],"reads":[],"writes":[],"sends":[]},{"checks":[],"reads":[],"writes":[],"sends":[]},{"checks":[],"reads":[],"writes":[],"sends":[]},{"checks":[],"reads":[],"writes":[],"sends":[]},{"checks":[],"reads":[],"writes":[],"sends":[]},{"checks":[],"reads":[],"writes":[],"sends":[]},{"checks":[],"reads":[],"writes":[],"sends":[]}]}"#,
+    ),
+    (
+        5,
+        r#"{"do":"batch","node":1,"group":["A",[1]],"txns":[{"checks":[],"reads":[],"writes":[],"sends":[]},{"checks":[],"reads":[],"writes":[],"sends":[]},{"checks":[],"reads":[],"writes":[],"sends":[]},{"checks":[],"reads":[],"writes":[],"sends":[]},{"checks":[],"reads":[],"writes":[],"sends":[]},{"checks":[],"reads":[],"writes":[],"sends":[]},{"checks":[],"reads":[],"writes":[],"sends":[]},{"checks":[],"reads":[],"writes":[],"sends":[]},{"checks":[],"reads":[],"writes":[],"sends":[]},{"checks":[],"reads":[],"writes":[],"sends":[]},{"checks":[],"reads":[],"writes":[],"sends":[]},{"checks":[],"reads":[],"writes":[],"sends":[]},{"checks":[],"reads":[],"writes":[],"sends":[]},{"checks":[],"reads":[],"writes":[],"sends":[]},{"checks":[],"reads":[],"writes":[],"sends":[]},{"checks":[],"reads":[],"writes":[],"sends":[]},{"checks":[],"reads":[],"writes":[],"sends":[]}]}"#,
+    ),
     (5, r#"{"do":"batch","node":1,"group":["A",[1]],"txns":[]}"#),
     (3, r#"{"do":"batch","node":1,"group":["A",[1]]}"#),
-    (3, r#"{"do":"batch","node":1,"group":["A",[1]],"txns":[{"checks":[],"reads":[],"writes":[]}]}"#),
-    (6, r#"{"do":"batch","node":1,"group":["A",[1]],"txns":[{"checks":[],"reads":[],"writes":[],"sends":[],"node":1}]}"#),
-    (4, r#"{"do":"batch","node":1,"group":["A",[1]],"txns":[[]]}"#),
+    (
+        3,
+        r#"{"do":"batch","node":1,"group":["A",[1]],"txns":[{"checks":[],"reads":[],"writes":[]}]}"#,
+    ),
+    (
+        6,
+        r#"{"do":"batch","node":1,"group":["A",[1]],"txns":[{"checks":[],"reads":[],"writes":[],"sends":[],"node":1}]}"#,
+    ),
+    (
+        4,
+        r#"{"do":"batch","node":1,"group":["A",[1]],"txns":[[]]}"#,
+    ),
     (4, r#"{"do":"batch","node":1,"group":["A",[1]],"txns":{}}"#),
-    (6, r#"{"do":"batch","node":1,"group":["A",[1]],"txns":[{"checks":[],"reads":[],"writes":[],"sends":[]}],"checks":[],"reads":[],"writes":[],"sends":[]}"#),
-    (0, r#"{"do":"read","node":1,"mode":"current","group":["A",[1]],"rows":[]}"#),
-    (0, r#"{"do":"read","node":1,"mode":"snapshot","group":["A",[1]],"rows":[{"row":"A","key":[1]}]}"#),
-    (0, r#"{"do":"read","node":1,"mode":"inconsistent","group":["A",[1]],"rows":[]}"#),
-    (5, r#"{"do":"read","node":1,"mode":"recent","group":["A",[1]],"rows":[]}"#),
-    (4, r#"{"do":"read","node":1,"mode":0,"group":["A",[1]],"rows":[]}"#),
-    (3, r#"{"do":"read","node":1,"mode":"current","group":["A",[1]]}"#),
-    (6, r#"{"do":"read","node":1,"mode":"current","group":["A",[1]],"rows":[],"row":0}"#),
+    (
+        6,
+        r#"{"do":"batch","node":1,"group":["A",[1]],"txns":[{"checks":[],"reads":[],"writes":[],"sends":[]}],"checks":[],"reads":[],"writes":[],"sends":[]}"#,
+    ),
+    (
+        0,
+        r#"{"do":"read","node":1,"mode":"current","group":["A",[1]],"rows":[]}"#,
+    ),
+    (
+        0,
+        r#"{"do":"read","node":1,"mode":"snapshot","group":["A",[1]],"rows":[{"row":"A","key":[1]}]}"#,
+    ),
+    (
+        0,
+        r#"{"do":"read","node":1,"mode":"inconsistent","group":["A",[1]],"rows":[]}"#,
+    ),
+    (
+        5,
+        r#"{"do":"read","node":1,"mode":"recent","group":["A",[1]],"rows":[]}"#,
+    ),
+    (
+        4,
+        r#"{"do":"read","node":1,"mode":0,"group":["A",[1]],"rows":[]}"#,
+    ),
+    (
+        3,
+        r#"{"do":"read","node":1,"mode":"current","group":["A",[1]]}"#,
+    ),
+    (
+        6,
+        r#"{"do":"read","node":1,"mode":"current","group":["A",[1]],"rows":[],"row":0}"#,
+    ),
     (0, r#"{"do":"find","node":1,"index":"All","values":[1]}"#),
-    (0, r#"{"do":"find","node":1,"index":"Own","values":[1],"mode":"current","group":["A",[1]]}"#),
+    (
+        0,
+        r#"{"do":"find","node":1,"index":"Own","values":[1],"mode":"current","group":["A",[1]]}"#,
+    ),
     (0, r#"{"do":"find","node":1,"index":"Own","values":[1]}"#),
-    (0, r#"{"do":"find","node":1,"index":"None","values":["x"],"mode":"current"}"#),
+    (
+        0,
+        r#"{"do":"find","node":1,"index":"None","values":["x"],"mode":"current"}"#,
+    ),
     (5, r#"{"do":"find","node":1,"index":"All","values":[]}"#),
     (4, r#"{"do":"find","node":1,"index":"All","values":1}"#),
     (4, r#"{"do":"find","node":1,"index":1,"values":[1]}"#),
     (3, r#"{"do":"find","node":1,"index":"All"}"#),
-    (6, r#"{"do":"find","node":1,"index":"All","values":[1],"rows":[]}"#),
-    (6, r#"{"do":"find","node":1,"index":"Own","values":[1],"mode":"current","group":["A",[1]],"rows":[]}"#),
-    (4, r#"{"do":"find","node":1,"index":"Own","values":[1],"mode":"current","group":"A"}"#),
-    (5, r#"{"do":"find","node":1,"index":"Own","values":[1],"mode":"now","group":["A",[1]]}"#),
+    (
+        6,
+        r#"{"do":"find","node":1,"index":"All","values":[1],"rows":[]}"#,
+    ),
+    (
+        6,
+        r#"{"do":"find","node":1,"index":"Own","values":[1],"mode":"current","group":["A",[1]],"rows":[]}"#,
+    ),
+    (
+        4,
+        r#"{"do":"find","node":1,"index":"Own","values":[1],"mode":"current","group":"A"}"#,
+    ),
+    (
+        5,
+        r#"{"do":"find","node":1,"index":"Own","values":[1],"mode":"now","group":["A",[1]]}"#,
+    ),
     (0, r#"{"do":"pump","node":1,"what":"enter"}"#),
     (0, r#"{"do":"pump","node":1,"what":"handle"}"#),
     (5, r#"{"do":"pump","node":1,"what":"Enter"}"#),
@@ -175,7 +376,16 @@ pub const TWO: [(u8, &str); 10] = [
     (4, r#"{"do":"tick","node":10,"now":"0"}"#),
     (4, r#"{"do":"fuse","node":0,"calls":-1,"image":1.0}"#),
     (2, r#"{"do":"tock","node":10}"#),
-    (3, r#"{"do":"read","node":0,"mode":"x","group":["A",[1]],"rows":[{"row":"A","key":[1],"z":0},{"row":"A"}]}"#),
-    (6, r#"{"do":"read","node":0,"mode":1,"group":["A",[1]],"rows":[{"row":"A","key":[1],"z":0},{"row":"A","key":1}]}"#),
-    (4, r#"{"do":"read","node":0,"mode":"x","group":["A",[1]],"rows":[{"row":"A","key":1}]}"#),
+    (
+        3,
+        r#"{"do":"read","node":0,"mode":"x","group":["A",[1]],"rows":[{"row":"A","key":[1],"z":0},{"row":"A"}]}"#,
+    ),
+    (
+        6,
+        r#"{"do":"read","node":0,"mode":1,"group":["A",[1]],"rows":[{"row":"A","key":[1],"z":0},{"row":"A","key":1}]}"#,
+    ),
+    (
+        4,
+        r#"{"do":"read","node":0,"mode":"x","group":["A",[1]],"rows":[{"row":"A","key":1}]}"#,
+    ),
 ];
