@@ -8,7 +8,8 @@ use std::alloc::Global;
 use std::test::Fail;
 
 /// Lines of operations, and behind an arrow the text with which each begins.
-const TEXTS: &str = r#"{"do":"txn","node":1,"group":["A",[1]],"checks":[],"reads":[],"writes":[{"put":"A","row":{"s":"John","id":101}}],"sends":[]} => {"checks":[],"do":"txn","group":["A",[1]],"node":1,"reads":[],"sends":[],"writes":[{"put":"A","row":{"id":101,"s":"John"}}]}
+const TEXTS: &str =
+    r#"{"do":"txn","node":1,"group":["A",[1]],"checks":[],"reads":[],"writes":[{"put":"A","row":{"s":"John","id":101}}],"sends":[]} => {"checks":[],"do":"txn","group":["A",[1]],"node":1,"reads":[],"sends":[],"writes":[{"put":"A","row":{"id":101,"s":"John"}}]}
 {"do":"batch","node":1,"group":["Account",[1]],"txns":[{"checks":[],"reads":[],"writes":[{"add":"Account","key":[1],"property":"balance","by":-30}],"sends":[]},{"checks":[{"is":"Account","key":[1],"property":"balance","values":[100]}],"reads":[],"writes":[],"sends":[]}]} => {"do":"batch","group":["Account",[1]],"node":1,"txns":[{"checks":[],"reads":[],"sends":[],"writes":[{"add":"Account","by":-30,"key":[1],"property":"balance"}]},{"checks":[{"is":"Account","key":[1],"property":"balance","values":[100]}],"reads":[],"sends":[],"writes":[]}]}
 {"do":"read","node":3,"mode":"current","group":["Account",[2]],"rows":[{"row":"Account","key":[2]}]} => {"do":"read","group":["Account",[2]],"mode":"current","node":3,"rows":[{"key":[2],"row":"Account"}]}
 {"do":"find","node":1,"index":"PhotosByTime","values":[101],"mode":"snapshot","group":["User",[101]]} => {"do":"find","group":["User",[101]],"index":"PhotosByTime","mode":"snapshot","node":1,"values":[101]}

@@ -8,7 +8,7 @@ use std::test::Fail;
 /// A line, spaces behind it up to this length.
 fn padded(alloc: Global, length: usize) -> Result<Vec<u8>, Fail> {
     let mut line = Vec::from_slice(alloc, br#"{"do":"drain","most":1}"#)?;
-    while line.len() < length {
+    for _ in line.len()..length {
         line.push(b' ')?;
     }
     Ok(line)

@@ -73,7 +73,8 @@ pub const WORLD: &str = r#"0 {"do":"tick","node":1,"now":0}
 5 {"do":"fuse","node":1,"calls":0,"image":0,"device":"Log"}"#;
 
 /// Transactions.
-pub const TRANSACTIONS: &str = r#"0 {"do":"txn","node":1,"group":["A",[1]],"checks":[],"reads":[],"writes":[],"sends":[]}
+pub const TRANSACTIONS: &str =
+    r#"0 {"do":"txn","node":1,"group":["A",[1]],"checks":[],"reads":[],"writes":[],"sends":[]}
 0 {"do":"txn","node":1,"group":["A",[1]],"checks":[{"there":"A","key":[1]},{"gone":"B","key":[]},{"is":"A","key":[1],"property":"n","values":[1,"x",true]}],"reads":[],"writes":[],"sends":[]}
 0 {"do":"txn","node":1,"group":["A",[1]],"checks":[],"reads":[{"row":"A","key":[9223372036854775807,-9223372036854775808]}],"writes":[],"sends":[]}
 0 {"do":"txn","node":1,"group":["A",[1]],"checks":[],"reads":[],"writes":[{"put":"A","row":{"id":1,"many":[1,2],"none":[]}},{"delete":"A","key":[1]},{"add":"A","key":[1],"property":"n","by":-9223372036854775808}],"sends":[]}
@@ -116,7 +117,8 @@ pub const TRANSACTIONS: &str = r#"0 {"do":"txn","node":1,"group":["A",[1]],"chec
 6 {"do":"txn","node":1,"group":["A",[1]],"checks":[],"reads":[],"writes":[],"sends":[{"to":["A",[2]],"queue":"q","payload":"","at":1}]}"#;
 
 /// Batches, reads, finds, pumps and refreshes.
-pub const REQUESTS: &str = r#"0 {"do":"batch","node":1,"group":["A",[1]],"txns":[{"checks":[],"reads":[],"writes":[],"sends":[]}]}
+pub const REQUESTS: &str =
+    r#"0 {"do":"batch","node":1,"group":["A",[1]],"txns":[{"checks":[],"reads":[],"writes":[],"sends":[]}]}
 0 {"do":"batch","node":1,"group":["A",[1]],"txns":[{"checks":[],"reads":[],"writes":[],"sends":[]},{"checks":[],"reads":[],"writes":[],"sends":[]},{"checks":[],"reads":[],"writes":[],"sends":[]},{"checks":[],"reads":[],"writes":[],"sends":[]},{"checks":[],"reads":[],"writes":[],"sends":[]},{"checks":[],"reads":[],"writes":[],"sends":[]},{"checks":[],"reads":[],"writes":[],"sends":[]},{"checks":[],"reads":[],"writes":[],"sends":[]},{"checks":[],"reads":[],"writes":[],"sends":[]},{"checks":[],"reads":[],"writes":[],"sends":[]},{"checks":[],"reads":[],"writes":[],"sends":[]},{"checks":[],"reads":[],"writes":[],"sends":[]},{"checks":[],"reads":[],"writes":[],"sends":[]},{"checks":[],"reads":[],"writes":[],"sends":[]},{"checks":[],"reads":[],"writes":[],"sends":[]},{"checks":[],"reads":[],"writes":[],"sends":[]}]}
 5 {"do":"batch","node":1,"group":["A",[1]],"txns":[{"checks":[],"reads":[],"writes":[],"sends":[]},{"checks":[],"reads":[],"writes":[],"sends":[]},{"checks":[],"reads":[],"writes":[],"sends":[]},{"checks":[],"reads":[],"writes":[],"sends":[]},{"checks":[],"reads":[],"writes":[],"sends":[]},{"checks":[],"reads":[],"writes":[],"sends":[]},{"checks":[],"reads":[],"writes":[],"sends":[]},{"checks":[],"reads":[],"writes":[],"sends":[]},{"checks":[],"reads":[],"writes":[],"sends":[]},{"checks":[],"reads":[],"writes":[],"sends":[]},{"checks":[],"reads":[],"writes":[],"sends":[]},{"checks":[],"reads":[],"writes":[],"sends":[]},{"checks":[],"reads":[],"writes":[],"sends":[]},{"checks":[],"reads":[],"writes":[],"sends":[]},{"checks":[],"reads":[],"writes":[],"sends":[]},{"checks":[],"reads":[],"writes":[],"sends":[]},{"checks":[],"reads":[],"writes":[],"sends":[]}]}
 5 {"do":"batch","node":1,"group":["A",[1]],"txns":[]}

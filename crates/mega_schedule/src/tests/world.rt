@@ -1,61 +1,60 @@
 //! Events of the world itself.
 
 use super::schema;
-use crate::{LineFault, WorldEvent, event};
+use crate::{WorldEvent, event};
 use mega_disk::Device;
-use mega_schema::Schema;
-use std::alloc::Global;
 use std::test::Fail;
 
-fn told(alloc: Global, schema: &Schema, line: &str) -> Result<WorldEvent, LineFault> {
-    event(alloc, line.as_bytes(), 1, schema)
+/// Lines, and behind an arrow the numbers of their events; the device `data` is shown as 1.
+const EVENTS: &str = r#"{"do":"tick","node":9,"now":1000000000000} => tick [9, 1000000000000, 0, 0]
+{"do":"deliver","message":7} => deliver [7, 0, 0, 0]
+{"do":"drop","message":8} => drop [8, 0, 0, 0]
+{"do":"drain","most":3} => drain [3, 0, 0, 0]
+{"do":"crash","node":4} => crash [4, 0, 0, 0]
+{"do":"start","node":5} => start [5, 0, 0, 0]
+{"do":"fuse","node":2,"calls":3,"image":1} => fuse [2, 3, 1, 0]
+{"do":"fuse","node":2,"calls":4,"image":2,"device":"log"} => fuse [2, 4, 2, 0]
+{"do":"fuse","node":2,"calls":5,"image":0,"device":"data"} => fuse [2, 5, 0, 1]"#;
+
+fn shown(event: WorldEvent) -> (&'static str, [u64; 4]) {
+    match event {
+        WorldEvent::Tick { node, now } => ("tick", [u64::from(node.0), now, 0, 0]),
+        WorldEvent::Deliver { message } => ("deliver", [message, 0, 0, 0]),
+        WorldEvent::Drop { message } => ("drop", [message, 0, 0, 0]),
+        WorldEvent::Drain { most } => ("drain", [most, 0, 0, 0]),
+        WorldEvent::Crash { node } => ("crash", [u64::from(node.0), 0, 0, 0]),
+        WorldEvent::Start { node } => ("start", [u64::from(node.0), 0, 0, 0]),
+        WorldEvent::Fuse {
+            node,
+            calls,
+            image,
+            device,
+        } => (
+            "fuse",
+            [
+                u64::from(node.0),
+                calls,
+                u64::from(image),
+                u64::from(device == Device::Data),
+            ],
+        ),
+        WorldEvent::Begin {
+            node,
+            request: _,
+            text: _,
+        } => ("begin", [u64::from(node.0), 0, 0, 0]),
+    }
 }
 
 #[test]
 fn numbers_and_words_are_those_of_the_line(rt: HostRuntime) -> Result<(), Fail> {
     let alloc = rt.alloc();
-    let s = schema(alloc)?;
-    let tick = told(alloc, &s, r#"{"do":"tick","node":9,"now":1000000000000}"#)?;
-    assert!(rt; matches!(tick, WorldEvent::Tick { node, now: 1_000_000_000_000 } if node.0 == 9));
-    let deliver = told(alloc, &s, r#"{"do":"deliver","message":7}"#)?;
-    assert!(rt; matches!(deliver, WorldEvent::Deliver { message: 7 }));
-    let drop = told(alloc, &s, r#"{"do":"drop","message":8}"#)?;
-    assert!(rt; matches!(drop, WorldEvent::Drop { message: 8 }));
-    let drain = told(alloc, &s, r#"{"do":"drain","most":3}"#)?;
-    assert!(rt; matches!(drain, WorldEvent::Drain { most: 3 }));
-    Ok(())
-}
-
-#[test]
-fn a_fuse_is_on_the_log_unless_the_line_says_otherwise(rt: HostRuntime) -> Result<(), Fail> {
-    let alloc = rt.alloc();
-    let s = schema(alloc)?;
-    for (line, wanted) in [
-        (r#"{"do":"fuse","node":2,"calls":3,"image":1}"#, Device::Log),
-        (
-            r#"{"do":"fuse","node":2,"calls":3,"image":1,"device":"log"}"#,
-            Device::Log,
-        ),
-        (
-            r#"{"do":"fuse","node":2,"calls":3,"image":1,"device":"data"}"#,
-            Device::Data,
-        ),
-    ] {
-        let fuse = told(alloc, &s, line)?;
-        assert!(rt;
-            matches!(fuse, WorldEvent::Fuse { node, calls: 3, image: 1, device } if node.0 == 2 && device == wanted)
-        );
+    let schema = schema(alloc)?;
+    for row in EVENTS.lines() {
+        let (line, wanted) = row.split_once(" => ").ok_or("no arrow")?;
+        let (word, numbers) = shown(event(alloc, line.as_bytes(), 1, &schema)?);
+        let told = format!(in alloc; "{word} {numbers:?}")?;
+        assert_eq!(rt; told.as_str(), wanted);
     }
-    Ok(())
-}
-
-#[test]
-fn nodes_crash_and_start(rt: HostRuntime) -> Result<(), Fail> {
-    let alloc = rt.alloc();
-    let s = schema(alloc)?;
-    let crash = told(alloc, &s, r#"{"do":"crash","node":4}"#)?;
-    assert!(rt; matches!(crash, WorldEvent::Crash { node } if node.0 == 4));
-    let start = told(alloc, &s, r#"{"do":"start","node":5}"#)?;
-    assert!(rt; matches!(start, WorldEvent::Start { node } if node.0 == 5));
     Ok(())
 }
