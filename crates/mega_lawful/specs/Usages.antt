@@ -2,8 +2,8 @@
 -- each event are those of some moment.
 use Rattle.std.specs.Prelude.{◌≡◌, ℕ, List, Option, Some}
 use Rattle.mega_handler.specs.Named.{Meanings}
-use Rattle.mega_schedule.specs.declared.event.WorldEvent.{WorldEvent}
-use Rattle.mega_schedule.specs.declared.event.WorldEvent.TheVariants.{Begin}
+use Rattle.mega_schedule.specs.declared.world_event.WorldEvent.{WorldEvent}
+use Rattle.mega_schedule.specs.declared.world_event.WorldEvent.TheVariants.{Begin}
 use Rattle.mega_transcript.specs.declared.item.Item.{Item}
 use Rattle.mega_promises.specs.Runs.{Happening}
 use Rattle.mega_outcome.specs.declared.request.Request.{Request}

@@ -1,7 +1,7 @@
 //! Runs that the laws of writes are about, as contracts of functions that do nothing.
 
 ghost use Rattle.std.specs.Prelude.{[], ◌∷◌, map};
-ghost use Rattle.mega_schedule.specs.declared.event.WorldEvent.TheVariants.{Deliver, Drain};
+ghost use Rattle.mega_schedule.specs.declared.world_event.WorldEvent.TheVariants.{Deliver, Drain};
 ghost use Rattle.mega_promises.specs.Worked.{drain, happens, put_at};
 ghost use Rattle.mega_laws.specs.Examples.{asks_put};
 ghost use Rattle.mega_lawful.specs.Usages.{Fits};

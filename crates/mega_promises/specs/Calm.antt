@@ -18,7 +18,7 @@ use Rattle.mega_outcome.specs.declared.request.Request.TheVariants.{PumpEnter, P
 use Rattle.mega_outcome.specs.declared.request.ReadRequest.{ReadRequest}
 use Rattle.mega_outcome.specs.declared.transaction.Transaction.{Transaction}
 use Rattle.mega_outcome.specs.Outcome.{outcome}
-use Rattle.mega_schedule.specs.declared.event.WorldEvent.TheVariants.{Begin as BeginEvent, Drain}
+use Rattle.mega_schedule.specs.declared.world_event.WorldEvent.TheVariants.{Begin as BeginEvent, Drain}
 use Rattle.mega_transcript.specs.declared.item.Item.{Item}
 use Rattle.mega_transcript.specs.declared.item.Item.TheVariants.{Answer as AnswerItem, Cut as CutItem, Decide as DecideItem, Sent}
 use Rattle.mega_transcript.specs.Tape.{is_sent, is_taken}

@@ -15,8 +15,8 @@ use Rattle.mega_outcome.specs.declared.request.Request.TheVariants.{Txn, Batch, 
 use Rattle.mega_coordinator.specs.Lease.{counted_by}
 use Rattle.mega_coordinator.specs.History.{epoch_after, lease_of}
 use Rattle.mega_coordinator.specs.Groups.{is_same}
-use Rattle.mega_schedule.specs.declared.event.WorldEvent.{WorldEvent}
-use Rattle.mega_schedule.specs.declared.event.WorldEvent.TheVariants.{Tick as TickEvent, Deliver, Drop, Drain, Crash as CrashEvent, Start as StartEvent, Fuse as FuseEvent, Begin as BeginEvent}
+use Rattle.mega_schedule.specs.declared.world_event.WorldEvent.{WorldEvent}
+use Rattle.mega_schedule.specs.declared.world_event.WorldEvent.TheVariants.{Tick as TickEvent, Deliver, Drop, Drain, Crash as CrashEvent, Start as StartEvent, Fuse as FuseEvent, Begin as BeginEvent}
 use Rattle.mega_transcript.specs.declared.item.Item.{Item}
 use Rattle.mega_transcript.specs.declared.item.Item.TheVariants.{Taken, Dropped, Counts as CountsItem, Lapse as LapseItem, Cut as CutItem, Unsafe}
 use Rattle.mega_transcript.specs.Tape.{is_sent, sent_count}

@@ -20,8 +20,8 @@ use Rattle.mega_outcome.specs.declared.transaction.Change.TheVariants.{Put}
 use Rattle.mega_outcome.specs.declared.transaction.Check.TheVariants.{Gone}
 use Rattle.mega_outcome.specs.declared.transaction.RowRef.{RowRef}
 use Rattle.mega_outcome.specs.declared.transaction.Transaction.{Transaction}
-use Rattle.mega_schedule.specs.declared.event.WorldEvent.{WorldEvent}
-use Rattle.mega_schedule.specs.declared.event.WorldEvent.TheVariants.{Begin, Crash, Deliver, Drain, Drop, Fuse, Start, Tick}
+use Rattle.mega_schedule.specs.declared.world_event.WorldEvent.{WorldEvent}
+use Rattle.mega_schedule.specs.declared.world_event.WorldEvent.TheVariants.{Begin, Crash, Deliver, Drain, Drop, Fuse, Start, Tick}
 use Rattle.mega_transcript.specs.declared.item.Item.{Item}
 use Rattle.mega_transcript.specs.declared.item.Item.TheVariants.{Answer as Answered, Decide as Decided, Unsent as IsUnsent, Serving as IsServing, Lost as IsLost, Lapse as HasLapsed, Unsafe as IsUnsafe, Valid as IsValid}
 use Rattle.mega_wire.specs.Messages.{message_text}

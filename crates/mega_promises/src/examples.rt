@@ -8,7 +8,7 @@ ghost use Rattle.mega_outcome.specs.declared.answer.Answer.TheVariants.{Batched,
 ghost use Rattle.mega_outcome.specs.declared.answer.Turn.TheVariants.{CheckFailed};
 ghost use Rattle.mega_outcome.specs.declared.request.Request.TheVariants.{PumpEnter, PumpHandle, Refresh};
 ghost use Rattle.mega_outcome.specs.declared.request.Mode.TheVariants.{Current, Snapshot};
-ghost use Rattle.mega_schedule.specs.declared.event.WorldEvent.TheVariants.{Deliver, Drain, Drop};
+ghost use Rattle.mega_schedule.specs.declared.world_event.WorldEvent.TheVariants.{Deliver, Drain, Drop};
 ghost use Rattle.mega_ballot.specs.Order.{zero_ballot};
 ghost use Rattle.mega_wire.specs.declared.message.Body.TheVariants.{Accept, Accepted, Acquire, Reply, Top, Where};
 ghost use Rattle.mega_wire.specs.Messages.{message_text};

@@ -1,0 +1,9 @@
+pub mod Verdicts
+pub mod Fields
+pub mod Parts
+pub mod Forms
+pub mod Values
+pub mod Rows
+pub mod Requests
+pub mod Events
+pub mod Answers

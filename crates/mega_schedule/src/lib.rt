@@ -1,6 +1,20 @@
 //! Schedule lines: one JSON object a line, and the event that it stands for.
 #![tactic(auto)]
 
-mod event;
+mod fields;
+mod floats;
+mod form;
+mod lines;
+mod parts;
+mod read;
+mod requests;
+mod rows;
+mod values;
+mod verdict;
+mod world_event;
 
-pub use event::{LineFault, WorldEvent};
+pub use read::event;
+pub use world_event::{LineFault, WorldEvent};
+
+#[cfg(test)]
+mod tests;

@@ -1,4 +1,7 @@
-use mega_base::{NodeId, Text};
+ghost use Rattle.std.specs.Prelude.{◌≡◌};
+ghost use Rattle.mega_schedule.specs.declared.world_event.LineFault.TheVariants.{NoMemory as OutOfMemory};
+
+use mega_base::{NoMemory, NodeId, Text};
 use mega_disk::Device;
 use mega_outcome::Request;
 
@@ -56,4 +59,12 @@ pub enum LineFault {
     /// of its range.
     Refused { reason: u8 },
     NoMemory,
+}
+
+impl From<NoMemory> for LineFault {
+    ghost from_gives = { λ _ fault. fault ≡ OutOfMemory };
+
+    fn from(_refused: NoMemory) -> LineFault {
+        LineFault::NoMemory
+    }
 }
