@@ -2,12 +2,30 @@
 //! (CIDR 2011, transactions and concurrency control).
 #![tactic(auto)]
 
+mod adding;
 mod answer;
+mod batches;
+mod changing;
+mod checking;
 mod copies;
+mod cutting;
+mod lengths;
+mod longest;
+mod looking;
+mod numbers;
+mod outcomes;
+mod places;
+mod reading;
+mod replacing;
 mod request;
+mod running;
+mod sending;
+mod taking;
 mod transaction;
 mod turns;
 
 pub use answer::{Answer, Batch, Done, Mark, Shown, Turn};
+pub use batches::run_all;
+pub use outcomes::run;
 pub use request::{FindRequest, Mode, ReadRequest, Request};
 pub use transaction::{Change, Check, RowRef, Transaction};

@@ -1,0 +1,4 @@
+pub mod OneMore
+pub mod Sizes
+pub mod Seen
+pub mod Items
