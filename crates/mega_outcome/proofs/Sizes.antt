@@ -1,8 +1,9 @@
 -- The lengths of texts are sums over their parts.
-use Rattle.std.proofs.Common.{◌≡◌, ◌∙◌, ap, sym, refl, ℕ, ◌+◌, ◌*◌, true, false, cond, List, [], ◌∷◌, ◌++◌, length, length-append, arith}
+use Rattle.std.proofs.Common.{◌≡◌, ◌∙◌, ap, sym, refl, ℕ, ◌+◌, ◌*◌, ◌<◌, ◌≤◌, true, false, cond, List, [], ◌∷◌, ◌++◌, length, length-append, arith}
 use Rattle.std.specs.Prelude.{ℤ, Bool, Option, Some, None, fold, max, ◌==◌}
 use Rattle.std.proofs.lemmas.Grind.{flat_map-append}
 use Rattle.std.specs.List.{flat_map}
+use Rattle.std.specs.Cmp.{unsigned_Decides}
 use Rattle.std.specs.Int.{cast_unsigned, w32, w64}
 use Rattle.mega_base.specs.Codec.{number_text, bytes_text, option_text, list_text, one_byte}
 use Rattle.mega_base.specs.Digits.{length_number_text}
@@ -125,7 +126,22 @@ pub more_cuts : (cut : Cut) (cuts : List Cut) (last : Cut) → cuts_length (entr
 more_cuts cut [] last = some_cuts cut (last ∷ [])
 more_cuts cut (other ∷ cuts) last = some_cuts cut (other ∷ (cuts ++ last ∷ [])) ∙ omega (arith, length-append cuts (last ∷ []))
 
-pub ruleset cut_lengths = (no_cut, one_cut, more_cuts)
+is_apart : (n : ℕ) → (n ≡ 0 → ⊥) → (n == 0) ≡ false
+is_apart n h = by (n == 0) refl
+  where
+    by : (b : Bool) → (n == 0) ≡ b → (n == 0) ≡ false
+    by true e = absurd (h ((unsigned_Decides n 0).0 e))
+    by false e = e
+
+pub one_cut_at : (cuts : List Cut) (last : Cut) → length cuts < 1 → (last.index ≡ 0 → ⊥) → 13 ≡ cuts_length (entry_cuts (cuts ++ last ∷ []))
+one_cut_at [] last few apart = sym (one_cut last (is_apart last.index apart))
+one_cut_at (cut ∷ cuts) last few apart = absurd (omega arith)
+
+pub more_cuts_at : (cuts : List Cut) (last : Cut) → 1 ≤ length cuts → length cuts * 9 + 13 ≡ cuts_length (entry_cuts (cuts ++ last ∷ []))
+more_cuts_at [] last some = absurd (omega arith)
+more_cuts_at (cut ∷ cuts) last some = omega (arith, more_cuts cut cuts last)
+
+pub ruleset cut_lengths = (no_cut, one_cut)
 
 pub batch_is : (b : Batch) (done : Done) → batch_length (taken b done)
     ≡ 28 + ((writes_length b.writes + writes_length done.writes) + ((sends_length b.sends + sends_length done.sends)
