@@ -29,3 +29,6 @@ pub use batches::run_all;
 pub use outcomes::run;
 pub use request::{FindRequest, Mode, ReadRequest, Request};
 pub use transaction::{Change, Check, RowRef, Transaction};
+
+#[cfg(test)]
+mod tests;
