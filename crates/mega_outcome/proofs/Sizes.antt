@@ -96,8 +96,16 @@ entry_length writes sends cuts = parts (entry_of writes sends [] cuts) _ refl �
 
 enter_text_length : (group : List ℕ) (send : Send) → length (flat_map enter_text (entered group send ∷ [])) ≡ 16 + (length group + (8 + (length send.queue + length send.payload)))
 enter_text_length group send =
-    omega (arith, length-append (enter_text (entered group send)) [], length-append (name_text (entered group send).name) (bytes_text send.queue ++ bytes_text send.payload),
-    bytes_front group (u64_text 1 ++ u32_text 0), number_front 8 1 (u32_text 0), length_number_text 4 0, bytes_front send.queue (bytes_text send.payload), bytes_text_length send.payload)
+    omega (
+      arith,
+      length-append (enter_text (entered group send)) [],
+      length-append (name_text (entered group send).name) (bytes_text send.queue ++ bytes_text send.payload),
+      bytes_front group (u64_text 1 ++ u32_text 0),
+      number_front 8 1 (u32_text 0),
+      length_number_text 4 0,
+      bytes_front send.queue (bytes_text send.payload),
+      bytes_text_length send.payload,
+    )
 
 pub enter_length : (group : List ℕ) (send : Send) → enters group send ≡ 44 + (length group + (8 + (length send.queue + length send.payload)))
 enter_length group send = parts (entry_of [] [] (entered group send ∷ []) []) _ refl ∙ omega (arith, enter_text_length group send)
@@ -148,5 +156,10 @@ pub batch_is : (b : Batch) (done : Done) → batch_length (taken b done)
     + cuts_length (entry_cuts (b.cuts ++ (record { index = length b.results; writes = length done.writes; sends = length done.sends }) ∷ []))))
 batch_is b done =
     entry_length (b.writes ++ done.writes) (b.sends ++ done.sends) _
-    ∙ omega (arith, ap length (flat_map-append write_text b.writes done.writes), ap length (flat_map-append send_text b.sends done.sends),
-    length-append (flat_map write_text b.writes) (flat_map write_text done.writes), length-append (flat_map send_text b.sends) (flat_map send_text done.sends))
+    ∙ omega (
+      arith,
+      ap length (flat_map-append write_text b.writes done.writes),
+      ap length (flat_map-append send_text b.sends done.sends),
+      length-append (flat_map write_text b.writes) (flat_map write_text done.writes),
+      length-append (flat_map send_text b.sends) (flat_map send_text done.sends),
+    )

@@ -57,13 +57,7 @@ fn sum_value(kind: Kind, number: i64, by: i64) -> Option<Value>
 }
 
 /// The sum of the number that the property has and another, in a row whose index keys are short enough.
-fn sum_of(
-    item: u32,
-    kind: Kind,
-    number: Option<i64>,
-    is_long: bool,
-    by: i64,
-) -> Result<Value, Turn>
+fn sum_of(item: u32, kind: Kind, number: Option<i64>, is_long: bool, by: i64) -> Result<Value, Turn>
     ensures exact { result ≡ sum_of item kind number is_long by }
     ensures inside { IsInside result }
 {
@@ -153,7 +147,9 @@ fn add_in(
     match (property_at(table.properties.as_slice(), property), old) {
         (Some(found), None) if may_add(table, property, found) => Ok(Err(Turn::NoRow { item })),
         (Some(found), Some(row)) if may_add(table, property, found) => {
-            add_to(alloc, schema, item, number, table, key, property, found.kind, row, by)
+            add_to(
+                alloc, schema, item, number, table, key, property, found.kind, row, by,
+            )
         }
         _ => Ok(Err(Turn::BadRow { item })),
     }

@@ -160,9 +160,7 @@ pub fn all_changes<V: Versions>(
     let mut newest = BTreeMap::new(alloc);
     let mut item = first;
     for one in changes {
-        match change(
-            alloc, schema, group, &newest, earlier, rows, at, item, one,
-        )? {
+        match change(alloc, schema, group, &newest, earlier, rows, at, item, one)? {
             Ok(more) => take_up(alloc, &mut newest, &mut writes, more)?,
             Err(turn) => return Ok(Err(turn)),
         }

@@ -112,7 +112,9 @@ fn check<V: Versions>(
 {
     let row = checked_row(one);
     let key = row.key.as_slice();
-    match row_in(alloc, schema, group, pending, rows, at, item, row.table, key)? {
+    match row_in(
+        alloc, schema, group, pending, rows, at, item, row.table, key,
+    )? {
         Ok(there) => Ok(decided(schema, item, one, there.as_ref())),
         Err(turn) => Ok(Err(turn)),
     }

@@ -110,10 +110,7 @@ pub fn message_length(send: &Send) -> Result<u64, NoMemory>
 fn send_length(send: &Send) -> Result<u64, NoMemory>
     ensures { IfOk result (λ n. n ≡ length (send_text send.now)) }
 {
-    sum(
-        bytes_length(send.to.key.as_slice())?,
-        message_length(send)?,
-    )
+    sum(bytes_length(send.to.key.as_slice())?, message_length(send)?)
 }
 
 /// The length of the texts of these sends.

@@ -39,7 +39,9 @@ fn read<V: Versions>(
     ensures looks { Looks V.Versions (result_err result) rows.old rows.new }
 {
     let key = row.key.as_slice();
-    match row_in(alloc, schema, group, pending, rows, at, item, row.table, key)? {
+    match row_in(
+        alloc, schema, group, pending, rows, at, item, row.table, key,
+    )? {
         Ok(there) => Ok(Ok(shown(row.table, there))),
         Err(turn) => Ok(Err(turn)),
     }

@@ -36,11 +36,9 @@ pub fn replaced(
     let mut writes = Items::new(alloc);
     let key = key.copy(alloc)?;
     let row = copy_row(alloc, new)?;
+    let indexes = index_writes(alloc, schema, number, old, new)?;
     writes.push(Write { key, row })?;
-    append(
-        &mut writes,
-        index_writes(alloc, schema, number, old, new)?,
-    )?;
+    append(&mut writes, indexes)?;
     Ok(writes)
 }
 

@@ -11,9 +11,9 @@ use crate::changing::all_changes;
 use crate::checking::all_checks;
 use crate::longest::unless_large;
 use crate::looking::Pending;
+use crate::numbers::{Numbers, numbers_of};
 use crate::reading::all_reads;
 use crate::sending::all_sends;
-use crate::numbers::{Numbers, numbers_of};
 use crate::transaction::Transaction;
 use mega_base::{Copied, Items, NoMemory, Position};
 use mega_disk::{StoreError, Versions};
@@ -93,9 +93,7 @@ fn written_by<V: Versions>(
     let changes = txn.writes.as_slice();
     let first = numbers.change;
     match all_changes(alloc, schema, group, pending, rows, at, first, changes)? {
-        Ok(writes) => Ok(done_with(
-            alloc, schema, group, numbers, txn, replies, writes,
-        )?),
+        Ok(writes) => Ok(done_with(alloc, schema, group, numbers, txn, replies, writes)?),
         Err(turn) => Ok(Err(turn)),
     }
 }

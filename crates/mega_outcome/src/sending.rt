@@ -44,12 +44,7 @@ fn is_root_key(
 }
 
 /// Whether the bytes are the group of a root with this table number.
-fn is_root_group(
-    alloc: Global,
-    schema: &Schema,
-    number: u8,
-    group: &[u8],
-) -> Result<bool, NoMemory>
+fn is_root_group(alloc: Global, schema: &Schema, number: u8, group: &[u8]) -> Result<bool, NoMemory>
     ensures { IfOk result (λ found. found ≡ is_root_group schema.now number (numbered schema.now.tables number) group.now) }
 {
     match table_at(schema, number) {

@@ -7,7 +7,8 @@ use mega_schema::{Schema, parse};
 use std::alloc::Global;
 use std::test::Fail;
 
-const BANK: &str = "CREATE SCHEMA Bank; CREATE TABLE Account { required int64 id; required int64 balance; \
+const BANK: &str =
+    "CREATE SCHEMA Bank; CREATE TABLE Account { required int64 id; required int64 balance; \
 optional int32 count; optional string owner; } PRIMARY KEY(id), ENTITY GROUP ROOT;";
 
 /// The group of account 1; the row's key has one byte more.
@@ -142,9 +143,18 @@ fn items_are_refused_in_their_order(rt: HostRuntime) -> Result<(), Fail> {
         ([Item::Is(1, 2, 100), Item::Delete(1)], None),
         ([Item::Delete(1), Item::Put(1, 1, 7)], None),
         ([Item::There(2), none], Some(Turn::OtherGroup { item: 0 })),
-        ([Item::Put(1, 2, 5), none], Some(Turn::OtherGroup { item: 0 })),
-        ([Item::Is(2, 9, 0), none], Some(Turn::OtherGroup { item: 0 })),
-        ([Item::Read(1), Item::Read(2)], Some(Turn::OtherGroup { item: 1 })),
+        (
+            [Item::Put(1, 2, 5), none],
+            Some(Turn::OtherGroup { item: 0 }),
+        ),
+        (
+            [Item::Is(2, 9, 0), none],
+            Some(Turn::OtherGroup { item: 0 }),
+        ),
+        (
+            [Item::Read(1), Item::Read(2)],
+            Some(Turn::OtherGroup { item: 1 }),
+        ),
         ([Item::Is(1, 9, 100), none], Some(Turn::BadRow { item: 0 })),
         ([Item::Is(1, 4, 100), none], Some(Turn::BadRow { item: 0 })),
         ([Item::Put(2, 1, 5), none], Some(Turn::BadRow { item: 0 })),
@@ -152,15 +162,39 @@ fn items_are_refused_in_their_order(rt: HostRuntime) -> Result<(), Fail> {
         ([Item::Add(1, 3, 5), none], Some(Turn::BadRow { item: 0 })),
         ([Item::Add(1, 4, 5), none], Some(Turn::BadRow { item: 0 })),
         ([Item::Send(9, 0), none], Some(Turn::BadRow { item: 0 })),
-        ([Item::Delete(1), Item::Add(1, 1, 5)], Some(Turn::BadRow { item: 1 })),
-        ([Item::Is(1, 2, 99), none], Some(Turn::CheckFailed { item: 0 })),
-        ([Item::Gone(1), Item::Put(2, 1, 5)], Some(Turn::CheckFailed { item: 0 })),
-        ([Item::Put(2, 1, 5), Item::Gone(1)], Some(Turn::CheckFailed { item: 0 })),
-        ([Item::Delete(1), Item::Delete(1)], Some(Turn::NoRow { item: 1 })),
-        ([Item::Delete(1), Item::Add(1, 2, 5)], Some(Turn::NoRow { item: 1 })),
-        ([Item::Add(1, 2, i64::MAX), none], Some(Turn::Overflow { item: 0 })),
+        (
+            [Item::Delete(1), Item::Add(1, 1, 5)],
+            Some(Turn::BadRow { item: 1 }),
+        ),
+        (
+            [Item::Is(1, 2, 99), none],
+            Some(Turn::CheckFailed { item: 0 }),
+        ),
+        (
+            [Item::Gone(1), Item::Put(2, 1, 5)],
+            Some(Turn::CheckFailed { item: 0 }),
+        ),
+        (
+            [Item::Put(2, 1, 5), Item::Gone(1)],
+            Some(Turn::CheckFailed { item: 0 }),
+        ),
+        (
+            [Item::Delete(1), Item::Delete(1)],
+            Some(Turn::NoRow { item: 1 }),
+        ),
+        (
+            [Item::Delete(1), Item::Add(1, 2, 5)],
+            Some(Turn::NoRow { item: 1 }),
+        ),
+        (
+            [Item::Add(1, 2, i64::MAX), none],
+            Some(Turn::Overflow { item: 0 }),
+        ),
         ([Item::Send(1, 32706), none], None),
-        ([Item::Send(1, 32707), none], Some(Turn::TooLarge { bytes: 32769 })),
+        (
+            [Item::Send(1, 32707), none],
+            Some(Turn::TooLarge { bytes: 32769 }),
+        ),
     ];
     for (items, expected) in cases {
         assert_eq!(rt; turn(rt.alloc(), 100, items)?, expected);
@@ -216,14 +250,7 @@ fn batch(alloc: Global, txns: [[Item; 2]; 3]) -> Result<Batch, Fail> {
     if slice.len() > 16 {
         return Err(Fail::from("too many"));
     }
-    Ok(run_all(
-        alloc,
-        &schema,
-        &group,
-        slice,
-        &mut rows,
-        Position(1),
-    )?)
+    Ok(run_all(alloc, &schema, &group, slice, &mut rows, Position(1))?)
 }
 
 #[test]
@@ -267,7 +294,10 @@ fn a_batch_has_no_cuts_where_the_first_alone_was_taken(rt: HostRuntime) -> Resul
         ],
     )?;
     assert_eq!(rt; shown(&batch, 0), Some(Ok(None)));
-    assert_eq!(rt; shown(&batch, 1), Some(Err(Turn::TooLarge { bytes: 48116 })));
+    assert_eq!(rt;
+        shown(&batch, 1),
+        Some(Err(Turn::TooLarge { bytes: 48116 }))
+    );
     assert_eq!(rt; shown(&batch, 2), Some(Err(Turn::CheckFailed { item: 0 })));
     assert!(rt; batch.cuts.is_empty());
     Ok(())

@@ -17,7 +17,7 @@ use Rattle.mega_outcome.proofs.changing.all_changes.Goals as goal
 pub returns-in_err-more-clause-looks : goal.returns-in_err-more-clause-looks
 returns-in_err-more-clause-looks g c =
     let h : Looks g.V.Versions (Some c.in_err-more.field-0.0) c.args.rows.now c.change.new.rows =
-        looks_then g.V.Versions _ c.args.rows.now c.loop-one.rows c.change.new.rows c.loop-one.invariant.looks c.in_err-more.ensures.looks in
+    looks_then g.V.Versions _ c.args.rows.now c.loop-one.rows c.change.new.rows c.loop-one.invariant.looks c.in_err-more.ensures.looks in
     search (rules, h)
 
 pub returns-in-Err-clause-exact : goal.returns-in-Err-clause-exact
@@ -30,11 +30,11 @@ returns-in-Err-clause-exact g c = λ told.
     let rest : List Change = drop (c.loop-one.one-index + 1) c.args.changes.now in
     let left = λ (cs : List Change). with_front c.loop-one.writes (all_changes schema group rows c.loop-one.item cs) in
     sym (
-      i.left told
-      ∙ at_drop_more left c.args.changes.now c.loop-one.one-index c.one-item.result c.loop-one-test.true
-      ∙ ap (λ (one : Change). left (one ∷ rest)) (sym c.one-item.is)
-      ∙ changes_stop schema group rows c.loop-one.item c.one-item.result rest c.loop-one.writes c.in-Err.turn
-      (sym c.in-Err.is ∙ c.in_ok-more.ensures.exact told ∙ ap (λ (v : Versions). change schema group (at_versions v) c.loop-one.item c.one-item.result) i.looks.looked.versions)
+    i.left told
+    ∙ at_drop_more left c.args.changes.now c.loop-one.one-index c.one-item.result c.loop-one-test.true
+    ∙ ap (λ (one : Change). left (one ∷ rest)) (sym c.one-item.is)
+    ∙ changes_stop schema group rows c.loop-one.item c.one-item.result rest c.loop-one.writes c.in-Err.turn
+    (sym c.in-Err.is ∙ c.in_ok-more.ensures.exact told ∙ ap (λ (v : Versions). change schema group (at_versions v) c.loop-one.item c.one-item.result) i.looks.looked.versions)
     )
 
 pub loop-one-preserved : goal.loop-one-preserved
