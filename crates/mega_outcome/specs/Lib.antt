@@ -9,3 +9,4 @@ pub mod Looks
 pub mod Steps
 pub mod Numbers
 pub mod Lengths
+pub mod Extends

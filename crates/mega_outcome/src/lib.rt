@@ -10,6 +10,7 @@ mod checking;
 mod copies;
 mod cutting;
 mod lengths;
+mod laws;
 mod longest;
 mod looking;
 mod numbers;
@@ -26,6 +27,7 @@ mod turns;
 
 pub use answer::{Answer, Batch, Done, Mark, Shown, Turn};
 pub use batches::run_all;
+pub use laws::outcomes_stay_under_more_properties;
 pub use outcomes::run;
 pub use request::{FindRequest, Mode, ReadRequest, Request};
 pub use transaction::{Change, Check, RowRef, Transaction};
