@@ -1,6 +1,6 @@
 -- What changes come to under a schema that grew.
 use Rattle.std.proofs.Common.{◌≡◌, ◌∙◌, ap, sym, refl, ℕ, ◌+◌, Bool, true, false, List, [], ◌∷◌, ◌++◌, take, map}
-use Rattle.std.specs.Prelude.{ℤ, Option, Some, None, Result, Ok, Err, is_some, is_none, is_ok, ◌==◌, ◌&&◌, not, nat_lt, if◌then◌else◌}
+use Rattle.std.specs.Prelude.{ℤ, Option, Some, None, Result, Ok, Err, IfOk, is_some, is_none, is_ok, ◌==◌, ◌&&◌, not, nat_lt, if◌then◌else◌}
 use Rattle.std.specs.List.{list_all}
 use Rattle.mega_base.specs.declared.values.Kind.{Kind}
 use Rattle.mega_base.specs.declared.values.Shape.{Shape}
@@ -37,6 +37,8 @@ use Rattle.mega_outcome.specs.Changes.{replaced, delete_at, is_number, number_of
 use Rattle.mega_outcome.specs.Outcome.{first_read, first_change, first_send, all_sends, longest, unless_large, outcome_in}
 use Rattle.mega_outcome.specs.Steps.{put_key, put_at, changed_key, changed_to, done_with, written_by}
 use Rattle.mega_outcome.specs.Extends.{may_lack, may_lack_need, is_known, is_known_row, known_in, changed_table, LookAtKnown, ExtendsTable, Extends}
+use Rattle.mega_disk.specs.VersionMaps.{Versions, SameVersions}
+use Rattle.mega_outcome.specs.Answers.{Gives}
 use Rattle.mega_outcome.proofs.Items.{change_is}
 use Rattle.mega_outcome.proofs.Grown.{both-true, numbered_more, grown, is_grown, ExtendsAt, table_extends, shape_same, key_in_same, reads_same, then_ok, checks_same, sends_same}
 
@@ -254,3 +256,13 @@ outcome_same s new group txn rows done e known h =
     ∙ ap (λ (m : Result (List Write) Turn). m >>= λ writes. done_with new group txn read.0 writes) (changes_same s new e group rows (first_change txn) txn.writes changed.0 known changed.1)
     ∙ ap (λ (m : Result (Unit {0}) Turn). m >>= λ _. unless_large (longest group changed.0 txn.sends) (record { replies = read.0; writes = changed.0; sends = txn.sends })) (sends_same s new e (first_send txn) txn.sends)
     ∙ changed.2
+
+-- two runs of which the second does what the first does
+pub both_same : (first second : Result Done Turn) (x y : Result Done Turn) → Gives first x → Gives second y → ((done : Done) → x ≡ Ok done → y ≡ Ok done)
+    → IfOk first (λ done. IfOk second (λ other. other ≡ done))
+both_same (Ok done) (Ok other) x y given others law = let e : y ≡ Ok done = law done given in cc
+both_same (Ok done) (Err turn) x y given others law = tt
+both_same (Err turn) second x y given others law = tt
+
+pub same_rows : (old new : Versions) → SameVersions old new → new ≡ old
+same_rows old new same = λ i key p. same key p i

@@ -9,8 +9,9 @@ mod changing;
 mod checking;
 mod copies;
 mod cutting;
-mod lengths;
+mod extending;
 mod laws;
+mod lengths;
 mod longest;
 mod looking;
 mod numbers;
@@ -27,6 +28,7 @@ mod turns;
 
 pub use answer::{Answer, Batch, Done, Mark, Shown, Turn};
 pub use batches::run_all;
+pub use extending::extends_outcome;
 pub use laws::outcomes_stay_under_more_properties;
 pub use outcomes::run;
 pub use request::{FindRequest, Mode, ReadRequest, Request};
