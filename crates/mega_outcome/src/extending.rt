@@ -1,4 +1,5 @@
-ghost use Rattle.std.specs.Prelude.{◌≡◌, ◌≤◌, true, IfOk};
+ghost use Rattle.std.specs.Prelude.{◌≡◌, ◌≤◌, true, Err, IfOk};
+ghost use Rattle.mega_base.specs.Causes.{Rose};
 ghost use Rattle.mega_disk.specs.VersionMaps.{SameVersions};
 ghost use Rattle.mega_outcome.specs.Outcome.{outcome, first_change};
 ghost use Rattle.mega_outcome.specs.Answers.{Gives, rows_at};
@@ -28,6 +29,8 @@ pub fn extends_outcome<V: Versions>(
     ensures second { V.is_told ≡ true → Gives result.1 (outcome extended.now txn.now (rows_at (V.version rows.old) at.0)) }
     ensures same { V.is_told ≡ true → IfOk result.0 (λ done. IfOk result.1 (λ other. other ≡ done)) }
     ensures versions { SameVersions (V.version rows.old) (V.version rows.new) }
+    ensures cause { result.0 ≡ Err Turn.DiskFault → Rose (V.faults rows.old) (V.faults rows.new) }
+    ensures second_cause { result.1 ≡ Err Turn.DiskFault → Rose (V.faults rows.old) (V.faults rows.new) }
     ensures later { V.faults rows.old ≤ V.faults rows.new }
 {
     let first = run(alloc, schema, txn, rows, at);
