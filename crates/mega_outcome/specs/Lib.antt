@@ -5,3 +5,8 @@ pub mod Changes
 pub mod Outcome
 pub mod Answers
 pub mod Turns
+pub mod Looks
+pub mod Steps
+pub mod Numbers
+pub mod Lengths
+pub mod Extends

@@ -2,12 +2,37 @@
 //! (CIDR 2011, transactions and concurrency control).
 #![tactic(auto)]
 
+mod adding;
 mod answer;
+mod batches;
+mod changing;
+mod checking;
 mod copies;
+mod cutting;
+mod extending;
+mod laws;
+mod lengths;
+mod longest;
+mod looking;
+mod numbers;
+mod outcomes;
+mod places;
+mod reading;
+mod replacing;
 mod request;
+mod running;
+mod sending;
+mod taking;
 mod transaction;
 mod turns;
 
 pub use answer::{Answer, Batch, Done, Mark, Shown, Turn};
+pub use batches::run_all;
+pub use extending::extends_outcome;
+pub use laws::outcomes_stay_under_more_properties;
+pub use outcomes::run;
 pub use request::{FindRequest, Mode, ReadRequest, Request};
 pub use transaction::{Change, Check, RowRef, Transaction};
+
+#[cfg(test)]
+mod tests;

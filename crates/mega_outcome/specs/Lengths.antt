@@ -1,0 +1,26 @@
+-- The lengths of texts, by the lengths of their parts.
+use Rattle.std.specs.Prelude.{ℕ, ◌+◌, ◌*◌, ◌==◌, List, [], ◌∷◌, length, Option, Some, None}
+use Rattle.std.specs.List.{flat_map}
+use Rattle.mega_base.specs.Values.{value_text, cell_text, row_text}
+use Rattle.mega_base.specs.declared.values.Value.{Value}
+use Rattle.mega_base.specs.declared.values.Cell.{Cell}
+use Rattle.mega_base.specs.declared.values.Row.{Row}
+use Rattle.mega_entry.specs.declared.content.Write.{Write}
+use Rattle.mega_entry.specs.declared.content.Send.{Send}
+use Rattle.mega_entry.specs.declared.content.Cut.{Cut}
+use Rattle.mega_entry.specs.Entries.{write_text, send_text, cuts_text}
+
+abbrev pub values_length : List Value → ℕ
+values_length values = length (flat_map value_text values)
+
+abbrev pub cells_length : List Cell → ℕ
+cells_length cells = length (flat_map cell_text cells)
+
+abbrev pub writes_length : List Write → ℕ
+writes_length writes = length (flat_map write_text writes)
+
+abbrev pub sends_length : List Send → ℕ
+sends_length sends = length (flat_map send_text sends)
+
+abbrev pub cuts_length : List Cut → ℕ
+cuts_length cuts = length (cuts_text cuts)
