@@ -8,7 +8,11 @@ use Rattle.std.proofs.lemmas.Bool.{and_parts}
 use Rattle.std.proofs.lemmas.Fmt.{decimal_by_steps, decimal_nonempty}
 use Rattle.std.proofs.lemmas.List.Folds.{list_all-append}
 use Rattle.std.proofs.Math.Seq.{take-append_seam}
-use Rattle.hex.specs.Hex.{decode_of, encode_lower, IsBytes}
+use Rattle.hex.specs.Hex.{decode_of, encode_lower, encode_with, lower_digits, IsBytes}
+use Rattle.hex.specs.declared.error.FromHexError.{FromHexError}
+use Rattle.std.specs.Prelude.{slice_index}
+use Rattle.std.proofs.lemmas.Bool.{cases_lt}
+use Rattle.mega_transcript.specs.Plain.{IsU8, IsU32, IsU64, IsNode, IsPosition, IsEpoch, IsOp, IsGroup}
 use Rattle.hex.proofs.HexLemmas.{decode_of-encode_lower, decode_of-ok}
 use Rattle.mega_base.specs.Reading.{◌>>=◌, whole_of}
 use Rattle.mega_base.specs.Codecs.{bind-ok}
@@ -46,10 +50,10 @@ until_again end word rest h =
     pair_is : {a b c d : List ℕ} → a ≡ b → c ≡ d → (let x : List ℕ × List ℕ = (a, c) in let y : List ℕ × List ℕ = (b, d) in x ≡ y)
     pair_is e f = cc
 
--- Reading a field gives a value that fits, and the text of one that fits is read back, where no dot, space or line
--- feed stands in it.
-pub record Form {A : Type 0} (field : Field A) (spell : A → List ℕ) (Fits : A → Type 0) : Type 0 where
-  pub again : (end : ℕ) (x : A) (rest : List ℕ) → end ≤ 46 → Fits x → field end (spell x ++ end ∷ rest) ≡ Ok (x, rest)
+-- Reading a field gives a value that fits, and the text of one that fits is read back; text x tail is the text of x
+-- before a tail.
+pub record Form {A : Type 0} (field : Field A) (text : A → List ℕ → List ℕ) (Fits : A → Type 0) : Type 0 where
+  pub again : (end : ℕ) (x : A) (rest : List ℕ) → end ≤ 46 → Fits x → field end (text x (end ∷ rest)) ≡ Ok (x, rest)
   pub fits : (end : ℕ) (left : List ℕ) (x : A) (rest : List ℕ) → field end left ≡ Ok (x, rest) → Fits x
 
 -- a word that is read whole: its readings fit, and its spellings are read
@@ -57,7 +61,7 @@ pub word_form : {A : Type 0} (read : List ℕ → Option A) (spell : A → List 
     → ((x : A) → Fits x → read (spell x) ≡ Some x)
     → ((x : A) (end : ℕ) → end ≤ 46 → Fits x → lacks end (spell x) ≡ true)
     → ((word : List ℕ) (x : A) → read word ≡ Some x → Fits x)
-    → Form (word_as read) spell Fits
+    → Form (word_as read) (λ x tail. spell x ++ tail) Fits
 word_form {A} read spell Fits again solid fits = record {
   again = λ end x rest low f.
       ap (taken read (length (spell x ++ end ∷ rest))) (until_again end (spell x) rest (solid x end low f))
@@ -85,13 +89,12 @@ read_parts {A} x y p q h =
     let e : a ≡ b = cc in
     (ap (λ (z : A × List ℕ). z.0) e, ap (λ (z : A × List ℕ). z.1) e)
 
-pub two_form : {A B : Type 0} (between : ℕ) (f : Field A) (g : Field B) (sa : A → List ℕ) (sb : B → List ℕ) (Fa : A → Type 0) (Fb : B → Type 0)
-    → between ≤ 46 → Form f sa Fa → Form g sb Fb
-    → Form (two between f g) (λ x. sa x.0 ++ between ∷ sb x.1) (λ x. Fa x.0 × Fb x.1)
-two_form {A} {B} between f g sa sb Fa Fb low a b = record {
+pub two_form : {A B : Type 0} (between : ℕ) (f : Field A) (g : Field B) (ta : A → List ℕ → List ℕ) (tb : B → List ℕ → List ℕ) (Fa : A → Type 0) (Fb : B → Type 0)
+    → between ≤ 46 → Form f ta Fa → Form g tb Fb
+    → Form (two between f g) (λ x tail. ta x.0 (between ∷ tb x.1 tail)) (λ x. Fa x.0 × Fb x.1)
+two_form {A} {B} between f g ta tb Fa Fb low a b = record {
   again = λ end x rest small fit.
-      ap (λ l. two between f g end l) (append_assoc (sa x.0) (between ∷ sb x.1) (end ∷ rest))
-      ∙ ap (λ (r : Read A). r >>= λ y. g end y.1 >>= λ z. Ok ((y.0, z.0), z.1)) (a.again between x.0 (sb x.1 ++ end ∷ rest) low fit.0)
+      ap (λ (r : Read A). r >>= λ y. g end y.1 >>= λ z. Ok ((y.0, z.0), z.1)) (a.again between x.0 (tb x.1 (end ∷ rest)) low fit.0)
       ∙ ap (λ (r : Read B). r >>= λ z. Ok ((x.0, z.0), z.1)) (b.again end x.1 rest small fit.1);
   fits = λ end left x rest h.
       let first = bind-ok (f between left) (λ y. g end y.1 >>= λ z. Ok ((y.0, z.0), z.1)) (x, rest) h in
@@ -101,12 +104,13 @@ two_form {A} {B} between f g sa sb Fa Fb low a b = record {
       subst P same.0 (a.fits between left first.0.0 first.0.1 first.1, b.fits end first.0.1 second.0.0 second.0.1 second.1);
 }
 
-pub made_form : {A B : Type 0} (f : Field A) (s : A → List ℕ) (F : A → Type 0) (make : A → B) (part : B → A)
-    → Form f s F → ((x : A) → part (make x) ≡ x) → ((y : B) → make (part y) ≡ y)
-    → Form (made make f) (λ y. s (part y)) (λ y. F (part y))
-made_form {A} {B} f s F make part c there back = record {
+pub made_form : {A B : Type 0} (f : Field A) (t : A → List ℕ → List ℕ) (F : A → Type 0) (make : A → B) (part : B → A) (u : B → List ℕ → List ℕ)
+    → Form f t F → ((x : A) → part (make x) ≡ x) → ((y : B) → make (part y) ≡ y) → ((y : B) (tail : List ℕ) → u y tail ≡ t (part y) tail)
+    → Form (made make f) u (λ y. F (part y))
+made_form {A} {B} f t F make part u c there back same = record {
   again = λ end y rest low fit.
-      ap (λ (r : Read A). r >>= λ a. Ok (make a.0, a.1)) (c.again end (part y) rest low fit) ∙ ap (λ (w : B). Ok (w, rest)) (back y);
+      ap (made make f end) (same y (end ∷ rest))
+      ∙ ap (λ (r : Read A). r >>= λ a. Ok (make a.0, a.1)) (c.again end (part y) rest low fit) ∙ ap (λ (w : B). Ok (w, rest)) (back y);
   fits = λ end left y rest h.
       let read = bind-ok (f end left) (λ a. Ok (make a.0, a.1)) (y, rest) h in
       let same = read_parts (make read.0.0) y read.0.1 rest read.2 in
@@ -198,17 +202,80 @@ number_of-decimal most n small low = from (decimal n) (digits-decimal most n (om
     from [] h k = absurd (omega arith)
     from (b ∷ bytes) h k = h
 
-pub number_form : (most : ℕ) → most < 2 ^ 64 → Form (number_field most) decimal (λ n. n ≤ most)
+pub number_form : (most : ℕ) → most < 2 ^ 64 → Form (number_field most) (λ n tail. decimal n ++ tail) (λ n. n ≤ most)
 unfolding number_field
 number_form most small = word_form (number_of most) decimal (λ n. n ≤ most)
     (λ n f. number_of-decimal most n small f)
     (λ n end low f. solid-lacks end (decimal n) low (decimal-solid n (omega (arith, f))))
     (number-most most)
 
-pub node_form : Form node_field node_word (λ node. node.0 ≤ 255)
-unfolding node_field
-node_form = made_form (number_field 255) decimal (λ n. n ≤ 255) (λ n. record { 0 = n }) (λ node. node.0) (number_form 255 (omega arith)) (λ n. refl) (λ node. refl)
+pub u8_form : Form u8_field (λ n tail. decimal n ++ tail) IsU8
+u8_form = number_form 255 (omega arith)
 
-pub position_form : Form position_field position_word (λ position. position.0 ≤ 18446744073709551615)
+pub u32_form : Form u32_field (λ n tail. decimal n ++ tail) IsU32
+u32_form = number_form 4294967295 (omega arith)
+
+pub u64_form : Form u64_field (λ n tail. decimal n ++ tail) IsU64
+u64_form = number_form 18446744073709551615 (omega arith)
+
+-- ---- names
+
+pub node_form : Form node_field (λ node tail. node_word node ++ tail) IsNode
+unfolding node_field
+node_form = made_form u8_field (λ n tail. decimal n ++ tail) IsU8 (λ n. record { 0 = n }) (λ node. node.0) (λ node tail. node_word node ++ tail) u8_form (λ n. refl) (λ node. refl) (λ node tail. refl)
+
+pub position_form : Form position_field (λ position tail. position_word position ++ tail) IsPosition
 unfolding position_field
-position_form = made_form (number_field 18446744073709551615) decimal (λ n. n ≤ 18446744073709551615) (λ n. record { 0 = n }) (λ position. position.0) (number_form 18446744073709551615 (omega arith)) (λ n. refl) (λ position. refl)
+position_form = made_form u64_field (λ n tail. decimal n ++ tail) IsU64 (λ n. record { 0 = n }) (λ position. position.0) (λ position tail. position_word position ++ tail) u64_form (λ n. refl) (λ position. refl) (λ position tail. refl)
+
+pub epoch_form : Form epoch_field (λ epoch tail. epoch_word epoch ++ tail) IsEpoch
+unfolding epoch_field
+epoch_form = made_form (two 46 u32_field u32_field) (λ x tail. decimal x.0 ++ 46 ∷ (decimal x.1 ++ tail)) (λ x. IsU32 x.0 × IsU32 x.1) (λ x. record { start = x.0; count = x.1 }) (λ epoch. (epoch.start, epoch.count)) (λ epoch tail. epoch_word epoch ++ tail)
+    (two_form 46 u32_field u32_field (λ n tail. decimal n ++ tail) (λ n tail. decimal n ++ tail) IsU32 IsU32 (omega arith) u32_form u32_form)
+    (λ x. refl) (λ epoch. refl) (λ epoch tail. append_assoc (decimal epoch.start) (46 ∷ decimal epoch.count) tail)
+
+pub op_form : Form op_field (λ op tail. op_word op ++ tail) IsOp
+unfolding op_field
+op_form = made_form (two 46 node_field (two 46 u32_field u32_field)) (λ x tail. node_word x.0 ++ 46 ∷ (decimal x.1.0 ++ 46 ∷ (decimal x.1.1 ++ tail))) (λ x. IsNode x.0 × (IsU32 x.1.0 × IsU32 x.1.1)) (λ x. record { node = x.0; start = x.1.0; number = x.1.1 }) (λ op. (op.node, (op.start, op.number))) (λ op tail. op_word op ++ tail)
+    (two_form 46 node_field (two 46 u32_field u32_field) (λ node tail. node_word node ++ tail) (λ x tail. decimal x.0 ++ 46 ∷ (decimal x.1 ++ tail)) IsNode (λ x. IsU32 x.0 × IsU32 x.1) (omega arith) node_form
+    (two_form 46 u32_field u32_field (λ n tail. decimal n ++ tail) (λ n tail. decimal n ++ tail) IsU32 IsU32 (omega arith) u32_form u32_form))
+    (λ x. refl) (λ op. refl)
+    (λ op tail. append_assoc (decimal op.node.0) (46 ∷ (decimal op.start ++ 46 ∷ decimal op.number)) tail ∙ ap (λ l. decimal op.node.0 ++ 46 ∷ l) (append_assoc (decimal op.start) (46 ∷ decimal op.number) tail))
+
+-- ---- bytes in hex
+
+hex_digit-solid : (d : ℕ) → d < 16 → is_solid (slice_index lower_digits d) ≡ true
+hex_digit-solid d small = table 16 d refl small
+  where
+    passes : ℕ → Bool
+    passes zero = true
+    passes (suc n) = is_solid (slice_index lower_digits n) && passes n
+
+    table : (n k : ℕ) → passes n ≡ true → k < n → is_solid (slice_index lower_digits k) ≡ true
+    table zero k h lt = absurd (omega arith)
+    table (suc n) k h lt = let parts = and_parts (is_solid (slice_index lower_digits n)) (passes n) h in elim (cases_lt k n) [
+      | inl below ↦ table n k parts.1 below
+      | inr top ↦ let e : k ≡ n = omega arith in rw e parts.0
+    ]
+
+hex-solid : (bytes : List ℕ) → IsBytes bytes → list_all is_solid (encode_lower bytes) ≡ true
+unfolding encode_with
+hex-solid [] f = refl
+hex-solid (b ∷ bytes) f =
+    let small : b < 256 = f 0 in
+    rw (hex_digit-solid (b / 16) (omega arith), hex_digit-solid (b % 16) (omega arith)) (hex-solid bytes (λ i. f (suc i)))
+
+pub hex_form : Form hex_field (λ bytes tail. encode_lower bytes ++ tail) IsBytes
+unfolding hex_field
+hex_form = word_form (λ word. result_ok (decode_of word)) encode_lower IsBytes
+    (λ bytes f. ap result_ok (decode_of-encode_lower bytes f))
+    (λ bytes end low f. solid-lacks end (encode_lower bytes) low (hex-solid bytes f))
+    (λ word bytes h. (decode_of-ok word bytes (from_ok (decode_of word) bytes h)).3)
+  where
+    from_ok : (r : Result (List ℕ) FromHexError) (bytes : List ℕ) → result_ok r ≡ Some bytes → r ≡ Ok bytes
+    from_ok (Ok x) bytes h = let e : x ≡ bytes = cc in ap Ok e
+    from_ok (Err e) bytes h = absurd (cc)
+
+pub group_form : Form group_field (λ group tail. group_word group ++ tail) IsGroup
+unfolding group_field
+group_form = made_form hex_field (λ bytes tail. encode_lower bytes ++ tail) IsBytes (λ key. record { key = key }) (λ group. group.key) (λ group tail. group_word group ++ tail) hex_form (λ key. refl) (λ group. refl) (λ group tail. refl)

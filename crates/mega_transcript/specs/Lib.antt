@@ -5,4 +5,7 @@ pub mod Rows
 pub mod Answers
 pub mod Lines
 pub mod NoFloats
+pub mod Plain
 pub mod Reading
+pub mod Kinds
+pub mod Taking

@@ -2,10 +2,14 @@
 #![tactic(auto)]
 
 mod answers;
+mod fault;
 mod item;
 mod json;
+mod kinds;
 mod lines;
+mod reading;
 mod words;
 
+pub use fault::ItemFault;
 pub use item::{Item, Note, Tape};
 pub use lines::text;
