@@ -161,10 +161,10 @@ digits-most most n (b ∷ bytes) k low h = through (λ m. digits-most most m byt
     through each None e g = absurd (cc)
     through each (Some m) e g = each m (with_digit-most most n b m e) g
 
-pub number-most : (most : ℕ) (word : List ℕ) (k : ℕ) → number_of most word ≡ Some k → k ≤ most
+pub number_most : (most : ℕ) (word : List ℕ) (k : ℕ) → number_of most word ≡ Some k → k ≤ most
 unfolding number_of
-number-most most [] k h = absurd (cc)
-number-most most (b ∷ bytes) k h = digits-most most 0 (b ∷ bytes) k (omega arith) h
+number_most most [] k h = absurd (cc)
+number_most most (b ∷ bytes) k h = digits-most most 0 (b ∷ bytes) k (omega arith) h
 
 -- a digit, or another byte above those that end words
 abbrev is_solid : ℕ → Bool
@@ -207,7 +207,7 @@ unfolding number_field
 number_form most small = word_form (number_of most) decimal (λ n. n ≤ most)
     (λ n f. number_of-decimal most n small f)
     (λ n end low f. solid-lacks end (decimal n) low (decimal-solid n (omega (arith, f))))
-    (number-most most)
+    (number_most most)
 
 pub u8_form : Form u8_field (λ n tail. decimal n ++ tail) IsU8
 u8_form = number_form 255 (omega arith)

@@ -9,3 +9,4 @@ pub mod Plain
 pub mod Reading
 pub mod Kinds
 pub mod Taking
+pub mod ReadingItems

@@ -8,6 +8,7 @@ mod json;
 mod kinds;
 mod lines;
 mod reading;
+mod reading_items;
 mod words;
 
 pub use fault::ItemFault;

@@ -115,4 +115,130 @@ impl<'a> Words<'a> {
             }
         }
     }
+
+    /// A number up to `most`.
+    #[tactic(auto, using(crate::proofs::Forms::number_most), unfolding(crate::specs::Reading::number_field))]
+    pub(crate) fn number(&mut self, end: u8, most: u64) -> Result<u64, Refusal>
+        ensures read { Takes result self.new (number_field most end self.old) }
+        ensures most { IfOk result (λ number. number ≤ most) }
+    {
+        let left = self.len();
+        let word = self.word(end)?;
+        match number_of(most, word) {
+            Some(number) => Ok(number),
+            None => Err(Refusal::Word { left }),
+        }
+    }
+
+    /// A number of one byte.
+    pub(crate) fn u8(&mut self, end: u8) -> Result<u8, Refusal>
+        ensures { Takes result self.new (number_field 255 end self.old) }
+    {
+        let number = self.number(end, 255)?;
+        Ok(number as u8)
+    }
+
+    /// A number of four bytes.
+    pub(crate) fn u32(&mut self, end: u8) -> Result<u32, Refusal>
+        ensures { Takes result self.new (number_field 4294967295 end self.old) }
+    {
+        let number = self.number(end, 4_294_967_295)?;
+        Ok(number as u32)
+    }
+
+    /// A number of eight bytes.
+    pub(crate) fn u64(&mut self, end: u8) -> Result<u64, Refusal>
+        ensures { Takes result self.new (number_field 18446744073709551615 end self.old) }
+    {
+        self.number(end, u64::MAX)
+    }
+
+    #[tactic(auto, unfolding(crate::specs::Reading::node_field))]
+    pub(crate) fn node(&mut self, end: u8) -> Result<NodeId, Refusal>
+        ensures { Takes result self.new (node_field end self.old) }
+    {
+        let number = self.u8(end)?;
+        Ok(NodeId(number))
+    }
+
+    #[tactic(auto, unfolding(crate::specs::Reading::position_field))]
+    pub(crate) fn position(&mut self, end: u8) -> Result<Position, Refusal>
+        ensures { Takes result self.new (position_field end self.old) }
+    {
+        let number = self.u64(end)?;
+        Ok(Position(number))
+    }
+
+    #[tactic(auto, unfolding(crate::specs::Reading::epoch_field))]
+    pub(crate) fn epoch(&mut self, end: u8) -> Result<Epoch, Refusal>
+        ensures { Takes result self.new (epoch_field end self.old) }
+    {
+        let start = self.u32(b'.')?;
+        let count = self.u32(end)?;
+        Ok(Epoch { start, count })
+    }
+
+    #[tactic(auto, unfolding(crate::specs::Reading::op_field))]
+    pub(crate) fn op(&mut self, end: u8) -> Result<OpId, Refusal>
+        ensures { Takes result self.new (op_field end self.old) }
+    {
+        let node = self.node(b'.')?;
+        let start = self.u32(b'.')?;
+        let number = self.u32(end)?;
+        Ok(OpId {
+            node,
+            start,
+            number,
+        })
+    }
+
+    /// Bytes in hex.
+    #[tactic(auto, unfolding(crate::specs::Reading::hex_field))]
+    pub(crate) fn hex(&mut self, alloc: Global, end: u8) -> Result<Bytes, Refusal>
+        ensures { Takes result self.new (hex_field end self.old) }
+    {
+        let left = self.len();
+        let word = self.word(end)?;
+        match hex::decode(alloc, word) {
+            Ok(bytes) => Ok(Bytes::from_vec(bytes)),
+            Err(FromHexError::OutOfMemory) => Err(Refusal::NoMemory),
+            Err(_) => Err(Refusal::Word { left }),
+        }
+    }
+
+    #[tactic(auto, unfolding(crate::specs::Reading::group_field))]
+    pub(crate) fn group(&mut self, alloc: Global, end: u8) -> Result<GroupId, Refusal>
+        ensures { Takes result self.new (group_field end self.old) }
+    {
+        let key = self.hex(alloc, end)?;
+        Ok(GroupId { key })
+    }
+
+    /// A message in hex.
+    #[tactic(auto, unfolding(crate::specs::Reading::message_field))]
+    pub(crate) fn message(&mut self, alloc: Global, end: u8) -> Result<Message, Refusal>
+        ensures { Takes result self.new (message_field end self.old) }
+    {
+        let left = self.len();
+        let bytes = self.hex(alloc, end)?;
+        match mega_wire::decode(alloc, bytes.as_slice()) {
+            Ok(message) => Ok(message),
+            Err(FieldFault::Malformed { .. }) => Err(Refusal::Word { left }),
+            Err(FieldFault::NoMemory) => Err(Refusal::NoMemory),
+        }
+    }
+
+    /// An entry in hex.
+    #[tactic(auto, unfolding(crate::specs::Reading::entry_field))]
+    pub(crate) fn entry(&mut self, alloc: Global, end: u8) -> Result<Entry, Refusal>
+        ensures { Takes result self.new (entry_field end self.old) }
+    {
+        let left = self.len();
+        let bytes = self.hex(alloc, end)?;
+        match mega_entry::decode(alloc, bytes.as_slice()) {
+            Ok(entry) => Ok(entry),
+            Err(FieldFault::Malformed { .. }) => Err(Refusal::Word { left }),
+            Err(FieldFault::NoMemory) => Err(Refusal::NoMemory),
+        }
+    }
 }
