@@ -194,6 +194,9 @@ decimal-solid n small = decimal_by_steps (λ _ ds. list_all is_solid ds ≡ true
     more : (m : ℕ) (ds : List ℕ) → 10 ≤ m → list_all is_solid ds ≡ true → list_all is_solid (ds ++ (48 + m % 10) ∷ []) ≡ true
     more m ds h ih = list_all-append is_solid ds ((48 + m % 10) ∷ []) ∙ rw (ih, digit (m % 10)) refl
 
+pub decimal-lacks : (end n : ℕ) → end ≤ 46 → n < 2 ^ 64 → lacks end (decimal n) ≡ true
+decimal-lacks end n low small = solid-lacks end (decimal n) low (decimal-solid n small)
+
 number_of-decimal : (most n : ℕ) → most < 2 ^ 64 → n ≤ most → number_of most (decimal n) ≡ Some n
 unfolding number_of
 number_of-decimal most n small low = from (decimal n) (digits-decimal most n (omega arith) low) (decimal_nonempty n (omega arith))

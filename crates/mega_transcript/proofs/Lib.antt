@@ -1,3 +1,4 @@
 pub mod Tapes
 pub mod Cells
 pub mod Forms
+pub mod LineForms

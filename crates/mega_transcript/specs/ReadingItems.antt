@@ -1,5 +1,6 @@
 -- How the items of a tape are read.
-use Rattle.std.specs.Prelude.{ℕ, ◌+◌, ◌-◌, ◌==◌, Bool, true, false, if◌then◌else◌, List, [], ◌∷◌, ◌++◌, codes, length, Option, Some, None, Result, Ok, Err}
+use Rattle.std.specs.Prelude.{ℕ, ◌+◌, ◌-◌, ◌==◌, Bool, true, false, if◌then◌else◌, List, [], ◌∷◌, ◌++◌, codes, length, Option, Some, None, Result, Ok, Err, nat_eq}
+use Rattle.std.specs.List.{common_prefix_len}
 use Rattle.mega_base.specs.Reading.{◌>>=◌}
 use Rattle.mega_base.specs.declared.names.NodeId.{NodeId}
 use Rattle.mega_base.specs.declared.names.Position.{Position}
@@ -146,9 +147,7 @@ located len (Err left) = Err (len - left)
 
 -- the offset of the first byte that differs
 abbrev pub differs_at : List ℕ → List ℕ → ℕ
-differs_at [] text = 0
-differs_at (a ∷ xs) [] = 0
-differs_at (a ∷ xs) (b ∷ ys) = if a == b then differs_at xs ys + 1 else 0
+differs_at = common_prefix_len nat_eq
 
 -- the item, where this is its line
 abbrev pub agreed : Schema → List ℕ → Item → Result Item ℕ
