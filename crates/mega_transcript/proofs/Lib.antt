@@ -2,3 +2,4 @@ pub mod Tapes
 pub mod Cells
 pub mod Forms
 pub mod LineForms
+pub mod ItemLaws
