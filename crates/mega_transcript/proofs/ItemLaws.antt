@@ -29,10 +29,10 @@ use Rattle.mega_transcript.specs.declared.kinds.LineKind.{LineKind}
 use Rattle.mega_transcript.specs.declared.kinds.LineKind.TheVariants as kinds
 use Rattle.mega_transcript.specs.Words.{node_word, position_word, epoch_word, op_word, group_word}
 use Rattle.mega_transcript.specs.Kinds.{kind_of}
-use Rattle.mega_transcript.specs.Lines.{kind_name, line}
+use Rattle.mega_transcript.specs.Lines.{kind_name, line, HasLine}
 use Rattle.mega_transcript.specs.Plain.{IsU8, IsU32, IsU64, IsNode, IsPosition, IsEpoch, IsOp, IsGroup, IsWhole, IsWritten, IsPlain}
 use Rattle.mega_transcript.specs.Reading.{Read, Field, until, shown, two, made, u8_field, u32_field, u64_field, node_field, position_field, epoch_field, op_field, group_field, hex_field, message_field, entry_field}
-use Rattle.mega_transcript.specs.ReadingItems.{taken_behind, behind, cell_node_epoch, node_cell_epoch, node_epoch, node_group_position, start_at, unsent_at, tick_at, begin_at, taken_at, dropped_at, sent_at, grant_at, lapse_at, counts_at, forgets_at, serving_at, lost_at, valid_at, invalid_at, decide_at, apply_at, answered_at, crash_at, of_kind, by_kind, by_word, item_at, whole_item, located, differs_at, agreed, parsed}
+use Rattle.mega_transcript.specs.ReadingItems.{taken_behind, behind, cell_node_epoch, node_cell_epoch, node_epoch, node_group_position, start_at, unsent_at, tick_at, begin_at, taken_at, dropped_at, sent_at, grant_at, lapse_at, counts_at, forgets_at, serving_at, lost_at, valid_at, invalid_at, decide_at, apply_at, answered_at, crash_at, of_kind, by_kind, by_word, item_at, whole_item, located, differs_at, difference, unless_differs, agreed, parsed}
 use Rattle.mega_transcript.proofs.Forms.{lacks, until_again, Form, read_parts, two_form, made_form, decimal-lacks, u8_form, u32_form, u64_form, node_form, position_form, epoch_form, op_form, hex_form, group_form}
 
 use Rattle.mega_transcript.proofs.LineForms.{cell_node_epoch_form, node_cell_epoch_form, node_epoch_form, place_form, decided_form, start_form, tick_form, unsent_form, sent_form}
@@ -187,22 +187,51 @@ located_ok : (n : ℕ) (r : Result Item ℕ) (item : Item) → located n r ≡ O
 located_ok n (Ok x) item h = h
 located_ok n (Err e) item h = absurd (cc)
 
+same-false : (line_text text : List ℕ) (b : Bool) → (if b then None else Some (differs_at line_text text)) ≡ None → b ≡ true
+same-false line_text text true h = refl
+same-false line_text text false h = absurd (cc)
+
 -- reading the line of a plain item gives the item
 pub parsed_again : (schema : Schema) (item : Item) → IsPlain schema item → parsed schema (line schema item) ≡ Ok item
 unfolding parsed
 parsed_again schema item fit =
     ap (λ r. located (length (line schema item)) r >>= agreed schema (line schema item)) (whole_again schema item fit)
-    ∙ ap (λ t. if t then Ok item else Err (differs_at (line schema item) (line schema item))) (same-refl (line schema item))
+    ∙ ap (λ t. unless_differs item (if t then None else Some (differs_at (line schema item) (line schema item)))) (same-refl (line schema item))
+
+unless-ok : (i item : Item) (d : Option ℕ) → unless_differs i d ≡ Ok item → (i ≡ item) × (d ≡ None)
+unless-ok i item None h = (cc, refl)
+unless-ok i item (Some at) h = absurd (cc)
 
 -- what is read is plain, and the text is its line
 pub parsed_found : (schema : Schema) (text : List ℕ) (item : Item) → parsed schema text ≡ Ok item → IsPlain schema item × (text ≡ line schema item)
 unfolding parsed
 parsed_found schema text item h =
     let read = bind-ok (located (length text) (whole_item schema text)) (agreed schema text) item h in
-    elim (if-ok (same (line schema read.0) text) (Ok read.0) (Err (differs_at (line schema read.0) text)) (Ok item) read.2) [
-      | inl w ↦
-          let e : read.0 ≡ item = cc (w.1) in
-          let P : Item → Type 0 = λ i. IsPlain schema i × (text ≡ line schema i) in
-          subst P e (whole_fits schema text read.0 (located_ok (length text) (whole_item schema text) read.0 read.1), sym ((bytes_eq-Decides (line schema read.0) text).0 w.0))
-      | inr w ↦ absurd (let k : Err (differs_at (line schema read.0) text) ≡ Ok item = w.1 in cc)
-    ]
+    let same_item = unless-ok read.0 item (difference (line schema read.0) text) read.2 in
+    let P : Item → Type 0 = λ i. IsPlain schema i × (text ≡ line schema i) in
+    subst P same_item.0 (whole_fits schema text read.0 (located_ok (length text) (whole_item schema text) read.0 read.1),
+        sym ((bytes_eq-Decides (line schema read.0) text).0 (same-false (line schema read.0) text (same (line schema read.0) text) same_item.1)))
+
+-- a plain item has a line
+pub HasLine_from_IsPlain : (schema : Schema) (item : Item) → IsPlain schema item → HasLine item
+HasLine_from_IsPlain schema (items.Start node start) fit = tt
+HasLine_from_IsPlain schema (items.Unsent node message) fit = fit.1.0
+HasLine_from_IsPlain schema (items.Tick node now) fit = tt
+HasLine_from_IsPlain schema (items.Begin op text) fit = tt
+HasLine_from_IsPlain schema (items.Taken number) fit = tt
+HasLine_from_IsPlain schema (items.Dropped number) fit = tt
+HasLine_from_IsPlain schema (items.Sent number message) fit = fit.1.0
+HasLine_from_IsPlain schema (items.Grant cell node epoch) fit = tt
+HasLine_from_IsPlain schema (items.Lapse cell node epoch) fit = tt
+HasLine_from_IsPlain schema (items.Counts node cell epoch) fit = tt
+HasLine_from_IsPlain schema (items.Forgets node cell epoch) fit = tt
+HasLine_from_IsPlain schema (items.Serving node epoch) fit = tt
+HasLine_from_IsPlain schema (items.Lost node epoch) fit = tt
+HasLine_from_IsPlain schema (items.Valid node group position) fit = tt
+HasLine_from_IsPlain schema (items.Invalid node group position) fit = tt
+HasLine_from_IsPlain schema (items.Decide node group position entry) fit = fit.1.0
+HasLine_from_IsPlain schema (items.Apply node group position) fit = tt
+HasLine_from_IsPlain schema (items.Answer op answer) fit = tt
+HasLine_from_IsPlain schema (items.Crash node) fit = tt
+HasLine_from_IsPlain schema items.Cut fit = tt
+HasLine_from_IsPlain schema items.Unsafe fit = tt

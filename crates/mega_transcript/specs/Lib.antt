@@ -10,3 +10,4 @@ pub mod Reading
 pub mod Kinds
 pub mod Taking
 pub mod ReadingItems
+pub mod Telling

@@ -149,9 +149,17 @@ located len (Err left) = Err (len - left)
 abbrev pub differs_at : List ℕ → List ℕ → ℕ
 differs_at = common_prefix_len nat_eq
 
+-- where the text differs from a line, if it does
+abbrev pub difference : List ℕ → List ℕ → Option ℕ
+difference line text = if same line text then None else Some (differs_at line text)
+
+abbrev pub unless_differs : Item → Option ℕ → Result Item ℕ
+unless_differs item None = Ok item
+unless_differs item (Some at) = Err at
+
 -- the item, where this is its line
 abbrev pub agreed : Schema → List ℕ → Item → Result Item ℕ
-agreed schema text item = if same (line schema item) text then Ok item else Err (differs_at (line schema item) text)
+agreed schema text item = unless_differs item (difference (line schema item) text)
 
 -- The item whose line the text is. Else the offset of the word that is refused, or, where the words were taken for an
 -- item of another line, of the first byte that differs from it.

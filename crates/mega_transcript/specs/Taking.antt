@@ -8,5 +8,11 @@ use Rattle.mega_transcript.specs.declared.fault.Refusal.TheVariants.{Word, NoMem
 -- wanting
 abbrev pub Takes : {A : Type 0} → Result A Refusal → List ℕ → Read A → Type 0
 Takes (Ok x) left read = read ≡ Ok (x, left)
-Takes (Err (Word at)) left read = read ≡ Err at
+Takes (Err (Word refused)) left read = read ≡ Err refused
 Takes (Err NoMemory) left read = ⊤
+
+-- the same, where nothing may be left
+abbrev pub Tells : {A : Type 0} → Result A Refusal → Result A ℕ → Type 0
+Tells (Ok x) read = read ≡ Ok x
+Tells (Err (Word left)) read = read ≡ Err left
+Tells (Err NoMemory) read = ⊤

@@ -1,4 +1,4 @@
-ghost use Rattle.std.specs.Prelude.{◌≡◌, ◌≤◌, Some, None, Ok, Err, IfOk, IfErr, IfSome, length, position, option_map, ◌==◌, ◌<◌};
+ghost use Rattle.std.specs.Prelude.{◌≡◌, ◌≤◌, Some, None, Ok, Err, IfOk, IfErr, IfSome, length, position, option_map, ◌==◌, ◌<◌, []};
 ghost use Rattle.hex.specs.Hex.{IsBytes};
 ghost use Rattle.mega_transcript.specs.Reading.{until, with_digit, number_of, number_field, hex_field, node_field, position_field, epoch_field, op_field, group_field, message_field, entry_field};
 ghost use Rattle.mega_transcript.specs.Taking.{Takes};
@@ -12,6 +12,7 @@ use std::alloc::Global;
 use std::marker::Model;
 
 /// Reads words from the front of a line. Contracts see the bytes that are left.
+#[derive(Drop)]
 pub(crate) struct Words<'a> {
     left: &'a [u8],
 }
@@ -89,6 +90,20 @@ impl<'a> Words<'a> {
         ensures { result ≡ length self.now }
     {
         self.left.len() as u64
+    }
+
+    /// Whether no bytes are left.
+    pub(crate) fn is_at_end(&self) -> bool
+        ensures { result ≡ (length self.now == 0) }
+    {
+        self.left.is_empty()
+    }
+
+    /// Passes over all bytes that are left.
+    pub(crate) fn pass_all(&mut self)
+        ensures { self.new ≡ [] }
+    {
+        self.left = &[];
     }
 
     /// The bytes that are left.
