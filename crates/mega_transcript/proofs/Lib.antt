@@ -3,6 +3,5 @@ pub mod Cells
 pub mod Forms
 pub mod LineForms
 pub mod ItemLaws
-pub mod JsonBack
 pub mod Fronts
 pub mod Reparse

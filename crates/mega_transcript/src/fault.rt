@@ -21,6 +21,17 @@ pub(crate) enum Refusal {
     NoMemory,
 }
 
+/// How a text compares with a line.
+#[derive(Clone, Copy, Drop)]
+pub(crate) enum Found {
+    Same,
+    /// The offset of the first byte that differs.
+    Differs {
+        at: u64,
+    },
+    NoMemory,
+}
+
 impl From<mega_base::NoMemory> for Refusal {
     ghost from_gives = { λ _ refusal. refusal ≡ Refused };
 

@@ -11,6 +11,8 @@ mod parsing;
 mod reading;
 mod reading_items;
 mod reading_texts;
+#[cfg(test)]
+mod tests;
 mod words;
 
 pub use fault::ItemFault;

@@ -4,11 +4,11 @@ ghost use Rattle.mega_syntax.specs.Names.{same};
 ghost use Rattle.mega_transcript.specs.declared.item.Item.{Item as ItemValue};
 ghost use Rattle.mega_transcript.specs.Lines.{line, HasLine};
 ghost use Rattle.mega_transcript.specs.Plain.{IsPlain};
-ghost use Rattle.mega_transcript.specs.ReadingItems.{of_kind, item_at, whole_item, difference, agreed, parsed};
+ghost use Rattle.mega_transcript.specs.ReadingItems.{of_kind, item_at, whole_item, located, difference, parsed};
 ghost use Rattle.mega_transcript.specs.Taking.{Takes, Tells};
-ghost use Rattle.mega_transcript.specs.Telling.{Gives};
+ghost use Rattle.mega_transcript.specs.Telling.{Gives, Finds, is_same, fault_of};
 
-use crate::fault::{ItemFault, Refusal};
+use crate::fault::{Found, ItemFault, Refusal};
 use crate::item::Item;
 use crate::kinds::{LineKind, is, kind_of};
 use crate::lines;
@@ -18,7 +18,7 @@ use crate::reading_items::{
     start, taken, tick, unsent, valid,
 };
 use crate::reading_texts::{answered, begin};
-use mega_base::{Bytes, NoMemory};
+use mega_base::Bytes;
 use mega_schema::Schema;
 use std::alloc::Global;
 
@@ -32,19 +32,52 @@ pub fn parse(alloc: Global, schema: &Schema, text: &[u8]) -> Result<Item, ItemFa
     parsed(alloc, schema, text)
 }
 
-/// The item, or why there is none.
-#[tactic(auto, using(crate::proofs::Reparse::taken_for, crate::proofs::Reparse::refused_at, crate::proofs::ItemLaws::whole_fits))]
-fn parsed(alloc: Global, schema: &Schema, text: &[u8]) -> Result<Item, ItemFault>
-    ensures { Gives result (parsed schema.now text.now) }
+/// The item that the words are taken for, or where they are refused.
+#[tactic(auto, using(crate::proofs::ItemLaws::whole_fits))]
+fn taken_for(alloc: Global, schema: &Schema, text: &[u8]) -> Result<Item, ItemFault>
+    ensures read { Gives result (located (length text.now) (whole_item schema.now text.now)) }
+    ensures plain { IfOk result (IsPlain schema.now) }
 {
     match whole_item(alloc, schema, text) {
-        Ok(item) => agreed(alloc, schema, text, item),
+        Ok(item) => Ok(item),
         Err(Refusal::Word { left }) => {
             Err(ItemFault::NotItem {
                 at: (text.len() as u64).saturating_sub(left),
             })
         }
         Err(Refusal::NoMemory) => Err(ItemFault::NoMemory),
+    }
+}
+
+/// The item, where the text is its line.
+#[tactic(auto, using(crate::proofs::Reparse::kept, crate::proofs::Reparse::refused_there, crate::proofs::Reparse::refused_words))]
+fn parsed(alloc: Global, schema: &Schema, text: &[u8]) -> Result<Item, ItemFault>
+    ensures { Gives result (parsed schema.now text.now) }
+{
+    let item = taken_for(alloc, schema, text)?;
+    let found = difference(alloc, schema, &item, text);
+    if is_same(found) {
+        Ok(item)
+    } else {
+        Err(fault_of(found))
+    }
+}
+
+/// Whether no difference was found.
+fn is_same(found: Found) -> bool
+    ensures { result ≡ is_same found }
+{
+    matches!(found, Found::Same)
+}
+
+/// Why a text is not the line of the item that its words were taken for.
+fn fault_of(found: Found) -> ItemFault
+    ensures { result ≡ fault_of found }
+{
+    match found {
+        Found::Same => ItemFault::NotItem { at: 0 },
+        Found::Differs { at } => ItemFault::NotItem { at },
+        Found::NoMemory => ItemFault::NoMemory,
     }
 }
 
@@ -63,33 +96,20 @@ fn common_len(line: &[u8], text: &[u8]) -> u64
 
 /// Where the text differs from the item's line, if it does.
 #[tactic(auto, using(crate::proofs::ItemLaws::HasLine_from_IsPlain))]
-fn difference(
-    alloc: Global,
-    schema: &Schema,
-    item: &Item,
-    text: &[u8],
-) -> Result<Option<u64>, NoMemory>
+fn difference(alloc: Global, schema: &Schema, item: &Item, text: &[u8]) -> Found
     requires { IsPlain schema.now item.now }
-    ensures { IfOk result (λ found. found ≡ difference (line schema.now item.now) text.now) }
+    ensures { Finds result (difference (line schema.now item.now) text.now) }
 {
     let mut line = Bytes::new(alloc);
-    lines::text(alloc, schema, item, &mut line)?;
-    if is(line.as_slice(), text) {
-        Ok(None)
-    } else {
-        Ok(Some(common_len(line.as_slice(), text)))
+    if lines::text(alloc, schema, item, &mut line).is_err() {
+        return Found::NoMemory;
     }
-}
-
-/// The item, where this is its line.
-fn agreed(alloc: Global, schema: &Schema, text: &[u8], item: Item) -> Result<Item, ItemFault>
-    requires { IsPlain schema.now item }
-    ensures { Gives result (agreed schema.now text.now item) }
-{
-    match difference(alloc, schema, &item, text) {
-        Ok(None) => Ok(item),
-        Ok(Some(at)) => Err(ItemFault::NotItem { at }),
-        Err(_) => Err(ItemFault::NoMemory),
+    if is(line.as_slice(), text) {
+        Found::Same
+    } else {
+        Found::Differs {
+            at: common_len(line.as_slice(), text),
+        }
     }
 }
 
