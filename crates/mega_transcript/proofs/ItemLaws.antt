@@ -34,7 +34,6 @@ use Rattle.mega_transcript.specs.Plain.{IsU8, IsU32, IsU64, IsNode, IsPosition, 
 use Rattle.mega_transcript.specs.Reading.{Read, Field, until, shown, two, made, u8_field, u32_field, u64_field, node_field, position_field, epoch_field, op_field, group_field, hex_field, message_field, entry_field}
 use Rattle.mega_transcript.specs.ReadingItems.{taken_behind, behind, cell_node_epoch, node_cell_epoch, node_epoch, node_group_position, start_at, unsent_at, tick_at, begin_at, taken_at, dropped_at, sent_at, grant_at, lapse_at, counts_at, forgets_at, serving_at, lost_at, valid_at, invalid_at, decide_at, apply_at, answered_at, crash_at, of_kind, by_kind, by_word, item_at, whole_item, located, differs_at, difference, unless_differs, agreed, parsed}
 use Rattle.mega_transcript.proofs.Forms.{lacks, until_again, Form, read_parts, two_form, made_form, decimal-lacks, u8_form, u32_form, u64_form, node_form, position_form, epoch_form, op_form, hex_form, group_form}
-
 use Rattle.mega_transcript.proofs.LineForms.{cell_node_epoch_form, node_cell_epoch_form, node_epoch_form, place_form, decided_form, start_form, tick_form, unsent_form, sent_form}
 
 -- a line goes on as its first word says
@@ -160,9 +159,9 @@ item_fits schema left item rest h =
     elim (if-ok (same left (codes "cut" ++ 10 ∷ [])) (Ok (items.Cut, [])) _ (Ok (item, rest)) h) [
       | inl w ↦ subst (IsPlain schema) (read_parts items.Cut item [] rest w.1).0 tt
       | inr v ↦ elim (if-ok (same left (codes "unsafe" ++ 10 ∷ [])) (Ok (items.Unsafe, [])) _ (Ok (item, rest)) v.1) [
-          | inl w ↦ subst (IsPlain schema) (read_parts items.Unsafe item [] rest w.1).0 tt
-          | inr w ↦ by_word_fits schema (length left) (until 32 left) item rest w.1
-        ]
+        | inl w ↦ subst (IsPlain schema) (read_parts items.Unsafe item [] rest w.1).0 tt
+        | inr w ↦ by_word_fits schema (length left) (until 32 left) item rest w.1
+      ]
     ]
 
 -- ---- whole lines
@@ -209,8 +208,10 @@ parsed_found schema text item h =
     let read = bind-ok (located (length text) (whole_item schema text)) (agreed schema text) item h in
     let same_item = unless-ok read.0 item (difference (line schema read.0) text) read.2 in
     let P : Item → Type 0 = λ i. IsPlain schema i × (text ≡ line schema i) in
-    subst P same_item.0 (whole_fits schema text read.0 (located_ok (length text) (whole_item schema text) read.0 read.1),
-        sym ((bytes_eq-Decides (line schema read.0) text).0 (same-false (line schema read.0) text (same (line schema read.0) text) same_item.1)))
+    subst P same_item.0 (
+      whole_fits schema text read.0 (located_ok (length text) (whole_item schema text) read.0 read.1),
+      sym ((bytes_eq-Decides (line schema read.0) text).0 (same-false (line schema read.0) text (same (line schema read.0) text) same_item.1)),
+    )
 
 -- a plain item has a line
 pub HasLine_from_IsPlain : (schema : Schema) (item : Item) → IsPlain schema item → HasLine item

@@ -26,9 +26,7 @@ pub(crate) enum Refusal {
 pub(crate) enum Found {
     Same,
     /// The offset of the first byte that differs.
-    Differs {
-        at: u64,
-    },
+    Differs { at: u64 },
     NoMemory,
 }
 

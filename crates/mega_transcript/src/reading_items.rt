@@ -106,7 +106,11 @@ pub(crate) fn valid(alloc: Global, words: &mut Words<'_>) -> Result<Item, Refusa
     let node = words.node(b' ')?;
     let group = words.group(alloc, b' ')?;
     let position = words.position(b'\n')?;
-    Ok(Item::Valid { node, group, position })
+    Ok(Item::Valid {
+        node,
+        group,
+        position,
+    })
 }
 
 #[tactic(auto, unfolding(crate::specs::ReadingItems::invalid_at))]
@@ -116,7 +120,11 @@ pub(crate) fn invalid(alloc: Global, words: &mut Words<'_>) -> Result<Item, Refu
     let node = words.node(b' ')?;
     let group = words.group(alloc, b' ')?;
     let position = words.position(b'\n')?;
-    Ok(Item::Invalid { node, group, position })
+    Ok(Item::Invalid {
+        node,
+        group,
+        position,
+    })
 }
 
 #[tactic(auto, unfolding(crate::specs::ReadingItems::decide_at))]
@@ -127,7 +135,12 @@ pub(crate) fn decide(alloc: Global, words: &mut Words<'_>) -> Result<Item, Refus
     let group = words.group(alloc, b' ')?;
     let position = words.position(b' ')?;
     let entry = words.entry(alloc, b'\n')?;
-    Ok(Item::Decide { node, group, position, entry })
+    Ok(Item::Decide {
+        node,
+        group,
+        position,
+        entry,
+    })
 }
 
 #[tactic(auto, unfolding(crate::specs::ReadingItems::apply_at))]
@@ -137,7 +150,11 @@ pub(crate) fn apply(alloc: Global, words: &mut Words<'_>) -> Result<Item, Refusa
     let node = words.node(b' ')?;
     let group = words.group(alloc, b' ')?;
     let position = words.position(b'\n')?;
-    Ok(Item::Apply { node, group, position })
+    Ok(Item::Apply {
+        node,
+        group,
+        position,
+    })
 }
 
 #[tactic(auto, unfolding(crate::specs::ReadingItems::crash_at))]
