@@ -11,8 +11,6 @@ mod parsing;
 mod reading;
 mod reading_items;
 mod reading_texts;
-#[cfg(test)]
-mod tests;
 mod words;
 
 pub use fault::ItemFault;
