@@ -47,6 +47,8 @@ IsWhole message = IsMessage message × IsBytes (message_text message)
 abbrev pub IsWritten : Content → Type 0
 IsWritten entry = IsEntry entry × IsBytes (entry_text entry)
 
+-- items whose values their fields hold. Begins and answers, which have JSON, are not read yet: none of them is plain
+-- here.
 abbrev pub IsPlain : Schema → Item → Type 0
 IsPlain schema (Start node start) = IsNode node × IsU32 start
 IsPlain schema (Unsent node message) = IsNode node × IsWhole message
