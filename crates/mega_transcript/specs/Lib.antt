@@ -1,6 +1,13 @@
 pub mod Tape
+pub mod Notes
 pub mod Words
 pub mod Rows
 pub mod Answers
 pub mod Lines
 pub mod NoFloats
+pub mod Plain
+pub mod Reading
+pub mod Kinds
+pub mod Taking
+pub mod ReadingItems
+pub mod Telling

@@ -183,11 +183,14 @@ pub enum Note {
 }
 
 impl Note {
+    ghost use Rattle.std.specs.Prelude.{◌≡◌};
     ghost use Rattle.mega_transcript.specs.Tape.{IsNote};
+    ghost use Rattle.mega_transcript.specs.Notes.{item_of};
 
     /// The item that shows the note.
     pub fn into_item(self) -> Item
-        ensures { IsNote result }
+        ensures value { result ≡ item_of self }
+        ensures note { IsNote result }
     {
         match self {
             Note::Tick { node, now } => Item::Tick { node, now },

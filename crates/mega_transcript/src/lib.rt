@@ -2,10 +2,18 @@
 #![tactic(auto)]
 
 mod answers;
+mod fault;
 mod item;
 mod json;
+mod kinds;
 mod lines;
+mod parsing;
+mod reading;
+mod reading_items;
+mod reading_texts;
 mod words;
 
+pub use fault::ItemFault;
 pub use item::{Item, Note, Tape};
 pub use lines::text;
+pub use parsing::parse;
