@@ -5,7 +5,13 @@ use Rattle.std.specs.List.{list_any}
 use Rattle.mega_ballot.specs.declared.ballot.Ballot.{Ballot}
 use Rattle.mega_entry.specs.declared.content.Content.{Content}
 use Rattle.mega_propose.specs.Members.{has}
-use Rattle.mega_propose.specs.Rounds.{Site, Report, Round, Preparing, Proposal, Move, move, promised, same_ballot}
+use Rattle.mega_propose.specs.declared.round.Site.{Site}
+use Rattle.mega_propose.specs.declared.round.Report.{Report}
+use Rattle.mega_propose.specs.declared.round.Round.{Round}
+use Rattle.mega_propose.specs.declared.round.Proposal.{Proposal}
+use Rattle.mega_propose.specs.declared.round.Move.{Move}
+use Rattle.mega_propose.specs.declared.round.Round.TheVariants.{Preparing}
+use Rattle.mega_propose.specs.Rounds.{move, promised, same_ballot}
 
 unpicked : {X : Type 0} (test : Bool) (x y : X) → test ≡ false → (if test then x else y) ≡ y
 unpicked true x y e = cc

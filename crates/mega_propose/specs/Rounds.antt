@@ -14,16 +14,14 @@ use Rattle.mega_wire.specs.declared.message.Body.TheVariants.{Accept, Accepted, 
 use Rattle.mega_wal.specs.Same.{same_entry, same_group, same_op}
 use Rattle.mega_wal.specs.Acceptor.{is_ballot_below}
 use Rattle.mega_propose.specs.Members.{has, is_majority, joined, others, with_node, without}
--- where an operation proposes and among whom; a voter's first promise of a round; a cell that holds nothing for a node; what a covering
--- has heard; a round; an operation's proposal; and what a round leads to
-pub use Rattle.mega_propose.specs.declared.round.Site.{Site}
-pub use Rattle.mega_propose.specs.declared.round.Report.{Report}
-pub use Rattle.mega_propose.specs.declared.round.Free.{Free}
-pub use Rattle.mega_propose.specs.declared.round.Cover.{Cover}
-pub use Rattle.mega_propose.specs.declared.round.Round.{Round}
-pub use Rattle.mega_propose.specs.declared.round.Round.TheVariants.{Asking, Preparing, Accepting, Covering, Settled, Waiting}
-pub use Rattle.mega_propose.specs.declared.round.Proposal.{Proposal}
-pub use Rattle.mega_propose.specs.declared.round.Move.{Move}
+use Rattle.mega_propose.specs.declared.round.Site.{Site}
+use Rattle.mega_propose.specs.declared.round.Report.{Report}
+use Rattle.mega_propose.specs.declared.round.Free.{Free}
+use Rattle.mega_propose.specs.declared.round.Cover.{Cover}
+use Rattle.mega_propose.specs.declared.round.Round.{Round}
+use Rattle.mega_propose.specs.declared.round.Round.TheVariants.{Asking, Preparing, Accepting, Covering, Settled, Waiting}
+use Rattle.mega_propose.specs.declared.round.Proposal.{Proposal}
+use Rattle.mega_propose.specs.declared.round.Move.{Move}
 
 -- the messages of a round
 

@@ -1,27 +1,13 @@
 ghost use Rattle.std.specs.Prelude.{◌≡◌, IfOk};
 ghost use Rattle.mega_propose.specs.Rounds.{is_here, sees, takes};
-ghost use Rattle.mega_wal.specs.Same.{same_group, same_op};
 
 use crate::moves::stays;
 use crate::round::{Move, Proposal, Site};
+use crate::same::{is_same_group, is_same_op};
 use crate::votes::vote_round;
-use mega_base::{GroupId, NoMemory, OpId, Position, Same};
+use mega_base::{GroupId, NoMemory, OpId, Position};
 use mega_wire::Body;
 use std::alloc::Global;
-
-/// Whether two operations are one.
-fn is_same_op(one: OpId, two: OpId) -> bool
-    ensures { result ≡ same_op one two }
-{
-    one.node.0 == two.node.0 && one.start == two.start && one.number == two.number
-}
-
-/// Whether two groups are one.
-fn is_same_group(one: &GroupId, two: &GroupId) -> bool
-    ensures { result ≡ same_group one.now two.now }
-{
-    one.same_as(two)
-}
 
 impl Site {
     /// Whether a message is for this place.

@@ -1,30 +1,13 @@
 ghost use Rattle.std.specs.Prelude.{◌≡◌, IfOk, Option, option_copied};
-ghost use Rattle.mega_propose.specs.Rounds.{greater_vote, greatest_vote, is_sent, picked, same_ballot, vote_round};
+ghost use Rattle.mega_propose.specs.Rounds.{greater_vote, greatest_vote, is_sent, picked, vote_round};
 ghost use Rattle.mega_wal.specs.Acceptor.{is_ballot_below};
-ghost use Rattle.mega_wal.specs.Same.{same_entry};
 
 use crate::round::Report;
+use crate::same::{is_same_ballot, is_same_entry};
 use mega_ballot::Ballot;
-use mega_base::{Copied, NoMemory, Same};
+use mega_base::{Copied, NoMemory};
 use mega_entry::Entry;
 use std::alloc::Global;
-
-/// Whether two ballots are one.
-pub(crate) fn is_same_ballot(ballot: Ballot, other: Ballot) -> bool
-    ensures { result ≡ same_ballot ballot other }
-{
-    ballot.round == other.round
-        && ballot.op.node.0 == other.op.node.0
-        && ballot.op.start == other.op.start
-        && ballot.op.number == other.op.number
-}
-
-/// Whether two entries are equal.
-fn is_same_entry(entry: &Entry, other: &Entry) -> bool
-    ensures { result ≡ same_entry entry.now other.now }
-{
-    entry.same_as(other)
-}
 
 /// Whether an answer shows the entry that was sent at the present ballot.
 pub(crate) fn is_sent(ballot: Ballot, entry: &Entry, shown: Ballot, accepted: &Entry) -> bool
