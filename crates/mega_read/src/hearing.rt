@@ -21,6 +21,7 @@ impl Reader {
     }
 
     /// Whether a node is a voter that can be asked for an entry.
+    #[tactic(auto, using(crate::proofs::Helpers::has_others))]
     fn is_helper(&self, node: u8) -> bool
         ensures { result ≡ has node (helpers self.now) }
     {
