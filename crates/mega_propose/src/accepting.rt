@@ -83,7 +83,9 @@ impl Proposal {
                 voted,
                 sent,
             } => {
-                if !is_sent(present, &proposed, ballot, entry) || !has(from, site.voters.as_slice()) {
+                if !is_sent(present, &proposed, ballot, entry)
+                    || !has(from, site.voters.as_slice())
+                {
                     let round = Round::Accepting {
                         ballot: present,
                         entry: proposed,
@@ -102,7 +104,9 @@ impl Proposal {
                 cover,
                 sent,
             } => {
-                if !is_sent(present, &proposed, ballot, entry) || !has(from, site.voters.as_slice()) {
+                if !is_sent(present, &proposed, ballot, entry)
+                    || !has(from, site.voters.as_slice())
+                {
                     let round = Round::Covering {
                         ballot: present,
                         entry: proposed,
@@ -120,12 +124,7 @@ impl Proposal {
     }
 
     /// A coordinator is invalidated.
-    pub(crate) fn invalidated(
-        self,
-        alloc: Global,
-        site: &Site,
-        from: u8,
-    ) -> Result<Move, NoMemory>
+    pub(crate) fn invalidated(self, alloc: Global, site: &Site, from: u8) -> Result<Move, NoMemory>
         ensures { IfOk result (λ made. made ≡ invalidated site.now self from) }
     {
         let Proposal { own, seen, round } = self;

@@ -44,7 +44,10 @@ pub struct Cover {
 #[derive(Debug, Drop)]
 pub enum Round {
     /// The leader is asked at the ballot that all share.
-    Asking { leader: u8, sent: u64 },
+    Asking {
+        leader: u8,
+        sent: u64,
+    },
     /// The voters are asked to promise a ballot.
     Preparing {
         ballot: Ballot,
@@ -66,7 +69,10 @@ pub enum Round {
         sent: u64,
     },
     /// The entry is settled; the nodes are those about which the round asked the cells.
-    Settled { entry: Entry, told: Items<u8> },
+    Settled {
+        entry: Entry,
+        told: Items<u8>,
+    },
     /// There is no higher round: the operation waits for a decision.
     Waiting,
 }

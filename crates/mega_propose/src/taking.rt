@@ -14,9 +14,7 @@ impl Site {
     fn is_here(&self, op: OpId, group: &GroupId, position: Position) -> bool
         ensures { result ≡ is_here self.now op group.now position }
     {
-        is_same_op(self.op, op)
-            && is_same_group(&self.group, group)
-            && position.0 == self.position
+        is_same_op(self.op, op) && is_same_group(&self.group, group) && position.0 == self.position
     }
 }
 
