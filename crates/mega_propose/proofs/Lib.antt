@@ -1,3 +1,3 @@
+pub mod Agreeing
 pub mod Cells
 pub mod Promises
-pub mod Tests

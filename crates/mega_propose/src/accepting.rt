@@ -1,7 +1,8 @@
-ghost use Rattle.std.specs.Prelude.{◌≡◌, [], ◌∷◌, IfOk, if◌then◌else◌};
+ghost use Rattle.std.specs.Prelude.{◌≡◌, [], ◌∷◌, map, IfOk, if◌then◌else◌};
 ghost use Rattle.mega_ballot.specs.Order.{zero_ballot};
-ghost use Rattle.mega_propose.specs.Members.{has};
-ghost use Rattle.mega_propose.specs.Rounds.{accepted, accepts, invalidated, unheld};
+ghost use Rattle.mega_propose.specs.Members.{has, others};
+ghost use Rattle.mega_propose.specs.Rounds.{accept_to, accepted, accepts, invalidated, move, unheld};
+ghost use Rattle.mega_propose.specs.declared.round.Round.TheVariants.{Waiting};
 
 use crate::members::{has, is_majority, others, with_node};
 use crate::moves::stays;
@@ -48,6 +49,30 @@ impl Site {
     }
 }
 
+impl Site {
+    /// The leader accepted: the others are asked.
+    fn opens(
+        &self,
+        alloc: Global,
+        own: Entry,
+        seen: u32,
+        leader: u8,
+        now: u64,
+    ) -> Result<Move, NoMemory>
+        ensures { IfOk result (λ made. made ≡ move (record { own = own; seen = seen; round = Waiting }) (accepts self.now zero_ballot own (if has leader self.now.voters then leader ∷ [] else []) now) (map (accept_to self.now zero_ballot own) (others leader self.now.voters))) }
+    {
+        let voted = self.first_voted(alloc, leader)?;
+        let asked = others(alloc, leader, self.voters.as_slice())?;
+        let sends = self.accepts_to(alloc, Ballot::ZERO, &own, asked.as_slice())?;
+        let proposed = own.copy(alloc)?;
+        let round = self.accepts(alloc, Ballot::ZERO, proposed, voted, now);
+        Ok(Move {
+            proposal: Proposal { own, seen, round },
+            sends,
+        })
+    }
+}
+
 impl Proposal {
     /// A voter accepted: the leader while it is asked, then the others.
     pub(crate) fn accepted(
@@ -67,15 +92,7 @@ impl Proposal {
                 if from != leader || !is_sent(Ballot::ZERO, &own, ballot, entry) {
                     return Ok(stays(alloc, own, seen, Round::Asking { leader, sent }));
                 }
-                let voted = site.first_voted(alloc, leader)?;
-                let asked = others(alloc, leader, site.voters.as_slice())?;
-                let sends = site.accepts_to(alloc, Ballot::ZERO, &own, asked.as_slice())?;
-                let proposed = own.copy(alloc)?;
-                let round = site.accepts(alloc, Ballot::ZERO, proposed, voted, now);
-                Ok(Move {
-                    proposal: Proposal { own, seen, round },
-                    sends,
-                })
+                site.opens(alloc, own, seen, leader, now)
             }
             Round::Accepting {
                 ballot: present,

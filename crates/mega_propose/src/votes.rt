@@ -17,7 +17,7 @@ pub(crate) fn is_sent(ballot: Ballot, entry: &Entry, shown: Ballot, accepted: &E
 }
 
 /// Whether a ballot is below another.
-#[tactic(auto, using(crate::proofs::Tests::below_is))]
+#[tactic(auto, using(crate::proofs::Agreeing::below_is))]
 fn is_below(ballot: Ballot, other: Ballot) -> bool
     ensures { result ≡ is_ballot_below ballot other }
 {

@@ -1,4 +1,4 @@
-use Rattle.mega_propose.proofs.Tests.{same_group_is}
+use Rattle.mega_propose.proofs.Agreeing.{same_group_is}
 use Rattle.mega_propose.proofs.same.is_same_group.Goals as goal
 
 pub returns : goal.returns
