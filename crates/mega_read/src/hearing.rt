@@ -147,13 +147,16 @@ impl Reading {
             )),
             Stage::Catching {
                 through,
-                search:
-                    Some(Search::Fetching {
+                search: Some(
+                    Search::Fetching {
                         position,
                         denied,
                         sent,
-                    }),
-            } => who.hears_fetching(alloc, kept, from, now, body, through, position, denied, sent),
+                    },
+                ),
+            } => who.hears_fetching(
+                alloc, kept, from, now, body, through, position, denied, sent,
+            ),
             Stage::Catching {
                 through,
                 search: Some(Search::Filling { position, proposal }),

@@ -22,7 +22,10 @@ pub enum Search {
         sent: u64,
     },
     /// A no-op is proposed there.
-    Filling { position: u64, proposal: Proposal },
+    Filling {
+        position: u64,
+        proposal: Proposal,
+    },
 }
 
 /// How far a read is.

@@ -1,0 +1,85 @@
+//! A local read, one that polls three voters, and one that completes a position.
+use super::*;
+use mega_base::{Bytes, GroupId, Items, NoMemory, NodeId, OpId, Position};
+use mega_wire::Body;
+use std::alloc::Global;
+use std::test::Fail;
+
+const OP: OpId = OpId {
+    node: NodeId(1),
+    start: 1,
+    number: 1,
+};
+
+fn group(alloc: Global) -> Result<GroupId, NoMemory> {
+    let key = Bytes::from_slice(alloc, b"g")?;
+    Ok(GroupId { key })
+}
+
+fn nodes(alloc: Global, numbers: &[u8]) -> Result<Items<u8>, NoMemory> {
+    Ok(Items::from_vec(Vec::from_slice(alloc, numbers)?))
+}
+
+/// A reader among these voters.
+fn reader(alloc: Global, voters: &[u8]) -> Result<Reader, NoMemory> {
+    Ok(Reader {
+        op: OP,
+        group: group(alloc)?,
+        voters: nodes(alloc, voters)?,
+        full: nodes(alloc, voters)?,
+        cells: 3,
+    })
+}
+
+/// A voter has none of position 1.
+fn have_not(alloc: Global) -> Result<Body, NoMemory> {
+    Ok(Body::HaveNot {
+        op: OP,
+        group: group(alloc)?,
+        position: Position(1),
+    })
+}
+
+#[test]
+fn the_first_majority_counts(rt: HostRuntime) -> Result<(), Fail> {
+    let alloc = rt.alloc();
+    let who = reader(alloc, &[1, 2, 3])?;
+    let polled = who.polled_read(alloc, None, Items::new(alloc), 0)?;
+    assert_eq!(rt; polled.sends.len(), 3);
+    let mut reading = polled.reading;
+    for voter in 1..3u8 {
+        let top = Body::Top {
+            op: OP,
+            group: group(alloc)?,
+            position: Position(10 - voter as u64),
+        };
+        reading = reading.hears(alloc, &who, voter, 1, &top)?.reading;
+    }
+    assert_eq!(rt; reading.through_of(), Some(9));
+    Ok(())
+}
+
+#[test]
+fn a_silent_voter_is_asked_again(rt: HostRuntime) -> Result<(), Fail> {
+    let alloc = rt.alloc();
+    let who = reader(alloc, &[1, 2, 3])?;
+    let reading = first_reading(alloc, 0);
+    assert_eq!(rt; reading.falls_due(alloc, &who, 5, 5)?.sends.len(), 3);
+    Ok(())
+}
+
+#[test]
+fn a_position_that_nobody_has_is_filled(rt: HostRuntime) -> Result<(), Fail> {
+    let alloc = rt.alloc();
+    let who = reader(alloc, &[1, 2, 3])?;
+    let begun = local_read(alloc, Items::new(alloc), 1);
+    let sought = begun.reading.seeks(alloc, &who, 1, 0)?;
+    assert_eq!(rt; sought.sends.len(), 2);
+    let first = sought.reading.hears(alloc, &who, 2, 1, &have_not(alloc)?)?;
+    assert!(rt; first.sends.is_empty());
+    let second = first.reading.hears(alloc, &who, 3, 1, &have_not(alloc)?)?;
+    assert_eq!(rt; second.sends.len(), 3);
+    assert!(rt; second.reading.read_settled().is_none());
+    assert!(rt; second.reading.asked_by(alloc)?.is_empty());
+    Ok(())
+}
