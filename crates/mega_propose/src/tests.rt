@@ -77,6 +77,18 @@ fn promise(alloc: Global, leader: u8) -> Result<Body, NoMemory> {
     })
 }
 
+/// What the round leads to where a voter promises, and reports this vote.
+fn promised(
+    alloc: Global,
+    site: &Site,
+    proposal: Proposal,
+    voter: u8,
+    leader: u8,
+) -> Result<Move, NoMemory> {
+    let body = promise(alloc, leader)?;
+    proposal.takes(alloc, site, voter, 1, &body)
+}
+
 /// The round after these voters accepted, the first one as the leader.
 fn accepted_by(alloc: Global, site: &Site, voters: &[u8]) -> Result<Proposal, NoMemory> {
     let mut proposal = site.asks(alloc, 1, entry(alloc, 7)?, 0)?.proposal;
@@ -133,12 +145,8 @@ fn a_higher_round_takes_what_is_reported(rt: HostRuntime) -> Result<(), Fail> {
     let site = site(alloc)?;
     let prepared = site.completes(alloc, entry(alloc, 7)?, 0)?;
     assert_eq!(rt; prepared.sends.len(), 3);
-    let first = prepared
-        .proposal
-        .takes(alloc, &site, 1, 1, &promise(alloc, 0)?)?;
-    let second = first
-        .proposal
-        .takes(alloc, &site, 2, 1, &promise(alloc, 8)?)?;
+    let first = promised(alloc, &site, prepared.proposal, 1, 0)?;
+    let second = promised(alloc, &site, first.proposal, 2, 8)?;
     assert_eq!(rt; second.sends.len(), 3);
     let leader = match &second.proposal.round {
         Round::Accepting { entry, .. } => entry.content().leader.0,
