@@ -1,4 +1,4 @@
-//! A local read, one that polls three voters, and one that completes a position.
+//! A read that polls three voters.
 use super::*;
 use mega_base::{Bytes, GroupId, Items, NoMemory, NodeId, OpId, Position};
 use mega_wire::Body;
@@ -31,15 +31,6 @@ fn reader(alloc: Global, voters: &[u8]) -> Result<Reader, NoMemory> {
     })
 }
 
-/// A voter has none of position 1.
-fn have_not(alloc: Global) -> Result<Body, NoMemory> {
-    Ok(Body::HaveNot {
-        op: OP,
-        group: group(alloc)?,
-        position: Position(1),
-    })
-}
-
 #[test]
 fn the_first_majority_counts(rt: HostRuntime) -> Result<(), Fail> {
     let alloc = rt.alloc();
@@ -65,21 +56,5 @@ fn a_silent_voter_is_asked_again(rt: HostRuntime) -> Result<(), Fail> {
     let who = reader(alloc, &[1, 2, 3])?;
     let reading = first_reading(alloc, 0);
     assert_eq!(rt; reading.falls_due(alloc, &who, 5, 5)?.sends.len(), 3);
-    Ok(())
-}
-
-#[test]
-fn a_position_that_nobody_has_is_filled(rt: HostRuntime) -> Result<(), Fail> {
-    let alloc = rt.alloc();
-    let who = reader(alloc, &[1, 2, 3])?;
-    let begun = local_read(alloc, Items::new(alloc), 1);
-    let sought = begun.reading.seeks(alloc, &who, 1, 0)?;
-    assert_eq!(rt; sought.sends.len(), 2);
-    let first = sought.reading.hears(alloc, &who, 2, 1, &have_not(alloc)?)?;
-    assert!(rt; first.sends.is_empty());
-    let second = first.reading.hears(alloc, &who, 3, 1, &have_not(alloc)?)?;
-    assert_eq!(rt; second.sends.len(), 3);
-    assert!(rt; second.reading.read_settled().is_none());
-    assert!(rt; second.reading.asked_by(alloc)?.is_empty());
     Ok(())
 }
