@@ -24,8 +24,15 @@ use Rattle.mega_outcome.specs.declared.answer.Turn.{Turn as Turned}
 use Rattle.mega_outcome.specs.declared.request.Request.{Request}
 use Rattle.mega_outcome.specs.declared.request.Request.TheVariants.{Txn, Batch as BatchRequest, Read as ReadRequested, Find, PumpEnter, PumpHandle, Refresh}
 use Rattle.mega_outcome.specs.Outcome.{batch_outcome, entry_of_batch, entry_of_done, outcome}
-use Rattle.mega_propose.specs.Rounds.{Move as RoundMove, asks}
-use Rattle.mega_read.specs.Catching.{Move as ReadMove, Reading, Search, Fetching, Filling, Stage, Polling, Catching, asked_by, local_read, polled_read, seeks}
+use Rattle.mega_propose.specs.declared.round.Move.{Move as RoundMove}
+use Rattle.mega_propose.specs.Rounds.{asks}
+use Rattle.mega_read.specs.declared.reading.Move.{Move as ReadMove}
+use Rattle.mega_read.specs.declared.reading.Reading.{Reading}
+use Rattle.mega_read.specs.declared.reading.Search.{Search}
+use Rattle.mega_read.specs.declared.reading.Stage.{Stage}
+use Rattle.mega_read.specs.declared.reading.Search.TheVariants.{Fetching, Filling}
+use Rattle.mega_read.specs.declared.reading.Stage.TheVariants.{Polling, Catching}
+use Rattle.mega_read.specs.Catching.{asked_by, local_read, polled_read, seeks}
 use Rattle.mega_rules.specs.Met.{Met, Validates}
 use Rattle.mega_rules.specs.Members.{voters}
 use Rattle.mega_rules.specs.Clock.{clock_of}

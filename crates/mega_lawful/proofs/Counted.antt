@@ -10,7 +10,8 @@ use Rattle.mega_wire.specs.declared.message.Body.TheVariants.{Accepted, Promise}
 use Rattle.mega_wal.specs.Acceptor.{Vote, is_ballot_below}
 use Rattle.mega_transcript.specs.declared.item.Item.{Item}
 use Rattle.mega_propose.specs.Members.{has, is_majority, with_node}
-use Rattle.mega_propose.specs.Rounds.{Report, greater_vote, greatest_vote, picked}
+use Rattle.mega_propose.specs.declared.round.Report.{Report}
+use Rattle.mega_propose.specs.Rounds.{greater_vote, greatest_vote, picked}
 use Rattle.mega_rules.specs.Members.{voters}
 use Rattle.mega_laws.specs.Places.{Place, count}
 use Rattle.mega_laws.specs.Lawful.{Carries, Heard, greatest, own}

@@ -13,8 +13,13 @@ use Rattle.mega_wire.specs.declared.message.Body.TheVariants.{Accepted, Decide, 
 use Rattle.mega_transcript.specs.declared.item.Item.{Item}
 use Rattle.mega_transcript.specs.declared.item.Item.TheVariants.{Sent, Taken}
 use Rattle.mega_promises.specs.Promises.{Stands}
-use Rattle.mega_propose.specs.Rounds.{Proposal, settled as settled_in}
-use Rattle.mega_read.specs.Catching.{Reading, Fetching, Filling, Stage, Polling, Catching, read_settled, settled_there}
+use Rattle.mega_propose.specs.declared.round.Proposal.{Proposal}
+use Rattle.mega_propose.specs.Rounds.{settled as settled_in}
+use Rattle.mega_read.specs.declared.reading.Reading.{Reading}
+use Rattle.mega_read.specs.declared.reading.Stage.{Stage}
+use Rattle.mega_read.specs.declared.reading.Search.TheVariants.{Fetching, Filling}
+use Rattle.mega_read.specs.declared.reading.Stage.TheVariants.{Polling, Catching}
+use Rattle.mega_read.specs.Catching.{read_settled, settled_there}
 use Rattle.mega_rules.specs.Met.{Met}
 use Rattle.mega_rules.specs.Logs.{decided}
 use Rattle.mega_rules.specs.Operations.{Operation, Phase, Proposes, Reads, Setting}

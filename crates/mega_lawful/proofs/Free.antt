@@ -8,7 +8,7 @@ use Rattle.mega_wire.specs.declared.message.Body.{Body}
 use Rattle.mega_wire.specs.declared.message.Body.TheVariants.{Accept, Accepted, Refused, Prepare, Promise, Decide, Have, Top, Where}
 use Rattle.mega_transcript.specs.declared.item.Item.{Item}
 use Rattle.mega_transcript.specs.declared.item.Item.TheVariants.{Sent}
-use Rattle.mega_propose.specs.Rounds.{Proposal}
+use Rattle.mega_propose.specs.declared.round.Proposal.{Proposal}
 use Rattle.mega_laws.specs.Places.{Place, move_in, moves, Move}
 use Rattle.mega_laws.specs.Lawful.{Lawful, MaySend}
 use Rattle.mega_laws.specs.Polls.{has_asked, is_asking}

@@ -20,7 +20,10 @@ use Rattle.mega_outcome.specs.declared.request.Request.TheVariants.{Txn, Batch a
 use Rattle.mega_outcome.specs.declared.request.ReadRequest.{ReadRequest}
 use Rattle.mega_outcome.specs.declared.request.FindRequest.{FindRequest}
 use Rattle.mega_outcome.specs.Outcome.{batch_outcome, entry_of_batch, entry_of_done, outcome}
-use Rattle.mega_read.specs.Catching.{Reading, Stage, Polling, Catching, asked_by}
+use Rattle.mega_read.specs.declared.reading.Reading.{Reading}
+use Rattle.mega_read.specs.declared.reading.Stage.{Stage}
+use Rattle.mega_read.specs.declared.reading.Stage.TheVariants.{Polling, Catching}
+use Rattle.mega_read.specs.Catching.{asked_by}
 use Rattle.mega_rules.specs.Logs.{decided, groups_of, log_of, prefix_of}
 use Rattle.mega_rules.specs.Coordinators.{refused_at}
 use Rattle.mega_rules.specs.Queues.{Posted, enter_entry, is_named, names_entered, next_to_enter, next_to_handle, oldest_unhandled}

@@ -9,8 +9,14 @@ use Rattle.mega_wire.specs.declared.message.Body.TheVariants.{Accept, Accepted, 
 use Rattle.mega_wal.specs.Same.{same_group, same_op}
 use Rattle.mega_wal.proofs.Sames.{same_group_equal}
 use Rattle.mega_transcript.specs.declared.item.Item.{Item}
-use Rattle.mega_propose.specs.Rounds.{Round, Asking, Preparing, Accepting, Covering, Settled, Waiting, Proposal, Move as RoundMove}
-use Rattle.mega_read.specs.Catching.{Search, Fetching, Filling, Stage, Polling, Catching}
+use Rattle.mega_propose.specs.declared.round.Round.{Round}
+use Rattle.mega_propose.specs.declared.round.Proposal.{Proposal}
+use Rattle.mega_propose.specs.declared.round.Move.{Move as RoundMove}
+use Rattle.mega_propose.specs.declared.round.Round.TheVariants.{Asking, Preparing, Accepting, Covering, Settled, Waiting}
+use Rattle.mega_read.specs.declared.reading.Search.{Search}
+use Rattle.mega_read.specs.declared.reading.Stage.{Stage}
+use Rattle.mega_read.specs.declared.reading.Search.TheVariants.{Fetching, Filling}
+use Rattle.mega_read.specs.declared.reading.Stage.TheVariants.{Polling, Catching}
 use Rattle.mega_rules.specs.Met.{Met}
 use Rattle.mega_rules.specs.Logs.{prefix_of}
 use Rattle.mega_rules.specs.Operations.{Phase, Proposes, Reads}

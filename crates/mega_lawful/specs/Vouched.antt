@@ -12,7 +12,12 @@ use Rattle.mega_wal.specs.Acceptor.{Vote}
 use Rattle.mega_transcript.specs.declared.item.Item.{Item}
 use Rattle.mega_transcript.specs.declared.item.Item.TheVariants.{Sent}
 use Rattle.mega_propose.specs.Members.{has}
-use Rattle.mega_propose.specs.Rounds.{Site, Report, Round, Asking, Preparing, Accepting, Covering, Settled, Waiting, Proposal, Move as RoundMove}
+use Rattle.mega_propose.specs.declared.round.Site.{Site}
+use Rattle.mega_propose.specs.declared.round.Report.{Report}
+use Rattle.mega_propose.specs.declared.round.Round.{Round}
+use Rattle.mega_propose.specs.declared.round.Proposal.{Proposal}
+use Rattle.mega_propose.specs.declared.round.Move.{Move as RoundMove}
+use Rattle.mega_propose.specs.declared.round.Round.TheVariants.{Asking, Preparing, Accepting, Covering, Settled, Waiting}
 use Rattle.mega_rules.specs.Members.{full_nodes, voters}
 use Rattle.mega_laws.specs.Places.{IsMajority, Move, Place, Prepares, count, moves, newest, round_of}
 use Rattle.mega_laws.specs.Lawful.{Heard, IsOwn, Lawful, Leads}

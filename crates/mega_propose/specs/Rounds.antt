@@ -14,55 +14,14 @@ use Rattle.mega_wire.specs.declared.message.Body.TheVariants.{Accept, Accepted, 
 use Rattle.mega_wal.specs.Same.{same_entry, same_group, same_op}
 use Rattle.mega_wal.specs.Acceptor.{is_ballot_below}
 use Rattle.mega_propose.specs.Members.{has, is_majority, joined, others, with_node, without}
-
--- where an operation proposes, and among whom: `asked` are the nodes about which it asked the cells while it
--- covered another position before
-pub record Site : Type 0 where
-  pub op : OpId
-  pub group : GroupId
-  pub position : ℕ
-  pub voters : List ℕ
-  pub full : List ℕ
-  pub cells : ℕ
-  pub asked : List ℕ
-
--- a voter's first promise of the round, with the vote that it reported
-pub record Report : Type 0 where
-  pub voter : ℕ
-  pub vote : Option (Ballot × Content)
-
--- a cell said that it holds nothing for a node
-pub record Free : Type 0 where
-  pub cell : ℕ
-  pub node : ℕ
-
--- what a covering has heard: who accepted at its ballot, who is invalidated, which cells hold nothing for whom; `told` are the
--- nodes that it told to invalidate and about which it asked the cells
-pub record Cover : Type 0 where
-  pub accepted : List ℕ
-  pub invalidated : List ℕ
-  pub free : List Free
-  pub told : List ℕ
-
--- a round, with the clock of its last sending; one that is settled still tells about which nodes it asked the cells
-pub data Round : Type 0 where
-  Asking : (leader sent : ℕ) → Round
-  Preparing : (ballot : Ballot) (reports : List Report) (sent : ℕ) → Round
-  Accepting : (ballot : Ballot) (entry : Content) (voted : List ℕ) (sent : ℕ) → Round
-  Covering : (ballot : Ballot) (entry : Content) (cover : Cover) (sent : ℕ) → Round
-  Settled : (entry : Content) (told : List ℕ) → Round
-  Waiting : Round
-
--- the entry that an operation proposes of its own, the greatest round in what it sent and took here, and its round
-pub record Proposal : Type 0 where
-  pub own : Content
-  pub seen : ℕ
-  pub round : Round
-
--- what a round leads to, and what it sends for that
-pub record Move : Type 0 where
-  pub proposal : Proposal
-  pub sends : List Message
+use Rattle.mega_propose.specs.declared.round.Site.{Site}
+use Rattle.mega_propose.specs.declared.round.Report.{Report}
+use Rattle.mega_propose.specs.declared.round.Free.{Free}
+use Rattle.mega_propose.specs.declared.round.Cover.{Cover}
+use Rattle.mega_propose.specs.declared.round.Round.{Round}
+use Rattle.mega_propose.specs.declared.round.Round.TheVariants.{Asking, Preparing, Accepting, Covering, Settled, Waiting}
+use Rattle.mega_propose.specs.declared.round.Proposal.{Proposal}
+use Rattle.mega_propose.specs.declared.round.Move.{Move}
 
 -- the messages of a round
 

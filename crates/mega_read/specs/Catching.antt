@@ -11,40 +11,23 @@ use Rattle.mega_wire.specs.declared.message.Body.{Body}
 use Rattle.mega_wire.specs.declared.message.Body.TheVariants.{Where, Top, Fetch, HaveNot}
 use Rattle.mega_wal.specs.Same.{same_group, same_op}
 use Rattle.mega_propose.specs.Members.{has, is_majority, joined, others, with_node, without}
-use Rattle.mega_propose.specs.Rounds.{Proposal, Site, Move as RoundMove, completes, due, is_due, settled, takes, told_in}
-
--- who reads which group among whom
-pub record Reader : Type 0 where
-  pub op : OpId
-  pub group : GroupId
-  pub voters : List ℕ
-  pub full : List ℕ
-  pub cells : ℕ
-
--- the completing of one position: its entry is fetched, or a no-op is proposed there
-pub data Search : Type 0 where
-  Fetching : (position : ℕ) (denied : List ℕ) (sent : ℕ) → Search
-  Filling : (position : ℕ) (proposal : Proposal) → Search
-
--- a read polls the voters for their top positions, or waits until all positions through one are decided at its node
-pub data Stage : Type 0 where
-  Polling : (heard : List ℕ) (best sent : ℕ) → Stage
-  Catching : (through : ℕ) (search : Option Search) → Stage
-
--- a read, the epoch that it noted where it polls under a coordinator that serves, and the nodes about which it asked the cells so far
-pub record Reading : Type 0 where
-  pub noted : Option Epoch
-  pub asked : List ℕ
-  pub stage : Stage
+use Rattle.mega_propose.specs.declared.round.Proposal.{Proposal}
+use Rattle.mega_propose.specs.declared.round.Site.{Site}
+use Rattle.mega_propose.specs.declared.round.Move.{Move as RoundMove}
+use Rattle.mega_propose.specs.Rounds.{completes, due, is_due, settled, takes, told_in}
+use Rattle.mega_read.specs.declared.reading.Reader.{Reader}
+use Rattle.mega_read.specs.declared.reading.Search.{Search}
+use Rattle.mega_read.specs.declared.reading.Search.TheVariants.{Fetching, Filling}
+use Rattle.mega_read.specs.declared.reading.Stage.{Stage}
+use Rattle.mega_read.specs.declared.reading.Stage.TheVariants.{Polling, Catching}
+use Rattle.mega_read.specs.declared.reading.Reading.{Reading}
+use Rattle.mega_read.specs.declared.reading.Move.{Move}
 
 -- a read that has asked nobody yet
 abbrev pub first_reading : ℕ → Reading
 first_reading now = record { noted = None; asked = []; stage = Polling [] 0 now }
 
--- what a read comes to, and what it sends
-pub record Move : Type 0 where
-  pub reading : Reading
-  pub sends : List Message
+-- a read as it goes on
 
 abbrev pub move : Reading → Stage → List Message → Move
 move r stage sends = record { reading = record { noted = r.noted; asked = r.asked; stage = stage }; sends = sends }

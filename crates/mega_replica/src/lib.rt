@@ -1,2 +1,9 @@
-//! How a node applies the decided prefix of a log to its rows: the rule, in `specs/`.
+//! How far a node has stored the writes of a group's decided prefix, and how many entries are applied then (CIDR 2011,
+//! write-ahead log).
 #![tactic(auto)]
+
+mod applying;
+#[cfg(test)]
+mod tests;
+
+pub use applying::{after_portion, after_read, applied, writes_through};

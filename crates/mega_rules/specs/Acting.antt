@@ -26,8 +26,16 @@ use Rattle.mega_index.specs.Rows.{Listed, Rows, after, list_after, no_rows}
 use Rattle.mega_outcome.specs.Outcome.{batch_outcome, entry_of_batch, entry_of_done, outcome}
 use Rattle.mega_outcome.specs.Reads.{all_rows, read_rows}
 use Rattle.mega_wal.specs.Same.{same_group, same_op, same_option}
-use Rattle.mega_propose.specs.Rounds.{Proposal, Site, Move as RoundMove, asks}
-use Rattle.mega_read.specs.Catching.{Reader, Reading, Stage, Polling, Catching, Move as ReadMove, asked_by, local_read, polled_read, seeks, site}
+use Rattle.mega_propose.specs.declared.round.Proposal.{Proposal}
+use Rattle.mega_propose.specs.declared.round.Site.{Site}
+use Rattle.mega_propose.specs.declared.round.Move.{Move as RoundMove}
+use Rattle.mega_propose.specs.Rounds.{asks}
+use Rattle.mega_read.specs.declared.reading.Reader.{Reader}
+use Rattle.mega_read.specs.declared.reading.Reading.{Reading}
+use Rattle.mega_read.specs.declared.reading.Stage.{Stage}
+use Rattle.mega_read.specs.declared.reading.Move.{Move as ReadMove}
+use Rattle.mega_read.specs.declared.reading.Stage.TheVariants.{Polling, Catching}
+use Rattle.mega_read.specs.Catching.{asked_by, local_read, polled_read, seeks, site}
 use Rattle.mega_replica.specs.Applying.{after_read, applied, applied_log}
 use Rattle.mega_rules.specs.Met.{Met, Answers, Validates}
 use Rattle.mega_rules.specs.Members.{full_nodes, voters}

@@ -9,8 +9,8 @@ use Rattle.mega_handler.specs.Named.{Meanings}
 use Rattle.mega_outcome.specs.declared.answer.Shown.{Shown}
 use Rattle.mega_outcome.specs.declared.answer.Turn.{Turn}
 use Rattle.mega_outcome.specs.declared.request.Request.{Request}
-use Rattle.mega_propose.specs.Rounds.{Proposal}
-use Rattle.mega_read.specs.Catching.{Reading}
+use Rattle.mega_propose.specs.declared.round.Proposal.{Proposal}
+use Rattle.mega_read.specs.declared.reading.Reading.{Reading}
 use Rattle.mega_rules.specs.Met.{Met}
 
 -- what an operation answers once its entry is decided: the replies of a transaction, none of a pump, or the results of a batch

@@ -20,8 +20,12 @@ use Rattle.mega_outcome.specs.declared.request.FindRequest.{FindRequest}
 use Rattle.mega_index.specs.Rows.{Listed, Rows, list_written, no_rows, written}
 use Rattle.mega_wal.specs.Same.{same_group}
 use Rattle.mega_propose.specs.Members.{others}
-use Rattle.mega_propose.specs.Rounds.{Proposal, Move as RoundMove, due, settled, takes}
-use Rattle.mega_read.specs.Catching.{Reading, Move as ReadMove, first_reading, hears, falls_due, read_settled, site}
+use Rattle.mega_propose.specs.declared.round.Proposal.{Proposal}
+use Rattle.mega_propose.specs.declared.round.Move.{Move as RoundMove}
+use Rattle.mega_propose.specs.Rounds.{due, settled, takes}
+use Rattle.mega_read.specs.declared.reading.Reading.{Reading}
+use Rattle.mega_read.specs.declared.reading.Move.{Move as ReadMove}
+use Rattle.mega_read.specs.Catching.{first_reading, hears, falls_due, read_settled, site}
 use Rattle.mega_replica.specs.Applying.{after_portion, applied, stored_writes, writes_of}
 use Rattle.mega_rules.specs.Met.{Met, Answers, Applies, Begins, Crashes, Decides, Grants, Invalidates, Lapses, Sends, Starts, Takes, Ticks}
 use Rattle.mega_rules.specs.Members.{has_rows, is_full, is_voter, keeps_rows, kind_of, nodes, runs, voters}

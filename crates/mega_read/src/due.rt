@@ -1,0 +1,135 @@
+ghost use Rattle.std.specs.Prelude.{◌≡◌, IfOk, option_map, Option};
+ghost use Rattle.mega_read.specs.Catching.{asked_by, falls_due, is_position, read_settled, search_told, searched, seeks, through_of};
+
+use crate::kept::Kept;
+use crate::reading::{Move, Reader, Reading, Search, Stage};
+use mega_base::{Copied, Items, NoMemory};
+use mega_entry::Entry;
+use mega_propose::{is_due, joined, without};
+use std::alloc::Global;
+
+/// The nodes about which a search asked the cells.
+fn search_told(search: &Option<Search>) -> &[u8]
+    ensures { result.now ≡ search_told search.now }
+{
+    match search {
+        Some(Search::Filling { proposal, .. }) => proposal.told_in(),
+        _ => &[],
+    }
+}
+
+/// Whether a search completes this position.
+fn is_searched(position: u64, search: &Option<Search>) -> bool
+    ensures { result ≡ is_position position (searched search.now) }
+{
+    match search {
+        Some(Search::Fetching { position: at, .. }) => *at == position,
+        Some(Search::Filling { position: at, .. }) => *at == position,
+        None => false,
+    }
+}
+
+impl Reading {
+    /// What is due at a tick: a poll asks those again that have not answered, a fetch gives way to a no-op, and its
+    /// round goes on.
+    pub fn falls_due(
+        self,
+        alloc: Global,
+        who: &Reader,
+        retry: u64,
+        now: u64,
+    ) -> Result<Move, NoMemory>
+        ensures { IfOk result (λ made. made ≡ falls_due who.now self retry now) }
+    {
+        let Reading {
+            noted,
+            asked,
+            stage,
+        } = self;
+        let kept = Kept { noted, asked };
+        match stage {
+            Stage::Polling { heard, best, sent } if is_due(sent, retry, now) => {
+                let silent = without(alloc, heard.as_slice(), who.voters.as_slice())?;
+                let sends = who.asks_where(alloc, silent.as_slice())?;
+                let sent = now;
+                Ok(kept.at(Stage::Polling { heard, best, sent }, sends))
+            }
+            Stage::Catching {
+                through,
+                search: Some(Search::Fetching { position, sent, .. }),
+            } if is_due(sent, retry, now) => who.fills(alloc, kept, through, position, now),
+            Stage::Catching {
+                through,
+                search: Some(Search::Filling { position, proposal }),
+            } => {
+                let site = who.site(alloc, &kept.asked, position)?;
+                let round = proposal.due(alloc, &site, retry, now)?;
+                Ok(kept.filled(through, position, round))
+            }
+            stage => Ok(kept.at(stage, Items::new(alloc))),
+        }
+    }
+
+    /// The entry that the read's round settled, and where.
+    pub fn read_settled(&self) -> Option<(u64, &Entry)>
+        ensures { option_map (λ found. (found.0, found.1.now)) result ≡ read_settled self.now }
+    {
+        match &self.stage {
+            Stage::Catching {
+                search: Some(Search::Filling { position, proposal }),
+                ..
+            } => match proposal.settled() {
+                Some(entry) => Some((*position, entry)),
+                None => None,
+            },
+            _ => None,
+        }
+    }
+
+    /// The position through which the read reads, once it has it.
+    pub fn through_of(&self) -> Option<u64>
+        ensures { result ≡ through_of self.now }
+    {
+        match &self.stage {
+            Stage::Catching { through, .. } => Some(*through),
+            Stage::Polling { .. } => None,
+        }
+    }
+
+    /// The nodes about which the read asked the cells, with those of its present round.
+    pub fn asked_by(&self, alloc: Global) -> Result<Items<u8>, NoMemory>
+        ensures { IfOk result (λ nodes. nodes ≡ asked_by self.now) }
+    {
+        let asked = self.asked.copy(alloc)?;
+        match &self.stage {
+            Stage::Polling { .. } => Ok(asked),
+            Stage::Catching { search, .. } => joined(alloc, asked, search_told(search)),
+        }
+    }
+
+    /// The read that turns to the least position that its node has not decided, where it does not complete that one
+    /// already.
+    pub fn seeks(self, alloc: Global, who: &Reader, least: u64, now: u64) -> Result<Move, NoMemory>
+        ensures { IfOk result (λ made. made ≡ seeks who.now self least now) }
+    {
+        let Reading {
+            noted,
+            asked,
+            stage,
+        } = self;
+        match stage {
+            Stage::Polling { heard, best, sent } => {
+                let stage = Stage::Polling { heard, best, sent };
+                Ok(Kept { noted, asked }.at(stage, Items::new(alloc)))
+            }
+            Stage::Catching { through, search } => {
+                if is_searched(least, &search) {
+                    let stage = Stage::Catching { through, search };
+                    return Ok(Kept { noted, asked }.at(stage, Items::new(alloc)));
+                }
+                let asked = joined(alloc, asked, search_told(&search))?;
+                who.fetches(alloc, Kept { noted, asked }, through, least, now)
+            }
+        }
+    }
+}
