@@ -53,13 +53,13 @@ use Rattle.mega_lawful.proofs.Turns.{Fine, Frame, Ready, Turn, ready_keeps, read
 
 -- the operation acted
 abbrev pub DoneAt : Users → Setting → Frame → Operation → Now → Type 0
-DoneAt users s f o now = Fine users s.cluster f ((o.id).number + 1) now.met now.kept now.sends
+DoneAt users s f o now = Fine users s.cluster f ((o.id).number + 1) now.met now.kept now.answers now.sends
 
 abbrev pub ReadyAt : Users → Setting → Frame → Now → Operation → Type 0
-ReadyAt users s f now o = Ready users s.cluster f now.met now.kept now.sends o
+ReadyAt users s f now o = Ready users s.cluster f now.met now.kept now.answers now.sends o
 
 abbrev pub TurnAt : Users → Setting → Frame → Now → OpId → Type 0
-TurnAt users s f now op = Turn users s.cluster f now.met now.kept now.sends op
+TurnAt users s f now op = Turn users s.cluster f now.met now.kept now.answers now.sends op
 
 -- what is done with an operation that acts again
 abbrev pub Again : Users → Setting → Frame → (Now → Operation → Now) → Type 0
@@ -70,10 +70,10 @@ abbrev pub FreeAt : Frame → Now → OpId → Type 0
 FreeAt f now op = Idle (tape_of f now.sends) now.met op None
 
 keeps_done : (users : Users) → (s : Setting) → (users.fits → Brought users.usage s.handlers) → (f : Frame) (now : Now) (o : Operation) → ReadyAt users s f now o → DoneAt users s f o (keeps now o)
-keeps_done users s brought f now o h = ready_keeps users s.cluster f now.met now.kept now.sends o h
+keeps_done users s brought f now o h = ready_keeps users s.cluster f now.met now.kept now.answers now.sends o h
 
 pub ends_done : (users : Users) → (s : Setting) → (users.fits → Brought users.usage s.handlers) → (f : Frame) (now : Now) (o : Operation) (answer : Answer) → TurnAt users s f now o.id → DoneAt users s f o (ends now o.id answer)
-ends_done users s brought f now o answer h = turn_ends users s.cluster f now.met now.kept now.sends o.id h
+ends_done users s brought f now o answer h = turn_ends users s.cluster f now.met now.kept now.answers now.sends o.id h
 
 -- ---- what is its own
 
@@ -88,18 +88,18 @@ pub record Picks (usage : Usage) (tape : List Item) (o : Operation) (request : R
   pub none : Unproposed tape o.id
   pub is : o.request ≡ request
 
-pub turn_known : (users : Users) → (c : Cluster) (f : Frame) (met : List Met) (kept : List Operation) (sends : List Message) (op : OpId) → Turn users c f met kept sends op → KnowsAll op.node.0 met (tape_of f sends)
-turn_known users c f met kept sends op h g n e k = subst (λ v. Stands (Decide (number v) g (record { 0 = n }) e) (tape_of f sends)) (sym h.node) (stood_sent f.next sends f.base _ (h.known g n e k))
+pub turn_known : (users : Users) → (c : Cluster) (f : Frame) (met : List Met) (kept : List Operation) (answers : List Met) (sends : List Message) (op : OpId) → Turn users c f met kept answers sends op → KnowsAll op.node.0 met (tape_of f sends)
+turn_known users c f met kept answers sends op h g n e k = subst (λ v. Stands (Decide (number v) g (record { 0 = n }) e) (tape_of f sends)) (sym h.node) (stood_sent f.next sends f.base _ (h.known g n e k))
 
-pub turn_context : (users : Users) → (c : Cluster) (f : Frame) (met : List Met) (kept : List Operation) (sends : List Message) (op : OpId) → Turn users c f met kept sends op → users.fits → Unproposed (tape_of f sends) op → Context c users.usage (tape_of f sends) met op
-turn_context users c f met kept sends op h fits none = record { lawful = h.lawful; written = h.written fits; known = turn_known users c f met kept sends op h; named = h.named; none = none }
+pub turn_context : (users : Users) → (c : Cluster) (f : Frame) (met : List Met) (kept : List Operation) (answers : List Met) (sends : List Message) (op : OpId) → Turn users c f met kept answers sends op → users.fits → Unproposed (tape_of f sends) op → Context c users.usage (tape_of f sends) met op
+turn_context users c f met kept answers sends op h fits none = record { lawful = h.lawful; written = h.written fits; known = turn_known users c f met kept answers sends op h; named = h.named; none = none }
 
 -- ---- reading
 
 reads_ready : (users : Users) → (s : Setting) → (users.fits → Brought users.usage s.handlers) → (f : Frame) (now : Now) (o : Operation) (group : GroupId) (t : ReadMove) → TurnAt users s f now o.id → Reads_on s.cluster (tape_of f now.sends) now.met o.id group t
     → (users.fits → WroteBy s.cluster users.usage (tape_of f now.sends) o.id t) → (users.fits → Asks users.usage (tape_of f now.sends) o o.message group)
     → ReadyAt users s f (sends_more now t.sends) (in_phase o (Reads group t.reading))
-reads_ready users s brought f now o group t h acts wrote asks = ready_sends users s.cluster f now.met now.kept now.sends t.sends (in_phase o (Reads group t.reading)) h acts
+reads_ready users s brought f now o group t h acts wrote asks = ready_sends users s.cluster f now.met now.kept now.answers now.sends t.sends (in_phase o (Reads group t.reading)) h acts
     (λ fits n. (wrote fits).written n)
     (λ fits n. let stood = stood_sent n t.sends (tape_of f now.sends) in record {
       began = began_on users.usage (tape_of f now.sends) (sent n t.sends (tape_of f now.sends)) o.id o.request stood (asks fits).began;
@@ -128,7 +128,7 @@ pub begins_read_done : (users : Users) → (s : Setting) → (users.fits → Bro
     → TurnAt users s f now o.id → FreeAt f now o.id → (users.fits → Asks users.usage (tape_of f now.sends) o message group) → DoneAt users s f o (begins_read s again now o group message asked)
 begins_read_done users s brought f again now o group message asked more h free asks =
     more (sends_more now (read_begun s now o group asked).sends) (visiting o group message (read_begun s now o group asked))
-    (ready_sends users s.cluster f now.met now.kept now.sends (read_begun s now o group asked).sends (visiting o group message (read_begun s now o group asked)) h (begun_acts s f now o group asked free)
+    (ready_sends users s.cluster f now.met now.kept now.answers now.sends (read_begun s now o group asked).sends (visiting o group message (read_begun s now o group asked)) h (begun_acts s f now o group asked free)
     (λ fits n. (wrote fits).written n)
     (λ fits n. record {
       began = began_on users.usage (tape_of f now.sends) (sent n ms (tape_of f now.sends)) o.id o.request (stood_sent n ms (tape_of f now.sends)) (asks fits).began;
@@ -139,16 +139,16 @@ begins_read_done users s brought f again now o group message asked more h free a
     ms = (read_begun s now o group asked).sends
 
     wrote : users.fits → WroteBy s.cluster users.usage (tape_of f now.sends) o.id (read_begun s now o group asked)
-    wrote fits = begun_wrote s.cluster s users.usage (tape_of f now.sends) now o group asked refl (turn_context users s.cluster f now.met now.kept now.sends o.id h fits (asks fits).none)
+    wrote fits = begun_wrote s.cluster s users.usage (tape_of f now.sends) now o group asked refl (turn_context users s.cluster f now.met now.kept now.answers now.sends o.id h fits (asks fits).none)
 
 picks_message_done : (users : Users) → (s : Setting) → (users.fits → Brought users.usage s.handlers) → (f : Frame) (again : Now → Operation → Now) (now : Now) (o : Operation) (asked : List ℕ) (one : Option Posted) → Again users s f again
     → TurnAt users s f now o.id → FreeAt f now o.id → (users.fits → (x : Posted) → one ≡ Some x → Asks users.usage (tape_of f now.sends) o (Some x.message) x.to) → DoneAt users s f o (picks_message s again now o asked one)
-picks_message_done users s brought f again now o asked None more h free asks = turn_ends users s.cluster f now.met now.kept now.sends o.id h
+picks_message_done users s brought f again now o asked None more h free asks = turn_ends users s.cluster f now.met now.kept now.answers now.sends o.id h
 picks_message_done users s brought f again now o asked (Some one) more h free asks = begins_read_done users s brought f again now o one.to (Some one.message) asked more h free (λ fits. asks fits one refl)
 
 picks_group_done : (users : Users) → (s : Setting) → (users.fits → Brought users.usage s.handlers) → (f : Frame) (again : Now → Operation → Now) (now : Now) (o : Operation) (asked : List ℕ) (one : Option GroupId) → Again users s f again
     → TurnAt users s f now o.id → FreeAt f now o.id → (users.fits → (group : GroupId) → Asks users.usage (tape_of f now.sends) o None group) → DoneAt users s f o (picks_group s again now o asked one)
-picks_group_done users s brought f again now o asked None more h free asks = turn_ends users s.cluster f now.met now.kept now.sends o.id h
+picks_group_done users s brought f again now o asked None more h free asks = turn_ends users s.cluster f now.met now.kept now.answers now.sends o.id h
 picks_group_done users s brought f again now o asked (Some group) more h free asks = begins_read_done users s brought f again now o group None asked more h free (λ fits. asks fits group)
 
 pub picks_to_enter_done : (users : Users) → (s : Setting) → (users.fits → Brought users.usage s.handlers) → (f : Frame) (again : Now → Operation → Now) (now : Now) (o : Operation) (asked : List ℕ) → Again users s f again
@@ -157,7 +157,7 @@ picks_to_enter_done users s brought f again now o asked more h free picks = pick
     (λ fits x is. record {
       began = (picks fits).began;
       none = (picks fits).none;
-      serves = subst (λ r. Serves (tape_of f now.sends) o.id r (Some x.message) x.to) (sym (picks fits).is) (next_waits (tape_of f now.sends) now o.id (turn_known users s.cluster f now.met now.kept now.sends o.id h) x is);
+      serves = subst (λ r. Serves (tape_of f now.sends) o.id r (Some x.message) x.to) (sym (picks fits).is) (next_waits (tape_of f now.sends) now o.id (turn_known users s.cluster f now.met now.kept now.answers now.sends o.id h) x is);
     })
 
 pub picks_to_handle_done : (users : Users) → (s : Setting) → (users.fits → Brought users.usage s.handlers) → (f : Frame) (again : Now → Operation → Now) (now : Now) (o : Operation) (asked : List ℕ) → Again users s f again
@@ -180,15 +180,15 @@ leads_there users s brought f now op group (suc p) leader h le e =
     (named_is (voters s.cluster) d.entry leader (ap (named_leader (voters s.cluster)) (sym d.is) ∙ e)))
 
 -- what an operation has whose read is complete
-pub record Full (users : Users) (s : Setting) (f : Frame) (met : List Met) (kept : List Operation) (sends : List Message) (o : Operation) (group : GroupId) (p : ℕ) : Type 0 where
-  pub ready : Ready users s.cluster f met kept sends o
+pub record Full (users : Users) (s : Setting) (f : Frame) (met : List Met) (kept : List Operation) (answers : List Met) (sends : List Message) (o : Operation) (group : GroupId) (p : ℕ) : Type 0 where
+  pub ready : Ready users s.cluster f met kept answers sends o
   pub free : Idle (tape_of f sends) met o.id None
   pub through : p ≤ prefix_of met group
   pub none : users.fits → Unproposed (tape_of f sends) o.id
   pub serves : users.fits → Serves (tape_of f sends) o.id o.request o.message group
 
 abbrev pub FullAt : Users → Setting → Frame → Now → Operation → GroupId → ℕ → Type 0
-FullAt users s f now o group p = Full users s f now.met now.kept now.sends o group p
+FullAt users s f now o group p = Full users s f now.met now.kept now.answers now.sends o group p
 
 proposes_there_done : (users : Users) → (s : Setting) → (users.fits → Brought users.usage s.handlers) → (f : Frame) (now : Now) (o : Operation) (group : GroupId) (p : ℕ) (asked : List ℕ) (own : Content) (promised : Promised) (leader : ℕ) → FullAt users s f now o group p
     → leader_after s now group p ≡ Some leader → (users.fits → OwnEntry s.cluster.schema users.usage (tape_of f now.sends) o.id group (take p (log_of now.met group)) own)
@@ -209,7 +209,7 @@ proposes_there_done users s brought f now o group p asked own promised leader h 
       named = turn.named;
       below = take p (log_of now.met group);
       reaches = next (length (take p (log_of now.met group))) p (front_length now.met group p h.through);
-      known = knows_front (tape_of f now.sends) (o.id).node.0 now.met group p (turn_known users s.cluster f now.met now.kept now.sends o.id turn);
+      known = knows_front (tape_of f now.sends) (o.id).node.0 now.met group p (turn_known users s.cluster f now.met now.kept now.answers now.sends o.id turn);
       entry = entry fits;
       home = λ q b other i k id. absurd (h.none fits q b other i k);
     }
@@ -241,9 +241,9 @@ proposes_there_done users s brought f now o group p asked own promised leader h 
 
     go : (d : Option Content) → decided now.met group (p + 1) ≡ d
         → DoneAt users s f o (unless_decided (sends_more now t.sends) (in_phase o (Proposes group (p + 1) asked t.proposal promised)) (p + 1) promised d)
-    go (Some entry) k = turn_ends users s.cluster f now.met now.kept (now.sends ++ t.sends) o.id (turn_sends users s.cluster f now.met now.kept now.sends t.sends o.id turn (refl, tt) (λ n l. (asks_leader refl leads, l)) written)
-    go None k = ready_keeps users s.cluster f now.met now.kept (now.sends ++ t.sends) (in_phase o (Proposes group (p + 1) asked t.proposal promised))
-        (ready_sends users s.cluster f now.met now.kept now.sends t.sends (in_phase o (Proposes group (p + 1) asked t.proposal promised)) turn
+    go (Some entry) k = turn_ends users s.cluster f now.met now.kept now.answers (now.sends ++ t.sends) o.id (turn_sends users s.cluster f now.met now.kept now.answers now.sends t.sends o.id turn (refl, tt) (λ n l. (asks_leader refl leads, l)) written)
+    go None k = ready_keeps users s.cluster f now.met now.kept now.answers (now.sends ++ t.sends) (in_phase o (Proposes group (p + 1) asked t.proposal promised))
+        (ready_sends users s.cluster f now.met now.kept now.answers now.sends t.sends (in_phase o (Proposes group (p + 1) asked t.proposal promised)) turn
         (acts_round s.cluster (tape_of f now.sends) now.met o.id (at_place group (p + 1)) t (Proposes group (p + 1) asked t.proposal promised) None
         (asks_goes s.cluster (tape_of f now.sends) o.id (at_place group (p + 1)) asked leader own (clock_of now.met) (unmoved k) leads) refl (λ new v. v) h.free (λ q x. cc)) written owned)
 
@@ -253,16 +253,16 @@ proposes_done : (users : Users) → (s : Setting) → (users.fits → Brought us
 proposes_done users s brought f now o group r p own promised h entry = go (leader_after s now group p) refl
   where
     go : (leader : Option ℕ) → leader_after s now group p ≡ leader → DoneAt users s f o (proposes_by s now o group r p own promised leader)
-    go None e = ready_keeps users s.cluster f now.met now.kept now.sends o h.ready
+    go None e = ready_keeps users s.cluster f now.met now.kept now.answers now.sends o h.ready
     go (Some leader) e = proposes_there_done users s brought f now o group p (asked_by r) own promised leader h e entry
 
 -- ---- a read that is complete
 
-full_validates : (users : Users) → (s : Setting) → (users.fits → Brought users.usage s.handlers) → (f : Frame) (met : List Met) (kept : List Operation) (sends : List Message) (o : Operation) (group : GroupId) (p : ℕ) → Full users s f met kept sends o group p
-    → Full users s f (Validates group p ∷ met) kept sends o group p
-full_validates users s brought f met kept sends o group p h = record {
+full_validates : (users : Users) → (s : Setting) → (users.fits → Brought users.usage s.handlers) → (f : Frame) (met : List Met) (kept : List Operation) (answers : List Met) (sends : List Message) (o : Operation) (group : GroupId) (p : ℕ) → Full users s f met kept answers sends o group p
+    → Full users s f (Validates group p ∷ met) kept answers sends o group p
+full_validates users s brought f met kept answers sends o group p h = record {
   ready = record {
-    turn = turn_met users s.cluster f met (Validates group p ∷ met) kept sends o.id (prefix_more (Validates group p) met) (λ g n e k. ((h.ready).turn).known g n e k) (h.ready).turn;
+    turn = turn_met users s.cluster f met (Validates group p ∷ met) kept answers sends o.id (prefix_more (Validates group p) met) (λ g n e k. ((h.ready).turn).known g n e k) (h.ready).turn;
     owned = (h.ready).owned;
     backed = backed_on s.cluster (tape_of f sends) (tape_of f sends) met (Validates group p ∷ met) o.id (same_tape o.id (tape_of f sends)) (prefix_more (Validates group p) met) o.phase (h.ready).backed;
     idle = idle_on (tape_of f sends) (tape_of f sends) met (Validates group p ∷ met) o.id (place_of o.phase) (same_tape o.id (tape_of f sends)) (prefix_more (Validates group p) met) (h.ready).idle;
@@ -275,7 +275,7 @@ full_validates users s brought f met kept sends o group p h = record {
 
 validated_full : (users : Users) → (s : Setting) → (users.fits → Brought users.usage s.handlers) → (f : Frame) (now : Now) (o : Operation) (group : GroupId) (p : ℕ) (refusal : Option NotValid) → FullAt users s f now o group p → FullAt users s f (validated_by now group p refusal) o group p
 validated_full users s brought f now o group p (Some refusal) h = h
-validated_full users s brought f now o group p None h = full_validates users s brought f now.met now.kept now.sends o group p h
+validated_full users s brought f now o group p None h = full_validates users s brought f now.met now.kept now.answers now.sends o group p h
 
 validates_full : (users : Users) → (s : Setting) → (users.fits → Brought users.usage s.handlers) → (f : Frame) (now : Now) (o : Operation) (group : GroupId) (p : ℕ) (noted : Option Epoch) → FullAt users s f now o group p → FullAt users s f (validates s now group p noted) o group p
 validates_full users s brought f now o group p None h = h
@@ -298,7 +298,7 @@ done_when users s f o true one other h k = h refl
 done_when users s f o false one other h k = k refl
 
 sealed_done : (users : Users) → (s : Setting) → (users.fits → Brought users.usage s.handlers) → (f : Frame) (now : Now) (o : Operation) (group : GroupId) (r : Reading) (p : ℕ) (transaction : Transaction) → o.request ≡ Txn transaction → (result : Result Done Turned) → outcome s.cluster.schema transaction (rows_at now group p) ≡ result → FullAt users s f now o group p → DoneAt users s f o (sealed s now o group r p result)
-sealed_done users s brought f now o group r p transaction is (Err turn) comes h = turn_ends users s.cluster f now.met now.kept now.sends o.id (h.ready).turn
+sealed_done users s brought f now o group r p transaction is (Err turn) comes h = turn_ends users s.cluster f now.met now.kept now.answers now.sends o.id (h.ready).turn
 sealed_done users s brought f now o group r p transaction is (Ok done) comes h = proposes_done users s brought f now o group r p (entry_of_done o.id done) (Replies done.replies) h
     (λ fits. runs transaction done (full_asked users s f now o group p h fits ∙ ap Some is) (subst (λ q. Serves (tape_of f now.sends) o.id q o.message group) is (h.serves fits)) comes refl)
 
@@ -307,10 +307,10 @@ batch_done users s brought f now o group r p theirs transactions is b comes h = 
     (proposes_done users s brought f now o group r p (entry_of_batch o.id b) (Results b.results) h
     (λ fits. let same = subst (λ q. Serves (tape_of f now.sends) o.id q o.message group) is (h.serves fits) in
     runs_all transactions (full_asked users s f now o group p h fits ∙ ap Some is ∙ ap (λ g. Some (BatchRequest g transactions)) same)
-    (ap (entry_of_batch o.id) (sym comes) ∙ ap (λ g. entry_of_batch o.id (batch_outcome s.cluster.schema g transactions (rows_at now group p))) same))) (turn_ends users s.cluster f now.met now.kept now.sends o.id (h.ready).turn)
+    (ap (entry_of_batch o.id) (sym comes) ∙ ap (λ g. entry_of_batch o.id (batch_outcome s.cluster.schema g transactions (rows_at now group p))) same))) (turn_ends users s.cluster f now.met now.kept now.answers now.sends o.id (h.ready).turn)
 
 unless_full_done : (users : Users) → (s : Setting) → (users.fits → Brought users.usage s.handlers) → (f : Frame) (now : Now) (o : Operation) (p : ℕ) (next : Now) → TurnAt users s f now o.id → DoneAt users s f o next → DoneAt users s f o (unless_full s now o p next)
-unless_full_done users s brought f now o p next h k = done_if users s brought f o (nat_le (s.cluster.limit).0 p) _ next (turn_ends users s.cluster f now.met now.kept now.sends o.id h) k
+unless_full_done users s brought f now o p next h k = done_if users s brought f o (nat_le (s.cluster.limit).0 p) _ next (turn_ends users s.cluster f now.met now.kept now.answers now.sends o.id h) k
 
 enters_done : (users : Users) → (s : Setting) → (users.fits → Brought users.usage s.handlers) → (f : Frame) (again : Now → Operation → Now) (now : Now) (o : Operation) (group : GroupId) (r : Reading) (p : ℕ) (message : Option Enter) → o.request ≡ PumpEnter → o.message ≡ message → Again users s f again → FullAt users s f now o group p
     → DoneAt users s f o (enters s again now o group r p message)
@@ -328,7 +328,7 @@ handles_done users s brought f again now o group r p (Some message) is oldest mo
     (proposes s now o group r p (handling s o.id group message (table_rows s.cluster.schema group (listed_at now group p))) (Replies [])) _
     (proposes_done users s brought f now o group r p (handling s o.id group message (table_rows s.cluster.schema group (listed_at now group p))) (Replies []) h
     (λ fits. handles_one message (brought fits).moment (full_asked users s f now o group p h fits ∙ ap Some is) oldest
-    (λ i. handled_by s.cluster.schema (sym (brought fits).is i) group o.id message (take p (log_of now.met group))))) (turn_ends users s.cluster f now.met now.kept now.sends o.id (h.ready).turn)
+    (λ i. handled_by s.cluster.schema (sym (brought fits).is i) group o.id message (take p (log_of now.met group))))) (turn_ends users s.cluster f now.met now.kept now.answers now.sends o.id (h.ready).turn)
 
 finishes_done : (users : Users) → (s : Setting) → (users.fits → Brought users.usage s.handlers) → (f : Frame) (again : Now → Operation → Now) (now : Now) (id : OpId) (request : Request) (began : ℕ) (visited : List GroupId) (message : Option Enter) (phase : Phase)
     (group : GroupId) (r : Reading) (p : ℕ) → Again users s f again → FullAt users s f now (record { id = id; request = request; began = began; visited = visited; message = message; phase = phase }) group p
@@ -340,15 +340,15 @@ finishes_done users s brought f again now id (Txn transaction) began visited mes
 finishes_done users s brought f again now id (BatchRequest own transactions) began visited message phase group r p more h =
     unless_full_done users s brought f now (record { id = id; request = BatchRequest own transactions; began = began; visited = visited; message = message; phase = phase }) p _ (h.ready).turn
     (batch_done users s brought f now (record { id = id; request = BatchRequest own transactions; began = began; visited = visited; message = message; phase = phase }) group r p own transactions refl (batch_outcome s.cluster.schema own transactions (rows_at now group p)) refl h)
-finishes_done users s brought f again now id (ReadRequested request) began visited message phase group r p more h = turn_ends users s.cluster f now.met now.kept now.sends id (h.ready).turn
-finishes_done users s brought f again now id (Find request) began visited message phase group r p more h = turn_ends users s.cluster f now.met now.kept now.sends id (h.ready).turn
+finishes_done users s brought f again now id (ReadRequested request) began visited message phase group r p more h = turn_ends users s.cluster f now.met now.kept now.answers now.sends id (h.ready).turn
+finishes_done users s brought f again now id (Find request) began visited message phase group r p more h = turn_ends users s.cluster f now.met now.kept now.answers now.sends id (h.ready).turn
 finishes_done users s brought f again now id PumpEnter began visited message phase group r p more h =
     unless_full_done users s brought f now (record { id = id; request = PumpEnter; began = began; visited = visited; message = message; phase = phase }) p _ (h.ready).turn
     (enters_done users s brought f again now (record { id = id; request = PumpEnter; began = began; visited = visited; message = message; phase = phase }) group r p message refl refl more h)
 finishes_done users s brought f again now id PumpHandle began visited message phase group r p more h =
     unless_full_done users s brought f now (record { id = id; request = PumpHandle; began = began; visited = visited; message = message; phase = phase }) p _ (h.ready).turn
     (handles_done users s brought f again now (record { id = id; request = PumpHandle; began = began; visited = visited; message = message; phase = phase }) group r p (oldest_unhandled (take p (log_of now.met group))) refl refl more h)
-finishes_done users s brought f again now id Refresh began visited message phase group r p more h = ready_keeps users s.cluster f now.met now.kept now.sends _ h.ready
+finishes_done users s brought f again now id Refresh began visited message phase group r p more h = ready_keeps users s.cluster f now.met now.kept now.answers now.sends _ h.ready
 
 -- ---- reading on
 
@@ -365,7 +365,7 @@ reads_on_done : (users : Users) → (s : Setting) → (users.fits → Brought us
     → ReadyAt users s f now (record { id = id; request = request; began = began; visited = visited; message = message; phase = Reads group (record { noted = noted; asked = asked; stage = stage }) })
     → DoneAt users s f (record { id = id; request = request; began = began; visited = visited; message = message; phase = Reads group (record { noted = noted; asked = asked; stage = stage }) })
     (reads_on s again now (record { id = id; request = request; began = began; visited = visited; message = message; phase = Reads group (record { noted = noted; asked = asked; stage = stage }) }) group (record { noted = noted; asked = asked; stage = stage }))
-reads_on_done users s brought f again now id request began visited message group noted asked (Polling heard best at) more h = ready_keeps users s.cluster f now.met now.kept now.sends _ h
+reads_on_done users s brought f again now id request began visited message group noted asked (Polling heard best at) more h = ready_keeps users s.cluster f now.met now.kept now.answers now.sends _ h
 reads_on_done users s brought f again now id request began visited message group noted asked (Catching p search) more h = go (nat_le p (prefix_of now.met group)) refl
   where
     r : Reading
@@ -384,9 +384,9 @@ reads_on_done users s brought f again now id request began visited message group
         (seeks_on o now group (seeks (who s.cluster id group) r (prefix_of now.met group + 1) (clock_of now.met))))
     go true e = finishes_done users s brought f again (completes_read s now group r p) id request began visited message (Reads group r) group r p more
         (completes_full users s brought f now o group r p (record { ready = h; free = closed (tape_of f now.sends) now.met s.cluster id group p search (le_is p (prefix_of now.met group) e) h.backed h.idle; through = le_is p (prefix_of now.met group) e; none = λ fits. ((h.owned fits).mine).none; serves = λ fits. ((h.owned fits).mine).serves }))
-    go false e = ready_keeps users s.cluster f now.met now.kept _ _ (reads_ready users s brought f now o group (seeks (who s.cluster id group) r (prefix_of now.met group + 1) (clock_of now.met)) h.turn
+    go false e = ready_keeps users s.cluster f now.met now.kept _ _ _ (reads_ready users s brought f now o group (seeks (who s.cluster id group) r (prefix_of now.met group + 1) (clock_of now.met)) h.turn
         (seeks_acts s.cluster (tape_of f now.sends) now.met id group noted asked p (clock_of now.met) search (above_is p (prefix_of now.met group) e) h.backed h.idle)
-        (λ fits. seeks_wrote s.cluster users.usage (tape_of f now.sends) now.met id group noted asked p (clock_of now.met) search (turn_context users s.cluster f now.met now.kept now.sends id h.turn fits ((h.owned fits).mine).none) (above_is p (prefix_of now.met group) e) ((h.owned fits).mine).plain)
+        (λ fits. seeks_wrote s.cluster users.usage (tape_of f now.sends) now.met id group noted asked p (clock_of now.met) search (turn_context users s.cluster f now.met now.kept now.answers now.sends id h.turn fits ((h.owned fits).mine).none) (above_is p (prefix_of now.met group) e) ((h.owned fits).mine).plain)
         (λ fits. record { began = (h.owned fits).began; none = ((h.owned fits).mine).none; serves = ((h.owned fits).mine).serves }))
 
 acts_done : (users : Users) → (s : Setting) → (users.fits → Brought users.usage s.handlers) → (f : Frame) (again : Now → Operation → Now) (now : Now) (id : OpId) (request : Request) (began : ℕ) (visited : List GroupId) (message : Option Enter) (phase : Phase) → Again users s f again
@@ -400,11 +400,11 @@ acts_done users s brought f again now id request began visited message (Proposes
     o = record { id = id; request = request; began = began; visited = visited; message = message; phase = Proposes group n asked proposal promised }
 
     go : (d : Option Content) → DoneAt users s f o (unless_decided now o n promised d)
-    go None = ready_keeps users s.cluster f now.met now.kept now.sends o h
-    go (Some entry) = turn_ends users s.cluster f now.met now.kept now.sends id h.turn
+    go None = ready_keeps users s.cluster f now.met now.kept now.answers now.sends o h
+    go (Some entry) = turn_ends users s.cluster f now.met now.kept now.answers now.sends id h.turn
 
 acts_within_done : (users : Users) → (s : Setting) → (users.fits → Brought users.usage s.handlers) → (f : Frame) (most : ℕ) → Again users s f (acts_within most s)
-acts_within_done users s brought f zero now o h = ready_keeps users s.cluster f now.met now.kept now.sends o h
+acts_within_done users s brought f zero now o h = ready_keeps users s.cluster f now.met now.kept now.answers now.sends o h
 acts_within_done users s brought f (suc most) now o h = acts_done users s brought f (acts_within most s) now o.id o.request o.began o.visited o.message o.phase (acts_within_done users s brought f most) h
 
 pub goes_on_done : (users : Users) → (s : Setting) → (users.fits → Brought users.usage s.handlers) → (f : Frame) → Again users s f (goes_on s)

@@ -74,13 +74,13 @@ same_id_due s now id request began visited posted (Proposes group n asked propos
 -- ---- one after another
 
 abbrev pub FineAt : Users → Setting → Frame → ℕ → Now → Type 0
-FineAt users s f k now = Fine users s.cluster f k now.met now.kept now.sends
+FineAt users s f k now = Fine users s.cluster f k now.met now.kept now.answers now.sends
 
 -- an operation that did not act yet is as it was on the tape before
 ready_first : (users : Users) → (s : Setting) → (users.fits → Brought users.usage s.handlers) → (f : Frame) (k l : ℕ) (now : Now) (met : List Met) (o : Operation) → FineAt users s f k now → k ≤ (o.id).number → Grew met now.met → Held users s.cluster f.base f.me f.start l met o → ReadyAt users s f now o
 ready_first users s brought f k l now met o fine le grew h =
     let on = held_on users s.cluster f.base (tape_of f now.sends) f.me f.start l l met now.met o beside grew (omega arith) h in
-    record { turn = fine_turn users s.cluster f k now.met now.kept now.sends o.id fine le h.node h.start h.named; owned = on.owned; backed = on.backed; idle = on.idle }
+    record { turn = fine_turn users s.cluster f k now.met now.kept now.answers now.sends o.id fine le h.node h.start h.named; owned = on.owned; backed = on.backed; idle = on.idle }
   where
     beside : Beside o.id f.base (tape_of f now.sends)
     beside = record { stood = stood_sent f.next now.sends f.base; moved = λ q. fine.later o.id (could_not f.me f.start k o.id le) q }
@@ -99,7 +99,7 @@ hears_ready : (users : Users) → (s : Setting) → (users.fits → Brought user
     → ReadyAt users s f (sends_more now (hears_message s clock m (record { id = id; request = request; began = began; visited = visited; message = posted; phase = phase })).sends)
     (hears_message s clock m (record { id = id; request = request; began = began; visited = visited; message = posted; phase = phase })).operation
 hears_ready users s brought f now clock m id request began visited posted (Reads group r) h took =
-    ready_sends users s.cluster f now.met now.kept now.sends _ _ h.turn (hears_message_acts s (tape_of f now.sends) now.met clock m id request began visited posted (Reads group r) h.backed h.idle
+    ready_sends users s.cluster f now.met now.kept now.answers now.sends _ _ h.turn (hears_message_acts s (tape_of f now.sends) now.met clock m id request began visited posted (Reads group r) h.backed h.idle
     (took_on f.base (tape_of f now.sends) (stood_sent f.next now.sends f.base) _ took))
     (λ fits n. (wrote fits).written n)
     (λ fits n. record {
@@ -111,10 +111,10 @@ hears_ready users s brought f now clock m id request began visited posted (Reads
     t = hears (who s.cluster id group) r m.from clock m.body
 
     wrote : users.fits → WroteBy s.cluster users.usage (tape_of f now.sends) id t
-    wrote fits = hears_wrote s.cluster users.usage (tape_of f now.sends) now.met id group r m.from clock m.body (turn_context users s.cluster f now.met now.kept now.sends id h.turn fits ((h.owned fits).mine).none) h.backed ((h.owned fits).mine).plain
+    wrote fits = hears_wrote s.cluster users.usage (tape_of f now.sends) now.met id group r m.from clock m.body (turn_context users s.cluster f now.met now.kept now.answers now.sends id h.turn fits ((h.owned fits).mine).none) h.backed ((h.owned fits).mine).plain
         (took_on f.base (tape_of f now.sends) (stood_sent f.next now.sends f.base) _ took)
 hears_ready users s brought f now clock m id request began visited posted (Proposes group n asked proposal promised) h took =
-    ready_sends users s.cluster f now.met now.kept now.sends _ _ h.turn (hears_message_acts s (tape_of f now.sends) now.met clock m id request began visited posted (Proposes group n asked proposal promised) h.backed h.idle
+    ready_sends users s.cluster f now.met now.kept now.answers now.sends _ _ h.turn (hears_message_acts s (tape_of f now.sends) now.met clock m id request began visited posted (Proposes group n asked proposal promised) h.backed h.idle
     (took_on f.base (tape_of f now.sends) (stood_sent f.next now.sends f.base) _ took))
     (λ fits k. proposing_written users s.cluster (tape_of f now.sends) id (at_place group n) proposal t speaks (h.owned fits).mine ((h.turn).written fits) k)
     (λ fits k. record {
@@ -133,7 +133,7 @@ due_ready : (users : Users) → (s : Setting) → (users.fits → Brought users.
     → ReadyAt users s f (sends_more now (does_due s clock (record { id = id; request = request; began = began; visited = visited; message = posted; phase = phase })).sends)
     (does_due s clock (record { id = id; request = request; began = began; visited = visited; message = posted; phase = phase })).operation
 due_ready users s brought f now clock id request began visited posted (Reads group r) h =
-    ready_sends users s.cluster f now.met now.kept now.sends _ _ h.turn (does_due_acts s (tape_of f now.sends) now.met clock id request began visited posted (Reads group r) h.backed h.idle)
+    ready_sends users s.cluster f now.met now.kept now.answers now.sends _ _ h.turn (does_due_acts s (tape_of f now.sends) now.met clock id request began visited posted (Reads group r) h.backed h.idle)
     (λ fits n. (wrote fits).written n)
     (λ fits n. record {
       began = began_on users.usage (tape_of f now.sends) (sent n t.sends (tape_of f now.sends)) id request (stood_sent n t.sends (tape_of f now.sends)) (h.owned fits).began;
@@ -144,9 +144,9 @@ due_ready users s brought f now clock id request began visited posted (Reads gro
     t = falls_due (who s.cluster id group) r s.cluster.retry clock
 
     wrote : users.fits → WroteBy s.cluster users.usage (tape_of f now.sends) id t
-    wrote fits = falls_due_wrote s.cluster users.usage (tape_of f now.sends) now.met id group r s.cluster.retry clock (turn_context users s.cluster f now.met now.kept now.sends id h.turn fits ((h.owned fits).mine).none) h.backed ((h.owned fits).mine).plain
+    wrote fits = falls_due_wrote s.cluster users.usage (tape_of f now.sends) now.met id group r s.cluster.retry clock (turn_context users s.cluster f now.met now.kept now.answers now.sends id h.turn fits ((h.owned fits).mine).none) h.backed ((h.owned fits).mine).plain
 due_ready users s brought f now clock id request began visited posted (Proposes group n asked proposal promised) h =
-    ready_sends users s.cluster f now.met now.kept now.sends _ _ h.turn (does_due_acts s (tape_of f now.sends) now.met clock id request began visited posted (Proposes group n asked proposal promised) h.backed h.idle)
+    ready_sends users s.cluster f now.met now.kept now.answers now.sends _ _ h.turn (does_due_acts s (tape_of f now.sends) now.met clock id request began visited posted (Proposes group n asked proposal promised) h.backed h.idle)
     (λ fits k. proposing_written users s.cluster (tape_of f now.sends) id (at_place group n) proposal t speaks (h.owned fits).mine ((h.turn).written fits) k)
     (λ fits k. record {
       began = began_on users.usage (tape_of f now.sends) (sent k t.sends (tape_of f now.sends)) id request (stood_sent k t.sends (tape_of f now.sends)) (h.owned fits).began;
@@ -163,7 +163,7 @@ due_ready users s brought f now clock id request began visited posted (Proposes 
 pub record AllActed (users : Users) (s : Setting) (f : Frame) (l : ℕ) (now : Now) : Type 0 where
   pub k : ℕ
   pub most : k ≤ l
-  pub fine : Fine users s.cluster f k now.met now.kept now.sends
+  pub fine : Fine users s.cluster f k now.met now.kept now.answers now.sends
 
 grew_lasts : (met : List Met) → Lasts (λ (now : Now). Grew met now.met)
 grew_lasts met = record {
@@ -217,7 +217,7 @@ ticked_fine users s brought f met clock l (o ∷ os) now k least fine le most r 
             (goes_on_done users s brought f (sends_more now t.sends) t.operation (due_ready users s brought f now clock o.id o.request o.began o.visited o.message o.phase first))
 
         go : (b : Bool) → FineAt users s f ((o.id).number + 1) (cond b (ends now o.id (last_answer o)) (acts_in_turn s now t))
-        go true = turn_ends users s.cluster f now.met now.kept now.sends o.id first.turn
+        go true = turn_ends users s.cluster f now.met now.kept now.answers now.sends o.id first.turn
         go false = going
 
     grown : Grew met (ticked s clock now o).met
@@ -232,16 +232,16 @@ pub record Starting (usage : Usage) (tape : List Item) (id : OpId) (request : Re
 
 read_begins_done : (users : Users) → (s : Setting) → (users.fits → Brought users.usage s.handlers) → (f : Frame) (now : Now) (o : Operation) (request : ReadRequest) (mode : Mode) → TurnAt users s f now o.id → FreeAt f now o.id → (users.fits → Asks users.usage (tape_of f now.sends) o None request.group) → DoneAt users s f o (read_begins s now o request mode)
 read_begins_done users s brought f now o request Current h free asks = begins_read_done users s brought f (goes_on s) now o request.group None [] (goes_on_done users s brought f) h free asks
-read_begins_done users s brought f now o request Snapshot h free asks = turn_ends users s.cluster f now.met now.kept now.sends o.id h
-read_begins_done users s brought f now o request Inconsistent h free asks = turn_ends users s.cluster f now.met now.kept now.sends o.id h
+read_begins_done users s brought f now o request Snapshot h free asks = turn_ends users s.cluster f now.met now.kept now.answers now.sends o.id h
+read_begins_done users s brought f now o request Inconsistent h free asks = turn_ends users s.cluster f now.met now.kept now.answers now.sends o.id h
 
 local_find_done : (users : Users) → (s : Setting) → (users.fits → Brought users.usage s.handlers) → (f : Frame) (now : Now) (o : Operation) (request : FindRequest) (group : GroupId) (mode : Mode) → TurnAt users s f now o.id → FreeAt f now o.id → (users.fits → Asks users.usage (tape_of f now.sends) o None group) → DoneAt users s f o (local_find_begins s now o request group mode)
 local_find_done users s brought f now o request group Current h free asks = begins_read_done users s brought f (goes_on s) now o group None [] (goes_on_done users s brought f) h free asks
-local_find_done users s brought f now o request group Snapshot h free asks = turn_ends users s.cluster f now.met now.kept now.sends o.id h
-local_find_done users s brought f now o request group Inconsistent h free asks = turn_ends users s.cluster f now.met now.kept now.sends o.id h
+local_find_done users s brought f now o request group Snapshot h free asks = turn_ends users s.cluster f now.met now.kept now.answers now.sends o.id h
+local_find_done users s brought f now o request group Inconsistent h free asks = turn_ends users s.cluster f now.met now.kept now.answers now.sends o.id h
 
 find_begins_done : (users : Users) → (s : Setting) → (users.fits → Brought users.usage s.handlers) → (f : Frame) (now : Now) (o : Operation) (request : FindRequest) (group : Option GroupId) → TurnAt users s f now o.id → FreeAt f now o.id → (users.fits → (group : GroupId) → Asks users.usage (tape_of f now.sends) o None group) → DoneAt users s f o (find_begins s now o request group)
-find_begins_done users s brought f now o request None h free asks = turn_ends users s.cluster f now.met now.kept now.sends o.id h
+find_begins_done users s brought f now o request None h free asks = turn_ends users s.cluster f now.met now.kept now.answers now.sends o.id h
 find_begins_done users s brought f now o request (Some group) h free asks = local_find_done users s brought f now o request group request.mode h free (λ fits. asks fits group)
 
 begins_done : (users : Users) → (s : Setting) → (users.fits → Brought users.usage s.handlers) → (f : Frame) (now : Now) (id : OpId) (request : Request) (began : ℕ) (visited : List GroupId) (posted : Option Enter) (phase : Phase)
@@ -252,7 +252,7 @@ begins_done users s brought f now id (Read request) began visited posted phase h
 begins_done users s brought f now id (Find request) began visited posted phase h free st = find_begins_done users s brought f now (record { id = id; request = Find request; began = began; visited = visited; message = posted; phase = phase }) request request.group h free (λ fits group. record { began = (st fits).began; none = (st fits).none; serves = tt })
 begins_done users s brought f now id PumpEnter began visited posted phase h free st = picks_to_enter_done users s brought f (goes_on s) now (record { id = id; request = PumpEnter; began = began; visited = visited; message = posted; phase = phase }) [] (goes_on_done users s brought f) h free (λ fits. record { began = (st fits).began; none = (st fits).none; is = refl })
 begins_done users s brought f now id PumpHandle began visited posted phase h free st = picks_to_handle_done users s brought f (goes_on s) now (record { id = id; request = PumpHandle; began = began; visited = visited; message = posted; phase = phase }) [] (goes_on_done users s brought f) h free (λ fits. record { began = (st fits).began; none = (st fits).none; is = refl })
-begins_done users s brought f now id Refresh began visited posted phase h free st = turn_ends users s.cluster f now.met now.kept now.sends id h
+begins_done users s brought f now id Refresh began visited posted phase h free st = turn_ends users s.cluster f now.met now.kept now.answers now.sends id h
 
 pub begun_fine : (users : Users) → (s : Setting) → (users.fits → Brought users.usage s.handlers) → (f : Frame) (k : ℕ) (now : Now) (o : Operation) (refusal : Option Answer) → FineAt users s f k now → (refusal ≡ None → TurnAt users s f now o.id × FreeAt f now o.id) → (refusal ≡ None → k ≤ (o.id).number) → (users.fits → refusal ≡ None → Starting users.usage (tape_of f now.sends) o.id o.request)
     → AllActed users s f (max k ((o.id).number + 1)) (unless_refused s now o refusal)

@@ -221,7 +221,7 @@ quiet_mine me [] h = tt
 quiet_mine me (m ∷ ms) h = (inr h.0, quiet_mine me ms h.1)
 
 -- the first operations begin on what stands
-pub first_fine : (users : Users) → (c : Cluster) (f : Frame) (met : List Met) → Lawful c f.base → (users.fits → AreWritten c.schema users.usage f.base) → Known f.me met f.base → Fine users c f 0 met [] []
+pub first_fine : (users : Users) → (c : Cluster) (f : Frame) (met : List Met) → Lawful c f.base → (users.fits → AreWritten c.schema users.usage f.base) → Known f.me met f.base → Fine users c f 0 met [] [] []
 first_fine users c f met l written known = record { lawful = l; written = written; later = λ x h q. refl; asked = λ x h. refl; made = λ v q. refl; known = known; quiet = tt; held = tt; rising = tt }
 
 -- the operations of a step, put together with what is sent before them

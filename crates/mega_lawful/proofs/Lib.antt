@@ -12,6 +12,7 @@ pub mod Owned
 pub mod Reading
 pub mod Wrote
 pub mod Picked
+pub mod Causes
 pub mod Turns
 pub mod Acting
 pub mod Noting

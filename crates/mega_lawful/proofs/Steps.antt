@@ -195,7 +195,7 @@ begun_next users s brought now nodes' request text means g up = (
     known_first h n e x = follows.known (λ h' n' e' y. inr ((g.node me).known h' n' e' y)) h n e (ap (λ z. decided z h n) spread
         ∙ onto_decided acted.answers (onto acted.valid (onto applies met1)) h n e (onto_decided acted.valid (onto applies met1) h n e (onto_decided applies met1 h n e x)))
 
-    open_fine : Fine users c frame (begun_of met + 1) met1 node.open_operations []
+    open_fine : Fine users c frame (begun_of met + 1) met1 node.open_operations [] []
     open_fine = record {
       lawful = (follows.tape).lawful (tt, g.lawful);
       written = λ fits. (follows.tape).written c.schema users.usage (never_begun users s now g, g.written fits);
@@ -230,7 +230,7 @@ begun_next users s brought now nodes' request text means g up = (
 
     all_done : AllActed users s frame l acted
     all_done = most_of (begun_fine users s brought frame (begun_of met + 1) begin o (refusal s node request) open_fine
-        (λ h. (fine_turn users c frame (begun_of met + 1) met1 node.open_operations [] id open_fine (let is = numbered_next h in omega arith) refl refl (named h), λ q above. inr (unmoved h q)))
+        (λ h. (fine_turn users c frame (begun_of met + 1) met1 node.open_operations [] [] id open_fine (let is = numbered_next h in omega arith) refl refl (named h), λ q above. inr (unmoved h q)))
         (λ h. let is = numbered_next h in omega arith) starting)
 
 -- ---- steps that are whole
