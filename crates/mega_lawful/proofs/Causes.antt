@@ -119,14 +119,14 @@ keeps_to schema old new op group n request (Replies replies) on h = keeps_replie
 keeps_to schema old new op group n request (Results results) on h = keeps_results schema old new op group n request results on h
 
 -- what it is answered with, once its entry is decided
-replied_by : (schema : Schema) (usage : Usage) (tape : List Item) (op : OpId) (group : GroupId) (n : Position) (request : Request) (replies : List (Option Shown)) → asked_for usage.meaning tape op ≡ Some request
+pub replied_by : (schema : Schema) (usage : Usage) (tape : List Item) (op : OpId) (group : GroupId) (n : Position) (request : Request) (replies : List (Option Shown)) → asked_for usage.meaning tape op ≡ Some request
     → Keeps schema tape op group n request (Replies replies) → Replied schema usage tape op group n replies
 replied_by schema usage tape op group n (Txn transaction) replies asked h = of_transaction transaction h.below h.done asked h.knows h.comes h.shows
 replied_by schema usage tape op group n (BatchRequest own transactions) replies asked h = absurd h
 replied_by schema usage tape op group n (ReadRequested request) replies asked h = of_pump (ReadRequested request) asked refl
 replied_by schema usage tape op group n other replies asked h = of_pump other asked refl
 
-results_by : (schema : Schema) (usage : Usage) (tape : List Item) (op : OpId) (group : GroupId) (n : Position) (entry : Content) (request : Request) (results : List (Result (List (Option Shown)) Turn)) → asked_for usage.meaning tape op ≡ Some request
+pub results_by : (schema : Schema) (usage : Usage) (tape : List Item) (op : OpId) (group : GroupId) (n : Position) (entry : Content) (request : Request) (results : List (Result (List (Option Shown)) Turn)) → asked_for usage.meaning tape op ≡ Some request
     → Stands (Decide op.node group n entry) tape → entry.id ≡ Some op → Keeps schema tape op group n request (Results results) → MayCommitAll schema usage tape op n results
 results_by schema usage tape op group n entry (Txn transaction) results asked stands is h = absurd h
 results_by schema usage tape op group n entry (BatchRequest own transactions) results asked stands is h = record {

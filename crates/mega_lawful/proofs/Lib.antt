@@ -13,6 +13,7 @@ pub mod Reading
 pub mod Wrote
 pub mod Picked
 pub mod Causes
+pub mod Causing
 pub mod Turns
 pub mod Acting
 pub mod Noting

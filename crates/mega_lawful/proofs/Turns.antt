@@ -213,7 +213,7 @@ pub record Held (users : Users) (c : Cluster) (tape : List Item) (me st k : ℕ)
   pub start : (o.id).start ≡ st
   pub below : (o.id).number < k
   pub named : (o.id).number < last_number
-  pub owned : users.fits → Owned users.usage tape o
+  pub owned : users.fits → Owned c.schema users.usage tape o
   pub backed : Backed c tape met o.id o.phase
   pub idle : Idle tape met o.id (place_of o.phase)
 
@@ -223,7 +223,7 @@ held_on users c old new me st k l met more o beside grew le h = record {
   start = h.start;
   below = (let less = h.below in omega (arith, less, le));
   named = h.named;
-  owned = λ f. owned_on users.usage old new o beside (h.owned f);
+  owned = λ f. owned_on c.schema users.usage old new o beside (h.owned f);
   backed = backed_on c old new met more o.id beside grew o.phase h.backed;
   idle = idle_on old new met more o.id (place_of o.phase) beside grew h.idle;
 }
@@ -323,7 +323,7 @@ pub record Turn (users : Users) (c : Cluster) (f : Frame) (met : List Met) (kept
 -- and is vouched for
 pub record Ready (users : Users) (c : Cluster) (f : Frame) (met : List Met) (kept : List Operation) (answers : List Met) (sends : List Message) (o : Operation) : Type 0 where
   pub turn : Turn users c f met kept answers sends o.id
-  pub owned : users.fits → Owned users.usage (tape_of f sends) o
+  pub owned : users.fits → Owned c.schema users.usage (tape_of f sends) o
   pub backed : Backed c (tape_of f sends) met o.id o.phase
   pub idle : Idle (tape_of f sends) met o.id (place_of o.phase)
 
@@ -477,11 +477,11 @@ turn_sends users c f met kept answers sends ms op h own lawful written = record 
     }
 
 pub ready_sends : (users : Users) → (c : Cluster) (f : Frame) (met : List Met) (kept : List Operation) (answers : List Met) (sends ms : List Message) (o : Operation) → Turn users c f met kept answers sends o.id → Acts c (tape_of f sends) met o.id o.phase ms
-    → (users.fits → (n : ℕ) → AreWritten c.schema users.usage (sent n ms (tape_of f sends))) → (users.fits → (n : ℕ) → Owned users.usage (sent n ms (tape_of f sends)) o)
+    → (users.fits → (n : ℕ) → AreWritten c.schema users.usage (sent n ms (tape_of f sends))) → (users.fits → (n : ℕ) → Owned c.schema users.usage (sent n ms (tape_of f sends)) o)
     → Ready users c f met kept answers (sends ++ ms) o
 ready_sends users c f met kept answers sends ms o h acts written owned = record {
   turn = turn_sends users c f met kept answers sends ms o.id h acts.own acts.lawful written;
-  owned = λ fits. subst (λ t. Owned users.usage t o) (sym after) (owned fits (f.next + length sends));
+  owned = λ fits. subst (λ t. Owned c.schema users.usage t o) (sym after) (owned fits (f.next + length sends));
   backed = subst (λ t. Backed c t met o.id o.phase) (sym after) (acts.backed (f.next + length sends));
   idle = subst (λ t. Idle t met o.id (place_of o.phase)) (sym after) (acts.idle (f.next + length sends));
 }
