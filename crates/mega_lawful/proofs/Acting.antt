@@ -39,6 +39,8 @@ use Rattle.mega_laws.specs.Writes.{AreWritten, OwnEntry, Own, Usage, enters as e
 use Rattle.mega_lawful.specs.Usages.{Brought}
 use Rattle.mega_lawful.proofs.Owned.{Began, Owned, Context, KnowsAll, Serves, Users, Waits, began_asked, began_on, front_length, knows_front, serves_on}
 use Rattle.mega_lawful.proofs.Picked.{next_waits}
+use Rattle.mega_rules.specs.Finding.{group_bytes, group_marks}
+use Rattle.mega_index.specs.Fits.{numbered}
 use Rattle.mega_laws.specs.Answers.{HasCause, KnowsBelow, of_write}
 use Rattle.mega_laws.specs.Writes.{Knows}
 use Rattle.mega_laws.proofs.Origins.{handling_id}
@@ -399,7 +401,7 @@ finishes_done users s brought f again now id (ReadRequested request) began visit
       listed_are = refl;
     }))
 finishes_done users s brought f again now id (Find request) began visited message phase group r p more h = reading_ends users s f now (record { id = id; request = Find request; began = began; visited = visited; message = message; phase = phase }) _ (h.ready).turn h.none
-    (λ fits. found_cause s.cluster.schema users.usage (tape_of f now.sends) id request _ _ _ _ (full_asked users s f now _ group p h fits))
+    (λ fits. found_cause s.cluster.schema users.usage (tape_of f now.sends) id request (group_marks request.group p) (group_bytes request.group) (listed_at now group p) (numbered (s.cluster.schema).indexes request.index) (full_asked users s f now _ group p h fits))
 finishes_done users s brought f again now id PumpEnter began visited message phase group r p more h =
     unless_full_done users s brought f now (record { id = id; request = PumpEnter; began = began; visited = visited; message = message; phase = phase }) p _ (h.ready).turn h.none
     (enters_done users s brought f again now (record { id = id; request = PumpEnter; began = began; visited = visited; message = message; phase = phase }) group r p message refl refl more h)

@@ -18,6 +18,7 @@ pub mod Turns
 pub mod Acting
 pub mod Noting
 pub mod Beginning
+pub mod Answering
 pub mod Noted
 pub mod Standing
 pub mod Stepping

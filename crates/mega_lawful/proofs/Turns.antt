@@ -254,7 +254,7 @@ pub each_zip : {X : Type 0} (P Q R : X → Type 0) → ((x : X) → P x → Q x 
 each_zip P Q R f [] h k = tt
 each_zip P Q R f (x ∷ xs) h k = (f x h.0 k.0, each_zip P Q R f xs h.1 k.1)
 
-answered_more : (k l : ℕ) → k ≤ l → (one : Met) → AnsweredBelow k one → AnsweredBelow l one
+pub answered_more : (k l : ℕ) → k ≤ l → (one : Met) → AnsweredBelow k one → AnsweredBelow l one
 answered_more k l le (Answers op answer) h = omega (arith, le, h)
 answered_more k l le _ h = absurd h
 
