@@ -70,7 +70,7 @@ failed_in schema usage c nodes me last x (_ ∷ answers) tape h before failed = 
 
 -- ---- what is sent
 
-sent_failed : (x : OpId) (n : ℕ) (ms : List Message) (tape : List Item) → has_failed (sent n ms tape) x ≡ has_failed tape x
+pub sent_failed : (x : OpId) (n : ℕ) (ms : List Message) (tape : List Item) → has_failed (sent n ms tape) x ≡ has_failed tape x
 sent_failed x n [] tape = refl
 sent_failed x n (m ∷ ms) tape = sent_failed x (n + 1) ms (Sent n m ∷ tape)
 

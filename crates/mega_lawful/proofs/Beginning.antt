@@ -288,16 +288,16 @@ begins_done users s brought f now id PumpEnter began visited posted phase h free
 begins_done users s brought f now id PumpHandle began visited posted phase h free st = picks_to_handle_done users s brought f (goes_on s) now (record { id = id; request = PumpHandle; began = began; visited = visited; message = posted; phase = phase }) [] (goes_on_done users s brought f) h free (λ fits. record { began = (st fits).began; none = (st fits).none; is = refl })
 begins_done users s brought f now id Refresh began visited posted phase h free st = reading_ends users s f now (record { id = id; request = Refresh; began = began; visited = visited; message = posted; phase = phase }) _ h (λ fits. (st fits).none) (λ fits. tt)
 
-refused_fine : (users : Users) → (c : Cluster) (f : Frame) (k l : ℕ) (met : List Met) (kept : List Operation) (answers : List Met) (sends : List Message) (op : OpId) (answer : Answer) → k ≤ l → op.number < l → Fine users c f k met kept answers sends
+refused_fine : (users : Users) → (c : Cluster) (f : Frame) (k l : ℕ) (met : List Met) (kept : List Operation) (answers : List Met) (sends : List Message) (op : OpId) (answer : Answer) → k ≤ l → op.node.0 ≡ f.me → op.start ≡ f.start → op.number < l → Fine users c f k met kept answers sends
     → ((o : Operation) → Held users c (tape_of f sends) f.me f.start k met o → (o.id).number < op.number) → (users.fits → Given c.schema users.usage (tape_of f sends) op answer) → Fine users c f l met kept (answers ++ Answers op answer ∷ []) sends
-refused_fine users c f k l met kept answers sends op answer le below h less given = record {
+refused_fine users c f k l met kept answers sends op answer le node start below h less given = record {
   lawful = h.lawful;
   written = h.written;
   later = λ x other q. h.later x (could_more f.me f.start k l x le other) q;
   asked = λ x other. h.asked x (could_more f.me f.start k l x le other);
   made = h.made;
   given = λ fits. each_push (IsGiven c.schema users.usage (tape_of f sends)) answers (Answers op answer) (h.given fits) (given fits);
-  answered = each_push (AnsweredBelow l) answers (Answers op answer) (each_on (AnsweredBelow k) (AnsweredBelow l) (answered_more k l le) answers h.answered) below;
+  answered = each_push (AnsweredBelow f.me f.start l) answers (Answers op answer) (each_on (AnsweredBelow f.me f.start k) (AnsweredBelow f.me f.start l) (answered_more f.me f.start k l le) answers h.answered) (node, (start, below));
   fair = h.fair;
   unheard = each_zip (IsOpen f.early answers) (Held users c (tape_of f sends) f.me f.start k met) (IsOpen f.early (answers ++ Answers op answer ∷ []))
       (λ o still held. record { unfailed = still.unfailed; apart = each_push (IsApart o.id) answers (Answers op answer) still.apart (other_number op o.id (less o held)) }) kept h.unheard h.held;
@@ -308,12 +308,12 @@ refused_fine users c f k l met kept answers sends op answer le below h less give
   rising = h.rising;
 }
 
-pub begun_fine : (users : Users) → (s : Setting) → (users.fits → Brought users.usage s.handlers) → (f : Frame) (k : ℕ) (now : Now) (o : Operation) (refusal : Option Answer) → FineAt users s f k now → (refusal ≡ None → TurnAt users s f now o.id × FreeAt f now o.id) → (refusal ≡ None → k ≤ (o.id).number) → (users.fits → refusal ≡ None → Starting users.usage (tape_of f now.sends) o.id o.request)
+pub begun_fine : (users : Users) → (s : Setting) → (users.fits → Brought users.usage s.handlers) → (f : Frame) (k : ℕ) (now : Now) (o : Operation) (refusal : Option Answer) → FineAt users s f k now → (o.id).node.0 ≡ f.me → (o.id).start ≡ f.start → (refusal ≡ None → TurnAt users s f now o.id × FreeAt f now o.id) → (refusal ≡ None → k ≤ (o.id).number) → (users.fits → refusal ≡ None → Starting users.usage (tape_of f now.sends) o.id o.request)
     → ((one : Operation) → Held users s.cluster (tape_of f now.sends) f.me f.start k now.met one → (one.id).number < (o.id).number) → (users.fits → (answer : Answer) → refusal ≡ Some answer → Given s.cluster.schema users.usage (tape_of f now.sends) o.id answer)
     → AllActed users s f (max k ((o.id).number + 1)) (unless_refused s now o refusal)
-begun_fine users s brought f k now o (Some answer) fine h le st less given = record {
+begun_fine users s brought f k now o (Some answer) fine node start h le st less given = record {
   k = max k ((o.id).number + 1);
   most = omega arith;
-  fine = refused_fine users s.cluster f k (max k ((o.id).number + 1)) now.met now.kept now.answers now.sends o.id answer (omega arith) (omega arith) fine less (λ fits. given fits answer refl);
+  fine = refused_fine users s.cluster f k (max k ((o.id).number + 1)) now.met now.kept now.answers now.sends o.id answer (omega arith) node start (omega arith) fine less (λ fits. given fits answer refl);
 }
-begun_fine users s brought f k now o None fine h le st less given = record { k = (o.id).number + 1; most = omega arith; fine = begins_done users s brought f now o.id o.request o.began o.visited o.message o.phase (h refl).0 (h refl).1 (λ fits. st fits refl) }
+begun_fine users s brought f k now o None fine node start h le st less given = record { k = (o.id).number + 1; most = omega arith; fine = begins_done users s brought f now o.id o.request o.began o.visited o.message o.phase (h refl).0 (h refl).1 (λ fits. st fits refl) }

@@ -20,6 +20,7 @@ pub mod Noting
 pub mod Beginning
 pub mod Answering
 pub mod Noted
+pub mod Silent
 pub mod Standing
 pub mod Stepping
 pub mod Events

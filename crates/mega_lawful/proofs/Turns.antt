@@ -159,7 +159,7 @@ less_is a b h = grind (arith, nat_tests)
 is_less : (a b : ℕ) → nat_lt a b ≡ true → a < b
 is_less a b h = grind (arith, nat_tests)
 
-within_be : (me st k : ℕ) (x : OpId) → x.node.0 ≡ me → x.start ≡ st → x.number < k → within me st k x ≡ true
+pub within_be : (me st k : ℕ) (x : OpId) → x.node.0 ≡ me → x.start ≡ st → x.number < k → within me st k x ≡ true
 within_be me st k x node start below =
     and_true (x.node.0 == me && x.start == st) (nat_lt x.number k) (and_true (x.node.0 == me) (x.start == st) (number_self x.node.0 me node) (number_self x.start st start)) (less_is x.number k below)
 
@@ -168,6 +168,9 @@ within_more me st k l x le t =
     let outer = both (x.node.0 == me && x.start == st) (nat_lt x.number k) t in
     let less = is_less x.number k outer.1 in
     and_true (x.node.0 == me && x.start == st) (nat_lt x.number l) outer.0 (less_is x.number l (omega (arith, less, le)))
+
+pub within_less : (me st k l : ℕ) (x : OpId) → k ≤ l → within me st l x ≡ false → within me st k x ≡ false
+within_less me st k l x le h = not_true (within me st k x) (λ t. clash (within me st l x) (within_more me st k l x le t) h)
 
 pub could_be : (me st k : ℕ) (x : OpId) → x.node.0 ≡ me → x.start ≡ st → x.number < k → x.number < last_number → could me st k x ≡ true
 could_be me st k x node start below named = and_true (within me st k x) (nat_lt x.number last_number) (within_be me st k x node start below) (less_is x.number last_number named)
@@ -237,9 +240,10 @@ abbrev pub IsFair : List Item → Body → Type 0
 IsFair early (Accept o g n b e) = has_failed early o ≡ false
 IsFair early _ = Unit {0}
 
-abbrev pub AnsweredBelow : ℕ → Met → Type 0
-AnsweredBelow k (Answers op answer) = op.number < k
-AnsweredBelow k _ = ⊥
+-- who was answered began at the node, in its start, before the one of a number
+abbrev pub AnsweredBelow : ℕ → ℕ → ℕ → Met → Type 0
+AnsweredBelow me st k (Answers op answer) = (op.node.0 ≡ me) × ((op.start ≡ st) × (op.number < k))
+AnsweredBelow me st k _ = ⊥
 
 abbrev pub IsApart : OpId → Met → Type 0
 IsApart x (Answers op answer) = same_op op x ≡ false
@@ -254,16 +258,22 @@ pub each_zip : {X : Type 0} (P Q R : X → Type 0) → ((x : X) → P x → Q x 
 each_zip P Q R f [] h k = tt
 each_zip P Q R f (x ∷ xs) h k = (f x h.0 k.0, each_zip P Q R f xs h.1 k.1)
 
-pub answered_more : (k l : ℕ) → k ≤ l → (one : Met) → AnsweredBelow k one → AnsweredBelow l one
-answered_more k l le (Answers op answer) h = omega (arith, le, h)
-answered_more k l le _ h = absurd h
+pub answered_more : (me st k l : ℕ) → k ≤ l → (one : Met) → AnsweredBelow me st k one → AnsweredBelow me st l one
+answered_more me st k l le (Answers op answer) h = (h.0, ((h.1).0, (let less = (h.1).1 in omega (arith, le, less))))
+answered_more me st k l le _ h = absurd h
 
 less_apart : (op x : OpId) → op.number < x.number → same_op op x ≡ false
 less_apart op x less = not_true (same_op op x) (λ t. let same = ap (λ (y : OpId). y.number) (same_op_equal op x t) in omega (arith, less, same))
 
-below_apart : (x : OpId) (one : Met) → AnsweredBelow x.number one → IsApart x one
-below_apart x (Answers op answer) h = less_apart op x h
-below_apart x _ h = absurd h
+below_apart : (me st : ℕ) (x : OpId) (one : Met) → AnsweredBelow me st x.number one → IsApart x one
+below_apart me st x (Answers op answer) h = less_apart op x (h.1).1
+below_apart me st x _ h = absurd h
+
+-- who could not have been answered was not
+pub outside_apart : (me st k : ℕ) (x : OpId) → within me st k x ≡ false → (one : Met) → AnsweredBelow me st k one → IsApart x one
+outside_apart me st k x other (Answers op answer) h = not_true (same_op op x) (λ t.
+    clash (within me st k x) (subst (λ y. within me st k y ≡ true) (same_op_equal op x t) (within_be me st k op h.0 (h.1).0 (h.1).1)) other)
+outside_apart me st k x other _ h = absurd h
 
 fair_of : (early : List Item) (op : OpId) (body : Body) → has_failed early op ≡ false → OfOp op body → IsFair early body
 fair_of early op (Accept o g n b e) h of = subst (λ x. has_failed early x ≡ false) (sym of) h
@@ -275,14 +285,14 @@ fairs_of early op [] (m ∷ ms) h f of = (fair_of early op m.body h of.0, fairs_
 fairs_of early op (m ∷ sends) ms h f of = (f.0, fairs_of early op sends ms h f.1 of)
 
 -- what another operation sends leaves what was given
-given_sent : (schema : Schema) (usage : Usage) (tape : List Item) (op : OpId) (n : ℕ) (ms : List Message) → AreOfOp op ms → (one : Met) → AnsweredBelow op.number one → IsGiven schema usage tape one → IsGiven schema usage (sent n ms tape) one
-given_sent schema usage tape op n ms of (Answers x answer) less h = record {
+given_sent : (schema : Schema) (usage : Usage) (tape : List Item) (op : OpId) (n : ℕ) (ms : List Message) → AreOfOp op ms → (me st : ℕ) (one : Met) → AnsweredBelow me st op.number one → IsGiven schema usage tape one → IsGiven schema usage (sent n ms tape) one
+given_sent schema usage tape op n ms of me st (Answers x answer) below h = record {
   cause = cause_to schema usage tape (sent n ms tape) x (λ node g m e s. stood_sent n ms tape _ s) (sent_question usage n ms tape x) answer h.cause;
   doomed = λ negative p b e i id. lost_to tape (sent n ms tape) x p (λ node g m e' s. stood_sent n ms tape _ s)
-      ((h.doomed) negative p b e (subst (In (Proposes b e)) (ops_apart op x p n ms tape (other_number op x less) of) i) id);
+      ((h.doomed) negative p b e (subst (In (Proposes b e)) (ops_apart op x p n ms tape (other_number op x (below.1).1) of) i) id);
   named = h.named;
 }
-given_sent schema usage tape op n ms of _ less h = absurd h
+given_sent schema usage tape op n ms of me st _ below h = absurd below
 
 -- the operations below a number acted
 pub record Fine (users : Users) (c : Cluster) (f : Frame) (k : ℕ) (met : List Met) (kept : List Operation) (answers : List Met) (sends : List Message) : Type 0 where
@@ -292,7 +302,7 @@ pub record Fine (users : Users) (c : Cluster) (f : Frame) (k : ℕ) (met : List 
   pub asked : (x : OpId) → could f.me f.start k x ≡ false → has_asked (tape_of f sends) x ≡ has_asked f.base x
   pub made : (voter : ℕ) (q : Place) → acts (tape_of f sends) voter q ≡ acts f.base voter q
   pub given : users.fits → Each (IsGiven c.schema users.usage (tape_of f sends)) answers
-  pub answered : Each (AnsweredBelow k) answers
+  pub answered : Each (AnsweredBelow f.me f.start k) answers
   pub fair : Each (λ (m : Message). IsFair f.early m.body) sends
   pub unheard : Each (IsOpen f.early answers) kept
   pub known : Known f.me met f.base
@@ -311,7 +321,7 @@ pub record Turn (users : Users) (c : Cluster) (f : Frame) (met : List Met) (kept
   pub asked : (x : OpId) → could f.me f.start (op.number + 1) x ≡ false → has_asked (tape_of f sends) x ≡ has_asked f.base x
   pub made : (voter : ℕ) (q : Place) → acts (tape_of f sends) voter q ≡ acts f.base voter q
   pub given : users.fits → Each (IsGiven c.schema users.usage (tape_of f sends)) answers
-  pub answered : Each (AnsweredBelow op.number) answers
+  pub answered : Each (AnsweredBelow f.me f.start op.number) answers
   pub fair : Each (λ (m : Message). IsFair f.early m.body) sends
   pub unheard : Each (IsOpen f.early answers) kept
   pub unfailed : has_failed f.early op ≡ false
@@ -344,7 +354,7 @@ fine_turn users c f k met kept answers sends op h le node start named unfailed =
   asked = λ x other. h.asked x (could_more f.me f.start k (op.number + 1) x (one_after k op.number le) other);
   made = h.made;
   given = h.given;
-  answered = each_on (AnsweredBelow k) (AnsweredBelow op.number) (answered_more k op.number le) answers h.answered;
+  answered = each_on (AnsweredBelow f.me f.start k) (AnsweredBelow f.me f.start op.number) (answered_more f.me f.start k op.number le) answers h.answered;
   fair = h.fair;
   unheard = h.unheard;
   unfailed = unfailed;
@@ -370,7 +380,8 @@ turn_ends users c f met kept answers sends op answer h given = record {
   asked = h.asked;
   made = h.made;
   given = λ fits. each_push (IsGiven c.schema users.usage (tape_of f sends)) answers (Answers op answer) (h.given fits) (given fits);
-  answered = each_push (AnsweredBelow (op.number + 1)) answers (Answers op answer) (each_on (AnsweredBelow op.number) (AnsweredBelow (op.number + 1)) (answered_more op.number (op.number + 1) (one_less op.number)) answers h.answered) (next_less op.number);
+  answered = each_push (AnsweredBelow f.me f.start (op.number + 1)) answers (Answers op answer) (each_on (AnsweredBelow f.me f.start op.number) (AnsweredBelow f.me f.start (op.number + 1)) (answered_more f.me f.start op.number (op.number + 1) (one_less op.number)) answers h.answered)
+      (h.node, (h.start, next_less op.number));
   fair = h.fair;
   unheard = each_zip (IsOpen f.early answers) (Held users c (tape_of f sends) f.me f.start op.number met) (IsOpen f.early (answers ++ Answers op answer ∷ []))
       (λ o still held. record { unfailed = still.unfailed; apart = each_push (IsApart o.id) answers (Answers op answer) still.apart (other_number op o.id held.below) }) kept h.unheard h.held;
@@ -390,7 +401,7 @@ turn_passes users c f met kept answers sends op h = record {
   asked = h.asked;
   made = h.made;
   given = h.given;
-  answered = each_on (AnsweredBelow op.number) (AnsweredBelow (op.number + 1)) (answered_more op.number (op.number + 1) (one_less op.number)) answers h.answered;
+  answered = each_on (AnsweredBelow f.me f.start op.number) (AnsweredBelow f.me f.start (op.number + 1)) (answered_more f.me f.start op.number (op.number + 1) (one_less op.number)) answers h.answered;
   fair = h.fair;
   unheard = h.unheard;
   known = h.known;
@@ -410,7 +421,7 @@ ready_keeps users c f met kept answers sends o h = let ended = turn_passes users
   given = ended.given;
   answered = ended.answered;
   fair = ended.fair;
-  unheard = each_push (IsOpen f.early answers) kept o ended.unheard (record { unfailed = (h.turn).unfailed; apart = each_on (AnsweredBelow (o.id).number) (IsApart o.id) (below_apart o.id) answers (h.turn).answered });
+  unheard = each_push (IsOpen f.early answers) kept o ended.unheard (record { unfailed = (h.turn).unfailed; apart = each_on (AnsweredBelow f.me f.start (o.id).number) (IsApart o.id) (below_apart f.me f.start o.id) answers (h.turn).answered });
   known = ended.known;
   quiet = ended.quiet;
   held = each_push (Held users c (tape_of f sends) f.me f.start ((o.id).number + 1) met) kept o ended.held
@@ -454,8 +465,8 @@ turn_sends users c f met kept answers sends ms op h own lawful written = record 
   later = λ x other q. ap (λ t. moves t x q) after ∙ ops_apart op x q (f.next + length sends) ms (tape_of f sends) (other_name f.me f.start op x h.node h.start h.named other) own ∙ h.later x other q;
   asked = λ x other. ap (λ t. has_asked t x) after ∙ ops_asked op x (f.next + length sends) ms (tape_of f sends) (other_name f.me f.start op x h.node h.start h.named other) own ∙ h.asked x other;
   made = λ voter q. ap (λ t. acts t voter q) after ∙ ops_no_acts op voter q (f.next + length sends) ms (tape_of f sends) own ∙ h.made voter q;
-  given = λ fits. subst (λ t. Each (IsGiven c.schema users.usage t) answers) (sym after) (each_zip (AnsweredBelow op.number) (IsGiven c.schema users.usage (tape_of f sends)) (IsGiven c.schema users.usage (sent (f.next + length sends) ms (tape_of f sends)))
-      (λ one below given. given_sent c.schema users.usage (tape_of f sends) op (f.next + length sends) ms own one below given) answers h.answered (h.given fits));
+  given = λ fits. subst (λ t. Each (IsGiven c.schema users.usage t) answers) (sym after) (each_zip (AnsweredBelow f.me f.start op.number) (IsGiven c.schema users.usage (tape_of f sends)) (IsGiven c.schema users.usage (sent (f.next + length sends) ms (tape_of f sends)))
+      (λ one below given. given_sent c.schema users.usage (tape_of f sends) op (f.next + length sends) ms own f.me f.start one below given) answers h.answered (h.given fits));
   answered = h.answered;
   fair = fairs_of f.early op sends ms h.unfailed h.fair own;
   unheard = h.unheard;
@@ -488,6 +499,12 @@ ready_sends users c f met kept answers sends ms o h acts written owned = record 
   where
     after : tape_of f (sends ++ ms) ≡ sent (f.next + length sends) ms (tape_of f sends)
     after = sent_append f.next sends ms f.base
+
+pub not_within : (me st k : ℕ) (x : OpId) → k ≤ x.number → within me st k x ≡ false
+not_within me st k x le = not_true (within me st k x) (λ t. over x.number k (is_less x.number k (both (x.node.0 == me && x.start == st) (nat_lt x.number k) t).1) le)
+  where
+    over : (a b : ℕ) → a < b → b ≤ a → ⊥
+    over a b less at = omega arith
 
 pub could_not : (me st k : ℕ) (x : OpId) → k ≤ x.number → could me st k x ≡ false
 could_not me st k x le = not_true (could me st k x) (λ t.
