@@ -194,10 +194,6 @@ begun_next users s brought now nodes' request text means g up = (
     notes : List Met
     notes = (applies ++ acted.valid) ++ acted.answers
 
-    unheard : Unheard users c nodes' me tape1 tape2 acted.answers
-    unheard = unheard_by users c nodes' me tape1 (applies ++ acted.valid) acted.answers
-        (each_append IsSilent applies acted.valid (plain_silents applies (apply_plain s met node.stored acted.met acted.stored)) (plain_silents acted.valid noted.valid)) (λ fits. (tt, g.answered fits))
-
     tape1 : List Item
     tape1 = Begin (op_of s met) text ∷ now.tape
 
@@ -212,6 +208,10 @@ begun_next users s brought now nodes' request text means g up = (
     all_may = each_append (Note c tape1 me) (applies ++ acted.valid) acted.answers
         (each_append (Note c tape1 me) applies acted.valid (plain_notes c tape1 me applies (apply_plain s met node.stored acted.met acted.stored)) (plain_notes c tape1 me acted.valid noted.valid))
         (answer_notes c tape1 me acted.answers noted.answers)
+
+    unheard : Unheard users c nodes' me tape1 tape2 acted.answers
+    unheard = unheard_by users c nodes' me tape1 (applies ++ acted.valid) acted.answers
+        (each_append IsSilent applies acted.valid (plain_silents applies (apply_plain s met node.stored acted.met acted.stored)) (plain_silents acted.valid noted.valid)) (λ fits. (tt, g.answered fits))
 
     follows : Follows c me tape1 met1 tape2 (onto notes met1)
     follows = notes_follow c me nodes' notes tape1 met1 all_may
