@@ -32,18 +32,17 @@ use Rattle.mega_rules.specs.Clock.{clock_of}
 use Rattle.mega_rules.specs.Logs.{decided, groups_of, log_of, prefix_of, top_of}
 use Rattle.mega_rules.specs.Coordinators.{refused_at, serves_at, valid_at}
 use Rattle.mega_rules.specs.Queues.{Posted, enter_entry, is_named, names_entered, next_to_enter, next_to_handle, oldest_unhandled}
+use Rattle.mega_index.specs.Rows.{Listed}
 use Rattle.mega_rules.specs.Operations.{Now, Operation, Phase, Promised, Proposes, Reads, Replies, Results, Setting}
 use Rattle.mega_rules.specs.Acting.{acts, acts_within, applied_logs, batch_sealed, begins_read, completes_read, ends, enters, finishes, goes_on, handles, handling, in_phase, is_taken, is_visited, keeps, leader_after, listed_at, named_leader, picks_group, picks_message, picks_to_enter, picks_to_handle, proposes, proposes_by, proposes_there, read_begun, reads_on, rows_at, sealed, seeks_on, sends_more, table_rows, unless_decided, unless_full, validated_by, validates, visiting}
 use Rattle.mega_laws.specs.Places.{In, Place, Proposes as ProposesMove, moves}
-use Rattle.mega_laws.specs.Writes.{AreWritten, OwnEntry, Own, Usage, enters as enters_one, handles as handles_one, own as own_one, runs, runs_all}
+use Rattle.mega_laws.specs.Writes.{AreWritten, OwnEntry, Own, Usage, enters as enters_one, handles as handles_one, own as own_one, runs, runs_all, Knows}
 use Rattle.mega_lawful.specs.Usages.{Brought}
 use Rattle.mega_lawful.proofs.Owned.{Began, Owned, Context, KnowsAll, Serves, Users, Waits, began_asked, began_on, front_length, knows_front, serves_on}
 use Rattle.mega_lawful.proofs.Picked.{next_waits}
 use Rattle.mega_rules.specs.Finding.{group_bytes, group_marks}
 use Rattle.mega_index.specs.Fits.{numbered}
 use Rattle.mega_laws.specs.Answers.{HasCause, KnowsBelow, of_write}
-use Rattle.mega_laws.specs.Writes.{Knows}
-use Rattle.mega_laws.proofs.Origins.{handling_id}
 use Rattle.mega_lawful.proofs.Causes.{Keeps, keeps_to}
 use Rattle.mega_lawful.proofs.Causing.{found_cause, given_none, read_cause, verdict_given}
 use Rattle.mega_outcome.specs.declared.answer.Answer.TheVariants.{AllTurned, Turned}
@@ -371,6 +370,14 @@ enters_done users s brought f again now o group r p (Some message) is says more 
     enters_one message w.entries w.one (full_asked users s f now o group p h fits ∙ ap Some is) w.known w.posted w.to w.says fresh refl) refl
     (λ fits. subst (λ r. Keeps s.cluster.schema (tape_of f now.sends) o.id group (record { 0 = p + 1 }) r (Replies [])) (sym is) tt))
 
+-- a handling has its operation's id
+either_id : (t : Bool) (x y : Content) (z : Option OpId) → x.id ≡ z → y.id ≡ z → (cond t x y).id ≡ z
+either_id true x y z h k = h
+either_id false x y z h k = k
+
+handling_id : (s : Setting) (op : OpId) (group : GroupId) (message : Enter) (rows : Listed) → (handling s op group message rows).id ≡ Some op
+handling_id s op group message rows = either_id _ _ _ (Some op) refl refl
+
 handles_done : (users : Users) → (s : Setting) → (users.fits → Brought users.usage s.handlers) → (f : Frame) (again : Now → Operation → Now) (now : Now) (o : Operation) (group : GroupId) (r : Reading) (p : ℕ) (message : Option Enter) → o.request ≡ PumpHandle → oldest_unhandled (take p (log_of now.met group)) ≡ message → Again users s f again → FullAt users s f now o group p
     → DoneAt users s f o (handles s again now o group r p message)
 handles_done users s brought f again now o group r p None is oldest more h = picks_to_handle_done users s brought f again now o (asked_by r) more (h.ready).turn h.free (λ fits. record { began = ((h.ready).owned fits).began; none = h.none fits; is = is })
@@ -379,7 +386,7 @@ handles_done users s brought f again now o group r p (Some message) is oldest mo
     (proposes_done users s brought f now o group r p (handling s o.id group message (table_rows s.cluster.schema group (listed_at now group p))) (Replies []) h
     (λ fits. handles_one message (brought fits).moment (full_asked users s f now o group p h fits ∙ ap Some is) oldest
     (λ i. handled_by s.cluster.schema (sym (brought fits).is i) group o.id message (take p (log_of now.met group))))
-    (handling_id s.cluster.schema s.handlers group o.id message (take p (log_of now.met group)))
+    (handling_id s o.id group message (table_rows s.cluster.schema group (listed_at now group p)))
     (λ fits. subst (λ r. Keeps s.cluster.schema (tape_of f now.sends) o.id group (record { 0 = p + 1 }) r (Replies [])) (sym is) tt)) (reading_ends users s f now o _ (h.ready).turn h.none (λ fits. tt))
 
 finishes_done : (users : Users) → (s : Setting) → (users.fits → Brought users.usage s.handlers) → (f : Frame) (again : Now → Operation → Now) (now : Now) (id : OpId) (request : Request) (began : ℕ) (visited : List GroupId) (message : Option Enter) (phase : Phase)

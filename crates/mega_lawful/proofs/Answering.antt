@@ -1,30 +1,23 @@
 -- The answers of a step come onto the tape, and then what is sent.
-use Rattle.std.proofs.Common.{◌≡◌, ◌⊎◌, inl, inr, ℕ, ◌+◌, ◌&&◌, ◌||◌, Bool, true, false, List, [], ◌∷◌, flat_map, Option, Some, None, refl, sym, ap, ◌∙◌, subst}
-use Rattle.mega_base.specs.declared.names.GroupId.{GroupId}
-use Rattle.mega_base.specs.declared.names.NodeId.{NodeId}
+use Rattle.std.proofs.Common.{◌≡◌, ◌⊎◌, inl, inr, ℕ, ◌+◌, ◌&&◌, ◌||◌, Bool, true, false, List, [], ◌∷◌, flat_map, refl, ap, ◌∙◌, subst}
 use Rattle.mega_base.specs.declared.names.OpId.{OpId}
-use Rattle.mega_base.specs.declared.names.Position.{Position}
-use Rattle.mega_ballot.specs.declared.ballot.Ballot.{Ballot}
 use Rattle.mega_cluster.specs.declared.cluster.Cluster.{Cluster}
 use Rattle.mega_schema.specs.declared.schema.Schema.{Schema}
-use Rattle.mega_entry.specs.declared.content.Content.{Content}
 use Rattle.mega_wire.specs.declared.message.Message.{Message}
 use Rattle.mega_wire.specs.declared.message.Body.{Body}
 use Rattle.mega_wire.specs.declared.message.Body.TheVariants.{Accept}
-use Rattle.mega_outcome.specs.declared.answer.Answer.{Answer}
 use Rattle.mega_wal.specs.Same.{same_op}
 use Rattle.mega_wal.proofs.Sames.{same_op_equal}
 use Rattle.mega_transcript.specs.declared.item.Item.{Item}
-use Rattle.mega_transcript.specs.declared.item.Item.TheVariants.{Answer as AnswerItem, Decide, Sent}
+use Rattle.mega_transcript.specs.declared.item.Item.TheVariants.{Answer as AnswerItem, Sent}
 use Rattle.mega_promises.specs.Items.{shown}
-use Rattle.mega_promises.specs.Promises.{Stands, asked_for, is_negative}
+use Rattle.mega_promises.specs.Promises.{is_negative}
 use Rattle.mega_promises.specs.Runs.{with_items}
 use Rattle.mega_rules.specs.Met.{Answers, Met}
 use Rattle.mega_rules.specs.Operations.{Node}
 use Rattle.mega_laws.specs.Places.{In, Move, Place, Proposes, move_in, moves}
-use Rattle.mega_laws.specs.Answers.{AreAnswered, IsDoomed, Lost, MaySpeak, has_failed}
+use Rattle.mega_laws.specs.Answers.{AreAnswered, IsDoomed, MaySpeak, has_failed}
 use Rattle.mega_laws.specs.Writes.{Usage}
-use Rattle.mega_laws.proofs.Ballots.{clash}
 use Rattle.mega_laws.proofs.Lists.{in_head}
 use Rattle.mega_laws.proofs.Made.{proposed_here}
 use Rattle.mega_lawful.specs.Vouched.{Each, sent}
@@ -47,9 +40,13 @@ pub answers_on : (schema : Schema) (usage : Usage) (c : Cluster) (nodes : ℕ �
     → AreAnswered schema usage tape → AreAnswered schema usage (with_answers c nodes me answers tape)
 answers_on schema usage c nodes me last [] tape h x a = a
 answers_on schema usage c nodes me last (Answers op answer ∷ answers) tape h x a = answers_on schema usage c nodes me last answers (AnswerItem op answer ∷ tape) h.1
-    (record { decided = λ node g n e s. inr (x.decided node g n e s); asked = x.asked; moved = x.moved })
-    ((cause_to schema usage last tape op x.decided (x.asked op) answer (h.0).cause,
-    (λ negative p b e i id. lost_to last tape op p x.decided ((h.0).doomed negative p b e (x.moved op p (Proposes b e) i) id), (h.0).named)), a)
+    (record { decided = λ node g n e s. inr (x.decided node g n e s); asked = x.asked; moved = x.moved }) (
+      (
+        cause_to schema usage last tape op x.decided (x.asked op) answer (h.0).cause,
+        (λ negative p b e i id. lost_to last tape op p x.decided ((h.0).doomed negative p b e (x.moved op p (Proposes b e) i) id), (h.0).named),
+      ),
+      a,
+    )
 answers_on schema usage c nodes me last (_ ∷ answers) tape h x a = absurd h.0
 
 -- who failed by then failed before, or is doomed

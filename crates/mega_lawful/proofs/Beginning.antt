@@ -1,5 +1,5 @@
 -- All operations of a step act, one after another, and each does only what is allowed.
-use Rattle.std.proofs.Common.{◌≡◌, ℕ, ◌+◌, ◌≤◌, max, Bool, true, false, cond, List, [], ◌∷◌, map, fold, Option, Some, None, refl, sym, subst, arith, ◌<◌, ◌++◌, ◌⊎◌, inr, flat_map, ap, ◌∙◌}
+use Rattle.std.proofs.Common.{◌≡◌, ℕ, ◌+◌, ◌≤◌, max, Bool, true, false, cond, List, [], ◌∷◌, map, fold, Option, Some, None, refl, sym, subst, arith, ◌<◌, ◌++◌, inr, flat_map, ap, ◌∙◌}
 use Rattle.mega_base.specs.declared.names.GroupId.{GroupId}
 use Rattle.mega_base.specs.declared.names.OpId.{OpId}
 use Rattle.mega_entry.specs.declared.content.Enter.{Enter}
@@ -20,13 +20,12 @@ use Rattle.mega_coordinator.specs.declared.answers.NotValid.{NotValid}
 use Rattle.mega_rules.specs.Met.{Answers, Met, Validates}
 use Rattle.mega_rules.specs.Operations.{Now, Operation, Phase, Proposes, Reads, Setting}
 use Rattle.mega_rules.specs.Acting.{ends, goes_on, sends_more, validated_by}
-use Rattle.mega_rules.specs.Steps.{Heard, acts_in_turn, all_act, begins, does_due, find_begins, hears_message, is_out, last_answer, local_find_begins, read_begins, ticked, unless_refused}
+use Rattle.mega_rules.specs.Steps.{Heard, acts_in_turn, all_act, begins, does_due, find_begins, hears_message, is_out, last_answer, local_find_begins, read_begins, ticked, unless_refused, applied_position, is_current, snapshot_listed, stored_listed}
 use Rattle.mega_laws.specs.Places.{In, Place, Proposes as ProposesMove, Took, moves}
 use Rattle.mega_laws.specs.Writes.{AreWritten, Usage, again}
 use Rattle.mega_lawful.specs.Usages.{Brought}
 use Rattle.mega_lawful.proofs.Owned.{Began, Users, began_on, serves_on, began_asked}
 use Rattle.mega_rules.specs.Finding.{group_bytes, group_marks, refreshed_marks, rows_through}
-use Rattle.mega_rules.specs.Steps.{applied_position, is_current, snapshot_listed, stored_listed}
 use Rattle.mega_index.specs.Fits.{numbered}
 use Rattle.mega_promises.specs.Promises.{asked_for}
 use Rattle.mega_entry.specs.declared.content.Content.{Content}
@@ -248,7 +247,6 @@ ticked_fine users s brought f met clock l (o ∷ os) now k least fine le most r 
     grown = ticked_it (λ (x : Now). Grew met x.met) (grew_lasts met) s clock (o ∷ []) now grew
 
 -- ---- an operation that begins
-
 
 -- it began with its request, and proposed nothing
 pub record Starting (usage : Usage) (tape : List Item) (id : OpId) (request : Request) : Type 0 where

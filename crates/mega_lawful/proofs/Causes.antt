@@ -1,10 +1,9 @@
 -- The causes of answers: what they rest on stays, and what an operation promised is what it is answered with.
-use Rattle.std.proofs.Common.{◌≡◌, ◌⊎◌, inl, inr, ℕ, suc, ◌+◌, ◌<◌, ◌&&◌, Bool, true, false, cond, List, [], ◌∷◌, ◌++◌, length, Option, Some, None, Result, Ok, Err, refl, sym, ap, ◌∙◌, subst, arith}
+use Rattle.std.proofs.Common.{◌≡◌, ◌⊎◌, ℕ, suc, ◌+◌, true, List, [], ◌∷◌, Option, Some, Result, Ok, refl, ◌∙◌}
 use Rattle.mega_base.specs.declared.names.GroupId.{GroupId}
 use Rattle.mega_base.specs.declared.names.NodeId.{NodeId}
 use Rattle.mega_base.specs.declared.names.OpId.{OpId}
 use Rattle.mega_base.specs.declared.names.Position.{Position}
-use Rattle.mega_ballot.specs.declared.ballot.Ballot.{Ballot}
 use Rattle.mega_schema.specs.declared.schema.Schema.{Schema}
 use Rattle.mega_entry.specs.declared.content.Content.{Content}
 use Rattle.mega_wire.specs.declared.message.Message.{Message}
@@ -18,17 +17,16 @@ use Rattle.mega_outcome.specs.declared.request.Request.{Request}
 use Rattle.mega_outcome.specs.declared.request.Request.TheVariants.{Txn, Batch as BatchRequest, Read as ReadRequested}
 use Rattle.mega_outcome.specs.declared.transaction.Transaction.{Transaction}
 use Rattle.mega_outcome.specs.Outcome.{batch_outcome, outcome}
-use Rattle.mega_wal.specs.Same.{same_op, same_option}
 use Rattle.mega_transcript.specs.declared.item.Item.{Item}
 use Rattle.mega_transcript.specs.declared.item.Item.TheVariants.{Decide, Sent}
 use Rattle.mega_promises.specs.Items.{number}
-use Rattle.mega_promises.specs.Promises.{Stands, asked_for, is_negative, is_write}
+use Rattle.mega_promises.specs.Promises.{Stands, asked_for, is_negative}
 use Rattle.mega_rules.specs.Met.{Met, Answers}
 use Rattle.mega_rules.specs.Operations.{Promised, Replies, Results}
-use Rattle.mega_laws.specs.Places.{In, Place, Proposes, moves}
-use Rattle.mega_laws.specs.Answers.{HasCause, IsDoomed, KnowsBelow, Lost, MayCommit, MayCommitAll, MayConflict, MayRead, MayTurn, MayTurnAll, Replied, of_pump, of_read, of_transaction, of_write}
+use Rattle.mega_laws.specs.Places.{Place}
+use Rattle.mega_laws.specs.Answers.{HasCause, IsDoomed, KnowsBelow, Lost, MayCommitAll, MayTurn, Replied, of_pump, of_read, of_transaction, of_write}
 use Rattle.mega_laws.specs.Writes.{IsNamed, Knows, Usage}
-use Rattle.mega_lawful.specs.Vouched.{Each, sent}
+use Rattle.mega_lawful.specs.Vouched.{sent}
 
 -- what was decided is
 abbrev pub DecidedOn : List Item → List Item → Type 0

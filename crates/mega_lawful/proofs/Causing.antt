@@ -1,19 +1,17 @@
 -- Each answer of an operation that acts has its cause.
-use Rattle.std.proofs.Common.{◌≡◌, ◌⊎◌, inl, inr, ℕ, suc, ◌+◌, Bool, true, false, cond, List, [], ◌∷◌, length, Option, Some, None, Result, Ok, Err, refl, sym, ap, ◌∙◌, subst}
+use Rattle.std.proofs.Common.{◌≡◌, inr, ℕ, Bool, true, false, cond, List, [], ◌∷◌, length, Option, Some, None, Result, Ok, Err, refl, ap, ◌∙◌, subst}
 use Rattle.mega_base.specs.declared.names.GroupId.{GroupId}
 use Rattle.mega_base.specs.declared.names.OpId.{OpId}
-use Rattle.mega_ballot.specs.declared.ballot.Ballot.{Ballot}
 use Rattle.mega_ballot.specs.Order.{zero_ballot}
 use Rattle.mega_schema.specs.declared.schema.Schema.{Schema}
 use Rattle.mega_entry.specs.declared.content.Content.{Content}
 use Rattle.mega_index.specs.Rows.{Listed, Rows, after, list_after, no_rows}
 use Rattle.mega_outcome.specs.declared.answer.Answer.{Answer}
-use Rattle.mega_outcome.specs.declared.answer.Answer.TheVariants.{Conflict, Found as FoundAnswer, Turned, Read as ReadAnswer}
+use Rattle.mega_outcome.specs.declared.answer.Answer.TheVariants.{Conflict, Read as ReadAnswer}
 use Rattle.mega_index.specs.declared.found.Found.{Found}
 use Rattle.mega_outcome.specs.declared.answer.Mark.{Mark}
 use Rattle.mega_outcome.specs.declared.answer.Shown.{Shown}
 use Rattle.mega_outcome.specs.declared.answer.Turn.{Turn}
-use Rattle.mega_outcome.specs.declared.answer.Turn.TheVariants.{BadRow}
 use Rattle.mega_outcome.specs.Reads.{all_rows, read_rows}
 use Rattle.mega_schema.specs.declared.schema.Index.{Index}
 use Rattle.mega_outcome.specs.declared.request.Request.{Request}
@@ -25,12 +23,12 @@ use Rattle.mega_wal.specs.Same.{same_op, same_option}
 use Rattle.mega_wal.proofs.Sames.{same_op_equal, same_op_self}
 use Rattle.mega_transcript.specs.declared.item.Item.{Item}
 use Rattle.mega_transcript.specs.declared.item.Item.TheVariants.{Decide}
-use Rattle.mega_promises.specs.Promises.{Stands, asked_for, is_negative, rows_shown}
+use Rattle.mega_promises.specs.Promises.{Stands, asked_for, rows_shown}
 use Rattle.mega_rules.specs.Acting.{committed, read_answer, rows_answer, verdict}
 use Rattle.mega_rules.specs.Finding.{find_answer, find_by}
 use Rattle.mega_rules.specs.Operations.{Promised, Replies, Results, Setting}
 use Rattle.mega_rules.specs.Steps.{is_current}
-use Rattle.mega_laws.specs.Places.{In, Place, Proposes, moves}
+use Rattle.mega_laws.specs.Places.{In, Proposes, moves}
 use Rattle.mega_laws.specs.Answers.{HasCause, Lost, ShowsFront, of_read}
 use Rattle.mega_laws.specs.Writes.{AreWritten, IsNamed, Knows, Usage}
 use Rattle.mega_laws.proofs.Ballots.{clash}

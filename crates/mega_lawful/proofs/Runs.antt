@@ -20,9 +20,9 @@ use Rattle.mega_rules.specs.Clock.{is_up, start_of}
 use Rattle.mega_rules.specs.Logs.{groups_of, prefix_of}
 use Rattle.mega_rules.specs.Operations.{Node, Setting}
 use Rattle.mega_rules.specs.Steps.{Begin, Step, Take, Tick, crashed, onto, op_of, start, start_items, start_note, start_notes, step}
-use Rattle.mega_laws.specs.Places.{Place, moves}
+use Rattle.mega_laws.specs.Places.{Place, moves, Took, acts}
 use Rattle.mega_lawful.proofs.Owned.{Users}
-use Rattle.mega_laws.specs.Lawful.{Lawful}
+use Rattle.mega_laws.specs.Lawful.{Lawful, message}
 use Rattle.mega_laws.specs.Polls.{ArePolls, has_asked}
 use Rattle.mega_laws.specs.Writes.{AreWritten, LawfulWrites, Usage, has_begun}
 use Rattle.mega_schema.specs.declared.schema.Schema.{Schema}
@@ -42,13 +42,10 @@ use Rattle.mega_lawful.proofs.Whole.{StepNext, own_taken, take_next}
 use Rattle.mega_lawful.proofs.Replied.{Fair, answer_fair}
 use Rattle.mega_lawful.specs.Shows.{Shows}
 use Rattle.mega_lawful.proofs.Turns.{Known}
-use Rattle.mega_laws.specs.Places.{Took}
-use Rattle.mega_laws.specs.Lawful.{message}
 use Rattle.std.specs.List.{cons_option}
 use Rattle.mega_rules.specs.Replies.{answer_to, reply_message, reply_to}
 use Rattle.mega_wire.specs.declared.message.Body.{Body}
 use Rattle.mega_rules.specs.Voting.{acts as acts_met}
-use Rattle.mega_laws.specs.Places.{acts}
 use Rattle.mega_disk.specs.declared.pair.Device.TheVariants.{Log, Data}
 use Rattle.mega_promises.specs.Promises.{Stands}
 

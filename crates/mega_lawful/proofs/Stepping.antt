@@ -18,14 +18,13 @@ use Rattle.mega_laws.specs.Places.{Place, acts, moves}
 use Rattle.mega_lawful.proofs.Owned.{Users, sent_begun}
 use Rattle.mega_laws.specs.Lawful.{Lawful}
 use Rattle.mega_laws.specs.Polls.{ArePolls, has_asked}
-use Rattle.mega_laws.specs.Writes.{AreWritten, has_begun}
+use Rattle.mega_laws.specs.Writes.{AreWritten, has_begun, Usage}
 use Rattle.mega_wal.specs.Same.{same_op}
 use Rattle.mega_laws.proofs.Ballots.{number_is}
 use Rattle.mega_lawful.specs.Vouched.{Each, sent}
 use Rattle.mega_lawful.proofs.Sending.{Stood, stood_sent}
 use Rattle.mega_lawful.proofs.Turns.{Held, IsRising, Known, could, could_not, not_within, within, worn_could}
 use Rattle.mega_laws.specs.Answers.{AreAnswered, IsAnswered, has_failed}
-use Rattle.mega_laws.specs.Writes.{Usage}
 use Rattle.mega_schema.specs.declared.schema.Schema.{Schema}
 use Rattle.mega_lawful.proofs.Noted.{Follows, Note, TapeOn, notes_follow}
 use Rattle.mega_lawful.proofs.Standing.{FromMe, Good, IsNew, NodeGood, Owes, SentOn, Unmoved, other_good, owes_on, sends_elsewhere, sends_made, sends_on, unmoved_on}

@@ -23,7 +23,7 @@ use Rattle.mega_rules.specs.Operations.{Node, Now, Operation, Setting}
 use Rattle.mega_rules.specs.Steps.{begin_step, at_open, new_operation, op_of, refusal, unless_refused, is_worn, unless_busy, unless_missing, missing_kind, Step, apply_notes, at_first, onto}
 use Rattle.mega_laws.specs.Places.{In, Place, Proposes as ProposesMove, moves}
 use Rattle.mega_laws.specs.Writes.{IsNamed, Usage, has_begun}
-use Rattle.mega_laws.proofs.Ballots.{clash, number_self}
+use Rattle.mega_laws.proofs.Ballots.{clash, number_self, number_is}
 use Rattle.mega_wal.specs.Same.{same_op}
 use Rattle.mega_wal.proofs.Sames.{same_op_equal}
 use Rattle.mega_lawful.specs.Usages.{Brought}
@@ -46,7 +46,6 @@ use Rattle.mega_lawful.proofs.Beginning.{AllActed, Starting, begun_fine}
 use Rattle.mega_lawful.proofs.Standing.{Good, IsNew}
 use Rattle.mega_lawful.proofs.Stepping.{Next, Own, next_good, step_next}
 use Rattle.mega_lawful.proofs.Events.{Noted, Unheard, acted_sends, answer_notes, apply_plain, each_append, noted_lasts, notes_grew, onto_append, onto_decided, onto_grew, plain_notes, plain_silents, unheard_by}
-use Rattle.mega_laws.proofs.Ballots.{number_is}
 use Rattle.mega_lawful.proofs.Whole.{StepNext, held_first, none_before, up_onto}
 
 pub own_begin : (c : Cluster) (tape : List Item) (id : OpId) (text : List ℕ) (met : List Met) → has_asked tape id ≡ false → (IsNamed id → has_begun tape id ≡ false) → Own c tape (Begin id text) met (Begins id text)

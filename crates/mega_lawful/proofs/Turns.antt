@@ -23,12 +23,11 @@ use Rattle.mega_rules.specs.Logs.{decided}
 use Rattle.mega_rules.specs.Operations.{Operation}
 use Rattle.mega_rules.specs.Voting.{act_in}
 use Rattle.mega_laws.specs.Places.{In, Move, Place, Prepares, Proposes, acts, is_move_at, move_if, move_in, moves}
-use Rattle.mega_laws.specs.Writes.{AreWritten}
+use Rattle.mega_laws.specs.Writes.{AreWritten, Usage}
 use Rattle.mega_lawful.proofs.Owned.{Owned, Users, owned_on}
 use Rattle.mega_laws.specs.Lawful.{Lawful}
 use Rattle.mega_laws.specs.Polls.{ArePolls, MayPoll, has_asked, is_asking}
 use Rattle.mega_laws.specs.Answers.{has_failed}
-use Rattle.mega_laws.specs.Writes.{Usage}
 use Rattle.mega_outcome.specs.declared.answer.Answer.{Answer}
 use Rattle.mega_schema.specs.declared.schema.Schema.{Schema}
 use Rattle.mega_lawful.specs.Vouched.{Each, sent}

@@ -124,7 +124,7 @@ either_id : (t : Bool) (x y : Content) (z : Option OpId) → x.id ≡ z → y.id
 either_id true x y z h k = h
 either_id false x y z h k = k
 
-pub handling_id : (schema : Schema) (handlers : Meanings) (group : GroupId) (op : OpId) (message : Enter) (below : List Content) → (handled_by schema handlers group op message below).id ≡ Some op
+handling_id : (schema : Schema) (handlers : Meanings) (group : GroupId) (op : OpId) (message : Enter) (below : List Content) → (handled_by schema handlers group op message below).id ≡ Some op
 handling_id schema handlers group op message below = either_id _ _ _ (Some op) refl refl
 
 -- an entry with an id is the own one of that operation
