@@ -34,6 +34,7 @@ use Rattle.mega_lawful.proofs.Opened.{AreOfOp, Backed, BackedStage, Idle, OfOp, 
 use Rattle.mega_lawful.proofs.Turns.{Held}
 use Rattle.mega_lawful.proofs.Noted.{Note}
 use Rattle.mega_lawful.proofs.Beginning.{hears_message_acts}
+use Rattle.mega_lawful.proofs.Silent.{IsSilent}
 
 -- an answer of a voter that stands once an operation sent stood before
 not_sent : (op : OpId) (n k : ℕ) (m : Message) (from to : ℕ) (o : OpId) (p : Place) (b : Ballot) (e : Content) → OfOp op m.body → Sent n m ≡ Sent k (message from to (Accepted o p.group p.position b e)) → ⊥
@@ -124,6 +125,10 @@ pub told_may : (c : Cluster) (tape : List Item) (me from : ℕ) (body : Body) �
 told_may c tape me from (Decide group position entry) took d h = subst (λ (x : Decision). MayDecide c tape me (at_place x.group x.position) x.entry) (some_is _ d h) (told from took)
 told_may c tape me from (Have op group position entry) took d h = subst (λ (x : Decision). MayDecide c tape me (at_place x.group x.position) x.entry) (some_is _ d h) (given from op took)
 told_may c tape me from _ took d h = cc
+
+pub decision_silent : (o : Option Decision) → Each IsSilent (decision_note o)
+decision_silent None = tt
+decision_silent (Some d) = (tt, tt)
 
 -- a decision that is new is noted
 pub new_may : (c : Cluster) (tape : List Item) (me : ℕ) (met : List Met) (o : Option Decision) → ((d : Decision) → o ≡ Some d → MayDecide c tape me (at_place d.group d.position) d.entry) → Each (Note c tape me) (decision_note (if_new met o))

@@ -14,6 +14,7 @@ use Rattle.mega_wire.specs.declared.message.Message.{Message}
 use Rattle.mega_wire.specs.declared.message.Body.{Body}
 use Rattle.mega_wire.specs.declared.message.Body.TheVariants.{Accept, Accepted, Promise, Acquire, Granted, Invalidate, Top}
 use Rattle.mega_transcript.specs.declared.item.Item.{Item}
+use Rattle.mega_transcript.specs.declared.item.Item.TheVariants.{Decide}
 use Rattle.mega_rules.specs.Met.{Met, Sends, Grants, Lapses, Counts, Forgets, Serves, Loses, Validates, Invalidates, Applies, Answers}
 use Rattle.mega_rules.specs.Coordinators.{coordinator_calls, counts_notes, is_cell_in, tick_told, forget_notes, grant_notes, lost_note, tick_notes}
 use Rattle.mega_rules.specs.Locks.{asked_for, cell_calls, grant_note, lapse_note, lapses_at}
@@ -23,10 +24,10 @@ use Rattle.mega_coordinator.specs.History.{epoch_after, lease_of}
 use Rattle.mega_rules.specs.Clock.{clock_of, start_of}
 use Rattle.mega_rules.specs.Members.{cells, has_rows, is_full, keep_of}
 use Rattle.mega_rules.specs.Logs.{decided, groups_of}
-use Rattle.mega_rules.specs.Operations.{Now, Operation, Setting}
+use Rattle.mega_rules.specs.Operations.{Node, Now, Operation, Setting}
 use Rattle.mega_rules.specs.Acting.{validated_by}
 use Rattle.mega_rules.specs.Steps.{applied_at, apply_note, apply_notes, lapse_notes, lease_notes, onto, told_notes}
-use Rattle.mega_laws.specs.Places.{Place, moves}
+use Rattle.mega_laws.specs.Places.{In, Move, Place, moves}
 use Rattle.mega_lawful.proofs.Owned.{NoAccept, Users, quiet_written}
 use Rattle.mega_laws.specs.Lawful.{Lawful}
 use Rattle.mega_laws.specs.Polls.{ArePolls, has_asked}
@@ -37,7 +38,16 @@ use Rattle.mega_lawful.proofs.Sending.{Stood, stood_sent}
 use Rattle.mega_lawful.proofs.Free.{AreFree, IsFree, free_asked, free_lawful, free_moves}
 use Rattle.mega_lawful.proofs.Prefixes.{decided_more, grew_by, prefix_more}
 use Rattle.mega_lawful.proofs.Opened.{Beside, Grew, same_met}
-use Rattle.mega_lawful.proofs.Turns.{Fine, Frame, Held, Known, NoAct, could_more, each_on, held_on, quiet_polls, sent_append}
+use Rattle.mega_lawful.proofs.Turns.{AnsweredBelow, Fine, Frame, Held, IsApart, IsOpen, Known, NoAct, could_more, each_on, held_on, outside_apart, quiet_polls, sent_append, within_less}
+use Rattle.mega_lawful.proofs.Causes.{AskedSame, DecidedOn, sent_question}
+use Rattle.mega_lawful.proofs.Answering.{answers_on, failed_in, quiet_answered, sent_failed, speaks_on, with_answers}
+use Rattle.mega_lawful.proofs.Silent.{IsSilent, answers_apart, answers_asked, answers_decided, answers_moved, notes_answered, notes_failed, sent_decided, then_answers}
+use Rattle.mega_lawful.proofs.Written.{moved_on}
+use Rattle.mega_laws.proofs.Ballots.{clash}
+use Rattle.mega_laws.specs.Answers.{AreAnswered, IsDoomed, has_failed}
+use Rattle.mega_promises.specs.Items.{shown}
+use Rattle.mega_promises.specs.Promises.{Stands, asked_for as asked_item}
+use Rattle.mega_promises.specs.Runs.{with_items}
 use Rattle.mega_lawful.proofs.Noting.{Lasts}
 use Rattle.mega_lawful.proofs.Noted.{Note}
 use Rattle.mega_lawful.proofs.Beginning.{AllActed}
@@ -77,7 +87,6 @@ IsPlain (Loses epoch) = Unit {0}
 IsPlain (Validates group position) = Unit {0}
 IsPlain (Invalidates group position) = Unit {0}
 IsPlain (Applies group position) = Unit {0}
-IsPlain (Answers op answer) = Unit {0}
 IsPlain _ = ⊥
 
 plain_note : (c : Cluster) (tape : List Item) (me : ℕ) (one : Met) → IsPlain one → Note c tape me one
@@ -90,8 +99,26 @@ plain_note c tape me (Loses epoch) h = tt
 plain_note c tape me (Validates group position) h = tt
 plain_note c tape me (Invalidates group position) h = tt
 plain_note c tape me (Applies group position) h = tt
-plain_note c tape me (Answers op answer) h = tt
 plain_note c tape me _ h = absurd h
+
+plain_silent : (one : Met) → IsPlain one → IsSilent one
+plain_silent (Answers op answer) h = absurd h
+plain_silent _ h = tt
+
+pub plain_silents : (notes : List Met) → Each IsPlain notes → Each IsSilent notes
+plain_silents notes h = each_on IsPlain IsSilent plain_silent notes h
+
+-- answers
+abbrev pub IsAnswer : Met → Type 0
+IsAnswer (Answers op answer) = Unit {0}
+IsAnswer _ = ⊥
+
+answer_note : (c : Cluster) (tape : List Item) (me : ℕ) (one : Met) → IsAnswer one → Note c tape me one
+answer_note c tape me (Answers op answer) h = tt
+answer_note c tape me _ h = absurd h
+
+pub answer_notes : (c : Cluster) (tape : List Item) (me : ℕ) (notes : List Met) → Each IsAnswer notes → Each (Note c tape me) notes
+answer_notes c tape me notes h = each_on IsAnswer (Note c tape me) (answer_note c tape me) notes h
 
 pub plain_notes : (c : Cluster) (tape : List Item) (me : ℕ) (notes : List Met) → Each IsPlain notes → Each (Note c tape me) notes
 plain_notes c tape me notes h = each_on IsPlain (Note c tape me) (plain_note c tape me) notes h
@@ -157,7 +184,7 @@ pub record Noted (first : List Met) (now : Now) : Type 0 where
   pub decides : (g : GroupId) (n : ℕ) (e : Content) → decided now.met g n ≡ Some e → decided first g n ≡ Some e
   pub long : length now.met ≤ length first + length now.valid
   pub valid : Each IsPlain now.valid
-  pub answers : Each IsPlain now.answers
+  pub answers : Each IsAnswer now.answers
 
 length_push : (xs : List Met) (x : Met) → length (xs ++ x ∷ []) ≡ length xs + 1
 length_push [] x = omega arith
@@ -166,7 +193,7 @@ length_push (y ∷ xs) x = let rest = length_push xs x in omega (arith, rest)
 pub noted_lasts : (first : List Met) → Lasts (Noted first)
 noted_lasts first = record {
   keeps_it = λ now o h. record { decides = h.decides; long = h.long; valid = h.valid; answers = h.answers };
-  ends_it = λ now op answer h. record { decides = h.decides; long = h.long; valid = h.valid; answers = each_append IsPlain now.answers (Answers op answer ∷ []) h.answers (tt, tt) };
+  ends_it = λ now op answer h. record { decides = h.decides; long = h.long; valid = h.valid; answers = each_append IsAnswer now.answers (Answers op answer ∷ []) h.answers (tt, tt) };
   sends_it = λ now ms h. record { decides = h.decides; long = h.long; valid = h.valid; answers = h.answers };
   stores_it = λ now stored h. record { decides = h.decides; long = h.long; valid = h.valid; answers = h.answers };
   validates_it = λ now group p refusal h. validated now group p refusal h;
@@ -189,6 +216,7 @@ pub record Before (c : Cluster) (me : ℕ) (tape : List Item) (k : ℕ) (ms : Li
   pub written : (schema : Schema) (usage : Usage) → AreWritten schema usage tape → AreWritten schema usage (sent k ms tape)
   pub moved : (x : OpId) (q : Place) → moves (sent k ms tape) x q ≡ moves tape x q
   pub asked : (x : OpId) → has_asked (sent k ms tape) x ≡ has_asked tape x
+  pub answered : (schema : Schema) (usage : Usage) → AreAnswered schema usage tape → AreAnswered schema usage (sent k ms tape)
   pub mine : Each (FromMe me) ms
 
 free_quiet : (body : Body) → IsFree body → NoAct body
@@ -214,26 +242,45 @@ free_quiets [] h = tt
 free_quiets (m ∷ ms) h = (free_quiet m.body h.0, free_quiets ms h.1)
 
 pub free_before : (c : Cluster) (me : ℕ) (tape : List Item) (k : ℕ) (ms : List Message) → AreFree ms → Before c me tape k ms
-free_before c me tape k ms h = record { lawful = λ l. free_lawful c k ms tape h l; polls = λ p. quiet_polls k ms tape (free_quiets ms h) p; written = λ schema usage w. quiet_written schema usage k ms tape (free_silents ms h) w; moved = λ x q. free_moves x q k ms tape h; asked = λ x. free_asked x k ms tape h; mine = free_mine me ms h }
+free_before c me tape k ms h = record { lawful = λ l. free_lawful c k ms tape h l; polls = λ p. quiet_polls k ms tape (free_quiets ms h) p; written = λ schema usage w. quiet_written schema usage k ms tape (free_silents ms h) w; moved = λ x q. free_moves x q k ms tape h; asked = λ x. free_asked x k ms tape h; answered = λ schema usage a. quiet_answered schema usage k ms tape (free_silents ms h) a; mine = free_mine me ms h }
 
 quiet_mine : (me : ℕ) (ms : List Message) → Each (λ (m : Message). NoAct m.body) ms → Each (FromMe me) ms
 quiet_mine me [] h = tt
 quiet_mine me (m ∷ ms) h = (inr h.0, quiet_mine me ms h.1)
 
 -- the first operations begin on what stands
-pub first_fine : (users : Users) → (c : Cluster) (f : Frame) (met : List Met) → Lawful c f.base → (users.fits → AreWritten c.schema users.usage f.base) → Known f.me met f.base → Fine users c f 0 met [] []
-first_fine users c f met l written known = record { lawful = l; written = written; later = λ x h q. refl; asked = λ x h. refl; made = λ v q. refl; known = known; quiet = tt; held = tt; rising = tt }
+pub first_fine : (users : Users) → (c : Cluster) (f : Frame) (met : List Met) → Lawful c f.base → (users.fits → AreWritten c.schema users.usage f.base) → Known f.me met f.base → Fine users c f 0 met [] [] []
+first_fine users c f met l written known = record { lawful = l; written = written; later = λ x h q. refl; asked = λ x h. refl; made = λ v q. refl; given = λ fits. tt; answered = tt; fair = tt; unheard = tt; known = known; quiet = tt; held = tt; rising = tt }
+
+-- the tape before a step's answers, with its own item and its other notes
+pub record Unheard (users : Users) (c : Cluster) (nodes : ℕ → Node) (me : ℕ) (early tape : List Item) (answers : List Met) : Type 0 where
+  pub mid : List Item
+  pub is : tape ≡ with_answers c nodes me answers mid
+  pub answered : users.fits → AreAnswered c.schema users.usage mid
+  pub failed : (x : OpId) → has_failed mid x ≡ has_failed early x
+
+pub unheard_by : (users : Users) → (c : Cluster) (nodes : ℕ → Node) (me : ℕ) (early : List Item) (notes answers : List Met) → Each IsSilent notes → (users.fits → AreAnswered c.schema users.usage early)
+    → Unheard users c nodes me early (with_items c nodes early (flat_map (shown me) (notes ++ answers))) answers
+unheard_by users c nodes me early notes answers silent answered = record {
+  mid = with_items c nodes early (flat_map (shown me) notes);
+  is = then_answers c nodes me notes answers early;
+  answered = λ fits. notes_answered c me nodes notes early silent c.schema users.usage (answered fits);
+  failed = notes_failed c me nodes notes early silent;
+}
 
 -- the operations of a step, put together with what is sent before them
-pub acted_sends : (users : Users) → (s : Setting) (me st l k : ℕ) (tape : List Item) (met2 : List Met) (pre : List Message) (now : Now) → ArePolls tape → Before s.cluster me tape k pre
-    → AllActed users s (record { me = me; start = st; next = k + length pre; base = sent k pre tape }) l now → Grew now.met met2
-    → SendsOn users s.cluster me st l tape met2 k (pre ++ now.sends) now.kept
-acted_sends users s me st l k tape met2 pre now polls before acted grew = record {
+pub acted_sends : (users : Users) → (s : Setting) (nodes : ℕ → Node) (me st l k : ℕ) (early tape : List Item) (met2 : List Met) (pre : List Message) (now : Now) → ArePolls tape → Before s.cluster me tape k pre
+    → AllActed users s (record { me = me; start = st; next = k + length pre; base = sent k pre tape; early = early }) l now → Grew now.met met2 → Unheard users s.cluster nodes me early tape now.answers
+    → SendsOn users s.cluster me st l early tape met2 k (pre ++ now.sends) now.kept
+acted_sends users s nodes me st l k early tape met2 pre now polls before acted grew u = record {
   lawful = subst (Lawful s.cluster) (sym whole) (acted.fine).lawful;
   polls = subst ArePolls (sym whole) (quiet_polls (k + length pre) now.sends (sent k pre tape) (acted.fine).quiet (before.polls polls));
   written = λ fits. subst (AreWritten s.cluster.schema users.usage) (sym whole) ((acted.fine).written fits);
   asked = λ x other. ap (λ t. has_asked t x) whole ∙ (acted.fine).asked x (could_more me st acted.k l x acted.most other) ∙ before.asked x;
   moved = λ x other q. ap (λ t. moves t x q) whole ∙ (acted.fine).later x (could_more me st acted.k l x acted.most other) q ∙ before.moved x q;
+  answered = λ fits. subst (AreAnswered s.cluster.schema users.usage) (sym whole) (spoken fits);
+  failed = λ x other. failed_on x (each_on (AnsweredBelow me st acted.k) (IsApart x) (outside_apart me st acted.k x (within_less me st acted.k l x acted.most other)) now.answers (acted.fine).answered);
+  unfailed = each_on (IsOpen early now.answers) (λ (o : Operation). has_failed (sent k (pre ++ now.sends) tape) o.id ≡ false) (λ o still. failed_on o.id still.apart ∙ still.unfailed) now.kept (acted.fine).unheard;
   mine = each_append (FromMe me) pre now.sends before.mine (quiet_mine me now.sends (acted.fine).quiet);
   held = each_on (Held users s.cluster (sent (k + length pre) now.sends (sent k pre tape)) me st acted.k now.met) (Held users s.cluster (sent k (pre ++ now.sends) tape) me st l (onto (map Sends (pre ++ now.sends)) met2))
       (λ o held. held_on users s.cluster (sent (k + length pre) now.sends (sent k pre tape)) (sent k (pre ++ now.sends) tape) me st acted.k l now.met (onto (map Sends (pre ++ now.sends)) met2) o (beside o) grown acted.most held) now.kept (acted.fine).held;
@@ -249,18 +296,53 @@ acted_sends users s me st l k tape met2 pre now polls before acted grew = record
     grown : Grew now.met (onto (map Sends (pre ++ now.sends)) met2)
     grown g = let one = grew g in let two = (sends_on (pre ++ now.sends) met2).grew g in omega (arith, one, two)
 
+    base : List Item
+    base = sent k pre tape
+
+    last : List Item
+    last = sent (k + length pre) now.sends base
+
+    failed_on : (x : OpId) → Each (IsApart x) now.answers → has_failed (sent k (pre ++ now.sends) tape) x ≡ has_failed early x
+    failed_on x apart = sent_failed x k (pre ++ now.sends) tape ∙ ap (λ t. has_failed t x) u.is ∙ answers_apart s.cluster nodes me st acted.k now.answers u.mid (acted.fine).answered x apart ∙ u.failed x
+
+    decided_mid : DecidedOn last u.mid
+    decided_mid node g n e h = answers_decided s.cluster nodes me st acted.k now.answers u.mid (acted.fine).answered node g n e
+        (subst (Stands (Decide node g n e)) u.is (sent_decided k pre tape node g n e (sent_decided (k + length pre) now.sends base node g n e h)))
+
+    asked_mid : (x : OpId) → AskedSame users.usage last u.mid x
+    asked_mid x = sym (sent_question users.usage (k + length pre) now.sends base x ∙ sent_question users.usage k pre tape x ∙ ap (λ t. asked_item (users.usage).meaning t x) u.is
+        ∙ answers_asked s.cluster nodes me st acted.k users.usage now.answers u.mid (acted.fine).answered x)
+
+    moved_mid : (x : OpId) (p : Place) (y : Move) → In y (moves u.mid x p) → In y (moves last x p)
+    moved_mid x p y i = moved_on (k + length pre) now.sends base x p y (subst (In y) (sym (before.moved x p ∙ ap (λ t. moves t x p) u.is ∙ answers_moved s.cluster nodes me st acted.k now.answers u.mid (acted.fine).answered x p)) i)
+
+    doomed : users.fits → (x : OpId) → has_failed early x ≡ false → has_failed base x ≡ true → IsDoomed last x
+    doomed fits x un failed = failed_in s.cluster.schema users.usage s.cluster nodes me last x now.answers u.mid ((acted.fine).given fits) (λ f. absurd (clash (has_failed u.mid x) f (u.failed x ∙ un)))
+        (sym (sent_failed x k pre tape ∙ ap (λ t. has_failed t x) u.is) ∙ failed)
+
+    heard : users.fits → AreAnswered s.cluster.schema users.usage tape
+    heard fits = subst (AreAnswered s.cluster.schema users.usage) (sym u.is)
+        (answers_on s.cluster.schema users.usage s.cluster nodes me last now.answers u.mid ((acted.fine).given fits) (record { decided = decided_mid; asked = asked_mid; moved = moved_mid }) (u.answered fits))
+
+    spoken : users.fits → AreAnswered s.cluster.schema users.usage last
+    spoken fits = speaks_on s.cluster.schema users.usage early last (k + length pre) now.sends base (acted.fine).fair (sent_decided (k + length pre) now.sends base) (doomed fits) (λ x p y i. i)
+        (before.answered s.cluster.schema users.usage (heard fits))
+
 map_append : (xs ys : List Message) → map Sends (xs ++ ys) ≡ map Sends xs ++ map Sends ys
 map_append [] ys = refl
 map_append (x ∷ xs) ys = ap (λ zs. Sends x ∷ zs) (map_append xs ys)
 
 -- and behind them
-pub behind : (users : Users) → (c : Cluster) (me st l k : ℕ) (tape : List Item) (met2 : List Met) (ms post : List Message) (kept : List Operation) → SendsOn users c me st l tape met2 k ms kept → AreFree post → SendsOn users c me st l tape met2 k (ms ++ post) kept
-behind users c me st l k tape met2 ms post kept h free = record {
+pub behind : (users : Users) → (c : Cluster) (me st l k : ℕ) (early tape : List Item) (met2 : List Met) (ms post : List Message) (kept : List Operation) → SendsOn users c me st l early tape met2 k ms kept → AreFree post → SendsOn users c me st l early tape met2 k (ms ++ post) kept
+behind users c me st l k early tape met2 ms post kept h free = record {
   lawful = subst (Lawful c) (sym whole) (free_lawful c (k + length ms) post (sent k ms tape) free h.lawful);
   polls = subst ArePolls (sym whole) (quiet_polls (k + length ms) post (sent k ms tape) (free_quiets post free) h.polls);
   written = λ fits. subst (AreWritten c.schema users.usage) (sym whole) (quiet_written c.schema users.usage (k + length ms) post (sent k ms tape) (free_silents post free) (h.written fits));
   asked = λ x other. ap (λ t. has_asked t x) whole ∙ free_asked x (k + length ms) post (sent k ms tape) free ∙ h.asked x other;
   moved = λ x other q. ap (λ t. moves t x q) whole ∙ free_moves x q (k + length ms) post (sent k ms tape) free ∙ h.moved x other q;
+  answered = λ fits. subst (AreAnswered c.schema users.usage) (sym whole) (quiet_answered c.schema users.usage (k + length ms) post (sent k ms tape) (free_silents post free) (h.answered fits));
+  failed = λ x other. same_failed x ∙ h.failed x other;
+  unfailed = each_on (λ (o : Operation). has_failed (sent k ms tape) o.id ≡ false) (λ (o : Operation). has_failed (sent k (ms ++ post) tape) o.id ≡ false) (λ o still. same_failed o.id ∙ still) kept h.unfailed;
   mine = each_append (FromMe me) ms post h.mine (free_mine me post free);
   held = each_on (Held users c (sent k ms tape) me st l (onto (map Sends ms) met2)) (Held users c (sent k (ms ++ post) tape) me st l (onto (map Sends (ms ++ post)) met2))
       (λ o held. held_on users c (sent k ms tape) (sent k (ms ++ post) tape) me st l l (onto (map Sends ms) met2) (onto (map Sends (ms ++ post)) met2) o (beside o) grown (omega arith) held) kept h.held;
@@ -269,6 +351,9 @@ behind users c me st l k tape met2 ms post kept h free = record {
   where
     whole : sent k (ms ++ post) tape ≡ sent (k + length ms) post (sent k ms tape)
     whole = sent_append k ms post tape
+
+    same_failed : (x : OpId) → has_failed (sent k (ms ++ post) tape) x ≡ has_failed (sent k ms tape) x
+    same_failed x = sent_failed x k (ms ++ post) tape ∙ sym (sent_failed x k ms tape)
 
     beside : (o : Operation) → Beside o.id (sent k ms tape) (sent k (ms ++ post) tape)
     beside o = record { stood = subst (Stood (sent k ms tape)) (sym whole) (stood_sent (k + length ms) post (sent k ms tape)); moved = λ q. ap (λ t. moves t o.id q) whole ∙ free_moves o.id q (k + length ms) post (sent k ms tape) free }

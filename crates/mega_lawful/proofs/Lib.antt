@@ -12,11 +12,15 @@ pub mod Owned
 pub mod Reading
 pub mod Wrote
 pub mod Picked
+pub mod Causes
+pub mod Causing
 pub mod Turns
 pub mod Acting
 pub mod Noting
 pub mod Beginning
+pub mod Answering
 pub mod Noted
+pub mod Silent
 pub mod Standing
 pub mod Stepping
 pub mod Events

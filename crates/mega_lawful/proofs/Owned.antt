@@ -32,6 +32,8 @@ use Rattle.mega_laws.proofs.Lists.{from_cons}
 use Rattle.mega_laws.proofs.Made.{move_is}
 use Rattle.mega_lawful.specs.Vouched.{AreOfRound, Each, sent}
 use Rattle.mega_lawful.proofs.Sending.{Stood}
+use Rattle.mega_lawful.proofs.Causes.{keeps_to}
+use Rattle.mega_lawful.proofs.Causing.{ProposesOwn}
 use Rattle.mega_lawful.proofs.Opened.{Beside, IsSought, at_place}
 use Rattle.mega_lawful.proofs.Said.{Says}
 use Rattle.mega_lawful.proofs.Written.{Unproposed, said_unproposed, said_written}
@@ -105,24 +107,28 @@ pub record ReadsOwn (tape : List Item) (op : OpId) (request : Request) (message 
   pub serves : Serves tape op request message group
 
 -- as it reads, it proposed nothing with its id; then it proposed its own entry at its place
-abbrev pub Mine : List Item → OpId → Request → Option Enter → Phase → Type 0
-Mine tape op request message (Reads group r) = ReadsOwn tape op request message group r.stage
-Mine tape op request message (ProposesOn group n asked proposal promised) = In (Proposes zero_ballot proposal.own) (moves tape op (at_place group n))
+abbrev pub Mine : Schema → List Item → OpId → Request → Option Enter → Phase → Type 0
+Mine schema tape op request message (Reads group r) = ReadsOwn tape op request message group r.stage
+Mine schema tape op request message (ProposesOn group n asked proposal promised) = ProposesOwn schema tape op request group n proposal.own promised
 
 -- what is known of an open operation
-pub record Owned (usage : Usage) (tape : List Item) (o : Operation) : Type 0 where
+pub record Owned (schema : Schema) (usage : Usage) (tape : List Item) (o : Operation) : Type 0 where
   pub began : Began usage tape o.id o.request
-  pub mine : Mine tape o.id o.request o.message o.phase
+  pub mine : Mine schema tape o.id o.request o.message o.phase
 
 pub unproposed_on : (old new : List Item) (op : OpId) → Beside op old new → Unproposed old op → Unproposed new op
 unproposed_on old new op s none = λ q b e i. none q b e (subst (In (Proposes b e)) (s.moved q) i)
 
-pub mine_on : (old new : List Item) (op : OpId) (request : Request) (message : Option Enter) → Beside op old new → (phase : Phase) → Mine old op request message phase → Mine new op request message phase
-mine_on old new op request message s (Reads group r) h = record { none = unproposed_on old new op s h.none; plain = h.plain; serves = serves_on old new op request message group s.stood h.serves }
-mine_on old new op request message s (ProposesOn group n asked proposal promised) h = subst (In (Proposes zero_ballot proposal.own)) (sym (s.moved (at_place group n))) h
+pub mine_on : (schema : Schema) (old new : List Item) (op : OpId) (request : Request) (message : Option Enter) → Beside op old new → (phase : Phase) → Mine schema old op request message phase → Mine schema new op request message phase
+mine_on schema old new op request message s (Reads group r) h = record { none = unproposed_on old new op s h.none; plain = h.plain; serves = serves_on old new op request message group s.stood h.serves }
+mine_on schema old new op request message s (ProposesOn group n asked proposal promised) h = record {
+  at = subst (In (Proposes zero_ballot proposal.own)) (sym (s.moved (at_place group n))) h.at;
+  id = h.id;
+  keeps = keeps_to schema old new op group (record { 0 = n }) request promised (λ node g m e stands. s.stood _ stands) h.keeps;
+}
 
-pub owned_on : (usage : Usage) (old new : List Item) (o : Operation) → Beside o.id old new → Owned usage old o → Owned usage new o
-owned_on usage old new o s h = record { began = began_on usage old new o.id o.request s.stood h.began; mine = mine_on old new o.id o.request o.message s o.phase h.mine }
+pub owned_on : (schema : Schema) (usage : Usage) (old new : List Item) (o : Operation) → Beside o.id old new → Owned schema usage old o → Owned schema usage new o
+owned_on schema usage old new o s h = record { began = began_on usage old new o.id o.request s.stood h.began; mine = mine_on schema old new o.id o.request o.message s o.phase h.mine }
 
 -- ---- the entries below
 

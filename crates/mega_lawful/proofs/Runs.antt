@@ -14,15 +14,15 @@ use Rattle.mega_promises.specs.Items.{number, shown}
 use Rattle.mega_promises.specs.Messages.{is_deliverable, is_dropped, message_of, next_delivery, receiver_up}
 use Rattle.mega_promises.specs.Runs.{Cuts, CutByData, CutByLog, Fate, Fuse, Happening, IsRun, Standing, Whole, after_event, appends, at_node, because, crashes, cut_start, cut_step, delivered, drained, fate_of, fated, fated_start, goes_on, handed, is_durable, log_fuse_after, marked, nothing_yet, opening, owes, receiver_down, records_after, refusal, set_at, setting, unless_none, unless_refused, up, whole_start, whole_step, with_item, with_items}
 use Rattle.mega_transcript.specs.Tape.{is_sent, is_taken}
-use Rattle.mega_rules.specs.Met.{Met, Applies, Begins, Crashes, Starts, Takes, Ticks, Unsends}
+use Rattle.mega_rules.specs.Met.{Met, Answers, Applies, Begins, Crashes, Starts, Takes, Ticks, Unsends}
 use Rattle.mega_rules.specs.Members.{has_rows, is_node, nodes}
 use Rattle.mega_rules.specs.Clock.{is_up, start_of}
 use Rattle.mega_rules.specs.Logs.{groups_of, prefix_of}
 use Rattle.mega_rules.specs.Operations.{Node, Setting}
 use Rattle.mega_rules.specs.Steps.{Begin, Step, Take, Tick, crashed, onto, op_of, start, start_items, start_note, start_notes, step}
-use Rattle.mega_laws.specs.Places.{Place, moves}
+use Rattle.mega_laws.specs.Places.{Place, moves, Took, acts}
 use Rattle.mega_lawful.proofs.Owned.{Users}
-use Rattle.mega_laws.specs.Lawful.{Lawful}
+use Rattle.mega_laws.specs.Lawful.{Lawful, message}
 use Rattle.mega_laws.specs.Polls.{ArePolls, has_asked}
 use Rattle.mega_laws.specs.Writes.{AreWritten, LawfulWrites, Usage, has_begun}
 use Rattle.mega_schema.specs.declared.schema.Schema.{Schema}
@@ -33,20 +33,19 @@ use Rattle.mega_lawful.specs.Vouched.{Each}
 use Rattle.mega_lawful.proofs.Noted.{Follows, Note, TapeOn, each_note_on, notes_follow, one_note, tape_item, with_append}
 use Rattle.mega_lawful.proofs.Standing.{Good, IsNew, Owes, act_other, act_same, other_good, owes_on, unmoved_on}
 use Rattle.mega_lawful.proofs.Stepping.{Next, OtherThan, Own, next_good}
-use Rattle.mega_lawful.proofs.Events.{IsPlain, each_flat_map, onto_append, plain_notes}
+use Rattle.mega_lawful.proofs.Events.{IsPlain, each_flat_map, onto_append, plain_notes, plain_silents}
+use Rattle.mega_lawful.proofs.Silent.{IsSilent, flat_append, note_answered, note_failed, notes_answered, notes_failed}
+use Rattle.mega_laws.specs.Answers.{AreAnswered, IsAnswered, LawfulAnswers, has_failed}
 use Rattle.mega_lawful.proofs.Steps.{begins_other, begun_next, never_asked, never_begun, own_begin, stands_sent, whole_good}
 use Rattle.mega_lawful.proofs.Ticking.{own_tick, ticked_next}
 use Rattle.mega_lawful.proofs.Whole.{StepNext, own_taken, take_next}
 use Rattle.mega_lawful.proofs.Replied.{Fair, answer_fair}
 use Rattle.mega_lawful.specs.Shows.{Shows}
 use Rattle.mega_lawful.proofs.Turns.{Known}
-use Rattle.mega_laws.specs.Places.{Took}
-use Rattle.mega_laws.specs.Lawful.{message}
 use Rattle.std.specs.List.{cons_option}
 use Rattle.mega_rules.specs.Replies.{answer_to, reply_message, reply_to}
 use Rattle.mega_wire.specs.declared.message.Body.{Body}
 use Rattle.mega_rules.specs.Voting.{acts as acts_met}
-use Rattle.mega_laws.specs.Places.{acts}
 use Rattle.mega_disk.specs.declared.pair.Device.TheVariants.{Log, Data}
 use Rattle.mega_promises.specs.Promises.{Stands}
 
@@ -55,6 +54,9 @@ old_moves users c now me g x node new q = g.fresh x (subst (λ w. IsNew (now.sta
 
 old_begun : (users : Users) → (c : Cluster) (now : Standing) (me : ℕ) → Good users c now → (x : OpId) → x.node.0 ≡ me → IsNew (now.starts me) (now.node me).met x → has_begun now.tape x ≡ false
 old_begun users c now me g x node new = g.unbegun x (subst (λ w. IsNew (now.starts w) (now.node w).met x) (sym node) new)
+
+old_failed : (users : Users) → (c : Cluster) (now : Standing) (me : ℕ) → Good users c now → (x : OpId) → x.node.0 ≡ me → IsNew (now.starts me) (now.node me).met x → has_failed now.tape x ≡ false
+old_failed users c now me g x node new = g.unfailed x (subst (λ w. IsNew (now.starts w) (now.node w).met x) (sym node) new)
 
 old_asked : (users : Users) → (c : Cluster) (now : Standing) (me : ℕ) → Good users c now → (x : OpId) → x.node.0 ≡ me → IsNew (now.starts me) (now.node me).met x → has_asked now.tape x ≡ false
 old_asked users c now me g x node new = g.unasked x (subst (λ w. IsNew (now.starts w) (now.node w).met x) (sym node) new)
@@ -81,17 +83,18 @@ starts_plain s met = if_rows (has_rows s.cluster s.me)
 
 -- ---- what is owed
 
-owes_cons : (c : Cluster) (tape : List Item) (me : ℕ) (one : Met) (more : List Met) → Note c tape me one → Owes c tape me more → Owes c tape me (one ∷ more)
-owes_cons c tape me (Unsends m) more h k = absurd h
-owes_cons c tape me _ more h k = (h, k)
+owes_cons : (c : Cluster) (tape : List Item) (me : ℕ) (one : Met) (more : List Met) → is_durable one ≡ true → Note c tape me one → Owes c tape me more → Owes c tape me (one ∷ more)
+owes_cons c tape me (Unsends m) more durable h k = absurd h
+owes_cons c tape me (Answers op answer) more durable h k = cc
+owes_cons c tape me _ more durable h k = (h, k)
 
 owes_notes : (c : Cluster) (tape : List Item) (me : ℕ) (notes last : List Met) → Each (Note c tape me) notes → Owes c tape me last → Owes c tape me (filter is_durable notes ++ last)
 owes_notes c tape me [] last h k = k
-owes_notes c tape me (one ∷ notes) last h k = go (is_durable one) (owes_notes c tape me notes last h.1 k)
+owes_notes c tape me (one ∷ notes) last h k = go (is_durable one) refl (owes_notes c tape me notes last h.1 k)
   where
-    go : (t : Bool) → Owes c tape me (filter is_durable notes ++ last) → Owes c tape me (cond t (one ∷ filter is_durable notes) (filter is_durable notes) ++ last)
-    go true rest = owes_cons c tape me one (filter is_durable notes ++ last) h.0 rest
-    go false rest = rest
+    go : (t : Bool) → is_durable one ≡ t → Owes c tape me (filter is_durable notes ++ last) → Owes c tape me (cond t (one ∷ filter is_durable notes) (filter is_durable notes) ++ last)
+    go true e rest = owes_cons c tape me one (filter is_durable notes ++ last) e h.0 rest
+    go false e rest = rest
 
 owes_reply : (c : Cluster) (tape : List Item) (me : ℕ) (met : List Met) (m : Message) → Shows tape me met → Took tape (message m.from me m.body) → Owes c tape me (map Unsends (reply_to c me met m))
 owes_reply c tape me met m s took = go (answer_to c me met m.from m.body) (λ answer h. answer_fair c tape me m.from met s m.body took answer h)
@@ -118,6 +121,7 @@ cut_good users c now me item own made owed log_fuse data_fuse g plain o other ow
         known = λ h n e d. inr ((o.on).stood _ ((g.node me).known h n e (sym (o.decides h n) ∙ d)));
         held = tt;
         rising = tt;
+        unfailed = tt;
       };
       made = λ v apart q. (o.on).made v q;
       moved = λ x apart q. (o.on).moved x q;
@@ -125,6 +129,9 @@ cut_good users c now me item own made owed log_fuse data_fuse g plain o other ow
       written = λ fits. (tt, (o.on).written c.schema users.usage (g.written fits));
       begun = λ x apart. o.begins x (other x (inl apart));
       unbegun = λ x node new. o.begins x (other x (inr new)) ∙ old_begun users c now me g x node (older x new);
+      answered = λ fits. (tt, (o.answered c.schema users.usage, g.answered fits));
+      failed = λ x apart. o.failed x;
+      unfailed = λ x node new. o.failed x ∙ old_failed users c now me g x node (older x new);
       asked = λ x apart. (o.on).asked x;
       fresh = λ x node new q. (o.on).moved x q ∙ old_moves users c now me g x node (older x new) q;
       unasked = λ x node new. (o.on).asked x ∙ old_asked users c now me g x node (older x new);
@@ -157,13 +164,16 @@ down_next : (users : Users) → (c : Cluster) (now : Standing) (me : ℕ) (start
 down_next users c now me starts g le same = record {
   lawful = (tt, g.lawful);
   stood = λ item s. inr s;
-  mine = record { made = (g.node me).made; known = λ h n e d. inr ((g.node me).known h n e d); held = tt; rising = tt };
+  mine = record { made = (g.node me).made; known = λ h n e d. inr ((g.node me).known h n e d); held = tt; rising = tt; unfailed = tt };
   made = λ v apart q. refl;
   moved = λ x apart q. refl;
   polls = (tt, g.polls);
   written = λ fits. (tt, g.written fits);
   begun = λ x apart. refl;
   unbegun = λ x node new. old_begun users c now me g x node (older x new);
+  answered = λ fits. (tt, g.answered fits);
+  failed = λ x apart. refl;
+  unfailed = λ x node new. old_failed users c now me g x node (older x new);
   asked = λ x apart. refl;
   fresh = λ x node new q. old_moves users c now me g x node (older x new) q;
   unasked = λ x node new. old_asked users c now me g x node (older x new);
@@ -199,6 +209,8 @@ record Shown (c : Cluster) (me : ℕ) (old : List Item) (met : List Met) (new : 
   polls : ArePolls old → ArePolls new
   written : (schema : Schema) (usage : Usage) → AreWritten schema usage old → AreWritten schema usage new
   begun : (x : OpId) → has_begun new x ≡ has_begun old x
+  answered : (schema : Schema) (usage : Usage) → AreAnswered schema usage old → AreAnswered schema usage new
+  failed : (x : OpId) → has_failed new x ≡ has_failed old x
   moved : (x : OpId) (q : Place) → moves new x q ≡ moves old x q
   asked : (x : OpId) → has_asked new x ≡ has_asked old x
   others : (v : ℕ) → (me == v) ≡ false → (q : Place) → acts new v q ≡ acts old v q
@@ -208,13 +220,15 @@ record Shown (c : Cluster) (me : ℕ) (old : List Item) (met : List Met) (new : 
 
 owed_shown : (c : Cluster) (me : ℕ) (nodes' : ℕ → Node) (owed : List Met) (tape : List Item) (met : List Met) → Owes c tape me owed → ((q : Place) → acts_met met q.group q.position.0 ≡ acts tape me q) → Known me met tape
     → Shown c me tape met (with_items c nodes' tape (flat_map (shown me) owed)) (onto owed met)
-owed_shown c me nodes' [] tape met h made known = record { lawful = λ l. l; stood = λ item s. s; polls = λ p. p; written = λ schema usage w. w; begun = λ x. refl; moved = λ x q. refl; asked = λ x. refl; others = λ v apart q. refl; made = made; known = known; started = refl }
+owed_shown c me nodes' [] tape met h made known = record { lawful = λ l. l; stood = λ item s. s; polls = λ p. p; written = λ schema usage w. w; begun = λ x. refl; answered = λ schema usage a. a; failed = λ x. refl; moved = λ x q. refl; asked = λ x. refl; others = λ v apart q. refl; made = made; known = known; started = refl }
 owed_shown c me nodes' (Unsends m ∷ []) tape met h made known = record {
   lawful = λ l. ((h.1).1, l);
   stood = λ item s. inr s;
   polls = λ p. (tt, p);
   written = λ schema usage w. (tt, w);
   begun = λ x. refl;
+  answered = λ schema usage a. (tt, a);
+  failed = λ x. refl;
   moved = λ x q. refl;
   asked = λ x. refl;
   others = λ v apart q. ap (λ o. cons_option o (acts tape v q)) (act_other me v m q.group q.position.0 apart (inl (h.1).0));
@@ -223,6 +237,7 @@ owed_shown c me nodes' (Unsends m ∷ []) tape met h made known = record {
   started = refl;
 }
 owed_shown c me nodes' (Unsends m ∷ one ∷ more) tape met h made known = absurd (let none = h.0 in cc)
+owed_shown c me nodes' (Answers op answer ∷ more) tape met h made known = absurd h
 owed_shown c me nodes' (one ∷ more) tape met h made known =
     let first = one_note c me nodes' tape met one h.0 in
     let mid = with_items c nodes' tape (shown me one) in
@@ -234,6 +249,8 @@ owed_shown c me nodes' (one ∷ more) tape met h made known =
       polls = λ p. rest.polls ((first.tape).polls p);
       written = λ schema usage w. rest.written schema usage ((first.tape).written schema usage w);
       begun = λ x. rest.begun x ∙ first.begun x;
+      answered = λ schema usage a. rest.answered schema usage (note_answered c me nodes' tape one tt schema usage a);
+      failed = λ x. rest.failed x ∙ note_failed c me nodes' tape one tt x;
       moved = λ x q. rest.moved x q ∙ (first.tape).moved x q;
       asked = λ x. rest.asked x ∙ (first.tape).asked x;
       others = λ v apart q. rest.others v apart q ∙ (first.tape).made v q;
@@ -241,14 +258,6 @@ owed_shown c me nodes' (one ∷ more) tape met h made known =
       known = rest.known;
       started = rest.started ∙ (first.met_on).start;
     })
-
-append_assoc : {X : Type 0} (xs ys zs : List X) → (xs ++ ys) ++ zs ≡ xs ++ (ys ++ zs)
-append_assoc [] ys zs = refl
-append_assoc (x ∷ xs) ys zs = ap (λ l. x ∷ l) (append_assoc xs ys zs)
-
-flat_append : (me : ℕ) (xs ys : List Met) → flat_map (shown me) (xs ++ ys) ≡ flat_map (shown me) xs ++ flat_map (shown me) ys
-flat_append me [] ys = refl
-flat_append me (x ∷ xs) ys = ap (λ l. shown me x ++ l) (flat_append me xs ys) ∙ sym (append_assoc (shown me x) (flat_map (shown me) xs) (flat_map (shown me) ys))
 
 start_good : (users : Users) → (c : Cluster) (h : Meanings) (now : Standing) (me : ℕ) → Good users c now
     → Good users c (whole_start c now me (start_items (setting c h me) (now.starts me + 1) (now.owed me) (now.node me).met) (start (setting c h me) (now.starts me + 1) (now.owed me) (now.node me).met))
@@ -261,6 +270,7 @@ start_good users c h now me g = next_good users c now me _ node2 (log_fuse_after
         known = follows.known first.known;
         held = tt;
         rising = tt;
+        unfailed = tt;
       };
       made = λ v apart q. (follows.tape).made v q ∙ first.others v apart q;
       moved = λ x apart q. (follows.tape).moved x q ∙ first.moved x q;
@@ -268,6 +278,9 @@ start_good users c h now me g = next_good users c now me _ node2 (log_fuse_after
       written = λ fits. (follows.tape).written c.schema users.usage (first.written c.schema users.usage (tt, g.written fits));
       begun = λ x apart. follows.begun x ∙ first.begun x;
       unbegun = λ x node new. follows.begun x ∙ first.begun x ∙ old_begun users c now me g x node (inl (later x new));
+      answered = λ fits. notes_answered c me nodes' notes tape2 silent c.schema users.usage (first.answered c.schema users.usage (tt, g.answered fits));
+      failed = λ x apart. notes_failed c me nodes' notes tape2 silent x ∙ first.failed x;
+      unfailed = λ x node new. notes_failed c me nodes' notes tape2 silent x ∙ first.failed x ∙ old_failed users c now me g x node (inl (later x new));
       asked = λ x apart. (follows.tape).asked x ∙ first.asked x;
       fresh = λ x node new q. (follows.tape).moved x q ∙ first.moved x q ∙ old_moves users c now me g x node (inl (later x new)) q;
       unasked = λ x node new. (follows.tape).asked x ∙ first.asked x ∙ old_asked users c now me g x node (inl (later x new));
@@ -290,6 +303,9 @@ start_good users c h now me g = next_good users c now me _ node2 (log_fuse_after
 
     notes : List Met
     notes = start_notes (setting c h me) met2
+
+    silent : Each IsSilent notes
+    silent = plain_silents notes (starts_plain (setting c h me) met2)
 
     node2 : Node
     node2 = start (setting c h me) (now.starts me + 1) owed (now.node me).met
@@ -386,14 +402,17 @@ begin_good users c h brought now me request text cut means r g = fated_good user
     next : StepNext users s now (set_at now.node me made.node) (BeginItem id text) (Begins id text) made
     next = begun_next users s brought now (set_at now.node me made.node) request text means g r
 
-marked_good : (users : Users) → (c : Cluster) (now : Standing) (item : Item) → TapeOn c now.tape (item ∷ now.tape) → ((x : OpId) → has_begun (item ∷ now.tape) x ≡ has_begun now.tape x) → Good users c now → Good users c (marked now item)
-marked_good users c now item on same g = record {
+marked_good : (users : Users) → (c : Cluster) (now : Standing) (item : Item) → TapeOn c now.tape (item ∷ now.tape) → ((x : OpId) → has_begun (item ∷ now.tape) x ≡ has_begun now.tape x) → ((schema : Schema) (usage : Usage) → IsAnswered schema usage now.tape item) → ((x : OpId) → has_failed (item ∷ now.tape) x ≡ has_failed now.tape x)
+    → Good users c now → Good users c (marked now item)
+marked_good users c now item on same answered failed g = record {
   lawful = on.lawful g.lawful;
-  node = λ v. other_good users c now.tape (item ∷ now.tape) v (now.node v) on.stood (on.made v) (λ x is q. on.moved x q) (g.node v);
+  node = λ v. other_good users c now.tape (item ∷ now.tape) v (now.node v) on.stood (on.made v) (λ x is q. on.moved x q) (λ x is. failed x) (g.node v);
   starts = g.starts;
   polls = on.polls g.polls;
   written = λ fits. on.written c.schema users.usage (g.written fits);
   unbegun = λ x new. same x ∙ g.unbegun x new;
+  answered = λ fits. (answered c.schema users.usage, g.answered fits);
+  unfailed = λ x new. failed x ∙ g.unfailed x new;
   fresh = λ x new q. on.moved x q ∙ g.fresh x new q;
   unasked = λ x new. on.asked x ∙ g.unasked x new;
   worn = λ x le. unmoved_on now.tape (item ∷ now.tape) x (on.moved x) (on.asked x) (g.worn x le);
@@ -422,7 +441,7 @@ drained_good users c h brought cuts zero now g = go (next_delivery (up now) now.
   where
     go : (o : Option ℕ) → Good users c (unless_none now (λ j. marked now CutItem) o)
     go None = g
-    go (Some j) = marked_good users c now CutItem (tape_item c now.tape CutItem tt (λ x q. refl) (λ v q. refl) (λ x. refl) tt (λ schema usage. tt)) (λ x. refl) g
+    go (Some j) = marked_good users c now CutItem (tape_item c now.tape CutItem tt (λ x q. refl) (λ v q. refl) (λ x. refl) tt (λ schema usage. tt)) (λ x. refl) (λ schema usage. tt) (λ x. refl) g
 drained_good users c h brought cuts (suc most) now g = go (next_delivery (up now) now.tape) refl (λ j. drained_good users c h brought cuts most (delivered c h cuts now j))
   where
     go : (o : Option ℕ) → next_delivery (up now) now.tape ≡ o → ((j : ℕ) → Good users c (delivered c h cuts now j) → Good users c (drained c h cuts (delivered c h cuts now j) most))
@@ -449,12 +468,12 @@ event_good users c h brought cuts now (TickEvent node clock) meant r g =
 event_good users c h brought cuts now (Deliver j) meant r g =
     let second = (not_because (not (is_sent now.tape j)) 3 _ r).1 in let third = (not_because (is_dropped now.tape j) 4 _ second).1 in
     delivered_good users c h brought cuts now j (message_of now.tape j) refl (not_because (receiver_down now (message_of now.tape j)) 1 None third).0 g
-event_good users c h brought cuts now (Drop j) meant r g = marked_good users c now (Dropped j) (tape_item c now.tape (Dropped j) tt (λ x q. refl) (λ v q. refl) (λ x. refl) tt (λ schema usage. tt)) (λ x. refl) g
+event_good users c h brought cuts now (Drop j) meant r g = marked_good users c now (Dropped j) (tape_item c now.tape (Dropped j) tt (λ x q. refl) (λ v q. refl) (λ x. refl) tt (λ schema usage. tt)) (λ x. refl) (λ schema usage. tt) (λ x. refl) g
 event_good users c h brought cuts now (Drain most) meant r g = drained_good users c h brought cuts most now g
 event_good users c h brought cuts now (CrashEvent node) meant r g = crashes_good users c now node.0 g
 event_good users c h brought cuts now (StartEvent node) meant r g = fated_start_good users c h now node.0 (fate_of c now node.0 true (cuts now.tape)) g
-event_good users c h brought cuts now (FuseEvent node calls image Log) meant r g = record { lawful = g.lawful; node = g.node; starts = g.starts; polls = g.polls; written = g.written; unbegun = g.unbegun; fresh = g.fresh; unasked = g.unasked; worn = g.worn; owes = g.owes; owed = g.owed }
-event_good users c h brought cuts now (FuseEvent node calls image Data) meant r g = record { lawful = g.lawful; node = g.node; starts = g.starts; polls = g.polls; written = g.written; unbegun = g.unbegun; fresh = g.fresh; unasked = g.unasked; worn = g.worn; owes = g.owes; owed = g.owed }
+event_good users c h brought cuts now (FuseEvent node calls image Log) meant r g = record { lawful = g.lawful; node = g.node; starts = g.starts; polls = g.polls; written = g.written; unbegun = g.unbegun; answered = g.answered; unfailed = g.unfailed; fresh = g.fresh; unasked = g.unasked; worn = g.worn; owes = g.owes; owed = g.owed }
+event_good users c h brought cuts now (FuseEvent node calls image Data) meant r g = record { lawful = g.lawful; node = g.node; starts = g.starts; polls = g.polls; written = g.written; unbegun = g.unbegun; answered = g.answered; unfailed = g.unfailed; fresh = g.fresh; unasked = g.unasked; worn = g.worn; owes = g.owes; owed = g.owed }
 event_good users c h brought cuts now (BeginEvent node request text) meant r g =
     let second = (not_because (not (is_node c node.0)) 6 _ r).1 in let third = (not_because (not (up now node.0)) 1 _ second).0 in
     begin_good users c h brought now node.0 request text (cuts now.tape) meant (not_false (up now node.0) third) g
@@ -470,11 +489,13 @@ run_good users c cuts (one ∷ events) now fits g = run_good users c cuts events
 nothing_good : (users : Users) → (c : Cluster) → Good users c nothing_yet
 nothing_good users c = record {
   lawful = tt;
-  node = λ v. record { made = λ q. refl; known = λ g n e h. cc; held = tt; rising = tt };
+  node = λ v. record { made = λ q. refl; known = λ g n e h. cc; held = tt; rising = tt; unfailed = tt };
   starts = λ v. omega arith;
   polls = tt;
   written = λ fits. tt;
   unbegun = λ x new. refl;
+  answered = λ fits. tt;
+  unfailed = λ x new. refl;
   fresh = λ x new q. refl;
   unasked = λ x new. refl;
   worn = λ x le. record { moved = λ q. refl; asked = refl };
@@ -507,4 +528,10 @@ pub run_written : (c : Cluster) (usage : Usage) (first : Meanings) (events : Lis
 run_written c usage first events tape run fits = record {
   lawful = run_lawful c first events tape run;
   written = subst (AreWritten c.schema usage) (sym run.tape_is) ((run_stands (record { usage = usage; fits = Fits usage events }) c first events tape run (λ f. f)).written fits);
+}
+
+pub run_answered : (c : Cluster) (usage : Usage) (first : Meanings) (events : List Happening) (tape : List Item) → IsRun c first events tape → Fits usage events → LawfulAnswers c usage tape
+run_answered c usage first events tape run fits = record {
+  writes = run_written c usage first events tape run fits;
+  answered = subst (AreAnswered c.schema usage) (sym run.tape_is) ((run_stands (record { usage = usage; fits = Fits usage events }) c first events tape run (λ f. f)).answered fits);
 }

@@ -11,10 +11,10 @@ use Rattle.mega_wal.specs.Acceptor.{Act, accept_answer, promise_answer}
 use Rattle.mega_transcript.specs.declared.item.Item.{Item}
 use Rattle.mega_transcript.specs.declared.item.Item.TheVariants.{Sent}
 use Rattle.mega_promises.specs.Runs.{Standing}
-use Rattle.mega_rules.specs.Met.{Met, Sends, Unsends}
+use Rattle.mega_rules.specs.Met.{Answers, Met, Sends, Unsends}
 use Rattle.mega_rules.specs.Clock.{begun_of, is_up, last_number, start_of}
 use Rattle.mega_rules.specs.Logs.{decided}
-use Rattle.mega_rules.specs.Operations.{Node}
+use Rattle.mega_rules.specs.Operations.{Node, Operation}
 use Rattle.mega_rules.specs.Steps.{onto}
 use Rattle.mega_rules.specs.Voting.{act_in, acts as acts_met, prepared, voted}
 use Rattle.mega_laws.specs.Places.{Place, acts, moves}
@@ -27,7 +27,8 @@ use Rattle.mega_lawful.specs.Vouched.{Each, sent}
 use Rattle.mega_lawful.proofs.Sending.{Stood, took_on}
 use Rattle.mega_lawful.proofs.Prefixes.{prefix_more}
 use Rattle.mega_lawful.proofs.Opened.{Grew, same_met}
-use Rattle.mega_lawful.proofs.Turns.{Held, IsRising, Known, NoAct, each_on, held_on}
+use Rattle.mega_lawful.proofs.Turns.{Held, IsRising, Known, NoAct, each_on, each_zip, held_on}
+use Rattle.mega_laws.specs.Answers.{AreAnswered, has_failed}
 use Rattle.mega_lawful.proofs.Noted.{Note, note_on}
 
 -- ---- what is owed
@@ -43,11 +44,13 @@ make_on old new m s same _ h = tt
 abbrev pub Owes : Cluster → List Item → ℕ → List Met → Type 0
 Owes c tape me [] = Unit {0}
 Owes c tape me (Unsends m ∷ more) = (more ≡ []) × ((m.from ≡ me) × MayMake tape m m.body)
+Owes c tape me (Answers op answer ∷ more) = ⊥
 Owes c tape me (one ∷ more) = Note c tape me one × Owes c tape me more
 
 pub owes_on : (c : Cluster) (old new : List Item) (me : ℕ) → Stood old new → ((q : Place) → acts new me q ≡ acts old me q) → (owed : List Met) → Owes c old me owed → Owes c new me owed
 owes_on c old new me s same [] h = tt
 owes_on c old new me s same (Unsends m ∷ more) h = (h.0, ((h.1).0, make_on old new m s (λ q. ap (λ v. acts new v q) (h.1).0 ∙ same q ∙ ap (λ v. acts old v q) (sym (h.1).0)) m.body (h.1).1))
+owes_on c old new me s same (Answers op answer ∷ more) h = absurd h
 owes_on c old new me s same (one ∷ more) h = (note_on c old new s me one h.0, owes_on c old new me s same more h.1)
 
 -- ---- nodes
@@ -57,6 +60,7 @@ pub record NodeGood (users : Users) (c : Cluster) (tape : List Item) (me : ℕ) 
   pub known : Known me node.met tape
   pub held : Each (Held users c tape me (start_of node.met) (begun_of node.met + 1) node.met) node.open_operations
   pub rising : IsRising 0 node.open_operations
+  pub unfailed : Each (λ (o : Operation). has_failed tape o.id ≡ false) node.open_operations
 
 -- an operation that its node did not begin
 abbrev pub IsNew : ℕ → List Met → OpId → Type 0
@@ -80,19 +84,23 @@ pub record Good (users : Users) (c : Cluster) (now : Standing) : Type 0 where
   pub worn : (x : OpId) → last_number ≤ x.number → Unmoved now.tape x
   pub written : users.fits → AreWritten c.schema users.usage now.tape
   pub unbegun : (x : OpId) → IsNew (now.starts x.node.0) (now.node x.node.0).met x → has_begun now.tape x ≡ false
+  pub answered : users.fits → AreAnswered c.schema users.usage now.tape
+  pub unfailed : (x : OpId) → IsNew (now.starts x.node.0) (now.node x.node.0).met x → has_failed now.tape x ≡ false
   pub owes : (me : ℕ) → Owes c now.tape me (now.owed me)
   pub owed : (me : ℕ) → is_up (now.node me).met ≡ true → now.owed me ≡ []
 
 -- a node that met nothing more
 pub other_good : (users : Users) → (c : Cluster) (old new : List Item) (me : ℕ) (node : Node) → Stood old new → ((q : Place) → acts new me q ≡ acts old me q) → ((x : OpId) → x.node.0 ≡ me → (q : Place) → moves new x q ≡ moves old x q)
-    → NodeGood users c old me node → NodeGood users c new me node
-other_good users c old new me node s same moved h = record {
+    → ((x : OpId) → x.node.0 ≡ me → has_failed new x ≡ has_failed old x) → NodeGood users c old me node → NodeGood users c new me node
+other_good users c old new me node s same moved failed h = record {
   made = λ q. h.made q ∙ sym (same q);
   known = λ g n e k. s _ (h.known g n e k);
   held = each_on (Held users c old me (start_of node.met) (begun_of node.met + 1) node.met) (Held users c new me (start_of node.met) (begun_of node.met + 1) node.met)
       (λ o held. held_on users c old new me (start_of node.met) (begun_of node.met + 1) (begun_of node.met + 1) node.met node.met o (record { stood = s; moved = λ q. moved o.id held.node q }) (same_met node.met) (omega arith) held)
       node.open_operations h.held;
   rising = h.rising;
+  unfailed = each_zip (Held users c old me (start_of node.met) (begun_of node.met + 1) node.met) (λ (o : Operation). has_failed old o.id ≡ false) (λ (o : Operation). has_failed new o.id ≡ false)
+      (λ o held still. failed o.id held.node ∙ still) node.open_operations h.held h.unfailed;
 }
 
 -- ---- what a node sends

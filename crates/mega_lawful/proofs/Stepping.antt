@@ -18,12 +18,14 @@ use Rattle.mega_laws.specs.Places.{Place, acts, moves}
 use Rattle.mega_lawful.proofs.Owned.{Users, sent_begun}
 use Rattle.mega_laws.specs.Lawful.{Lawful}
 use Rattle.mega_laws.specs.Polls.{ArePolls, has_asked}
-use Rattle.mega_laws.specs.Writes.{AreWritten, has_begun}
+use Rattle.mega_laws.specs.Writes.{AreWritten, has_begun, Usage}
 use Rattle.mega_wal.specs.Same.{same_op}
 use Rattle.mega_laws.proofs.Ballots.{number_is}
 use Rattle.mega_lawful.specs.Vouched.{Each, sent}
 use Rattle.mega_lawful.proofs.Sending.{Stood, stood_sent}
-use Rattle.mega_lawful.proofs.Turns.{Held, IsRising, Known, could, could_not, within, worn_could}
+use Rattle.mega_lawful.proofs.Turns.{Held, IsRising, Known, could, could_not, not_within, within, worn_could}
+use Rattle.mega_laws.specs.Answers.{AreAnswered, IsAnswered, has_failed}
+use Rattle.mega_schema.specs.declared.schema.Schema.{Schema}
 use Rattle.mega_lawful.proofs.Noted.{Follows, Note, TapeOn, notes_follow}
 use Rattle.mega_lawful.proofs.Standing.{FromMe, Good, IsNew, NodeGood, Owes, SentOn, Unmoved, other_good, owes_on, sends_elsewhere, sends_made, sends_on, unmoved_on}
 
@@ -42,6 +44,9 @@ pub record Next (users : Users) (c : Cluster) (now : Standing) (me : ℕ) (tape 
   pub written : users.fits → AreWritten c.schema users.usage tape
   pub begun : (x : OpId) → (me == x.node.0) ≡ false → has_begun tape x ≡ has_begun now.tape x
   pub unbegun : (x : OpId) → x.node.0 ≡ me → IsNew (starts me) node.met x → has_begun tape x ≡ false
+  pub answered : users.fits → AreAnswered c.schema users.usage tape
+  pub failed : (x : OpId) → (me == x.node.0) ≡ false → has_failed tape x ≡ has_failed now.tape x
+  pub unfailed : (x : OpId) → x.node.0 ≡ me → IsNew (starts me) node.met x → has_failed tape x ≡ false
   pub started : start_of node.met ≤ starts me
   pub starts_same : (v : ℕ) → (me == v) ≡ false → starts v ≡ now.starts v
   pub owes : Owes c tape me (owed me)
@@ -63,13 +68,15 @@ next_good users c now me tape node log_fuse data_fuse starts records owed g n = 
   worn = n.worn;
   written = n.written;
   unbegun = λ x new. unbegun_of x (me == x.node.0) refl new;
+  answered = n.answered;
+  unfailed = λ x new. unfailed_of x (me == x.node.0) refl new;
   owes = λ v. owes_of v (me == v) refl;
   owed = λ v up. owed_of v (me == v) refl up;
 }
   where
     node_of : (v : ℕ) (t : Bool) → (me == v) ≡ t → NodeGood users c tape v (cond t node (now.node v))
     node_of v true h = subst (λ w. NodeGood users c tape w node) (number_is me v h) n.mine
-    node_of v false h = other_good users c now.tape tape v (now.node v) n.stood (n.made v h) (λ x is q. n.moved x (ap (λ w. me == w) is ∙ h) q) (g.node v)
+    node_of v false h = other_good users c now.tape tape v (now.node v) n.stood (n.made v h) (λ x is q. n.moved x (ap (λ w. me == w) is ∙ h) q) (λ x is. n.failed x (ap (λ w. me == w) is ∙ h)) (g.node v)
 
     starts_of : (v : ℕ) (t : Bool) → (me == v) ≡ t → start_of (cond t node (now.node v)).met ≤ starts v
     starts_of v true h = subst (λ w. start_of node.met ≤ starts w) (number_is me v h) n.started
@@ -86,6 +93,10 @@ next_good users c now me tape node log_fuse data_fuse starts records owed g n = 
     unbegun_of : (x : OpId) (t : Bool) → (me == x.node.0) ≡ t → IsNew (starts x.node.0) (cond t node (now.node x.node.0)).met x → has_begun tape x ≡ false
     unbegun_of x true h new = let same = number_is me x.node.0 h in n.unbegun x (sym same) (subst (λ w. IsNew (starts w) node.met x) (sym same) new)
     unbegun_of x false h new = n.begun x h ∙ g.unbegun x (subst (λ k. IsNew k (now.node x.node.0).met x) (n.starts_same x.node.0 h) new)
+
+    unfailed_of : (x : OpId) (t : Bool) → (me == x.node.0) ≡ t → IsNew (starts x.node.0) (cond t node (now.node x.node.0)).met x → has_failed tape x ≡ false
+    unfailed_of x true h new = let same = number_is me x.node.0 h in n.unfailed x (sym same) (subst (λ w. IsNew (starts w) node.met x) (sym same) new)
+    unfailed_of x false h new = n.failed x h ∙ g.unfailed x (subst (λ k. IsNew k (now.node x.node.0).met x) (n.starts_same x.node.0 h) new)
 
     owes_of : (v : ℕ) (t : Bool) → (me == v) ≡ t → Owes c tape v (owed v)
     owes_of v true h = subst (λ w. Owes c tape w (owed w)) (number_is me v h) n.owes
@@ -111,14 +122,19 @@ pub record Own (c : Cluster) (tape : List Item) (item : Item) (met : List Met) (
   pub begun : begun_of met ≤ begun_of (one ∷ met)
   pub up : is_up (one ∷ met) ≡ is_up met
   pub begins : (x : OpId) → OtherThan one x → has_begun (item ∷ tape) x ≡ has_begun tape x
+  pub answered : (schema : Schema) (usage : Usage) → IsAnswered schema usage tape item
+  pub failed : (x : OpId) → has_failed (item ∷ tape) x ≡ has_failed tape x
 
 -- what a step sends behind its notes
-pub record SendsOn (users : Users) (c : Cluster) (me st l : ℕ) (tape : List Item) (met : List Met) (k : ℕ) (sends : List Message) (kept : List Operation) : Type 0 where
+pub record SendsOn (users : Users) (c : Cluster) (me st l : ℕ) (early tape : List Item) (met : List Met) (k : ℕ) (sends : List Message) (kept : List Operation) : Type 0 where
   pub lawful : Lawful c (sent k sends tape)
   pub polls : ArePolls (sent k sends tape)
   pub written : users.fits → AreWritten c.schema users.usage (sent k sends tape)
   pub moved : (x : OpId) → could me st l x ≡ false → (q : Place) → moves (sent k sends tape) x q ≡ moves tape x q
   pub asked : (x : OpId) → could me st l x ≡ false → has_asked (sent k sends tape) x ≡ has_asked tape x
+  pub answered : users.fits → AreAnswered c.schema users.usage (sent k sends tape)
+  pub failed : (x : OpId) → within me st l x ≡ false → has_failed (sent k sends tape) x ≡ has_failed early x
+  pub unfailed : Each (λ (o : Operation). has_failed (sent k sends tape) o.id ≡ false) kept
   pub mine : Each (FromMe me) sends
   pub held : Each (Held users c (sent k sends tape) me st l (onto (map Sends sends) met)) kept
   pub rising : IsRising 0 kept
@@ -127,24 +143,30 @@ apart : (a b : Bool) → a ≡ false → (a && b) ≡ false
 apart true b h = cc
 apart false b h = refl
 
-elsewhere : (me st l : ℕ) (x : OpId) → (me == x.node.0) ≡ false → could me st l x ≡ false
-elsewhere me st l x h = apart (within me st l x) (nat_lt x.number last_number) (go (x.node.0 == me) refl)
+elsewhere_within : (me st l : ℕ) (x : OpId) → (me == x.node.0) ≡ false → within me st l x ≡ false
+elsewhere_within me st l x h = go (x.node.0 == me) refl
   where
     go : (t : Bool) → (x.node.0 == me) ≡ t → ((t && x.start == st) && nat_lt x.number l) ≡ false
     go true e = absurd (false_is me x.node.0 h (sym (number_is x.node.0 me e)))
     go false e = refl
 
-not_started : (me st l : ℕ) (x : OpId) → st < x.start → could me st l x ≡ false
-not_started me st l x less = apart (within me st l x) (nat_lt x.number last_number) (go (x.start == st) refl (x.node.0 == me))
+elsewhere : (me st l : ℕ) (x : OpId) → (me == x.node.0) ≡ false → could me st l x ≡ false
+elsewhere me st l x h = apart (within me st l x) (nat_lt x.number last_number) (elsewhere_within me st l x h)
+
+not_started_within : (me st l : ℕ) (x : OpId) → st < x.start → within me st l x ≡ false
+not_started_within me st l x less = go (x.start == st) refl (x.node.0 == me)
   where
     go : (t : Bool) → (x.start == st) ≡ t → (u : Bool) → ((u && t) && nat_lt x.number l) ≡ false
     go true e u = absurd (let same = number_is x.start st e in omega (arith, same, less))
     go false e true = refl
     go false e false = refl
 
+not_started : (me st l : ℕ) (x : OpId) → st < x.start → could me st l x ≡ false
+not_started me st l x less = apart (within me st l x) (nat_lt x.number last_number) (not_started_within me st l x less)
+
 pub step_next : (users : Users) → (c : Cluster) (now : Standing) (me : ℕ) (nodes : ℕ → Node) (item : Item) (own : Met) (notes : List Met) (k : ℕ) (sends : List Message) (kept : List Operation) (stored : GroupId → ℕ) (tape : List Item)
     → Good users c now → is_up (now.node me).met ≡ true → Own c now.tape item (now.node me).met own → Each (Note c (item ∷ now.tape) me) notes
-    → SendsOn users c me (start_of (now.node me).met) (begun_of (own ∷ (now.node me).met) + 1) (with_items c nodes (item ∷ now.tape) (flat_map (shown me) notes)) (onto notes (own ∷ (now.node me).met)) k sends kept
+    → SendsOn users c me (start_of (now.node me).met) (begun_of (own ∷ (now.node me).met) + 1) (item ∷ now.tape) (with_items c nodes (item ∷ now.tape) (flat_map (shown me) notes)) (onto notes (own ∷ (now.node me).met)) k sends kept
     → tape ≡ sent k sends (with_items c nodes (item ∷ now.tape) (flat_map (shown me) notes))
     → ((x : OpId) → ((me == x.node.0) ≡ false) ⊎ IsNew (now.starts me) (own ∷ (now.node me).met) x → OtherThan own x)
     → is_up (onto notes (own ∷ (now.node me).met)) ≡ true
@@ -157,6 +179,7 @@ step_next users c now me nodes item own notes k sends kept stored tape g up o ma
     known = λ h n e d. stood_sent k sends tape2 _ (follows.known known1 h n e (sym (last.decides h n) ∙ d));
     held = coe 0 1 (i. Each (Held users c (sent k sends tape2) me (sym start3 i) (sym begun3 i + 1) met3) kept) s.held;
     rising = s.rising;
+    unfailed = s.unfailed;
   };
   made = λ v apart q. sends_elsewhere me v k sends tape2 apart s.mine q ∙ (follows.tape).made v q ∙ (o.on).made v q;
   moved = λ x apart q. s.moved x (elsewhere me (start_of met) (begun_of met1 + 1) x apart) q ∙ (follows.tape).moved x q ∙ (o.on).moved x q;
@@ -167,6 +190,9 @@ step_next users c now me nodes item own notes k sends kept stored tape g up o ma
   written = s.written;
   begun = λ x apart. same_begun x (inl apart);
   unbegun = λ x node new. unbegun x node new;
+  answered = s.answered;
+  failed = λ x apart. s.failed x (elsewhere_within me (start_of met) (begun_of met1 + 1) x apart) ∙ o.failed x;
+  unfailed = λ x node new. unfailed x node new;
   worn = λ x le. unmoved_on now.tape (sent k sends tape2) x (same x (worn_could me (start_of met) (begun_of met1 + 1) x le)) (same_asked x (worn_could me (start_of met) (begun_of met1 + 1) x le)) (g.worn x le);
   started = subst (λ n. n ≤ now.starts me) (sym start3) (g.starts me);
   starts_same = λ v apart. refl;
@@ -225,6 +251,15 @@ step_next users c now me nodes item own notes k sends kept stored tape g up o ma
     unbegun x node (inr both) =
         same_begun x (inr (inr (both.0 ∙ last.start ∙ (follows.met_on).start, (let n = both.1 in let b = begun3 in omega (arith, n, b)))))
         ∙ unbegun_before x node (inr (both.0 ∙ start3, (let n = both.1 in let b = begun3 in let c' = o.begun in omega (arith, n, b, c'))))
+
+    unfailed_before : (x : OpId) → x.node.0 ≡ me → IsNew (now.starts me) met x → has_failed now.tape x ≡ false
+    unfailed_before x node new = g.unfailed x (subst (λ w. IsNew (now.starts w) (now.node w).met x) (sym node) new)
+
+    unfailed : (x : OpId) → x.node.0 ≡ me → IsNew (now.starts me) met3 x → has_failed (sent k sends tape2) x ≡ false
+    unfailed x node (inl later) = s.failed x (not_started_within me (start_of met) (begun_of met1 + 1) x (let first = g.starts me in omega (arith, first, later))) ∙ o.failed x ∙ unfailed_before x node (inl later)
+    unfailed x node (inr both) =
+        s.failed x (not_within me (start_of met) (begun_of met1 + 1) x (let n = both.1 in let b = begun3 in omega (arith, n, b)))
+        ∙ o.failed x ∙ unfailed_before x node (inr (both.0 ∙ start3, (let n = both.1 in let b = begun3 in let c' = o.begun in omega (arith, n, b, c'))))
 
     same_asked : (x : OpId) → could me (start_of met) (begun_of met1 + 1) x ≡ false → has_asked (sent k sends tape2) x ≡ has_asked now.tape x
     same_asked x h = s.asked x h ∙ (follows.tape).asked x ∙ (o.on).asked x

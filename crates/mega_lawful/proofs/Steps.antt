@@ -2,6 +2,7 @@
 use Rattle.std.proofs.Common.{◌≡◌, ◌⊎◌, ◌||◌, inl, inr, ℕ, ◌+◌, ◌-◌, ◌==◌, ◌≤◌, ◌<◌, max, min, nat_le, nat_lt, Bool, true, false, cond, List, [], ◌∷◌, ◌++◌, flat_map, length, Option, Some, None, refl, sym, ap, ◌∙◌, subst, arith}
 use Rattle.std.proofs.lemmas.Bool.Decides.{nat_tests}
 use Rattle.mega_base.specs.declared.names.OpId.{OpId}
+use Rattle.mega_base.specs.declared.values.NodeKind.{NodeKind}
 use Rattle.mega_cluster.specs.declared.cluster.Cluster.{Cluster}
 use Rattle.mega_outcome.specs.declared.request.Request.{Request}
 use Rattle.mega_wire.specs.declared.message.Message.{Message}
@@ -16,13 +17,13 @@ use Rattle.mega_rules.specs.Met.{Met, Begins}
 use Rattle.mega_rules.specs.Members.{kind_of}
 use Rattle.mega_rules.specs.Clock.{begun_of, clock_of, last_number, is_up, start_of}
 use Rattle.mega_outcome.specs.declared.answer.Answer.{Answer}
-use Rattle.mega_outcome.specs.declared.answer.Answer.TheVariants.{Worn}
+use Rattle.mega_outcome.specs.declared.answer.Answer.TheVariants.{Busy, NotHere, Worn}
 use Rattle.mega_rules.specs.Logs.{decided}
 use Rattle.mega_rules.specs.Operations.{Node, Now, Operation, Setting}
-use Rattle.mega_rules.specs.Steps.{begin_step, at_open, new_operation, op_of, refusal, unless_refused, is_worn, unless_missing, missing_kind, Step, apply_notes, at_first, onto}
+use Rattle.mega_rules.specs.Steps.{begin_step, at_open, new_operation, op_of, refusal, unless_refused, is_worn, unless_busy, unless_missing, missing_kind, Step, apply_notes, at_first, onto}
 use Rattle.mega_laws.specs.Places.{In, Place, Proposes as ProposesMove, moves}
-use Rattle.mega_laws.specs.Writes.{IsNamed, has_begun}
-use Rattle.mega_laws.proofs.Ballots.{clash, number_self}
+use Rattle.mega_laws.specs.Writes.{IsNamed, Usage, has_begun}
+use Rattle.mega_laws.proofs.Ballots.{clash, number_self, number_is}
 use Rattle.mega_wal.specs.Same.{same_op}
 use Rattle.mega_wal.proofs.Sames.{same_op_equal}
 use Rattle.mega_lawful.specs.Usages.{Brought}
@@ -32,18 +33,23 @@ use Rattle.mega_laws.proofs.Lists.{some_is}
 use Rattle.mega_lawful.specs.Vouched.{Each, sent}
 use Rattle.mega_lawful.proofs.Sending.{Stood}
 use Rattle.mega_lawful.proofs.Opened.{Grew}
-use Rattle.mega_lawful.proofs.Turns.{Fine, Frame, Held, fine_turn, Known, each_on, held_on}
+use Rattle.mega_lawful.proofs.Turns.{Fine, Frame, Held, IsOpen, fine_turn, Known, each_on, held_on}
+use Rattle.mega_lawful.proofs.Causes.{Given}
+use Rattle.mega_lawful.proofs.Causing.{given_none}
+use Rattle.mega_lawful.proofs.Silent.{IsSilent}
+use Rattle.mega_lawful.proofs.Written.{Unproposed}
+use Rattle.mega_laws.specs.Answers.{has_failed}
+use Rattle.mega_schema.specs.declared.schema.Schema.{Schema}
 use Rattle.mega_lawful.proofs.Noting.{begun_it}
 use Rattle.mega_lawful.proofs.Noted.{with_append, with_sent, Follows, Note, notes_follow, tape_item}
 use Rattle.mega_lawful.proofs.Beginning.{AllActed, Starting, begun_fine}
 use Rattle.mega_lawful.proofs.Standing.{Good, IsNew}
 use Rattle.mega_lawful.proofs.Stepping.{Next, Own, next_good, step_next}
-use Rattle.mega_lawful.proofs.Events.{Noted, acted_sends, apply_plain, each_append, noted_lasts, notes_grew, onto_append, onto_decided, onto_grew, plain_notes}
-use Rattle.mega_laws.proofs.Ballots.{number_is}
+use Rattle.mega_lawful.proofs.Events.{Noted, Unheard, acted_sends, answer_notes, apply_plain, each_append, noted_lasts, notes_grew, onto_append, onto_decided, onto_grew, plain_notes, plain_silents, unheard_by}
 use Rattle.mega_lawful.proofs.Whole.{StepNext, held_first, none_before, up_onto}
 
 pub own_begin : (c : Cluster) (tape : List Item) (id : OpId) (text : List ℕ) (met : List Met) → has_asked tape id ≡ false → (IsNamed id → has_begun tape id ≡ false) → Own c tape (Begin id text) met (Begins id text)
-own_begin c tape id text met unasked unbegun = record { on = tape_item c tape (Begin id text) tt (λ x q. refl) (λ v q. refl) (λ x. refl) unasked (λ schema usage. unbegun); begins = λ x other. ap (λ t. t || has_begun tape x) other; made = λ g n. refl; decides = λ g n. refl; start = refl; begun = omega arith; up = refl }
+own_begin c tape id text met unasked unbegun = record { on = tape_item c tape (Begin id text) tt (λ x q. refl) (λ v q. refl) (λ x. refl) unasked (λ schema usage. unbegun); begins = λ x other. ap (λ t. t || has_begun tape x) other; answered = λ schema usage. tt; failed = λ x. refl; made = λ g n. refl; decides = λ g n. refl; start = refl; begun = omega arith; up = refl }
 
 not_worn : (t : Bool) (o : Option Answer) → cond t (Some Worn) o ≡ None → t ≡ false
 not_worn true o h = cc
@@ -63,6 +69,35 @@ next_new b last h = let less : b < last = grind (arith, nat_tests) in omega (ari
 
 next_last : (b last : ℕ) → nat_lt b last ≡ false → last ≤ min (b + 1) last
 next_last b last h = let le : last ≤ b = grind (arith, nat_tests) in omega (arith, le)
+
+next_apart : (b last n : ℕ) → n < b + 1 → n < last → n < min (b + 1) last
+next_apart b last n less under = omega arith
+
+-- an operation that begins never moved
+pub never_moved : (users : Users) → (s : Setting) (now : Standing) → Good users s.cluster now → (q : Place) → moves now.tape (op_of s (now.node s.me).met) q ≡ []
+never_moved users s now g q = go (nat_lt (begun_of (now.node s.me).met) last_number) refl
+  where
+    go : (t : Bool) → nat_lt (begun_of (now.node s.me).met) last_number ≡ t → moves now.tape (op_of s (now.node s.me).met) q ≡ []
+    go true h = g.fresh (op_of s (now.node s.me).met) (inr (refl, next_new (begun_of (now.node s.me).met) last_number h)) q
+    go false h = (g.worn (op_of s (now.node s.me).met) (next_last (begun_of (now.node s.me).met) last_number h)).moved q
+
+-- what refuses needs no more cause than that nothing was proposed
+busy_given : (schema : Schema) (usage : Usage) (tape : List Item) (op : OpId) (open_ones : List Operation) (answer : Answer) → IsNamed op → Unproposed tape op → unless_busy open_ones ≡ Some answer → Given schema usage tape op answer
+busy_given schema usage tape op open_ones answer named none is = go (nat_le 64 (length open_ones)) is
+  where
+    go : (t : Bool) → cond t (Some (Busy 64)) None ≡ Some answer → Given schema usage tape op answer
+    go true e = subst (Given schema usage tape op) (some_is (Busy 64) answer e) (given_none schema usage tape op (Busy 64) named none tt)
+    go false e = cc
+
+missing_given : (schema : Schema) (usage : Usage) (tape : List Item) (op : OpId) (open_ones : List Operation) (kind : Option NodeKind) (answer : Answer) → IsNamed op → Unproposed tape op → unless_missing open_ones kind ≡ Some answer → Given schema usage tape op answer
+missing_given schema usage tape op open_ones None answer named none is = busy_given schema usage tape op open_ones answer named none is
+missing_given schema usage tape op open_ones (Some kind) answer named none is = subst (Given schema usage tape op) (some_is (NotHere kind) answer is) (given_none schema usage tape op (NotHere kind) named none tt)
+
+pub refusal_given : (schema : Schema) (usage : Usage) (tape : List Item) (op : OpId) (open_ones : List Operation) (kind : Option NodeKind) (answer : Answer) (worn : Bool) → (worn ≡ false → IsNamed op) → Unproposed tape op
+    → cond worn (Some Worn) (unless_missing open_ones kind) ≡ Some answer → Given schema usage tape op answer
+refusal_given schema usage tape op open_ones kind answer true named none is =
+    subst (Given schema usage tape op) (some_is Worn answer is) (record { cause = tt; doomed = λ negative p b e i id. absurd (none p b e i id); named = inl refl })
+refusal_given schema usage tape op open_ones kind answer false named none is = missing_given schema usage tape op open_ones kind answer (named refl) none is
 
 -- an operation that begins never asked
 pub never_asked : (users : Users) → (s : Setting) (now : Standing) → Good users s.cluster now → has_asked now.tape (op_of s (now.node s.me).met) ≡ false
@@ -109,7 +144,7 @@ pub begun_next : (users : Users) → (s : Setting) → (users.fits → Brought u
     → StepNext users s now nodes' (Begin (op_of s (now.node s.me).met) text) (Begins (op_of s (now.node s.me).met) text) (begin_step s (now.node s.me) request text)
 begun_next users s brought now nodes' request text means g up = (
   step_next users c now me nodes' (Begin id text) (Begins id text) notes k acted.sends acted.kept acted.stored _ g up (own_begin c now.tape id text met (never_asked users s now g) (never_begun users s now g)) all_may
-      (acted_sends users s me st l k tape2 (onto notes met1) [] acted ((follows.tape).polls (never_asked users s now g, g.polls)) (none_before c me tape2 k) all_done grown) refl (begins_other users s now text g) (up_onto c tape1 me notes met1 all_may up),
+      (acted_sends users s nodes' me st l k tape1 tape2 (onto notes met1) [] acted ((follows.tape).polls (never_asked users s now g, g.polls)) (none_before c me tape2 k) all_done grown unheard) refl (begins_other users s now text g) (up_onto c tape1 me notes met1 all_may up),
   all_may,
 )
   where
@@ -171,7 +206,11 @@ begun_next users s brought now nodes' request text means g up = (
     all_may : Each (Note c tape1 me) notes
     all_may = each_append (Note c tape1 me) (applies ++ acted.valid) acted.answers
         (each_append (Note c tape1 me) applies acted.valid (plain_notes c tape1 me applies (apply_plain s met node.stored acted.met acted.stored)) (plain_notes c tape1 me acted.valid noted.valid))
-        (plain_notes c tape1 me acted.answers noted.answers)
+        (answer_notes c tape1 me acted.answers noted.answers)
+
+    unheard : Unheard users c nodes' me tape1 tape2 acted.answers
+    unheard = unheard_by users c nodes' me tape1 (applies ++ acted.valid) acted.answers
+        (each_append IsSilent applies acted.valid (plain_silents applies (apply_plain s met node.stored acted.met acted.stored)) (plain_silents acted.valid noted.valid)) (λ fits. (tt, g.answered fits))
 
     follows : Follows c me tape1 met1 tape2 (onto notes met1)
     follows = notes_follow c me nodes' notes tape1 met1 all_may
@@ -189,19 +228,23 @@ begun_next users s brought now nodes' request text means g up = (
     moved2 x q = (follows.tape).moved x q
 
     frame : Frame
-    frame = record { me = me; start = st; next = k + length {A = Message} []; base = tape2 }
+    frame = record { me = me; start = st; next = k + length {A = Message} []; base = tape2; early = tape1 }
 
     known_first : Known me met1 tape2
     known_first h n e x = follows.known (λ h' n' e' y. inr ((g.node me).known h' n' e' y)) h n e (ap (λ z. decided z h n) spread
         ∙ onto_decided acted.answers (onto acted.valid (onto applies met1)) h n e (onto_decided acted.valid (onto applies met1) h n e (onto_decided applies met1 h n e x)))
 
-    open_fine : Fine users c frame (begun_of met + 1) met1 node.open_operations []
+    open_fine : Fine users c frame (begun_of met + 1) met1 node.open_operations [] []
     open_fine = record {
       lawful = (follows.tape).lawful (tt, g.lawful);
       written = λ fits. (follows.tape).written c.schema users.usage (never_begun users s now g, g.written fits);
       later = λ x h q. refl;
       asked = λ x h. refl;
       made = λ v q. refl;
+      given = λ fits. tt;
+      answered = tt;
+      fair = tt;
+      unheard = each_on (λ (one : Operation). has_failed now.tape one.id ≡ false) (IsOpen tape1 []) (λ one still. record { unfailed = still; apart = tt }) node.open_operations (g.node me).unfailed;
       known = known_first;
       quiet = tt;
       held = each_on (Held users c tape2 me st (begun_of met + 1) met) (Held users c tape2 me st (begun_of met + 1) met1)
@@ -216,22 +259,37 @@ begun_next users s brought now nodes' request text means g up = (
     named : refusal s node request ≡ None → id.number < last_number
     named h = next_named (begun_of met) last_number (numbered_next h) (not_worn (is_worn met) (unless_missing node.open_operations (missing_kind request (kind_of s.cluster s.me))) h)
 
-    unmoved : refusal s node request ≡ None → (q : Place) → moves tape2 id q ≡ []
-    unmoved h q = moved2 id q ∙ g.fresh id (inr (refl, (let is = numbered_next h in omega arith))) q
+    unmoved : (q : Place) → moves tape2 id q ≡ []
+    unmoved q = moved2 id q ∙ never_moved users s now g q
+
+    none : Unproposed tape2 id
+    none q b e i own = subst (In (ProposesMove b e)) (unmoved q) i
+
+    unfailed : refusal s node request ≡ None → has_failed tape1 id ≡ false
+    unfailed h = g.unfailed id (inr (refl, (let is = numbered_next h in omega (arith, is))))
+
+    kept_below : (one : Operation) → Held users c tape2 me st (begun_of met + 1) met1 one → (one.id).number < id.number
+    kept_below one held = next_apart (begun_of met) last_number (one.id).number held.below held.named
+
+    named_unless : is_worn met ≡ false → IsNamed id
+    named_unless h = next_named (begun_of met) last_number (next_is (begun_of met) last_number h) h
+
+    refused : users.fits → (answer : Answer) → refusal s node request ≡ Some answer → Given c.schema users.usage tape2 id answer
+    refused fits answer is = refusal_given c.schema users.usage tape2 id node.open_operations (missing_kind request (kind_of s.cluster s.me)) answer (is_worn met) named_unless none is
 
     starting : users.fits → refusal s node request ≡ None → Starting users.usage tape2 id request
     starting fits h = record {
       began = record { text = text; stands = (follows.tape).stood _ (inl refl); means = means fits };
-      none = λ q b e i own. subst (In (ProposesMove b e)) (unmoved h q) i;
+      none = none;
     }
 
     most_of : AllActed users s frame (max (begun_of met + 1) (id.number + 1)) acted → AllActed users s frame l acted
     most_of a = record { k = a.k; most = (let le = a.most in let small = next_small (begun_of met) last_number in omega (arith, le, small)); fine = a.fine }
 
     all_done : AllActed users s frame l acted
-    all_done = most_of (begun_fine users s brought frame (begun_of met + 1) begin o (refusal s node request) open_fine
-        (λ h. (fine_turn users c frame (begun_of met + 1) met1 node.open_operations [] id open_fine (let is = numbered_next h in omega arith) refl refl (named h), λ q above. inr (unmoved h q)))
-        (λ h. let is = numbered_next h in omega arith) starting)
+    all_done = most_of (begun_fine users s brought frame (begun_of met + 1) begin o (refusal s node request) open_fine refl refl
+        (λ h. (fine_turn users c frame (begun_of met + 1) met1 node.open_operations [] [] id open_fine (let is = numbered_next h in omega arith) refl refl (named h) (unfailed h), λ q above. inr (unmoved q)))
+        (λ h. let is = numbered_next h in omega arith) starting kept_below refused)
 
 -- ---- steps that are whole
 

@@ -30,7 +30,8 @@ use Rattle.mega_lawful.proofs.Noted.{Follows, Note, notes_follow, tape_item}
 use Rattle.mega_lawful.proofs.Beginning.{AllActed, ticked_fine}
 use Rattle.mega_lawful.proofs.Standing.{Good}
 use Rattle.mega_lawful.proofs.Stepping.{Own, step_next}
-use Rattle.mega_lawful.proofs.Events.{Before, behind, free_before, lapses_plain, lease_plain, Noted, acted_sends, apply_plain, each_append, first_fine, noted_lasts, notes_grew, onto_append, onto_decided, onto_grew, plain_notes}
+use Rattle.mega_lawful.proofs.Events.{Before, behind, free_before, lapses_plain, lease_plain, Noted, Unheard, acted_sends, answer_notes, apply_plain, each_append, first_fine, noted_lasts, notes_grew, onto_append, onto_decided, onto_grew, plain_notes, plain_silents, unheard_by}
+use Rattle.mega_lawful.proofs.Silent.{IsSilent}
 use Rattle.mega_lawful.proofs.Free.{AreFree, IsFree, each_flat, each_of}
 use Rattle.mega_lawful.proofs.Whole.{StepNext, held_first, up_onto}
 
@@ -51,13 +52,13 @@ background_free s met clock = free_if (has_rows s.cluster s.me && does_again s.c
     (each_flat IsFree (fetches_for s met) (λ group. free_if (nat_lt (prefix_of met group) (newest_of met group)) (map (fetch_to s met group) (others s.me (voters s.cluster))) (each_of IsFree (fetch_to s met group) (λ to. tt) (others s.me (voters s.cluster)))) (groups_of met))
 
 pub own_tick : (c : Cluster) (tape : List Item) (me clock : ℕ) (met : List Met) → Own c tape (Tick (number me) clock) met (Ticks clock)
-own_tick c tape me clock met = record { on = tape_item c tape (Tick (number me) clock) tt (λ x q. refl) (λ v q. refl) (λ x. refl) tt (λ schema usage. tt); begins = λ x other. refl; made = λ g n. refl; decides = λ g n. refl; start = refl; begun = omega arith; up = refl }
+own_tick c tape me clock met = record { on = tape_item c tape (Tick (number me) clock) tt (λ x q. refl) (λ v q. refl) (λ x. refl) tt (λ schema usage. tt); begins = λ x other. refl; answered = λ schema usage. tt; failed = λ x. refl; made = λ g n. refl; decides = λ g n. refl; start = refl; begun = omega arith; up = refl }
 
 pub ticked_next : (users : Users) → (s : Setting) → (users.fits → Brought users.usage s.handlers) → (now : Standing) (nodes' : ℕ → Node) (clock : ℕ) → Good users s.cluster now → is_up (now.node s.me).met ≡ true
     → StepNext users s now nodes' (Tick (number s.me) clock) (Ticks clock) (tick_step s (now.node s.me) clock)
 ticked_next users s brought now nodes' clock g up = (
   step_next users c now me nodes' (Tick (number s.me) clock) (Ticks clock) notes k ((pre ++ acted.sends) ++ background s met clock) acted.kept acted.stored _ g up (own_tick c now.tape me clock met) all_may
-      (behind users c me st l k tape2 (onto notes met1) (pre ++ acted.sends) (background s met clock) acted.kept (acted_sends users s me st l k tape2 (onto notes met1) pre acted ((follows.tape).polls (tt, g.polls)) before all_done grown) (background_free s met clock)) refl (λ x h. tt) (up_onto c tape1 me notes met1 all_may up),
+      (behind users c me st l k tape1 tape2 (onto notes met1) (pre ++ acted.sends) (background s met clock) acted.kept (acted_sends users s nodes' me st l k tape1 tape2 (onto notes met1) pre acted ((follows.tape).polls (tt, g.polls)) before all_done grown unheard) (background_free s met clock)) refl (λ x h. tt) (up_onto c tape1 me notes met1 all_may up),
   all_may,
 )
   where
@@ -106,8 +107,11 @@ ticked_next users s brought now nodes' clock g up = (
     applies : List Met
     applies = apply_notes s met node.stored acted.met acted.stored
 
+    silent : List Met
+    silent = ((told ++ later) ++ applies) ++ acted.valid
+
     notes : List Met
-    notes = (((told ++ later) ++ applies) ++ acted.valid) ++ acted.answers
+    notes = silent ++ acted.answers
 
     tape1 : List Item
     tape1 = Tick (number s.me) clock ∷ now.tape
@@ -126,7 +130,17 @@ ticked_next users s brought now nodes' clock g up = (
         (each_append (Note c tape1 me) told (later) (plain_notes c tape1 me told (lease_plain s met clock)) (plain_notes c tape1 me later (lapses_plain s met clock)))
         (plain_notes c tape1 me applies (apply_plain s met node.stored acted.met acted.stored)))
         (plain_notes c tape1 me acted.valid noted.valid))
-        (plain_notes c tape1 me acted.answers noted.answers)
+        (answer_notes c tape1 me acted.answers noted.answers)
+
+    are_silent : Each IsSilent silent
+    are_silent = each_append IsSilent ((told ++ later) ++ applies) acted.valid
+        (each_append IsSilent (told ++ later) applies
+        (each_append IsSilent told later (plain_silents told (lease_plain s met clock)) (plain_silents later (lapses_plain s met clock)))
+        (plain_silents applies (apply_plain s met node.stored acted.met acted.stored)))
+        (plain_silents acted.valid noted.valid)
+
+    unheard : Unheard users c nodes' me tape1 tape2 acted.answers
+    unheard = unheard_by users c nodes' me tape1 silent acted.answers are_silent (λ fits. (tt, g.answered fits))
 
     follows : Follows c me tape1 met1 tape2 (onto notes met1)
     follows = notes_follow c me nodes' notes tape1 met1 all_may
@@ -156,10 +170,11 @@ ticked_next users s brought now nodes' clock g up = (
     known_first h n e x = stood_sent k pre tape2 _ (follows.known (λ h' n' e' y. inr ((g.node me).known h' n' e' y)) h n e (ap (λ z. decided z h n) spread
         ∙ onto_decided acted.answers (onto acted.valid (onto applies first)) h n e (onto_decided acted.valid (onto applies first) h n e (onto_decided applies first h n e x))))
 
-    all_done : AllActed users s (record { me = me; start = st; next = k + length pre; base = base }) l acted
-    all_done = ticked_fine users s brought (record { me = me; start = st; next = k + length pre; base = base }) met clock l node.open_operations begin 0 0
-        (first_fine users c (record { me = me; start = st; next = k + length pre; base = base }) first (before.lawful ((follows.tape).lawful (tt, g.lawful)))
+    all_done : AllActed users s (record { me = me; start = st; next = k + length pre; base = base; early = tape1 }) l acted
+    all_done = ticked_fine users s brought (record { me = me; start = st; next = k + length pre; base = base; early = tape1 }) met clock l node.open_operations begin 0 0
+        (first_fine users c (record { me = me; start = st; next = k + length pre; base = base; early = tape1 }) first (before.lawful ((follows.tape).lawful (tt, g.lawful)))
         (λ fits. before.written c.schema users.usage ((follows.tape).written c.schema users.usage (tt, g.written fits))) known_first)
         (omega arith) (omega arith) (g.node me).rising
         (held_first users c now.tape base me node (λ item x. stood_sent k pre tape2 item (stood2 item x)) (λ x q. before.moved x q ∙ moved2 x q) (g.node me))
         (λ h. (let one = onto_grew (Ticks clock ∷ []) met h in let two = onto_grew told met1 h in let three = onto_grew later (onto told met1) h in omega (arith, one, two, three)))
+        (g.node me).unfailed

@@ -38,10 +38,13 @@ use Rattle.mega_lawful.proofs.Turns.{Held, Known, each_on, held_on, sent_append}
 use Rattle.mega_lawful.proofs.Noting.{all_act_it}
 use Rattle.mega_lawful.proofs.Noted.{Follows, Note, notes_follow, tape_item}
 use Rattle.mega_lawful.proofs.Beginning.{AllActed, all_act_fine}
-use Rattle.mega_lawful.proofs.Deciding.{first_may, new_may, told_may}
+use Rattle.mega_lawful.proofs.Deciding.{decision_silent, first_may, new_may, told_may}
 use Rattle.mega_lawful.proofs.Standing.{FromMe, Good, NodeGood}
 use Rattle.mega_lawful.proofs.Stepping.{Next, Own, step_next}
-use Rattle.mega_lawful.proofs.Events.{Before, Noted, acted_sends, apply_plain, each_append, first_fine, noted_lasts, notes_grew, onto_append, onto_decided, onto_grew, plain_notes, told_plain}
+use Rattle.mega_lawful.proofs.Events.{Before, Noted, Unheard, acted_sends, answer_notes, apply_plain, each_append, first_fine, noted_lasts, notes_grew, onto_append, onto_decided, onto_grew, plain_notes, plain_silents, told_plain, unheard_by}
+use Rattle.mega_lawful.proofs.Answering.{quiet_answered}
+use Rattle.mega_lawful.proofs.Silent.{IsSilent}
+use Rattle.mega_laws.specs.Answers.{AreAnswered}
 
 -- ---- what is noted stands
 
@@ -83,7 +86,7 @@ in_shown me g n e (one ∷ notes) (inr i) = in_right (Decide (number me) g (reco
 -- ---- replies and news
 
 pub none_before : (c : Cluster) (me : ℕ) (tape : List Item) (k : ℕ) → Before c me tape k []
-none_before c me tape k = record { lawful = λ l. l; polls = λ p. p; written = λ schema usage w. w; moved = λ x q. refl; asked = λ x. refl; mine = tt }
+none_before c me tape k = record { lawful = λ l. l; polls = λ p. p; written = λ schema usage w. w; moved = λ x q. refl; asked = λ x. refl; answered = λ schema usage a. a; mine = tt }
 
 both_before : (c : Cluster) (me : ℕ) (tape : List Item) (k : ℕ) (xs ys : List Message) → Before c me tape k xs → Before c me (sent k xs tape) (k + length xs) ys → Before c me tape k (xs ++ ys)
 both_before c me tape k xs ys a b = record {
@@ -92,6 +95,7 @@ both_before c me tape k xs ys a b = record {
   written = λ schema usage w. subst (AreWritten schema usage) (sym whole) (b.written schema usage (a.written schema usage w));
   moved = λ x q. ap (λ t. moves t x q) whole ∙ b.moved x q ∙ a.moved x q;
   asked = λ x. ap (λ t. has_asked t x) whole ∙ b.asked x ∙ a.asked x;
+  answered = λ schema usage h. subst (AreAnswered schema usage) (sym whole) (b.answered schema usage (a.answered schema usage h));
   mine = each_append (FromMe me) xs ys a.mine b.mine;
 }
   where
@@ -109,6 +113,7 @@ reply_before c tape me met m k s took = go (answer_to c me met m.from m.body) (�
       written = λ schema usage w. quiet_written schema usage k (message me m.from answer ∷ []) tape (told.2, tt) w;
       moved = λ x q. ap (λ o. cons_option o (moves tape x q)) (fair.1 x q);
       asked = λ x. ap (λ t. t || has_asked tape x) (told.1 x);
+      answered = λ schema usage a. quiet_answered schema usage k (message me m.from answer ∷ []) tape (told.2, tt) a;
       mine = (inl refl, tt);
     }
 
@@ -120,6 +125,7 @@ told_before c tape me d k (one ∷ to) s = let rest = told_before c (Sent k (dec
   written = λ schema usage w. rest.written schema usage (tt, w);
   moved = λ x q. rest.moved x q;
   asked = λ x. rest.asked x;
+  answered = λ schema usage a. rest.answered schema usage (tt, a);
   mine = (inl refl, rest.mine);
 }
 
@@ -145,7 +151,7 @@ up_onto c tape me [] met h up = up
 up_onto c tape me (one ∷ notes) met h up = up_onto c tape me notes (one ∷ met) h.1 (up_one c tape me one met h.0 up)
 
 pub own_taken : (c : Cluster) (tape : List Item) (j : ℕ) (m : Message) (met : List Met) → Own c tape (Taken j) met (Takes m)
-own_taken c tape j m met = record { on = tape_item c tape (Taken j) tt (λ x q. refl) (λ v q. refl) (λ x. refl) tt (λ schema usage. tt); begins = λ x other. refl; made = λ g n. refl; decides = λ g n. refl; start = refl; begun = omega arith; up = refl }
+own_taken c tape j m met = record { on = tape_item c tape (Taken j) tt (λ x q. refl) (λ v q. refl) (λ x. refl) tt (λ schema usage. tt); begins = λ x other. refl; answered = λ schema usage. tt; failed = λ x. refl; made = λ g n. refl; decides = λ g n. refl; start = refl; begun = omega arith; up = refl }
 
 pub held_first : (users : Users) → (c : Cluster) (old new : List Item) (me : ℕ) (node : Node) → Stood old new → ((x : OpId) (q : Place) → moves new x q ≡ moves old x q) → NodeGood users c old me node
     → Each (Held users c new me (start_of node.met) (begun_of node.met + 1) node.met) node.open_operations
@@ -160,7 +166,7 @@ pub taken_next : (users : Users) → (s : Setting) → (users.fits → Brought u
     (reply_to s.cluster s.me (now.node s.me).met m) (news s telling))
 taken_next users s brought now nodes' j m d telling g up stands may same = (
   step_next users c now me nodes' (Taken j) (Takes m) notes k ((reply ++ told_news) ++ acted.sends) acted.kept acted.stored _ g up (own_taken c now.tape j m met) all_may
-      (acted_sends users s me st l k tape2 (onto notes met1) (reply ++ told_news) acted ((follows.tape).polls (tt, g.polls)) before all_done grown) refl (λ x h. tt) (up_onto c tape1 me notes met1 all_may up),
+      (acted_sends users s nodes' me st l k tape1 tape2 (onto notes met1) (reply ++ told_news) acted ((follows.tape).polls (tt, g.polls)) before all_done grown unheard) refl (λ x h. tt) (up_onto c tape1 me notes met1 all_may up),
   all_may,
 )
   where
@@ -209,8 +215,11 @@ taken_next users s brought now nodes' j m d telling g up stands may same = (
     applies : List Met
     applies = apply_notes s met node.stored acted.met acted.stored
 
+    silent : List Met
+    silent = ((told ++ decision_note d) ++ applies) ++ acted.valid
+
     notes : List Met
-    notes = (((told ++ decision_note d) ++ applies) ++ acted.valid) ++ acted.answers
+    notes = silent ++ acted.answers
 
     tape1 : List Item
     tape1 = Taken j ∷ now.tape
@@ -232,7 +241,17 @@ taken_next users s brought now nodes' j m d telling g up stands may same = (
         (each_append (Note c tape1 me) told (decision_note d) (plain_notes c tape1 me told (told_plain s met m.from m.body)) (may took))
         (plain_notes c tape1 me applies (apply_plain s met node.stored acted.met acted.stored)))
         (plain_notes c tape1 me acted.valid noted.valid))
-        (plain_notes c tape1 me acted.answers noted.answers)
+        (answer_notes c tape1 me acted.answers noted.answers)
+
+    are_silent : Each IsSilent silent
+    are_silent = each_append IsSilent ((told ++ decision_note d) ++ applies) acted.valid
+        (each_append IsSilent (told ++ decision_note d) applies
+        (each_append IsSilent told (decision_note d) (plain_silents told (told_plain s met m.from m.body)) (decision_silent d))
+        (plain_silents applies (apply_plain s met node.stored acted.met acted.stored)))
+        (plain_silents acted.valid noted.valid)
+
+    unheard : Unheard users c nodes' me tape1 tape2 acted.answers
+    unheard = unheard_by users c nodes' me tape1 silent acted.answers are_silent (λ fits. (tt, g.answered fits))
 
     follows : Follows c me tape1 met1 tape2 (onto notes met1)
     follows = notes_follow c me nodes' notes tape1 met1 all_may
@@ -271,13 +290,14 @@ taken_next users s brought now nodes' j m d telling g up stands may same = (
     known_first h n e x = stood_sent k (reply ++ told_news) tape2 _ (follows.known (λ h' n' e' y. inr ((g.node me).known h' n' e' y)) h n e (ap (λ z. decided z h n) spread
         ∙ onto_decided acted.answers (onto acted.valid (onto applies first)) h n e (onto_decided acted.valid (onto applies first) h n e (onto_decided applies first h n e x))))
 
-    all_done : AllActed users s (record { me = me; start = st; next = k + length (reply ++ told_news); base = base }) l acted
-    all_done = all_act_fine users s brought (record { me = me; start = st; next = k + length (reply ++ told_news); base = base }) met (clock_of met) m l node.open_operations begin 0 0
-        (first_fine users c (record { me = me; start = st; next = k + length (reply ++ told_news); base = base }) first (before.lawful ((follows.tape).lawful ((own_taken c now.tape j m met).on.lawful g.lawful)))
+    all_done : AllActed users s (record { me = me; start = st; next = k + length (reply ++ told_news); base = base; early = tape1 }) l acted
+    all_done = all_act_fine users s brought (record { me = me; start = st; next = k + length (reply ++ told_news); base = base; early = tape1 }) met (clock_of met) m l node.open_operations begin 0 0
+        (first_fine users c (record { me = me; start = st; next = k + length (reply ++ told_news); base = base; early = tape1 }) first (before.lawful ((follows.tape).lawful ((own_taken c now.tape j m met).on.lawful g.lawful)))
         (λ fits. before.written c.schema users.usage ((follows.tape).written c.schema users.usage (tt, g.written fits))) known_first)
         (omega arith) (omega arith) (g.node me).rising
         (held_first users c now.tape base me node (λ item x. stood_sent k (reply ++ told_news) tape2 item (stood2 item x)) (λ x q. before.moved x q ∙ moved2 x q) (g.node me))
         (λ h. (let one = onto_grew (Takes m ∷ []) met h in let two = onto_grew told met1 h in let three = onto_grew (decision_note d) (onto told met1) h in omega (arith, one, two, three)))
+        (g.node me).unfailed
         (took_on tape1 base (λ item x. stood_sent k (reply ++ told_news) tape2 item ((follows.tape).stood item x)) (message m.from me m.body) took)
 
 -- what becomes of a message by what it tells of a decision

@@ -1,6 +1,6 @@
 //! Laws, as contracts of functions that do nothing.
 
-ghost use Rattle.std.specs.Prelude.{◌≡◌, ℕ, ◌≤◌, true, List, Some, slice_get, take};
+ghost use Rattle.std.specs.Prelude.{◌≡◌, ℕ, ◌≤◌, true, List, Ok, Option, Some, slice_get, take};
 ghost use Rattle.mega_base.specs.declared.names.GroupId.{GroupId as Group};
 ghost use Rattle.mega_base.specs.declared.names.NodeId.{NodeId as Node};
 ghost use Rattle.mega_base.specs.declared.names.OpId.{OpId};
@@ -8,7 +8,7 @@ ghost use Rattle.mega_base.specs.declared.names.Position.{Position as Index};
 ghost use Rattle.mega_cluster.specs.declared.cluster.Cluster.{Cluster};
 ghost use Rattle.mega_wire.specs.declared.message.Body.{Body};
 ghost use Rattle.mega_transcript.specs.declared.item.Item.{Item};
-ghost use Rattle.mega_transcript.specs.declared.item.Item.TheVariants.{Begin, Decide};
+ghost use Rattle.mega_transcript.specs.declared.item.Item.TheVariants.{Answer, Begin, Decide};
 ghost use Rattle.mega_propose.specs.declared.round.Proposal.{Proposal};
 ghost use Rattle.mega_propose.specs.Rounds.{due, settled, takes};
 ghost use Rattle.mega_entry.specs.declared.content.Content.{Content};
@@ -16,11 +16,17 @@ ghost use Rattle.mega_rules.specs.Met.{Met};
 ghost use Rattle.mega_rules.specs.Replies.{answer_to};
 ghost use Rattle.mega_laws.specs.Places.{Place, Took};
 ghost use Rattle.mega_handler.specs.Named.{Meanings};
-ghost use Rattle.mega_promises.specs.Promises.{Agree, AreMessages, StoodBefore, asked_for, comes_to, group_written, is_write, log_of};
+ghost use Rattle.mega_promises.specs.Promises.{Agree, AreMessages, IsSerial, Stands, StoodBefore, asked_for, comes_to, group_written, is_write, log_of, rows_shown};
 ghost use Rattle.mega_promises.specs.Runs.{Happening, IsRun};
 ghost use Rattle.mega_laws.specs.Lawful.{Lawful, MayMake, MaySend, message};
 ghost use Rattle.mega_laws.specs.Polls.{ArePolls, IsPolled};
 ghost use Rattle.mega_laws.specs.Writes.{LawfulWrites, Usage};
+ghost use Rattle.mega_laws.specs.Answers.{LawfulAnswers};
+ghost use Rattle.mega_outcome.specs.declared.answer.Answer.TheVariants.{Read as ReadAnswer};
+ghost use Rattle.mega_outcome.specs.declared.answer.Shown.{Shown};
+ghost use Rattle.mega_outcome.specs.declared.request.ReadRequest.{ReadRequest};
+ghost use Rattle.mega_outcome.specs.declared.request.Request.TheVariants.{Read as ReadRequested};
+ghost use Rattle.mega_rules.specs.Steps.{is_current};
 ghost use Rattle.mega_outcome.specs.declared.request.Request.{Request};
 ghost use Rattle.mega_lawful.specs.Usages.{Fits};
 ghost use Rattle.mega_lawful.specs.Shows.{Shows};
@@ -65,6 +71,15 @@ pub fn runs_write()
     ensures written { (c : Cluster) (usage : Usage) (first : Meanings) (events : List Happening) (tape : List Item) → IsRun c first events tape → Fits usage events → LawfulWrites c usage tape }
     ensures entries { (c : Cluster) (usage : Usage) (first : Meanings) (events : List Happening) (tape : List Item) → IsRun c first events tape → Fits usage events → (group : Group) (n : ℕ) (entry : Content) (op : OpId) (request : Request) → slice_get (log_of tape group) n ≡ Some entry → entry.id ≡ Some op → asked_for usage.meaning tape op ≡ Some request → is_write request ≡ true → (group_written request ≡ Some group) × (comes_to c.schema op request (take n (log_of tape group)) ≡ Some entry) }
     ensures once { (c : Cluster) (usage : Usage) (first : Meanings) (events : List Happening) (tape : List Item) → IsRun c first events tape → Fits usage events → (g h : Group) (m n : ℕ) (d e : Content) (op : OpId) → slice_get (log_of tape g) m ≡ Some d → slice_get (log_of tape h) n ≡ Some e → d.id ≡ Some op → e.id ≡ Some op → (g ≡ h) × (m ≡ n) }
+{}
+
+/// In every run each answer has its cause where each text means the request that begins with it, so the store is serial (CIDR 2011,
+/// transactions): answers show what an operation came to at its place in the log, and one that was answered negatively is decided nowhere, at
+/// any time. A current read shows the rows of its group's log through the position that it answers with.
+pub fn runs_answer()
+    ensures answered { (c : Cluster) (usage : Usage) (first : Meanings) (events : List Happening) (tape : List Item) → IsRun c first events tape → Fits usage events → LawfulAnswers c usage tape }
+    ensures serial { (c : Cluster) (usage : Usage) (first : Meanings) (events : List Happening) (tape : List Item) → IsRun c first events tape → Fits usage events → IsSerial c.schema usage.meaning tape }
+    ensures reads { (c : Cluster) (usage : Usage) (first : Meanings) (events : List Happening) (tape : List Item) → IsRun c first events tape → Fits usage events → (op : OpId) (text : List ℕ) (request : ReadRequest) (p : Index) (rows : List (Option Shown)) → Stands (Begin op text) tape → usage.meaning text ≡ Some (ReadRequested request) → is_current request.mode ≡ true → Stands (Answer op (ReadAnswer p rows)) tape → rows_shown c.schema request (take p.0 (log_of tape request.group)) request.rows ≡ Ok rows }
 {}
 
 /// In every run with the same handlers throughout, messages are entered once and handled once, the oldest first, as they were sent
