@@ -12,8 +12,11 @@ use Rattle.mega_outcome.specs.declared.request.Request.{Request}
 use Rattle.mega_outcome.specs.declared.request.Request.TheVariants.{Txn, Batch as BatchRequest, Read, Find, PumpEnter, PumpHandle, Refresh}
 use Rattle.mega_outcome.specs.declared.request.ReadRequest.{ReadRequest}
 use Rattle.mega_outcome.specs.declared.request.FindRequest.{FindRequest}
-use Rattle.mega_propose.specs.Rounds.{Move as RoundMove, Proposal, due, takes}
-use Rattle.mega_read.specs.Catching.{Move as ReadMove, falls_due, hears}
+use Rattle.mega_propose.specs.declared.round.Move.{Move as RoundMove}
+use Rattle.mega_propose.specs.declared.round.Proposal.{Proposal}
+use Rattle.mega_propose.specs.Rounds.{due, takes}
+use Rattle.mega_read.specs.declared.reading.Move.{Move as ReadMove}
+use Rattle.mega_read.specs.Catching.{falls_due, hears}
 use Rattle.mega_ballot.specs.Order.{zero_ballot}
 use Rattle.mega_cluster.specs.declared.cluster.Cluster.{Cluster}
 use Rattle.mega_coordinator.specs.declared.answers.NotValid.{NotValid}

@@ -19,7 +19,10 @@ use Rattle.mega_transcript.specs.declared.item.Item.{Item}
 use Rattle.mega_transcript.specs.declared.item.Item.TheVariants.{Begin, Decide, Sent}
 use Rattle.mega_promises.specs.Items.{number}
 use Rattle.mega_promises.specs.Promises.{Stands, asked_for}
-use Rattle.mega_read.specs.Catching.{Search, Fetching, Filling, Stage, Polling, Catching}
+use Rattle.mega_read.specs.declared.reading.Search.{Search}
+use Rattle.mega_read.specs.declared.reading.Stage.{Stage}
+use Rattle.mega_read.specs.declared.reading.Search.TheVariants.{Fetching, Filling}
+use Rattle.mega_read.specs.declared.reading.Stage.TheVariants.{Polling, Catching}
 use Rattle.mega_rules.specs.Met.{Met}
 use Rattle.mega_rules.specs.Logs.{decided, decided_from, log_of, prefix_of, then_more}
 use Rattle.mega_rules.specs.Queues.{Posted, sent_in}
