@@ -8,7 +8,7 @@ use Rattle.mega_disk.specs.declared.versions.StoreError.{StoreError}
 use Rattle.mega_disk.specs.declared.versions.StoreError.TheVariants.{DiskFault, Full, BadRecord, NoMemory}
 use Rattle.mega_disk.specs.declared.versions.Versions.{Ghosts}
 use Rattle.mega_disk.proofs.Leaves.{started, then_leaves}
-use Rattle.mega_outcome.specs.Looks.{Looked, WasBad, Looks}
+use Rattle.mega_outcome.specs.Looks.{Looked, Looks}
 
 burn_here : (f : Fuse) → MayBurn f f
 burn_here Untold = refl
@@ -48,6 +48,7 @@ looked_here store x only_now = record {
   later = omega arith;
   may_burn = burn_here (store.fuse_left x);
   by_fuse = λ h. h;
+  bad_stays = λ n h. h;
 }
 
 pub looked_then : {V : Type 0} (store : Ghosts V) (old mid new : V) → Looked store old mid → Looked store mid new → Looked store old new
@@ -61,6 +62,7 @@ looked_then store old mid new first second = record {
   later = omega (arith, first.later, second.later);
   may_burn = burn_then (store.fuse_left old) (store.fuse_left mid) (store.fuse_left new) first.may_burn second.may_burn;
   by_fuse = λ h. second.by_fuse (first.by_fuse h);
+  bad_stays = λ n h. first.bad_stays n (second.bad_stays n h);
 }
 
 rose_later : (a b c : ℕ) → a ≤ b → Rose b c → Rose a c
@@ -70,7 +72,7 @@ pub looks_then : {V : Type 0} (store : Ghosts V) (failed : Option StoreError) (o
 looks_then store failed old mid new first second = record {
   looked = looked_then store old mid new first.looked second.looked;
   cause = λ e. rose_later (store.faults old) (store.faults mid) (store.faults new) first.looked.later (second.cause e);
-  bad = λ n e. let was = second.bad n e in record { then = was.then; looked = looked_then store old mid was.then first.looked was.looked; bad = was.bad };
+  bad = λ n e. first.looked.bad_stays n (second.bad n e);
   never_full = second.never_full;
   burns = λ h e. burns_then (store.fuse_left old) (store.fuse_left mid) (store.fuse_left new) first.looked.may_burn (second.burns (first.looked.by_fuse h) e);
 }

@@ -18,17 +18,12 @@ pub record Looked {V : Type 0} (store : Ghosts V) (old new : V) : Type 0 where
   pub later : store.faults old ≤ store.faults new
   pub may_burn : MayBurn (store.fuse_left old) (store.fuse_left new)
   pub by_fuse : store.fails_by_fuse old ≡ true → store.fails_by_fuse new ≡ true
-
--- a run of the store was bad when it was looked at
-pub record WasBad {V : Type 0} (store : Ghosts V) (old : V) (n : ℕ) : Type 0 where
-  pub then : V
-  pub looked : Looked store old then
-  pub bad : store.is_bad then n
+  pub bad_stays : (n : ℕ) → store.is_bad new n → store.is_bad old n
 
 -- the same where the last look may have failed, with its cause
 pub record Looks {V : Type 0} (store : Ghosts V) (failed : Option StoreError) (old new : V) : Type 0 where
   pub looked : Looked store old new
   pub cause : failed ≡ Some DiskFault → Rose (store.faults old) (store.faults new)
-  pub bad : (n : ℕ) → failed ≡ Some (BadRecord n) → WasBad store old n
+  pub bad : (n : ℕ) → failed ≡ Some (BadRecord n) → store.is_bad old n
   pub never_full : (n : ℕ) → failed ≡ Some (Full n) → ⊥
   pub burns : store.fails_by_fuse old ≡ true → failed ≡ Some DiskFault → Burns (store.fuse_left old) (store.fuse_left new)

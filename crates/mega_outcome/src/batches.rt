@@ -7,7 +7,7 @@ ghost use Rattle.mega_disk.specs.VersionMaps.{SameVersions};
 ghost use Rattle.mega_index.specs.Rows.{Rows, written};
 ghost use Rattle.mega_outcome.specs.Outcome.{with_next, with_all, batch_outcome, entry_cuts};
 ghost use Rattle.mega_outcome.specs.Answers.{Gives, is_outside, rows_at, seen};
-ghost use Rattle.mega_outcome.specs.Looks.{Looks, WasBad};
+ghost use Rattle.mega_outcome.specs.Looks.{Looks};
 
 use crate::answer::{Batch, Turn};
 use crate::looking::Pending;
@@ -121,7 +121,7 @@ pub fn run_all<V: Versions>(
     ensures within { Within (V.may_open rows.old) (V.may_open rows.new) }
     ensures cause { result ≡ Err Turn.DiskFault → Rose (V.faults rows.old) (V.faults rows.new) }
     ensures later { V.faults rows.old ≤ V.faults rows.new }
-    ensures bad { (n : ℕ) → result ≡ Err (Turn.BadRecord n) → WasBad V.Versions rows.old n }
+    ensures bad { (n : ℕ) → result ≡ Err (Turn.BadRecord n) → V.is_bad rows.old n }
     ensures never_full { (n : ℕ) → result ≡ Err (Turn.Full n) → ⊥ }
     ensures may_burn { MayBurn (V.fuse_left rows.old) (V.fuse_left rows.new) }
     ensures burns { V.fails_by_fuse rows.old ≡ true → result ≡ Err Turn.DiskFault → Burns (V.fuse_left rows.old) (V.fuse_left rows.new) }

@@ -5,7 +5,6 @@ ghost use Rattle.mega_disk.specs.Fuse.{MayBurn, Burns};
 ghost use Rattle.mega_disk.specs.VersionMaps.{SameVersions};
 ghost use Rattle.mega_outcome.specs.Outcome.{outcome};
 ghost use Rattle.mega_outcome.specs.Answers.{Gives, rows_at};
-ghost use Rattle.mega_outcome.specs.Looks.{WasBad};
 
 use crate::answer::{Done, Turn};
 use crate::running::outcome_in;
@@ -34,7 +33,7 @@ pub fn run<V: Versions>(
     ensures within { Within (V.may_open rows.old) (V.may_open rows.new) }
     ensures cause { result ≡ Err Turn.DiskFault → Rose (V.faults rows.old) (V.faults rows.new) }
     ensures later { V.faults rows.old ≤ V.faults rows.new }
-    ensures bad { (n : ℕ) → result ≡ Err (Turn.BadRecord n) → WasBad V.Versions rows.old n }
+    ensures bad { (n : ℕ) → result ≡ Err (Turn.BadRecord n) → V.is_bad rows.old n }
     ensures never_full { (n : ℕ) → result ≡ Err (Turn.Full n) → ⊥ }
     ensures may_burn { MayBurn (V.fuse_left rows.old) (V.fuse_left rows.new) }
     ensures burns { V.fails_by_fuse rows.old ≡ true → result ≡ Err Turn.DiskFault → Burns (V.fuse_left rows.old) (V.fuse_left rows.new) }
