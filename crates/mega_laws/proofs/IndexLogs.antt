@@ -32,7 +32,8 @@ use Rattle.mega_laws.proofs.Serial.{own_entry}
 use Rattle.mega_laws.proofs.Placed.{key_is, after-ascends, after_is}
 use Rattle.mega_laws.proofs.RowKeys.{of_table, stands}
 use Rattle.mega_laws.proofs.IndexKept.{Kept}
-use Rattle.mega_laws.proofs.IndexSteps.{bind_turn, changes_kept, fitted_kept}
+use Rattle.mega_laws.proofs.Replacing.{bind_turn}
+use Rattle.mega_laws.proofs.IndexSteps.{changes_kept, fitted_kept}
 use Rattle.mega_laws.proofs.IndexShown.{is_indexed}
 
 -- ---- transactions and batches

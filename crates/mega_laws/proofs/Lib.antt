@@ -29,8 +29,13 @@ pub mod IndexEntries
 pub mod IndexKept
 pub mod IndexShown
 pub mod IndexAdd
+pub mod Replacing
 pub mod IndexSteps
 pub mod IndexLogs
 pub mod Declared
 pub mod DeclaredClusters
 pub mod IndexWitnesses
+pub mod RootKeys
+pub mod Fitting
+pub mod GrowingSchemas
+pub mod GrowingWitnesses

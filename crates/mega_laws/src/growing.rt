@@ -1,0 +1,51 @@
+//! The law of schemas that grow: on rows that fit, what a transaction does is the same under a schema with more properties, as contracts of
+//! functions that do nothing (`specs/Growing.antt`).
+
+ghost use Rattle.std.specs.Prelude.{◌≡◌, ℕ, List, Ok};
+ghost use Rattle.mega_entry.specs.declared.content.Write.{Write as Written};
+ghost use Rattle.mega_schema.specs.declared.schema.Schema.{Schema};
+ghost use Rattle.mega_index.specs.Rows.{Rows, no_rows, written};
+ghost use Rattle.mega_outcome.specs.declared.answer.Done.{Done};
+ghost use Rattle.mega_outcome.specs.declared.transaction.Change.{Change};
+ghost use Rattle.mega_outcome.specs.declared.transaction.Transaction.{Transaction};
+ghost use Rattle.mega_outcome.specs.Changes.{all_changes, change};
+ghost use Rattle.mega_outcome.specs.Extends.{Extends, LookAtKnown};
+ghost use Rattle.mega_outcome.specs.Outcome.{outcome_in};
+ghost use Rattle.mega_rules.specs.Examples.{group};
+ghost use Rattle.mega_laws.specs.IndexExamples.{named_users};
+ghost use Rattle.mega_laws.specs.Indexed.{IsDeclared};
+ghost use Rattle.mega_laws.specs.Growing.{RowsFit};
+ghost use Rattle.mega_laws.specs.GrowingExamples.{john_rows, nicknamed_users, removal, removed, rename, renamed, stray_rows};
+
+/// No rows fit every schema, and rows that fit still do after what a transaction's items write, in any group.
+pub fn changes_keep_rows_fit()
+    ensures none { (s : Schema) → RowsFit s no_rows }
+    ensures one { (s : Schema) (group : List ℕ) (rows : Rows) (i : ℕ) (c : Change) (writes : List Written) → IsDeclared s → RowsFit s rows → change s group rows i c ≡ Ok writes → RowsFit s (written writes rows) }
+    ensures all { (s : Schema) (group : List ℕ) (rows : Rows) (i : ℕ) (changes : List Change) (writes : List Written) → IsDeclared s → RowsFit s rows → all_changes s group rows i changes ≡ Ok writes → RowsFit s (written writes rows) }
+{}
+
+/// On rows that fit, each row that changes look at, on what the earlier ones left, has properties of its table alone.
+pub fn fitting_rows_look_at_known()
+    ensures { (s : Schema) (group : List ℕ) (rows : Rows) (i : ℕ) (changes : List Change) → IsDeclared s → RowsFit s rows → LookAtKnown s group rows i changes }
+{}
+
+/// On rows that fit, what a transaction does is the same under a schema with more properties, which are not required.
+pub fn outcomes_stay_as_schemas_grow()
+    ensures { (old new : Schema) (group : List ℕ) (txn : Transaction) (rows : Rows) (done : Done) → Extends old new → IsDeclared old → RowsFit old rows → outcome_in old group txn rows ≡ Ok done → outcome_in new group txn rows ≡ Ok done }
+{}
+
+/// A user is renamed, with the entry by name, before and after users may have a nickname.
+pub fn a_rename_stays()
+    ensures extends { Extends named_users nicknamed_users }
+    ensures fit { RowsFit named_users john_rows }
+    ensures before { outcome_in named_users group.key rename john_rows ≡ Ok renamed }
+    ensures after { outcome_in nicknamed_users group.key rename john_rows ≡ Ok renamed }
+{}
+
+/// Why rows must fit: a row with a property that its table lacks has no entry, and one once the table has the property; its deletion then
+/// deletes the entry too.
+pub fn what_does_not_fit_may_differ()
+    ensures unfit { RowsFit named_users stray_rows → ⊥ }
+    ensures before { outcome_in named_users group.key removal stray_rows ≡ Ok removed }
+    ensures after { outcome_in nicknamed_users group.key removal stray_rows ≡ Ok removed → ⊥ }
+{}
