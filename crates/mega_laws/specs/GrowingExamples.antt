@@ -62,5 +62,9 @@ stray_rows key = cond (same_key user_key key) (Some stray) None
 abbrev pub removal : Transaction
 removal = record { group = group; checks = []; reads = []; writes = Delete john ∷ []; sends = [] }
 
+-- what it does, and what it does where the property is known, and the row has an entry
 abbrev pub removed : Done
 removed = record { replies = []; writes = (record { key = user_key; row = None }) ∷ []; sends = [] }
+
+abbrev pub removed_whole : Done
+removed_whole = record { replies = []; writes = (record { key = user_key; row = None }) ∷ (record { key = john_key; row = None }) ∷ []; sends = [] }

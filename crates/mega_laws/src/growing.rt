@@ -2,7 +2,7 @@
 //! functions that do nothing (`specs/Growing.antt`).
 
 ghost use Rattle.std.specs.Prelude.{◌≡◌, ℕ, List, Ok};
-ghost use Rattle.mega_entry.specs.declared.content.Write.{Write as Written};
+ghost use Rattle.mega_entry.specs.declared.content.Write.{Write};
 ghost use Rattle.mega_schema.specs.declared.schema.Schema.{Schema};
 ghost use Rattle.mega_index.specs.Rows.{Rows, no_rows, written};
 ghost use Rattle.mega_outcome.specs.declared.answer.Done.{Done};
@@ -15,13 +15,13 @@ ghost use Rattle.mega_rules.specs.Examples.{group};
 ghost use Rattle.mega_laws.specs.IndexExamples.{named_users};
 ghost use Rattle.mega_laws.specs.Indexed.{IsDeclared};
 ghost use Rattle.mega_laws.specs.Growing.{RowsFit};
-ghost use Rattle.mega_laws.specs.GrowingExamples.{john_rows, nicknamed_users, removal, removed, rename, renamed, stray_rows};
+ghost use Rattle.mega_laws.specs.GrowingExamples.{john_rows, nicknamed_users, removal, removed, removed_whole, rename, renamed, stray_rows};
 
 /// No rows fit every schema, and rows that fit still do after what a transaction's items write, in any group.
 pub fn changes_keep_rows_fit()
     ensures none { (s : Schema) → RowsFit s no_rows }
-    ensures one { (s : Schema) (group : List ℕ) (rows : Rows) (i : ℕ) (c : Change) (writes : List Written) → IsDeclared s → RowsFit s rows → change s group rows i c ≡ Ok writes → RowsFit s (written writes rows) }
-    ensures all { (s : Schema) (group : List ℕ) (rows : Rows) (i : ℕ) (changes : List Change) (writes : List Written) → IsDeclared s → RowsFit s rows → all_changes s group rows i changes ≡ Ok writes → RowsFit s (written writes rows) }
+    ensures one { (s : Schema) (group : List ℕ) (rows : Rows) (i : ℕ) (c : Change) (writes : List Write) → IsDeclared s → RowsFit s rows → change s group rows i c ≡ Ok writes → RowsFit s (written writes rows) }
+    ensures all { (s : Schema) (group : List ℕ) (rows : Rows) (i : ℕ) (changes : List Change) (writes : List Write) → IsDeclared s → RowsFit s rows → all_changes s group rows i changes ≡ Ok writes → RowsFit s (written writes rows) }
 {}
 
 /// On rows that fit, each row that changes look at, on what the earlier ones left, has properties of its table alone.
@@ -47,5 +47,5 @@ pub fn a_rename_stays()
 pub fn what_does_not_fit_may_differ()
     ensures unfit { RowsFit named_users stray_rows → ⊥ }
     ensures before { outcome_in named_users group.key removal stray_rows ≡ Ok removed }
-    ensures after { outcome_in nicknamed_users group.key removal stray_rows ≡ Ok removed → ⊥ }
+    ensures after { outcome_in nicknamed_users group.key removal stray_rows ≡ Ok removed_whole }
 {}
