@@ -38,7 +38,7 @@ pub removal_differs : outcome_in nicknamed_users group.key removal stray_rows �
 unfolding Rattle.mega_base.specs.Codec.number_text
 removal_differs = refl
 
-writes_of : Result Done Turn → ℕ
+abbrev writes_of : Result Done Turn → ℕ
 writes_of (Ok done) = length done.writes
 writes_of (Err turn) = 0
 

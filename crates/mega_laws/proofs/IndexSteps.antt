@@ -23,7 +23,7 @@ use Rattle.mega_laws.proofs.IndexKept.{RowOf, table_least, entry_in, keyed, Kept
 use Rattle.mega_laws.proofs.Replacing.{bind_turn, change_replaces}
 
 -- what `is_kept` asks of the row of a write
-abbrev row_kept : Schema → ℕ → List ℕ → Option Row → Bool
+abbrev pub row_kept : Schema → ℕ → List ℕ → Option Row → Bool
 row_kept s n key None = true
 row_kept s n key (Some row) = stands_in s n (numbered s.tables n) key row
 

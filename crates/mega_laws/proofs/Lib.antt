@@ -31,11 +31,13 @@ pub mod IndexShown
 pub mod IndexAdd
 pub mod Replacing
 pub mod IndexSteps
+pub mod LogSteps
 pub mod IndexLogs
 pub mod Declared
 pub mod DeclaredClusters
 pub mod IndexWitnesses
 pub mod RootKeys
 pub mod Fitting
+pub mod FittingLogs
 pub mod GrowingSchemas
 pub mod GrowingWitnesses

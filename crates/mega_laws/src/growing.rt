@@ -1,27 +1,37 @@
 //! The law of schemas that grow: on rows that fit, what a transaction does is the same under a schema with more properties, as contracts of
 //! functions that do nothing (`specs/Growing.antt`).
 
-ghost use Rattle.std.specs.Prelude.{◌≡◌, ℕ, List, Ok};
+ghost use Rattle.std.specs.Prelude.{◌≡◌, ℕ, List, Ok, take};
+ghost use Rattle.mega_base.specs.declared.names.GroupId.{GroupId as Group};
+ghost use Rattle.mega_cluster.specs.declared.cluster.Cluster.{Cluster};
 ghost use Rattle.mega_entry.specs.declared.content.Write.{Write};
 ghost use Rattle.mega_schema.specs.declared.schema.Schema.{Schema};
-ghost use Rattle.mega_index.specs.Rows.{Rows, no_rows, written};
+ghost use Rattle.mega_index.specs.Rows.{Rows, after, no_rows, written};
 ghost use Rattle.mega_outcome.specs.declared.answer.Done.{Done};
 ghost use Rattle.mega_outcome.specs.declared.transaction.Change.{Change};
 ghost use Rattle.mega_outcome.specs.declared.transaction.Transaction.{Transaction};
 ghost use Rattle.mega_outcome.specs.Changes.{all_changes, change};
 ghost use Rattle.mega_outcome.specs.Extends.{Extends, LookAtKnown};
 ghost use Rattle.mega_outcome.specs.Outcome.{outcome_in};
+ghost use Rattle.mega_transcript.specs.declared.item.Item.{Item};
+ghost use Rattle.mega_promises.specs.Promises.{log_of};
 ghost use Rattle.mega_rules.specs.Examples.{group};
 ghost use Rattle.mega_laws.specs.IndexExamples.{named_users};
 ghost use Rattle.mega_laws.specs.Indexed.{IsDeclared};
+ghost use Rattle.mega_laws.specs.Writes.{LawfulWrites, Usage};
 ghost use Rattle.mega_laws.specs.Growing.{RowsFit};
 ghost use Rattle.mega_laws.specs.GrowingExamples.{john_rows, nicknamed_users, removal, removed, removed_whole, rename, renamed, stray_rows};
 
-/// No rows fit every schema, and rows that fit still do after what a transaction's items write, in any group.
+/// Where there are no rows they fit, and rows that fit still do after what a transaction's items write, in any group.
 pub fn changes_keep_rows_fit()
     ensures none { (s : Schema) → RowsFit s no_rows }
     ensures one { (s : Schema) (group : List ℕ) (rows : Rows) (i : ℕ) (c : Change) (writes : List Write) → IsDeclared s → RowsFit s rows → change s group rows i c ≡ Ok writes → RowsFit s (written writes rows) }
     ensures all { (s : Schema) (group : List ℕ) (rows : Rows) (i : ℕ) (changes : List Change) (writes : List Write) → IsDeclared s → RowsFit s rows → all_changes s group rows i changes ≡ Ok writes → RowsFit s (written writes rows) }
+{}
+
+/// After any number of a log's entries the group's rows fit the schema, which is one that can be declared.
+pub fn rows_of_logs_fit()
+    ensures { (c : Cluster) (usage : Usage) (tape : List Item) → LawfulWrites c usage tape → IsDeclared c.schema → (group : Group) (p : ℕ) → RowsFit c.schema (after (take p (log_of tape group)) no_rows) }
 {}
 
 /// On rows that fit, each row that changes look at, on what the earlier ones left, has properties of its table alone.
