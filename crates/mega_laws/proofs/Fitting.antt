@@ -1,5 +1,5 @@
 -- Rows that fit still do after what transactions write.
-use Rattle.std.proofs.Common.{◌≡◌, inl, inr, ℕ, ◌+◌, cond, Bool, true, false, List, [], ◌∷◌, ◌++◌, refl, sym, ap, ◌∙◌, subst, Option, Some, None, Result, Ok, Err}
+use Rattle.std.proofs.Common.{◌≡◌, inl, inr, ℕ, ◌+◌, cond, List, [], ◌∷◌, ◌++◌, sym, ap, ◌∙◌, subst, Option, Some, None, Ok}
 use Rattle.std.proofs.lemmas.List.Sums.{fold-append}
 use Rattle.mega_base.specs.declared.values.Row.{Row}
 use Rattle.mega_base.specs.declared.values.Value.{Value}
@@ -7,7 +7,7 @@ use Rattle.mega_entry.specs.declared.content.Write.{Write}
 use Rattle.mega_schema.specs.declared.schema.Table.{Table}
 use Rattle.mega_schema.specs.declared.schema.Schema.{Schema}
 use Rattle.mega_index.specs.Rows.{Rows, no_rows, same_key, changed, written}
-use Rattle.mega_index.specs.Fits.{numbered, key_of, stands_in}
+use Rattle.mega_index.specs.Fits.{numbered, key_of}
 use Rattle.mega_index.specs.Cells.{key_values}
 use Rattle.mega_index.specs.Entries.{local_entries}
 use Rattle.mega_index.specs.LocalWrites.{index_writes_in}

@@ -1,13 +1,12 @@
 -- In every log rows fit the schema, after any number of entries.
-use Rattle.std.proofs.Common.{◌≡◌, ℕ, cond, Bool, true, false, if◌then◌else◌, List, [], ◌∷◌, ◌++◌, take, refl, sym, ap, ◌∙◌, subst, Option, Some, None}
+use Rattle.std.proofs.Common.{◌≡◌, ℕ, Bool, true, false, if◌then◌else◌, List, [], ◌∷◌, take, refl, sym, ap, ◌∙◌, subst, Option, Some, None}
 use Rattle.std.proofs.lemmas.List.Sums.{fold-append}
 use Rattle.mega_base.specs.declared.names.GroupId.{GroupId}
-use Rattle.mega_base.specs.declared.values.Row.{Row}
 use Rattle.mega_cluster.specs.declared.cluster.Cluster.{Cluster}
 use Rattle.mega_entry.specs.declared.content.Write.{Write}
 use Rattle.mega_schema.specs.declared.schema.Schema.{Schema}
 use Rattle.mega_index.specs.Rows.{Rows, no_rows, changed, written, after}
-use Rattle.mega_index.specs.Fits.{numbered, stands_in}
+use Rattle.mega_index.specs.Fits.{stands_in}
 use Rattle.mega_index.specs.Fitted.{table_of, is_kept, kept_write, fitted_writes}
 use Rattle.mega_index.specs.LocalWrites.{index_writes}
 use Rattle.mega_outcome.specs.declared.transaction.Transaction.{Transaction}

@@ -1,10 +1,9 @@
 -- On rows that fit, what a transaction does stays the same as the schema grows.
-use Rattle.std.proofs.Common.{◌≡◌, ℕ, ◌+◌, Bool, true, ◌&&◌, List, [], ◌∷◌, length, nat_lt, is_some, refl, sym, ap, ◌∙◌, Option, Some, None, Result, Ok, Err}
+use Rattle.std.proofs.Common.{◌≡◌, ℕ, ◌+◌, true, ◌&&◌, List, [], ◌∷◌, nat_lt, is_some, refl, Option, Some, None, Ok}
 use Rattle.std.specs.List.{list_all}
 use Rattle.mega_base.specs.declared.values.Cell.{Cell}
 use Rattle.mega_base.specs.declared.values.Row.{Row}
 use Rattle.mega_base.specs.declared.values.Value.{Value}
-use Rattle.mega_entry.specs.declared.content.Write.{Write}
 use Rattle.mega_schema.specs.declared.schema.Property.{Property}
 use Rattle.mega_schema.specs.declared.schema.Table.{Table}
 use Rattle.mega_schema.specs.declared.schema.Schema.{Schema}
@@ -16,7 +15,6 @@ use Rattle.mega_outcome.specs.declared.transaction.Change.{Change}
 use Rattle.mega_outcome.specs.declared.transaction.Change.TheVariants.{Put, Delete, Add}
 use Rattle.mega_outcome.specs.declared.transaction.Transaction.{Transaction}
 use Rattle.mega_outcome.specs.Places.{key_in}
-use Rattle.mega_outcome.specs.Changes.{change}
 use Rattle.mega_outcome.specs.Outcome.{first_change, outcome_in}
 use Rattle.mega_outcome.specs.Steps.{changed_key, put_key}
 use Rattle.mega_outcome.specs.Extends.{Extends, LookAtKnown, changed_table, is_known, is_known_row, known_in}

@@ -1,5 +1,5 @@
 -- Rows that fit a schema that grows, and rows that do not.
-use Rattle.std.proofs.Common.{◌≡◌, ℕ, List, [], ◌∷◌, length, refl, sym, ap, ◌∙◌, Result, Ok, Err}
+use Rattle.std.proofs.Common.{◌≡◌, ℕ, [], ◌∷◌, length, refl, sym, ap, ◌∙◌, Result, Ok, Err}
 use Rattle.mega_outcome.specs.Extends.{Extends}
 use Rattle.mega_outcome.specs.Outcome.{outcome_in}
 use Rattle.mega_outcome.specs.declared.answer.Done.{Done}

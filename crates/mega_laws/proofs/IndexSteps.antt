@@ -1,5 +1,5 @@
 -- What transactions and handlers write replaces rows along with their local index writes, so that index rows stay those of the tables' rows.
-use Rattle.std.proofs.Common.{◌≡◌, inl, inr, ℕ, ◌+◌, ◌≤◌, cond, Bool, true, false, if◌then◌else◌, List, [], ◌∷◌, ◌++◌, length, refl, sym, ap, ◌∙◌, subst, arith, Option, Some, None, Result, Ok, Err}
+use Rattle.std.proofs.Common.{◌≡◌, inl, inr, ℕ, ◌+◌, ◌≤◌, cond, Bool, true, false, if◌then◌else◌, List, [], ◌∷◌, ◌++◌, length, refl, sym, ap, ◌∙◌, subst, arith, Option, Some, None, Ok}
 use Rattle.std.proofs.lemmas.List.Sums.{fold-append}
 use Rattle.mega_base.specs.declared.values.Value.{Value}
 use Rattle.mega_base.specs.declared.values.Row.{Row}

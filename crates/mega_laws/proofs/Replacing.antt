@@ -186,7 +186,7 @@ module _ (s : Schema) (group : List ℕ) (rows : Rows) (i : ℕ) (writes : List 
             own = parts.1;
             is = ap (λ o. replaced s n key o (Some (row_set old property v.0))) stands ∙ same;
             fits = λ standing other e. (let f : row_set old property v.0 ≡ other = cc in
-            subst (Standing s n t key) f (add_stands s n t key old property p v.0 facts.0 (standing old stands) of number free facts.1 facts.2 facts.3));
+                subst (Standing s n t key) f (add_stands s n t key old property p v.0 facts.0 (standing old stands) of number free facts.1 facts.2 facts.3));
             held = λ held. inr (old, stands);
           }
 

@@ -1,23 +1,21 @@
 -- Row keys of any group: each is that of one table alone, and none is the key of an index entry.
-use Rattle.std.proofs.Common.{◌≡◌, ◌⊎◌, inl, inr, ℕ, ◌+◌, ◌≤◌, cond, Bool, true, false, ◌||◌, if◌then◌else◌, List, [], ◌∷◌, ◌++◌, take, drop, length, refl, sym, ap, ◌∙◌, subst, arith, Option, Some, None, Result, Ok, Err, is_ok, is_none}
+use Rattle.std.proofs.Common.{◌≡◌, inl, inr, ℕ, ◌+◌, Bool, true, false, ◌||◌, if◌then◌else◌, List, [], ◌∷◌, ◌++◌, drop, refl, sym, ap, ◌∙◌, subst, arith, Option, Some, None, Result, Ok, Err, is_ok, is_none}
 use Rattle.mega_base.specs.declared.values.Value.{Value}
 use Rattle.mega_base.specs.declared.values.Row.{Row}
 use Rattle.mega_schema.specs.declared.schema.Table.{Table}
-use Rattle.mega_schema.specs.declared.schema.Index.{Index}
 use Rattle.mega_schema.specs.declared.schema.Schema.{Schema}
 use Rattle.mega_schema.specs.Lookup.{is_root_table}
 use Rattle.mega_schema.specs.Shaping.{root_kinds, shape_of, table_at}
 use Rattle.mega_keys.specs.declared.fault.KeyFault.{KeyFault}
 use Rattle.mega_keys.specs.Spelling.{spell_all, scattered, scatter_of, root_part, rest_part, group_bytes, row_bytes}
-use Rattle.mega_index.specs.Rows.{Listed}
 use Rattle.mega_index.specs.Cells.{key_values}
-use Rattle.mega_index.specs.Fits.{numbered, group_of, key_of, group_bytes_of, properties_fit, has_place, long_key, indexes_of, row_fits}
+use Rattle.mega_index.specs.Fits.{numbered, key_of, group_bytes_of, properties_fit, has_place, long_key, indexes_of, row_fits}
 use Rattle.mega_index.specs.Entries.{local_in, local_entries}
 use Rattle.mega_laws.specs.Indexed.{IsDeclared}
 use Rattle.mega_laws.proofs.Placed.{under}
 use Rattle.mega_laws.proofs.Spelled.{AreOf, SameKinds, same_kinds, values_split}
 use Rattle.mega_laws.proofs.RowKeys.{both, key_spelt, of_front, group_of_key, of_ok}
-use Rattle.mega_laws.proofs.IndexKeys.{EntryKey, entry_key}
+use Rattle.mega_laws.proofs.IndexKeys.{entry_key}
 use Rattle.mega_laws.proofs.IndexKept.{table_least}
 use Rattle.mega_laws.proofs.IndexEntries.{InLocal, local_from}
 
@@ -105,7 +103,7 @@ key_front s d n t values key at own = by (is_root_table t || t.inside) refl
           kinds = subst (λ o. AreOf (root_kinds o) root) r.numbered_is kinds;
           rest = behind;
           is = is ∙ ap (λ b. (if b then t.root else n) ∷ ((scatter_of t.scatter root ++ spell_all root) ++ n ∷ behind)) e
-          ∙ ap (λ b. t.root ∷ ((scatter_of b root ++ spell_all root) ++ n ∷ behind)) r.scatter_is;
+              ∙ ap (λ b. t.root ∷ ((scatter_of b root ++ spell_all root) ++ n ∷ behind)) r.scatter_is;
         })
     by false e =
         apart (neither (is_root_table t) t.inside e) ((scatter_of t.scatter root ++ spell_all root) ++ n ∷ behind)
