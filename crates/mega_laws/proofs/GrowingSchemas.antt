@@ -26,19 +26,19 @@ use Rattle.mega_laws.proofs.IndexKeys.{fits_properties}
 use Rattle.mega_laws.proofs.Replacing.{key_in_at}
 use Rattle.mega_laws.proofs.Fitting.{change_fits}
 
--- the cells of a row that fits are of properties that the table has
+-- a property whose values fit is one that the table has, and so are those of the cells of a row that fits
+pub property_known : (o : Option Property) (values : List Value) → cell_fits o values ≡ true → is_some o ≡ true
+property_known None values h = cc
+property_known (Some p) values h = refl
+
 cells_known : (ps : List Property) (low : ℕ) (cells : List Cell) → cells_fit ps low cells ≡ true → list_all (λ (c : Cell). is_known ps c.property) cells ≡ true
 cells_known ps low [] h = refl
 cells_known ps low (c ∷ cs) h =
     let above = both (nat_lt low c.property) (cell_fits (numbered ps c.property) c.values && cells_fit ps c.property cs) h in
     let parts = both (cell_fits (numbered ps c.property) c.values) (cells_fit ps c.property cs) above.1 in
-    let first = one (numbered ps c.property) c.values parts.0 in
+    let first = property_known (numbered ps c.property) c.values parts.0 in
     let more = cells_known ps c.property cs parts.1 in
     (λ i. first i && more i)
-  where
-    one : (o : Option Property) (values : List Value) → cell_fits o values ≡ true → is_some o ≡ true
-    one None values g = cc
-    one (Some p) values g = refl
 
 row_known : (s : Schema) (n : ℕ) (t : Table) (key : List ℕ) (row : Row) → Standing s n t key row → is_known_row t row ≡ true
 row_known s n t key row st = cells_known t.properties 0 row.cells (both (cells_fit t.properties 0 row.cells) (has_required 1 t.properties row) (fits_properties s n t row st.fits)).0

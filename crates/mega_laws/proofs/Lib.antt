@@ -40,4 +40,5 @@ pub mod RootKeys
 pub mod Fitting
 pub mod FittingLogs
 pub mod GrowingSchemas
+pub mod GrownRows
 pub mod GrowingWitnesses

@@ -44,6 +44,12 @@ pub fn outcomes_stay_as_schemas_grow()
     ensures { (old new : Schema) (group : List ℕ) (txn : Transaction) (rows : Rows) (done : Done) → Extends old new → IsDeclared old → RowsFit old rows → outcome_in old group txn rows ≡ Ok done → outcome_in new group txn rows ≡ Ok done }
 {}
 
+/// A schema that grew from one that can be declared keeps what the laws ask of it, and rows that fit the one before fit it: it may grow again.
+pub fn rows_fit_as_schemas_grow()
+    ensures declared { (old new : Schema) → Extends old new → IsDeclared old → IsDeclared new }
+    ensures rows { (old new : Schema) (rows : Rows) → Extends old new → RowsFit old rows → RowsFit new rows }
+{}
+
 /// A user is renamed, with the entry by name, before and after users may have a nickname.
 pub fn a_rename_stays()
     ensures extends { Extends named_users nicknamed_users }
