@@ -1,5 +1,5 @@
 -- A schema that grew can be declared where the one before can, and rows that fit that one fit it.
-use Rattle.std.proofs.Common.{◌≡◌, ℕ, suc, ◌+◌, ◌≤◌, Bool, true, false, ◌&&◌, List, [], ◌∷◌, ◌++◌, length, take, nat_lt, is_some, is_ok, is_none, refl, sym, ap, ◌∙◌, subst, Option, Some, None, Ok}
+use Rattle.std.proofs.Common.{◌≡◌, ℕ, suc, ◌+◌, ◌≤◌, true, ◌&&◌, List, [], ◌∷◌, ◌++◌, length, take, nat_lt, is_ok, is_none, refl, sym, ap, ◌∙◌, subst, Option, Some, None, Ok}
 use Rattle.std.specs.List.{list_all}
 use Rattle.mega_base.specs.declared.values.Cell.{Cell}
 use Rattle.mega_base.specs.declared.values.Row.{Row}
@@ -16,7 +16,7 @@ use Rattle.mega_keys.specs.Spelling.{root_part}
 use Rattle.mega_keys.specs.Answers.{group_key_of, row_key_of}
 use Rattle.mega_index.specs.Rows.{Rows}
 use Rattle.mega_index.specs.Cells.{key_values, values_of}
-use Rattle.mega_index.specs.Fits.{numbered, cell_fits, cells_fit, is_filled, has_required, properties_fit, has_place, key_of, group_bytes_of, long_in, long_key, row_fits}
+use Rattle.mega_index.specs.Fits.{numbered, cell_fits, cells_fit, is_filled, has_required, properties_fit, has_place, key_of, group_bytes_of, long_in, long_key}
 use Rattle.mega_outcome.specs.Extends.{Extends, ExtendTables, ExtendsTable, may_lack, may_lack_need}
 use Rattle.mega_outcome.proofs.Grown.{ExtendsAt, is_grown, numbered_more, shape_same, table_extends}
 use Rattle.mega_laws.specs.Indexed.{IsDeclared}
