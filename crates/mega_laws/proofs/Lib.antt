@@ -41,4 +41,5 @@ pub mod Fitting
 pub mod FittingLogs
 pub mod GrowingSchemas
 pub mod GrownRows
+pub mod Changes
 pub mod GrowingWitnesses

@@ -5,7 +5,9 @@ ghost use Rattle.std.specs.Prelude.{◌≡◌, ℕ, List, Ok, take};
 ghost use Rattle.mega_base.specs.declared.names.GroupId.{GroupId as Group};
 ghost use Rattle.mega_cluster.specs.declared.cluster.Cluster.{Cluster};
 ghost use Rattle.mega_entry.specs.declared.content.Write.{Write};
+ghost use Rattle.mega_syntax.specs.declared.words.Placed.{Placed};
 ghost use Rattle.mega_schema.specs.declared.schema.Schema.{Schema};
+ghost use Rattle.mega_schema.specs.Verdict.{judge, parse_of};
 ghost use Rattle.mega_index.specs.Rows.{Rows, after, no_rows, written};
 ghost use Rattle.mega_outcome.specs.declared.answer.Done.{Done};
 ghost use Rattle.mega_outcome.specs.declared.transaction.Change.{Change};
@@ -19,7 +21,7 @@ ghost use Rattle.mega_rules.specs.Examples.{group};
 ghost use Rattle.mega_laws.specs.IndexExamples.{named_users};
 ghost use Rattle.mega_laws.specs.Indexed.{IsDeclared};
 ghost use Rattle.mega_laws.specs.Writes.{LawfulWrites, Usage};
-ghost use Rattle.mega_laws.specs.Growing.{RowsFit};
+ghost use Rattle.mega_laws.specs.Growing.{AreChanges, RowsFit};
 ghost use Rattle.mega_laws.specs.GrowingExamples.{john_rows, nicknamed_users, removal, removed, removed_whole, rename, renamed, stray_rows};
 
 /// Where there are no rows they fit, and rows that fit still do after what a transaction's items write, in any group.
@@ -48,6 +50,11 @@ pub fn outcomes_stay_as_schemas_grow()
 pub fn rows_fit_as_schemas_grow()
     ensures declared { (old new : Schema) → Extends old new → IsDeclared old → IsDeclared new }
     ensures rows { (old new : Schema) (rows : Rows) → Extends old new → RowsFit old rows → RowsFit new rows }
+{}
+
+/// A schema that a text declares extends to what statements that change its tables declare behind it, where they break no rule.
+pub fn changes_extend_a_schema()
+    ensures { (text : List ℕ) (old new : Schema) (changes : List Placed) → parse_of text ≡ Ok old → AreChanges changes → judge old changes ≡ Ok new → Extends old new }
 {}
 
 /// A user is renamed, with the entry by name, before and after users may have a nickname.
