@@ -11,20 +11,22 @@ use Rattle.mega_syntax.specs.declared.words.ChangeWords.{ChangeWords}
 use Rattle.mega_syntax.specs.declared.words.Statement.{Statement}
 use Rattle.mega_syntax.specs.declared.words.Statement.TheVariants as statements
 use Rattle.mega_syntax.specs.declared.words.Placed.{Placed}
+use Rattle.mega_syntax.specs.declared.whole.SchemaText.{SchemaText}
 use Rattle.mega_syntax.specs.Names.{same}
+use Rattle.mega_syntax.specs.Whole.{read_of}
 use Rattle.mega_schema.specs.declared.schema.Property.{Property}
 use Rattle.mega_schema.specs.declared.schema.Table.{Table}
 use Rattle.mega_schema.specs.declared.schema.Schema.{Schema}
 use Rattle.mega_schema.specs.Lookup.{is_required, words_named, table_place}
 use Rattle.mega_schema.specs.Rules.{has_unknown, has_other_type, group_unknown, inside_unknown, adds_required, table_rule_1, table_rule_2, table_rule_3, table_rule_4, table_rule_5, table_rule_7, table_rule_8, table_rule_9, table_rule_11, table_rule_12, table_rule_14, change_rule_1, change_rule_5, change_rule_11, change_rule_12, change_rule_13, first_broken, table_broken, change_broken, broken}
 use Rattle.mega_schema.specs.Declare.{number_of, property_of, words_place, numbers_of_words, table_of, grown, grown_with, grown_at, declare}
-use Rattle.mega_schema.specs.Verdict.{empty, refused_or, judge, parse_of}
+use Rattle.mega_schema.specs.Verdict.{answer_of, empty, refused_or, judge, parse_of}
 use Rattle.mega_index.specs.Fits.{numbered}
 use Rattle.mega_outcome.specs.Extends.{may_lack, may_lack_need, is_known, ExtendsTable, ExtendTables, Extends}
 use Rattle.mega_outcome.proofs.Grown.{numbered_more}
-use Rattle.mega_laws.specs.Growing.{IsChange, AreChanges}
+use Rattle.mega_laws.specs.Growing.{AreChanges, Continue, Continues, IsChange}
 use Rattle.mega_laws.proofs.RowKeys.{both, at_number}
-use Rattle.mega_laws.proofs.Declared.{get_less, unbroken, neither, Declares, parsed}
+use Rattle.mega_laws.proofs.Declared.{get_less, unbroken, neither, statements_declare}
 
 -- ---- the key of a declared table is over its own properties
 
@@ -219,6 +221,21 @@ changes_extend (p ∷ ps) s out k are h = by (broken s p.statement) refl (λ key
     by None fine more g = again s (declare s p.statement) out (one_extends s p.statement k are.0 fine) (more (declare_keyed s p.statement k fine) g)
     by (Some rule) fine more g = absurd (cc)
 
-pub declared_extends : (text : List ℕ) (old new : Schema) (changes : List Placed) → parse_of text ≡ Ok old → AreChanges changes → judge old changes ≡ Ok new → Extends old new
-declared_extends text old new changes h are g =
-    changes_extend changes old new (parsed (λ (s : Schema). Keyed s.tables) (record { none = λ name. tt; statement = declare_keyed }) text old h) are g
+-- the same statements, and changes behind them
+longer_extends : (ps qs : List Placed) (s old new : Schema) → Keyed s.tables → Continue ps qs → judge s ps ≡ Ok old → judge s qs ≡ Ok new → Extends old new
+longer_extends [] qs s old new k c h g = let same : s ≡ old = cc in subst (λ x. Extends x new) same (changes_extend qs s new k c g)
+longer_extends (p ∷ ps) [] s old new k c h g = absurd c
+longer_extends (p ∷ ps) (q ∷ qs) s old new k c h g =
+    by (broken s p.statement) refl (λ keyed e f. longer_extends ps qs (declare s p.statement) old new keyed c.1 e f) h
+    (ap (λ x. refused_or (broken s x) q.left (judge (declare s x) qs)) c.0 ∙ g)
+  where
+    by : (o : Option ℕ) → broken s p.statement ≡ o → (Keyed (declare s p.statement).tables → judge (declare s p.statement) ps ≡ Ok old → judge (declare s p.statement) qs ≡ Ok new → Extends old new)
+        → refused_or o p.left (judge (declare s p.statement) ps) ≡ Ok old → refused_or o q.left (judge (declare s p.statement) qs) ≡ Ok new → Extends old new
+    by None fine more e f = more (declare_keyed s p.statement k fine) e f
+    by (Some rule) fine more e f = absurd (cc)
+
+pub longer_text_extends : (text longer : List ℕ) (a b : SchemaText) (old new : Schema) → read_of text ≡ Ok a → read_of longer ≡ Ok b → Continues a.words b.words → parse_of text ≡ Ok old → parse_of longer ≡ Ok new → Extends old new
+longer_text_extends text longer a b old new read again_read c h g =
+    longer_extends (a.words).statements (b.words).statements (empty (a.words).name) old new tt c.statements
+    (statements_declare (length text) a old (sym (ap (answer_of (length text)) read) ∙ h))
+    (ap (λ name. judge (empty name) (b.words).statements) (sym c.name) ∙ statements_declare (length longer) b new (sym (ap (answer_of (length longer)) again_read) ∙ g))

@@ -233,37 +233,33 @@ declare_sound s (statements.Change c) h fine =
       rooted = rooted_same s.tables (grown_at s.tables c.properties (table_place s.tables c.table)) (sym stays) h.rooted;
     }
 
--- what holds where nothing is declared and is kept by each statement that breaks no rule
-pub record Declares (P : Schema → Type 0) : Type 0 where
-  pub none : (name : List ℕ) → P (empty name)
-  pub statement : (s : Schema) (statement : Statement) → P s → broken s statement ≡ None → P (declare s statement)
-
-judged : (P : Schema → Type 0) → Declares P → (ps : List Placed) (s out : Schema) → P s → judge s ps ≡ Ok out → P out
-judged P keeps [] s out h e = let same : s ≡ out = cc in subst P same h
-judged P keeps (p ∷ ps) s out h e = by (broken s p.statement) refl (judged P keeps ps (declare s p.statement) out) e
+judged : (ps : List Placed) (s out : Schema) → Sound s → judge s ps ≡ Ok out → Sound out
+judged [] s out h e = let same : s ≡ out = cc in subst Sound same h
+judged (p ∷ ps) s out h e = by (broken s p.statement) refl (judged ps (declare s p.statement) out) e
   where
-    by : (o : Option ℕ) → broken s p.statement ≡ o → (P (declare s p.statement) → judge (declare s p.statement) ps ≡ Ok out → P out) → refused_or o p.left (judge (declare s p.statement) ps) ≡ Ok out → P out
-    by None fine more g = more (keeps.statement s p.statement h fine) g
+    by : (o : Option ℕ) → broken s p.statement ≡ o → (Sound (declare s p.statement) → judge (declare s p.statement) ps ≡ Ok out → Sound out) → refused_or o p.left (judge (declare s p.statement) ps) ≡ Ok out → Sound out
+    by None fine more g = more (declare_sound s p.statement h fine) g
     by (Some rule) fine more g = absurd (cc)
 
--- it holds of what a text declares
-pub parsed : (P : Schema → Type 0) → Declares P → (text : List ℕ) (schema : Schema) → parse_of text ≡ Ok schema → P schema
-parsed P keeps text schema h = by (read_of text) h
+-- the statements of a text that is accepted declare the schema
+pub statements_declare : (end : ℕ) (r : SchemaText) (schema : Schema) → answer_of end (Ok r) ≡ Ok schema → judge (empty (r.words).name) (r.words).statements ≡ Ok schema
+statements_declare end r schema h = named (is_long (r.words).name) (length r.tokens) (rules r.tokens (judge_all r.words (length r.tokens)) h)
   where
-    named : (b : Bool) (left : ℕ) (name : List ℕ) (ps : List Placed) → cond {A = Result Schema (ℕ × ℕ)} b (Err (left, 12)) (judge (empty name) ps) ≡ Ok schema → P schema
-    named true left name ps g = absurd (cc)
-    named false left name ps g = judged P keeps ps (empty name) schema (keeps.none name) g
+    named : (b : Bool) (left : ℕ) → cond {A = Result Schema (ℕ × ℕ)} b (Err (left, 12)) (judge (empty (r.words).name) (r.words).statements) ≡ Ok schema → judge (empty (r.words).name) (r.words).statements ≡ Ok schema
+    named true left g = absurd (cc)
+    named false left g = g
 
-    rules : (tokens : List Token) (r : Result Schema (ℕ × ℕ)) → ruled tokens (length text) r ≡ Ok schema → r ≡ Ok schema
+    rules : (tokens : List Token) (q : Result Schema (ℕ × ℕ)) → ruled tokens end q ≡ Ok schema → q ≡ Ok schema
     rules tokens (Ok s) g = let same : s ≡ schema = cc in ap Ok same
     rules tokens (Err f) g = absurd (cc)
-
-    by : (r : Result SchemaText ℕ) → answer_of (length text) r ≡ Ok schema → P schema
-    by (Err at) g = absurd (cc)
-    by (Ok r) g = named (is_long (r.words).name) (length r.tokens) (r.words).name (r.words).statements (rules r.tokens (judge_all r.words (length r.tokens)) g)
 
 nothing_sound : (name : List ℕ) → Sound (empty name)
 nothing_sound name = record { most = omega arith; rooted = record { roots = λ place t at is. cc; others = λ place t at is. cc } }
 
 pub parsed_declared : (text : List ℕ) (schema : Schema) → parse_of text ≡ Ok schema → IsDeclared schema
-parsed_declared text schema h = declared schema (parsed Sound (record { none = nothing_sound; statement = declare_sound }) text schema h)
+parsed_declared text schema h = by (read_of text) h
+  where
+    by : (r : Result SchemaText ℕ) → answer_of (length text) r ≡ Ok schema → IsDeclared schema
+    by (Err at) g = absurd (cc)
+    by (Ok r) g =
+        declared schema (judged (r.words).statements (empty (r.words).name) schema (nothing_sound (r.words).name) (statements_declare (length text) r schema g))

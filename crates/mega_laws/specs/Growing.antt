@@ -3,6 +3,7 @@ use Rattle.std.specs.Prelude.{◌≡◌, ℕ, true, List, [], ◌∷◌, Some, O
 use Rattle.mega_base.specs.declared.values.Row.{Row}
 use Rattle.mega_base.specs.declared.values.Value.{Value}
 use Rattle.mega_syntax.specs.declared.words.Placed.{Placed}
+use Rattle.mega_syntax.specs.declared.words.SchemaWords.{SchemaWords}
 use Rattle.mega_syntax.specs.declared.words.Statement.{Statement}
 use Rattle.mega_syntax.specs.declared.words.Statement.TheVariants as statements
 use Rattle.mega_schema.specs.declared.schema.Table.{Table}
@@ -24,3 +25,14 @@ IsChange (statements.Change c) = Unit {0}
 abbrev pub AreChanges : List Placed → Type 0
 AreChanges [] = Unit {0}
 AreChanges (p ∷ ps) = IsChange p.statement × AreChanges ps
+
+-- the same statements, and behind them such as add properties to tables alone
+abbrev pub Continue : List Placed → List Placed → Type 0
+Continue [] qs = AreChanges qs
+Continue (p ∷ ps) [] = ⊥
+Continue (p ∷ ps) (q ∷ qs) = (p.statement ≡ q.statement) × Continue ps qs
+
+-- the words of a text are those of another one, and behind them statements that add properties to tables alone
+pub record Continues (words longer : SchemaWords) : Type 0 where
+  pub name : longer.name ≡ words.name
+  pub statements : Continue words.statements longer.statements

@@ -5,9 +5,10 @@ ghost use Rattle.std.specs.Prelude.{◌≡◌, ℕ, List, Ok, take};
 ghost use Rattle.mega_base.specs.declared.names.GroupId.{GroupId as Group};
 ghost use Rattle.mega_cluster.specs.declared.cluster.Cluster.{Cluster};
 ghost use Rattle.mega_entry.specs.declared.content.Write.{Write};
-ghost use Rattle.mega_syntax.specs.declared.words.Placed.{Placed};
+ghost use Rattle.mega_syntax.specs.declared.whole.SchemaText.{SchemaText};
+ghost use Rattle.mega_syntax.specs.Whole.{read_of};
 ghost use Rattle.mega_schema.specs.declared.schema.Schema.{Schema};
-ghost use Rattle.mega_schema.specs.Verdict.{judge, parse_of};
+ghost use Rattle.mega_schema.specs.Verdict.{parse_of};
 ghost use Rattle.mega_index.specs.Rows.{Rows, after, no_rows, written};
 ghost use Rattle.mega_outcome.specs.declared.answer.Done.{Done};
 ghost use Rattle.mega_outcome.specs.declared.transaction.Change.{Change};
@@ -21,7 +22,7 @@ ghost use Rattle.mega_rules.specs.Examples.{group};
 ghost use Rattle.mega_laws.specs.IndexExamples.{named_users};
 ghost use Rattle.mega_laws.specs.Indexed.{IsDeclared};
 ghost use Rattle.mega_laws.specs.Writes.{LawfulWrites, Usage};
-ghost use Rattle.mega_laws.specs.Growing.{AreChanges, RowsFit};
+ghost use Rattle.mega_laws.specs.Growing.{Continues, RowsFit};
 ghost use Rattle.mega_laws.specs.GrowingExamples.{john_rows, nicknamed_users, removal, removed, removed_whole, rename, renamed, stray_rows};
 
 /// Where there are no rows they fit, and rows that fit still do after what a transaction's items write, in any group.
@@ -52,9 +53,10 @@ pub fn rows_fit_as_schemas_grow()
     ensures rows { (old new : Schema) (rows : Rows) → Extends old new → RowsFit old rows → RowsFit new rows }
 {}
 
-/// A schema that a text declares extends to what statements that change its tables declare behind it, where they break no rule.
-pub fn changes_extend_a_schema()
-    ensures { (text : List ℕ) (old new : Schema) (changes : List Placed) → parse_of text ≡ Ok old → AreChanges changes → judge old changes ≡ Ok new → Extends old new }
+/// A schema that a text declares is extended by that of a longer text, which has the same statements and behind them such as add properties to
+/// tables alone.
+pub fn longer_texts_extend_schemas()
+    ensures { (text longer : List ℕ) (a b : SchemaText) (old new : Schema) → read_of text ≡ Ok a → read_of longer ≡ Ok b → Continues a.words b.words → parse_of text ≡ Ok old → parse_of longer ≡ Ok new → Extends old new }
 {}
 
 /// A user is renamed, with the entry by name, before and after users may have a nickname.
