@@ -43,3 +43,4 @@ pub mod GrowingSchemas
 pub mod GrownRows
 pub mod Changes
 pub mod GrowingWitnesses
+pub mod GrowingTexts

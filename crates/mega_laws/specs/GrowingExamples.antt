@@ -27,6 +27,13 @@ nicknamed = record users { properties = users.properties ++ nickname ∷ [] }
 abbrev pub nicknamed_users : Schema
 nicknamed_users = record named_users { tables = nicknamed ∷ [] }
 
+-- the text that declares the users, and a longer one
+abbrev pub users_text : List ℕ
+users_text = codes "CREATE SCHEMA S; CREATE TABLE User { required int64 user_id; required string name; } PRIMARY KEY(user_id), ENTITY GROUP ROOT; CREATE LOCAL INDEX ByName ON User(name);"
+
+abbrev pub nicknamed_text : List ℕ
+nicknamed_text = users_text ++ codes " ALTER TABLE User ADD { optional string nickname; };"
+
 -- the rows after a put of John
 abbrev pub john_rows : Rows
 john_rows = written put_writes no_rows

@@ -23,7 +23,7 @@ ghost use Rattle.mega_laws.specs.IndexExamples.{named_users};
 ghost use Rattle.mega_laws.specs.Indexed.{IsDeclared};
 ghost use Rattle.mega_laws.specs.Writes.{LawfulWrites, Usage};
 ghost use Rattle.mega_laws.specs.Growing.{Continues, RowsFit};
-ghost use Rattle.mega_laws.specs.GrowingExamples.{john_rows, nicknamed_users, removal, removed, removed_whole, rename, renamed, stray_rows};
+ghost use Rattle.mega_laws.specs.GrowingExamples.{john_rows, nicknamed_text, nicknamed_users, removal, removed, removed_whole, rename, renamed, stray_rows, users_text};
 
 /// Where there are no rows they fit, and rows that fit still do after what a transaction's items write, in any group.
 pub fn changes_keep_rows_fit()
@@ -57,6 +57,13 @@ pub fn rows_fit_as_schemas_grow()
 /// tables alone.
 pub fn longer_texts_extend_schemas()
     ensures { (text longer : List ℕ) (a b : SchemaText) (old new : Schema) → read_of text ≡ Ok a → read_of longer ≡ Ok b → Continues a.words b.words → parse_of text ≡ Ok old → parse_of longer ≡ Ok new → Extends old new }
+{}
+
+/// A text that declares users, and a longer one by which they may have a nickname.
+pub fn a_nickname_extends_users()
+    ensures before { parse_of users_text ≡ Ok named_users }
+    ensures after { parse_of nicknamed_text ≡ Ok nicknamed_users }
+    ensures continues { (a : SchemaText) × (b : SchemaText) × (read_of users_text ≡ Ok a) × (read_of nicknamed_text ≡ Ok b) × Continues a.words b.words }
 {}
 
 /// A user is renamed, with the entry by name, before and after users may have a nickname.
