@@ -26,13 +26,13 @@ abbrev pub AreChanges : List Placed → Type 0
 AreChanges [] = Unit {0}
 AreChanges (p ∷ ps) = IsChange p.statement × AreChanges ps
 
--- the same statements, and behind them such as add properties to tables alone
+-- the same statements, and behind them others, which only add properties to tables
 abbrev pub Continue : List Placed → List Placed → Type 0
 Continue [] qs = AreChanges qs
 Continue (p ∷ ps) [] = ⊥
 Continue (p ∷ ps) (q ∷ qs) = (p.statement ≡ q.statement) × Continue ps qs
 
--- the words of a text are those of another one, and behind them statements that add properties to tables alone
+-- the words of a longer text: the same name and statements, and behind them statements that only add properties to tables
 pub record Continues (words longer : SchemaWords) : Type 0 where
   pub name : longer.name ≡ words.name
   pub statements : Continue words.statements longer.statements

@@ -1,5 +1,5 @@
-//! The law of schemas that grow: on rows that fit, what a transaction does is the same under a schema with more properties, as contracts of
-//! functions that do nothing (`specs/Growing.antt`).
+//! The law of schemas that grow: on rows that fit, what a transaction does is the same under a schema with more properties. With what it asks
+//! of schemas and rows, as contracts of functions that do nothing (`specs/Growing.antt`).
 
 ghost use Rattle.std.specs.Prelude.{◌≡◌, ℕ, List, Ok, take};
 ghost use Rattle.mega_base.specs.declared.names.GroupId.{GroupId as Group};
@@ -53,8 +53,8 @@ pub fn rows_fit_as_schemas_grow()
     ensures rows { (old new : Schema) (rows : Rows) → Extends old new → RowsFit old rows → RowsFit new rows }
 {}
 
-/// A schema that a text declares is extended by that of a longer text, which has the same statements and behind them such as add properties to
-/// tables alone.
+/// A schema that a text declares is extended by that of a longer text, which has the same statements and behind them others, which only add
+/// properties to tables.
 pub fn longer_texts_extend_schemas()
     ensures { (text longer : List ℕ) (a b : SchemaText) (old new : Schema) → read_of text ≡ Ok a → read_of longer ≡ Ok b → Continues a.words b.words → parse_of text ≡ Ok old → parse_of longer ≡ Ok new → Extends old new }
 {}
