@@ -65,7 +65,7 @@ get_either [] x (suc k) y h = cc
 get_either (z ∷ xs) x zero y h = inl h
 get_either (z ∷ xs) x (suc k) y h = elim (get_either xs x k y h) [ inl old ↦ inl old | inr new ↦ inr (ap suc new.0, new.1) ]
 
-get_less : {X : Type 0} (xs : List X) (k : ℕ) (x : X) → slice_get xs k ≡ Some x → k < length xs
+pub get_less : {X : Type 0} (xs : List X) (k : ℕ) (x : X) → slice_get xs k ≡ Some x → k < length xs
 get_less [] k x h = cc
 get_less (y ∷ ys) zero x h = omega arith
 get_less (y ∷ ys) (suc k) x h = let less = get_less ys k x h in omega arith
@@ -91,11 +91,11 @@ rooted_more ts t old new = record {
 
 -- ---- the rules that a new table keeps
 
-unbroken : (b : Bool) (n : ℕ) (rest : Option ℕ) → cond b (Some n) rest ≡ None → (b ≡ false) × (rest ≡ None)
+pub unbroken : (b : Bool) (n : ℕ) (rest : Option ℕ) → cond b (Some n) rest ≡ None → (b ≡ false) × (rest ≡ None)
 unbroken true n rest h = absurd (cc)
 unbroken false n rest h = (refl, h)
 
-neither : (a b : Bool) → a || b ≡ false → (a ≡ false) × (b ≡ false)
+pub neither : (a b : Bool) → a || b ≡ false → (a ≡ false) × (b ≡ false)
 neither true b g = cc
 neither false b g = (refl, g)
 
@@ -241,20 +241,25 @@ judged (p ∷ ps) s out h e = by (broken s p.statement) refl (judged ps (declare
     by None fine more g = more (declare_sound s p.statement h fine) g
     by (Some rule) fine more g = absurd (cc)
 
+-- the statements of a text that is accepted declare the schema
+pub statements_declare : (end : ℕ) (r : SchemaText) (schema : Schema) → answer_of end (Ok r) ≡ Ok schema → judge (empty (r.words).name) (r.words).statements ≡ Ok schema
+statements_declare end r schema h = named (is_long (r.words).name) (length r.tokens) (rules r.tokens (judge_all r.words (length r.tokens)) h)
+  where
+    named : (b : Bool) (left : ℕ) → cond {A = Result Schema (ℕ × ℕ)} b (Err (left, 12)) (judge (empty (r.words).name) (r.words).statements) ≡ Ok schema → judge (empty (r.words).name) (r.words).statements ≡ Ok schema
+    named true left g = absurd (cc)
+    named false left g = g
+
+    rules : (tokens : List Token) (q : Result Schema (ℕ × ℕ)) → ruled tokens end q ≡ Ok schema → q ≡ Ok schema
+    rules tokens (Ok s) g = let same : s ≡ schema = cc in ap Ok same
+    rules tokens (Err f) g = absurd (cc)
+
 nothing_sound : (name : List ℕ) → Sound (empty name)
 nothing_sound name = record { most = omega arith; rooted = record { roots = λ place t at is. cc; others = λ place t at is. cc } }
 
 pub parsed_declared : (text : List ℕ) (schema : Schema) → parse_of text ≡ Ok schema → IsDeclared schema
 parsed_declared text schema h = by (read_of text) h
   where
-    named : (b : Bool) (left : ℕ) (name : List ℕ) (ps : List Placed) → cond {A = Result Schema (ℕ × ℕ)} b (Err (left, 12)) (judge (empty name) ps) ≡ Ok schema → Sound schema
-    named true left name ps g = absurd (cc)
-    named false left name ps g = judged ps (empty name) schema (nothing_sound name) g
-
-    rules : (tokens : List Token) (r : Result Schema (ℕ × ℕ)) → ruled tokens (length text) r ≡ Ok schema → r ≡ Ok schema
-    rules tokens (Ok s) g = let same : s ≡ schema = cc in ap Ok same
-    rules tokens (Err f) g = absurd (cc)
-
     by : (r : Result SchemaText ℕ) → answer_of (length text) r ≡ Ok schema → IsDeclared schema
     by (Err at) g = absurd (cc)
-    by (Ok r) g = declared schema (named (is_long (r.words).name) (length r.tokens) (r.words).name (r.words).statements (rules r.tokens (judge_all r.words (length r.tokens)) g))
+    by (Ok r) g =
+        declared schema (judged (r.words).statements (empty (r.words).name) schema (nothing_sound (r.words).name) (statements_declare (length text) r schema g))

@@ -118,7 +118,7 @@ gone_leaves new (e ∷ es) R k h = by (same_key k e.0) refl h
     by false is g left cleared = one is (is_none (row_under new e.0)) g (left g) (cleared g)
 
 -- a key of neither the old entries nor the new ones is left
-turned_leaves : (old new : Listed) (R : Rows) (k : List ℕ) → row_under old k ≡ None → row_under new k ≡ None → written (turned old new) R k ≡ R k
+pub turned_leaves : (old new : Listed) (R : Rows) (k : List ℕ) → row_under old k ≡ None → row_under new k ≡ None → written (turned old new) R k ≡ R k
 turned_leaves old new R k h g =
     ap (λ (S : Rows). S k) (fold-append changed R (gone new old) (fresh old new)) ∙ fresh-keeps old new (written (gone new old) R) k g ∙ gone_leaves new old R k h
 

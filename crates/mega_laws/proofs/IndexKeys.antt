@@ -74,7 +74,7 @@ value_kind ps low (c ∷ cs) n v h i = by (c.property == n) refl (value_kind ps 
     by true is more j = cell_kind ps n c.values v (ap (λ m. cell_fits (numbered ps m) c.values) (sym (eqb-true c.property n is)) ∙ parts.0) j
     by false is more j = more parts.1 j
 
-fits_properties : (s : Schema) (n : ℕ) (t : Table) (row : Row) → row_fits s n t row ≡ true → properties_fit t row ≡ true
+pub fits_properties : (s : Schema) (n : ℕ) (t : Table) (row : Row) → row_fits s n t row ≡ true → properties_fit t row ≡ true
 fits_properties s n t row h = (both (properties_fit t row) _ (both (has_place s n t row) _ h).0).0
 
 row_kind : (s : Schema) (n : ℕ) (t : Table) (row : Row) (m : ℕ) (v : Value) → row_fits s n t row ≡ true → In v (values_of row m) → OfKind t.properties m v

@@ -360,15 +360,17 @@ spells ks vs bytes h short =
     ∙ ap (λ b. unless_fault (cond b (Err (Missing (length vs))) (Ok tt)) bytes) (le-ltb (length vs) (length ks) (let long = of_length ks vs h in omega (arith, long)))
     ∙ ap (λ b. cond b (Err (TooLong (length bytes))) (Ok bytes)) (le-ltb 1024 (length bytes) short)
 
-standing_group_of : (s : Schema) (n : ℕ) (t : Table) (group key : List ℕ) (row : Row) → Standing s n t key row → IsKeyOf s n t group key → group_of s n t (key_values t.primary row) ≡ Ok group
-standing_group_of s n t group key row st is =
+-- where key values spell a row key, those of the root spell a group
+pub group_of_key : (s : Schema) (n : ℕ) (t : Table) (values : List Value) (key : List ℕ) → key_of s n t values ≡ Ok key → group_of s n t values ≡ Ok (group_bytes (shape_of s n t) (root_part (shape_of s n t) values))
+group_of_key s n t values key own =
     let shape = shape_of s n t in
-    let vs = key_values t.primary row in
-    let sp = key_spelt shape vs key st.own in
-    let short : length (group_bytes shape (root_part shape vs)) ≤ 1024 =
-    omega (arith, sp.short, ap length sp.is, length-append (head_bytes shape.space shape.scatter (root_part shape vs)) (shape.table ∷ spell_all (rest_part shape vs))) in
-    spells shape.root_kinds (root_part shape vs) (group_bytes shape (root_part shape vs)) (of_front shape.root_kinds shape.rest_kinds vs sp.kinds) short
-    ∙ ap Ok (standing_group s n t group key row st is)
+    let sp = key_spelt shape values key own in
+    let short : length (group_bytes shape (root_part shape values)) ≤ 1024 =
+    omega (arith, sp.short, ap length sp.is, length-append (head_bytes shape.space shape.scatter (root_part shape values)) (shape.table ∷ spell_all (rest_part shape values))) in
+    spells shape.root_kinds (root_part shape values) (group_bytes shape (root_part shape values)) (of_front shape.root_kinds shape.rest_kinds values sp.kinds) short
+
+standing_group_of : (s : Schema) (n : ℕ) (t : Table) (group key : List ℕ) (row : Row) → Standing s n t key row → IsKeyOf s n t group key → group_of s n t (key_values t.primary row) ≡ Ok group
+standing_group_of s n t group key row st is = group_of_key s n t (key_values t.primary row) key st.own ∙ ap Ok (standing_group s n t group key row st is)
 
 abbrev pub of_ok : Result (List ℕ) KeyFault → List ℕ
 of_ok (Ok group) = group

@@ -8,3 +8,5 @@ pub mod Answers
 pub mod Polls
 pub mod Examples
 pub mod IndexExamples
+pub mod Growing
+pub mod GrowingExamples

@@ -5,6 +5,7 @@
 
 pub mod answers;
 pub mod examples;
+pub mod growing;
 pub mod indexes;
 pub mod laws;
 pub mod reads;
