@@ -5,3 +5,6 @@ pub mod LineForms
 pub mod ItemLaws
 pub mod Fronts
 pub mod Reparse
+pub mod Climbs
+pub mod Deciding
+pub mod Tallying

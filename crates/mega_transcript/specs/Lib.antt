@@ -11,3 +11,6 @@ pub mod Kinds
 pub mod Taking
 pub mod ReadingItems
 pub mod Telling
+pub mod Counts
+pub mod Counted
+pub mod Tallies

@@ -2,6 +2,8 @@
 #![tactic(auto)]
 
 mod answers;
+mod counting;
+mod decided;
 mod fault;
 mod item;
 mod json;
@@ -13,6 +15,7 @@ mod reading_items;
 mod reading_texts;
 mod words;
 
+pub use counting::summary;
 pub use fault::ItemFault;
 pub use item::{Item, Note, Tape};
 pub use lines::text;
