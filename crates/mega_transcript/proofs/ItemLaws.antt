@@ -34,6 +34,8 @@ use Rattle.mega_transcript.specs.Plain.{IsU8, IsU32, IsU64, IsNode, IsPosition, 
 use Rattle.mega_transcript.specs.Reading.{Read, Field, until, shown, two, made, u8_field, u32_field, u64_field, node_field, position_field, epoch_field, op_field, group_field, hex_field, message_field, entry_field}
 use Rattle.mega_transcript.specs.ReadingItems.{taken_behind, behind, cell_node_epoch, node_cell_epoch, node_epoch, node_group_position, start_at, unsent_at, tick_at, begin_at, taken_at, dropped_at, sent_at, grant_at, lapse_at, counts_at, forgets_at, serving_at, lost_at, valid_at, invalid_at, decide_at, apply_at, answered_at, crash_at, of_kind, by_kind, by_word, item_at, whole_item, located, differs_at, difference, unless_differs, agreed, parsed}
 use Rattle.mega_transcript.proofs.Forms.{lacks, until_again, Form, read_parts, two_form, made_form, decimal-lacks, u8_form, u32_form, u64_form, node_form, position_form, epoch_form, op_form, hex_form, group_form}
+use Rattle.mega_transcript.specs.Requests.{IsRequest, request_field}
+use Rattle.mega_transcript.proofs.Requesting.{LastForm, two_last, request_form}
 use Rattle.mega_transcript.proofs.LineForms.{cell_node_epoch_form, node_cell_epoch_form, node_epoch_form, place_form, decided_form, start_form, tick_form, unsent_form, sent_form}
 
 -- a line goes on as its first word says
@@ -57,6 +59,20 @@ line_fits schema f t F make c to left item rest h =
     let same = read_parts (make read.0.0) item read.0.1 rest read.2 in
     subst (IsPlain schema) same.0 (to read.0.0 (c.fits 10 left read.0.0 read.0.1 read.1))
 
+-- the same of a line whose last word may have other bytes that end words
+last_again : {A : Type 0} (f : Field A) (t : A → List ℕ → List ℕ) (F : A → Type 0) (make : A → Item) → LastForm f t F → (x : A) → F x → made make f 10 (t x (10 ∷ [])) ≡ Ok (make x, [])
+last_again f t F make c x fit = ap (λ r. r >>= λ a. Ok (make a.0, a.1)) (c.again x [] fit)
+
+last_fits : {A : Type 0} (schema : Schema) (f : Field A) (t : A → List ℕ → List ℕ) (F : A → Type 0) (make : A → Item) → LastForm f t F
+    → ((x : A) → F x → IsPlain schema (make x)) → (left : List ℕ) (item : Item) (rest : List ℕ) → made make f 10 left ≡ Ok (item, rest) → IsPlain schema item
+last_fits schema f t F make c to left item rest h =
+    let read = bind-ok (f 10 left) (λ a. Ok (make a.0, a.1)) (item, rest) h in
+    let same = read_parts (make read.0.0) item read.0.1 rest read.2 in
+    subst (IsPlain schema) same.0 (to read.0.0 (c.fits left read.0.0 read.0.1 read.1))
+
+begin_form : LastForm (two 32 op_field request_field) (λ x tail. op_word x.0 ++ 32 ∷ (x.1 ++ tail)) (λ x. IsOp x.0 × IsRequest x.1)
+begin_form = two_last 32 op_field request_field (λ op tail. op_word op ++ tail) (λ text tail. text ++ tail) IsOp IsRequest (omega arith) op_form request_form
+
 cut_again : (schema : Schema) → item_at schema (line schema items.Cut) ≡ Ok (items.Cut, [])
 unfolding item_at
 cut_again schema = refl
@@ -76,7 +92,9 @@ item_again schema (items.Unsent node message) fit =
 item_again schema (items.Tick node now) fit =
     by_first schema (codes "tick") (node_word node ++ 32 ∷ (decimal now ++ 10 ∷ [])) kinds.Tick refl refl refl refl
     ∙ line_again (two 32 node_field u64_field) (λ x tail. node_word x.0 ++ 32 ∷ (decimal x.1 ++ tail)) (λ x. IsNode x.0 × IsU64 x.1) (λ x. items.Tick x.0 x.1) tick_form (node, now) fit
-item_again schema (items.Begin op text) fit = absurd fit
+item_again schema (items.Begin op text) fit =
+    by_first schema (codes "begin") (op_word op ++ 32 ∷ (text ++ 10 ∷ [])) kinds.Begin refl refl refl refl
+    ∙ last_again (two 32 op_field request_field) (λ x tail. op_word x.0 ++ 32 ∷ (x.1 ++ tail)) (λ x. IsOp x.0 × IsRequest x.1) (λ x. items.Begin x.0 x.1) begin_form (op, text) fit
 item_again schema (items.Taken number) fit =
     by_first schema (codes "taken") (decimal number ++ 10 ∷ []) kinds.Taken refl refl refl refl
     ∙ line_again (u64_field) (λ n tail. decimal n ++ tail) (IsU64) (λ x. items.Taken x) u64_form number fit
@@ -128,7 +146,7 @@ unfolding start_at unsent_at tick_at begin_at taken_at dropped_at sent_at grant_
 of_kind_fits schema kinds.Start left item rest h = line_fits schema (two 32 node_field u32_field) (λ x tail. node_word x.0 ++ 32 ∷ (decimal x.1 ++ tail)) (λ x. IsNode x.0 × IsU32 x.1) (λ x. items.Start x.0 x.1) start_form (λ x fit. fit) left item rest h
 of_kind_fits schema kinds.Unsent left item rest h = line_fits schema (two 32 node_field (behind message_field)) (λ x tail. node_word x.0 ++ 32 ∷ (kind_name x.1.body ++ 32 ∷ (encode_lower (message_text x.1) ++ tail))) (λ x. IsNode x.0 × IsWhole x.1) (λ x. items.Unsent x.0 x.1) unsent_form (λ x fit. fit) left item rest h
 of_kind_fits schema kinds.Tick left item rest h = line_fits schema (two 32 node_field u64_field) (λ x tail. node_word x.0 ++ 32 ∷ (decimal x.1 ++ tail)) (λ x. IsNode x.0 × IsU64 x.1) (λ x. items.Tick x.0 x.1) tick_form (λ x fit. fit) left item rest h
-of_kind_fits schema kinds.Begin left item rest h = absurd (cc)
+of_kind_fits schema kinds.Begin left item rest h = last_fits schema (two 32 op_field request_field) (λ x tail. op_word x.0 ++ 32 ∷ (x.1 ++ tail)) (λ x. IsOp x.0 × IsRequest x.1) (λ x. items.Begin x.0 x.1) begin_form (λ x fit. fit) left item rest h
 of_kind_fits schema kinds.Taken left item rest h = line_fits schema (u64_field) (λ n tail. decimal n ++ tail) (IsU64) (λ x. items.Taken x) u64_form (λ x fit. fit) left item rest h
 of_kind_fits schema kinds.Dropped left item rest h = line_fits schema (u64_field) (λ n tail. decimal n ++ tail) (IsU64) (λ x. items.Dropped x) u64_form (λ x fit. fit) left item rest h
 of_kind_fits schema kinds.Sent left item rest h = line_fits schema (two 32 u64_field (behind (behind (behind message_field)))) (λ x tail. decimal x.0 ++ 32 ∷ (decimal x.1.from ++ 32 ∷ (decimal x.1.to ++ 32 ∷ (kind_name x.1.body ++ 32 ∷ (encode_lower (message_text x.1) ++ tail))))) (λ x. IsU64 x.0 × IsWhole x.1) (λ x. items.Sent x.0 x.1) sent_form (λ x fit. fit) left item rest h

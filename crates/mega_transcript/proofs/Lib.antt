@@ -2,6 +2,7 @@ pub mod Tapes
 pub mod Cells
 pub mod Forms
 pub mod LineForms
+pub mod Requesting
 pub mod ItemLaws
 pub mod Fronts
 pub mod Reparse

@@ -5,8 +5,9 @@ pub mod Rows
 pub mod Answers
 pub mod Lines
 pub mod NoFloats
-pub mod Plain
 pub mod Reading
+pub mod Requests
+pub mod Plain
 pub mod Kinds
 pub mod Taking
 pub mod ReadingItems

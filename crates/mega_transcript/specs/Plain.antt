@@ -12,6 +12,7 @@ use Rattle.mega_wire.specs.Messages.{message_text, IsMessage}
 use Rattle.mega_wire.specs.declared.message.Message.{Message}
 use Rattle.mega_schema.specs.declared.schema.Schema.{Schema}
 use Rattle.mega_transcript.specs.declared.item.Item.{Item}
+use Rattle.mega_transcript.specs.Requests.{IsRequest}
 use Rattle.mega_transcript.specs.declared.item.Item.TheVariants.{Start, Unsent, Tick, Begin, Taken, Dropped, Sent, Grant, Lapse, Counts, Forgets, Serving, Lost, Valid, Invalid, Decide, Apply, Answer, Crash, Cut, Unsafe}
 
 -- numbers that their fields hold
@@ -47,13 +48,13 @@ IsWhole message = IsMessage message × IsBytes (message_text message)
 abbrev pub IsWritten : Content → Type 0
 IsWritten entry = IsEntry entry × IsBytes (entry_text entry)
 
--- items whose values their fields hold. Begins and answers, which have JSON, are not read yet: none of them is plain
--- here.
+-- items whose values their fields hold, and whose begins have the compact text of an object. Answers are not read yet:
+-- none of them is plain here.
 abbrev pub IsPlain : Schema → Item → Type 0
 IsPlain schema (Start node start) = IsNode node × IsU32 start
 IsPlain schema (Unsent node message) = IsNode node × IsWhole message
 IsPlain schema (Tick node now) = IsNode node × IsU64 now
-IsPlain schema (Begin op text) = ⊥
+IsPlain schema (Begin op text) = IsOp op × IsRequest text
 IsPlain schema (Taken number) = IsU64 number
 IsPlain schema (Dropped number) = IsU64 number
 IsPlain schema (Sent number message) = IsU64 number × IsWhole message

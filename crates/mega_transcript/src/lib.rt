@@ -5,6 +5,7 @@ mod answers;
 mod counting;
 mod decided;
 mod fault;
+mod floats;
 mod item;
 mod json;
 mod kinds;
