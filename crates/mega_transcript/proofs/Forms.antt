@@ -12,7 +12,7 @@ use Rattle.hex.specs.Hex.{decode_of, encode_lower, encode_with, lower_digits, Is
 use Rattle.hex.specs.declared.error.FromHexError.{FromHexError}
 use Rattle.std.specs.Prelude.{slice_index}
 use Rattle.std.proofs.lemmas.Bool.{cases_lt}
-use Rattle.mega_transcript.specs.Plain.{IsU8, IsU32, IsU64, IsNode, IsPosition, IsEpoch, IsOp, IsGroup}
+use Rattle.mega_transcript.specs.PlainNames.{IsU8, IsU32, IsU64, IsNode, IsPosition, IsEpoch, IsOp, IsGroup}
 use Rattle.hex.proofs.HexLemmas.{decode_of-encode_lower, decode_of-ok}
 use Rattle.mega_base.specs.Reading.{◌>>=◌, whole_of}
 use Rattle.mega_base.specs.Codecs.{bind-ok}

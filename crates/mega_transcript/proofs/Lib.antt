@@ -3,6 +3,7 @@ pub mod Cells
 pub mod Forms
 pub mod LineForms
 pub mod Requesting
+pub mod AnswerLaws
 pub mod ItemLaws
 pub mod Fronts
 pub mod Reparse

@@ -7,6 +7,9 @@ pub mod Lines
 pub mod NoFloats
 pub mod Reading
 pub mod Requests
+pub mod PlainNames
+pub mod PlainAnswers
+pub mod ReadingAnswers
 pub mod Plain
 pub mod Kinds
 pub mod Taking

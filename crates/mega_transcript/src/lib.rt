@@ -1,6 +1,7 @@
 //! The items of a run and their text: one line each, oldest first.
 #![tactic(auto)]
 
+mod answer_kinds;
 mod answers;
 mod counting;
 mod decided;
@@ -12,6 +13,7 @@ mod kinds;
 mod lines;
 mod parsing;
 mod reading;
+mod reading_answers;
 mod reading_items;
 mod reading_texts;
 mod words;

@@ -10,6 +10,7 @@ use crate::floats::has_float;
 use crate::item::Item;
 use crate::kinds::is;
 use crate::reading::Words;
+use crate::reading_answers::answer;
 use mega_base::{NoMemory, Text};
 use mega_schema::Schema;
 use serde_json::Value as Json;
@@ -104,11 +105,13 @@ pub(crate) fn begin(alloc: Global, words: &mut Words<'_>) -> Result<Item, Refusa
 
 #[tactic(auto, unfolding(crate::specs::ReadingItems::answered_at))]
 pub(crate) fn answered(
-    _alloc: Global,
-    _schema: &Schema,
+    alloc: Global,
+    schema: &Schema,
     words: &mut Words<'_>,
 ) -> Result<Item, Refusal>
-    ensures { Takes result words.new (answered_at _schema.now words.old) }
+    ensures { Takes result words.new (answered_at schema.now words.old) }
 {
-    Err(Refusal::Word { left: words.len() })
+    let op = words.op(b' ')?;
+    let answer = answer(alloc, schema, words)?;
+    Ok(Item::Answer { op, answer })
 }
