@@ -10,3 +10,4 @@ pub mod Reparse
 pub mod Climbs
 pub mod Deciding
 pub mod Tallying
+pub mod LineEnds

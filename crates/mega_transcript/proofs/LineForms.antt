@@ -119,6 +119,12 @@ few : (b : Bool) (n : ℕ) → n ≤ (if b then 0 else 9) → n ≤ 9
 few true n h = omega arith
 few false n h = h
 
+pub from_small : (m : Message) → IsWhole m → m.from < 2 ^ 64
+from_small m fit = let most : m.from ≤ 9 = few (body_kind m.body == 20) m.from fit.0.from.1 in omega arith
+
+pub to_small : (m : Message) → IsWhole m → m.to < 2 ^ 64
+to_small m fit = let most : m.to ≤ 9 = few (body_kind m.body == 21) m.to fit.0.to.1 in omega arith
+
 pub addressed_form : Form (behind (behind (behind message_field))) (λ m tail. decimal m.from ++ 32 ∷ (decimal m.to ++ 32 ∷ (kind_name m.body ++ 32 ∷ (encode_lower (message_text m) ++ tail)))) IsWhole
 addressed_form =
     behind_form (behind (behind message_field)) (λ m. decimal m.from) (λ m tail. decimal m.to ++ 32 ∷ (kind_name m.body ++ 32 ∷ (encode_lower (message_text m) ++ tail))) IsWhole
