@@ -8,5 +8,4 @@ ghost use Rattle.mega_transcript.specs.Plain.{IsPlain};
 /// Two tapes of plain items that have one text under one schema are equal.
 pub fn text_tells_tape()
     ensures { (schema : SchemaValue) (tape other : List ItemValue) → All (IsPlain schema) tape → All (IsPlain schema) other → lines schema tape ≡ lines schema other → tape ≡ other }
-{
-}
+{}
