@@ -12,7 +12,7 @@ use Rattle.hex.specs.Hex.{decode_of, encode_lower, encode_with, lower_digits, Is
 use Rattle.hex.specs.declared.error.FromHexError.{FromHexError}
 use Rattle.std.specs.Prelude.{slice_index}
 use Rattle.std.proofs.lemmas.Bool.{cases_lt}
-use Rattle.mega_transcript.specs.Plain.{IsU8, IsU32, IsU64, IsNode, IsPosition, IsEpoch, IsOp, IsGroup}
+use Rattle.mega_transcript.specs.PlainNames.{IsU8, IsU32, IsU64, IsNode, IsPosition, IsEpoch, IsOp, IsGroup}
 use Rattle.hex.proofs.HexLemmas.{decode_of-encode_lower, decode_of-ok}
 use Rattle.mega_base.specs.Reading.{◌>>=◌, whole_of}
 use Rattle.mega_base.specs.Codecs.{bind-ok}
@@ -170,7 +170,7 @@ number_most most (b ∷ bytes) k h = digits-most most 0 (b ∷ bytes) k (omega a
 abbrev is_solid : ℕ → Bool
 is_solid b = nat_lt 46 b
 
-solid-lacks : (end : ℕ) (bytes : List ℕ) → end ≤ 46 → list_all is_solid bytes ≡ true → lacks end bytes ≡ true
+pub solid-lacks : (end : ℕ) (bytes : List ℕ) → end ≤ 46 → list_all is_solid bytes ≡ true → lacks end bytes ≡ true
 solid-lacks end [] low h = refl
 solid-lacks end (b ∷ bytes) low h =
     let parts = and_parts (is_solid b) (list_all is_solid bytes) h in
@@ -261,7 +261,7 @@ hex_digit-solid d small = table 16 d refl small
       | inr top ↦ let e : k ≡ n = omega arith in rw e parts.0
     ]
 
-hex-solid : (bytes : List ℕ) → IsBytes bytes → list_all is_solid (encode_lower bytes) ≡ true
+pub hex-solid : (bytes : List ℕ) → IsBytes bytes → list_all is_solid (encode_lower bytes) ≡ true
 unfolding encode_with
 hex-solid [] f = refl
 hex-solid (b ∷ bytes) f =

@@ -30,10 +30,18 @@ use Rattle.mega_transcript.specs.declared.kinds.LineKind.TheVariants as kinds
 use Rattle.mega_transcript.specs.Words.{node_word, position_word, epoch_word, op_word, group_word}
 use Rattle.mega_transcript.specs.Kinds.{kind_of}
 use Rattle.mega_transcript.specs.Lines.{kind_name, line, HasLine}
-use Rattle.mega_transcript.specs.Plain.{IsU8, IsU32, IsU64, IsNode, IsPosition, IsEpoch, IsOp, IsGroup, IsWhole, IsWritten, IsPlain}
+use Rattle.mega_transcript.specs.PlainNames.{IsU8, IsU32, IsU64, IsNode, IsPosition, IsEpoch, IsOp, IsGroup}
+use Rattle.mega_transcript.specs.Plain.{IsWhole, IsWritten, IsPlain}
 use Rattle.mega_transcript.specs.Reading.{Read, Field, until, shown, two, made, u8_field, u32_field, u64_field, node_field, position_field, epoch_field, op_field, group_field, hex_field, message_field, entry_field}
 use Rattle.mega_transcript.specs.ReadingItems.{taken_behind, behind, cell_node_epoch, node_cell_epoch, node_epoch, node_group_position, start_at, unsent_at, tick_at, begin_at, taken_at, dropped_at, sent_at, grant_at, lapse_at, counts_at, forgets_at, serving_at, lost_at, valid_at, invalid_at, decide_at, apply_at, answered_at, crash_at, of_kind, by_kind, by_word, item_at, whole_item, located, differs_at, difference, unless_differs, agreed, parsed}
 use Rattle.mega_transcript.proofs.Forms.{lacks, until_again, Form, read_parts, two_form, made_form, decimal-lacks, u8_form, u32_form, u64_form, node_form, position_form, epoch_form, op_form, hex_form, group_form}
+use Rattle.mega_transcript.specs.Requests.{IsRequest, request_field}
+use Rattle.mega_transcript.proofs.Requesting.{LastForm, two_last, request_form}
+use Rattle.mega_base.specs.declared.names.OpId.{OpId}
+use Rattle.mega_outcome.specs.declared.answer.Answer.{Answer}
+use Rattle.mega_transcript.specs.PlainAnswers.{IsPlainAnswer}
+use Rattle.mega_transcript.specs.ReadingAnswers.{answer_at}
+use Rattle.mega_transcript.proofs.AnswerLaws.{answer_text, text_is, answer_again, answer_fits}
 use Rattle.mega_transcript.proofs.LineForms.{cell_node_epoch_form, node_cell_epoch_form, node_epoch_form, place_form, decided_form, start_form, tick_form, unsent_form, sent_form}
 
 -- a line goes on as its first word says
@@ -57,6 +65,34 @@ line_fits schema f t F make c to left item rest h =
     let same = read_parts (make read.0.0) item read.0.1 rest read.2 in
     subst (IsPlain schema) same.0 (to read.0.0 (c.fits 10 left read.0.0 read.0.1 read.1))
 
+-- the same of a line whose last word may have other bytes that end words
+last_again : {A : Type 0} (f : Field A) (t : A → List ℕ → List ℕ) (F : A → Type 0) (make : A → Item) → LastForm f t F → (x : A) → F x → made make f 10 (t x (10 ∷ [])) ≡ Ok (make x, [])
+last_again f t F make c x fit = ap (λ r. r >>= λ a. Ok (make a.0, a.1)) (c.again x [] fit)
+
+last_fits : {A : Type 0} (schema : Schema) (f : Field A) (t : A → List ℕ → List ℕ) (F : A → Type 0) (make : A → Item) → LastForm f t F
+    → ((x : A) → F x → IsPlain schema (make x)) → (left : List ℕ) (item : Item) (rest : List ℕ) → made make f 10 left ≡ Ok (item, rest) → IsPlain schema item
+last_fits schema f t F make c to left item rest h =
+    let read = bind-ok (f 10 left) (λ a. Ok (make a.0, a.1)) (item, rest) h in
+    let same = read_parts (make read.0.0) item read.0.1 rest read.2 in
+    subst (IsPlain schema) same.0 (to read.0.0 (c.fits left read.0.0 read.0.1 read.1))
+
+begin_form : LastForm (two 32 op_field request_field) (λ x tail. op_word x.0 ++ 32 ∷ (x.1 ++ tail)) (λ x. IsOp x.0 × IsRequest x.1)
+begin_form = two_last 32 op_field request_field (λ op tail. op_word op ++ tail) (λ text tail. text ++ tail) IsOp IsRequest (omega arith) op_form request_form
+
+answered_again : (schema : Schema) (op : OpId) (answer : Answer) → IsOp op → IsPlainAnswer answer → answered_at schema (op_word op ++ 32 ∷ answer_text schema answer) ≡ Ok (items.Answer op answer, [])
+unfolding answered_at
+answered_again schema op answer fit plain =
+    ap (λ r. r >>= λ o. answer_at schema o.1 >>= λ a. Ok (items.Answer o.0 a.0, a.1)) (op_form.again 32 op (answer_text schema answer) (omega arith) fit)
+    ∙ ap (λ r. r >>= λ a. Ok (items.Answer op a.0, a.1)) (answer_again schema answer plain)
+
+answered_fits : (schema : Schema) (left : List ℕ) (item : Item) (rest : List ℕ) → answered_at schema left ≡ Ok (item, rest) → IsPlain schema item
+unfolding answered_at
+answered_fits schema left item rest h =
+    let first = bind-ok (op_field 32 left) (λ o. answer_at schema o.1 >>= λ a. Ok (items.Answer o.0 a.0, a.1)) (item, rest) h in
+    let second = bind-ok (answer_at schema first.0.1) (λ a. Ok (items.Answer first.0.0 a.0, a.1)) (item, rest) first.2 in
+    let same = read_parts (items.Answer first.0.0 second.0.0) item second.0.1 rest second.2 in
+    subst (IsPlain schema) same.0 (op_form.fits 32 left first.0.0 first.0.1 first.1, answer_fits schema first.0.1 second.0.0 second.0.1 second.1)
+
 cut_again : (schema : Schema) → item_at schema (line schema items.Cut) ≡ Ok (items.Cut, [])
 unfolding item_at
 cut_again schema = refl
@@ -76,7 +112,9 @@ item_again schema (items.Unsent node message) fit =
 item_again schema (items.Tick node now) fit =
     by_first schema (codes "tick") (node_word node ++ 32 ∷ (decimal now ++ 10 ∷ [])) kinds.Tick refl refl refl refl
     ∙ line_again (two 32 node_field u64_field) (λ x tail. node_word x.0 ++ 32 ∷ (decimal x.1 ++ tail)) (λ x. IsNode x.0 × IsU64 x.1) (λ x. items.Tick x.0 x.1) tick_form (node, now) fit
-item_again schema (items.Begin op text) fit = absurd fit
+item_again schema (items.Begin op text) fit =
+    by_first schema (codes "begin") (op_word op ++ 32 ∷ (text ++ 10 ∷ [])) kinds.Begin refl refl refl refl
+    ∙ last_again (two 32 op_field request_field) (λ x tail. op_word x.0 ++ 32 ∷ (x.1 ++ tail)) (λ x. IsOp x.0 × IsRequest x.1) (λ x. items.Begin x.0 x.1) begin_form (op, text) fit
 item_again schema (items.Taken number) fit =
     by_first schema (codes "taken") (decimal number ++ 10 ∷ []) kinds.Taken refl refl refl refl
     ∙ line_again (u64_field) (λ n tail. decimal n ++ tail) (IsU64) (λ x. items.Taken x) u64_form number fit
@@ -116,7 +154,10 @@ item_again schema (items.Decide node group position entry) fit =
 item_again schema (items.Apply node group position) fit =
     by_first schema (codes "apply") (node_word node ++ 32 ∷ (group_word group ++ 32 ∷ (position_word position ++ 10 ∷ []))) kinds.Apply refl refl refl refl
     ∙ line_again (node_group_position) (λ x tail. node_word x.0 ++ 32 ∷ (group_word x.1.0 ++ 32 ∷ (position_word x.1.1 ++ tail))) (λ x. IsNode x.0 × (IsGroup x.1.0 × IsPosition x.1.1)) (λ x. items.Apply x.0 x.1.0 x.1.1) place_form (node, (group, position)) fit
-item_again schema (items.Answer op answer) fit = absurd fit
+item_again schema (items.Answer op answer) fit =
+    ap (λ words. item_at schema (codes "answer" ++ 32 ∷ (op_word op ++ words))) (text_is schema answer fit.1)
+    ∙ by_first schema (codes "answer") (op_word op ++ 32 ∷ answer_text schema answer) kinds.Answer refl refl refl refl
+    ∙ answered_again schema op answer fit.0 fit.1
 item_again schema (items.Crash node) fit =
     by_first schema (codes "crash") (node_word node ++ 10 ∷ []) kinds.Crash refl refl refl refl
     ∙ line_again (node_field) (λ node tail. node_word node ++ tail) (IsNode) (λ x. items.Crash x) node_form node fit
@@ -128,7 +169,7 @@ unfolding start_at unsent_at tick_at begin_at taken_at dropped_at sent_at grant_
 of_kind_fits schema kinds.Start left item rest h = line_fits schema (two 32 node_field u32_field) (λ x tail. node_word x.0 ++ 32 ∷ (decimal x.1 ++ tail)) (λ x. IsNode x.0 × IsU32 x.1) (λ x. items.Start x.0 x.1) start_form (λ x fit. fit) left item rest h
 of_kind_fits schema kinds.Unsent left item rest h = line_fits schema (two 32 node_field (behind message_field)) (λ x tail. node_word x.0 ++ 32 ∷ (kind_name x.1.body ++ 32 ∷ (encode_lower (message_text x.1) ++ tail))) (λ x. IsNode x.0 × IsWhole x.1) (λ x. items.Unsent x.0 x.1) unsent_form (λ x fit. fit) left item rest h
 of_kind_fits schema kinds.Tick left item rest h = line_fits schema (two 32 node_field u64_field) (λ x tail. node_word x.0 ++ 32 ∷ (decimal x.1 ++ tail)) (λ x. IsNode x.0 × IsU64 x.1) (λ x. items.Tick x.0 x.1) tick_form (λ x fit. fit) left item rest h
-of_kind_fits schema kinds.Begin left item rest h = absurd (cc)
+of_kind_fits schema kinds.Begin left item rest h = last_fits schema (two 32 op_field request_field) (λ x tail. op_word x.0 ++ 32 ∷ (x.1 ++ tail)) (λ x. IsOp x.0 × IsRequest x.1) (λ x. items.Begin x.0 x.1) begin_form (λ x fit. fit) left item rest h
 of_kind_fits schema kinds.Taken left item rest h = line_fits schema (u64_field) (λ n tail. decimal n ++ tail) (IsU64) (λ x. items.Taken x) u64_form (λ x fit. fit) left item rest h
 of_kind_fits schema kinds.Dropped left item rest h = line_fits schema (u64_field) (λ n tail. decimal n ++ tail) (IsU64) (λ x. items.Dropped x) u64_form (λ x fit. fit) left item rest h
 of_kind_fits schema kinds.Sent left item rest h = line_fits schema (two 32 u64_field (behind (behind (behind message_field)))) (λ x tail. decimal x.0 ++ 32 ∷ (decimal x.1.from ++ 32 ∷ (decimal x.1.to ++ 32 ∷ (kind_name x.1.body ++ 32 ∷ (encode_lower (message_text x.1) ++ tail))))) (λ x. IsU64 x.0 × IsWhole x.1) (λ x. items.Sent x.0 x.1) sent_form (λ x fit. fit) left item rest h
@@ -142,7 +183,7 @@ of_kind_fits schema kinds.Valid left item rest h = line_fits schema (node_group_
 of_kind_fits schema kinds.Invalid left item rest h = line_fits schema (node_group_position) (λ x tail. node_word x.0 ++ 32 ∷ (group_word x.1.0 ++ 32 ∷ (position_word x.1.1 ++ tail))) (λ x. IsNode x.0 × (IsGroup x.1.0 × IsPosition x.1.1)) (λ x. items.Invalid x.0 x.1.0 x.1.1) place_form (λ x fit. fit) left item rest h
 of_kind_fits schema kinds.Decide left item rest h = line_fits schema (two 32 node_group_position entry_field) (λ x tail. node_word x.0.0 ++ 32 ∷ (group_word x.0.1.0 ++ 32 ∷ (position_word x.0.1.1 ++ 32 ∷ (encode_lower (entry_text x.1) ++ tail)))) (λ x. (IsNode x.0.0 × (IsGroup x.0.1.0 × IsPosition x.0.1.1)) × IsWritten x.1) (λ x. items.Decide x.0.0 x.0.1.0 x.0.1.1 x.1) decided_form (λ x fit. fit) left item rest h
 of_kind_fits schema kinds.Apply left item rest h = line_fits schema (node_group_position) (λ x tail. node_word x.0 ++ 32 ∷ (group_word x.1.0 ++ 32 ∷ (position_word x.1.1 ++ tail))) (λ x. IsNode x.0 × (IsGroup x.1.0 × IsPosition x.1.1)) (λ x. items.Apply x.0 x.1.0 x.1.1) place_form (λ x fit. fit) left item rest h
-of_kind_fits schema kinds.Answer left item rest h = absurd (cc)
+of_kind_fits schema kinds.Answer left item rest h = answered_fits schema left item rest h
 of_kind_fits schema kinds.Crash left item rest h = line_fits schema (node_field) (λ node tail. node_word node ++ tail) (IsNode) (λ x. items.Crash x) node_form (λ x fit. fit) left item rest h
 
 by_kind_fits : (schema : Schema) (n : ℕ) (kind : Option LineKind) (left : List ℕ) (item : Item) (rest : List ℕ) → by_kind schema n left kind ≡ Ok (item, rest) → IsPlain schema item

@@ -2,6 +2,12 @@ pub mod Tapes
 pub mod Cells
 pub mod Forms
 pub mod LineForms
+pub mod Requesting
+pub mod AnswerLaws
 pub mod ItemLaws
 pub mod Fronts
 pub mod Reparse
+pub mod Climbs
+pub mod Deciding
+pub mod Tallying
+pub mod LineEnds

@@ -30,7 +30,8 @@ use Rattle.mega_transcript.specs.declared.kinds.LineKind.TheVariants as kinds
 use Rattle.mega_transcript.specs.Words.{node_word, position_word, epoch_word, op_word, group_word}
 use Rattle.mega_transcript.specs.Kinds.{kind_of}
 use Rattle.mega_transcript.specs.Lines.{kind_name, line}
-use Rattle.mega_transcript.specs.Plain.{IsU8, IsU32, IsU64, IsNode, IsPosition, IsEpoch, IsOp, IsGroup, IsWhole, IsWritten, IsPlain}
+use Rattle.mega_transcript.specs.PlainNames.{IsU8, IsU32, IsU64, IsNode, IsPosition, IsEpoch, IsOp, IsGroup}
+use Rattle.mega_transcript.specs.Plain.{IsWhole, IsWritten, IsPlain}
 use Rattle.mega_transcript.specs.Reading.{Read, Field, until, shown, two, made, u8_field, u32_field, u64_field, node_field, position_field, epoch_field, op_field, group_field, hex_field, message_field, entry_field}
 use Rattle.mega_transcript.specs.ReadingItems.{taken_behind, behind, cell_node_epoch, node_cell_epoch, node_epoch, node_group_position, start_at, unsent_at, tick_at, begin_at, taken_at, dropped_at, sent_at, grant_at, lapse_at, counts_at, forgets_at, serving_at, lost_at, valid_at, invalid_at, decide_at, apply_at, answered_at, crash_at, of_kind, by_kind, by_word, item_at, whole_item, located, differs_at, agreed, parsed}
 use Rattle.mega_transcript.proofs.Forms.{lacks, until_again, Form, read_parts, two_form, made_form, decimal-lacks, u8_form, u32_form, u64_form, node_form, position_form, epoch_form, op_form, hex_form, group_form}
@@ -117,6 +118,12 @@ named_form = behind_form message_field (λ m. kind_name m.body) (λ m tail. enco
 few : (b : Bool) (n : ℕ) → n ≤ (if b then 0 else 9) → n ≤ 9
 few true n h = omega arith
 few false n h = h
+
+pub from_small : (m : Message) → IsWhole m → m.from < 2 ^ 64
+from_small m fit = let most : m.from ≤ 9 = few (body_kind m.body == 20) m.from fit.0.from.1 in omega arith
+
+pub to_small : (m : Message) → IsWhole m → m.to < 2 ^ 64
+to_small m fit = let most : m.to ≤ 9 = few (body_kind m.body == 21) m.to fit.0.to.1 in omega arith
 
 pub addressed_form : Form (behind (behind (behind message_field))) (λ m tail. decimal m.from ++ 32 ∷ (decimal m.to ++ 32 ∷ (kind_name m.body ++ 32 ∷ (encode_lower (message_text m) ++ tail)))) IsWhole
 addressed_form =

@@ -5,9 +5,16 @@ pub mod Rows
 pub mod Answers
 pub mod Lines
 pub mod NoFloats
-pub mod Plain
 pub mod Reading
+pub mod Requests
+pub mod PlainNames
+pub mod PlainAnswers
+pub mod ReadingAnswers
+pub mod Plain
 pub mod Kinds
 pub mod Taking
 pub mod ReadingItems
 pub mod Telling
+pub mod Counts
+pub mod Counted
+pub mod Tallies

@@ -12,32 +12,10 @@ use Rattle.mega_wire.specs.Messages.{message_text, IsMessage}
 use Rattle.mega_wire.specs.declared.message.Message.{Message}
 use Rattle.mega_schema.specs.declared.schema.Schema.{Schema}
 use Rattle.mega_transcript.specs.declared.item.Item.{Item}
+use Rattle.mega_transcript.specs.PlainNames.{IsU8, IsU32, IsU64, IsNode, IsPosition, IsEpoch, IsOp, IsGroup}
+use Rattle.mega_transcript.specs.Requests.{IsRequest}
+use Rattle.mega_transcript.specs.PlainAnswers.{IsPlainAnswer}
 use Rattle.mega_transcript.specs.declared.item.Item.TheVariants.{Start, Unsent, Tick, Begin, Taken, Dropped, Sent, Grant, Lapse, Counts, Forgets, Serving, Lost, Valid, Invalid, Decide, Apply, Answer, Crash, Cut, Unsafe}
-
--- numbers that their fields hold
-abbrev pub IsU8 : ℕ → Type 0
-IsU8 n = n ≤ 255
-
-abbrev pub IsU32 : ℕ → Type 0
-IsU32 n = n ≤ 4294967295
-
-abbrev pub IsU64 : ℕ → Type 0
-IsU64 n = n ≤ 18446744073709551615
-
-abbrev pub IsNode : NodeId → Type 0
-IsNode node = IsU8 node.0
-
-abbrev pub IsPosition : Position → Type 0
-IsPosition position = IsU64 position.0
-
-abbrev pub IsEpoch : Epoch → Type 0
-IsEpoch epoch = IsU32 epoch.start × IsU32 epoch.count
-
-abbrev pub IsOp : OpId → Type 0
-IsOp op = IsNode op.node × (IsU32 op.start × IsU32 op.number)
-
-abbrev pub IsGroup : GroupId → Type 0
-IsGroup group = IsBytes group.key
 
 -- a message of the format, whose text is bytes
 abbrev pub IsWhole : Message → Type 0
@@ -47,13 +25,13 @@ IsWhole message = IsMessage message × IsBytes (message_text message)
 abbrev pub IsWritten : Content → Type 0
 IsWritten entry = IsEntry entry × IsBytes (entry_text entry)
 
--- items whose values their fields hold. Begins and answers, which have JSON, are not read yet: none of them is plain
--- here.
+-- items whose values their fields hold, and whose begins have the compact text of an object. Answers with JSON are not
+-- read yet: none of them is plain here.
 abbrev pub IsPlain : Schema → Item → Type 0
 IsPlain schema (Start node start) = IsNode node × IsU32 start
 IsPlain schema (Unsent node message) = IsNode node × IsWhole message
 IsPlain schema (Tick node now) = IsNode node × IsU64 now
-IsPlain schema (Begin op text) = ⊥
+IsPlain schema (Begin op text) = IsOp op × IsRequest text
 IsPlain schema (Taken number) = IsU64 number
 IsPlain schema (Dropped number) = IsU64 number
 IsPlain schema (Sent number message) = IsU64 number × IsWhole message
@@ -67,7 +45,7 @@ IsPlain schema (Valid node group position) = IsNode node × (IsGroup group × Is
 IsPlain schema (Invalid node group position) = IsNode node × (IsGroup group × IsPosition position)
 IsPlain schema (Decide node group position entry) = (IsNode node × (IsGroup group × IsPosition position)) × IsWritten entry
 IsPlain schema (Apply node group position) = IsNode node × (IsGroup group × IsPosition position)
-IsPlain schema (Answer op answer) = ⊥
+IsPlain schema (Answer op answer) = IsOp op × IsPlainAnswer answer
 IsPlain schema (Crash node) = IsNode node
 IsPlain schema Cut = Unit {0}
 IsPlain schema Unsafe = Unit {0}

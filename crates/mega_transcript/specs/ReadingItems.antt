@@ -15,6 +15,8 @@ use Rattle.mega_transcript.specs.declared.kinds.LineKind.TheVariants.{Start, Uns
 use Rattle.mega_transcript.specs.Kinds.{kind_of}
 use Rattle.mega_transcript.specs.Reading.{Read, Field, until, two, made, number_field, u8_field, u32_field, u64_field, node_field, position_field, epoch_field, op_field, group_field, message_field, entry_field}
 use Rattle.mega_transcript.specs.Lines.{line}
+use Rattle.mega_transcript.specs.Requests.{request_field}
+use Rattle.mega_transcript.specs.ReadingAnswers.{answer_at}
 
 -- a field behind a word of any bytes
 abbrev pub taken_behind : {A : Type 0} → Field A → ℕ → ℕ → Option (List ℕ × List ℕ) → Read A
@@ -92,10 +94,13 @@ unfoldable pub crash_at : List ℕ → Read Item
 crash_at = made (λ node. items.Crash node) node_field 10
 
 unfoldable pub begin_at : List ℕ → Read Item
-begin_at left = Err (length left)
+begin_at = made (λ x. items.Begin x.0 x.1) (two 32 op_field request_field) 10
 
 unfoldable pub answered_at : Schema → List ℕ → Read Item
-answered_at schema left = Err (length left)
+answered_at schema left =
+    op_field 32 left >>= λ op.
+    answer_at schema op.1 >>= λ answer.
+    Ok (items.Answer op.0 answer.0, answer.1)
 
 -- an item of this kind
 abbrev pub of_kind : Schema → LineKind → List ℕ → Read Item
