@@ -5,7 +5,7 @@ use Rattle.mega_world.proofs.Waiting.{represents_note, grows_note}
 use Rattle.mega_world.proofs.world.World.note.Goals as goal
 
 pub returns-clause-state : goal.returns-clause-state
-returns-clause-state c count r = subst (λ items. Represents count c.args.self.now (newest items)) (sym c.in_ok-push.ensures.ok) (represents_note count _ c.args.tape.now.items c.into_item.result c.into_item.ensures r)
+returns-clause-state c count r = subst (λ items. Represents count c.args.self.now (newest items)) (sym c.in_ok-push.ensures.ok) (represents_note count _ c.args.tape.now.items c.into_item.result c.into_item.ensures.note r)
 
 pub returns-clause-items : goal.returns-clause-items
-returns-clause-items c before grows = subst (λ items. Grows before (newest items)) (sym c.in_ok-push.ensures.ok) (grows_note before c.args.tape.now.items c.into_item.result c.into_item.ensures grows)
+returns-clause-items c before grows = subst (λ items. Grows before (newest items)) (sym c.in_ok-push.ensures.ok) (grows_note before c.args.tape.now.items c.into_item.result c.into_item.ensures.note grows)
