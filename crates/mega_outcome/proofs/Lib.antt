@@ -4,3 +4,4 @@ pub mod Seen
 pub mod Items
 pub mod Grown
 pub mod GrownChanges
+pub mod Group

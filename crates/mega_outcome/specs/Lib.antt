@@ -10,3 +10,4 @@ pub mod Steps
 pub mod Numbers
 pub mod Lengths
 pub mod Extends
+pub mod Group

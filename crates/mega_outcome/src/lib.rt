@@ -29,7 +29,7 @@ mod turns;
 pub use answer::{Answer, Batch, Done, Mark, Shown, Turn};
 pub use batches::run_all;
 pub use extending::extends_outcome;
-pub use laws::outcomes_stay_under_more_properties;
+pub use laws::{outcomes_look_at_their_group, outcomes_stay_under_more_properties};
 pub use outcomes::run;
 pub use request::{FindRequest, Mode, ReadRequest, Request};
 pub use transaction::{Change, Check, RowRef, Transaction};
