@@ -1,16 +1,12 @@
 -- What a transaction comes to under a schema that grew.
-use Rattle.std.proofs.Common.{◌≡◌, ◌∙◌, ap, sym, subst, refl, ℕ, zero, suc, ◌+◌, ◌-◌, Bool, true, false, cond, List, [], ◌∷◌, ◌++◌, length, drop}
-use Rattle.std.specs.Prelude.{ℤ, Option, Some, None, Result, Ok, Err, is_some, is_none, is_ok, ◌==◌, ◌&&◌, not, if◌then◌else◌, slice_get, option_map}
-use Rattle.std.specs.List.{list_all, flat_map}
+use Rattle.std.proofs.Common.{◌≡◌, ◌∙◌, ap, refl, ℕ, zero, suc, ◌+◌, ◌-◌, Bool, true, false, List, [], ◌∷◌, ◌++◌, length, drop}
+use Rattle.std.specs.Prelude.{Option, Some, None, Result, Ok, Err, is_some, is_none, is_ok, ◌==◌, ◌&&◌, if◌then◌else◌, slice_get, option_map}
+use Rattle.std.specs.List.{list_all}
 use Rattle.std.specs.Option.{option_to_list}
-use Rattle.std.proofs.lemmas.List.{append_assoc}
-use Rattle.mega_base.specs.declared.names.GroupId.{GroupId}
 use Rattle.mega_base.specs.declared.values.Kind.{Kind}
 use Rattle.mega_base.specs.declared.values.Shape.{Shape}
 use Rattle.mega_base.specs.declared.values.Value.{Value}
-use Rattle.mega_base.specs.declared.values.Cell.{Cell}
 use Rattle.mega_base.specs.declared.values.Row.{Row}
-use Rattle.mega_entry.specs.declared.content.Write.{Write}
 use Rattle.mega_entry.specs.declared.content.Send.{Send}
 use Rattle.mega_schema.specs.declared.schema.Property.{Property}
 use Rattle.mega_schema.specs.declared.schema.Table.{Table}
@@ -21,7 +17,7 @@ use Rattle.mega_schema.specs.Shaping.{kinds_of, root_kinds, rest_kinds, space_of
 use Rattle.mega_keys.specs.Spelling.{root_part}
 use Rattle.mega_keys.specs.Answers.{row_key_of, group_key_of}
 use Rattle.mega_keys.specs.Reading.{read_key_of}
-use Rattle.mega_index.specs.Rows.{Rows, written}
+use Rattle.mega_index.specs.Rows.{Rows}
 use Rattle.mega_index.specs.Fits.{numbered}
 use Rattle.mega_index.specs.Fitted.{is_root_group, is_group, is_queue, send_fits}
 use Rattle.mega_outcome.specs.declared.answer.Turn.{Turn}
@@ -34,7 +30,7 @@ use Rattle.mega_outcome.specs.Places.{◌>>=◌, placed, key_in_table, key_in, r
 use Rattle.mega_outcome.specs.Checks.{holds, may_be, may_be_in, has_values, check, all_checks}
 use Rattle.mega_outcome.specs.Reads.{shown, read, all_reads}
 use Rattle.mega_outcome.specs.Outcome.{all_sends}
-use Rattle.mega_outcome.specs.Extends.{may_lack, is_known, ExtendsTable, ExtendTables, Extends}
+use Rattle.mega_outcome.specs.Extends.{is_known, ExtendsTable, ExtendTables, Extends}
 
 pub both-true : (a b : Bool) → a && b ≡ true → (a ≡ true) × (b ≡ true)
 both-true true b h = (refl, h)

@@ -12,19 +12,18 @@ use Rattle.mega_syntax.specs.declared.need.Need.{Need}
 use Rattle.mega_syntax.specs.declared.need.Need.TheVariants.{Required, Optional, Repeated}
 use Rattle.mega_schema.specs.declared.schema.Property.{Property}
 use Rattle.mega_schema.specs.declared.schema.Table.{Table}
-use Rattle.mega_schema.specs.declared.schema.Index.{Index}
 use Rattle.mega_schema.specs.declared.schema.Schema.{Schema}
 use Rattle.mega_schema.specs.Shaping.{shape_of}
 use Rattle.mega_keys.specs.declared.fault.KeyFault.{KeyFault}
 use Rattle.mega_keys.specs.Spelling.{root_part}
 use Rattle.mega_keys.specs.Answers.{row_key_of, group_key_of}
-use Rattle.mega_index.specs.Rows.{Rows, Listed, written}
+use Rattle.mega_index.specs.Rows.{Rows, written}
 use Rattle.mega_index.specs.Cells.{values_of, key_values, is_listed, cell_set, row_set}
-use Rattle.mega_index.specs.Fits.{numbered, cell_fits, cells_fit, is_filled, has_required, properties_fit, key_of, group_bytes_of, indexes_of, long_in, long_key, row_fits, fits_in, fits}
+use Rattle.mega_index.specs.Fits.{numbered, cell_fits, cells_fit, is_filled, has_required, properties_fit, key_of, group_bytes_of, long_in, long_key, row_fits, fits_in, fits}
 use Rattle.mega_index.specs.Entries.{local_in, local_entries}
-use Rattle.mega_index.specs.LocalWrites.{turned, index_writes_in, index_writes}
+use Rattle.mega_index.specs.LocalWrites.{turned, index_writes_in}
 use Rattle.mega_outcome.specs.declared.answer.Turn.{Turn}
-use Rattle.mega_outcome.specs.declared.answer.Turn.TheVariants.{BadRow, NoRow}
+use Rattle.mega_outcome.specs.declared.answer.Turn.TheVariants.{BadRow}
 use Rattle.mega_outcome.specs.declared.answer.Shown.{Shown}
 use Rattle.mega_outcome.specs.declared.answer.Done.{Done}
 use Rattle.mega_outcome.specs.declared.transaction.Change.{Change}
@@ -34,13 +33,13 @@ use Rattle.mega_outcome.specs.Places.{◌>>=◌, key_in}
 use Rattle.mega_outcome.specs.Checks.{all_checks}
 use Rattle.mega_outcome.specs.Reads.{all_reads}
 use Rattle.mega_outcome.specs.Changes.{replaced, delete_at, is_number, number_of, sum_of, add_to, add_in, add_at, change, all_changes}
-use Rattle.mega_outcome.specs.Outcome.{first_read, first_change, first_send, all_sends, longest, unless_large, outcome_in}
+use Rattle.mega_outcome.specs.Outcome.{first_read, first_change, first_send, longest, unless_large, outcome_in}
 use Rattle.mega_outcome.specs.Steps.{put_key, put_at, changed_key, changed_to, done_with, written_by}
 use Rattle.mega_outcome.specs.Extends.{may_lack, may_lack_need, is_known, is_known_row, known_in, changed_table, LookAtKnown, ExtendsTable, Extends}
 use Rattle.mega_disk.specs.VersionMaps.{Versions, SameVersions}
 use Rattle.mega_outcome.specs.Answers.{Gives}
 use Rattle.mega_outcome.proofs.Items.{change_is}
-use Rattle.mega_outcome.proofs.Grown.{both-true, numbered_more, grown, is_grown, ExtendsAt, table_extends, shape_same, key_in_same, reads_same, then_ok, checks_same, sends_same}
+use Rattle.mega_outcome.proofs.Grown.{both-true, numbered_more, is_grown, ExtendsAt, table_extends, shape_same, key_in_same, reads_same, then_ok, checks_same, sends_same}
 
 cells_same : (ps more : List Property) (low : ℕ) (cs : List Cell) → list_all (λ (c : Cell). is_known ps c.property) cs ≡ true → cells_fit (ps ++ more) low cs ≡ cells_fit ps low cs
 cells_same ps more low [] h = refl

@@ -10,7 +10,6 @@ use Rattle.mega_index.specs.Rows.{Rows, written}
 use Rattle.mega_index.specs.Fits.{numbered}
 use Rattle.mega_outcome.specs.declared.answer.Turn.{Turn}
 use Rattle.mega_outcome.specs.declared.answer.Shown.{Shown}
-use Rattle.mega_outcome.specs.declared.answer.Done.{Done}
 use Rattle.mega_outcome.specs.declared.transaction.RowRef.{RowRef}
 use Rattle.mega_outcome.specs.declared.transaction.Check.{Check}
 use Rattle.mega_outcome.specs.declared.transaction.Check.TheVariants.{There, Gone, Is}

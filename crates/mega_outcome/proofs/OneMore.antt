@@ -1,6 +1,6 @@
 -- One look after another.
-use Rattle.std.proofs.Common.{◌≡◌, ◌∙◌, ◌≤◌, ap, subst, sym, inl, inr, ⊎_elim, refl, ℕ, true, arith}
-use Rattle.std.specs.Prelude.{Option, Some, None, Result, Ok, Err}
+use Rattle.std.proofs.Common.{◌≡◌, ◌∙◌, ◌≤◌, subst, sym, inl, inr, ⊎_elim, refl, ℕ, arith}
+use Rattle.std.specs.Prelude.{Option, Some, None}
 use Rattle.mega_base.specs.Causes.{Rose}
 use Rattle.mega_disk.specs.Fuse.{Fuse, Untold, Unset, Left, MayBurn, Burns}
 use Rattle.mega_disk.specs.VersionMaps.{Stored}

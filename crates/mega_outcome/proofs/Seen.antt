@@ -1,11 +1,11 @@
 -- Rows with those that were written since.
 use Rattle.std.proofs.Common.{◌≡◌, ◌∙◌, ap, refl, ℕ, Bool, true, false, cond, List, []}
-use Rattle.std.specs.Prelude.{Option, Some, None}
-use Rattle.std.specs.BTreeMap.{BTreeMap, Updates, get, is_at}
+use Rattle.std.specs.Prelude.{Option, Some}
+use Rattle.std.specs.BTreeMap.{Updates, get, is_at}
 use Rattle.std.specs.Map.{lookup}
 use Rattle.mega_base.specs.declared.values.Row.{Row}
 use Rattle.mega_entry.specs.declared.content.Write.{Write}
-use Rattle.mega_index.specs.Rows.{Rows, key_cmp, same_key, changed, written}
+use Rattle.mega_index.specs.Rows.{Rows, key_cmp, same_key, changed}
 use Rattle.mega_outcome.specs.Answers.{Pending, or_row, seen}
 
 pub seen_empty : (pending : Pending) (rows : Rows) → pending.entries ≡ [] → seen pending rows ≡ rows

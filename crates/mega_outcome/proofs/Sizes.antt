@@ -1,14 +1,13 @@
 -- The lengths of texts are sums over their parts.
 use Rattle.std.proofs.Common.{◌≡◌, ◌∙◌, ap, sym, refl, ℕ, ◌+◌, ◌*◌, ◌<◌, ◌≤◌, true, false, cond, List, [], ◌∷◌, ◌++◌, length, length-append, arith}
-use Rattle.std.specs.Prelude.{ℤ, Bool, Option, Some, None, fold, max, ◌==◌}
+use Rattle.std.specs.Prelude.{ℤ, Bool, Option, Some, fold, max, ◌==◌}
 use Rattle.std.proofs.lemmas.Grind.{flat_map-append}
 use Rattle.std.specs.List.{flat_map}
 use Rattle.std.specs.Cmp.{unsigned_Decides}
 use Rattle.std.specs.Int.{cast_unsigned, w32, w64}
 use Rattle.mega_base.specs.Codec.{number_text, bytes_text, option_text, list_text, one_byte}
 use Rattle.mega_base.specs.Digits.{length_number_text}
-use Rattle.mega_base.specs.Values.{value_text, cell_text, row_text, bit_of}
-use Rattle.mega_base.specs.declared.values.Value.{Value}
+use Rattle.mega_base.specs.Values.{value_text, cell_text, row_text}
 use Rattle.mega_base.specs.declared.values.Value.TheVariants.{Int32, Int64, Bool as Truth, Str, Raw}
 use Rattle.mega_base.specs.declared.values.Cell.{Cell}
 use Rattle.mega_base.specs.declared.values.Row.{Row}

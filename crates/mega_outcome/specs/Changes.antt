@@ -1,13 +1,13 @@
 -- What the writes of a transaction come to.
 use Rattle.std.specs.Prelude.{ℕ, ◌+◌, ◌^◌, ◌&&◌, not, ℤ, pos, negsuc, ◌+ℤ◌, nat_lt, if◌then◌else◌, Bool, true, false, List, [], ◌∷◌, ◌++◌, is_some, Option, Some, None, Result, Ok, Err}
 use Rattle.mega_base.specs.declared.values.Value.{Value}
-use Rattle.mega_base.specs.declared.values.Value.TheVariants.{Int32, Int64, Bool as Truth, Str, Raw}
+use Rattle.mega_base.specs.declared.values.Value.TheVariants.{Int32, Int64}
 use Rattle.mega_base.specs.declared.values.Kind.{Kind}
 use Rattle.mega_base.specs.declared.values.Kind.TheVariants as kinds
 use Rattle.mega_base.specs.declared.values.Row.{Row}
 use Rattle.mega_entry.specs.declared.content.Write.{Write}
 use Rattle.mega_syntax.specs.declared.need.Need.{Need}
-use Rattle.mega_syntax.specs.declared.need.Need.TheVariants.{Required, Optional, Repeated}
+use Rattle.mega_syntax.specs.declared.need.Need.TheVariants.{Required, Optional}
 use Rattle.mega_schema.specs.declared.schema.Property.{Property}
 use Rattle.mega_schema.specs.declared.schema.Table.{Table}
 use Rattle.mega_schema.specs.declared.schema.Schema.{Schema}

@@ -1,5 +1,5 @@
 -- What a transaction, and a batch of them, comes to over the rows of their group.
-use Rattle.std.specs.Prelude.{ℕ, ◌+◌, ◌==◌, max, nat_lt, if◌then◌else◌, List, [], ◌∷◌, ◌++◌, length, map, fold, Option, Some, None, Result, Ok, Err}
+use Rattle.std.specs.Prelude.{ℕ, ◌+◌, ◌==◌, max, nat_lt, if◌then◌else◌, List, [], ◌∷◌, ◌++◌, length, fold, Some, Result, Ok, Err}
 use Rattle.mega_base.specs.declared.names.GroupId.{GroupId}
 use Rattle.mega_base.specs.declared.names.OpId.{OpId}
 use Rattle.mega_entry.specs.declared.content.Write.{Write}
@@ -12,7 +12,6 @@ use Rattle.mega_index.specs.Rows.{Rows, written}
 use Rattle.mega_index.specs.Fitted.{most_bytes, entry_of, enter_length, send_fits}
 use Rattle.mega_outcome.specs.declared.answer.Turn.{Turn}
 use Rattle.mega_outcome.specs.declared.answer.Turn.TheVariants.{BadRow, TooLarge}
-use Rattle.mega_outcome.specs.declared.answer.Shown.{Shown}
 use Rattle.mega_outcome.specs.declared.answer.Done.{Done}
 use Rattle.mega_outcome.specs.declared.answer.Batch.{Batch}
 use Rattle.mega_outcome.specs.declared.transaction.Transaction.{Transaction}

@@ -1,5 +1,5 @@
 -- What reads show of the rows.
-use Rattle.std.specs.Prelude.{ℕ, ◌+◌, List, [], ◌∷◌, filter_map, option_map, Option, Some, None, Result, Ok, Err}
+use Rattle.std.specs.Prelude.{ℕ, ◌+◌, List, [], ◌∷◌, filter_map, option_map, Option, Some, None, Result, Ok}
 use Rattle.mega_base.specs.declared.names.GroupId.{GroupId}
 use Rattle.mega_base.specs.declared.values.Row.{Row}
 use Rattle.mega_schema.specs.declared.schema.Schema.{Schema}

@@ -1,4 +1,4 @@
-use Rattle.std.proofs.Common.{◌≡◌, ◌+◌, true, drop, length}
+use Rattle.std.proofs.Common.{◌≡◌, true, drop, length}
 use Rattle.std.specs.Prelude.{None, fold}
 use Rattle.mega_index.specs.Rows.{Rows, written}
 use Rattle.mega_outcome.specs.Outcome.{with_next, no_batch}

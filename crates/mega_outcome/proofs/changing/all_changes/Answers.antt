@@ -1,6 +1,5 @@
-use Rattle.std.proofs.Common.{◌≡◌, ◌∙◌, ap, sym, ◌+◌, ◌∷◌, ◌++◌, List, drop, arith, rules}
+use Rattle.std.proofs.Common.{◌∙◌, ap, sym, ◌+◌, ◌∷◌, ◌++◌, List, drop, arith, rules}
 use Rattle.std.specs.Prelude.{Some}
-use Rattle.std.proofs.lemmas.Grind.{common_steps}
 use Rattle.std.proofs.lemmas.List.{at_drop_more}
 use Rattle.mega_disk.specs.VersionMaps.{Versions}
 use Rattle.mega_entry.specs.declared.content.Write.{Write}
