@@ -1,6 +1,7 @@
 mod begins;
 mod edges;
 mod lines;
+mod numbers;
 mod requests;
 mod world;
 
@@ -42,14 +43,26 @@ fn reason(answer: Result<WorldEvent, LineFault>) -> u8 {
     }
 }
 
+/// Asserts for which reason a line is refused.
+fn tells(
+    rt: &impl Abort,
+    alloc: Global,
+    schema: &Schema,
+    wanted: &str,
+    line: &str,
+) -> Result<(), Fail> {
+    let told = reason(event(alloc, line.as_bytes(), 1, schema));
+    let told = format!(in alloc; "{told}")?;
+    assert_eq!(rt; told.as_str(), wanted, "{line}");
+    Ok(())
+}
+
 /// Each row is a reason and a line.
 fn check(rt: &impl Abort, alloc: Global, rows: &str) -> Result<(), Fail> {
     let schema = schema(alloc)?;
     for row in rows.lines() {
         let (wanted, line) = row.split_once(' ').ok_or("no reason")?;
-        let told = reason(event(alloc, line.as_bytes(), 1, &schema));
-        let told = format!(in alloc; "{told}")?;
-        assert_eq!(rt; told.as_str(), wanted, "{line}");
+        tells(rt, alloc, &schema, wanted, line)?;
     }
     Ok(())
 }
@@ -77,4 +90,14 @@ fn requests_are_told(rt: HostRuntime) -> Result<(), Fail> {
 #[test]
 fn the_first_of_two_faults_is_told(rt: HostRuntime) -> Result<(), Fail> {
     check(&rt, rt.alloc(), lines::TWO)
+}
+
+#[test]
+fn texts_are_those_of_json(rt: HostRuntime) -> Result<(), Fail> {
+    check(&rt, rt.alloc(), lines::TEXTS)
+}
+
+#[test]
+fn of_equal_names_the_last_counts(rt: HostRuntime) -> Result<(), Fail> {
+    check(&rt, rt.alloc(), lines::TWICE)
 }

@@ -16,7 +16,8 @@ const TEXTS: &str =
 {"do":"find","node":1,"index":"PhotosByTag","values":["Paris"]} => {"do":"find","index":"PhotosByTag","node":1,"values":["Paris"]}
  { "what" : "enter" , "do" : "pump", "node":2 }  => {"do":"pump","node":2,"what":"enter"}
 {"node":1,"do":"refresh"} => {"do":"refresh","node":1}
-{"do":"find","index":"","node":1,"node":2,"values":[-9223372036854775808,9223372036854775807,true,"\u00fc\ud83d\ude00\u0001\/\b"]} => {"do":"find","index":"","node":2,"values":[-9223372036854775808,9223372036854775807,true,"ü😀\u0001/\b"]}"#;
+{"do":"find","index":"","node":1,"node":2,"values":[-9223372036854775808,9223372036854775807,true,"\u00fc\ud83d\ude00\u0001\/\b"]} => {"do":"find","index":"","node":2,"values":[-9223372036854775808,9223372036854775807,true,"ü😀\u0001/\b"]}
+{"do":"txn","node":1,"group":["A",["\u00e9"]],"checks":[],"reads":[],"writes":[{"put":"A","row":{"\u00fc":1,"a":2,"B":3,"\u0001":"\b\f\n\r\t\u001F\"\\","":5,"aa":"\uD83D\uDE00","a":6}}],"sends":[]} => {"checks":[],"do":"txn","group":["A",["é"]],"node":1,"reads":[],"sends":[],"writes":[{"put":"A","row":{"":5,"\u0001":"\b\f\n\r\t\u001f\"\\","B":3,"a":6,"aa":"😀","ü":1}}]}"#;
 
 /// The request and the text of a line that begins an operation.
 pub fn begun(alloc: Global, line: &str) -> Result<(Request, Text), Fail> {

@@ -1,47 +1,78 @@
-//! Lines at the limits of length, number and nesting.
+//! Lines at the limits of length, number and nesting, and each byte in each place of a line.
 
-use super::{reason, schema};
+use super::{lines, reason, schema};
 use crate::event;
+use mega_schema::Schema;
 use std::alloc::Global;
+use std::process::Abort;
 use std::test::Fail;
 
-/// A line, spaces behind it up to this length.
-fn padded(alloc: Global, length: usize) -> Result<Vec<u8>, Fail> {
-    let mut line = Vec::from_slice(alloc, br#"{"do":"drain","most":1}"#)?;
+/// A line, this byte behind it up to this length.
+fn padded(alloc: Global, line: &str, byte: u8, length: usize) -> Result<Vec<u8>, Fail> {
+    let mut padded = Vec::from_slice(alloc, line.as_bytes())?;
     for _ in line.len()..length {
-        line.push(b' ')?;
+        padded.push(byte)?;
     }
-    Ok(line)
+    Ok(padded)
 }
 
-#[test]
-fn long_lines_and_late_lines_are_refused(rt: HostRuntime) -> Result<(), Fail> {
-    let alloc = rt.alloc();
-    let schema = schema(alloc)?;
-    for (length, number, wanted) in [
-        (23, 1, 0),
-        (65_536, 1, 0),
-        (65_536, 1_000_000, 0),
-        (65_537, 1, 7),
-        (65_537, 1_000_001, 7),
-        (23, 1_000_001, 8),
-        (23, 18_446_744_073_709_551_615, 8),
+/// Asserts what is told of a line in the shortest and longest spelling, in the last place and behind it.
+fn check_ends(
+    rt: &impl Abort,
+    alloc: Global,
+    schema: &Schema,
+    own: u8,
+    line: &str,
+) -> Result<(), Fail> {
+    let longest = padded(alloc, line, b' ', 65_536)?;
+    let longer = padded(alloc, line, b'\r', 65_537)?;
+    for (text, number, wanted) in [
+        (line.as_bytes(), 1, own),
+        (longest.as_slice(), 1_000_000, own),
+        (line.as_bytes(), 1_000_001, 8),
+        (longest.as_slice(), 18_446_744_073_709_551_615, 8),
+        (longer.as_slice(), 1, 7),
+        (longer.as_slice(), 1_000_001, 7),
     ] {
-        let line = padded(alloc, length)?;
-        let told = reason(event(alloc, line.as_slice(), number, &schema));
-        assert_eq!(rt; told, wanted, "{length} bytes, line {number}");
+        let told = reason(event(alloc, text, number, schema));
+        assert_eq!(rt; told, wanted, "{line}, line {number}");
     }
     Ok(())
 }
 
-/// A line with a field too many, which holds so many lists, one in the other.
-fn nested(alloc: Global, lists: usize) -> Result<Vec<u8>, Fail> {
-    let mut line = Vec::from_slice(alloc, br#"{"do":"drain","most":1,"more":"#)?;
-    for _ in 0..lists {
-        line.push(b'[')?;
+#[test]
+fn long_lines_and_late_lines_are_refused_first(rt: HostRuntime) -> Result<(), Fail> {
+    let alloc = rt.alloc();
+    let schema = schema(alloc)?;
+    for row in lines::FAULTS.lines() {
+        let (own, line) = row.split_once(' ').ok_or("no reason")?;
+        let own = *own.as_bytes().first().ok_or("no digit")?;
+        check_ends(&rt, alloc, &schema, own.wrapping_sub(b'0'), line)?;
     }
-    for _ in 0..lists {
-        line.push(b']')?;
+    Ok(())
+}
+
+#[test]
+fn line_ends_count_to_the_length(rt: HostRuntime) -> Result<(), Fail> {
+    let alloc = rt.alloc();
+    let schema = schema(alloc)?;
+    for (length, wanted) in [(23, 0), (24, 0), (65_536, 0), (65_537, 7)] {
+        let line = padded(alloc, r#"{"do":"drain","most":1}"#, b'\r', length)?;
+        let told = reason(event(alloc, line.as_slice(), 1, &schema));
+        assert_eq!(rt; told, wanted, "{length} bytes");
+    }
+    Ok(())
+}
+
+/// A line with a field too many, which holds so many lists or objects, one in the other.
+fn nested(alloc: Global, open: &str, close: &str, depth: usize) -> Result<Vec<u8>, Fail> {
+    let mut line = Vec::from_slice(alloc, br#"{"do":"drain","most":1,"more":"#)?;
+    for _ in 0..depth {
+        line.extend_from_slice(open.as_bytes())?;
+    }
+    line.push(b'1')?;
+    for _ in 0..depth {
+        line.extend_from_slice(close.as_bytes())?;
     }
     line.push(b'}')?;
     Ok(line)
@@ -51,24 +82,71 @@ fn nested(alloc: Global, lists: usize) -> Result<Vec<u8>, Fail> {
 fn what_nests_deeper_than_127_is_no_json(rt: HostRuntime) -> Result<(), Fail> {
     let alloc = rt.alloc();
     let schema = schema(alloc)?;
-    for (lists, wanted) in [(1, 6), (126, 6), (127, 1), (128, 1), (20_000, 1)] {
-        let line = nested(alloc, lists)?;
-        let told = reason(event(alloc, line.as_slice(), 1, &schema));
-        assert_eq!(rt; told, wanted, "{lists} lists");
+    for (open, close) in [("[", "]"), (r#"{"a":"#, "}")] {
+        for (depth, wanted) in [(1, 6), (126, 6), (127, 1), (128, 1), (10_000, 1)] {
+            let line = nested(alloc, open, close, depth)?;
+            let told = reason(event(alloc, line.as_slice(), 1, &schema));
+            assert_eq!(rt; told, wanted, "{depth} times {open}");
+        }
     }
     Ok(())
 }
 
+/// Asserts what is told of a line with this byte between two texts.
+fn check_byte(
+    rt: &impl Abort,
+    alloc: Global,
+    schema: &Schema,
+    around: (&str, &str),
+    byte: u8,
+    wanted: u8,
+) -> Result<(), Fail> {
+    let mut line = Vec::from_slice(alloc, around.0.as_bytes())?;
+    line.push(byte)?;
+    line.extend_from_slice(around.1.as_bytes())?;
+    let told = reason(event(alloc, line.as_slice(), 1, schema));
+    assert_eq!(rt; told, wanted, "the byte {byte} behind {around:?}");
+    Ok(())
+}
+
+/// The bytes that stand for themselves in a text; no byte above them is a character of UTF-8 by itself.
+fn stands_for_itself(byte: u8) -> bool {
+    byte >= 32 && byte < 128 && byte != b'"' && byte != b'\\'
+}
+
+fn is_white(byte: u8) -> bool {
+    byte == b' ' || byte == b'\t' || byte == b'\n' || byte == b'\r'
+}
+
 #[test]
-fn what_is_no_utf8_is_no_json(rt: HostRuntime) -> Result<(), Fail> {
+fn each_byte_has_its_places(rt: HostRuntime) -> Result<(), Fail> {
     let alloc = rt.alloc();
     let schema = schema(alloc)?;
-    for (byte, wanted) in [(b'a', 6), (0x1f, 1), (0x7f, 6), (0x80, 1), (0xff, 1)] {
-        let mut line = Vec::from_slice(alloc, br#"{"do":"drain","most":1,""#)?;
-        line.push(byte)?;
-        line.extend_from_slice(br#"":0}"#)?;
-        let told = reason(event(alloc, line.as_slice(), 1, &schema));
-        assert_eq!(rt; told, wanted, "the byte {byte}");
+    let name = (r#"{"do":"drain","most":1,""#, r#"":0}"#);
+    let value = (r#"{"do":"find","node":1,"index":""#, r#"","values":[1]}"#);
+    let between = (r#"{"do":"drain","#, r#""most":1}"#);
+    let behind = (r#"{"do":"drain","most":1}"#, "");
+    for byte in 0..=255 {
+        let in_texts = stands_for_itself(byte);
+        let elsewhere = if is_white(byte) { 0 } else { 1 };
+        check_byte(
+            &rt,
+            alloc,
+            &schema,
+            name,
+            byte,
+            if in_texts { 6 } else { 1 },
+        )?;
+        check_byte(
+            &rt,
+            alloc,
+            &schema,
+            value,
+            byte,
+            if in_texts { 0 } else { 1 },
+        )?;
+        check_byte(&rt, alloc, &schema, between, byte, elsewhere)?;
+        check_byte(&rt, alloc, &schema, behind, byte, elsewhere)?;
     }
     Ok(())
 }

@@ -16,9 +16,17 @@ const REQUESTS: &str =
 {"do":"find","node":1,"index":"Own","values":[5],"mode":"current"} => Find(FindRequest { mode: Current, group: None, index: 0, values: Items { items: [Int64(5)] } })
 {"do":"find","node":1,"index":"All","values":[5],"mode":"current","group":["A",[1]]} => Find(FindRequest { mode: Current, group: Some(GroupId { key: Bytes { items: [1, 128, 0, 0, 1] } }), index: 0, values: Items { items: [Int64(5)] } })
 {"do":"find","node":1,"index":"Nil","values":[5]} => Find(FindRequest { mode: Snapshot, group: None, index: 0, values: Items { items: [Int64(5)] } })
+{"do":"batch","node":9,"txns":[{"sends":[],"writes":[{"add":"A","key":[1],"property":"n","by":-30}],"reads":[],"checks":[{"gone":"B","key":[1,"00"]}]}],"group":["A",[1]]} => Batch(GroupId { key: Bytes { items: [1, 128, 0, 0, 1] } }, Items { items: [Transaction { group: GroupId { key: Bytes { items: [1, 128, 0, 0, 1] } }, checks: Items { items: [Gone(RowRef { table: 2, key: Items { items: [Int32(1), Raw(Bytes { items: [0] })] } })] }, reads: Items { items: [] }, writes: Items { items: [Add(RowRef { table: 1, key: Items { items: [Int32(1)] } }, 2, -30)] }, sends: Items { items: [] } }] })
+{"do":"batch","node":1,"group":["A",["x"]],"txns":[{"checks":[],"reads":[],"writes":[],"sends":[]}]} => Batch(GroupId { key: Bytes { items: [] } }, Items { items: [Transaction { group: GroupId { key: Bytes { items: [] } }, checks: Items { items: [] }, reads: Items { items: [] }, writes: Items { items: [] }, sends: Items { items: [] } }] })
+{"do":"read","node":1,"mode":"current","group":["A",[-2147483648]],"rows":[]} => Read(ReadRequest { mode: Current, group: GroupId { key: Bytes { items: [1, 0, 0, 0, 0] } }, rows: Items { items: [] } })
+{"do":"read","node":1,"mode":"snapshot","group":["A",[2147483647]],"rows":[{"row":"A","key":[2147483647]},{"row":"Z","key":[]}]} => Read(ReadRequest { mode: Snapshot, group: GroupId { key: Bytes { items: [1, 255, 255, 255, 255] } }, rows: Items { items: [RowRef { table: 1, key: Items { items: [Int32(2147483647)] } }, RowRef { table: 0, key: Items { items: [] } }] } })
+{"do":"read","node":1,"mode":"snapshot","group":["A",[2147483648]],"rows":[]} => Read(ReadRequest { mode: Snapshot, group: GroupId { key: Bytes { items: [] } }, rows: Items { items: [] } })
 {"do":"pump","node":1,"what":"enter"} => PumpEnter
 {"do":"pump","node":1,"what":"handle"} => PumpHandle
-{"do":"refresh","node":1} => Refresh"#;
+{"what":"handle","what":"enter","node":9,"do":"pump"} => PumpEnter
+{"do":"refresh","node":1} => Refresh
+{"node":9,"do":"refresh"} => Refresh
+ { "do" : "refresh", "node" : 2 } => Refresh"#;
 
 #[test]
 fn names_and_values_are_those_of_the_schema(rt: HostRuntime) -> Result<(), Fail> {

@@ -7,14 +7,27 @@ use std::test::Fail;
 
 /// Lines, and behind an arrow the numbers of their events; the device `data` is shown as 1.
 const EVENTS: &str = r#"{"do":"tick","node":9,"now":1000000000000} => tick [9, 1000000000000, 0, 0]
+{"now":0,"node":1,"do":"tick"} => tick [1, 0, 0, 0]
+ { "do" : "tick" , "node" : 2 , "now" : 2147483648 }  => tick [2, 2147483648, 0, 0]
 {"do":"deliver","message":7} => deliver [7, 0, 0, 0]
+{"message":1000000000000,"do":"deliver"} => deliver [1000000000000, 0, 0, 0]
+{"do":"deliver","message":7,"message":8} => deliver [8, 0, 0, 0]
 {"do":"drop","message":8} => drop [8, 0, 0, 0]
+{"do":"drop","message":1} => drop [1, 0, 0, 0]
+{"message":4294967296,"do":"drop"} => drop [4294967296, 0, 0, 0]
 {"do":"drain","most":3} => drain [3, 0, 0, 0]
+{"do":"drain","most":1000000} => drain [1000000, 0, 0, 0]
+{"\u0064o":"dr\u0061in","mos\u0074":1} => drain [1, 0, 0, 0]
 {"do":"crash","node":4} => crash [4, 0, 0, 0]
+{"node":1,"do":"crash"} => crash [1, 0, 0, 0]
+{"do":"crash","node":9} => crash [9, 0, 0, 0]
 {"do":"start","node":5} => start [5, 0, 0, 0]
+{"node":1,"do":"start"} => start [1, 0, 0, 0]
+{"do":"start","node":9} => start [9, 0, 0, 0]
 {"do":"fuse","node":2,"calls":3,"image":1} => fuse [2, 3, 1, 0]
 {"do":"fuse","node":2,"calls":4,"image":2,"device":"log"} => fuse [2, 4, 2, 0]
-{"do":"fuse","node":2,"calls":5,"image":0,"device":"data"} => fuse [2, 5, 0, 1]"#;
+{"do":"fuse","node":2,"calls":5,"image":0,"device":"data"} => fuse [2, 5, 0, 1]
+{"image":2,"device":"data","calls":1000000,"node":9,"do":"fuse"} => fuse [9, 1000000, 2, 1]"#;
 
 fn shown(event: WorldEvent) -> (&'static str, [u64; 4]) {
     match event {
