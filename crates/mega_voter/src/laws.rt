@@ -1,0 +1,65 @@
+//! What follows from the definitions, as contracts of functions that do nothing.
+
+ghost use Rattle.std.specs.Prelude.{◌≡◌, ◌↔◌, ◌<◌, ◌≤◌, ◌-◌, ◌∷◌, [], ℕ, None, List, All, slice_get};
+ghost use Rattle.mega_base.specs.declared.names.GroupId.{GroupId};
+ghost use Rattle.mega_base.specs.declared.names.OpId.{OpId};
+ghost use Rattle.mega_base.specs.declared.names.Position.{Position};
+ghost use Rattle.mega_ballot.specs.declared.ballot.Ballot.{Ballot};
+ghost use Rattle.mega_entry.specs.declared.content.Content.{Content};
+ghost use Rattle.mega_wire.specs.declared.message.Body.{Body};
+ghost use Rattle.mega_wire.specs.declared.message.Message.{Message};
+ghost use Rattle.mega_wire.specs.Messages.{IsBody};
+ghost use Rattle.mega_wal.specs.declared.item.JournalItem.{JournalItem as Item};
+ghost use Rattle.mega_wal.specs.declared.kept.Kept.{Kept};
+ghost use Rattle.mega_wal.specs.Items.{IsItem};
+ghost use Rattle.mega_wal.specs.Kept.{Represents};
+ghost use Rattle.mega_rules.specs.Logs.{decided, log_of, prefix_of};
+ghost use Rattle.mega_rules.specs.Met.{Met, Sends, Unsends};
+ghost use Rattle.mega_rules.specs.Voting.{acts, prepared, voted};
+ghost use Rattle.mega_voter.specs.Journal.{item_of, items_in};
+ghost use Rattle.mega_voter.specs.Telling.{IsAnswer, IsHonest, Tells};
+
+/// What is of no journal kind, as a tick, a crash, or a message that is neither a promise nor a vote, leaves what is
+/// told.
+#[tactic(auto, using(crate::proofs::Told::silent_told))]
+pub fn other_things_leave_what_is_told()
+    ensures { (kept : Kept) (met : List Met) (one : Met) → item_of one ≡ None → Tells kept met ↔ Tells kept (one ∷ met) }
+{}
+
+/// A message that a crash left unsent is kept as one that was sent is.
+#[tactic(auto, using(crate::proofs::Told::unsent_told))]
+pub fn unsent_is_kept_as_sent()
+    ensures { (kept : Kept) (met : List Met) (message : Message) → Tells kept (Sends message ∷ met) ↔ Tells kept (Unsends message ∷ met) }
+{}
+
+/// Logs that keep nothing tell that nothing was met.
+#[tactic(auto, using(crate::proofs::Told::nothing_told))]
+pub fn nothing_is_told_first()
+    ensures { (kept : Kept) → Represents kept [] → Tells kept [] }
+{}
+
+/// Logs that are opened over the same journal tell the same.
+#[tactic(auto, using(crate::proofs::Told::reopened_told))]
+pub fn a_reopening_tells_the_same()
+    ensures { (old new : Kept) (items : List Item) (met : List Met) → Represents old items → Represents new items → Tells old met → Tells new met }
+{}
+
+/// What a voter answers it may send, and a promise that it may send is honest.
+#[tactic(auto, using(crate::proofs::Answered::prepared_answers, crate::proofs::Answered::voted_answers, crate::proofs::Answered::answers_honest))]
+pub fn answers_may_be_sent()
+    ensures promises { (met : List Met) (op : OpId) (group : GroupId) (position : Position) (ballot : Ballot) → IsAnswer met (prepared (acts met group position.0) op group position ballot) }
+    ensures votes { (met : List Met) (op : OpId) (group : GroupId) (position : Position) (ballot : Ballot) (entry : Content) → IsAnswer met (voted (acts met group position.0) op group position ballot entry) }
+    ensures honest { (met : List Met) (body : Body) → IsAnswer met body → IsHonest met body }
+{}
+
+/// What a message of the format tells of its sender is an item of the journal's format.
+#[tactic(auto, using(crate::proofs::Told::sent_fits))]
+pub fn sent_items_fit()
+    ensures { (body : Body) → IsBody body → All IsItem (items_in body) }
+{}
+
+/// Each entry of the decided prefix is the one that is decided at its position.
+#[tactic(auto, using(crate::proofs::Prefixes::entry_is))]
+pub fn the_prefix_holds_what_is_decided()
+    ensures { (met : List Met) (group : GroupId) (n : ℕ) → 0 < n → n ≤ prefix_of met group → slice_get (log_of met group) (n - 1) ≡ decided met group n }
+{}
