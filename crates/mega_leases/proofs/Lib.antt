@@ -1,0 +1,4 @@
+pub mod Shown
+pub mod Bodies
+pub mod Noted
+pub mod Ticked

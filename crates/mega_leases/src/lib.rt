@@ -1,0 +1,19 @@
+//! The clock, the lock cell and the coordinator of a node, said over what the node met.
+#![tactic(auto)]
+
+mod fault;
+pub mod laws;
+mod leases;
+mod note;
+mod noting;
+mod numbers;
+mod taking;
+#[cfg(test)]
+mod tests;
+mod ticking;
+
+pub use fault::TakeFault;
+pub use leases::Leases;
+pub use note::Note;
+pub use taking::Told;
+pub use ticking::Ticking;
