@@ -167,7 +167,7 @@ number_most most [] k h = absurd (cc)
 number_most most (b ∷ bytes) k h = digits-most most 0 (b ∷ bytes) k (omega arith) h
 
 -- a digit, or another byte above those that end words
-abbrev is_solid : ℕ → Bool
+abbrev pub is_solid : ℕ → Bool
 is_solid b = nat_lt 46 b
 
 pub solid-lacks : (end : ℕ) (bytes : List ℕ) → end ≤ 46 → list_all is_solid bytes ≡ true → lacks end bytes ≡ true
@@ -197,7 +197,7 @@ decimal-solid n small = decimal_by_steps (λ _ ds. list_all is_solid ds ≡ true
 pub decimal-lacks : (end n : ℕ) → end ≤ 46 → n < 2 ^ 64 → lacks end (decimal n) ≡ true
 decimal-lacks end n low small = solid-lacks end (decimal n) low (decimal-solid n small)
 
-number_of-decimal : (most n : ℕ) → most < 2 ^ 64 → n ≤ most → number_of most (decimal n) ≡ Some n
+pub number_of-decimal : (most n : ℕ) → most < 2 ^ 64 → n ≤ most → number_of most (decimal n) ≡ Some n
 unfolding number_of
 number_of-decimal most n small low = from (decimal n) (digits-decimal most n (omega arith) low) (decimal_nonempty n (omega arith))
   where

@@ -79,7 +79,7 @@ last_fits schema f t F make c to left item rest h =
 begin_form : LastForm (two 32 op_field request_field) (λ x tail. op_word x.0 ++ 32 ∷ (x.1 ++ tail)) (λ x. IsOp x.0 × IsRequest x.1)
 begin_form = two_last 32 op_field request_field (λ op tail. op_word op ++ tail) (λ text tail. text ++ tail) IsOp IsRequest (omega arith) op_form request_form
 
-answered_again : (schema : Schema) (op : OpId) (answer : Answer) → IsOp op → IsPlainAnswer answer → answered_at schema (op_word op ++ 32 ∷ answer_text schema answer) ≡ Ok (items.Answer op answer, [])
+answered_again : (schema : Schema) (op : OpId) (answer : Answer) → IsOp op → IsPlainAnswer schema answer → answered_at schema (op_word op ++ 32 ∷ answer_text schema answer) ≡ Ok (items.Answer op answer, [])
 unfolding answered_at
 answered_again schema op answer fit plain =
     ap (λ r. r >>= λ o. answer_at schema o.1 >>= λ a. Ok (items.Answer o.0 a.0, a.1)) (op_form.again 32 op (answer_text schema answer) (omega arith) fit)

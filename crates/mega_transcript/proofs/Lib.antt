@@ -3,6 +3,11 @@ pub mod Cells
 pub mod Forms
 pub mod LineForms
 pub mod Requesting
+pub mod Parts
+pub mod Compact
+pub mod SoundRows
+pub mod RowsAgain
+pub mod RowsFit
 pub mod AnswerLaws
 pub mod ItemLaws
 pub mod Fronts

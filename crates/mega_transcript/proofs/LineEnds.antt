@@ -3,6 +3,8 @@ use Rattle.std.proofs.Common.{◌≡◌, ℕ, ◌+◌, ◌<◌, ◌≤◌, ◌^�
 use Rattle.std.proofs.lemmas.List.Folds.{list_all-append}
 use Rattle.std.proofs.lemmas.List.Elements.{All-head, All-tail}
 use Rattle.hex.specs.Hex.{encode_lower, IsBytes}
+use Rattle.serde_json.specs.Data.{Data, string}
+use Rattle.serde_json.specs.Written.{compact_text}
 use Rattle.mega_base.specs.declared.names.OpId.{OpId}
 use Rattle.mega_base.specs.declared.names.Epoch.{Epoch}
 use Rattle.mega_base.specs.declared.values.NodeKind.TheVariants as nodes
@@ -19,15 +21,19 @@ use Rattle.mega_outcome.specs.declared.answer.Answer.TheVariants as answers
 use Rattle.mega_transcript.specs.declared.item.Item.{Item}
 use Rattle.mega_transcript.specs.declared.item.Item.TheVariants as items
 use Rattle.mega_transcript.specs.Words.{spaced, op_word, epoch_word}
-use Rattle.mega_transcript.specs.Answers.{turn_word, turn_number, other_word, answer_words}
+use Rattle.mega_transcript.specs.Answers.{turn_word, turn_number, other_word, results_data, answer_words}
 use Rattle.mega_transcript.specs.Lines.{kind_name, line, lines}
 use Rattle.mega_transcript.specs.PlainNames.{IsU8, IsU32, IsU64, IsOp, IsEpoch}
-use Rattle.mega_transcript.specs.PlainAnswers.{IsPlainTurn, IsPlainOther, IsPlainAnswer}
+use Rattle.mega_transcript.specs.Rows.{rows_data, finds_data, marks_data}
+use Rattle.mega_transcript.specs.PlainTurns.{IsPlainTurn}
+use Rattle.mega_transcript.specs.PlainAnswers.{IsPlainOther, IsPlainAnswer}
 use Rattle.mega_transcript.specs.Plain.{IsWhole, IsPlain}
 use Rattle.mega_transcript.specs.Reading.{until}
 use Rattle.mega_transcript.specs.ReadingItems.{parsed}
 use Rattle.mega_transcript.proofs.Forms.{lacks, until_again, decimal-lacks, solid-lacks, hex-solid}
 use Rattle.mega_transcript.proofs.LineForms.{from_small, to_small}
+use Rattle.mega_transcript.proofs.Compact.{IsSound, text_told}
+use Rattle.mega_transcript.proofs.SoundRows.{rows_sound, finds_sound, marks_sound, results_sound}
 use Rattle.mega_transcript.proofs.ItemLaws.{parsed_again}
 
 -- bytes with no line feed
@@ -120,25 +126,25 @@ turn_told (turns.Full length) fit = absurd fit
 turn_told (turns.BadRecord number) fit = absurd fit
 turn_told turns.NoMemory fit = absurd fit
 
-answer_told : (schema : Schema) (answer : Answer) → IsPlainAnswer answer → NoEnds (answer_words schema answer)
-answer_told schema (answers.Committed position replies) fit = absurd fit
+answer_told : (schema : Schema) (answer : Answer) → IsPlainAnswer schema answer → NoEnds (answer_words schema answer)
+answer_told schema (answers.Committed position replies) fit = (refl, (u64 position.0 fit.0, (text_told 4 (rows_data schema replies) (rows_sound 0 schema replies fit.1), tt)))
 answer_told schema (answers.Conflict position other) fit = (refl, (u64 position.0 fit.0, (other_told other fit.1, tt)))
 answer_told schema (answers.Turned turn) fit = let t = turn_told turn fit in (refl, (t.0, (t.1, tt)))
 answer_told schema answers.Unknown fit = (refl, tt)
 answer_told schema answers.TimedOut fit = (refl, tt)
-answer_told schema (answers.Read position rows) fit = absurd fit
-answer_told schema (answers.Found marks rows) fit = absurd fit
-answer_told schema (answers.Refreshed marks) fit = absurd fit
+answer_told schema (answers.Read position rows) fit = (refl, (u64 position.0 fit.0, (text_told 4 (rows_data schema rows) (rows_sound 0 schema rows fit.1), tt)))
+answer_told schema (answers.Found marks rows) fit = (refl, (text_told 2 (marks_data marks) (marks_sound 0 marks fit.0.1), (text_told 4 (finds_data schema rows) (finds_sound 0 schema rows fit.1), tt)))
+answer_told schema (answers.Refreshed marks) fit = (refl, (text_told 2 (marks_data marks) (marks_sound 0 marks fit.1), tt))
 answer_told schema (answers.LogFull position) fit = (refl, (u64 position.0 fit, tt))
 answer_told schema (answers.Busy count) fit = (refl, (number count (let e : count ≡ 64 = fit in omega arith), tt))
 answer_told schema answers.Worn fit = (refl, tt)
 answer_told schema (answers.NotHere nodes.Full) fit = absurd fit
 answer_told schema (answers.NotHere nodes.Witness) fit = (refl, (refl, tt))
 answer_told schema (answers.NotHere nodes.Read) fit = (refl, (refl, tt))
-answer_told schema (answers.NothingToDo marks) fit = absurd fit
-answer_told schema (answers.NoHandler queue) fit = absurd fit
-answer_told schema (answers.Batched position results) fit = absurd fit
-answer_told schema (answers.AllTurned results) fit = absurd fit
+answer_told schema (answers.NothingToDo marks) fit = (refl, (text_told 2 (marks_data marks) (marks_sound 0 marks fit.1), tt))
+answer_told schema (answers.NoHandler queue) fit = (refl, (text_told 0 (string queue) fit, tt))
+answer_told schema (answers.Batched position results) fit = (refl, (u64 position.0 fit.0, (text_told 6 (results_data schema results) (results_sound 0 schema results fit.1), tt)))
+answer_told schema (answers.AllTurned results) fit = (refl, (refl, (text_told 6 (results_data schema results) (results_sound 0 schema results fit), tt)))
 
 line_told : (schema : Schema) (item : Item) → IsPlain schema item → IsLine (line schema item)
 line_told schema (items.Start node start) fit = told (codes "start") (decimal node.0 ∷ decimal start ∷ []) refl (u8 node.0 fit.0, (u32 start fit.1, tt))

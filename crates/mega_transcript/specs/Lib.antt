@@ -8,7 +8,11 @@ pub mod NoFloats
 pub mod Reading
 pub mod Requests
 pub mod PlainNames
+pub mod Named
+pub mod PlainTurns
+pub mod PlainRows
 pub mod PlainAnswers
+pub mod ReadingRows
 pub mod ReadingAnswers
 pub mod Plain
 pub mod Kinds

@@ -25,8 +25,7 @@ IsWhole message = IsMessage message × IsBytes (message_text message)
 abbrev pub IsWritten : Content → Type 0
 IsWritten entry = IsEntry entry × IsBytes (entry_text entry)
 
--- items whose values their fields hold, and whose begins have the compact text of an object. Answers with JSON are not
--- read yet: none of them is plain here.
+-- items whose values their fields hold, whose begins have the compact text of an object, and whose answers fit the schema
 abbrev pub IsPlain : Schema → Item → Type 0
 IsPlain schema (Start node start) = IsNode node × IsU32 start
 IsPlain schema (Unsent node message) = IsNode node × IsWhole message
@@ -45,7 +44,7 @@ IsPlain schema (Valid node group position) = IsNode node × (IsGroup group × Is
 IsPlain schema (Invalid node group position) = IsNode node × (IsGroup group × IsPosition position)
 IsPlain schema (Decide node group position entry) = (IsNode node × (IsGroup group × IsPosition position)) × IsWritten entry
 IsPlain schema (Apply node group position) = IsNode node × (IsGroup group × IsPosition position)
-IsPlain schema (Answer op answer) = IsOp op × IsPlainAnswer answer
+IsPlain schema (Answer op answer) = IsOp op × IsPlainAnswer schema answer
 IsPlain schema (Crash node) = IsNode node
 IsPlain schema Cut = Unit {0}
 IsPlain schema Unsafe = Unit {0}

@@ -1,23 +1,14 @@
 -- Plain answers: those that are read back from their words.
-use Rattle.std.specs.Prelude.{◌≡◌, ℕ, ◌≤◌, Option, Some, None}
+use Rattle.std.specs.Prelude.{◌≡◌, ℕ, ◌≤◌, Option, Some, None, IsUtf8}
 use Rattle.mega_base.specs.declared.names.OpId.{OpId}
 use Rattle.mega_base.specs.declared.values.NodeKind.{NodeKind}
 use Rattle.mega_base.specs.declared.values.NodeKind.TheVariants as nodes
-use Rattle.mega_outcome.specs.declared.answer.Turn.{Turn}
-use Rattle.mega_outcome.specs.declared.answer.Turn.TheVariants.{OtherGroup, BadRow, CheckFailed, NoRow, Overflow, TooLarge}
+use Rattle.mega_schema.specs.declared.schema.Schema.{Schema}
 use Rattle.mega_outcome.specs.declared.answer.Answer.{Answer}
-use Rattle.mega_outcome.specs.declared.answer.Answer.TheVariants.{Conflict, Turned, Unknown, TimedOut, LogFull, Busy, Worn, NotHere}
-use Rattle.mega_transcript.specs.PlainNames.{IsU32, IsU64, IsPosition, IsOp}
-
--- the faults of a device are no words of answers
-abbrev pub IsPlainTurn : Turn → Type 0
-IsPlainTurn (OtherGroup item) = IsU32 item
-IsPlainTurn (BadRow item) = IsU32 item
-IsPlainTurn (CheckFailed item) = IsU32 item
-IsPlainTurn (NoRow item) = IsU32 item
-IsPlainTurn (Overflow item) = IsU32 item
-IsPlainTurn (TooLarge bytes) = IsU64 bytes
-IsPlainTurn _ = ⊥
+use Rattle.mega_outcome.specs.declared.answer.Answer.TheVariants.{Committed, Conflict, Turned, Unknown, TimedOut, Read, Found, Refreshed, LogFull, Busy, Worn, NotHere, NothingToDo, NoHandler, Batched, AllTurned}
+use Rattle.mega_transcript.specs.PlainNames.{IsPosition, IsOp}
+use Rattle.mega_transcript.specs.PlainTurns.{IsPlainTurn}
+use Rattle.mega_transcript.specs.PlainRows.{ArePlainRows, ArePlainFinds, ArePlainMarks, ArePlainFindMarks, ArePlainResults}
 
 abbrev pub IsPlainOther : Option OpId → Type 0
 IsPlainOther None = Unit {0}
@@ -29,14 +20,20 @@ IsElsewhere nodes.Full = ⊥
 IsElsewhere nodes.Witness = Unit {0}
 IsElsewhere nodes.Read = Unit {0}
 
--- answers with JSON are not read yet: none of them is plain here
-abbrev pub IsPlainAnswer : Answer → Type 0
-IsPlainAnswer (Conflict position other) = IsPosition position × IsPlainOther other
-IsPlainAnswer (Turned turn) = IsPlainTurn turn
-IsPlainAnswer Unknown = Unit {0}
-IsPlainAnswer TimedOut = Unit {0}
-IsPlainAnswer (LogFull position) = IsPosition position
-IsPlainAnswer (Busy count) = count ≡ 64
-IsPlainAnswer Worn = Unit {0}
-IsPlainAnswer (NotHere kind) = IsElsewhere kind
-IsPlainAnswer _ = ⊥
+abbrev pub IsPlainAnswer : Schema → Answer → Type 0
+IsPlainAnswer schema (Committed position replies) = IsPosition position × ArePlainRows schema replies
+IsPlainAnswer schema (Conflict position other) = IsPosition position × IsPlainOther other
+IsPlainAnswer schema (Turned turn) = IsPlainTurn turn
+IsPlainAnswer schema Unknown = Unit {0}
+IsPlainAnswer schema TimedOut = Unit {0}
+IsPlainAnswer schema (Read position rows) = IsPosition position × ArePlainRows schema rows
+IsPlainAnswer schema (Found marks rows) = ArePlainFindMarks marks × ArePlainFinds schema rows
+IsPlainAnswer schema (Refreshed marks) = ArePlainMarks marks
+IsPlainAnswer schema (LogFull position) = IsPosition position
+IsPlainAnswer schema (Busy count) = count ≡ 64
+IsPlainAnswer schema Worn = Unit {0}
+IsPlainAnswer schema (NotHere kind) = IsElsewhere kind
+IsPlainAnswer schema (NothingToDo marks) = ArePlainMarks marks
+IsPlainAnswer schema (NoHandler queue) = IsUtf8 queue
+IsPlainAnswer schema (Batched position results) = IsPosition position × ArePlainResults schema results
+IsPlainAnswer schema (AllTurned results) = ArePlainResults schema results

@@ -6,7 +6,7 @@ ghost use Rattle.mega_transcript.specs.Words.{spaced, position_word};
 ghost use Rattle.mega_transcript.specs.Rows.{marks_data, finds_data};
 ghost use Rattle.mega_transcript.specs.Answers.{turn_word, turn_number, other_word, kind_word, answer_words};
 
-use crate::json::{Show, list, put_json};
+use crate::showing::{Show, list, put_json};
 use crate::words::{put_end, put_number, put_op, put_position, put_word};
 use mega_base::{Bytes, NoMemory, NodeKind, OpId, Position, Text};
 use mega_index::Found;

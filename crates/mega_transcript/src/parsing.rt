@@ -23,7 +23,7 @@ use mega_schema::Schema;
 use std::alloc::Global;
 
 /// The plain item whose line this is, with its line feed, by the names of the schema. It is `NotItem`
-/// exactly where it is the line of none. Lines of answers with JSON are not read yet.
+/// exactly where it is the line of none.
 pub fn parse(alloc: Global, schema: &Schema, text: &[u8]) -> Result<Item, ItemFault>
     ensures found { IfOk result (λ item. IsPlain schema.now item × (text.now ≡ line schema.now item)) }
     ensures only { (item : ItemValue) → IsPlain schema.now item → text.now ≡ line schema.now item → Gives result (Ok item) }

@@ -39,7 +39,7 @@ fn with_digit(most: u64, number: u64, byte: u8) -> Option<u64>
 
 /// The number up to `most` that the digits spell.
 #[tactic(auto, unfolding(crate::specs::Reading::number_of))]
-fn number_of(most: u64, word: &[u8]) -> Option<u64>
+pub(crate) fn number_of(most: u64, word: &[u8]) -> Option<u64>
     ensures { result ≡ number_of most word.now }
 {
     if word.is_empty() {

@@ -1,4 +1,4 @@
-ghost use Rattle.std.specs.Prelude.{◌≡◌, IfOk, Some, None, option_map, option_and_then, if◌then◌else◌};
+ghost use Rattle.std.specs.Prelude.{◌≡◌, IfOk, Some, None, option_and_then, if◌then◌else◌};
 ghost use Rattle.serde_json.specs.View.{view};
 ghost use Rattle.mega_syntax.specs.Names.{same};
 ghost use Rattle.mega_transcript.specs.Taking.{Takes};
@@ -11,6 +11,7 @@ use crate::item::Item;
 use crate::kinds::is;
 use crate::reading::Words;
 use crate::reading_answers::answer;
+use crate::reading_json::json_of;
 use mega_base::{NoMemory, Text};
 use mega_schema::Schema;
 use serde_json::Value as Json;
@@ -29,22 +30,6 @@ fn compact_of(alloc: Global, value: &Json) -> Result<Option<Text>, NoMemory>
             Ok(Some(Text::from_string(text)))
         }
         _ => Ok(None),
-    }
-}
-
-/// The JSON that a text in UTF-8 is.
-fn json_of(alloc: Global, text: &[u8]) -> Result<Option<Json>, NoMemory>
-    ensures { IfOk result (λ found. option_map view found ≡ json_of text.now) }
-{
-    match Json::from_slice(alloc, text) {
-        Ok(value) => Ok(Some(value)),
-        Err(error) => {
-            if error.is_memory() {
-                Err(NoMemory)
-            } else {
-                Ok(None)
-            }
-        }
     }
 }
 

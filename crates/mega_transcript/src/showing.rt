@@ -98,7 +98,7 @@ fn triple(alloc: Global, first: Json, second: Json, third: Json) -> Result<Json,
     Ok(Json::from(items))
 }
 
-fn table_at(schema: &Schema, number: u8) -> Option<&Table>
+pub(crate) fn table_at(schema: &Schema, number: u8) -> Option<&Table>
     ensures { option_copied result ≡ table_at schema.now.tables number }
 {
     if number == 0 {
@@ -130,7 +130,7 @@ fn has_kind(kind: Kind, value: &Value) -> bool
     )
 }
 
-fn is_repeated(need: Need) -> bool
+pub(crate) fn is_repeated(need: Need) -> bool
     ensures { result ≡ is_repeated need }
 {
     matches!(need, Need::Repeated)

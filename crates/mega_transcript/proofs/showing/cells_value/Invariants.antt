@@ -2,7 +2,7 @@ use Rattle.std.proofs.Common.{◌≡◌, drop}
 use Rattle.serde_json.specs.Data.{no_members}
 use Rattle.serde_json.specs.View.{members_view}
 use Rattle.mega_transcript.specs.Rows.{cells_members}
-use Rattle.mega_transcript.proofs.json.cells_value.Given as goal
+use Rattle.mega_transcript.proofs.showing.cells_value.Given as goal
 
 abbrev pub invariant-loop-cell : goal.invariant-loop-cell
 invariant-loop-cell l = cells_members l.properties (drop l.cell-index l.cells) (members_view l.members.entries) ≡ cells_members l.properties l.cells no_members

@@ -1,7 +1,7 @@
 use Rattle.std.proofs.Common.{rules, ◌≡◌, sym, ◌∙◌, true≢false}
 use Rattle.serde_json.specs.View.{view}
 use Rattle.mega_transcript.proofs.Requesting.{json_there, no_json}
-use Rattle.mega_transcript.proofs.reading_texts.json_of.Goals as goal
+use Rattle.mega_transcript.proofs.reading_json.json_of.Goals as goal
 
 pub returns-in-Ok : goal.returns-in-Ok
 returns-in-Ok c = json_there c.args.text.now (view c.in-Ok.value) c.in-Ok.ensures.ok.0 c.in-Ok.ensures.ok.1
