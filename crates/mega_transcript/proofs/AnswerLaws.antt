@@ -1,5 +1,5 @@
 -- Each plain answer is read from its words, and what is read is plain.
-use Rattle.std.proofs.Common.{◌≡◌, ℕ, ◌+◌, ◌≤◌, ◌==◌, ◌&&◌, Bool, true, false, List, [], ◌∷◌, ◌++◌, length, refl, sym, ap, ◌∙◌, subst, Option, Some, None, Result, Ok, Err, arith, inl, inr, ◌⊎◌, decimal, codes}
+use Rattle.std.proofs.Common.{◌≡◌, ℕ, ◌≤◌, Bool, true, false, List, [], ◌∷◌, ◌++◌, length, refl, sym, ap, ◌∙◌, subst, Option, Some, None, Ok, arith, decimal, codes}
 use Rattle.std.specs.Prelude.{if◌then◌else◌, option_map}
 use Rattle.serde_json.specs.Data.{Data, string}
 use Rattle.serde_json.specs.Read.{max_depth}
@@ -25,11 +25,10 @@ use Rattle.mega_transcript.specs.PlainNames.{IsU32, IsU64, IsOp, IsPosition}
 use Rattle.mega_transcript.specs.Rows.{rows_data, finds_data, marks_data}
 use Rattle.mega_transcript.specs.Requests.{json_of}
 use Rattle.mega_transcript.specs.PlainTurns.{IsPlainTurn}
-use Rattle.mega_transcript.specs.PlainRows.{ArePlainRows, ArePlainFinds, ArePlainMarks, ArePlainFindMarks, ArePlainResults}
 use Rattle.mega_transcript.specs.PlainAnswers.{IsPlainOther, IsPlainAnswer}
-use Rattle.mega_transcript.specs.Reading.{Read, Field, until, shown, taken, word_as, two, made, number_of, number_field, node_field, u32_field, u64_field, position_field, op_field}
-use Rattle.mega_transcript.specs.ReadingRows.{text_in, rows_in, finds_in, marks_in, find_marks_in, results_in}
-use Rattle.mega_transcript.specs.ReadingAnswers.{fixed_answer, answer_kind_of, other_at, conflict_at, turn_of, turn_in, turn_at, turned_at, logfull_at, json_field, position_and_json, committed_at, rows_at, found_at, refreshed_at, nothing_at, nohandler_at, place_of, place_field, batch_of, batch_at, of_answer_kind, by_answer_kind, by_answer_word, or_worded, answer_at}
+use Rattle.mega_transcript.specs.Reading.{Read, Field, until, shown, taken, two, made, number_of, number_field, node_field, u32_field, u64_field, position_field, op_field}
+use Rattle.mega_transcript.specs.ReadingRows.{text_in, rows_in, finds_in, marks_in, find_marks_in}
+use Rattle.mega_transcript.specs.ReadingAnswers.{fixed_answer, answer_kind_of, other_at, conflict_at, turn_of, turn_in, turn_at, turned_at, logfull_at, json_field, committed_at, rows_at, found_at, refreshed_at, nothing_at, nohandler_at, place_of, place_field, batch_of, batch_at, of_answer_kind, by_answer_kind, by_answer_word, or_worded, answer_at}
 use Rattle.mega_transcript.proofs.Forms.{lacks, until_again, Form, read_parts, word_form, number_of-decimal, number_most, solid-lacks, decimal-lacks, u32_form, u64_form, position_form, op_form}
 use Rattle.mega_transcript.proofs.Compact.{IsSound, json_again, text_told}
 use Rattle.mega_transcript.proofs.Parts.{utf8}

@@ -1,7 +1,6 @@
 -- What an object shows after a cell's values were put into it.
-use Rattle.std.proofs.Common.{◌≡◌, ℕ, List, true, Option, Some, String, Global, string_bytes, string_cmp, ap, ◌∙◌, sym}
+use Rattle.std.proofs.Common.{◌≡◌, List, true, Option, Some, String, Global, string_bytes, string_cmp, sym}
 use Rattle.std.specs.BTreeMap.{insert_entry}
-use Rattle.serde_json.specs.Data.{put}
 use Rattle.serde_json.specs.View.{view, members_view}
 use Rattle.serde_json.specs.declared.value.Value.{Value as Json}
 use Rattle.serde_json.proofs.Views.{Entry, members_view-insert_entry}

@@ -1,10 +1,8 @@
 -- Compact JSON with no float is read back.
-use Rattle.std.proofs.Common.{◌≡◌, ℕ, zero, suc, ◌+◌, ◌^◌, ◌<◌, ◌≤◌, ◌==◌, ◌&&◌, not, pos, negsuc, Bool, true, false, List, [], ◌∷◌, ◌++◌, refl, sym, ap, ap₂, ◌∙◌, subst, Option, Some, None, arith, append-nil, decimal, IsUtf8, inl, inr, Ordering, Less, Equal, Greater, nat_cmp}
+use Rattle.std.proofs.Common.{◌≡◌, ℕ, zero, suc, ◌^◌, ◌<◌, ◌≤◌, ◌==◌, ◌&&◌, not, pos, negsuc, Bool, true, false, List, [], ◌∷◌, ◌++◌, refl, sym, ap, ◌∙◌, Some, None, arith, append-nil, decimal, IsUtf8, inl, inr, Less, Greater, nat_cmp}
 use Rattle.std.specs.Prelude.{if◌then◌else◌, option_map, option_and_then}
-use Rattle.std.specs.Ordering.{match_ordering, ordering_reverse}
+use Rattle.std.specs.Ordering.{ordering_reverse}
 use Rattle.std.specs.Cmp.Lexicographic.{slice_cmp}
-use Rattle.std.specs.List.{list_all}
-use Rattle.std.specs.Str.{is_utf8}
 use Rattle.std.proofs.lemmas.Bool.{and_parts, cases_eq, cases_lt}
 use Rattle.std.proofs.lemmas.Bool.Decides.{nat_tests}
 use Rattle.std.proofs.lemmas.Cmp.{nat_list_cmp_total}
@@ -14,7 +12,7 @@ use Rattle.std.proofs.lemmas.Str.{IsUtf8-append, IsUtf8-nil, IsUtf8-from_ascii, 
 use Rattle.json.specs.Lex.{tokens}
 use Rattle.json.specs.Json as json
 use Rattle.json.specs.Tree as tree
-use Rattle.json.specs.Print.{print, escape, escape_byte, quoted}
+use Rattle.json.specs.Print.{escape, escape_byte, quoted}
 use Rattle.json.proofs.Printed.Tokens.{tokens-print}
 use Rattle.json.proofs.Printed.Trees.{value-json_tokens, ArePrintable-json_tokens}
 use Rattle.json.proofs.Printed.Decimals.{IsNumber-decimal, IsNumber-signed_decimal}

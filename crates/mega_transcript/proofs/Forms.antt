@@ -1,6 +1,6 @@
 -- The spellings of fields and their readings are inverse.
-use Rattle.std.proofs.Common.{◌≡◌, ℕ, ◌+◌, ◌-◌, ◌*◌, ◌/◌, ◌%◌, ◌^◌, ◌<◌, ◌≤◌, ◌==◌, ◌&&◌, Bool, true, false, not, nat_le, List, [], ◌∷◌, ◌++◌, length, take, drop, refl, sym, ap, ◌∙◌, subst, Option, Some, None, Result, Ok, Err, arith, append_assoc, inl, inr, ◌⊎◌, decimal, cond, add-zero, add-one, suc, zero, length-append, nat_lt}
-use Rattle.std.specs.Prelude.{option_map, option_and_then, position}
+use Rattle.std.proofs.Common.{◌≡◌, ℕ, ◌+◌, ◌*◌, ◌/◌, ◌%◌, ◌^◌, ◌<◌, ◌≤◌, ◌==◌, ◌&&◌, Bool, true, not, List, [], ◌∷◌, ◌++◌, length, drop, refl, sym, ap, ◌∙◌, subst, Option, Some, None, Result, Ok, Err, arith, append_assoc, inl, inr, decimal, cond, add-one, suc, zero, length-append, nat_lt}
+use Rattle.std.specs.Prelude.{option_map, option_and_then}
 use Rattle.std.specs.List.{position_or_len, list_all}
 use Rattle.std.specs.Result.{result_ok}
 use Rattle.std.proofs.lemmas.Bool.Decides.{nat_tests}
@@ -14,13 +14,8 @@ use Rattle.std.specs.Prelude.{slice_index}
 use Rattle.std.proofs.lemmas.Bool.{cases_lt}
 use Rattle.mega_transcript.specs.PlainNames.{IsU8, IsU32, IsU64, IsNode, IsPosition, IsEpoch, IsOp, IsGroup}
 use Rattle.hex.proofs.HexLemmas.{decode_of-encode_lower, decode_of-ok}
-use Rattle.mega_base.specs.Reading.{◌>>=◌, whole_of}
+use Rattle.mega_base.specs.Reading.{◌>>=◌}
 use Rattle.mega_base.specs.Codecs.{bind-ok}
-use Rattle.mega_base.specs.declared.names.NodeId.{NodeId}
-use Rattle.mega_base.specs.declared.names.Position.{Position}
-use Rattle.mega_base.specs.declared.names.Epoch.{Epoch}
-use Rattle.mega_base.specs.declared.names.OpId.{OpId}
-use Rattle.mega_base.specs.declared.names.GroupId.{GroupId}
 use Rattle.mega_transcript.specs.Words.{node_word, position_word, epoch_word, op_word, group_word}
 use Rattle.mega_transcript.specs.Reading.{Read, Field, cut_at, until, shown, taken, word_as, with_digit, digits_on, number_of, number_field, hex_field, two, made, u8_field, u32_field, u64_field, node_field, position_field, epoch_field, op_field, group_field}
 

@@ -1,26 +1,12 @@
 -- Each plain item is read from its line, and what is read is plain.
-use Rattle.std.proofs.Common.{◌≡◌, ℕ, ◌+◌, ◌-◌, ◌<◌, ◌≤◌, ◌^◌, ◌==◌, ◌&&◌, Bool, true, false, nat_le, List, [], ◌∷◌, ◌++◌, length, refl, sym, ap, ◌∙◌, subst, Option, Some, None, Result, Ok, Err, arith, inl, inr, ◌⊎◌, decimal, codes}
+use Rattle.std.proofs.Common.{◌≡◌, ℕ, ◌==◌, Bool, true, false, List, [], ◌∷◌, ◌++◌, length, refl, sym, ap, ◌∙◌, subst, Option, Some, None, Result, Ok, Err, arith, inl, inr, decimal, codes}
 use Rattle.std.specs.Prelude.{if◌then◌else◌}
-use Rattle.std.specs.Result.{result_ok}
-use Rattle.std.proofs.lemmas.Bool.Decides.{nat_tests}
 use Rattle.std.proofs.lemmas.Slice.Eq.{bytes_eq-Decides}
-use Rattle.hex.specs.Hex.{encode_lower, IsBytes}
-use Rattle.mega_base.specs.Reading.{◌>>=◌, whole_of}
-use Rattle.mega_base.specs.Codec.{IsText, IsBetween}
+use Rattle.hex.specs.Hex.{encode_lower}
+use Rattle.mega_base.specs.Reading.{◌>>=◌}
 use Rattle.mega_base.specs.Codecs.{bind-ok, if-ok}
-use Rattle.mega_base.specs.Whole.{whole_found, whole_only}
-use Rattle.mega_entry.specs.Entries.{entry_at, entry_text, IsEntry}
-use Rattle.mega_entry.specs.EntryLaws.{entry_codec}
-use Rattle.mega_entry.specs.declared.content.Content.{Content}
-use Rattle.mega_wire.specs.Messages.{message_at, message_text, OpensMessage, IsMessage, kind_of as body_kind, least_from, greatest_from, least_to, greatest_to}
-use Rattle.mega_wire.specs.MessageLaws.{message_codec}
-use Rattle.mega_wire.specs.declared.message.Message.{Message}
-use Rattle.mega_wire.specs.declared.message.Body.{Body}
-use Rattle.mega_wire.specs.declared.message.Body.TheVariants as bodies
-use Rattle.mega_base.specs.declared.names.NodeId.{NodeId}
-use Rattle.mega_base.specs.declared.names.Position.{Position}
-use Rattle.mega_base.specs.declared.names.Epoch.{Epoch}
-use Rattle.mega_base.specs.declared.names.GroupId.{GroupId}
+use Rattle.mega_entry.specs.Entries.{entry_text}
+use Rattle.mega_wire.specs.Messages.{message_text}
 use Rattle.mega_schema.specs.declared.schema.Schema.{Schema}
 use Rattle.mega_syntax.specs.Names.{same}
 use Rattle.mega_transcript.specs.declared.item.Item.{Item}
@@ -32,9 +18,9 @@ use Rattle.mega_transcript.specs.Kinds.{kind_of}
 use Rattle.mega_transcript.specs.Lines.{kind_name, line, HasLine}
 use Rattle.mega_transcript.specs.PlainNames.{IsU8, IsU32, IsU64, IsNode, IsPosition, IsEpoch, IsOp, IsGroup}
 use Rattle.mega_transcript.specs.Plain.{IsWhole, IsWritten, IsPlain}
-use Rattle.mega_transcript.specs.Reading.{Read, Field, until, shown, two, made, u8_field, u32_field, u64_field, node_field, position_field, epoch_field, op_field, group_field, hex_field, message_field, entry_field}
-use Rattle.mega_transcript.specs.ReadingItems.{taken_behind, behind, cell_node_epoch, node_cell_epoch, node_epoch, node_group_position, start_at, unsent_at, tick_at, begin_at, taken_at, dropped_at, sent_at, grant_at, lapse_at, counts_at, forgets_at, serving_at, lost_at, valid_at, invalid_at, decide_at, apply_at, answered_at, crash_at, of_kind, by_kind, by_word, item_at, whole_item, located, differs_at, difference, unless_differs, agreed, parsed}
-use Rattle.mega_transcript.proofs.Forms.{lacks, until_again, Form, read_parts, two_form, made_form, decimal-lacks, u8_form, u32_form, u64_form, node_form, position_form, epoch_form, op_form, hex_form, group_form}
+use Rattle.mega_transcript.specs.Reading.{Read, Field, until, two, made, u32_field, u64_field, node_field, op_field, message_field, entry_field}
+use Rattle.mega_transcript.specs.ReadingItems.{behind, cell_node_epoch, node_cell_epoch, node_epoch, node_group_position, start_at, unsent_at, tick_at, begin_at, taken_at, dropped_at, sent_at, grant_at, lapse_at, counts_at, forgets_at, serving_at, lost_at, valid_at, invalid_at, decide_at, apply_at, answered_at, crash_at, of_kind, by_kind, by_word, item_at, whole_item, located, differs_at, difference, unless_differs, agreed, parsed}
+use Rattle.mega_transcript.proofs.Forms.{lacks, until_again, Form, read_parts, u64_form, node_form, op_form}
 use Rattle.mega_transcript.specs.Requests.{IsRequest, request_field}
 use Rattle.mega_transcript.proofs.Requesting.{LastForm, two_last, request_form}
 use Rattle.mega_base.specs.declared.names.OpId.{OpId}

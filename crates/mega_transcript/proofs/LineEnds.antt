@@ -1,16 +1,14 @@
 -- A line feed stands at the end of a line alone, so a text of lines tells them apart.
-use Rattle.std.proofs.Common.{◌≡◌, ℕ, ◌+◌, ◌<◌, ◌≤◌, ◌^◌, ◌==◌, ◌&&◌, not, Bool, true, false, All, List, [], ◌∷◌, ◌++◌, length, refl, sym, ap, ◌∙◌, subst, Option, Some, None, Result, Ok, Err, arith, append_assoc, decimal, codes}
+use Rattle.std.proofs.Common.{◌≡◌, ℕ, ◌<◌, ◌^◌, ◌==◌, ◌&&◌, not, true, All, List, [], ◌∷◌, ◌++◌, length, refl, sym, ap, ◌∙◌, Option, Some, None, Result, Ok, arith, append_assoc, decimal, codes}
 use Rattle.std.proofs.lemmas.List.Folds.{list_all-append}
 use Rattle.std.proofs.lemmas.List.Elements.{All-head, All-tail}
 use Rattle.hex.specs.Hex.{encode_lower, IsBytes}
-use Rattle.serde_json.specs.Data.{Data, string}
-use Rattle.serde_json.specs.Written.{compact_text}
+use Rattle.serde_json.specs.Data.{string}
 use Rattle.mega_base.specs.declared.names.OpId.{OpId}
 use Rattle.mega_base.specs.declared.names.Epoch.{Epoch}
 use Rattle.mega_base.specs.declared.values.NodeKind.TheVariants as nodes
 use Rattle.mega_entry.specs.Entries.{entry_text}
-use Rattle.mega_wire.specs.Messages.{message_text, IsMessage}
-use Rattle.mega_wire.specs.declared.message.Message.{Message}
+use Rattle.mega_wire.specs.Messages.{message_text}
 use Rattle.mega_wire.specs.declared.message.Body.{Body}
 use Rattle.mega_wire.specs.declared.message.Body.TheVariants as bodies
 use Rattle.mega_schema.specs.declared.schema.Schema.{Schema}
@@ -27,12 +25,12 @@ use Rattle.mega_transcript.specs.PlainNames.{IsU8, IsU32, IsU64, IsOp, IsEpoch}
 use Rattle.mega_transcript.specs.Rows.{rows_data, finds_data, marks_data}
 use Rattle.mega_transcript.specs.PlainTurns.{IsPlainTurn}
 use Rattle.mega_transcript.specs.PlainAnswers.{IsPlainOther, IsPlainAnswer}
-use Rattle.mega_transcript.specs.Plain.{IsWhole, IsPlain}
+use Rattle.mega_transcript.specs.Plain.{IsPlain}
 use Rattle.mega_transcript.specs.Reading.{until}
 use Rattle.mega_transcript.specs.ReadingItems.{parsed}
 use Rattle.mega_transcript.proofs.Forms.{lacks, until_again, decimal-lacks, solid-lacks, hex-solid}
 use Rattle.mega_transcript.proofs.LineForms.{from_small, to_small}
-use Rattle.mega_transcript.proofs.Compact.{IsSound, text_told}
+use Rattle.mega_transcript.proofs.Compact.{text_told}
 use Rattle.mega_transcript.proofs.SoundRows.{rows_sound, finds_sound, marks_sound, results_sound}
 use Rattle.mega_transcript.proofs.ItemLaws.{parsed_again}
 

@@ -1,15 +1,14 @@
 -- Lists of two and three, and numbers and texts that their types hold.
-use Rattle.std.proofs.Common.{◌≡◌, ℕ, ◌^◌, pos, negsuc, ℤ, ◌==◌, ◌&&◌, Bool, true, false, List, [], ◌∷◌, length, get_or, Some, None, refl, ap, arith, IsUtf8}
+use Rattle.std.proofs.Common.{◌≡◌, ℕ, ◌^◌, pos, negsuc, ℤ, ◌==◌, ◌&&◌, List, [], ◌∷◌, length, get_or, Some, None, refl, ap, arith, IsUtf8}
 use Rattle.std.specs.Prelude.{if◌then◌else◌, FitsSigned}
 use Rattle.std.specs.Int.{w64}
-use Rattle.std.specs.Str.{is_utf8}
 use Rattle.std.proofs.lemmas.Bool.{lt-ltb}
 use Rattle.std.proofs.lemmas.Str.{is_utf8-from_IsUtf8}
 use Rattle.serde_json.specs.View.{view, items_view}
 use Rattle.serde_json.specs.declared.value.Value.{Value}
 use Rattle.mega_schema.specs.declared.schema.Property.{Property}
 use Rattle.mega_transcript.specs.Named.{property_number, names_property}
-use Rattle.mega_transcript.specs.ReadingRows.{pair_of, triple_of, utf8_of, is_int64, int64_of}
+use Rattle.mega_transcript.specs.ReadingRows.{pair_of, triple_of, utf8_of, int64_of}
 
 pub a_pair : (values : List Value) (a b : Value) → length values ≡ 2 → pair_of (items_view values) ≡ Some (view (get_or values 0 a), view (get_or values 1 b))
 a_pair [] a b two = absurd (omega arith)

@@ -1,6 +1,6 @@
 -- What parsing says in the words of lines.
-use Rattle.std.proofs.Common.{◌≡◌, ℕ, ◌-◌, List, length, refl, sym, ◌∙◌, ap, Result, Ok, Err, IfOk, Option, subst}
-use Rattle.std.specs.Prelude.{Bool, true, false, Some, None}
+use Rattle.std.proofs.Common.{◌≡◌, ℕ, List, length, sym, ◌∙◌, ap, Result, Ok, Err, IfOk}
+use Rattle.std.specs.Prelude.{true, false}
 use Rattle.mega_transcript.specs.declared.fault.Found.{Found}
 use Rattle.mega_transcript.specs.declared.fault.Found.TheVariants as founds
 use Rattle.mega_base.specs.Reading.{◌>>=◌}

@@ -1,7 +1,7 @@
 -- Texts of begins are read back.
-use Rattle.std.proofs.Common.{◌≡◌, ℕ, suc, ◌+◌, ◌≤◌, ◌==◌, ◌&&◌, not, Bool, true, false, cond, List, [], ◌∷◌, ◌++◌, length, take, refl, sym, ap, ◌∙◌, subst, Option, Some, None, Result, Ok, Err, arith, IsUtf8}
-use Rattle.std.specs.Prelude.{if◌then◌else◌, option_map, option_and_then, position, nat_lt}
-use Rattle.std.specs.List.{list_all, position_or_len}
+use Rattle.std.proofs.Common.{◌≡◌, ℕ, suc, ◌+◌, ◌≤◌, ◌==◌, ◌&&◌, not, Bool, true, false, cond, List, [], ◌∷◌, ◌++◌, length, take, refl, sym, ap, ◌∙◌, subst, Option, Some, None, Ok, arith, IsUtf8}
+use Rattle.std.specs.Prelude.{if◌then◌else◌, option_map, option_and_then, nat_lt}
+use Rattle.std.specs.List.{position_or_len}
 use Rattle.std.specs.Str.{is_utf8}
 use Rattle.std.proofs.lemmas.Str.{IsUtf8-from_is_utf8, is_utf8-from_IsUtf8}
 use Rattle.std.proofs.lemmas.Slice.Eq.{bytes_eq-Decides}
@@ -10,8 +10,8 @@ use Rattle.serde_json.specs.Read.{read}
 use Rattle.mega_base.specs.Reading.{◌>>=◌}
 use Rattle.mega_base.specs.Codecs.{bind-ok}
 use Rattle.mega_syntax.specs.Names.{same}
-use Rattle.mega_transcript.specs.Reading.{Read, Field, cut_at, until, shown, taken, word_as, two, made}
-use Rattle.mega_transcript.specs.Requests.{compact_of, is_text, json_of, is_request, is_one_line, request_of, request_field, IsRequest}
+use Rattle.mega_transcript.specs.Reading.{Read, Field, cut_at, until, shown, taken, two}
+use Rattle.mega_transcript.specs.Requests.{compact_of, is_text, json_of, is_request, request_of, request_field, IsRequest}
 use Rattle.mega_transcript.proofs.Forms.{lacks, until_again, Form, read_parts}
 
 -- ---- what code finds

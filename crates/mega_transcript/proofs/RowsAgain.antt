@@ -1,15 +1,14 @@
 -- Plain rows, finds, marks and results are read back from what is shown of them.
-use Rattle.std.proofs.Common.{◌≡◌, ℕ, zero, suc, ◌+◌, ◌-◌, ◌^◌, ◌<◌, ◌≤◌, ◌==◌, ◌&&◌, ◌||◌, ℤ, pos, negsuc, Bool, true, false, nat_lt, nat_le, List, [], ◌∷◌, ◌++◌, length, map, refl, sym, ap, ap₂, ◌∙◌, subst, Option, Some, None, Result, Ok, Err, arith, codes, IsUtf8, lt-ltb, le-leb, ne_eqb, true≢false, inl, inr}
-use Rattle.std.specs.Prelude.{if◌then◌else◌, option_and_then, unwrap_or, slice_get}
+use Rattle.std.proofs.Common.{◌≡◌, ℕ, suc, ◌+◌, ◌-◌, ◌^◌, ◌<◌, ◌≤◌, ◌==◌, ◌||◌, ℤ, pos, negsuc, Bool, true, false, nat_lt, List, [], ◌∷◌, ◌++◌, length, map, refl, sym, ap, ap₂, ◌∙◌, subst, Option, Some, None, Result, Ok, Err, arith, codes, lt-ltb, le-leb, ne_eqb, true≢false, inl, inr}
+use Rattle.std.specs.Prelude.{if◌then◌else◌, unwrap_or, slice_get}
 use Rattle.std.specs.Result.{result_ok}
 use Rattle.std.specs.List.{AllByRecursion, list_all}
 use Rattle.std.specs.Str.{is_utf8}
 use Rattle.std.proofs.lemmas.Bool.{and_parts, cases_eq, cases_lt, eqb-true, eqb-false, eq-eqb}
-use Rattle.std.proofs.lemmas.Str.{is_utf8-from_IsUtf8}
 use Rattle.hex.specs.Hex.{encode_lower, decode_of, IsBytes}
 use Rattle.hex.proofs.HexLemmas.{decode_of-encode_lower}
 use Rattle.json.proofs.Printed.Utf8.{IsUtf8-are_ascii}
-use Rattle.serde_json.specs.Data.{Data, number, string, array, object, unsigned, Members, no_members, put}
+use Rattle.serde_json.specs.Data.{Data, number, string, object, unsigned, Members, no_members, put}
 use Rattle.serde_json.specs.Find.{get_member, get, as_i64, of_integer}
 use Rattle.serde_json.specs.View.{items_of}
 use Rattle.serde_json.proofs.Views.{get_member-put, get_member-put_other}
@@ -29,12 +28,12 @@ use Rattle.mega_outcome.specs.declared.answer.Shown.{Shown}
 use Rattle.mega_outcome.specs.declared.answer.Mark.{Mark}
 use Rattle.mega_outcome.specs.declared.answer.Turn.{Turn}
 use Rattle.mega_outcome.specs.declared.answer.Turn.TheVariants as turns
-use Rattle.mega_transcript.specs.Rows.{value_data, values_data, fits_property, cell_data, with_cell, cells_members, name_of, properties_of, row_data, shown_data, rows_data, found_data, finds_data, mark_data, marks_data}
+use Rattle.mega_transcript.specs.Rows.{value_data, values_data, fits_property, cell_data, with_cell, cells_members, name_of, properties_of, shown_data, rows_data, found_data, finds_data, mark_data, marks_data}
 use Rattle.mega_transcript.specs.Answers.{turn_word, turn_number, result_data, results_data}
 use Rattle.mega_transcript.specs.Named.{table_number, names_table, property_number, names_property}
 use Rattle.mega_transcript.specs.PlainTurns.{IsPlainTurn}
 use Rattle.mega_transcript.specs.PlainRows.{IsHeld, IsPlainCell, ArePlainCells, ArePlainIn, IsPlainShown, ArePlainRows, HaveKinds, IsPlainKey, IsPlainFound, ArePlainFinds, are_marks, is_alone, IsHeldMark, AreHeldMarks, ArePlainMarks, ArePlainFindMarks, IsPlainResult, ArePlainResults}
-use Rattle.mega_transcript.specs.ReadingRows.{up_to, int32_of, int64_of, utf8_of, text_in, bytes_in, list_in, each_in, value_in, values_in, cell_if, cell_in, cells_in, shown_at, shown_by, shown_in, rows_in, values_by, found_at, found_by, found_in, finds_of, finds_in, mark_in, all_marks_in, marks_if, marks_in, find_marks_in, turn_named, turned_or_none, result_in, results_in}
+use Rattle.mega_transcript.specs.ReadingRows.{up_to, int32_of, int64_of, text_in, bytes_in, list_in, each_in, value_in, values_in, cell_if, cell_in, cells_in, shown_at, shown_by, shown_in, rows_in, values_by, found_at, found_by, found_in, finds_in, mark_in, all_marks_in, marks_if, marks_in, find_marks_in, turn_named, turned_or_none, result_in, results_in}
 use Rattle.mega_transcript.proofs.Parts.{utf8}
 use Rattle.mega_transcript.proofs.SoundRows.{hex_utf8}
 

@@ -1,6 +1,6 @@
 -- What is read from JSON as a row, a find, a mark or a result is plain.
-use Rattle.std.proofs.Common.{◌≡◌, ℕ, zero, suc, ◌+◌, ◌-◌, ◌^◌, ◌<◌, ◌≤◌, ◌==◌, ◌&&◌, ◌||◌, not, cond, ℤ, pos, negsuc, Bool, true, false, nat_lt, nat_le, List, [], ◌∷◌, ◌++◌, length, refl, sym, ap, ap₂, ◌∙◌, subst, Option, Some, None, Result, Ok, Err, arith, codes, IsUtf8, lt-ltb}
-use Rattle.std.specs.Prelude.{if◌then◌else◌, option_and_then, unwrap_or, slice_get, position}
+use Rattle.std.proofs.Common.{◌≡◌, ℕ, suc, ◌+◌, ◌-◌, ◌^◌, ◌<◌, ◌≤◌, ◌==◌, ◌&&◌, ◌||◌, not, cond, ℤ, pos, negsuc, Bool, true, false, nat_lt, nat_le, List, [], ◌∷◌, ◌++◌, length, refl, sym, ap, ap₂, ◌∙◌, subst, Option, Some, None, Result, Ok, Err, arith, codes, IsUtf8, lt-ltb}
+use Rattle.std.specs.Prelude.{if◌then◌else◌, option_and_then, unwrap_or, slice_get}
 use Rattle.std.specs.Result.{result_ok}
 use Rattle.std.specs.List.{AllByRecursion, list_all, position_or_len}
 use Rattle.std.specs.Str.{is_utf8}
@@ -10,7 +10,7 @@ use Rattle.std.proofs.lemmas.Str.{IsUtf8-nil, IsUtf8-from_is_utf8, is_utf8-from_
 use Rattle.hex.specs.Hex.{decode_of, IsBytes}
 use Rattle.hex.specs.declared.error.FromHexError.{FromHexError}
 use Rattle.hex.proofs.HexLemmas.{decode_of-ok}
-use Rattle.serde_json.specs.Data.{Data, null, Items, no_items, item}
+use Rattle.serde_json.specs.Data.{Data, Items, no_items, item}
 use Rattle.serde_json.specs.Find.{get, as_str, as_number, as_u64, as_i64}
 use Rattle.mega_base.specs.declared.values.Kind.{Kind}
 use Rattle.mega_base.specs.declared.values.Kind.TheVariants as kinds
@@ -24,16 +24,13 @@ use Rattle.mega_schema.specs.declared.schema.Schema.{Schema}
 use Rattle.mega_schema.specs.Lookup.{property_at, is_repeated}
 use Rattle.mega_schema.specs.Shaping.{table_at, shape_of}
 use Rattle.mega_index.specs.declared.found.Found.{Found}
-use Rattle.mega_outcome.specs.declared.answer.Shown.{Shown}
-use Rattle.mega_outcome.specs.declared.answer.Mark.{Mark}
 use Rattle.mega_outcome.specs.declared.answer.Turn.{Turn}
 use Rattle.mega_outcome.specs.declared.answer.Turn.TheVariants as turns
-use Rattle.mega_transcript.specs.Rows.{fits_property}
-use Rattle.mega_transcript.specs.Named.{number_of_place, table_number, names_table, property_number, names_property}
+use Rattle.mega_transcript.specs.Named.{number_of_place, table_number, names_table, names_property}
 use Rattle.mega_transcript.specs.PlainNames.{IsU32, IsU64}
 use Rattle.mega_transcript.specs.PlainTurns.{IsPlainTurn}
-use Rattle.mega_transcript.specs.PlainRows.{IsHeld, IsPlainCell, ArePlainCells, ArePlainIn, IsPlainShown, ArePlainRows, HaveKinds, IsPlainKey, IsPlainFound, ArePlainFinds, are_marks, is_alone, IsHeldMark, AreHeldMarks, ArePlainMarks, ArePlainFindMarks, IsPlainResult, ArePlainResults}
-use Rattle.mega_transcript.specs.ReadingRows.{up_to, number_in, is_int32, int32_of, is_int64, int64_of, utf8_of, text_in, bytes_in, list_in, each_in, value_in, values_in, cell_if, cell_in, cells_in, pair_of, triple_of, shown_at, shown_by, shown_of, shown_in, rows_in, first_or_null, behind, values_by, found_at, found_by, found_of, found_in, finds_of, finds_in, mark_of, mark_in, all_marks_in, marks_if, marks_in, find_marks_in, turn_named, turned_or_none, committed_of, result_of, result_in, results_in}
+use Rattle.mega_transcript.specs.PlainRows.{IsHeld, IsPlainCell, ArePlainCells, ArePlainIn, IsPlainShown, ArePlainRows, HaveKinds, IsPlainKey, ArePlainFinds, are_marks, is_alone, IsHeldMark, AreHeldMarks, ArePlainMarks, ArePlainFindMarks, IsPlainResult, ArePlainResults}
+use Rattle.mega_transcript.specs.ReadingRows.{up_to, number_in, is_int32, int32_of, is_int64, int64_of, utf8_of, text_in, bytes_in, list_in, each_in, value_in, values_in, cell_if, cell_in, cells_in, pair_of, triple_of, shown_at, shown_of, shown_in, rows_in, first_or_null, behind, values_by, found_at, found_of, found_in, finds_of, finds_in, mark_of, mark_in, all_marks_in, marks_if, marks_in, find_marks_in, turn_named, turned_or_none, committed_of, result_of, result_in, results_in}
 use Rattle.mega_transcript.proofs.RowsAgain.{StandBehind, first_stands, others_stand, all_stand}
 
 -- ---- values

@@ -1,5 +1,5 @@
 -- What is kept after one item more of a list.
-use Rattle.std.proofs.Common.{◌≡◌, ℕ, suc, ◌+◌, ◌≤◌, ◌<◌, Bool, true, false, cond, List, [], ◌∷◌, ◌++◌, length, take, get_or, refl, sym, ap, ◌∙◌, subst, arith}
+use Rattle.std.proofs.Common.{◌≡◌, ℕ, suc, ◌+◌, ◌≤◌, ◌<◌, Bool, true, false, cond, List, [], ◌∷◌, ◌++◌, length, take, get_or, sym, ap, ◌∙◌, subst, arith}
 use Rattle.std.specs.Prelude.{filter, Result, Ok, Err, OnOk}
 use Rattle.std.proofs.lemmas.List.{take_more, length-take}
 use Rattle.std.proofs.lemmas.List.Filters.{length-filter_more}

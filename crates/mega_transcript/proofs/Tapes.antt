@@ -1,9 +1,8 @@
 -- What items change of what a tape tells.
-use Rattle.std.proofs.Common.{◌≡◌, ℕ, ◌+◌, ◌≤◌, ◌==◌, ◌||◌, ◌&&◌, not, Bool, true, false, nat_le, List, [], ◌∷◌, ◌++◌, refl, sym, ap, ◌∙◌, inl, inr, arith}
-use Rattle.std.proofs.lemmas.Bool.Decides.{nat_tests}
+use Rattle.std.proofs.Common.{◌≡◌, ℕ, List, [], ◌∷◌, ◌++◌, refl, inl, inr}
 use Rattle.mega_transcript.specs.declared.item.Item.{Item}
 use Rattle.mega_transcript.specs.declared.item.Item.TheVariants.{Start, Unsent, Tick, Begin, Taken, Dropped, Sent, Grant, Lapse, Counts, Forgets, Serving, Lost, Valid, Invalid, Decide, Apply, Answer, Crash, Cut, Unsafe}
-use Rattle.mega_transcript.specs.Tape.{onto, newest, sent_count, is_taken, is_sent, waits, IsNote, MayFollow, Grows}
+use Rattle.mega_transcript.specs.Tape.{onto, newest, sent_count, is_taken, IsNote, MayFollow, Grows}
 
 pub onto-append : (xs ys tape : List Item) → onto (xs ++ ys) tape ≡ onto ys (onto xs tape)
 onto-append [] ys tape = refl

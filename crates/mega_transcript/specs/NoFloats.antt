@@ -1,11 +1,11 @@
 -- What a transcript shows as JSON has no float in it.
-use Rattle.std.proofs.Common.{◌≡◌, ℕ, ◌||◌, pos, negsuc, List, [], ◌∷◌, map, Bool, true, false, if◌then◌else◌, Option, Some, None, Ok, Err, refl, ap, ◌∙◌, Ordering, Less, Equal, Greater, nat_cmp}
+use Rattle.std.proofs.Common.{◌≡◌, ℕ, ◌||◌, pos, negsuc, List, [], ◌∷◌, map, Bool, true, false, if◌then◌else◌, Option, Some, None, Ok, Err, refl, Ordering, Less, Equal, Greater, nat_cmp}
 use Rattle.std.proofs.lemmas.Bool.{or_parts}
 use Rattle.std.specs.Ordering.{match_ordering}
 use Rattle.std.specs.Cmp.Lexicographic.{slice_cmp}
 use Rattle.serde_json.specs.Data.{Data, array, Members, no_members, member, put}
 use Rattle.serde_json.specs.View.{items_of}
-use Rattle.serde_json.specs.Written.{has_float, items_have_float, members_have_float}
+use Rattle.serde_json.specs.Written.{has_float, members_have_float}
 use Rattle.mega_base.specs.declared.values.Value.{Value}
 use Rattle.mega_base.specs.declared.values.Value.TheVariants.{Int32, Int64, Bool as Truth, Str, Raw}
 use Rattle.mega_base.specs.declared.values.Cell.{Cell}
@@ -17,7 +17,7 @@ use Rattle.mega_index.specs.declared.found.Found.{Found}
 use Rattle.mega_outcome.specs.declared.answer.Shown.{Shown}
 use Rattle.mega_outcome.specs.declared.answer.Mark.{Mark}
 use Rattle.mega_outcome.specs.declared.answer.Turn.{Turn}
-use Rattle.mega_transcript.specs.Rows.{value_data, fits_property, cell_data, with_cell, cells_members, properties_of, row_data, shown_data, found_data, mark_data}
+use Rattle.mega_transcript.specs.Rows.{value_data, fits_property, cell_data, with_cell, cells_members, properties_of, shown_data, found_data, mark_data}
 use Rattle.mega_transcript.specs.Answers.{result_data}
 use Rattle.std.specs.Prelude.{Result}
 

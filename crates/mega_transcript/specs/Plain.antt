@@ -1,11 +1,5 @@
 -- Plain items: those that are read back from their lines.
-use Rattle.std.specs.Prelude.{◌≡◌, ℕ, ◌≤◌, List}
 use Rattle.hex.specs.Hex.{IsBytes}
-use Rattle.mega_base.specs.declared.names.NodeId.{NodeId}
-use Rattle.mega_base.specs.declared.names.Position.{Position}
-use Rattle.mega_base.specs.declared.names.Epoch.{Epoch}
-use Rattle.mega_base.specs.declared.names.OpId.{OpId}
-use Rattle.mega_base.specs.declared.names.GroupId.{GroupId}
 use Rattle.mega_entry.specs.Entries.{entry_text, IsEntry}
 use Rattle.mega_entry.specs.declared.content.Content.{Content}
 use Rattle.mega_wire.specs.Messages.{message_text, IsMessage}

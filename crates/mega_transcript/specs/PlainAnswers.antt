@@ -1,5 +1,5 @@
 -- Plain answers: those that are read back from their words.
-use Rattle.std.specs.Prelude.{◌≡◌, ℕ, ◌≤◌, Option, Some, None, IsUtf8}
+use Rattle.std.specs.Prelude.{◌≡◌, Option, Some, None, IsUtf8}
 use Rattle.mega_base.specs.declared.names.OpId.{OpId}
 use Rattle.mega_base.specs.declared.values.NodeKind.{NodeKind}
 use Rattle.mega_base.specs.declared.values.NodeKind.TheVariants as nodes

@@ -1,5 +1,5 @@
 -- How the items of a tape are read.
-use Rattle.std.specs.Prelude.{ℕ, ◌+◌, ◌-◌, ◌==◌, Bool, true, false, if◌then◌else◌, List, [], ◌∷◌, ◌++◌, codes, length, Option, Some, None, Result, Ok, Err, nat_eq}
+use Rattle.std.specs.Prelude.{ℕ, ◌-◌, ◌==◌, if◌then◌else◌, List, [], ◌∷◌, ◌++◌, codes, length, Option, Some, None, Result, Ok, Err, nat_eq}
 use Rattle.std.specs.List.{common_prefix_len}
 use Rattle.mega_base.specs.Reading.{◌>>=◌}
 use Rattle.mega_base.specs.declared.names.NodeId.{NodeId}
@@ -13,7 +13,7 @@ use Rattle.mega_transcript.specs.declared.item.Item.TheVariants as items
 use Rattle.mega_transcript.specs.declared.kinds.LineKind.{LineKind}
 use Rattle.mega_transcript.specs.declared.kinds.LineKind.TheVariants.{Start, Unsent, Tick, Begin, Taken, Dropped, Sent, Grant, Lapse, Counts, Forgets, Serving, Lost, Valid, Invalid, Decide, Apply, Answer, Crash}
 use Rattle.mega_transcript.specs.Kinds.{kind_of}
-use Rattle.mega_transcript.specs.Reading.{Read, Field, until, two, made, number_field, u8_field, u32_field, u64_field, node_field, position_field, epoch_field, op_field, group_field, message_field, entry_field}
+use Rattle.mega_transcript.specs.Reading.{Read, Field, until, two, made, u8_field, u32_field, u64_field, node_field, position_field, epoch_field, op_field, group_field, message_field, entry_field}
 use Rattle.mega_transcript.specs.Lines.{line}
 use Rattle.mega_transcript.specs.Requests.{request_field}
 use Rattle.mega_transcript.specs.ReadingAnswers.{answer_at}

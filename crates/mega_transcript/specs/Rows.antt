@@ -1,5 +1,5 @@
 -- Rows, finds and marks as JSON, by the names of a schema.
-use Rattle.std.specs.Prelude.{ℕ, ◌==◌, ◌&&◌, Bool, true, false, nat_lt, if◌then◌else◌, List, [], ◌∷◌, length, map, Option, Some, None}
+use Rattle.std.specs.Prelude.{ℕ, ◌==◌, ◌&&◌, Bool, nat_lt, if◌then◌else◌, List, [], ◌∷◌, length, map, Option, Some, None}
 use Rattle.std.specs.List.{list_all}
 use Rattle.serde_json.specs.Data.{Data, null, boolean, number, string, array, object, unsigned, Members, no_members, put}
 use Rattle.serde_json.specs.Find.{of_integer}
@@ -10,7 +10,6 @@ use Rattle.mega_base.specs.declared.values.Value.TheVariants.{Int32, Int64, Bool
 use Rattle.mega_base.specs.declared.values.Cell.{Cell}
 use Rattle.mega_base.specs.declared.values.Row.{Row}
 use Rattle.mega_keys.specs.Fit.{has_kind}
-use Rattle.mega_syntax.specs.declared.need.Need.{Need}
 use Rattle.mega_schema.specs.declared.schema.Property.{Property}
 use Rattle.mega_schema.specs.declared.schema.Table.{Table}
 use Rattle.mega_schema.specs.declared.schema.Schema.{Schema}

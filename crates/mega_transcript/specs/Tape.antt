@@ -1,7 +1,7 @@
 -- What a tape tells, looking back: here its newest item stands first, and what came before is the rest.
-use Rattle.std.specs.Prelude.{◌≡◌, ℕ, ◌+◌, ◌==◌, ◌||◌, ◌&&◌, nat_le, not, Bool, true, false, List, [], ◌∷◌, ◌⊎◌}
+use Rattle.std.specs.Prelude.{◌≡◌, ℕ, ◌+◌, ◌==◌, ◌||◌, ◌&&◌, nat_le, not, Bool, false, List, [], ◌∷◌, ◌⊎◌}
 use Rattle.mega_transcript.specs.declared.item.Item.{Item}
-use Rattle.mega_transcript.specs.declared.item.Item.TheVariants.{Start, Unsent, Tick, Begin, Taken, Dropped, Sent, Grant, Lapse, Counts, Forgets, Serving, Lost, Valid, Invalid, Decide, Apply, Answer, Crash, Cut, Unsafe}
+use Rattle.mega_transcript.specs.declared.item.Item.TheVariants.{Start, Unsent, Taken, Dropped, Sent, Crash, Cut, Unsafe}
 
 -- these items, oldest first, come onto the tape
 abbrev pub onto : List Item → List Item → List Item

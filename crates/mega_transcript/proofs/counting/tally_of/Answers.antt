@@ -1,4 +1,4 @@
-use Rattle.std.proofs.Common.{◌<◌, ◌^◌, arith, rules}
+use Rattle.std.proofs.Common.{◌^◌, arith}
 use Rattle.mega_transcript.proofs.Tallying.{tally_more, tally_within}
 use Rattle.mega_transcript.proofs.counting.tally_of.Goals as goal
 

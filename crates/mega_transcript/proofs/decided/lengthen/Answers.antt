@@ -1,4 +1,4 @@
-use Rattle.std.proofs.Common.{◌≡◌, ◌==◌, false, arith, rules}
+use Rattle.std.proofs.Common.{arith, rules}
 use Rattle.std.proofs.lemmas.Bool.Decides.{nat_tests}
 use Rattle.mega_transcript.proofs.Deciding.{lengthened_is}
 use Rattle.mega_transcript.proofs.decided.lengthen.Goals as goal

@@ -1,4 +1,4 @@
-use Rattle.std.proofs.Common.{rules, ◌≡◌, arith}
+use Rattle.std.proofs.Common.{◌≡◌, arith}
 use Rattle.mega_transcript.proofs.Fronts.{differs_there, same_there, at_end}
 use Rattle.mega_transcript.proofs.parsing.common_len.Goals as goal
 

@@ -1,4 +1,4 @@
-use Rattle.std.proofs.Common.{rules, ◌≡◌, sym, ◌∙◌, true≢false}
+use Rattle.std.proofs.Common.{sym, ◌∙◌, true≢false}
 use Rattle.serde_json.specs.View.{view}
 use Rattle.mega_transcript.proofs.Requesting.{json_there, no_json}
 use Rattle.mega_transcript.proofs.reading_json.json_of.Goals as goal

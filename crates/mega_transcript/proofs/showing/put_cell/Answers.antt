@@ -1,4 +1,4 @@
-use Rattle.std.proofs.Common.{rules, ◌≡◌}
+use Rattle.std.proofs.Common.{rules}
 use Rattle.mega_schema.specs.Lookup.{property_at}
 use Rattle.mega_transcript.proofs.Cells.{insert_cell}
 use Rattle.mega_transcript.proofs.showing.put_cell.Goals as goal

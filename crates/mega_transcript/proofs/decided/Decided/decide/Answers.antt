@@ -1,4 +1,4 @@
-use Rattle.std.proofs.Common.{rules, ◌≡◌, ap, ◌∙◌}
+use Rattle.std.proofs.Common.{rules, ap, ◌∙◌}
 use Rattle.mega_transcript.specs.Counted.{reach_with}
 use Rattle.mega_transcript.proofs.Deciding.{decide_kept}
 use Rattle.mega_transcript.proofs.decided.Decided.decide.Goals as goal
