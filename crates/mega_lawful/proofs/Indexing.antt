@@ -1,13 +1,11 @@
 -- Where each text asks for values that the program can hold, so does each request with which an operation of a tape began.
 use Rattle.std.proofs.Common.{◌≡◌, ℕ, Bool, true, false, if◌then◌else◌, List, [], ◌∷◌, Option, Some}
 use Rattle.mega_base.specs.declared.names.OpId.{OpId}
-use Rattle.mega_cluster.specs.declared.cluster.Cluster.{Cluster}
-use Rattle.mega_handler.specs.Named.{Meanings}
 use Rattle.mega_outcome.specs.declared.request.Request.{Request}
 use Rattle.mega_wal.specs.Same.{same_op}
 use Rattle.mega_transcript.specs.declared.item.Item.{Item}
 use Rattle.mega_transcript.specs.declared.item.Item.TheVariants.{Start, Unsent, Tick, Begin, Taken, Dropped, Sent, Grant, Lapse, Counts, Forgets, Serving, Lost, Valid, Invalid, Decide, Apply, Answer, Crash, Cut, Unsafe}
-use Rattle.mega_promises.specs.Promises.{asked_for, meant}
+use Rattle.mega_promises.specs.Promises.{asked_for}
 use Rattle.mega_laws.specs.Indexed.{AsksValues}
 use Rattle.mega_lawful.specs.Usages.{MeansValues}
 

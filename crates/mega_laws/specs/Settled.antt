@@ -1,13 +1,11 @@
 -- A settled entry (CIDR 2011, write algorithm): a majority accepted it at the operation's present ballot, and no full node may serve a
 -- read that misses it.
-use Rattle.std.specs.Prelude.{◌≡◌, ℕ, ◌*◌, ◌<◌, Bool, true, List, length, Option, Some}
+use Rattle.std.specs.Prelude.{◌≡◌, ℕ, ◌*◌, ◌<◌, Bool, true, List, Some}
 use Rattle.mega_base.specs.declared.names.OpId.{OpId}
-use Rattle.mega_base.specs.declared.names.GroupId.{GroupId}
-use Rattle.mega_base.specs.declared.names.Position.{Position}
 use Rattle.mega_ballot.specs.declared.ballot.Ballot.{Ballot}
 use Rattle.mega_cluster.specs.declared.cluster.Cluster.{Cluster}
 use Rattle.mega_entry.specs.declared.content.Content.{Content}
-use Rattle.mega_wire.specs.declared.message.Body.TheVariants.{Accepted, Dead, Invalidate, Invalidated, Unheld}
+use Rattle.mega_wire.specs.declared.message.Body.TheVariants.{Accepted, Invalidate, Invalidated, Unheld}
 use Rattle.mega_transcript.specs.declared.item.Item.{Item}
 use Rattle.mega_transcript.specs.declared.item.Item.TheVariants.{Sent}
 use Rattle.mega_promises.specs.Items.{number}
