@@ -1,3 +1,4 @@
 pub mod Shows
 pub mod Vouched
 pub mod Usages
+pub mod Examples

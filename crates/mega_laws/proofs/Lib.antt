@@ -9,6 +9,7 @@ pub mod Agreement
 pub mod Logs
 pub mod Witnesses
 pub mod Unlawful
+pub mod PassedOver
 pub mod Settling
 pub mod Entries
 pub mod Origins

@@ -109,6 +109,10 @@ early = Sent 1 (accept_for 1 2 1 zero_ballot (entry_of 1)) ∷ []
 abbrev pub kept_own : List Item
 kept_own = two_accept ++ Sent 5 (accept_for 2 1 1 (ballot_of 2) (entry_of 2)) ∷ []
 
+-- node 2 was told of an entry by a promise, and proposes its own all the same
+abbrev pub passed_over : List Item
+passed_over = reported ++ Sent 7 (accept_for 2 1 1 (ballot_of 2) (entry_of 2)) ∷ []
+
 -- a node decides what one voter of three accepted
 abbrev pub too_few : List Item
 too_few = Sent 1 (accept_for 1 1 1 zero_ballot (entry_of 1))

@@ -13,7 +13,7 @@ ghost use Rattle.mega_transcript.specs.Tape.{newest};
 ghost use Rattle.mega_promises.specs.Items.{number};
 ghost use Rattle.mega_promises.specs.Promises.{Stands, StoodBefore};
 ghost use Rattle.mega_rules.specs.Examples.{cluster, entry_of, group, op_of};
-ghost use Rattle.mega_laws.specs.Examples.{all_accept, asked_before, asks_put, beaten, completed, decided_at_zero, early, epoch, first, forgotten, kept_own, lapsed, not_its_own, place, polled, put_decided, rivals, second, told_too_soon, too_few};
+ghost use Rattle.mega_laws.specs.Examples.{all_accept, asked_before, asks_put, beaten, completed, decided_at_zero, early, epoch, first, forgotten, kept_own, lapsed, not_its_own, passed_over, place, polled, put_decided, rivals, second, told_too_soon, too_few};
 ghost use Rattle.mega_laws.specs.Answers.{LawfulAnswers};
 ghost use Rattle.mega_laws.specs.Lawful.{Lawful};
 ghost use Rattle.mega_laws.specs.Settled.{IsCovered, IsSettled};
@@ -72,6 +72,11 @@ pub fn zero_goes_to_the_leader_first()
 /// An operation does not propose its own entry above a ballot at which another was chosen.
 pub fn a_chosen_entry_is_carried()
     ensures { Lawful cluster (newest kept_own) → ⊥ }
+{}
+
+/// An operation whose promises report another's entry does not propose its own, whether that entry was chosen or not.
+pub fn a_reported_entry_is_carried()
+    ensures { Lawful cluster (newest passed_over) → ⊥ }
 {}
 
 /// What less than a majority accepted is not decided.
