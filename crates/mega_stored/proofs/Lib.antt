@@ -1,0 +1,12 @@
+pub mod Entries
+pub mod Writing
+pub mod Places
+pub mod Telling
+pub mod Only
+pub mod Joined
+pub mod Reading
+pub mod Growing
+pub mod Listing
+pub mod Steps
+pub mod Opened
+pub mod Next

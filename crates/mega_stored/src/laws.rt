@@ -1,0 +1,41 @@
+ghost use Rattle.std.specs.Prelude.{◌≡◌, ◌⊎◌, ◌≤◌, ◌++◌, [], List, ℕ, Option, take};
+ghost use Rattle.mega_base.specs.declared.names.GroupId.{GroupId};
+ghost use Rattle.mega_base.specs.declared.values.Row.{Row};
+ghost use Rattle.mega_entry.specs.declared.content.Content.{Content};
+ghost use Rattle.mega_disk.specs.VersionMaps.{IsLatest, IsScan, IsWithin, Versions, row_at};
+ghost use Rattle.mega_index.specs.Rows.{Listed, after, list_after, no_rows, written};
+ghost use Rattle.mega_replica.specs.Applying.{applied, stored_writes};
+ghost use Rattle.mega_stored.specs.declared.progress.Progress.{Progress};
+ghost use Rattle.mega_stored.specs.Stored.{Counts, GroupLogs, IsOwn, IsUnwritten};
+ghost use Rattle.mega_stored.specs.Following.{Follows};
+
+/// Rows that follow logs follow longer ones that begin with these: what was decided since is not stored yet.
+pub fn rows_follow_longer_logs()
+    ensures { (version : Versions) (progress : GroupId → Progress) (log longer more : GroupLogs) (stored : Counts) →
+        ((group : GroupId) → longer group ≡ log group ++ more group) →
+        Follows version progress log stored → Follows version progress longer stored }
+{}
+
+/// A read at a position that is applied sees what the entries through it wrote, of each key that only entries of this
+/// group write.
+pub fn reads_see_the_log()
+    ensures { (version : Versions) (progress : GroupId → Progress) (log : GroupLogs) (stored : Counts) (group : GroupId) (key : List ℕ) (p : ℕ) →
+        Follows version progress log stored → IsOwn log group key → p ≤ applied (log group) (stored group) →
+        row_at version key p ≡ after (take p (log group)) no_rows key }
+{}
+
+/// The newest row of each such key is what all stored writes made of it.
+pub fn newest_rows_are_those_stored()
+    ensures { (version : Versions) (progress : GroupId → Progress) (log : GroupLogs) (stored : Counts) (group : GroupId) (key : List ℕ) (row : Option Row) →
+        Follows version progress log stored → IsOwn log group key → IsLatest (version key) row →
+        row ≡ written (stored_writes (log group) (stored group)) no_rows key }
+{}
+
+/// A scan, at a position that is applied, of a range that holds all keys that the group's entries write, and none that
+/// another group's do, gives the rows of the entries through it, in order of key.
+pub fn scans_list_the_log()
+    ensures { (version : Versions) (progress : GroupId → Progress) (log : GroupLogs) (stored : Counts) (group : GroupId) (from to : List ℕ) (p : ℕ) (rows : Listed) →
+        Follows version progress log stored → ((key : List ℕ) → IsWithin from to key → IsOwn log group key) →
+        ((key : List ℕ) → IsWithin from to key ⊎ IsUnwritten key (log group)) → p ≤ applied (log group) (stored group) →
+        IsScan version from to p rows → rows ≡ list_after (take p (log group)) [] }
+{}
