@@ -6,12 +6,13 @@ use Rattle.std.proofs.lemmas.List.{take_all, take-append-le, drop-append-le, len
 use Rattle.mega_base.specs.declared.names.GroupId.{GroupId}
 use Rattle.mega_entry.specs.declared.content.Write.{Write}
 use Rattle.mega_entry.specs.declared.content.Content.{Content}
-use Rattle.mega_disk.specs.VersionMaps.{Versions}
+use Rattle.mega_disk.specs.VersionMaps.{SameVersions, Versions}
 use Rattle.mega_replica.specs.Applying.{writes_of}
 use Rattle.mega_stored.specs.declared.progress.Progress.{Progress}
 use Rattle.mega_stored.specs.Stored.{Counts, GroupLogs, Tells, last_write, stored_at, version_of}
 use Rattle.mega_stored.specs.Following.{Follows, IsPlace, count_of, first_writes}
 use Rattle.mega_stored.proofs.Places.{place_total}
+use Rattle.mega_stored.proofs.Telling.{tells_same}
 
 pub none_at : (log : List Content) (stored n : ℕ) → stored ≤ 0 → stored_at log stored n ≡ []
 none_at [] stored n le = refl
@@ -43,6 +44,9 @@ place_more p log more place = record {
 
 count_more : (p : Progress) (log more : List Content) → IsPlace p log → count_of p (log ++ more) ≡ count_of p log
 count_more p log more place = ap (λ (front : List Content). sum_by (λ (entry : Content). length entry.writes) front + p.writes) (take-append-le p.entries log more place.entries)
+
+pub follows_same : (old new : Versions) (progress : GroupId → Progress) (log : GroupLogs) (stored : Counts) → SameVersions old new → Follows old progress log stored → Follows new progress log stored
+follows_same old new progress log stored same follows = record { places = follows.places; counts = follows.counts; versions = tells_same old new log stored same follows.versions }
 
 module _ (version : Versions) (progress : GroupId → Progress) (log longer : GroupLogs) (stored : Counts) (more : GroupLogs) (begins : (group : GroupId) → longer group ≡ log group ++ more group) (follows : Follows version progress log stored) where
   few : (group : GroupId) → stored group ≤ length (writes_of (log group))

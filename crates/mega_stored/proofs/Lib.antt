@@ -10,3 +10,4 @@ pub mod Listing
 pub mod Steps
 pub mod Opened
 pub mod Next
+pub mod Logs

@@ -1,13 +1,30 @@
-ghost use Rattle.std.specs.Prelude.{◌≡◌, ◌⊎◌, ◌≤◌, ◌++◌, [], List, ℕ, Option, take};
+ghost use Rattle.std.specs.Prelude.{◌≡◌, ◌⊎◌, ◌+◌, ◌<◌, ◌≤◌, ◌++◌, [], ◌∷◌, List, ℕ, Option, slice_get, take};
 ghost use Rattle.mega_base.specs.declared.names.GroupId.{GroupId};
 ghost use Rattle.mega_base.specs.declared.values.Row.{Row};
 ghost use Rattle.mega_entry.specs.declared.content.Content.{Content};
-ghost use Rattle.mega_disk.specs.VersionMaps.{IsLatest, IsScan, IsWithin, Versions, row_at};
+ghost use Rattle.mega_disk.specs.VersionMaps.{IsLatest, IsScan, IsWithin, SameVersions, Versions, row_at};
 ghost use Rattle.mega_index.specs.Rows.{Listed, after, list_after, no_rows, written};
 ghost use Rattle.mega_replica.specs.Applying.{applied, stored_writes};
+ghost use Rattle.mega_wal.specs.declared.item.JournalItem.{JournalItem};
+ghost use Rattle.mega_wal.specs.History.{decided_of, prefix_of};
 ghost use Rattle.mega_stored.specs.declared.progress.Progress.{Progress};
-ghost use Rattle.mega_stored.specs.Stored.{Counts, GroupLogs, IsOwn, IsUnwritten};
+ghost use Rattle.mega_stored.specs.Stored.{Counts, GroupLogs, IsOwn, IsUnwritten, log_in};
 ghost use Rattle.mega_stored.specs.Following.{Follows};
+
+/// The decided prefix of a group shows, from position 1 on, what was decided at each position through it.
+pub fn logs_show_what_is_decided()
+    ensures { (items : List JournalItem) (group : GroupId) (i : ℕ) → i < prefix_of items group → slice_get (log_in items group) i ≡ decided_of items group (i + 1) }
+{}
+
+/// A log begins with what it was before the newest item of its history.
+pub fn logs_only_grow()
+    ensures { (item : JournalItem) (items : List JournalItem) (group : GroupId) → (more : List Content) × (log_in (item ∷ items) group ≡ log_in items group ++ more) }
+{}
+
+/// Rows follow logs as long as their versions stay the same, as they do over reads.
+pub fn rows_follow_while_versions_stay()
+    ensures { (old new : Versions) (progress : GroupId → Progress) (log : GroupLogs) (stored : Counts) → SameVersions old new → Follows old progress log stored → Follows new progress log stored }
+{}
 
 /// Rows that follow logs follow longer ones that begin with these: what was decided since is not stored yet.
 pub fn rows_follow_longer_logs()
