@@ -17,12 +17,12 @@ use Rattle.mega_disk.specs.VersionMaps.{HasAscendingKeys, HasRow, IsScan, IsWith
 use Rattle.mega_index.specs.Rows.{Listed, Rows, after, changed, key_cmp, list_after, list_changed, list_written, no_rows, row_under, same_key, written}
 use Rattle.mega_index.proofs.Turning.{same_key-Decides}
 use Rattle.mega_index.proofs.Ordered.{turn_less}
-use Rattle.mega_replica.specs.Applying.{applied, writes_of}
+use Rattle.mega_replica.specs.Applying.{applied, stored_writes, writes_of}
 use Rattle.mega_stored.specs.declared.progress.Progress.{Progress}
 use Rattle.mega_stored.specs.Stored.{Counts, GroupLogs, IsOwn, IsUnwritten, last_write}
 use Rattle.mega_stored.specs.Following.{Follows}
 use Rattle.mega_stored.proofs.Writing.{Version, last_write-append}
-use Rattle.mega_stored.proofs.Reading.{or_row, read_is, written_is}
+use Rattle.mega_stored.proofs.Reading.{or_row, read_is, stored_is, unwritten_front, written_is}
 
 -- ---- what stands under a key
 
@@ -256,47 +256,50 @@ no_version : (a b : Version) → or_else a b ≡ None → b ≡ None
 no_version None b is = is
 no_version (Some row) b is = absurd cc
 
-unwritten_after : (log : List Content) (p : ℕ) (key : List ℕ) → IsUnwritten key log → after (take p log) no_rows key ≡ None
-unwritten_after log p key none =
-    ap (λ (rows : Rows). rows key) (after_writes (take p log) no_rows)
-    ∙ written_is (writes_of (take p log)) no_rows key
-    ∙ ap (λ (last : Version). or_row last None) front
-  where
-    front : last_write key (writes_of (take p log)) ≡ None
-    front =
-        no_version (last_write key (writes_of (drop p log))) (last_write key (writes_of (take p log)))
-        (sym (last_write-append key (writes_of (take p log)) (writes_of (drop p log)))
-        ∙ ap (last_write key) (sym (flat_map-append (λ (entry : Content). entry.writes) (take p log) (drop p log)))
-        ∙ ap (λ (entries : List Content). last_write key (writes_of entries)) (take-append-drop p log) ∙ none)
+unwritten_through : (log : List Content) (p : ℕ) (key : List ℕ) → IsUnwritten key log → last_write key (writes_of (take p log)) ≡ None
+unwritten_through log p key none =
+    no_version (last_write key (writes_of (drop p log))) (last_write key (writes_of (take p log)))
+    (sym (last_write-append key (writes_of (take p log)) (writes_of (drop p log)))
+    ∙ ap (last_write key) (sym (flat_map-append (λ (entry : Content). entry.writes) (take p log) (drop p log)))
+    ∙ ap (λ (entries : List Content). last_write key (writes_of entries)) (take-append-drop p log) ∙ none)
 
--- the rows of the range are those of the log
-pub scan_is : (version : Versions) (progress : GroupId → Progress) (log : GroupLogs) (stored : Counts) (group : GroupId) (from to : List ℕ) (p : ℕ) (rows : Listed)
-    → Follows version progress log stored → ((key : List ℕ) → IsWithin from to key → IsOwn log group key) → ((key : List ℕ) → IsWithin from to key ⊎ IsUnwritten key (log group))
-    → p ≤ applied (log group) (stored group) → IsScan version from to p rows → rows ≡ list_after (take p (log group)) []
-scan_is version progress log stored group from to p rows follows own within le scan =
-    same_rows rows (list_after (take p (log group)) []) (ascends rows scan.ordered) up into back
-  where
-    up : Ascends (list_after (take p (log group)) [])
-    up = after-ascends (take p (log group)) [] tt
+unwritten_rows : (writes : List Write) (key : List ℕ) → last_write key writes ≡ None → written writes no_rows key ≡ None
+unwritten_rows writes key none = written_is writes no_rows key ∙ ap (λ (last : Version). or_row last None) none
 
-    listed : (key : List ℕ) → row_under (list_after (take p (log group)) []) key ≡ after (take p (log group)) no_rows key
-    listed key = ap (λ (all : Rows). all key) (after_is (take p (log group)) [] tt)
+-- a scan is the list that has the rows of its range, and no others
+module _ (version : Versions) (from to : List ℕ) (p : ℕ) (rows list : Listed) (all : Rows) (up : Ascends list) (listed : (key : List ℕ) → row_under list key ≡ all key)
+    (read : (key : List ℕ) → IsWithin from to key → row_at version key p ≡ all key) (outside : (key : List ℕ) → IsWithin from to key ⊎ (all key ≡ None)) (scan : IsScan version from to p rows) where
+  no_row : (row : Row) → None ≡ Some row → ⊥
+  no_row row is = cc
 
-    read : (key : List ℕ) → IsWithin from to key → row_at version key p ≡ after (take p (log group)) no_rows key
-    read key is = read_is version progress log stored group key p follows (own key is) le
+  into : Covers rows list
+  into key row has = let found = scan.each key row has in has_row list key row (listed key ∙ sym (read key found.0) ∙ found.1)
 
-    into : Covers rows (list_after (take p (log group)) [])
-    into key row has =
-        let found = scan.each key row has in
-        has_row (list_after (take p (log group)) []) key row (listed key ∙ sym (read key found.0) ∙ found.1)
+  back : Covers list rows
+  back key row has =
+      let under = row_is list key row up has in
+      ⊎_elim (λ is. scan.all key row is (read key is ∙ sym (listed key) ∙ under)) (λ none. absurd (no_row row (sym none ∙ sym (listed key) ∙ under))) (outside key)
 
-    no_row : (row : Row) → None ≡ Some row → ⊥
-    no_row row is = cc
+  scan_lists : rows ≡ list
+  scan_lists = same_rows rows list (ascends rows scan.ordered) up into back
 
-    back : Covers (list_after (take p (log group)) []) rows
-    back key row has =
-        let under = row_is (list_after (take p (log group)) []) key row up has in
-        ⊎_elim
-        (λ is. scan.all key row is (read key is ∙ sym (listed key) ∙ under))
-        (λ none. absurd (no_row row (sym (unwritten_after (log group) p key none) ∙ sym (listed key) ∙ under)))
-        (within key)
+module _ (version : Versions) (progress : GroupId → Progress) (log : GroupLogs) (stored : Counts) (group : GroupId) (from to : List ℕ) (p : ℕ) (rows : Listed)
+    (follows : Follows version progress log stored) (own : (key : List ℕ) → IsWithin from to key → IsOwn log group key) (within : (key : List ℕ) → IsWithin from to key ⊎ IsUnwritten key (log group)) where
+  -- the rows of the range are those of the log
+  pub scan_is : p ≤ applied (log group) (stored group) → IsScan version from to p rows → rows ≡ list_after (take p (log group)) []
+  scan_is le =
+      scan_lists version from to p rows (list_after (take p (log group)) []) (after (take p (log group)) no_rows) (after-ascends (take p (log group)) [] tt)
+      (λ key. ap (λ (all : Rows). all key) (after_is (take p (log group)) [] tt))
+      (λ key is. read_is version progress log stored group key p follows (own key is) le)
+      (λ key. ⊎_elim (λ is. inl is)
+      (λ none. inr (ap (λ (all : Rows). all key) (after_writes (take p (log group)) no_rows) ∙ unwritten_rows (writes_of (take p (log group))) key (unwritten_through (log group) p key none))) (within key))
+
+  -- or those of the writes that are stored
+  pub scan_stored : IsScan version from to p rows → rows ≡ list_written (stored_writes (take p (log group)) (stored group)) []
+  scan_stored =
+      scan_lists version from to p rows (list_written (stored_writes (take p (log group)) (stored group)) []) (written (stored_writes (take p (log group)) (stored group)) no_rows)
+      (written-ascends (stored_writes (take p (log group)) (stored group)) [] tt)
+      (λ key. ap (λ (all : Rows). all key) (list_written_is (stored_writes (take p (log group)) (stored group)) [] tt))
+      (λ key is. stored_is version progress log stored group key p follows (own key is))
+      (λ key. ⊎_elim (λ is. inl is)
+      (λ none. inr (unwritten_rows (stored_writes (take p (log group)) (stored group)) key (unwritten_front key (stored group) (writes_of (take p (log group))) (unwritten_through (log group) p key none)))) (within key))

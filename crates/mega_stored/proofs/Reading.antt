@@ -1,7 +1,7 @@
 -- What reads see of versions that follow a log.
 use Rattle.std.proofs.Common.{◌≡◌, ◌⊎◌, inl, inr, ⊎_elim, ℕ, zero, suc, ◌+◌, ◌-◌, ◌<◌, ◌≤◌, Bool, true, false, cond, List, [], ◌∷◌, ◌++◌, length, get_or, take, drop, Option, Some, None, refl, sym, ap, ◌∙◌, subst, arith, nat_le}
 use Rattle.std.specs.Prelude.{◌≢◌, fold}
-use Rattle.std.proofs.lemmas.List.{take_all, take-append-drop, length-append}
+use Rattle.std.proofs.lemmas.List.{append-nil, append_assoc, take_all, take-append-drop, length-append}
 use Rattle.std.proofs.lemmas.Bool.Decides.{nat_tests}
 use Rattle.mega_base.specs.declared.values.Row.{Row}
 use Rattle.mega_base.specs.declared.names.GroupId.{GroupId}
@@ -15,13 +15,19 @@ use Rattle.mega_stored.specs.Stored.{Counts, GroupLogs, IsOnlyOf, IsOwn, IsUnwri
 use Rattle.mega_stored.specs.Following.{Follows}
 use Rattle.mega_stored.proofs.Writing.{Version, by_write, last_write-append}
 
+no_entry : (entry : Content) (rest : List Content) → ◌≡◌ {A = List Content} [] (entry ∷ rest) → ⊥
+no_entry entry rest is = cc
+
+first_is : (a b : Content) (xs ys : List Content) → (a ∷ xs) ≡ (b ∷ ys) → a ≡ b
+first_is a b xs ys is = cc
+
 both_none : (a b : Version) → or_else a b ≡ None → (a ≡ None) × (b ≡ None)
 both_none None b is = (refl, is)
 both_none (Some row) b is = absurd cc
 
 -- ---- keys that a log does not write
 
-unwritten_front : (key : List ℕ) (n : ℕ) (writes : List Write) → last_write key writes ≡ None → last_write key (take n writes) ≡ None
+pub unwritten_front : (key : List ℕ) (n : ℕ) (writes : List Write) → last_write key writes ≡ None → last_write key (take n writes) ≡ None
 unwritten_front key n writes none =
     (both_none (last_write key (drop n writes)) (last_write key (take n writes))
     (sym (last_write-append key (take n writes) (drop n writes)) ∙ ap (last_write key) (take-append-drop n writes) ∙ none)).1
@@ -180,3 +186,72 @@ pub newest_is : (version : Versions) (progress : GroupId → Progress) (log : Gr
 newest_is version progress log stored group key row follows own latest =
     newest (log group) (stored group) key row
     (subst (λ (versions : ℕ → Version). IsLatest versions row) (λ i n. own_version version progress log stored group key follows own n i) latest)
+
+-- ---- reads at any position
+
+-- of the next entry those are stored that the earlier ones leave
+stored_left : (log : List Content) (e stored : ℕ) (entry : Content) (rest : List Content) → drop e log ≡ entry ∷ rest → stored_at log stored (suc e) ≡ take (stored - length (writes_of (take e log))) entry.writes
+stored_left [] zero stored entry rest is = absurd (no_entry entry rest is)
+stored_left [] (suc e) stored entry rest is = absurd (no_entry entry rest is)
+stored_left (first ∷ log) zero stored entry rest is =
+    ap (λ (c : Content). take stored c.writes) (first_is first entry log rest is) ∙ ap (λ n. take n entry.writes) (let same : stored ≡ stored - 0 = omega arith in same)
+stored_left (first ∷ log) (suc e) stored entry rest is =
+    let both = length-append first.writes (writes_of (take e log)) in
+    stored_left log e (stored - length first.writes) entry rest is
+    ∙ ap (λ n. take n entry.writes) (let same : stored - length first.writes - length (writes_of (take e log)) ≡ stored - length (first.writes ++ writes_of (take e log)) = omega (arith, both) in same)
+
+no_entry_at : (log : List Content) (e stored : ℕ) → drop e log ≡ [] → stored_at log stored (suc e) ≡ []
+no_entry_at [] e stored is = refl
+no_entry_at (first ∷ log) zero stored is = absurd (no_entry first log (sym is))
+no_entry_at (first ∷ log) (suc e) stored is = no_entry_at log e (stored - length first.writes) is
+
+front_more : (log : List Content) (e : ℕ) (entry : Content) (rest : List Content) → drop e log ≡ entry ∷ rest → take (suc e) log ≡ take e log ++ entry ∷ []
+front_more [] zero entry rest is = absurd (no_entry entry rest is)
+front_more [] (suc e) entry rest is = absurd (no_entry entry rest is)
+front_more (first ∷ log) zero entry rest is = ap (λ (c : Content). c ∷ []) (first_is first entry log rest is)
+front_more (first ∷ log) (suc e) entry rest is = ap (λ (xs : List Content). first ∷ xs) (front_more log e entry rest is)
+
+front_all : (log : List Content) (e : ℕ) → drop e log ≡ [] → take (suc e) log ≡ take e log
+front_all [] zero is = refl
+front_all [] (suc e) is = refl
+front_all (first ∷ log) zero is = absurd (no_entry first log (sym is))
+front_all (first ∷ log) (suc e) is = ap (λ (xs : List Content). first ∷ xs) (front_all log e is)
+
+writes_push : (front : List Content) (entry : Content) → writes_of (front ++ entry ∷ []) ≡ writes_of front ++ entry.writes
+writes_push [] entry = append-nil entry.writes
+writes_push (first ∷ front) entry = ap (λ (ws : List Write). first.writes ++ ws) (writes_push front entry) ∙ sym (append_assoc first.writes (writes_of front) entry.writes)
+
+-- what a read sees is the last of the stored writes through its position
+through : (log : List Content) (stored : ℕ) (key : List ℕ) (p : ℕ) → version_at (version_of log stored key) p ≡ last_write key (stored_writes (take p log) stored)
+unfolding version_at
+through log stored key zero = no_zero log stored key ∙ sym (ap (λ (front : List Content). last_write key (stored_writes front stored)) (no_front log) ∙ ap (last_write key) (nothing stored))
+  where
+    nothing : (m : ℕ) → ◌≡◌ {A = List Write} (take m []) []
+    nothing zero = refl
+    nothing (suc m) = refl
+through log stored key (suc p) = by (through log stored key p) (drop p log) refl
+  where
+    by : version_at (version_of log stored key) p ≡ last_write key (stored_writes (take p log) stored) → (left : List Content) → drop p log ≡ left
+        → or_else (last_write key (stored_at log stored (suc p))) (version_at (version_of log stored key) p) ≡ last_write key (stored_writes (take (suc p) log) stored)
+    by so_far [] is =
+        ap (λ (ws : List Write). or_else (last_write key ws) (version_at (version_of log stored key) p)) (no_entry_at log p stored is)
+        ∙ so_far ∙ ap (λ (front : List Content). last_write key (stored_writes front stored)) (sym (front_all log p is))
+    by so_far (entry ∷ rest) is =
+        ap (λ (ws : List Write). or_else (last_write key ws) (version_at (version_of log stored key) p)) (stored_left log p stored entry rest is)
+        ∙ ap (or_else (last_write key (take (stored - length (writes_of (take p log))) entry.writes))) so_far
+        ∙ sym (last_write-append key (take stored (writes_of (take p log))) (take (stored - length (writes_of (take p log))) entry.writes))
+        ∙ ap (last_write key) (sym (take-append stored (writes_of (take p log)) entry.writes))
+        ∙ ap (λ (ws : List Write). last_write key (take stored ws)) (sym (writes_push (take p log) entry))
+        ∙ ap (λ (front : List Content). last_write key (stored_writes front stored)) (sym (front_more log p entry rest is))
+
+pub stored_is : (version : Versions) (progress : GroupId → Progress) (log : GroupLogs) (stored : Counts) (group : GroupId) (key : List ℕ) (p : ℕ)
+    → Follows version progress log stored → IsOwn log group key → row_at version key p ≡ written (stored_writes (take p (log group)) (stored group)) no_rows key
+stored_is version progress log stored group key p follows own =
+    ap (λ (versions : ℕ → Version). row_of (version_at versions p)) (λ i n. own_version version progress log stored group key follows own n i)
+    ∙ ap row_of (through (log group) (stored group) key p)
+    ∙ seen_alone (last_write key (stored_writes (take p (log group)) (stored group)))
+    ∙ sym (written_is (stored_writes (take p (log group)) (stored group)) no_rows key)
+  where
+    seen_alone : (last : Version) → row_of last ≡ or_row last None
+    seen_alone None = refl
+    seen_alone (Some row) = refl

@@ -3,7 +3,7 @@ ghost use Rattle.mega_base.specs.declared.names.GroupId.{GroupId};
 ghost use Rattle.mega_base.specs.declared.values.Row.{Row};
 ghost use Rattle.mega_entry.specs.declared.content.Content.{Content};
 ghost use Rattle.mega_disk.specs.VersionMaps.{IsLatest, IsScan, IsWithin, SameVersions, Versions, row_at};
-ghost use Rattle.mega_index.specs.Rows.{Listed, after, list_after, no_rows, written};
+ghost use Rattle.mega_index.specs.Rows.{Listed, after, list_after, list_written, no_rows, written};
 ghost use Rattle.mega_replica.specs.Applying.{applied, stored_writes};
 ghost use Rattle.mega_wal.specs.declared.item.JournalItem.{JournalItem};
 ghost use Rattle.mega_wal.specs.History.{decided_of, prefix_of};
@@ -41,6 +41,13 @@ pub fn reads_see_the_log()
         row_at version key p ≡ after (take p (log group)) no_rows key }
 {}
 
+/// A read at any position sees the stored writes of the entries through it.
+pub fn reads_see_what_is_stored()
+    ensures { (version : Versions) (progress : GroupId → Progress) (log : GroupLogs) (stored : Counts) (group : GroupId) (key : List ℕ) (p : ℕ) →
+        Follows version progress log stored → IsOwn log group key →
+        row_at version key p ≡ written (stored_writes (take p (log group)) (stored group)) no_rows key }
+{}
+
 /// The newest row of each such key is what all stored writes made of it.
 pub fn newest_rows_are_those_stored()
     ensures { (version : Versions) (progress : GroupId → Progress) (log : GroupLogs) (stored : Counts) (group : GroupId) (key : List ℕ) (row : Option Row) →
@@ -55,4 +62,12 @@ pub fn scans_list_the_log()
         Follows version progress log stored → ((key : List ℕ) → IsWithin from to key → IsOwn log group key) →
         ((key : List ℕ) → IsWithin from to key ⊎ IsUnwritten key (log group)) → p ≤ applied (log group) (stored group) →
         IsScan version from to p rows → rows ≡ list_after (take p (log group)) [] }
+{}
+
+/// A scan of such a range at any position gives what the stored writes of the entries through it made of no rows.
+pub fn scans_list_what_is_stored()
+    ensures { (version : Versions) (progress : GroupId → Progress) (log : GroupLogs) (stored : Counts) (group : GroupId) (from to : List ℕ) (p : ℕ) (rows : Listed) →
+        Follows version progress log stored → ((key : List ℕ) → IsWithin from to key → IsOwn log group key) →
+        ((key : List ℕ) → IsWithin from to key ⊎ IsUnwritten key (log group)) →
+        IsScan version from to p rows → rows ≡ list_written (stored_writes (take p (log group)) (stored group)) [] }
 {}
