@@ -1,15 +1,14 @@
 -- Rows that follow logs follow longer ones.
-use Rattle.std.proofs.Common.{◌≡◌, ℕ, zero, suc, ◌+◌, ◌-◌, ◌<◌, ◌≤◌, List, [], ◌∷◌, ◌++◌, length, take, drop, Option, None, refl, sym, ap, ◌∙◌, subst, arith}
-use Rattle.std.specs.Prelude.{◌≢◌}
+use Rattle.std.proofs.Common.{◌≡◌, ℕ, zero, suc, ◌+◌, ◌-◌, ◌≤◌, List, [], ◌∷◌, ◌++◌, length, take, drop, refl, sym, ap, ◌∙◌, subst, arith}
 use Rattle.std.specs.List.{sum_by}
-use Rattle.std.proofs.lemmas.List.{take_all, take-append-le, drop-append-le, length-append}
+use Rattle.std.proofs.lemmas.List.{take-append-le, drop-append-le, length-append}
 use Rattle.mega_base.specs.declared.names.GroupId.{GroupId}
 use Rattle.mega_entry.specs.declared.content.Write.{Write}
 use Rattle.mega_entry.specs.declared.content.Content.{Content}
 use Rattle.mega_disk.specs.VersionMaps.{SameVersions, Versions}
 use Rattle.mega_replica.specs.Applying.{writes_of}
 use Rattle.mega_stored.specs.declared.progress.Progress.{Progress}
-use Rattle.mega_stored.specs.Stored.{Counts, GroupLogs, Tells, last_write, stored_at, version_of}
+use Rattle.mega_stored.specs.Stored.{Counts, GroupLogs, last_write, stored_at, version_of}
 use Rattle.mega_stored.specs.Following.{Follows, IsPlace, count_of, first_writes}
 use Rattle.mega_stored.proofs.Places.{place_total}
 use Rattle.mega_stored.proofs.Telling.{tells_same}

@@ -1,5 +1,5 @@
 -- The next entry of a decided prefix, of which some writes more are stored.
-use Rattle.std.proofs.Common.{◌≡◌, ℕ, ◌+◌, ◌<◌, ◌≤◌, max, List, ◌∷◌, length, drop, Option, Some, sym, ap, ◌∙◌, subst, arith}
+use Rattle.std.proofs.Common.{◌≡◌, ℕ, ◌+◌, ◌<◌, ◌≤◌, max, List, ◌∷◌, length, drop, Some, sym, subst}
 use Rattle.mega_base.specs.declared.names.GroupId.{GroupId}
 use Rattle.mega_entry.specs.declared.content.Write.{Write}
 use Rattle.mega_entry.specs.declared.content.Content.{Content}
@@ -9,7 +9,7 @@ use Rattle.mega_wal.specs.declared.item.JournalItem.{JournalItem}
 use Rattle.mega_wal.specs.History.{decided_of, prefix_of}
 use Rattle.mega_stored.specs.declared.progress.Progress.{Progress}
 use Rattle.mega_stored.specs.Stored.{Counts, GroupLogs, Tells, log_in, stored_with}
-use Rattle.mega_stored.specs.Following.{Stands, count_of}
+use Rattle.mega_stored.specs.Following.{Stands}
 use Rattle.mega_stored.proofs.Entries.{next_is, rest_in}
 use Rattle.mega_stored.proofs.Steps.{count_passed, count_read, stands_passed, stands_within}
 

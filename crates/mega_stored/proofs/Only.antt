@@ -1,7 +1,5 @@
 -- One put after another.
-use Rattle.std.proofs.Common.{◌≡◌, ◌∙◌, refl, subst, ℕ, ap, sym}
-use Rattle.mega_disk.specs.VersionMaps.{Stored}
-use Rattle.mega_disk.specs.Images.{SameImages}
+use Rattle.std.proofs.Common.{◌∙◌, refl}
 use Rattle.mega_disk.specs.declared.versions.Versions.{Ghosts}
 use Rattle.mega_stored.specs.Puts.{OnlyPuts}
 

@@ -1,6 +1,5 @@
 -- What reads see of versions that follow a log.
-use Rattle.std.proofs.Common.{◌≡◌, ◌⊎◌, inl, inr, ⊎_elim, ℕ, zero, suc, ◌+◌, ◌-◌, ◌<◌, ◌≤◌, Bool, true, false, cond, List, [], ◌∷◌, ◌++◌, length, get_or, take, drop, Option, Some, None, refl, sym, ap, ◌∙◌, subst, arith, nat_le}
-use Rattle.std.specs.Prelude.{◌≢◌, fold}
+use Rattle.std.proofs.Common.{◌≡◌, ⊎_elim, ℕ, zero, suc, ◌+◌, ◌-◌, ◌<◌, ◌≤◌, Bool, true, false, cond, List, [], ◌∷◌, ◌++◌, length, take, drop, Option, Some, None, refl, sym, ap, ◌∙◌, subst, arith, nat_le}
 use Rattle.std.proofs.lemmas.List.{append-nil, append_assoc, take_all, take-append-drop, length-append}
 use Rattle.std.proofs.lemmas.Bool.Decides.{nat_tests}
 use Rattle.mega_base.specs.declared.values.Row.{Row}
@@ -11,9 +10,9 @@ use Rattle.mega_disk.specs.VersionMaps.{IsLatest, Versions, or_else, row_at, row
 use Rattle.mega_index.specs.Rows.{Rows, after, changed, no_rows, same_key, written}
 use Rattle.mega_replica.specs.Applying.{applied, stored_writes, writes_of}
 use Rattle.mega_stored.specs.declared.progress.Progress.{Progress}
-use Rattle.mega_stored.specs.Stored.{Counts, GroupLogs, IsOnlyOf, IsOwn, IsUnwritten, last_write, stored_at, version_of}
+use Rattle.mega_stored.specs.Stored.{Counts, GroupLogs, IsOwn, IsUnwritten, last_write, stored_at, version_of}
 use Rattle.mega_stored.specs.Following.{Follows}
-use Rattle.mega_stored.proofs.Writing.{Version, by_write, last_write-append}
+use Rattle.mega_stored.proofs.Writing.{Version, last_write-append}
 
 no_entry : (entry : Content) (rest : List Content) → ◌≡◌ {A = List Content} [] (entry ∷ rest) → ⊥
 no_entry entry rest is = cc

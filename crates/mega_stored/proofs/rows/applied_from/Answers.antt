@@ -1,4 +1,4 @@
-use Rattle.std.proofs.Common.{◌≡◌, ◌∙◌, ◌+◌, ◌-◌, ◌<◌, ◌≤◌, ap, arith, drop, length, refl, subst, sym, ℕ, List, []}
+use Rattle.std.proofs.Common.{◌≡◌, ◌∙◌, ◌+◌, ◌-◌, ◌≤◌, ap, arith, drop, length, refl, sym, ℕ, List, []}
 use Rattle.mega_entry.specs.declared.content.Content.{Content}
 use Rattle.mega_replica.specs.Applying.{applied}
 use Rattle.mega_stored.specs.declared.progress.Progress.{Progress}

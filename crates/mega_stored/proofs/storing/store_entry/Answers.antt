@@ -1,4 +1,4 @@
-use Rattle.std.proofs.Common.{◌≡◌, ◌+◌, ap, arith, get_or, subst, sym}
+use Rattle.std.proofs.Common.{◌≡◌, ◌+◌, arith, get_or, subst, sym}
 use Rattle.mega_replica.specs.Applying.{writes_through}
 use Rattle.mega_stored.specs.Stored.{stored_with}
 use Rattle.mega_stored.proofs.Only.{only_then}

@@ -1,6 +1,5 @@
-use Rattle.std.proofs.Common.{◌≡◌, ◌+◌, ◌<◌, ◌≤◌, ap, arith, inl, inr, sym, ◌∙◌, ⊎_elim, ℕ}
+use Rattle.std.proofs.Common.{◌≡◌, ap, arith, inl, inr, sym, ◌∙◌, ⊎_elim}
 use Rattle.mega_entry.specs.declared.content.Content.{Content}
-use Rattle.mega_wal.specs.History.{prefix_of}
 use Rattle.mega_stored.specs.Following.{count_of}
 use Rattle.mega_stored.proofs.Entries.{next_none, past_end}
 use Rattle.mega_stored.proofs.Next.{next_all, next_count, next_some}

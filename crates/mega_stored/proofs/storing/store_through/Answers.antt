@@ -1,4 +1,4 @@
-use Rattle.std.proofs.Common.{◌≡◌, ◌+◌, ◌<◌, ◌≤◌, ap, arith, inl, inr, length, max, sym, ◌∙◌, ⊎_elim, ℕ}
+use Rattle.std.proofs.Common.{◌≡◌, ◌+◌, ◌≤◌, ap, arith, inl, inr, length, max, sym, ◌∙◌, ⊎_elim}
 use Rattle.std.proofs.lemmas.Bool.{cases_lt}
 use Rattle.mega_entry.specs.declared.content.Content.{Content}
 use Rattle.mega_replica.specs.Applying.{writes_through}

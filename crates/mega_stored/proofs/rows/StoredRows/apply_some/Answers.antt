@@ -1,11 +1,7 @@
-use Rattle.std.proofs.Common.{◌≡◌, ◌∙◌, ◌+◌, ◌≤◌, ap, arith, cond, length, refl, min, max, subst, sym, ℕ, List}
+use Rattle.std.proofs.Common.{◌≡◌, ◌∙◌, ◌+◌, ◌≤◌, ap, arith, length, refl, min, subst, ℕ}
 use Rattle.std.proofs.lemmas.Result.{on_ok_weaker}
-use Rattle.mega_base.specs.declared.names.GroupId.{GroupId}
-use Rattle.mega_entry.specs.declared.content.Content.{Content}
-use Rattle.mega_replica.specs.Applying.{after_portion, writes_of, writes_through}
-use Rattle.mega_wal.specs.Kept.{is_group}
+use Rattle.mega_replica.specs.Applying.{after_portion, writes_of}
 use Rattle.mega_wal.proofs.Placed.{on_err}
-use Rattle.mega_stored.specs.declared.progress.Progress.{Progress}
 use Rattle.mega_stored.specs.Following.{count_of, progress_at}
 use Rattle.mega_stored.proofs.Joined.{count_before, follows_on, follows_still, stands_before, stored_total}
 use Rattle.mega_stored.proofs.rows.StoredRows.apply_some.Goals as goal
