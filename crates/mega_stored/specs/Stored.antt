@@ -11,7 +11,7 @@ use Rattle.mega_wal.specs.declared.item.JournalItem.{JournalItem}
 use Rattle.mega_wal.specs.History.{decided_of, prefix_of}
 use Rattle.mega_wal.specs.Same.{same_group}
 
--- the entries at these positions, up to the first that has none
+-- the entries from a position on, at most so many, up to the first position that has none
 abbrev pub then_more : Option Content → List Content → List Content
 then_more None more = []
 then_more (Some entry) more = entry ∷ more
@@ -47,7 +47,7 @@ stored_at (entry ∷ log) stored zero = []
 stored_at (entry ∷ log) stored (suc zero) = take stored entry.writes
 stored_at (entry ∷ log) stored (suc (suc n)) = stored_at log (stored - length entry.writes) (suc n)
 
--- what is there of a key at a position where so many writes are stored
+-- what is there of a key at a position where so many writes are stored: the row of the last of them that writes it there
 abbrev pub version_of : List Content → ℕ → List ℕ → ℕ → Option (Option Row)
 version_of log stored key n = last_write key (stored_at log stored n)
 
@@ -55,7 +55,7 @@ version_of log stored key n = last_write key (stored_at log stored n)
 abbrev pub IsOnlyOf : GroupLogs → Counts → GroupId → List ℕ → Type 0
 IsOnlyOf log stored group key = (other : GroupId) → other ≢ group → (n : ℕ) → version_of (log other) (stored other) key n ≡ None
 
--- of each key that no other group has the versions are those of the group's writes that are stored
+-- a key that no other group has a version of has the versions of this group's stored writes, and no others
 abbrev pub Tells : Versions → GroupLogs → Counts → Type 0
 Tells version log stored = (group : GroupId) (key : List ℕ) → IsOnlyOf log stored group key → (n : ℕ) → version key n ≡ version_of (log group) (stored group) key n
 

@@ -29,7 +29,8 @@ impl<V: Versions> StoredRows<V> {
     /// Nothing is stored yet, where the rows have no versions.
     pub fn new(alloc: Global, rows: V) -> StoredRows<V>
         ensures rows { result.rows ≡ rows }
-        ensures follows { (log : Group → List Content) → ((key : List ℕ) (n : ℕ) → V.version rows key n ≡ None) → Follows (V.version result.rows) (progress_at result.progress) log (λ _. 0) }
+        ensures follows { (log : Group → List Content) → ((key : List ℕ) (n : ℕ) → V.version rows key n ≡ None) →
+            Follows (V.version result.rows) (progress_at result.progress) log (λ _. 0) }
     {
         StoredRows {
             rows,
@@ -46,8 +47,15 @@ impl<V: Versions> StoredRows<V> {
         logs: &Logs<R>,
         most: u64,
     ) -> Result<(), StoreError>
-        ensures follows { OnOk result ((items : List Item) (log : Group → List Content) (stored : Group → ℕ) → Represents logs.now.kept items → log group.now ≡ log_in items group.now → Follows (V.version self.old.rows) (progress_at self.old.progress) log stored → Follows (V.version self.new.rows) (progress_at self.new.progress) log (stored_with stored group.now (after_portion most (log group.now) (stored group.now)))) }
-        ensures left { OnErr result ((items : List Item) (log : Group → List Content) (stored : Group → ℕ) → Represents logs.now.kept items → log group.now ≡ log_in items group.now → Follows (V.version self.old.rows) (progress_at self.old.progress) log stored → (count : ℕ) × (stored group.now ≤ count) × (count ≤ after_portion most (log group.now) (stored group.now)) × Follows (V.version self.new.rows) (progress_at self.new.progress) log (stored_with stored group.now count)) }
+        ensures follows { OnOk result ((items : List Item) (log : Group → List Content) (stored : Group → ℕ) →
+            Represents logs.now.kept items → log group.now ≡ log_in items group.now →
+            Follows (V.version self.old.rows) (progress_at self.old.progress) log stored →
+            Follows (V.version self.new.rows) (progress_at self.new.progress) log (stored_with stored group.now (after_portion most (log group.now) (stored group.now)))) }
+        ensures left { OnErr result ((items : List Item) (log : Group → List Content) (stored : Group → ℕ) →
+            Represents logs.now.kept items → log group.now ≡ log_in items group.now →
+            Follows (V.version self.old.rows) (progress_at self.old.progress) log stored →
+            (count : ℕ) × (stored group.now ≤ count) × (count ≤ after_portion most (log group.now) (stored group.now))
+            × Follows (V.version self.new.rows) (progress_at self.new.progress) log (stored_with stored group.now count)) }
         ensures memory { OnErr result (result ≡ Err StoreError.NoMemory) }
         ensures only { OnlyPuts V.Versions self.old.rows self.new.rows }
     {
@@ -67,8 +75,16 @@ impl<V: Versions> StoredRows<V> {
         logs: &Logs<R>,
         position: Position,
     ) -> Result<(), StoreError>
-        ensures follows { OnOk result ((items : List Item) (log : Group → List Content) (stored : Group → ℕ) → Represents logs.now.kept items → log group.now ≡ log_in items group.now → Follows (V.version self.old.rows) (progress_at self.old.progress) log stored → Follows (V.version self.new.rows) (progress_at self.new.progress) log (stored_with stored group.now (after_read position.0 (log group.now) (stored group.now)))) }
-        ensures left { OnErr result ((items : List Item) (log : Group → List Content) (stored : Group → ℕ) → Represents logs.now.kept items → log group.now ≡ log_in items group.now → Follows (V.version self.old.rows) (progress_at self.old.progress) log stored → (count : ℕ) × (stored group.now ≤ count) × (count ≤ after_read position.0 (log group.now) (stored group.now)) × Follows (V.version self.new.rows) (progress_at self.new.progress) log (stored_with stored group.now count)) }
+        ensures follows { OnOk result ((items : List Item) (log : Group → List Content) (stored : Group → ℕ) →
+            Represents logs.now.kept items → log group.now ≡ log_in items group.now →
+            Follows (V.version self.old.rows) (progress_at self.old.progress) log stored →
+            Follows (V.version self.new.rows) (progress_at self.new.progress) log (stored_with stored group.now (after_read position.0 (log group.now) (stored group.now)))) }
+        ensures left { OnErr result ((items : List Item) (log : Group → List Content) (stored : Group → ℕ) →
+            Represents logs.now.kept items → log group.now ≡ log_in items group.now →
+            Follows (V.version self.old.rows) (progress_at self.old.progress) log stored →
+            (count : ℕ) × (stored group.now ≤ count)
+            × (count ≤ after_read position.0 (log group.now) (stored group.now))
+            × Follows (V.version self.new.rows) (progress_at self.new.progress) log (stored_with stored group.now count)) }
         ensures memory { OnErr result (result ≡ Err StoreError.NoMemory) }
         ensures only { OnlyPuts V.Versions self.old.rows self.new.rows }
     {
@@ -81,7 +97,10 @@ impl<V: Versions> StoredRows<V> {
 
     /// How many first entries of a group's decided prefix have all their writes stored.
     pub fn applied<R: Records>(&self, group: &GroupId, logs: &Logs<R>) -> Position
-        ensures { (items : List Item) (log : Group → List Content) (stored : Group → ℕ) → Represents logs.now.kept items → log group.now ≡ log_in items group.now → Follows (V.version self.now.rows) (progress_at self.now.progress) log stored → result.0 ≡ applied (log group.now) (stored group.now) }
+        ensures { (items : List Item) (log : Group → List Content) (stored : Group → ℕ) →
+            Represents logs.now.kept items → log group.now ≡ log_in items group.now →
+            Follows (V.version self.now.rows) (progress_at self.now.progress) log stored →
+            result.0 ≡ applied (log group.now) (stored group.now) }
     {
         applied_from(progress_of(&self.progress, group), group, logs)
     }
@@ -90,7 +109,8 @@ impl<V: Versions> StoredRows<V> {
 /// How many first entries have all their writes stored, where a group is this far: those that are passed, and of the
 /// next ones those that have no more writes.
 fn applied_from<R: Records>(progress: Progress, group: &GroupId, logs: &Logs<R>) -> Position
-    ensures { (items : List Item) → Represents logs.now.kept items → IsPlace progress (log_in items group.now) → result.0 ≡ applied (log_in items group.now) (count_of progress (log_in items group.now)) }
+    ensures { (items : List Item) → Represents logs.now.kept items → IsPlace progress (log_in items group.now) →
+        result.0 ≡ applied (log_in items group.now) (count_of progress (log_in items group.now)) }
 {
     let prefix = logs.prefix(group).0;
     let mut left = progress.writes;

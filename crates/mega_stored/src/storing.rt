@@ -53,7 +53,10 @@ fn store_entry<V: Versions>(
     most: u64,
 ) -> Result<u64, StoreError>
     requires { entries + 1 < 2 ^ 64 }
-    ensures tells { (group : Group) (log : GroupLogs) (counts : Counts) (entry : Content) (rest : List Content) → drop entries (log group) ≡ entry ∷ rest → entry.writes ≡ writes.now → Tells (V.version rows.old) log (stored_with counts group (writes_through entries (log group) + stored.old)) → Tells (V.version rows.new) log (stored_with counts group (writes_through entries (log group) + stored.new)) }
+    ensures tells { (group : Group) (log : GroupLogs) (counts : Counts) (entry : Content) (rest : List Content) →
+        drop entries (log group) ≡ entry ∷ rest → entry.writes ≡ writes.now →
+        Tells (V.version rows.old) log (stored_with counts group (writes_through entries (log group) + stored.old)) →
+        Tells (V.version rows.new) log (stored_with counts group (writes_through entries (log group) + stored.new)) }
     ensures sum { IfOk result (λ left. stored.new + left ≡ stored.old + most) }
     ensures all { IfOk result (λ left. (left ≡ 0) ⊎ (length writes.now ≤ stored.new)) }
     ensures within { stored.new ≤ max stored.old (length writes.now) }
@@ -83,8 +86,15 @@ pub fn store_some<V: Versions, R: Records>(
     logs: &Logs<R>,
     most: u64,
 ) -> Result<(), StoreError>
-    ensures stands { (items : List Item) (log : GroupLogs) (counts : Counts) → Represents logs.now.kept items → log group.now ≡ log_in items group.now → Stands (V.version rows.old) group.now progress.old log counts → Stands (V.version rows.new) group.now progress.new log counts × (count_of progress.old (log group.now) ≤ count_of progress.new (log group.now)) × (count_of progress.new (log group.now) ≤ after_portion most (log group.now) (count_of progress.old (log group.now))) }
-    ensures all { OnOk result ((items : List Item) (log : GroupLogs) (counts : Counts) → Represents logs.now.kept items → log group.now ≡ log_in items group.now → Stands (V.version rows.old) group.now progress.old log counts → count_of progress.new (log group.now) ≡ after_portion most (log group.now) (count_of progress.old (log group.now))) }
+    ensures stands { (items : List Item) (log : GroupLogs) (counts : Counts) → Represents logs.now.kept items →
+        log group.now ≡ log_in items group.now → Stands (V.version rows.old) group.now progress.old log counts →
+        Stands (V.version rows.new) group.now progress.new log counts
+        × (count_of progress.old (log group.now) ≤ count_of progress.new (log group.now))
+        × (count_of progress.new (log group.now) ≤ after_portion most (log group.now) (count_of progress.old (log group.now))) }
+    ensures all { OnOk result ((items : List Item) (log : GroupLogs) (counts : Counts) →
+        Represents logs.now.kept items → log group.now ≡ log_in items group.now →
+        Stands (V.version rows.old) group.now progress.old log counts →
+        count_of progress.new (log group.now) ≡ after_portion most (log group.now) (count_of progress.old (log group.now))) }
     ensures memory { OnErr result (result ≡ Err StoreError.NoMemory) }
     ensures only { OnlyPuts V.Versions rows.old rows.new }
 {
@@ -122,8 +132,15 @@ pub fn store_through<V: Versions, R: Records>(
     logs: &Logs<R>,
     position: Position,
 ) -> Result<(), StoreError>
-    ensures stands { (items : List Item) (log : GroupLogs) (counts : Counts) → Represents logs.now.kept items → log group.now ≡ log_in items group.now → Stands (V.version rows.old) group.now progress.old log counts → Stands (V.version rows.new) group.now progress.new log counts × (count_of progress.old (log group.now) ≤ count_of progress.new (log group.now)) × (count_of progress.new (log group.now) ≤ after_read position.0 (log group.now) (count_of progress.old (log group.now))) }
-    ensures all { OnOk result ((items : List Item) (log : GroupLogs) (counts : Counts) → Represents logs.now.kept items → log group.now ≡ log_in items group.now → Stands (V.version rows.old) group.now progress.old log counts → count_of progress.new (log group.now) ≡ after_read position.0 (log group.now) (count_of progress.old (log group.now))) }
+    ensures stands { (items : List Item) (log : GroupLogs) (counts : Counts) → Represents logs.now.kept items →
+        log group.now ≡ log_in items group.now → Stands (V.version rows.old) group.now progress.old log counts →
+        Stands (V.version rows.new) group.now progress.new log counts
+        × (count_of progress.old (log group.now) ≤ count_of progress.new (log group.now))
+        × (count_of progress.new (log group.now) ≤ after_read position.0 (log group.now) (count_of progress.old (log group.now))) }
+    ensures all { OnOk result ((items : List Item) (log : GroupLogs) (counts : Counts) →
+        Represents logs.now.kept items → log group.now ≡ log_in items group.now →
+        Stands (V.version rows.old) group.now progress.old log counts →
+        count_of progress.new (log group.now) ≡ after_read position.0 (log group.now) (count_of progress.old (log group.now))) }
     ensures memory { OnErr result (result ≡ Err StoreError.NoMemory) }
     ensures only { OnlyPuts V.Versions rows.old rows.new }
 {
