@@ -33,6 +33,12 @@ pub fn rows_follow_longer_logs()
         Follows version progress log stored → Follows version progress longer stored }
 {}
 
+/// Rows that follow the decided prefixes of a history follow those of the history with one item more.
+pub fn rows_follow_as_histories_go_on()
+    ensures { (version : Versions) (progress : GroupId → Progress) (item : JournalItem) (items : List JournalItem) (stored : Counts) →
+        Follows version progress (log_in items) stored → Follows version progress (log_in (item ∷ items)) stored }
+{}
+
 /// A read at a position that is applied sees what the entries through it wrote, of each key that only entries of this
 /// group write.
 pub fn reads_see_the_log()
