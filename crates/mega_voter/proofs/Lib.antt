@@ -5,3 +5,4 @@ pub mod Grouped
 pub mod Answered
 pub mod Told
 pub mod Replied
+pub mod Opened

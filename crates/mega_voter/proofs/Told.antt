@@ -1,5 +1,5 @@
 -- What is kept tells what was met: what its readers say, and one thing more that was met.
-use Rattle.std.proofs.Common.{◌≡◌, ◌↔◌, ℕ, ◌+◌, ◌<◌, min, Bool, true, false, cond, List, [], ◌∷◌, ◌++◌, Option, Some, None, is_none, All, refl, sym, ap, subst, ◌∙◌, arith}
+use Rattle.std.proofs.Common.{◌≡◌, ◌↔◌, ℕ, ◌+◌, ◌-◌, ◌<◌, ◌≤◌, min, Bool, true, false, cond, List, [], ◌∷◌, ◌++◌, Option, Some, None, is_none, All, refl, sym, ap, subst, ◌∙◌, arith}
 use Rattle.std.specs.List.{cons_option}
 use Rattle.std.proofs.lemmas.List.Elements.{All-cons, All-nil}
 use Rattle.mega_base.specs.declared.names.Epoch.{Epoch}
@@ -18,7 +18,7 @@ use Rattle.mega_wal.specs.declared.answers.Promised.TheVariants as promise
 use Rattle.mega_wal.specs.declared.answers.Voted.{Voted as AcceptAnswer}
 use Rattle.mega_wal.specs.declared.answers.Voted.TheVariants as vote
 use Rattle.mega_wal.specs.declared.item.JournalItem.{JournalItem}
-use Rattle.mega_wal.specs.declared.item.JournalItem.TheVariants.{Start, Promise, Accept, Decide, Grant, Lapse}
+use Rattle.mega_wal.specs.declared.item.JournalItem.TheVariants.{Start, Promise, Accept, Decide, Grant, Lapse, Starts as Counted}
 use Rattle.mega_wal.specs.declared.kept.Kept.{Kept}
 use Rattle.mega_wal.specs.Acceptor.{Vote, accept_answer, best, promise_answer, shown}
 use Rattle.mega_wal.specs.History.{AreDecided, Granted, acts_of, by_accept, by_decide, by_promise, decided_of, granted_of, newest_of as kept_newest, prefix_of as kept_prefix, starts_at_most, starts_of, top_of as kept_top}
@@ -105,6 +105,14 @@ no_start (PromiseBody op group position ballot report) items = refl
 no_start (Accepted op group position ballot entry) items = refl
 no_start _ items = refl
 
+-- a start, as one more start that is counted
+started : (kept : Kept) (items : List JournalItem) (one : ℕ) → one ≡ 1 → Represents kept (Start ∷ items) → Represents kept (Counted one ∷ items)
+started kept items one is told = record {
+  groups = record { slots = told.groups.slots; marks = told.groups.marks };
+  granted = told.granted;
+  starts = told.starts ∙ ap (λ n. starts_at_most (starts_of items + n)) (sym is);
+}
+
 pub begun_told : (old new : Kept) → old.starts < 4294967295 → ((items : List JournalItem) → Represents old items → Represents new (Start ∷ items))
     → (met : List Met) → Tells old met → Tells new (Starts (start_of met + 1) ∷ met)
 begun_told old new few notes met told =
@@ -112,13 +120,19 @@ begun_told old new few notes met told =
     let counted : starts_of (journal_of met) ≡ start_of met = sym told.journal.starts ∙ told.start in
     let below : start_of met < 4294967295 = subst (λ n. n < 4294967295) told.start few in
     record {
-      journal = after;
-      honest = (tt, told.honest);
+      journal = started new (journal_of met) (start_of met + 1 - start_of met) (one_more (start_of met)) after;
+      honest = (no_lower (start_of met), told.honest);
       start = after.starts ∙ (ap (λ n. min (n + 1) 4294967295) counted ∙ least (start_of met) below);
     }
   where
     least : (n : ℕ) → n < 4294967295 → min (n + 1) 4294967295 ≡ n + 1
     least n lt = omega arith
+
+    one_more : (n : ℕ) → n + 1 - n ≡ 1
+    one_more n = omega arith
+
+    no_lower : (n : ℕ) → n ≤ n + 1
+    no_lower n = omega arith
 
 pub granting_told : (old new : Kept) (node : NodeId) (epoch : Epoch) → ((items : List JournalItem) → Represents old items → Represents new (Grant node epoch ∷ items))
     → (met : List Met) → Tells old met → Tells new (Grants node.0 epoch ∷ met)
@@ -143,20 +157,21 @@ silent_honest : (met : List Met) (body : Body) → item_in body ≡ None → IsH
 silent_honest met (PromiseBody op group position ballot report) none = absurd (cc)
 silent_honest met _ none = tt
 
-silent_follows : (met : List Met) (one : Met) → item_of one ≡ None → MayFollow met one
+silent_follows : (met : List Met) (one : Met) → item_of met one ≡ None → MayFollow met one
+silent_follows met (Starts start) none = absurd (cc)
 silent_follows met (Sends message) none = silent_honest met message.body none
 silent_follows met (Unsends message) none = silent_honest met message.body none
 silent_follows met (Decides group position entry) none = absurd (cc)
 silent_follows met _ none = tt
 
-silent_start : (met : List Met) (one : Met) → item_of one ≡ None → start_of (one ∷ met) ≡ start_of met
+silent_start : (met : List Met) (one : Met) → item_of met one ≡ None → start_of (one ∷ met) ≡ start_of met
 silent_start met (Starts start) none = absurd (cc)
 silent_start met _ none = refl
 
-silent_journal : (met : List Met) (one : Met) → item_of one ≡ None → journal_of (one ∷ met) ≡ journal_of met
+silent_journal : (met : List Met) (one : Met) → item_of met one ≡ None → journal_of (one ∷ met) ≡ journal_of met
 silent_journal met one none = ap (λ item. cons_option item (journal_of met)) none
 
-pub silent_told : (kept : Kept) (met : List Met) (one : Met) → item_of one ≡ None → Tells kept met ↔ Tells kept (one ∷ met)
+pub silent_told : (kept : Kept) (met : List Met) (one : Met) → item_of met one ≡ None → Tells kept met ↔ Tells kept (one ∷ met)
 silent_told kept met one none = (more, less)
   where
     more : Tells kept met → Tells kept (one ∷ met)

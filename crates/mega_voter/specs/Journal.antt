@@ -1,10 +1,12 @@
 -- What a voter's journal holds of what its node met.
-use Rattle.std.specs.Prelude.{List, filter_map, option_to_list, Option, Some, None}
+use Rattle.std.specs.Prelude.{◌-◌, List, [], ◌∷◌, option_to_list, Option, Some, None}
+use Rattle.std.specs.List.{cons_option}
 use Rattle.mega_wire.specs.declared.message.Body.{Body}
 use Rattle.mega_wire.specs.declared.message.Body.TheVariants.{Accepted, Promise as PromiseBody}
 use Rattle.mega_wal.specs.declared.item.JournalItem.{JournalItem}
-use Rattle.mega_wal.specs.declared.item.JournalItem.TheVariants.{Start, Promise, Accept, Decide, Grant, Lapse}
+use Rattle.mega_wal.specs.declared.item.JournalItem.TheVariants.{Start, Promise, Accept, Decide, Grant, Lapse, Starts as Counted}
 use Rattle.mega_rules.specs.Met.{Met, Starts, Sends, Unsends, Grants, Lapses, Decides}
+use Rattle.mega_rules.specs.Clock.{start_of}
 
 -- the promise or the vote that a message tells of its sender
 abbrev pub item_in : Body → Option JournalItem
@@ -15,15 +17,24 @@ item_in _ = None
 abbrev pub items_in : Body → List JournalItem
 items_in body = option_to_list (item_in body)
 
--- starts, grants, lapses and decisions are kept, and the promises and votes that were sent, or that a crash left unsent
-abbrev pub item_of : Met → Option JournalItem
-item_of (Starts start) = Some Start
-item_of (Sends message) = item_in message.body
-item_of (Unsends message) = item_in message.body
-item_of (Grants node epoch) = Some (Grant (record { 0 = node }) epoch)
-item_of (Lapses node epoch) = Some (Lapse (record { 0 = node }) epoch)
-item_of (Decides group position entry) = Some (Decide group (record { 0 = position }) entry)
-item_of _ = None
+-- grants, lapses and decisions are kept, the promises and votes that were sent or that a crash left unsent, and how
+-- many starts there were since the one before
+abbrev pub item_of : List Met → Met → Option JournalItem
+item_of before (Starts start) = Some (Counted (start - start_of before))
+item_of before (Sends message) = item_in message.body
+item_of before (Unsends message) = item_in message.body
+item_of before (Grants node epoch) = Some (Grant (record { 0 = node }) epoch)
+item_of before (Lapses node epoch) = Some (Lapse (record { 0 = node }) epoch)
+item_of before (Decides group position entry) = Some (Decide group (record { 0 = position }) entry)
+item_of before _ = None
 
 abbrev pub journal_of : List Met → List JournalItem
-journal_of met = filter_map item_of met
+journal_of [] = []
+journal_of (one ∷ before) = cons_option (item_of before one) (journal_of before)
+
+-- what a journal says but of starts
+abbrev pub without_starts : List JournalItem → List JournalItem
+without_starts [] = []
+without_starts (Start ∷ before) = without_starts before
+without_starts (Counted starts ∷ before) = without_starts before
+without_starts (item ∷ before) = item ∷ without_starts before

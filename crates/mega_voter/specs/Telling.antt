@@ -1,11 +1,11 @@
 -- When what a voter keeps tells what its node met.
-use Rattle.std.specs.Prelude.{◌≡◌, ◌<◌, List, [], ◌∷◌}
+use Rattle.std.specs.Prelude.{◌≡◌, ◌<◌, ◌≤◌, List, [], ◌∷◌}
 use Rattle.mega_wire.specs.declared.message.Body.{Body}
 use Rattle.mega_wire.specs.declared.message.Body.TheVariants.{Accepted, Promise}
 use Rattle.mega_wal.specs.declared.kept.Kept.{Kept}
 use Rattle.mega_wal.specs.Acceptor.{best}
 use Rattle.mega_wal.specs.Kept.{Represents}
-use Rattle.mega_rules.specs.Met.{Met, Sends, Unsends, Decides}
+use Rattle.mega_rules.specs.Met.{Met, Starts, Sends, Unsends, Decides}
 use Rattle.mega_rules.specs.Clock.{start_of}
 use Rattle.mega_rules.specs.Voting.{acts, prepared, voted}
 use Rattle.mega_voter.specs.Journal.{journal_of}
@@ -15,8 +15,9 @@ abbrev pub IsHonest : List Met → Body → Type 0
 IsHonest before (Promise op group position ballot report) = report ≡ best (acts before group position.0)
 IsHonest before _ = Unit {0}
 
--- what may come next: a message that is honest, and a decision at a position from 1 on
+-- what may come next: a start of no lower number, a message that is honest, and a decision at a position from 1 on
 abbrev pub MayFollow : List Met → Met → Type 0
+MayFollow before (Starts start) = start_of before ≤ start
 MayFollow before (Sends message) = IsHonest before message.body
 MayFollow before (Unsends message) = IsHonest before message.body
 MayFollow before (Decides group position entry) = 0 < position

@@ -13,17 +13,18 @@ ghost use Rattle.mega_wal.specs.declared.item.JournalItem.{JournalItem as Item};
 ghost use Rattle.mega_wal.specs.declared.kept.Kept.{Kept};
 ghost use Rattle.mega_wal.specs.Items.{IsItem};
 ghost use Rattle.mega_wal.specs.Kept.{Represents};
+ghost use Rattle.mega_rules.specs.Clock.{start_of};
 ghost use Rattle.mega_rules.specs.Logs.{decided, log_of, prefix_of};
 ghost use Rattle.mega_rules.specs.Met.{Met, Sends, Unsends};
 ghost use Rattle.mega_rules.specs.Voting.{acts, prepared, voted};
-ghost use Rattle.mega_voter.specs.Journal.{item_of, items_in};
-ghost use Rattle.mega_voter.specs.Telling.{IsAnswer, IsHonest, Tells};
+ghost use Rattle.mega_voter.specs.Journal.{item_of, items_in, journal_of, without_starts};
+ghost use Rattle.mega_voter.specs.Telling.{AreHonest, IsAnswer, IsHonest, Tells};
 
 /// What is of no journal kind, as a tick, a crash, or a message that is neither a promise nor a vote, leaves what is
 /// told.
 #[tactic(auto, using(crate::proofs::Told::silent_told))]
 pub fn other_things_leave_what_is_told()
-    ensures { (kept : Kept) (met : List Met) (one : Met) → item_of one ≡ None → Tells kept met ↔ Tells kept (one ∷ met) }
+    ensures { (kept : Kept) (met : List Met) (one : Met) → item_of met one ≡ None → Tells kept met ↔ Tells kept (one ∷ met) }
 {}
 
 /// A message that a crash left unsent is kept as one that was sent is.
@@ -36,6 +37,12 @@ pub fn unsent_is_kept_as_sent()
 #[tactic(auto, using(crate::proofs::Told::nothing_told))]
 pub fn nothing_is_told_first()
     ensures { (kept : Kept) → Represents kept [] → Tells kept [] }
+{}
+
+/// Logs that are opened over a journal tell what was met, where that and the journal say the same but of starts, and
+/// the last start has the number of those that the journal counts.
+pub fn opened_logs_tell_their_journal()
+    ensures { (kept : Kept) (items : List Item) (met : List Met) → Represents kept items → without_starts items ≡ without_starts (journal_of met) → AreHonest met → kept.starts ≡ start_of met → Tells kept met }
 {}
 
 /// Logs that are opened over the same journal tell the same.

@@ -1,4 +1,5 @@
-ghost use Rattle.std.specs.Prelude.{[], IfOk};
+ghost use Rattle.std.specs.Prelude.{◌∷◌, [], IfOk};
+ghost use Rattle.mega_rules.specs.Met.{Starts};
 ghost use Rattle.mega_voter.specs.Telling.{Tells};
 
 use crate::Voter;
@@ -32,12 +33,16 @@ fn entry(alloc: Global, leader: u8) -> Result<Entry, EntryFault> {
     )
 }
 
-/// A voter of a node that met nothing.
-fn fresh(alloc: Global) -> Result<Voter<MemRecords>, LogFault>
-    ensures { IfOk result (λ voter. Tells voter.logs.kept []) }
+/// A voter of a node that started once.
+fn started(alloc: Global) -> Result<Voter<MemRecords>, LogFault>
+    ensures { IfOk result (λ voter. Tells voter.logs.kept (Starts 1 ∷ [])) }
 {
     match Logs::open(alloc, MemRecords::new(alloc)) {
-        Ok(logs) => Ok(Voter::new(logs)),
+        Ok(logs) => {
+            let mut voter = Voter::new(logs);
+            voter.begins(alloc)?;
+            Ok(voter)
+        }
         Err((fault, _)) => Err(fault),
     }
 }
@@ -74,7 +79,7 @@ fn a_vote_that_was_sent_is_reported(rt: HostRuntime) -> Result<(), Fail> {
     let group = GroupId {
         key: Bytes::from_slice(alloc, b"g")?,
     };
-    let mut voter = fresh(alloc)?;
+    let mut voter = started(alloc)?;
     let one = entry(alloc, 1)?;
     let accepted = voter.voted(alloc, OF_ONE, &group, PLACE, Ballot::ZERO, &one)?;
     send(alloc, &mut voter, accepted)?;
@@ -93,7 +98,8 @@ fn a_decision_is_fetched(rt: HostRuntime) -> Result<(), Fail> {
     let group = GroupId {
         key: Bytes::from_slice(alloc, b"g")?,
     };
-    let mut voter = fresh(alloc)?;
+    let mut voter = started(alloc)?;
+    assert_eq!(rt; voter.start(), 1);
     let first = voter.decides(alloc, &group, PLACE, entry(alloc, 1)?)?;
     assert!(rt; first);
     let again = voter.decides(alloc, &group, PLACE, entry(alloc, 2)?)?;
