@@ -1,5 +1,5 @@
 -- A reply that is put together of what is read is the reply to what was met.
-use Rattle.std.proofs.Common.{◌≡◌, ℕ, cond, List, Option, refl, sym, ap, ◌∙◌}
+use Rattle.std.proofs.Common.{◌≡◌, cond, List, Option, ◌∙◌}
 use Rattle.mega_base.specs.declared.names.GroupId.{GroupId}
 use Rattle.mega_base.specs.declared.names.OpId.{OpId}
 use Rattle.mega_base.specs.declared.names.Position.{Position}

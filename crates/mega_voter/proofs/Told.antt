@@ -1,5 +1,5 @@
 -- What is kept tells what was met: what its readers say, and one thing more that was met.
-use Rattle.std.proofs.Common.{◌≡◌, ◌↔◌, ℕ, ◌+◌, ◌-◌, ◌<◌, ◌≤◌, min, Bool, true, false, cond, List, [], ◌∷◌, ◌++◌, Option, Some, None, is_none, All, refl, sym, ap, subst, ◌∙◌, arith}
+use Rattle.std.proofs.Common.{◌≡◌, ◌↔◌, ℕ, ◌+◌, ◌-◌, ◌<◌, ◌≤◌, min, Bool, true, false, cond, List, [], ◌∷◌, ◌++◌, Option, None, is_none, All, refl, sym, ap, subst, ◌∙◌, arith}
 use Rattle.std.specs.List.{cons_option}
 use Rattle.std.proofs.lemmas.List.Elements.{All-cons, All-nil}
 use Rattle.mega_base.specs.declared.names.Epoch.{Epoch}
@@ -23,7 +23,7 @@ use Rattle.mega_wal.specs.declared.kept.Kept.{Kept}
 use Rattle.mega_wal.specs.Acceptor.{Vote, accept_answer, best, promise_answer, shown}
 use Rattle.mega_wal.specs.History.{AreDecided, Granted, acts_of, by_accept, by_decide, by_promise, decided_of, granted_of, newest_of as kept_newest, prefix_of as kept_prefix, starts_at_most, starts_of, top_of as kept_top}
 use Rattle.mega_wal.specs.Items.{IsItem}
-use Rattle.mega_wal.specs.Kept.{Holds, Represents, marks_of, slot_of}
+use Rattle.mega_wal.specs.Kept.{Represents}
 use Rattle.mega_rules.specs.Met.{Met, Starts, Sends, Unsends, Grants, Lapses, Decides}
 use Rattle.mega_rules.specs.Clock.{start_of}
 use Rattle.mega_rules.specs.Voting.{acts}
