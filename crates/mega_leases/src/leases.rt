@@ -1,9 +1,11 @@
 ghost use Rattle.std.specs.Prelude.{◌≡◌, ◌⊎◌, ◌≤◌, ◌<◌, ◌+◌, ◌-◌, ◌^◌, ◌∷◌, ◌++◌, List, map, flat_map, get_or, is_none, true, false, if◌then◌else◌, IfOk, OnErr, Ok, None};
 ghost use Rattle.mega_locks.specs.History.{Represents, nodes};
-ghost use Rattle.mega_rules.specs.Met.{Met, Starts, Grants, Lapses, Validates};
-ghost use Rattle.mega_rules.specs.Clock.{clock_of, does_again, is_again, is_opening, ticks_of};
+ghost use Rattle.mega_rules.specs.Met.{Met, Starts, Validates};
+ghost use Rattle.mega_rules.specs.Clock.{clock_of, does_again, is_again, ticks_of};
 ghost use Rattle.mega_rules.specs.Locks.{held_at, last_grant, reopening};
 ghost use Rattle.mega_rules.specs.Coordinators.{refused_at, serves_at, valid_at};
+ghost use Rattle.mega_rules.specs.Steps.{onto};
+ghost use Rattle.mega_leases.specs.Opening.{AreOwed};
 ghost use Rattle.mega_leases.specs.Tells.{Tells};
 
 use crate::numbers::Numbers;
@@ -59,8 +61,8 @@ fn reopened(grants: &[Option<(Epoch, bool)>; 9]) -> Cell
 }
 
 impl Leases {
-    /// What a node has at its start of this number, where its cell granted this to each node before: the
-    /// greatest epoch, and whether it is held.
+    /// What a node has at its start of this number, where its log tells what its cell granted to each node:
+    /// the greatest epoch, and whether it is held. So it has what the start shows of a step that was cut.
     pub fn start(
         alloc: Global,
         cluster: &Cluster,
@@ -71,7 +73,7 @@ impl Leases {
         requires least { 1 ≤ me.0 }
         requires cells { (cluster.now.cells ≡ 1) ⊎ (cluster.now.cells ≡ 3) ⊎ (cluster.now.cells ≡ 5) }
         requires fits { cluster.now.lease + cluster.now.margin < 2 ^ 64 }
-        ensures { (met : List Met) → grants.now ≡ map (last_grant met) nodes → Tells cluster.now me.0 result (Starts start ∷ met) }
+        ensures { (met owed : List Met) → AreOwed owed met → grants.now ≡ map (last_grant (onto owed met)) nodes → Tells cluster.now me.0 result (onto owed (Starts start ∷ met)) }
     {
         Leases {
             numbers: Numbers::of(cluster, me),
@@ -80,16 +82,6 @@ impl Leases {
             cell: reopened(grants),
             coordinator: Coordinator::new(alloc, start, cluster.cells),
         }
-    }
-
-    /// Tells the cell of a grant or of a lapse that a crash cut off after it was kept, before anything else
-    /// is met in this start.
-    pub fn reopen(&mut self, node: NodeId, epoch: Epoch, held: bool)
-        requires least { 1 ≤ node.0 }
-        requires most { node.0 ≤ 9 }
-        ensures { (c me : _) (met : List Met) → Tells c me self.old met → is_opening met ≡ true → Tells c me self.new ((if held then Grants node.0 epoch else Lapses node.0 epoch) ∷ met) }
-    {
-        self.cell.reopen(node, epoch, held);
     }
 
     /// The last clock reading of this start, 0 before the first tick.
