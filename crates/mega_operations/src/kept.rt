@@ -11,8 +11,8 @@ use mega_outcome::Request;
 use mega_wire::Message;
 
 /// What stays of an operation while its phase goes on.
-#[derive(Drop)]
-pub(crate) struct Kept {
+#[derive(Debug, Drop)]
+pub struct Kept {
     pub id: OpId,
     pub request: Request,
     pub began: u64,
@@ -22,7 +22,7 @@ pub(crate) struct Kept {
 
 impl Operation {
     /// What stays of the operation, and its phase.
-    pub(crate) fn parts(self) -> (Kept, Phase)
+    pub fn parts(self) -> (Kept, Phase)
         ensures { whole result.0 (phase_of result.1) ≡ self }
     {
         let Operation {
@@ -45,9 +45,9 @@ impl Operation {
 }
 
 impl Kept {
-    /// The operation in a phase, and what it sends for that.
-    fn heard(self, phase: Phase, sends: Items<Message>) -> Heard
-        ensures { result ≡ record { operation = whole self (phase_of phase); sends = sends } }
+    /// The operation in a phase.
+    pub fn in_phase(self, phase: Phase) -> Operation
+        ensures { result ≡ whole self (phase_of phase) }
     {
         let Kept {
             id,
@@ -56,14 +56,21 @@ impl Kept {
             visited,
             message,
         } = self;
-        let operation = Operation {
+        Operation {
             id,
             request,
             began,
             visited,
             message,
             phase,
-        };
+        }
+    }
+
+    /// The operation in a phase, and what it sends for that.
+    fn heard(self, phase: Phase, sends: Items<Message>) -> Heard
+        ensures { result ≡ record { operation = whole self (phase_of phase); sends = sends } }
+    {
+        let operation = self.in_phase(phase);
         Heard { operation, sends }
     }
 

@@ -12,6 +12,7 @@ mod settling;
 #[cfg(test)]
 mod tests;
 
+pub use kept::Kept;
 pub use members::{Members, MembersFault};
 pub use operation::{Heard, Operation};
 pub use phase::{Phase, Promised};

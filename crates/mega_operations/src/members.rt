@@ -136,6 +136,13 @@ impl Members {
         &self.cluster
     }
 
+    /// The voters, in order.
+    pub fn voters(&self) -> &[u8]
+        ensures { result.now ≡ voters self.now }
+    {
+        self.voters.as_slice()
+    }
+
     /// An operation that reads a group among these members.
     pub fn reader(&self, alloc: Global, op: OpId, group: &GroupId) -> Result<Reader, NoMemory>
         ensures { IfOk result (λ made. made ≡ record { op = op; group = group.now; voters = voters self.now; full = full_nodes self.now; cells = self.now.cells }) }
