@@ -1,5 +1,5 @@
 -- What a node notes of its cell and its coordinator only shows what they were told.
-use Rattle.std.proofs.Common.{◌≡◌, ℕ, ◌+◌, ◌==◌, nat_le, is_some, filter, Bool, true, false, cond, ◌&&◌, List, [], ◌∷◌, ◌++◌, map, flat_map, refl}
+use Rattle.std.proofs.Common.{◌≡◌, ℕ, ◌+◌, ◌==◌, nat_le, is_some, filter, Bool, true, false, cond, ◌&&◌, List, [], ◌∷◌, flat_map, refl}
 use Rattle.std.specs.Prelude.{Option, Some, None}
 use Rattle.std.specs.List.{list_all}
 use Rattle.mega_base.specs.declared.names.Epoch.{Epoch}

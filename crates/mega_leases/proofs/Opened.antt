@@ -19,7 +19,6 @@ use Rattle.mega_rules.specs.Clock.{is_opening, last_done, last_tick, start_of, t
 use Rattle.mega_rules.specs.Locks.{cell_calls, last_grant, reopening, reopenings}
 use Rattle.mega_rules.specs.Coordinators.{coordinator_calls}
 use Rattle.mega_rules.specs.Steps.{onto}
-use Rattle.mega_leases.specs.declared.leases.Leases.{Leases}
 use Rattle.mega_leases.specs.declared.numbers.Numbers.{Numbers}
 use Rattle.mega_leases.specs.Numbers.{numbers_of}
 use Rattle.mega_leases.specs.Opening.{AreOwed}

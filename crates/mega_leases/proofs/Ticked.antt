@@ -1,5 +1,5 @@
 -- What nodes and cells give one after another, and what a tick or a validate leads to.
-use Rattle.std.proofs.Common.{◌≡◌, ℕ, zero, suc, ◌+◌, ◌-◌, ◌<◌, ◌≤◌, nat_le, List, [], ◌∷◌, ◌++◌, map, flat_map, filter, get_or, take, drop, refl, sym, ap, subst, ◌∙◌, arith, add_comm, append-nil, map-id}
+use Rattle.std.proofs.Common.{◌≡◌, ℕ, zero, suc, ◌+◌, ◌-◌, ◌<◌, nat_le, List, [], ◌∷◌, ◌++◌, map, flat_map, filter, get_or, take, drop, refl, sym, ap, subst, ◌∙◌, arith, add_comm, append-nil, map-id}
 use Rattle.std.specs.Prelude.{Option, Some, None, if◌then◌else◌}
 use Rattle.std.specs.List.{range_with_len}
 use Rattle.std.proofs.lemmas.List.{map-append}

@@ -3,7 +3,6 @@ use Rattle.std.specs.Prelude.{◌≡◌, ◌≤◌, ℕ, List, ◌∷◌}
 use Rattle.mega_cluster.specs.declared.cluster.Cluster.{Cluster}
 use Rattle.mega_locks.specs.History.{Call as Asked, Represents as Locks}
 use Rattle.mega_coordinator.specs.History.{Call as Told, Represents as Coordinates}
-use Rattle.mega_wire.specs.declared.message.Message.{Message}
 use Rattle.mega_wire.specs.declared.message.Body.{Body}
 use Rattle.mega_rules.specs.Met.{Met, Takes}
 use Rattle.mega_rules.specs.Clock.{last_done, last_tick, start_of, ticks_of}

@@ -1,4 +1,4 @@
-ghost use Rattle.std.specs.Prelude.{◌≡◌, ◌⊎◌, ◌≤◌, ◌<◌, ◌+◌, ◌-◌, ◌^◌, ◌∷◌, ◌++◌, List, map, flat_map, get_or, is_none, true, false, if◌then◌else◌, IfOk, OnErr, Ok, None};
+ghost use Rattle.std.specs.Prelude.{◌≡◌, ◌⊎◌, ◌≤◌, ◌<◌, ◌+◌, ◌-◌, ◌^◌, ◌∷◌, ◌++◌, List, map, flat_map, get_or, is_none, true, false, IfOk, OnErr, Ok, None};
 ghost use Rattle.mega_locks.specs.History.{Represents, nodes};
 ghost use Rattle.mega_rules.specs.Met.{Met, Starts, Validates};
 ghost use Rattle.mega_rules.specs.Clock.{clock_of, does_again, is_again, ticks_of};

@@ -1,7 +1,6 @@
-ghost use Rattle.std.specs.Prelude.{◌≡◌, ◌++◌, ◌∷◌, [], map, flat_map, filter, get_or, IfOk, if◌then◌else◌, None, ◌-◌};
+ghost use Rattle.std.specs.Prelude.{◌≡◌, ◌++◌, map, flat_map, filter, get_or, IfOk, None, ◌-◌};
 ghost use Rattle.std.specs.List.{range_with_len};
 ghost use Rattle.mega_locks.specs.History.{nodes};
-ghost use Rattle.mega_rules.specs.Met.{Counts, Serves};
 ghost use Rattle.mega_rules.specs.Coordinators.{counts_notes, forget_notes, is_cell_in, lost_note};
 ghost use Rattle.mega_rules.specs.Locks.{grant_note, lapse_note};
 ghost use Rattle.mega_leases.specs.Notes.{count_notes, forgotten_note, lapsed_notes, met_of};

@@ -1,13 +1,10 @@
-ghost use Rattle.std.specs.Prelude.{◌≡◌, ◌≢◌, true, false, ◌+◌, ◌<◌, ◌≤◌, ◌^◌, ◌⊎◌, ◌==◌, ◌&&◌, nat_le, ℕ, List, [], ◌∷◌, ◌++◌, map, IfOk, OnOk, OnErr, Err, None, if◌then◌else◌};
+ghost use Rattle.std.specs.Prelude.{◌≡◌, ◌≢◌, true, false, ◌+◌, ◌≤◌, ◌^◌, ◌==◌, ◌&&◌, nat_le, ℕ, List, [], ◌∷◌, map, IfOk, OnOk, Err, None, if◌then◌else◌};
 ghost use Rattle.mega_rules.specs.Met.{Invalidates, Met, Takes};
-ghost use Rattle.mega_rules.specs.Clock.{last_tick};
-ghost use Rattle.mega_rules.specs.Members.{is_cell, is_full, keep_of};
+ghost use Rattle.mega_rules.specs.Members.{is_cell};
 ghost use Rattle.mega_rules.specs.Locks.{held_answer, lock_answer};
 ghost use Rattle.mega_rules.specs.Replies.{answer_to, where_served};
 ghost use Rattle.mega_rules.specs.Steps.{onto, told_notes};
 ghost use Rattle.mega_rules.specs.Operations.{Setting};
-ghost use Rattle.mega_rules.specs.Coordinators.{told_by};
-ghost use Rattle.mega_locks.specs.History.{Asks};
 ghost use Rattle.mega_leases.specs.Notes.{met_of};
 ghost use Rattle.mega_leases.specs.Taking.{IsByStranger, IsLate, IsNoNode, reply_of};
 ghost use Rattle.mega_leases.specs.Tells.{Tells, TellsTaken};

@@ -1,4 +1,4 @@
-ghost use Rattle.std.specs.Prelude.{◌≡◌, ◌-◌, ◌&&◌, ◌∷◌, ◌++◌, [], ℕ, List, Some, None, map, flat_map, filter, get_or, nat_le, IfOk, if◌then◌else◌};
+ghost use Rattle.std.specs.Prelude.{◌≡◌, ◌-◌, ◌&&◌, ◌∷◌, ◌++◌, [], List, Some, None, map, flat_map, filter, get_or, nat_le, IfOk, if◌then◌else◌};
 ghost use Rattle.std.specs.List.{range_with_len};
 ghost use Rattle.mega_locks.specs.History.{Ticks as CellTicks, lapse_for, nodes};
 ghost use Rattle.mega_coordinator.specs.History.{Ticks as Told, counted_cells, epoch_after, serving, ticked};
