@@ -1,3 +1,8 @@
+ghost use Rattle.std.specs.Prelude.{◌≡◌, ◌∷◌, [], IfOk};
+ghost use Rattle.mega_base.specs.declared.values.Value.TheVariants.{Int64};
+
+mod extending;
+
 use crate::{Batch, Change, Check, RowRef, Transaction, Turn, run, run_all};
 use mega_base::{Bytes, Cell, GroupId, Items, NoMemory, Position, Row, Text, Value};
 use mega_disk::{MemVersions, Versions};
@@ -21,20 +26,26 @@ fn bank(alloc: Global) -> Result<Schema, Fail> {
     Ok(parse(alloc, &text)?)
 }
 
-fn cell(alloc: Global, property: u8, number: i64) -> Result<Cell, NoMemory> {
+fn cell(alloc: Global, property: u8, number: i64) -> Result<Cell, NoMemory>
+    ensures { IfOk result (λ cell. cell ≡ record { property = property; values = Int64 number ∷ [] }) }
+{
     let mut values = Items::new(alloc);
     values.push(Value::Int64(number))?;
     Ok(Cell { property, values })
 }
 
-fn account(alloc: Global, id: i64, balance: i64) -> Result<Row, NoMemory> {
+fn account(alloc: Global, id: i64, balance: i64) -> Result<Row, NoMemory>
+    ensures { IfOk result (λ row. row ≡ record { cells = record { property = 1; values = Int64 id ∷ [] } ∷ record { property = 2; values = Int64 balance ∷ [] } ∷ [] }) }
+{
     let mut cells = Items::new(alloc);
     cells.push(cell(alloc, 1, id)?)?;
     cells.push(cell(alloc, 2, balance)?)?;
     Ok(Row { cells })
 }
 
-fn row_ref(alloc: Global, id: i64) -> Result<RowRef, NoMemory> {
+fn row_ref(alloc: Global, id: i64) -> Result<RowRef, NoMemory>
+    ensures { IfOk result (λ row. row ≡ record { table = 1; key = Int64 id ∷ [] }) }
+{
     let mut key = Items::new(alloc);
     key.push(Value::Int64(id))?;
     Ok(RowRef { table: 1, key })
