@@ -1,4 +1,4 @@
-ghost use Rattle.std.specs.Prelude.{◌≡◌, ◌≤◌, true, Err, IfOk};
+ghost use Rattle.std.specs.Prelude.{◌≡◌, ◌≤◌, ℕ, true, Err, IfOk};
 ghost use Rattle.mega_base.specs.Causes.{Rose};
 ghost use Rattle.mega_disk.specs.VersionMaps.{SameVersions};
 ghost use Rattle.mega_outcome.specs.Outcome.{outcome, first_change};
@@ -32,6 +32,11 @@ pub fn extends_outcome<V: Versions>(
     ensures cause { result.0 ≡ Err Turn.DiskFault → Rose (V.faults rows.old) (V.faults rows.new) }
     ensures second_cause { result.1 ≡ Err Turn.DiskFault → Rose (V.faults rows.old) (V.faults rows.new) }
     ensures later { V.faults rows.old ≤ V.faults rows.new }
+    ensures bad { (n : ℕ) → result.0 ≡ Err (Turn.BadRecord n) → V.is_bad rows.old n }
+    ensures second_bad { (n : ℕ) → result.1 ≡ Err (Turn.BadRecord n) → V.is_bad rows.old n }
+    ensures bad_stays { (n : ℕ) → V.is_bad rows.new n → V.is_bad rows.old n }
+    ensures never_full { (n : ℕ) → result.0 ≡ Err (Turn.Full n) → ⊥ }
+    ensures second_never_full { (n : ℕ) → result.1 ≡ Err (Turn.Full n) → ⊥ }
 {
     let first = run(alloc, schema, txn, rows, at);
     let second = run(alloc, extended, txn, rows, at);

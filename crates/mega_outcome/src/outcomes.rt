@@ -34,6 +34,7 @@ pub fn run<V: Versions>(
     ensures cause { result ≡ Err Turn.DiskFault → Rose (V.faults rows.old) (V.faults rows.new) }
     ensures later { V.faults rows.old ≤ V.faults rows.new }
     ensures bad { (n : ℕ) → result ≡ Err (Turn.BadRecord n) → V.is_bad rows.old n }
+    ensures bad_stays { (n : ℕ) → V.is_bad rows.new n → V.is_bad rows.old n }
     ensures never_full { (n : ℕ) → result ≡ Err (Turn.Full n) → ⊥ }
     ensures may_burn { MayBurn (V.fuse_left rows.old) (V.fuse_left rows.new) }
     ensures burns { V.fails_by_fuse rows.old ≡ true → result ≡ Err Turn.DiskFault → Burns (V.fuse_left rows.old) (V.fuse_left rows.new) }
