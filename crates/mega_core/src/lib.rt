@@ -1,14 +1,11 @@
 //! One node: what it keeps, and its step for one event (Lamport 2001; CIDR 2011, write algorithm).
 #![tactic(auto)]
 
-mod lines;
 mod logs;
 mod node;
 mod operation;
-mod outcome;
-mod spelling;
+mod proposing;
 mod step;
 
-pub use lines::text;
 pub use node::Node;
 pub use step::{Event, Step};

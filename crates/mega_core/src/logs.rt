@@ -1,3 +1,8 @@
+ghost use Rattle.std.specs.Prelude.{◌≤◌, IfOk, IfSome, OnOk};
+ghost use Rattle.mega_base.specs.Names.{IsPositionIn};
+ghost use Rattle.mega_core.specs.Puts.{IsHeld};
+ghost use Rattle.mega_core.specs.Formed.{IsLog, AreLogs, IsVoted};
+
 use mega_base::{Copied, GroupId, NoMemory, Position};
 use mega_entry::Entry;
 use std::alloc::Global;
@@ -12,22 +17,17 @@ pub enum Voted {
     Other(Entry),
 }
 
-/// What a node accepted and decided at one position of a group.
-#[derive(Drop)]
-struct Place {
-    accepted: Option<Entry>,
-    decided: Option<Entry>,
-}
-
-/// What a node keeps of one group.
+/// What a node accepted and decided of one group, by position, the greatest such position, and the
+/// last position through which all are decided.
 #[derive(Drop)]
 struct Log {
-    places: BTreeMap<Position, Place>,
+    accepted: BTreeMap<u64, Entry>,
+    decided: BTreeMap<u64, Entry>,
     top: Position,
     prefix: Position,
 }
 
-/// What a node accepted and decided, by group and position (Lamport 2001, the acceptor).
+/// What a node accepted and decided, by group (Lamport 2001, the acceptor).
 #[derive(Drop)]
 pub struct Logs {
     groups: BTreeMap<GroupId, Log>,
@@ -35,14 +35,19 @@ pub struct Logs {
 
 impl Logs {
     /// Logs in which nothing is accepted or decided.
-    pub fn new(alloc: Global) -> Logs {
+    pub fn new(alloc: Global) -> Logs
+        ensures { AreLogs result }
+    {
         Logs {
             groups: BTreeMap::new(alloc),
         }
     }
 
     /// The greatest position of the group that is accepted or decided, 0 for none.
-    pub fn top(&self, group: &GroupId) -> Position {
+    pub fn top(&self, group: &GroupId) -> Position
+        requires { AreLogs self.now }
+        ensures { IsPositionIn 0 1000000 result }
+    {
         match self.groups.get(group) {
             Some(log) => log.top,
             None => Position(0),
@@ -58,10 +63,14 @@ impl Logs {
     }
 
     /// The entry decided there.
-    pub fn decided(&self, group: &GroupId, position: Position) -> Option<&Entry> {
-        let log = self.groups.get(group)?;
-        let place = log.places.get(&position)?;
-        place.decided.as_ref()
+    pub fn decided(&self, group: &GroupId, position: Position) -> Option<&Entry>
+        requires { AreLogs self.now }
+        ensures { IfSome result (λ entry. IsHeld entry.now) }
+    {
+        match self.groups.get(group) {
+            Some(log) => log.decided.get(&position.0),
+            None => None,
+        }
     }
 
     /// Accepts an entry at ballot zero, unless another one was accepted there.
@@ -71,19 +80,17 @@ impl Logs {
         group: &GroupId,
         position: Position,
         entry: &Entry,
-    ) -> Result<Voted, NoMemory> {
-        let log = self.log_mut(alloc, group)?;
-        let place = log.place_mut(position)?;
-        match &place.accepted {
-            Some(other) => {
-                if other.content() != entry.content() {
-                    return Ok(Voted::Other(other.copy(alloc)?));
-                }
-            }
-            None => place.accepted = Some(entry.copy(alloc)?),
-        }
-        log.raise(position);
-        Ok(Voted::Yes)
+    ) -> Result<Voted, NoMemory>
+        requires logs { AreLogs self.old }
+        requires position { IsPositionIn 1 1000000 position }
+        requires entry { IsHeld entry.now }
+        ensures logs { OnOk result (AreLogs self.new) }
+        ensures voted { IfOk result IsVoted }
+    {
+        let mut log = self.take_log(alloc, group);
+        let voted = log.accept(alloc, position, entry)?;
+        self.put_log(alloc, group, log)?;
+        Ok(voted)
     }
 
     /// Decides a position, and tells whether it was not decided before.
@@ -93,57 +100,115 @@ impl Logs {
         group: &GroupId,
         position: Position,
         entry: &Entry,
-    ) -> Result<bool, NoMemory> {
-        let log = self.log_mut(alloc, group)?;
-        let place = log.place_mut(position)?;
-        if place.decided.is_some() {
-            return Ok(false);
-        }
-        place.decided = Some(entry.copy(alloc)?);
-        log.raise(position);
-        log.lengthen();
-        Ok(true)
+    ) -> Result<bool, NoMemory>
+        requires logs { AreLogs self.old }
+        requires position { IsPositionIn 1 1000000 position }
+        requires entry { IsHeld entry.now }
+        ensures { OnOk result (AreLogs self.new) }
+    {
+        let mut log = self.take_log(alloc, group);
+        let is_new = log.decide(alloc, position, entry)?;
+        self.put_log(alloc, group, log)?;
+        Ok(is_new)
     }
 
-    fn log_mut(&mut self, alloc: Global, group: &GroupId) -> Result<&mut Log, NoMemory> {
+    /// Takes out the log of a group.
+    fn take_log(&mut self, alloc: Global, group: &GroupId) -> Log
+        requires { AreLogs self.old }
+        ensures log { IsLog result }
+        ensures logs { AreLogs self.new }
+    {
+        match self.groups.remove(group) {
+            Some(log) => log,
+            None => Log::new(alloc),
+        }
+    }
+
+    /// Puts back the log of a group.
+    fn put_log(&mut self, alloc: Global, group: &GroupId, log: Log) -> Result<(), NoMemory>
+        requires logs { AreLogs self.old }
+        requires log { IsLog log }
+        ensures { OnOk result (AreLogs self.new) }
+    {
         let key = group.copy(alloc)?;
-        let log = self.groups.entry(key)?.or_insert(Log::new(alloc));
-        Ok(log)
+        self.groups.insert(key, log)?;
+        Ok(())
     }
 }
 
 impl Log {
-    fn new(alloc: Global) -> Log {
+    /// A log in which nothing is accepted or decided.
+    fn new(alloc: Global) -> Log
+        ensures { IsLog result }
+    {
         Log {
-            places: BTreeMap::new(alloc),
+            accepted: BTreeMap::new(alloc),
+            decided: BTreeMap::new(alloc),
             top: Position(0),
             prefix: Position(0),
         }
     }
 
-    fn place_mut(&mut self, position: Position) -> Result<&mut Place, NoMemory> {
-        let nothing = Place {
-            accepted: None,
-            decided: None,
-        };
-        let place = self.places.entry(position)?.or_insert(nothing);
-        Ok(place)
-    }
-
-    /// Something stands at this position now.
-    fn raise(&mut self, position: Position) {
-        if self.top < position {
-            self.top = position;
-        }
-    }
-
-    /// Lengthens the decided prefix as far as it goes.
-    fn lengthen(&mut self) {
-        let from = self.prefix;
-        for (position, place) in self.places.range(from..) {
-            if position.0 == self.prefix.0.saturating_add(1) && place.decided.is_some() {
-                self.prefix = *position;
+    /// Accepts an entry at ballot zero, unless another one was accepted there.
+    fn accept(
+        &mut self,
+        alloc: Global,
+        position: Position,
+        entry: &Entry,
+    ) -> Result<Voted, NoMemory>
+        requires log { IsLog self.old }
+        requires position { IsPositionIn 1 1000000 position }
+        requires entry { IsHeld entry.now }
+        ensures log { OnOk result (IsLog self.new) }
+        ensures voted { IfOk result IsVoted }
+    {
+        if let Some(other) = self.accepted.get(&position.0) {
+            if other.content() != entry.content() {
+                return Ok(Voted::Other(other.copy(alloc)?));
             }
         }
+        self.accepted.insert(position.0, entry.copy(alloc)?)?;
+        self.top = self.raised(position);
+        Ok(Voted::Yes)
+    }
+
+    /// Decides a position, and tells whether it was not decided before.
+    fn decide(&mut self, alloc: Global, position: Position, entry: &Entry) -> Result<bool, NoMemory>
+        requires log { IsLog self.old }
+        requires position { IsPositionIn 1 1000000 position }
+        requires entry { IsHeld entry.now }
+        ensures { OnOk result (IsLog self.new) }
+    {
+        if self.decided.contains_key(&position.0) {
+            return Ok(false);
+        }
+        self.decided.insert(position.0, entry.copy(alloc)?)?;
+        self.top = self.raised(position);
+        self.prefix = self.lengthened();
+        Ok(true)
+    }
+
+    /// The greatest position once something stands at this one.
+    fn raised(&self, position: Position) -> Position
+        requires top { self.now.top.0 ≤ 1000000 }
+        requires position { position.0 ≤ 1000000 }
+        ensures { result.0 ≤ 1000000 }
+    {
+        if self.top.0 < position.0 {
+            position
+        } else {
+            self.top
+        }
+    }
+
+    /// The decided prefix, as far as it goes.
+    fn lengthened(&self) -> Position {
+        let mut prefix = self.prefix;
+        for (position, _) in self.decided.range(prefix.0..) {
+            if *position == prefix.0.saturating_add(1) {
+                prefix = Position(*position);
+            }
+        }
+        prefix
     }
 }

@@ -1,8 +1,14 @@
+ghost use Rattle.std.specs.Prelude.{◌≡◌, IfOk, OnOk};
+ghost use Rattle.mega_base.specs.Names.{IsNode, IsOp};
+ghost use Rattle.mega_wire.specs.Messages.{IsMessage};
+ghost use Rattle.mega_core.specs.Puts.{IsPut, IsPutRequest};
+ghost use Rattle.mega_core.specs.Formed.{IsFormed, IsOperation, IsTaken, IsShown};
+
 use crate::logs::Logs;
 use crate::operation::Operation;
 use crate::step::{Event, Step};
-use mega_base::{Copied, Items, NoMemory, NodeId, OpId, Text};
-use mega_outcome::Request;
+use mega_base::{Copied, GroupId, Items, NoMemory, NodeId, OpId, Text};
+use mega_outcome::{Request, Transaction};
 use mega_transcript::Note;
 use mega_wire::{Body, Message};
 use std::alloc::Global;
@@ -25,8 +31,14 @@ pub struct Node {
 }
 
 impl Node {
+    ghost use Rattle.std.specs.Prelude.{All};
+
     /// A node that starts with nothing, in a cluster of these voters, in ascending order.
-    pub fn start(alloc: Global, me: NodeId, voters: Items<NodeId>) -> Node {
+    pub fn start(alloc: Global, me: NodeId, voters: Items<NodeId>) -> Node
+        requires me { IsNode me }
+        requires voters { All IsNode voters }
+        ensures { IsFormed result }
+    {
         Node {
             me,
             voters,
@@ -36,8 +48,14 @@ impl Node {
         }
     }
 
-    /// The step of the node for one event.
-    pub fn step(&mut self, alloc: Global, event: Event<'_>) -> Result<Step, NoMemory> {
+    /// The step of the node for one event: what it notes has a line, and what it sends is of the
+    /// format of messages. After `NoMemory` the node is not used again.
+    pub fn step(&mut self, alloc: Global, event: Event<'_>) -> Result<Step, NoMemory>
+        requires node { IsFormed self.old }
+        requires event { IsTaken event }
+        ensures node { OnOk result (IsFormed self.new) }
+        ensures step { IfOk result IsShown }
+    {
         let mut step = Step::new(alloc);
         match event {
             Event::Take(message) => self.take(alloc, message, &mut step)?,
@@ -46,34 +64,94 @@ impl Node {
         Ok(step)
     }
 
-    /// Begins an operation: it polls all voters for their top positions.
+    /// Begins an operation, which is a put.
     fn begin(
         &mut self,
         alloc: Global,
         request: Request,
         text: Text,
         step: &mut Step,
-    ) -> Result<(), NoMemory> {
-        let Request::Txn(transaction) = request else {
-            return Ok(());
-        };
+    ) -> Result<(), NoMemory>
+        requires node { IsFormed self.old }
+        requires request { IsPutRequest request }
+        requires step { IsShown step.old }
+        ensures node { OnOk result (IsFormed self.new) }
+        ensures step { OnOk result (IsShown step.new) }
+    {
+        match request {
+            Request::Txn(transaction) => self.begin_put(alloc, transaction, text, step),
+            _ => Ok(()),
+        }
+    }
+
+    /// Begins a put: it polls all voters for their top positions.
+    fn begin_put(
+        &mut self,
+        alloc: Global,
+        transaction: Transaction,
+        text: Text,
+        step: &mut Step,
+    ) -> Result<(), NoMemory>
+        requires node { IsFormed self.old }
+        requires put { IsPut transaction }
+        requires step { IsShown step.old }
+        ensures node { OnOk result (IsFormed self.new) }
+        ensures step { OnOk result (IsShown step.new) }
+    {
         self.begun = self.begun.saturating_add(1);
-        let op = OpId {
+        let id = OpId {
             node: self.me,
             start: START,
             number: self.begun,
         };
-        step.note(Note::Begin { op, text })?;
+        step.note(Note::Begin { op: id, text })?;
+        let operation = Operation::new(alloc, id, transaction);
+        self.poll(alloc, &operation, step)?;
+        self.keep(operation)
+    }
+
+    /// An operation is open.
+    fn keep(&mut self, operation: Operation) -> Result<(), NoMemory>
+        requires node { IsFormed self.old }
+        requires operation { IsOperation operation }
+        ensures { OnOk result (IsFormed self.new) }
+    {
+        self.open.push(operation)?;
+        Ok(())
+    }
+
+    /// Takes out all open operations.
+    fn take_open(&mut self, alloc: Global) -> Vec<Operation>
+        requires { IsFormed self.old }
+        ensures node { IsFormed self.new }
+        ensures operations { All IsOperation result.items }
+    {
+        std::mem::replace(&mut self.open, Vec::new(alloc))
+    }
+
+    /// Asks all voters for their top positions.
+    fn poll(&self, alloc: Global, operation: &Operation, step: &mut Step) -> Result<(), NoMemory>
+        requires node { IsFormed self.now }
+        requires operation { IsOperation operation.now }
+        requires step { IsShown step.old }
+        ensures { OnOk result (IsShown step.new) }
+    {
         for voter in self.voters.as_slice() {
-            let group = transaction.group.copy(alloc)?;
+            let group = operation.group().copy(alloc)?;
+            let op = operation.id;
             step.send(self.message(*voter, Body::Where { op, group }))?;
         }
-        self.open.push(Operation::new(alloc, op, transaction))?;
         Ok(())
     }
 
     /// Takes a message: a request is answered, and an answer is heard by its operation.
-    fn take(&mut self, alloc: Global, message: &Message, step: &mut Step) -> Result<(), NoMemory> {
+    fn take(&mut self, alloc: Global, message: &Message, step: &mut Step) -> Result<(), NoMemory>
+        requires node { IsFormed self.old }
+        requires message { IsMessage message.now }
+        requires step { IsShown step.old }
+        ensures node { OnOk result (IsFormed self.new) }
+        ensures step { OnOk result (IsShown step.new) }
+    {
         let from = NodeId(message.from);
         match &message.body {
             Body::Where { op, group } => self.tell_top(alloc, from, *op, group, step),
@@ -95,15 +173,15 @@ impl Node {
                 group,
                 position,
                 entry,
-            } => {
-                self.decide(alloc, group, *position, entry, step)?;
-                self.go_on(alloc, step)
-            }
+            } => self.decided(alloc, group, *position, entry, step),
             _ => Ok(()),
         }
     }
 
-    fn message(&self, to: NodeId, body: Body) -> Message {
+    /// A message of this node.
+    fn message(&self, to: NodeId, body: Body) -> Message
+        ensures { result ≡ record { from = self.now.me.0; to = to.0; body = body } }
+    {
         Message {
             from: self.me.0,
             to: to.0,

@@ -1,3 +1,8 @@
+ghost use Rattle.std.specs.Prelude.{◌≡◌, OnOk};
+ghost use Rattle.mega_base.specs.Names.{IsOp, IsGroup};
+ghost use Rattle.mega_core.specs.Puts.{IsPut};
+ghost use Rattle.mega_core.specs.Formed.{IsOperation};
+
 use mega_base::{Copied, GroupId, Items, NoMemory, NodeId, OpId, Position};
 use mega_entry::Entry;
 use mega_outcome::Transaction;
@@ -29,7 +34,7 @@ pub enum Stage {
     },
 }
 
-/// An open operation: a transaction and how far it has come.
+/// An open operation: a put and how far it has come.
 #[derive(Drop)]
 pub struct Operation {
     pub id: OpId,
@@ -39,7 +44,11 @@ pub struct Operation {
 
 impl Operation {
     /// An operation that begins with a poll of the voters.
-    pub fn new(alloc: Global, id: OpId, transaction: Transaction) -> Operation {
+    pub fn new(alloc: Global, id: OpId, transaction: Transaction) -> Operation
+        requires id { IsOp id }
+        requires put { IsPut transaction }
+        ensures { IsOperation result }
+    {
         Operation {
             id,
             transaction,
@@ -50,28 +59,21 @@ impl Operation {
         }
     }
 
-    pub fn group(&self) -> &GroupId {
+    /// The group of its row.
+    pub fn group(&self) -> &GroupId
+        requires { IsOperation self.now }
+        ensures { IsGroup result.now }
+    {
         &self.transaction.group
     }
 
     /// Takes a voter's top position while polling. Only the first answer of each voter counts, and
     /// the greatest of the first majority is the position through which the operation reads.
-    pub fn polled(&mut self, from: NodeId, top: Position, majority: usize) -> Result<(), NoMemory> {
-        let Stage::Polling { heard, best } = &mut self.stage else {
-            return Ok(());
-        };
-        if heard.as_slice().contains(&from) {
-            return Ok(());
-        }
-        heard.push(from)?;
-        if *best < top {
-            *best = top;
-        }
-        let through = *best;
-        if heard.len() >= majority {
-            self.stage = Stage::Catching { through };
-        }
-        Ok(())
+    pub fn polled(&mut self, from: NodeId, top: Position, majority: usize) -> Result<(), NoMemory>
+        requires { IsOperation self.old }
+        ensures { OnOk result (IsOperation self.new) }
+    {
+        self.stage.polled(from, top, majority)
     }
 
     /// The position through which the operation waits for its node to decide.
@@ -98,25 +100,11 @@ impl Operation {
         from: NodeId,
         at: Position,
         accepted: &Entry,
-    ) -> Result<bool, NoMemory> {
-        let Stage::Asking {
-            position,
-            leader,
-            entry,
-        } = &self.stage
-        else {
-            return Ok(false);
-        };
-        if *position != at || *leader != from || entry.content() != accepted.content() {
-            return Ok(false);
-        }
-        let entry = entry.copy(alloc)?;
-        self.stage = Stage::Accepting {
-            position: at,
-            entry,
-            accepted: Items::new(alloc),
-        };
-        Ok(true)
+    ) -> Result<bool, NoMemory>
+        requires { IsOperation self.old }
+        ensures { OnOk result (IsOperation self.new) }
+    {
+        self.stage.leader_accepted(alloc, from, at, accepted)
     }
 
     /// Takes a voter's acceptance while accepting; each voter counts once.
@@ -125,21 +113,11 @@ impl Operation {
         from: NodeId,
         at: Position,
         theirs: &Entry,
-    ) -> Result<(), NoMemory> {
-        if let Stage::Accepting {
-            position,
-            entry,
-            accepted,
-        } = &mut self.stage
-        {
-            if *position == at
-                && entry.content() == theirs.content()
-                && !accepted.as_slice().contains(&from)
-            {
-                accepted.push(from)?;
-            }
-        }
-        Ok(())
+    ) -> Result<(), NoMemory>
+        requires { IsOperation self.old }
+        ensures { OnOk result (IsOperation self.new) }
+    {
+        self.stage.voter_accepted(from, at, theirs)
     }
 
     /// Whether all of these voters have accepted the entry.
@@ -152,5 +130,74 @@ impl Operation {
             }
             _ => false,
         }
+    }
+}
+
+impl Stage {
+    fn polled(&mut self, from: NodeId, top: Position, majority: usize) -> Result<(), NoMemory> {
+        let Stage::Polling { heard, best } = self else {
+            return Ok(());
+        };
+        if heard.as_slice().contains(&from) {
+            return Ok(());
+        }
+        heard.push(from)?;
+        if *best < top {
+            *best = top;
+        }
+        let through = *best;
+        if heard.len() >= majority {
+            *self = Stage::Catching { through };
+        }
+        Ok(())
+    }
+
+    fn leader_accepted(
+        &mut self,
+        alloc: Global,
+        from: NodeId,
+        at: Position,
+        accepted: &Entry,
+    ) -> Result<bool, NoMemory> {
+        let Stage::Asking {
+            position,
+            leader,
+            entry,
+        } = self
+        else {
+            return Ok(false);
+        };
+        if *position != at || *leader != from || entry.content() != accepted.content() {
+            return Ok(false);
+        }
+        let entry = entry.copy(alloc)?;
+        *self = Stage::Accepting {
+            position: at,
+            entry,
+            accepted: Items::new(alloc),
+        };
+        Ok(true)
+    }
+
+    fn voter_accepted(
+        &mut self,
+        from: NodeId,
+        at: Position,
+        theirs: &Entry,
+    ) -> Result<(), NoMemory> {
+        if let Stage::Accepting {
+            position,
+            entry,
+            accepted,
+        } = self
+        {
+            if *position == at
+                && entry.content() == theirs.content()
+                && !accepted.as_slice().contains(&from)
+            {
+                accepted.push(from)?;
+            }
+        }
+        Ok(())
     }
 }

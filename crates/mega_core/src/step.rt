@@ -1,3 +1,7 @@
+ghost use Rattle.std.specs.Prelude.{OnOk};
+ghost use Rattle.mega_wire.specs.Messages.{IsMessage};
+ghost use Rattle.mega_core.specs.Formed.{IsNoted, IsShown};
+
 use mega_base::{Items, NoMemory, Text};
 use mega_outcome::Request;
 use mega_transcript::Note;
@@ -20,7 +24,9 @@ pub struct Step {
 
 impl Step {
     /// The step in which nothing happens.
-    pub fn new(alloc: Global) -> Step {
+    pub fn new(alloc: Global) -> Step
+        ensures { IsShown result }
+    {
         Step {
             notes: Items::new(alloc),
             sends: Items::new(alloc),
@@ -28,12 +34,21 @@ impl Step {
     }
 
     /// Adds a note at the end.
-    pub fn note(&mut self, note: Note) -> Result<(), NoMemory> {
+    pub fn note(&mut self, note: Note) -> Result<(), NoMemory>
+        requires step { IsShown self.old }
+        requires note { IsNoted note }
+        ensures { OnOk result (IsShown self.new) }
+    {
         self.notes.push(note)
     }
 
     /// Adds a message at the end.
-    pub fn send(&mut self, message: Message) -> Result<(), NoMemory> {
-        self.sends.push(message)
+    pub fn send(&mut self, message: Message) -> Result<(), NoMemory>
+        requires step { IsShown self.old }
+        requires message { IsMessage message }
+        ensures { OnOk result (IsShown self.new) }
+    {
+        self.sends.push(message)?;
+        Ok(())
     }
 }

@@ -1,3 +1,8 @@
+ghost use Rattle.std.specs.Prelude.{OnOk};
+ghost use Rattle.mega_base.specs.Names.{IsPositionIn};
+ghost use Rattle.mega_core.specs.Puts.{IsHeld};
+ghost use Rattle.mega_core.specs.Formed.{IsFormed, IsOperation, IsShown};
+
 use crate::node::Node;
 use crate::operation::Operation;
 use crate::step::Step;
@@ -8,8 +13,28 @@ use mega_transcript::Note;
 use std::alloc::Global;
 
 impl Node {
-    /// Learns that a position is decided. Where that is new it is noted down, with how far the log is
-    /// applied now, and each operation that proposes its own entry there ends.
+    /// Hears that a position is decided; operations that waited for it may go on.
+    pub fn decided(
+        &mut self,
+        alloc: Global,
+        group: &GroupId,
+        position: Position,
+        entry: &Entry,
+        step: &mut Step,
+    ) -> Result<(), NoMemory>
+        requires node { IsFormed self.old }
+        requires position { IsPositionIn 1 1000000 position }
+        requires entry { IsHeld entry.now }
+        requires step { IsShown step.old }
+        ensures node { OnOk result (IsFormed self.new) }
+        ensures step { OnOk result (IsShown step.new) }
+    {
+        self.decide(alloc, group, position, entry, step)?;
+        self.go_on(alloc, step)
+    }
+
+    /// Learns that a position is decided, and tells whether that is new. Then it is noted down, with
+    /// how far the log is applied now, and each operation that proposes its own entry there ends.
     pub fn decide(
         &mut self,
         alloc: Global,
@@ -17,7 +42,14 @@ impl Node {
         position: Position,
         entry: &Entry,
         step: &mut Step,
-    ) -> Result<bool, NoMemory> {
+    ) -> Result<bool, NoMemory>
+        requires node { IsFormed self.old }
+        requires position { IsPositionIn 1 1000000 position }
+        requires entry { IsHeld entry.now }
+        requires step { IsShown step.old }
+        ensures node { OnOk result (IsFormed self.new) }
+        ensures step { OnOk result (IsShown step.new) }
+    {
         let before = self.logs.prefix(group);
         if !self.logs.decide(alloc, group, position, entry)? {
             return Ok(false);
@@ -28,16 +60,32 @@ impl Node {
             position,
             entry: entry.copy(alloc)?,
         })?;
-        let applied = self.logs.prefix(group);
-        if before < applied {
-            step.note(Note::Apply {
-                node: self.me,
-                group: group.copy(alloc)?,
-                position: applied,
-            })?;
-        }
+        self.apply(alloc, group, before, step)?;
         self.end(alloc, group, position, entry, step)?;
         Ok(true)
+    }
+
+    /// Notes down how far the log is applied now, where that was less before.
+    fn apply(
+        &self,
+        alloc: Global,
+        group: &GroupId,
+        before: Position,
+        step: &mut Step,
+    ) -> Result<(), NoMemory>
+        requires { IsShown step.old }
+        ensures { OnOk result (IsShown step.new) }
+    {
+        let position = self.logs.prefix(group);
+        if before >= position {
+            return Ok(());
+        }
+        let group = group.copy(alloc)?;
+        step.note(Note::Apply {
+            node: self.me,
+            group,
+            position,
+        })
     }
 
     /// Ends the operations that propose their own entry at this position of the group.
@@ -48,22 +96,40 @@ impl Node {
         position: Position,
         entry: &Entry,
         step: &mut Step,
-    ) -> Result<(), NoMemory> {
-        let mut still_open = Vec::new(alloc);
-        let open = std::mem::replace(&mut self.open, Vec::new(alloc));
-        for operation in open {
-            if operation.group() == group && operation.proposed() == Some(position) {
-                let answer = verdict(alloc, &operation, position, entry);
-                step.note(Note::Answer {
-                    op: operation.id,
-                    answer,
-                })?;
-            } else {
-                still_open.push(operation)?;
-            }
+    ) -> Result<(), NoMemory>
+        requires node { IsFormed self.old }
+        requires step { IsShown step.old }
+        ensures node { OnOk result (IsFormed self.new) }
+        ensures step { OnOk result (IsShown step.new) }
+    {
+        for operation in self.take_open(alloc) {
+            self.end_or_keep(alloc, operation, group, position, entry, step)?;
         }
-        self.open = still_open;
         Ok(())
+    }
+
+    /// Ends an operation that proposes its own entry at this position of the group, and keeps another.
+    fn end_or_keep(
+        &mut self,
+        alloc: Global,
+        operation: Operation,
+        group: &GroupId,
+        position: Position,
+        entry: &Entry,
+        step: &mut Step,
+    ) -> Result<(), NoMemory>
+        requires node { IsFormed self.old }
+        requires operation { IsOperation operation }
+        requires step { IsShown step.old }
+        ensures node { OnOk result (IsFormed self.new) }
+        ensures step { OnOk result (IsShown step.new) }
+    {
+        if operation.group() != group || operation.proposed() != Some(position) {
+            return self.keep(operation);
+        }
+        let answer = verdict(alloc, &operation, position, entry);
+        let op = operation.id;
+        step.note(Note::Answer { op, answer })
     }
 }
 

@@ -1,12 +1,23 @@
+ghost use Rattle.std.specs.Prelude.{◌<◌, IfOk, IfSome, OnOk};
+ghost use Rattle.mega_base.specs.Names.{IsNode, IsOp, IsGroup, IsPositionIn};
+ghost use Rattle.mega_wire.specs.Messages.{IsMessage};
+ghost use Rattle.mega_core.specs.Puts.{IsHeld};
+ghost use Rattle.mega_core.specs.Formed.{IsFormed, IsOperation, IsShown};
+
 use crate::node::Node;
 use crate::operation::{Operation, Stage};
-use crate::outcome::entry_of;
+use crate::proposing::entry_of;
 use crate::step::Step;
 use mega_ballot::Ballot;
-use mega_base::{Copied, GroupId, Items, NoMemory, NodeId, OpId, Position};
+use mega_base::{Copied, GroupId, NoMemory, NodeId, OpId, Position};
 use mega_entry::Entry;
+use mega_outcome::Answer;
+use mega_transcript::Note;
 use mega_wire::{Body, Message};
 use std::alloc::Global;
+
+/// The last position of a log.
+const LAST: u64 = 1_000_000;
 
 impl Node {
     /// An operation hears a voter's top position.
@@ -17,47 +28,120 @@ impl Node {
         op: OpId,
         top: Position,
         step: &mut Step,
-    ) -> Result<(), NoMemory> {
-        let majority = self.voters.len() / 2 + 1;
-        for operation in &mut self.open {
-            if operation.id == op {
-                operation.polled(from, top, majority)?;
-            }
-        }
+    ) -> Result<(), NoMemory>
+        requires node { IsFormed self.old }
+        requires step { IsShown step.old }
+        ensures node { OnOk result (IsFormed self.new) }
+        ensures step { OnOk result (IsShown step.new) }
+    {
+        self.hear(alloc, from, op, top)?;
         self.go_on(alloc, step)
     }
 
-    /// Each operation whose awaited positions are all decided proposes its entry to the leader of
-    /// the next one.
-    pub fn go_on(&mut self, alloc: Global, step: &mut Step) -> Result<(), NoMemory> {
-        let open = std::mem::replace(&mut self.open, Vec::new(alloc));
-        for operation in open {
-            let kept = self.gone_on(alloc, operation, step)?;
-            self.open.push(kept)?;
+    /// The operation of this id hears a voter's top position.
+    fn hear(&mut self, alloc: Global, from: NodeId, op: OpId, top: Position) -> Result<(), NoMemory>
+        requires { IsFormed self.old }
+        ensures { OnOk result (IsFormed self.new) }
+    {
+        let majority = self.voters.len() / 2 + 1;
+        for operation in self.take_open(alloc) {
+            let heard = heard(operation, op, from, top, majority)?;
+            self.keep(heard)?;
         }
         Ok(())
     }
 
-    /// The operation, which asks the leader now if what it awaited is decided.
+    /// Each operation whose awaited positions are all decided proposes its entry to the leader of
+    /// the next one, or ends where the log is full.
+    pub fn go_on(&mut self, alloc: Global, step: &mut Step) -> Result<(), NoMemory>
+        requires node { IsFormed self.old }
+        requires step { IsShown step.old }
+        ensures node { OnOk result (IsFormed self.new) }
+        ensures step { OnOk result (IsShown step.new) }
+    {
+        for operation in self.take_open(alloc) {
+            self.go_on_with(alloc, operation, step)?;
+        }
+        Ok(())
+    }
+
+    /// An operation goes on, and is kept unless it ends.
+    fn go_on_with(
+        &mut self,
+        alloc: Global,
+        operation: Operation,
+        step: &mut Step,
+    ) -> Result<(), NoMemory>
+        requires node { IsFormed self.old }
+        requires operation { IsOperation operation }
+        requires step { IsShown step.old }
+        ensures node { OnOk result (IsFormed self.new) }
+        ensures step { OnOk result (IsShown step.new) }
+    {
+        match self.gone_on(alloc, operation, step)? {
+            Some(kept) => self.keep(kept),
+            None => Ok(()),
+        }
+    }
+
+    /// The operation, unless it ends; it asks the leader now if what it awaited is decided.
     fn gone_on(
         &self,
         alloc: Global,
         operation: Operation,
         step: &mut Step,
-    ) -> Result<Operation, NoMemory> {
+    ) -> Result<Option<Operation>, NoMemory>
+        requires node { IsFormed self.now }
+        requires operation { IsOperation operation }
+        requires step { IsShown step.old }
+        ensures kept { IfOk result (λ kept. IfSome kept IsOperation) }
+        ensures step { OnOk result (IsShown step.new) }
+    {
         let Some(through) = operation.awaited() else {
-            return Ok(operation);
+            return Ok(Some(operation));
         };
         if self.logs.prefix(operation.group()) < through {
-            return Ok(operation);
+            return Ok(Some(operation));
         }
-        let (stage, message) = self.ask(alloc, &operation, through)?;
-        step.send(message)?;
+        if through.0 >= LAST {
+            let op = operation.id;
+            let answer = Answer::LogFull { position: through };
+            step.note(Note::Answer { op, answer })?;
+            return Ok(None);
+        }
+        let asking = self.ask(alloc, operation, through, step)?;
+        Ok(Some(asking))
+    }
+
+    /// The operation, which asks the leader of the position after this one to accept its entry.
+    fn ask(
+        &self,
+        alloc: Global,
+        operation: Operation,
+        through: Position,
+        step: &mut Step,
+    ) -> Result<Operation, NoMemory>
+        requires node { IsFormed self.now }
+        requires operation { IsOperation operation }
+        requires through { through.0 < 1000000 }
+        requires step { IsShown step.old }
+        ensures kept { IfOk result IsOperation }
+        ensures step { OnOk result (IsShown step.new) }
+    {
+        let position = Position(through.0 + 1);
+        let leader = self.leader(operation.group(), through);
+        let entry = entry_of(alloc, operation.id, self.me, &operation.transaction)?;
+        step.send(self.propose(alloc, &operation, leader, position, &entry)?)?;
         let Operation {
             id,
             transaction,
             ..
         } = operation;
+        let stage = Stage::Asking {
+            position,
+            leader,
+            entry,
+        };
         Ok(Operation {
             id,
             transaction,
@@ -65,28 +149,12 @@ impl Node {
         })
     }
 
-    /// The stage of asking the leader of the position after this one, and the message that asks.
-    fn ask(
-        &self,
-        alloc: Global,
-        operation: &Operation,
-        through: Position,
-    ) -> Result<(Stage, Message), NoMemory> {
-        let position = Position(through.0.saturating_add(1));
-        let leader = self.leader(operation.group(), through);
-        let entry = entry_of(alloc, operation.id, self.me, &operation.transaction)?;
-        let message = self.propose(alloc, operation, leader, position, &entry)?;
-        let stage = Stage::Asking {
-            position,
-            leader,
-            entry,
-        };
-        Ok((stage, message))
-    }
-
     /// The leader of the position after this one: the node named by the entry decided here, or the
     /// lowest voter where there is none (CIDR 2011, leaders).
-    fn leader(&self, group: &GroupId, position: Position) -> NodeId {
+    fn leader(&self, group: &GroupId, position: Position) -> NodeId
+        requires { IsFormed self.now }
+        ensures { IsNode result }
+    {
         match self.logs.decided(group, position) {
             Some(entry) => entry.content().leader,
             None => match self.voters.as_slice().first() {
@@ -104,7 +172,14 @@ impl Node {
         to: NodeId,
         position: Position,
         entry: &Entry,
-    ) -> Result<Message, NoMemory> {
+    ) -> Result<Message, NoMemory>
+        requires node { IsFormed self.now }
+        requires operation { IsOperation operation.now }
+        requires to { IsNode to }
+        requires position { IsPositionIn 1 1000000 position }
+        requires entry { IsHeld entry.now }
+        ensures { IfOk result IsMessage }
+    {
         let group = operation.group().copy(alloc)?;
         let entry = entry.copy(alloc)?;
         let body = Body::Accept {
@@ -127,22 +202,52 @@ impl Node {
         position: Position,
         entry: &Entry,
         step: &mut Step,
-    ) -> Result<(), NoMemory> {
+    ) -> Result<(), NoMemory>
+        requires node { IsFormed self.old }
+        requires from { IsNode from }
+        requires position { IsPositionIn 1 1000000 position }
+        requires entry { IsHeld entry.now }
+        requires step { IsShown step.old }
+        ensures node { OnOk result (IsFormed self.new) }
+        ensures step { OnOk result (IsShown step.new) }
+    {
         let Some(index) = self.open.iter().position(|operation| operation.id == op) else {
             return Ok(());
         };
-        let Some(operation) = self.open.get_mut(index) else {
-            return Ok(());
-        };
-        let spreads = operation.leader_accepted(alloc, from, position, entry)?;
+        let mut operation = self.open.remove(index);
+        if operation.leader_accepted(alloc, from, position, entry)? {
+            self.spread(alloc, &operation, from, position, entry, step)?;
+        }
         operation.voter_accepted(from, position, entry)?;
         let settled = operation.is_settled(self.voters.as_slice());
         let group = operation.group().copy(alloc)?;
-        if spreads {
-            self.spread(alloc, index, from, position, entry, step)?;
+        self.open.insert(index, operation)?;
+        self.settle(alloc, settled, &group, position, entry, step)
+    }
+
+    /// Decides an entry if it is settled: where that is new, it is told to all others.
+    fn settle(
+        &mut self,
+        alloc: Global,
+        settled: bool,
+        group: &GroupId,
+        position: Position,
+        entry: &Entry,
+        step: &mut Step,
+    ) -> Result<(), NoMemory>
+        requires node { IsFormed self.old }
+        requires group { IsGroup group.now }
+        requires position { IsPositionIn 1 1000000 position }
+        requires entry { IsHeld entry.now }
+        requires step { IsShown step.old }
+        ensures node { OnOk result (IsFormed self.new) }
+        ensures step { OnOk result (IsShown step.new) }
+    {
+        if !settled {
+            return Ok(());
         }
-        if settled && self.decide(alloc, &group, position, entry, step)? {
-            self.tell(alloc, &group, position, entry, step)?;
+        if self.decide(alloc, group, position, entry, step)? {
+            self.tell(alloc, group, position, entry, step)?;
         }
         Ok(())
     }
@@ -151,15 +256,19 @@ impl Node {
     fn spread(
         &self,
         alloc: Global,
-        index: usize,
+        operation: &Operation,
         leader: NodeId,
         position: Position,
         entry: &Entry,
         step: &mut Step,
-    ) -> Result<(), NoMemory> {
-        let Some(operation) = self.open.get(index) else {
-            return Ok(());
-        };
+    ) -> Result<(), NoMemory>
+        requires node { IsFormed self.now }
+        requires operation { IsOperation operation.now }
+        requires position { IsPositionIn 1 1000000 position }
+        requires entry { IsHeld entry.now }
+        requires step { IsShown step.old }
+        ensures { OnOk result (IsShown step.new) }
+    {
         for voter in self.voters.as_slice() {
             if *voter != leader {
                 step.send(self.propose(alloc, operation, *voter, position, entry)?)?;
@@ -176,7 +285,14 @@ impl Node {
         position: Position,
         entry: &Entry,
         step: &mut Step,
-    ) -> Result<(), NoMemory> {
+    ) -> Result<(), NoMemory>
+        requires node { IsFormed self.now }
+        requires group { IsGroup group.now }
+        requires position { IsPositionIn 1 1000000 position }
+        requires entry { IsHeld entry.now }
+        requires step { IsShown step.old }
+        ensures { OnOk result (IsShown step.new) }
+    {
         for voter in self.voters.as_slice() {
             if *voter != self.me {
                 let body = Body::Decide {
@@ -189,4 +305,22 @@ impl Node {
         }
         Ok(())
     }
+}
+
+/// An operation, which hears a voter's top position if it has this id.
+fn heard(
+    mut operation: Operation,
+    op: OpId,
+    from: NodeId,
+    top: Position,
+    majority: usize,
+) -> Result<Operation, NoMemory>
+    requires { IsOperation operation }
+    ensures { IfOk result IsOperation }
+{
+    if operation.id != op {
+        return Ok(operation);
+    }
+    operation.polled(from, top, majority)?;
+    Ok(operation)
 }

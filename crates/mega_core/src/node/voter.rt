@@ -1,3 +1,8 @@
+ghost use Rattle.std.specs.Prelude.{OnOk};
+ghost use Rattle.mega_base.specs.Names.{IsNode, IsOp, IsGroup, IsPositionIn};
+ghost use Rattle.mega_core.specs.Puts.{IsHeld};
+ghost use Rattle.mega_core.specs.Formed.{IsFormed, IsShown};
+
 use crate::logs::Voted;
 use crate::node::Node;
 use crate::step::Step;
@@ -16,7 +21,14 @@ impl Node {
         op: OpId,
         group: &GroupId,
         step: &mut Step,
-    ) -> Result<(), NoMemory> {
+    ) -> Result<(), NoMemory>
+        requires node { IsFormed self.now }
+        requires from { IsNode from }
+        requires op { IsOp op }
+        requires group { IsGroup group.now }
+        requires step { IsShown step.old }
+        ensures { OnOk result (IsShown step.new) }
+    {
         let position = self.logs.top(group);
         let group = group.copy(alloc)?;
         let body = Body::Top {
@@ -37,26 +49,81 @@ impl Node {
         position: Position,
         entry: &Entry,
         step: &mut Step,
-    ) -> Result<(), NoMemory> {
-        let voted = self.logs.accept(alloc, group, position, entry)?;
-        let group = group.copy(alloc)?;
-        let body = match voted {
-            Voted::Yes => Body::Accepted {
-                op,
-                group,
-                position,
-                ballot: Ballot::ZERO,
-                entry: entry.copy(alloc)?,
-            },
-            Voted::Other(other) => Body::Refused {
-                op,
-                group,
-                position,
-                asked: Ballot::ZERO,
-                shown: Ballot::ZERO,
-                entry: Some(other),
-            },
+    ) -> Result<(), NoMemory>
+        requires node { IsFormed self.old }
+        requires from { IsNode from }
+        requires op { IsOp op }
+        requires group { IsGroup group.now }
+        requires position { IsPositionIn 1 1000000 position }
+        requires entry { IsHeld entry.now }
+        requires step { IsShown step.old }
+        ensures node { OnOk result (IsFormed self.new) }
+        ensures step { OnOk result (IsShown step.new) }
+    {
+        match self.logs.accept(alloc, group, position, entry)? {
+            Voted::Yes => self.yes(alloc, from, op, group, position, entry, step),
+            Voted::Other(other) => self.no(alloc, from, op, group, position, other, step),
+        }
+    }
+
+    /// Tells that this node accepted an entry at ballot zero.
+    fn yes(
+        &self,
+        alloc: Global,
+        to: NodeId,
+        op: OpId,
+        group: &GroupId,
+        position: Position,
+        entry: &Entry,
+        step: &mut Step,
+    ) -> Result<(), NoMemory>
+        requires node { IsFormed self.now }
+        requires to { IsNode to }
+        requires op { IsOp op }
+        requires group { IsGroup group.now }
+        requires position { IsPositionIn 1 1000000 position }
+        requires entry { IsHeld entry.now }
+        requires step { IsShown step.old }
+        ensures { OnOk result (IsShown step.new) }
+    {
+        let body = Body::Accepted {
+            op,
+            group: group.copy(alloc)?,
+            position,
+            ballot: Ballot::ZERO,
+            entry: entry.copy(alloc)?,
         };
-        step.send(self.message(from, body))
+        step.send(self.message(to, body))
+    }
+
+    /// Tells that this node accepted this other entry at ballot zero.
+    fn no(
+        &self,
+        alloc: Global,
+        to: NodeId,
+        op: OpId,
+        group: &GroupId,
+        position: Position,
+        other: Entry,
+        step: &mut Step,
+    ) -> Result<(), NoMemory>
+        requires node { IsFormed self.now }
+        requires to { IsNode to }
+        requires op { IsOp op }
+        requires group { IsGroup group.now }
+        requires position { IsPositionIn 1 1000000 position }
+        requires other { IsHeld other }
+        requires step { IsShown step.old }
+        ensures { OnOk result (IsShown step.new) }
+    {
+        let body = Body::Refused {
+            op,
+            group: group.copy(alloc)?,
+            position,
+            asked: Ballot::ZERO,
+            shown: Ballot::ZERO,
+            entry: Some(other),
+        };
+        step.send(self.message(to, body))
     }
 }
