@@ -1,4 +1,7 @@
 use Rattle.std.proofs.Common.{◌≡◌, ◌∷◌, ◌∙◌, ap, refl, subst, sym}
+use Rattle.std.specs.Prelude.{All}
+use Rattle.std.proofs.lemmas.List.Elements.{All-push}
+use Rattle.mega_transcript.specs.Lines.{HasLine}
 use Rattle.mega_transcript.specs.Tape.{newest}
 use Rattle.mega_transcript.specs.declared.item.Item.TheVariants.{Taken}
 use Rattle.mega_transcript.proofs.Tapes.{newest-append}
@@ -13,3 +16,6 @@ returns-clause-state c count r sent =
 
 pub returns-clause-items : goal.returns-clause-items
 returns-clause-items c = ap newest c.in_ok-push.ensures.ok ∙ newest-append c.args.tape.now.items (Taken c.args.number)
+
+pub returns-clause-lines : goal.returns-clause-lines
+returns-clause-lines c = subst (All HasLine) (sym c.in_ok-push.ensures.ok) (All-push HasLine c.args.tape.now.items (Taken c.args.number) c.requires.lines tt)
