@@ -1,3 +1,4 @@
 pub mod Lines
 pub mod Inputs
 pub mod Steps
+pub mod Users

@@ -1,5 +1,6 @@
 pub mod PlainLines
 pub mod LineForms
+pub mod Users
 pub mod Replaying
 pub mod Statuses
 pub mod Stops

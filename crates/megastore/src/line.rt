@@ -1,6 +1,10 @@
 ghost use Rattle.std.specs.Prelude.{◌≡◌, ◌≢◌, ◌+◌, ◌≤◌, ◌++◌, ◌↔◌, ℕ, List, IfSome, IsNone, IsTrue, IfOk, Ok, None};
-ghost use Rattle.megastore.specs.PlainLines.{IsMessageNumber, IsName, IsDelivery, IsPut, IsNoLine};
+ghost use Rattle.megastore.specs.PlainLines.{IsMessageNumber, IsName, IsDelivery, IsPut as IsPutLine, IsNoLine};
 ghost use Rattle.megastore.specs.LineForms.{IsSpelled, IsBegin};
+ghost use Rattle.megastore.specs.Users.{user_row};
+ghost use Rattle.std.specs.Prelude.{[], ◌∷◌};
+ghost use Rattle.mega_core.specs.Puts.{IsPut};
+ghost use Rattle.mega_world.specs.Formed.{IsBuilt};
 
 use mega_base::{Bytes, Cell, GroupId, Items, NoMemory, NodeId, Row, Text, Value};
 use mega_outcome::{Change, Request, Transaction};
@@ -120,8 +124,8 @@ fn delivery(line: &[u8]) -> Option<u64>
 
 /// The node and the name of the put that a line spells.
 fn put_parts(line: &[u8]) -> Option<(u8, &[u8])>
-    ensures some { IfSome result (λ put. IsPut line.now put.0 put.1.now) }
-    ensures none { IsNone result → (node : ℕ) (name : List ℕ) → IsPut line.now node name → ⊥ }
+    ensures some { IfSome result (λ put. IsPutLine line.now put.0 put.1.now) }
+    ensures none { IsNone result → (node : ℕ) (name : List ℕ) → IsPutLine line.now node name → ⊥ }
 {
     let rest = after(line, &PUT)?;
     let (digit, rest) = rest.split_first()?;
@@ -154,13 +158,15 @@ pub fn read_line(alloc: Global, line: &[u8]) -> Result<Option<Line>, NoMemory>
 
 /// The event of the put of a name at a node.
 pub fn put_event(alloc: Global, node: u8, name: Text) -> Result<WorldEvent, NoMemory>
-    ensures { IfOk result (λ event. IsBegin event node) }
+    requires { IsName name }
+    ensures begin { IfOk result (λ event. IsBegin event node) }
+    ensures built { IfOk result IsBuilt }
 {
     let text = begin_text(alloc, node, &name)?;
-    let request = Request::Txn(put_of(alloc, name)?);
+    let transaction = put_of(alloc, name)?;
     Ok(WorldEvent::Begin {
         node: NodeId(node),
-        request,
+        request: Request::Txn(transaction),
         text,
     })
 }
@@ -175,12 +181,13 @@ fn begin_text(alloc: Global, node: u8, name: &Text) -> Result<Text, NoMemory> {
 }
 
 /// The transaction that puts user 101 with this name.
-fn put_of(alloc: Global, name: Text) -> Result<Transaction, NoMemory> {
-    let mut cells = Items::new(alloc);
-    cells.push(cell(alloc, 1, Value::Int64(101))?)?;
-    cells.push(cell(alloc, 2, Value::Str(name))?)?;
+fn put_of(alloc: Global, name: Text) -> Result<Transaction, NoMemory>
+    requires { IsName name }
+    ensures { IfOk result IsPut }
+{
+    let row = row_of(alloc, name)?;
     let mut writes = Items::new(alloc);
-    writes.push(Change::Put(1, Row { cells }))?;
+    writes.push(Change::Put(1, row))?;
     let group = Bytes::from_slice(alloc, &[1, 0x80, 0, 0, 0, 0, 0, 0, 101])?;
     Ok(Transaction {
         group: GroupId { key: group },
@@ -191,8 +198,22 @@ fn put_of(alloc: Global, name: Text) -> Result<Transaction, NoMemory> {
     })
 }
 
+/// The row of user 101 with this name.
+fn row_of(alloc: Global, name: Text) -> Result<Row, NoMemory>
+    ensures { IfOk result (λ row. row ≡ user_row name) }
+{
+    let user = cell(alloc, 1, Value::Int64(101))?;
+    let name = cell(alloc, 2, Value::Str(name))?;
+    let mut cells = Items::new(alloc);
+    cells.push(user)?;
+    cells.push(name)?;
+    Ok(Row { cells })
+}
+
 /// A property with one value.
-fn cell(alloc: Global, property: u8, value: Value) -> Result<Cell, NoMemory> {
+fn cell(alloc: Global, property: u8, value: Value) -> Result<Cell, NoMemory>
+    ensures { IfOk result (λ cell. cell ≡ record { property = property; values = value ∷ [] }) }
+{
     let mut values = Items::new(alloc);
     values.push(value)?;
     Ok(Cell { property, values })

@@ -1,9 +1,12 @@
-ghost use Rattle.std.specs.Prelude.{◌≡◌, ◌≢◌, ◌≤◌, ◌<◌, ◌+◌, [], ◌∷◌, ℕ, List, Ok, Err, IfSome, IfOk, IfErr, OnOk, OnErr, length, true, false};
+ghost use Rattle.std.specs.Prelude.{◌≡◌, ◌≢◌, ◌≤◌, ◌<◌, ◌+◌, [], ◌∷◌, ℕ, List, Ok, Err, IfSome, IfOk, IfErr, OnOk, OnErr, length, true, false, All};
 ghost use Rattle.std.specs.Io.KnownBytes.{prepend_known, IsAtEnd};
 ghost use Rattle.mega_base.specs.Causes.{Rose};
 ghost use Rattle.mega_io.specs.TextLines.{lines_of};
 ghost use Rattle.mega_transcript.specs.Tape.{newest, is_sent, IsQuiet, Grows};
+ghost use Rattle.mega_transcript.specs.Lines.{HasLine};
 ghost use Rattle.mega_world.specs.Represents.{Represents, opened};
+ghost use Rattle.mega_world.specs.Formed.{IsFormed};
+ghost use Rattle.megastore.specs.PlainLines.{IsName};
 ghost use Rattle.megastore.specs.Replaying.{Follows, Differs, Ends, StopsUnbuiltAt, StopsUnsentAt, LeftIsDone, LeftIsUnbuilt, LeftIsRefused, InputDone, InputUnbuilt, InputRefused, IsHeaded, IsOther, IsStep, IsUnbuilt, IsUnsent};
 ghost use Rattle.megastore.specs.Stops.{IsReadStop, IsWriteStop, IsLineStop, IsWorldStop};
 
@@ -11,9 +14,9 @@ use crate::header::{HEADER_END, HEADER_NODES, HEADER_SCHEMA, Next, next_line};
 use crate::line::{Line, put_event, read_line};
 use crate::status::Stop;
 use mega_base::{Bytes, Items, Text};
-use mega_core::text;
 use mega_io::{LineReader, Sink, SinkError, Source, WriteBuffer};
-use mega_transcript::{Item, Tape};
+use mega_schema::Schema;
+use mega_transcript::{Item, Tape, text};
 use mega_world::{World, WorldEvent, WorldFault};
 use std::alloc::Global;
 
@@ -74,11 +77,15 @@ fn take_line(
     world: &mut World,
     tape: &mut Tape,
 ) -> Result<(), Stop>
+    requires formed { IsFormed world.old }
+    requires lines { All HasLine tape.old.items }
     ensures state { OnOk result (Represents 3 world.old (newest tape.old.items) → Represents 3 world.new (newest tape.new.items)) }
     ensures step { OnOk result (Represents 3 world.old (newest tape.old.items) → IsStep line.now (newest tape.old.items) (newest tape.new.items)) }
     ensures unbuilt { (at : ℕ) → result ≡ Err (Stop.Unbuilt at) → Represents 3 world.old (newest tape.old.items) → (at ≡ number) × IsUnbuilt line.now (newest tape.old.items) }
     ensures refused { (at why : ℕ) → result ≡ Err (Stop.Refused at why) → Represents 3 world.old (newest tape.old.items) → (at ≡ number) × IsUnsent line.now (newest tape.old.items) why }
     ensures only { IfErr result IsLineStop }
+    ensures formed { OnOk result (IsFormed world.new) }
+    ensures lines { OnOk result (All HasLine tape.new.items) }
 {
     match read_line(alloc, line) {
         Ok(Some(Line::Deliver { message })) => deliver(alloc, message, number, world, tape),
@@ -96,10 +103,14 @@ fn deliver(
     world: &mut World,
     tape: &mut Tape,
 ) -> Result<(), Stop>
+    requires formed { IsFormed world.old }
+    requires lines { All HasLine tape.old.items }
     ensures state { OnOk result (Represents 3 world.old (newest tape.old.items) → Represents 3 world.new (newest tape.new.items)) }
     ensures items { OnOk result (Represents 3 world.old (newest tape.old.items) → (is_sent (newest tape.old.items) message ≡ true) × Grows (Item.Taken message ∷ newest tape.old.items) (newest tape.new.items)) }
     ensures refused { (at why : ℕ) → result ≡ Err (Stop.Refused at why) → Represents 3 world.old (newest tape.old.items) → (at ≡ number) × (why ≡ 3) × (is_sent (newest tape.old.items) message ≡ false) }
     ensures only { IfErr result IsWorldStop }
+    ensures formed { OnOk result (IsFormed world.new) }
+    ensures lines { OnOk result (All HasLine tape.new.items) }
 {
     match world.apply(alloc, WorldEvent::Deliver { message }, tape) {
         Ok(()) => Ok(()),
@@ -119,11 +130,16 @@ fn put(
 ) -> Result<(), Stop>
     requires least { 1 ≤ node }
     requires most { node ≤ 3 }
+    requires formed { IsFormed world.old }
+    requires lines { All HasLine tape.old.items }
+    requires name { IsName name }
     ensures state { OnOk result (Represents 3 world.old (newest tape.old.items) → Represents 3 world.new (newest tape.new.items)) }
     ensures items { OnOk result (Represents 3 world.old (newest tape.old.items) → IsQuiet (newest tape.old.items) × Grows (newest tape.old.items) (newest tape.new.items)) }
     ensures unbuilt { (at : ℕ) → result ≡ Err (Stop.Unbuilt at) → Represents 3 world.old (newest tape.old.items) → (at ≡ number) × (IsQuiet (newest tape.old.items) → ⊥) }
     ensures refused { (at why : ℕ) → result ≡ Err (Stop.Refused at why) → Represents 3 world.old (newest tape.old.items) → ⊥ }
     ensures only { IfErr result IsLineStop }
+    ensures formed { OnOk result (IsFormed world.new) }
+    ensures lines { OnOk result (All HasLine tape.new.items) }
 {
     if !world.is_quiet() {
         return Err(Stop::Unbuilt { line: number });
@@ -139,6 +155,26 @@ fn put(
     }
 }
 
+/// The schema of no tables: no item that a replay of puts makes names one.
+fn nameless(alloc: Global) -> Schema {
+    Schema {
+        name: Text::new(alloc),
+        tables: Items::new(alloc),
+        indexes: Items::new(alloc),
+    }
+}
+
+/// The tape's items from an index on.
+fn items_from(tape: &Tape, from: usize) -> &[Item]
+    requires { All HasLine tape.now.items }
+    ensures { All HasLine result.now }
+{
+    match tape.items.as_slice().get(from..) {
+        Some(fresh) => fresh,
+        None => &[],
+    }
+}
+
 /// Writes the lines of the tape's items from an index on.
 fn write_from<O: Sink>(
     alloc: Global,
@@ -147,17 +183,16 @@ fn write_from<O: Sink>(
     out: &mut O,
     buffer: &mut WriteBuffer,
 ) -> Result<(), Stop>
+    requires { All HasLine tape.now.items }
     ensures sink { result ≡ Err Stop.Sink → Rose (O.faults out.old) (O.faults out.new) }
     ensures only { IfErr result IsWriteStop }
     ensures count { O.faults out.old ≤ O.faults out.new }
 {
+    let schema = nameless(alloc);
     let mut bytes = Bytes::new(alloc);
-    let Some(fresh) = tape.items.as_slice().get(from..) else {
-        return Ok(());
-    };
-    for item in fresh {
+    for item in items_from(tape, from) {
         bytes.clear();
-        match write_item(alloc, item, &mut bytes, out, buffer) {
+        match write_item(alloc, &schema, item, &mut bytes, out, buffer) {
             Ok(()) => {}
             Err(stop) => return Err(stop),
         }
@@ -168,16 +203,18 @@ fn write_from<O: Sink>(
 /// Writes the line of an item.
 fn write_item<O: Sink>(
     alloc: Global,
+    schema: &Schema,
     item: &Item,
     bytes: &mut Bytes,
     out: &mut O,
     buffer: &mut WriteBuffer,
 ) -> Result<(), Stop>
+    requires { HasLine item.now }
     ensures sink { result ≡ Err Stop.Sink → Rose (O.faults out.old) (O.faults out.new) }
     ensures only { IfErr result IsWriteStop }
     ensures count { O.faults out.old ≤ O.faults out.new }
 {
-    match text(alloc, item, bytes) {
+    match text(alloc, schema, item, bytes) {
         Ok(()) => {}
         Err(_) => return Err(Stop::NoMemory),
     }
@@ -200,7 +237,9 @@ fn do_line<I: Source, O: Sink>(
     out: &mut O,
     buffer: &mut WriteBuffer,
 ) -> Result<bool, Stop>
-    requires { Represents 3 world.old (newest tape.old.items) }
+    requires represents { Represents 3 world.old (newest tape.old.items) }
+    requires formed { IsFormed world.old }
+    requires lines { All HasLine tape.old.items }
     ensures state { result ≡ Ok true → Represents 3 world.new (newest tape.new.items) }
     ensures line { result ≡ Ok true → Follows (prepend_known reader.old (I.left input.old)) (prepend_known reader.new (I.left input.new)) line.new }
     ensures step { result ≡ Ok true → IsStep line.new (newest tape.old.items) (newest tape.new.items) }
@@ -211,6 +250,8 @@ fn do_line<I: Source, O: Sink>(
     ensures sink { result ≡ Err Stop.Sink → Rose (O.faults out.old) (O.faults out.new) }
     ensures inputs { I.faults input.old ≤ I.faults input.new }
     ensures outs { O.faults out.old ≤ O.faults out.new }
+    ensures formed { result ≡ Ok true → IsFormed world.new }
+    ensures lines { result ≡ Ok true → All HasLine tape.new.items }
 {
     match next_line(reader, input, line) {
         Ok(Next::Line) => {}
@@ -242,6 +283,8 @@ fn run_lines<I: Source, O: Sink>(
 ) -> Result<(), Stop>
     requires represents { Represents 3 world.old (newest tape.old.items) }
     requires opened { newest tape.old.items ≡ opened 3 }
+    requires formed { IsFormed world.old }
+    requires lines { All HasLine tape.old.items }
     ensures done { OnOk result (LeftIsDone (prepend_known reader.old (I.left input.old))) }
     ensures end { OnOk result (IsAtEnd (I.left input.new)) }
     ensures unbuilt { (at : ℕ) → result ≡ Err (Stop.Unbuilt at) → LeftIsUnbuilt (prepend_known reader.old (I.left input.old)) at }

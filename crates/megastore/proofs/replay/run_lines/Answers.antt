@@ -12,4 +12,4 @@ returns-in-Err-clause-refused g c at why is =
 pub loop-count-preserved : goal.loop-count-preserved
 loop-count-preserved g c =
     let done = ap Ok c.in-Ok-true.field-0-test in
-    (ran_on _ _ _ _ _ _ _ c.loop-count.invariant.0 (c.in-Ok-true.ensures.line done) (c.in-Ok-true.ensures.step done), c.in-Ok-true.ensures.state done, omega arith, omega arith)
+    (ran_on _ _ _ _ _ _ _ c.loop-count.invariant.0 (c.in-Ok-true.ensures.line done) (c.in-Ok-true.ensures.step done), c.in-Ok-true.ensures.state done, omega arith, omega arith, c.in-Ok-true.ensures.formed done, c.in-Ok-true.ensures.lines done)

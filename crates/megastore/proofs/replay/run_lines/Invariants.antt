@@ -1,6 +1,9 @@
 use Rattle.std.proofs.Common.{◌≤◌}
+use Rattle.std.specs.Prelude.{All}
 use Rattle.std.specs.Io.KnownBytes.{prepend_known}
+use Rattle.mega_transcript.specs.Lines.{HasLine}
 use Rattle.mega_transcript.specs.Tape.{newest}
+use Rattle.mega_world.specs.Formed.{IsFormed}
 use Rattle.mega_world.specs.Represents.{Represents}
 use Rattle.megastore.proofs.Steps.{RanTo}
 use Rattle.megastore.proofs.replay.run_lines.Given as goal
@@ -11,3 +14,5 @@ invariant-loop-count g l =
     × Represents 3 l.world (newest l.tape.items)
     × (g.I.Source.faults l.fn.input ≤ g.I.Source.faults l.input)
     × (g.O.Sink.faults l.fn.out ≤ g.O.Sink.faults l.out)
+    × IsFormed l.world
+    × All HasLine l.tape.items
