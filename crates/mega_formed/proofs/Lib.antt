@@ -1,2 +1,4 @@
 pub mod Each
 pub mod Rounds
+pub mod Reading
+pub mod Texts
