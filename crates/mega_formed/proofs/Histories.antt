@@ -1,25 +1,22 @@
 -- What is read from a history of the format is of the format.
-use Rattle.std.proofs.Common.{◌≡◌, ℕ, zero, suc, ◌+◌, ◌==◌, ◌&&◌, ◌≤◌, max, Bool, true, false, cond, List, [], ◌∷◌, ◌++◌, length, map, flat_map, Option, Some, None, refl, sym, subst, arith}
-use Rattle.std.specs.Prelude.{filter, filter_map, nat_lt}
-use Rattle.std.specs.List.{cons_option, range_with_len}
+use Rattle.std.proofs.Common.{◌≡◌, ℕ, zero, suc, ◌+◌, ◌==◌, ◌&&◌, ◌≤◌, max, Bool, true, false, cond, List, [], ◌∷◌, length, Option, Some, None, refl, subst, arith}
+use Rattle.std.specs.List.{cons_option}
 use Rattle.std.proofs.lemmas.Bool.Decides.{nat_tests}
-use Rattle.mega_base.specs.declared.names.Epoch.{Epoch}
 use Rattle.mega_base.specs.declared.names.GroupId.{GroupId}
 use Rattle.mega_base.specs.Codec.{IsOption}
-use Rattle.mega_base.specs.Names.{IsEpoch, IsGroup, IsU32}
+use Rattle.mega_base.specs.Names.{IsGroup, IsU32}
 use Rattle.mega_ballot.specs.declared.ballot.Ballot.{Ballot}
 use Rattle.mega_ballot.specs.Ballots.{IsBallot}
 use Rattle.mega_cluster.specs.declared.cluster.Cluster.{Cluster}
 use Rattle.mega_entry.specs.declared.content.Content.{Content}
-use Rattle.mega_wire.specs.declared.message.Message.{Message}
 use Rattle.mega_wire.specs.declared.message.Body.{Body}
-use Rattle.mega_wire.specs.declared.message.Body.TheVariants.{Where, Top, Accept, Accepted, Refused, Prepare, Promise, Invalidate, Invalidated, Dead, Held, Unheld, Decide, Fetch, Have, HaveNot, Acquire, Granted, Past, Request, Reply}
-use Rattle.mega_wire.specs.Messages.{IsMessage, IsBody}
+use Rattle.mega_wire.specs.declared.message.Body.TheVariants.{Accepted, Promise}
+use Rattle.mega_wire.specs.Messages.{IsBody}
 use Rattle.mega_wal.specs.Acceptor.{Act, Promised, Vote, Voted, best, greater_ballot, greater_vote, is_ballot_below, shown}
 use Rattle.mega_wal.specs.Same.{same_group}
-use Rattle.mega_rules.specs.Met.{Met, Starts, Crashes, Ticks, Begins, Takes, Sends, Unsends, Grants, Lapses, Counts, Forgets, Serves, Loses, Validates, Invalidates, Decides, Applies, Answers}
-use Rattle.mega_rules.specs.Members.{cells, full_nodes, is_full, is_voter, nodes, voters}
-use Rattle.mega_rules.specs.Clock.{clock_of, start_of, ticks_of}
+use Rattle.mega_rules.specs.Met.{Met, Starts, Ticks, Sends, Unsends, Decides}
+use Rattle.mega_rules.specs.Members.{full_nodes, is_full, is_voter, nodes, voters}
+use Rattle.mega_rules.specs.Clock.{clock_of, start_of}
 use Rattle.mega_rules.specs.Voting.{act_if, act_in, act_made, acts, made_of}
 use Rattle.mega_rules.specs.Logs.{accepted_at, decided, decided_from, first_of, groups_of, is_group_before, log_of, newest_of, prefix_of, then_more, top_of, with_group}
 use Rattle.mega_formed.specs.Rounds.{Each, IsMember, IsPlace, IsShort, IsVote}
@@ -74,11 +71,11 @@ right false b h = cc
 
 pub decided_formed : (met : List Met) (group : GroupId) (n : ℕ) → IsMet met → IsDecided (decided met group n) n
 decided_formed [] group n h = tt
-decided_formed (Decides g position entry ∷ before) group n h = go (same_group g group && position == n) refl
+decided_formed (Decides g position entry ∷ before) group n h = go (same_group g group && position == n) refl (decided_formed before group n h.1)
   where
-    go : (t : Bool) → (same_group g group && position == n) ≡ t → IsDecided (cond t (first_of (decided before group n) entry) (decided before group n)) n
-    go true e = first_formed (decided before group n) entry n (decided_formed before group n h.1) (place_is position n (right (same_group g group) (position == n) e) ((h.0).1).0) ((h.0).1).1
-    go false e = decided_formed before group n h.1
+    go : (t : Bool) → (same_group g group && position == n) ≡ t → IsDecided (decided before group n) n → IsDecided (cond t (first_of (decided before group n) entry) (decided before group n)) n
+    go true e k = first_formed (decided before group n) entry n k (place_is position n (right (same_group g group) (position == n) e) ((h.0).1).0) ((h.0).1).1
+    go false e k = k
 decided_formed (_ ∷ before) group n h = decided_formed before group n h.1
 
 -- a log's entries, and how far it reaches: each position in it is decided

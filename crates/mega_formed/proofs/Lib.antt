@@ -2,3 +2,14 @@ pub mod Each
 pub mod Rounds
 pub mod Reading
 pub mod Texts
+pub mod Histories
+pub mod Locks
+pub mod Replies
+pub mod Queues
+pub mod Acting
+pub mod Steps
+pub mod Rows
+pub mod Outcomes
+pub mod Batches
+pub mod Handling
+pub mod Whole

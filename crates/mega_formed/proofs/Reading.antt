@@ -1,29 +1,24 @@
 -- A read sends only messages of the format, and stays of the format.
-use Rattle.std.proofs.Common.{◌≡◌, ℕ, ◌+◌, ◌==◌, ◌&&◌, ◌||◌, ◌≤◌, max, Bool, true, false, not, cond, List, [], ◌∷◌, ◌++◌, length, map, Option, Some, None, refl, subst, arith}
+use Rattle.std.proofs.Common.{◌≡◌, ℕ, ◌+◌, ◌==◌, ◌&&◌, ◌||◌, max, not, List, [], ◌∷◌, ◌++◌, length, map, Option, Some, None, refl, subst, arith}
 use Rattle.std.specs.List.{list_all}
 use Rattle.mega_base.specs.declared.names.Epoch.{Epoch}
-use Rattle.mega_base.specs.declared.names.OpId.{OpId}
-use Rattle.mega_base.specs.Names.{IsGroup}
 use Rattle.mega_entry.specs.declared.content.Content.{Content}
-use Rattle.mega_wire.specs.declared.message.Message.{Message}
 use Rattle.mega_wire.specs.declared.message.Body.{Body}
-use Rattle.mega_wire.specs.declared.message.Body.TheVariants.{Where, Top, Accept, Accepted, Refused, Prepare, Promise, Invalidate, Invalidated, Dead, Held, Unheld, Decide, Fetch, Have, HaveNot, Acquire, Granted, Past, Request, Reply}
+use Rattle.mega_wire.specs.declared.message.Body.TheVariants.{Top, HaveNot}
 use Rattle.mega_wire.specs.Messages.{IsMessage, IsBody}
 use Rattle.mega_wal.specs.Same.{same_group, same_op}
-use Rattle.mega_propose.specs.Members.{has, is_majority, others, with_node, without}
-use Rattle.mega_propose.specs.declared.round.Proposal.{Proposal}
+use Rattle.mega_propose.specs.Members.{has, is_majority, with_node, without}
 use Rattle.mega_propose.specs.declared.round.Move.{Move as RoundMove}
 use Rattle.mega_propose.specs.Rounds.{completes, due, is_due, settled, takes}
 use Rattle.mega_read.specs.declared.reading.Reader.{Reader}
-use Rattle.mega_read.specs.declared.reading.Search.{Search}
 use Rattle.mega_read.specs.declared.reading.Search.TheVariants.{Fetching, Filling}
 use Rattle.mega_read.specs.declared.reading.Stage.{Stage}
 use Rattle.mega_read.specs.declared.reading.Stage.TheVariants.{Polling, Catching}
 use Rattle.mega_read.specs.declared.reading.Reading.{Reading}
 use Rattle.mega_read.specs.declared.reading.Move.{Move}
 use Rattle.mega_read.specs.Catching.{asked_by, denied, falls_due, fetch_to, fetches, filled, fills, first_reading, hears, helpers, is_position, local_read, move, no_op, polled_read, read_settled, searched, seeks, settled_there, site, stays, topped, where_to}
-use Rattle.mega_formed.specs.Rounds.{AreMessages, Each, IsMember, IsMove, IsPlace, IsProposal, IsShort, IsSite}
-use Rattle.mega_formed.specs.Reads.{IsReader, IsReading, IsReadMove, IsSearch, IsStage, IsTop}
+use Rattle.mega_formed.specs.Rounds.{Each, IsMember, IsMove, IsPlace, IsShort, IsSite}
+use Rattle.mega_formed.specs.Reads.{IsReader, IsReading, IsReadMove, IsStage, IsTop}
 use Rattle.mega_formed.proofs.Each.{each_filter, each_map, either}
 use Rattle.mega_formed.proofs.Rounds.{completes_formed, due_formed, settled_formed, takes_formed}
 use Rattle.mega_formed.proofs.Texts.{no_op_short}

@@ -1,31 +1,26 @@
 -- A round sends only messages of the format, and stays of the format.
-use Rattle.std.proofs.Common.{◌≡◌, ℕ, ◌+◌, ◌==◌, ◌&&◌, ◌≤◌, max, Bool, true, false, not, cond, nat_le, List, [], ◌∷◌, ◌++◌, length, map, flat_map, Option, Some, None, refl, sym, subst, zero, suc, arith}
+use Rattle.std.proofs.Common.{◌≡◌, ℕ, ◌+◌, ◌==◌, ◌&&◌, ◌≤◌, max, Bool, true, false, not, cond, nat_le, List, [], ◌∷◌, ◌++◌, length, map, Option, Some, None, refl, subst, zero, suc, arith}
 use Rattle.std.specs.List.{list_all, list_any, range_with_len}
 use Rattle.std.proofs.lemmas.Bool.Decides.{nat_tests}
-use Rattle.mega_base.specs.Pairs.{IsPair}
-use Rattle.mega_base.specs.Codec.{IsOption}
 use Rattle.mega_base.specs.Names.{IsU32}
 use Rattle.mega_ballot.specs.declared.ballot.Ballot.{Ballot}
 use Rattle.mega_ballot.specs.Ballots.{IsBallot}
 use Rattle.mega_ballot.specs.Order.{zero_ballot}
 use Rattle.mega_entry.specs.declared.content.Content.{Content}
-use Rattle.mega_wire.specs.declared.message.Message.{Message}
 use Rattle.mega_wire.specs.declared.message.Body.{Body}
-use Rattle.mega_wire.specs.declared.message.Body.TheVariants.{Where, Top, Accept, Accepted, Refused, Prepare, Promise, Invalidate, Invalidated, Dead, Held, Unheld, Decide, Fetch, Have, HaveNot, Acquire, Granted, Past, Request, Reply}
+use Rattle.mega_wire.specs.declared.message.Body.TheVariants.{Accept, Accepted, Refused, Prepare, Promise, Invalidated, Unheld}
 use Rattle.mega_wire.specs.Messages.{IsMessage, IsBody}
 use Rattle.mega_wal.specs.Acceptor.{is_ballot_below}
 use Rattle.mega_propose.specs.Members.{has, is_majority, others, with_node}
 use Rattle.mega_propose.specs.declared.round.Cover.{Cover}
-use Rattle.mega_propose.specs.declared.round.Free.{Free}
 use Rattle.mega_propose.specs.declared.round.Report.{Report}
 use Rattle.mega_propose.specs.declared.round.Round.{Round}
 use Rattle.mega_propose.specs.declared.round.Site.{Site}
 use Rattle.mega_propose.specs.declared.round.Proposal.{Proposal}
-use Rattle.mega_propose.specs.declared.round.Move.{Move}
 use Rattle.mega_propose.specs.declared.round.Round.TheVariants.{Asking, Preparing, Accepting, Covering, Settled, Waiting}
-use Rattle.mega_propose.specs.Rounds.{accept_to, accepted, accepts, asks, cell_numbers, completes, covers, dead_to, due, first_cover, greater_vote, greatest_vote, invalidate_to, invalidated, is_covered, is_due, is_here, is_same_free, is_sent, last_round, move, next_ballot, picked, prepare_to, prepares, presses, promised, proposes, refused, same_ballot, sees, settled, stays, takes, tells, uncovered, unheld, vote_round, with_accepted, with_cell, with_invalidated, with_told}
-use Rattle.mega_formed.specs.Rounds.{AreMessages, Each, IsMember, IsMove, IsPlace, IsProposal, IsReport, IsRound, IsSender, IsShort, IsSite, IsVote}
-use Rattle.mega_formed.proofs.Each.{each_both, each_filter, each_flat, each_map, each_numbered, either}
+use Rattle.mega_propose.specs.Rounds.{accept_to, accepted, accepts, asks, cell_numbers, completes, covers, dead_to, due, first_cover, greater_vote, greatest_vote, invalidate_to, invalidated, is_covered, is_due, is_here, is_sent, last_round, move, next_ballot, picked, prepare_to, prepares, presses, promised, proposes, refused, same_ballot, sees, settled, stays, takes, uncovered, unheld, vote_round, with_accepted, with_cell, with_invalidated}
+use Rattle.mega_formed.specs.Rounds.{AreMessages, Each, IsMember, IsMove, IsProposal, IsReport, IsRound, IsShort, IsSite, IsVote}
+use Rattle.mega_formed.proofs.Each.{each_both, each_filter, each_flat, each_map, either}
 
 some_is : {X : Type 0} (x y : X) → Some x ≡ Some y → x ≡ y
 some_is x y e = cc

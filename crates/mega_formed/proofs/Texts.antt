@@ -1,21 +1,15 @@
 -- Entries that are short, by the lengths of the parts of their texts.
-use Rattle.std.proofs.Common.{◌≡◌, ◌∙◌, ap, ℕ, zero, suc, ◌+◌, ◌≤◌, List, [], ◌∷◌, ◌++◌, length, length-append, Option, Some, None, refl, subst, arith}
-use Rattle.std.specs.Prelude.{All}
+use Rattle.std.proofs.Common.{◌≡◌, ◌∙◌, ap, ℕ, ◌+◌, List, [], ◌∷◌, ◌++◌, length, length-append, Option, Some, None, arith}
 use Rattle.std.specs.List.{flat_map}
 use Rattle.std.proofs.lemmas.List.Elements.{All-cons, All-nil}
-use Rattle.mega_base.specs.Codec.{number_text, bytes_text, option_text, list_text, one_byte, IsOption, IsList, IsNested}
+use Rattle.mega_base.specs.Codec.{number_text, option_text, list_text, IsList}
 use Rattle.mega_base.specs.Digits.{length_number_text}
-use Rattle.mega_base.specs.Names.{op_text, node_text, u32_text, IsOp, IsNode}
+use Rattle.mega_base.specs.Names.{op_text, node_text, u32_text, IsNode}
 use Rattle.mega_base.specs.declared.names.OpId.{OpId}
 use Rattle.mega_base.specs.declared.names.NodeId.{NodeId}
-use Rattle.mega_entry.specs.declared.content.Write.{Write}
-use Rattle.mega_entry.specs.declared.content.Send.{Send}
-use Rattle.mega_entry.specs.declared.content.Enter.{Enter}
-use Rattle.mega_entry.specs.declared.content.Name.{Name}
-use Rattle.mega_entry.specs.declared.content.Cut.{Cut}
 use Rattle.mega_entry.specs.declared.content.Content.{Content}
-use Rattle.mega_entry.specs.Entries.{IsEntry, IsWrite, IsSend, IsEnter, IsName, HasCuts, write_text, send_text, enter_text, name_text, cut_text, cuts_text, entry_text, version_of, most_items}
-use Rattle.mega_formed.specs.Rounds.{Each, IsShort}
+use Rattle.mega_entry.specs.Entries.{IsWrite, IsSend, IsEnter, IsName, write_text, send_text, enter_text, name_text, cuts_text, entry_text, most_items}
+use Rattle.mega_formed.specs.Rounds.{IsShort}
 
 -- a number's text, and what follows it
 pub number_front : (k n : ℕ) (rest : List ℕ) → length (number_text k n ++ rest) ≡ k + length rest
@@ -57,6 +51,10 @@ pub no_items : {A : Type 0} (P : A → Type 0) → IsList 0 most_items P []
 no_items P = record { each = All-nil P; least = omega arith; most = omega arith }
 
 pub no_op_short : (leader : NodeId) → IsNode leader → IsShort (record { id = None; leader = leader; writes = []; sends = []; enters = []; handles = []; cuts = [] })
-no_op_short leader h =
-    (record { id = tt; leader = h; writes = no_items IsWrite; sends = no_items IsSend; enters = no_items IsEnter; handles = no_items IsName; cuts = tt },
-    omega (arith, parts (record { id = None; leader = leader; writes = []; sends = []; enters = []; handles = []; cuts = [] })))
+no_op_short leader h = (
+  record { id = tt; leader = h; writes = no_items IsWrite; sends = no_items IsSend; enters = no_items IsEnter; handles = no_items IsName; cuts = tt },
+  omega (arith, parts (record { id = None; leader = leader; writes = []; sends = []; enters = []; handles = []; cuts = [] })),
+)
+
+pub one_item : {A : Type 0} (P : A → Type 0) (x : A) → P x → IsList 0 most_items P (x ∷ [])
+one_item P x h = record { each = All-cons P x [] h (All-nil P); least = omega arith; most = omega arith }

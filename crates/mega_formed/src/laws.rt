@@ -1,17 +1,41 @@
 //! Laws, as contracts of functions that do nothing.
 
-ghost use Rattle.std.specs.Prelude.{◌≡◌, ℕ, List, Option, Some};
+ghost use Rattle.std.specs.Prelude.{◌≡◌, ◌≤◌, ℕ, List, [], length, Ok, Option, Some, true};
 ghost use Rattle.mega_base.specs.declared.names.Epoch.{Epoch};
 ghost use Rattle.mega_entry.specs.declared.content.Content.{Content};
 ghost use Rattle.mega_wire.specs.declared.message.Body.{Body};
-ghost use Rattle.mega_wire.specs.Messages.{IsBody};
+ghost use Rattle.mega_wire.specs.Messages.{IsBody, IsMessage};
 ghost use Rattle.mega_propose.specs.declared.round.Proposal.{Proposal};
 ghost use Rattle.mega_propose.specs.declared.round.Site.{Site};
 ghost use Rattle.mega_propose.specs.Rounds.{asks, completes, due, settled, takes};
 ghost use Rattle.mega_read.specs.declared.reading.Reader.{Reader};
 ghost use Rattle.mega_read.specs.declared.reading.Reading.{Reading};
-ghost use Rattle.mega_read.specs.Catching.{falls_due, first_reading, hears, local_read, polled_read, read_settled, seeks};
-ghost use Rattle.mega_formed.specs.Rounds.{IsMember, IsMove, IsPlace, IsProposal, IsShort, IsSite};
+ghost use Rattle.mega_read.specs.Catching.{falls_due, first_reading, hears, local_read, no_op, polled_read, read_settled, seeks};
+ghost use Rattle.mega_cluster.specs.declared.cluster.Cluster.{Cluster};
+ghost use Rattle.mega_wire.specs.declared.message.Message.{Message};
+ghost use Rattle.mega_rules.specs.Met.{Met};
+ghost use Rattle.mega_rules.specs.Replies.{reply_to};
+ghost use Rattle.mega_rules.specs.Coordinators.{acquires_at};
+ghost use Rattle.mega_rules.specs.Operations.{Setting};
+ghost use Rattle.mega_rules.specs.Steps.{Decision, background, news};
+ghost use Rattle.mega_rules.specs.Operations.{Node};
+ghost use Rattle.mega_rules.specs.Steps.{Event, step};
+ghost use Rattle.mega_rules.specs.Queues.{enter_entry, is_short};
+ghost use Rattle.mega_rules.specs.Acting.{handling, table_rows};
+ghost use Rattle.mega_base.specs.declared.names.GroupId.{GroupId};
+ghost use Rattle.mega_base.specs.declared.names.OpId.{OpId};
+ghost use Rattle.mega_entry.specs.declared.content.Enter.{Enter};
+ghost use Rattle.mega_entry.specs.Entries.{IsEnter};
+ghost use Rattle.mega_schema.specs.declared.schema.Schema.{Schema};
+ghost use Rattle.mega_index.specs.Rows.{after, list_after, no_rows};
+ghost use Rattle.mega_outcome.specs.declared.answer.Done.{Done};
+ghost use Rattle.mega_outcome.specs.declared.transaction.Transaction.{Transaction};
+ghost use Rattle.mega_outcome.specs.Outcome.{batch_outcome, entry_of_batch, entry_of_done, outcome};
+ghost use Rattle.mega_formed.specs.Requests.{IsEntered, IsTransaction};
+ghost use Rattle.mega_formed.specs.Nodes.{IsEvent, IsNode, IsSetting, IsStep};
+ghost use Rattle.mega_formed.specs.Decisions.{AreDecided};
+ghost use Rattle.mega_formed.specs.Histories.{IsClock, IsCluster, IsMet};
+ghost use Rattle.mega_formed.specs.Rounds.{AreMessages, Each, IsMember, IsMove, IsPlace, IsProposal, IsSender, IsShort, IsSite};
 ghost use Rattle.mega_formed.specs.Reads.{IsReadMove, IsReader, IsReading, IsTop};
 
 /// A round at a position of the format sends only messages of the format, whatever it takes of them and whenever it is due, and the entry
@@ -34,4 +58,29 @@ pub fn reads_are_of_the_format()
     ensures due { (who : Reader) (r : Reading) (retry now : ℕ) → IsReader who → IsReading r → IsReadMove (falls_due who r retry now) }
     ensures seeks { (who : Reader) (r : Reading) (least now : ℕ) → IsReader who → IsReading r → IsPlace least → IsReadMove (seeks who r least now) }
     ensures settles { (r : Reading) (found : ℕ × Content) → IsReading r → read_settled r ≡ Some found → IsPlace found.0 × IsShort found.1 }
+{}
+
+/// The reply to a message of the format, the telling of a decision, what is fetched in the background and what the cells are asked for are
+/// messages of the format, where all that their node met is.
+pub fn replies_are_of_the_format()
+    ensures replies { (c : Cluster) (me : ℕ) (met : List Met) (m : Message) → IsMember me → IsMet met → IsMessage m → AreMessages (reply_to c me met m) }
+    ensures news { (s : Setting) (d : Option Decision) → IsCluster s.cluster → IsMember s.me → AreDecided d → AreMessages (news s d) }
+    ensures background { (s : Setting) (met : List Met) (now : ℕ) → IsCluster s.cluster → IsMember s.me → IsMet met → AreMessages (background s met now) }
+    ensures acquires { (c : Cluster) (me : ℕ) (met : List Met) (now : ℕ) → IsCluster c → IsMember me → IsMet met → IsClock now → AreMessages (acquires_at c me met now) }
+{}
+
+/// What an operation proposes can stand in a message: the entry of a transaction or of a batch over the rows that a log leaves, a no-op,
+/// the entry that enters a message that is short enough, and the one that handles a message that a log entered.
+pub fn outcomes_are_of_the_format()
+    ensures transactions { (s : Schema) (t : Transaction) (log : List Content) (op : OpId) (done : Done) → IsTransaction t → Each IsShort log → IsSender op → outcome s t (after log no_rows) ≡ Ok done → IsShort (entry_of_done op done) }
+    ensures batches { (s : Schema) (group : GroupId) (ts : List Transaction) (log : List Content) (op : OpId) → length ts ≤ 16 → Each IsTransaction ts → Each IsShort log → IsSender op → IsShort (entry_of_batch op (batch_outcome s group ts (after log no_rows))) }
+    ensures nothing { (who : Reader) → IsReader who → IsShort (no_op who) }
+    ensures entering { (op : OpId) (enter : Enter) → IsSender op → IsEnter enter → is_short (enter_entry op enter) ≡ true → IsShort (enter_entry op enter) }
+    ensures handling { (s : Setting) (op : OpId) (group : GroupId) (enter : Enter) (log : List Content) → IsSetting s → IsSender op → IsEntered enter → Each IsShort log → IsShort (handling s op group enter (table_rows s.cluster.schema group (list_after log []))) }
+{}
+
+/// A node of the format stays of the format, whatever it takes that is: in each step it sends only messages of the format, decides only
+/// entries that can stand in a message, and what it met and its open operations are of the format then.
+pub fn steps_stay_of_the_format()
+    ensures { (s : Setting) (node : Node) (event : Event) → IsSetting s → IsNode node → IsEvent event → IsStep (step s node event) }
 {}

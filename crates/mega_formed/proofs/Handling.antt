@@ -1,0 +1,107 @@
+-- The entry that handles a message is of the format.
+use Rattle.std.proofs.Common.{◌≡◌, ℕ, ◌+◌, ◌≤◌, ◌&&◌, Bool, true, false, cond, List, [], ◌∷◌, ◌++◌, length, length-append, flat_map, Option, Some, None, refl, arith}
+use Rattle.std.specs.Prelude.{nat_le, nat_lt, is_some}
+use Rattle.std.proofs.lemmas.Bool.Decides.{nat_tests}
+use Rattle.mega_base.specs.Codec.{bytes_text}
+use Rattle.mega_base.specs.Values.{IsRow}
+use Rattle.mega_base.specs.declared.names.GroupId.{GroupId}
+use Rattle.mega_base.specs.declared.names.OpId.{OpId}
+use Rattle.mega_base.specs.declared.values.Row.{Row}
+use Rattle.mega_entry.specs.declared.content.Content.{Content}
+use Rattle.mega_entry.specs.declared.content.Enter.{Enter}
+use Rattle.mega_entry.specs.declared.content.Write.{Write}
+use Rattle.mega_entry.specs.Entries.{IsEnter, IsName, IsSend, IsWrite, enter_text, entry_text, name_text}
+use Rattle.mega_schema.specs.declared.schema.Schema.{Schema}
+use Rattle.mega_index.specs.Fitted.{enter_length, fitted_writes, is_kept, kept_write, most_bytes, send_fits, table_of}
+use Rattle.mega_index.specs.LocalWrites.{index_writes}
+use Rattle.mega_index.specs.Rows.{Listed, Rows, list_after, row_under, written}
+use Rattle.mega_handler.specs.Effects.{Effect, entry_handling, handle_entry, handled}
+use Rattle.mega_handler.specs.Named.{effect}
+use Rattle.mega_rules.specs.Acting.{handling, table_rows}
+use Rattle.mega_rules.specs.Operations.{Setting}
+use Rattle.mega_formed.specs.Rounds.{Each, IsSender, IsShort}
+use Rattle.mega_formed.specs.Requests.{AreHandlers, IsEntered, IsQueued, IsRowed}
+use Rattle.mega_formed.proofs.Each.{each_both, each_filter, either}
+use Rattle.mega_formed.proofs.Rows.{after_listed, index_rowed}
+use Rattle.mega_formed.proofs.Texts.{no_items, number_front, one_item, parts}
+use Rattle.mega_formed.proofs.Outcomes.{bytes_front, few_sends, few_writes}
+
+-- ---- what of an effect is kept
+
+kept_rowed : (s : Schema) (n : Option ℕ) (rows : Rows) (write : Write) → IsRowed write → Each IsRowed (kept_write s n rows write)
+kept_rowed s None rows write h = tt
+kept_rowed s (Some n) rows write h = either (Each IsRowed) (is_kept s n write) (write ∷ index_writes s n (rows write.key) write.row) [] (h, index_rowed s n (rows write.key) write.row h) tt
+
+fitted_rowed : (s : Schema) (group : List ℕ) (rows : Rows) (writes : List Write) → Each IsRowed writes → Each IsRowed (fitted_writes s group rows writes)
+fitted_rowed s group rows [] h = tt
+fitted_rowed s group rows (write ∷ writes) h = each_both IsRowed (kept_write s (table_of s group write.key) rows write) (fitted_writes s group (written (kept_write s (table_of s group write.key) rows write) rows) writes)
+    (kept_rowed s (table_of s group write.key) rows write h.0) (fitted_rowed s group (written (kept_write s (table_of s group write.key) rows write) rows) writes h.1)
+
+abbrev IsEffect : Effect → Type 0
+IsEffect effect = Each IsRowed effect.0 × Each IsQueued effect.1
+
+handled_formed : (s : Schema) (group : GroupId) (rows : Listed) (effect : Effect) → IsEffect effect → IsEffect (handled s group rows effect)
+handled_formed s group rows effect h = (fitted_rowed s group.key (row_under rows) effect.0 h.0, each_filter IsQueued (λ send. send_fits s send && nat_le (enter_length group.key send) most_bytes) effect.1 h.1)
+
+-- ---- the entry
+
+-- a mark alone is no longer than the message that it marks
+name_length : (enter : Enter) → length (name_text enter.name) + 9 ≤ length (enter_text enter) → length (enter_text enter) + 19 ≤ 65536 → length (flat_map name_text (enter.name ∷ [])) + 28 ≤ 65536
+name_length enter le most = let one = length-append (name_text enter.name) [] in omega (arith, le, most, one)
+
+enter_longer : (enter : Enter) → 1 ≤ length enter.queue → length (name_text enter.name) + 9 ≤ length (enter_text enter)
+enter_longer enter some =
+    let front = length-append (name_text enter.name) (bytes_text enter.queue ++ bytes_text enter.payload) in
+    let queue = bytes_front enter.queue (bytes_text enter.payload) in
+    let payload = number_front 4 (length enter.payload) enter.payload in
+    omega (arith, front, queue, payload, some)
+
+marks : (op : OpId) (enter : Enter) → IsSender op → IsEntered enter → IsShort (entry_handling op enter.name ([], []))
+marks op enter o h =
+    let queue = (((h.message).1).1).0 in
+    let le = name_length enter (enter_longer enter queue) h.short in (
+      record {
+        id = o.0;
+        leader = o.1;
+        writes = no_items IsWrite;
+        sends = no_items IsSend;
+        enters = no_items IsEnter;
+        handles = one_item IsName enter.name (h.message).0;
+        cuts = tt;
+      },
+      omega (arith, parts (entry_handling op enter.name ([], [])), le),
+    )
+
+does : (op : OpId) (enter : Enter) (effect : Effect) → IsSender op → IsEntered enter → IsEffect effect → nat_lt most_bytes (length (entry_text (entry_handling op enter.name effect))) ≡ false → IsShort (entry_handling op enter.name effect)
+does op enter effect o h e short =
+    let own = parts (entry_handling op enter.name effect) in
+    let le = few (length (entry_text (entry_handling op enter.name effect))) short in (
+      record {
+        id = o.0;
+        leader = o.1;
+        writes = few_writes effect.0 (omega (arith, own, le)) e.0;
+        sends = few_sends effect.1 (omega (arith, own, le)) e.1;
+        enters = no_items IsEnter;
+        handles = one_item IsName enter.name (h.message).0;
+        cuts = tt;
+      },
+      omega (arith, le),
+    )
+  where
+    few : (n : ℕ) → nat_lt 32768 n ≡ false → n ≤ 32768
+    few n e = grind (arith, nat_tests)
+
+handle_short : (op : OpId) (enter : Enter) (effect : Effect) → IsSender op → IsEntered enter → IsEffect effect → IsShort (handle_entry op enter.name effect)
+handle_short op enter effect o h e = go (nat_lt most_bytes (length (entry_text (entry_handling op enter.name effect)))) refl
+  where
+    go : (t : Bool) → nat_lt most_bytes (length (entry_text (entry_handling op enter.name effect))) ≡ t → IsShort (cond t (entry_handling op enter.name ([], [])) (entry_handling op enter.name effect))
+    go true is = marks op enter o h
+    go false is = does op enter effect o h e is
+
+pub handling_short : (s : Setting) (op : OpId) (group : GroupId) (enter : Enter) (log : List Content) → AreHandlers s.handlers → IsSender op → IsEntered enter → Each IsShort log
+    → IsShort (handling s op group enter (table_rows s.cluster.schema group (list_after log [])))
+handling_short s op group enter log a o h e =
+    handle_short op enter (handled s.cluster.schema group (table_rows s.cluster.schema group (list_after log [])) (effect s.handlers enter.queue enter (table_rows s.cluster.schema group (list_after log [])))) o h
+    (handled_formed s.cluster.schema group (table_rows s.cluster.schema group (list_after log [])) (effect s.handlers enter.queue enter (table_rows s.cluster.schema group (list_after log [])))
+    (a enter.queue enter (table_rows s.cluster.schema group (list_after log [])) h.message
+    (each_filter (λ (one : List ℕ × Row). IsRow one.1) (λ (one : List ℕ × Row). is_some (table_of s.cluster.schema group.key one.0)) (list_after log []) (after_listed log [] e tt))))
