@@ -1,6 +1,6 @@
 -- The entry that handles a message is of the format.
 use Rattle.std.proofs.Common.{◌≡◌, ℕ, ◌+◌, ◌≤◌, ◌&&◌, Bool, true, false, cond, List, [], ◌∷◌, ◌++◌, length, length-append, flat_map, Option, Some, None, refl, arith}
-use Rattle.std.specs.Prelude.{nat_le, nat_lt, is_some}
+use Rattle.std.specs.Prelude.{find, nat_le, nat_lt, is_some}
 use Rattle.std.proofs.lemmas.Bool.Decides.{nat_tests}
 use Rattle.mega_base.specs.Codec.{bytes_text}
 use Rattle.mega_base.specs.Values.{IsRow}
@@ -16,11 +16,11 @@ use Rattle.mega_index.specs.Fitted.{enter_length, fitted_writes, is_kept, kept_w
 use Rattle.mega_index.specs.LocalWrites.{index_writes}
 use Rattle.mega_index.specs.Rows.{Listed, Rows, list_after, row_under, written}
 use Rattle.mega_handler.specs.Effects.{Effect, entry_handling, handle_entry, handled}
-use Rattle.mega_handler.specs.Named.{effect}
+use Rattle.mega_handler.specs.Named.{Meaning, Meanings, effect, effect_by, meaning_of, same_name}
 use Rattle.mega_rules.specs.Acting.{handling, table_rows}
 use Rattle.mega_rules.specs.Operations.{Setting}
 use Rattle.mega_formed.specs.Rounds.{Each, IsSender, IsShort}
-use Rattle.mega_formed.specs.Requests.{AreHandlers, IsEntered, IsQueued, IsRowed}
+use Rattle.mega_formed.specs.Requests.{AreHandlers, AreListed, IsEntered, IsQueued, IsRowed}
 use Rattle.mega_formed.proofs.Each.{each_both, each_filter, either}
 use Rattle.mega_formed.proofs.Rows.{after_listed, index_rowed}
 use Rattle.mega_formed.proofs.Texts.{no_items, number_front, one_item, parts}
@@ -42,6 +42,18 @@ IsEffect effect = Each IsRowed effect.0 × Each IsQueued effect.1
 
 handled_formed : (s : Schema) (group : GroupId) (rows : Listed) (effect : Effect) → IsEffect effect → IsEffect (handled s group rows effect)
 handled_formed s group rows effect h = (fitted_rowed s group.key (row_under rows) effect.0 h.0, each_filter IsQueued (λ send. send_fits s send && nat_le (enter_length group.key send) most_bytes) effect.1 h.1)
+
+-- what the handlers make of a message
+made_formed : (test : List ℕ × Meaning → Bool) (handlers : Meanings) (message : Enter) (rows : Listed) → AreHandlers handlers → IsEnter message → AreListed rows → IsEffect (effect_by (meaning_of (find test handlers)) message rows)
+made_formed test [] message rows h m r = (tt, tt)
+made_formed test (one ∷ handlers) message rows h m r = go (test one) (made_formed test handlers message rows h.1 m r)
+  where
+    go : (t : Bool) → IsEffect (effect_by (meaning_of (find test handlers)) message rows) → IsEffect (effect_by (meaning_of (cond t (Some one) (find test handlers))) message rows)
+    go true k = h.0 message rows m r
+    go false k = k
+
+effect_formed : (handlers : Meanings) (queue : List ℕ) (message : Enter) (rows : Listed) → AreHandlers handlers → IsEnter message → AreListed rows → IsEffect (effect handlers queue message rows)
+effect_formed handlers queue message rows h m r = made_formed (λ (one : List ℕ × Meaning). same_name one.0 queue) handlers message rows h m r
 
 -- ---- the entry
 
@@ -103,5 +115,5 @@ pub handling_short : (s : Setting) (op : OpId) (group : GroupId) (enter : Enter)
 handling_short s op group enter log a o h e =
     handle_short op enter (handled s.cluster.schema group (table_rows s.cluster.schema group (list_after log [])) (effect s.handlers enter.queue enter (table_rows s.cluster.schema group (list_after log [])))) o h
     (handled_formed s.cluster.schema group (table_rows s.cluster.schema group (list_after log [])) (effect s.handlers enter.queue enter (table_rows s.cluster.schema group (list_after log [])))
-    (a enter.queue enter (table_rows s.cluster.schema group (list_after log [])) h.message
+    (effect_formed s.handlers enter.queue enter (table_rows s.cluster.schema group (list_after log [])) a h.message
     (each_filter (λ (one : List ℕ × Row). IsRow one.1) (λ (one : List ℕ × Row). is_some (table_of s.cluster.schema group.key one.0)) (list_after log []) (after_listed log [] e tt))))

@@ -13,3 +13,5 @@ pub mod Outcomes
 pub mod Batches
 pub mod Handling
 pub mod Whole
+pub mod Brought
+pub mod Headers

@@ -37,7 +37,7 @@ use Rattle.mega_outcome.specs.Outcome.{all_sends, entry_length, entry_of_done, f
 use Rattle.mega_formed.specs.Rounds.{Each, IsSender, IsShort}
 use Rattle.mega_formed.specs.Requests.{IsChange, IsQueued, IsRowed, IsTransaction}
 use Rattle.mega_formed.proofs.Each.{all_of_each, each_both, either}
-use Rattle.mega_formed.proofs.Rows.{AreRows, after_rows, below, index_rowed, none_rows, set_row, written_rows}
+use Rattle.mega_formed.proofs.Rows.{AreRows, after_rows, fits_32, fits_64, index_rowed, none_rows, set_row, written_rows}
 use Rattle.mega_formed.proofs.Texts.{no_items, number_front, parts}
 
 -- what comes of it is so, unless it is turned away
@@ -79,14 +79,6 @@ IsMade v = IsOption IsValue v
 in_range : (t : Bool) (v : Value) → (t ≡ true → IsValue v) → IsMade (cond t (Some v) None)
 in_range true v h = h refl
 in_range false v h = tt
-
-fits_32 : (z : ℤ) → is_in_range (2 ^ 31) z ≡ true → FitsSigned w32 z
-fits_32 (pos n) e = record { sfits = below n (2 ^ 31) e }
-fits_32 (negsuc n) e = record { sfits = below n (2 ^ 31) e }
-
-pub fits_64 : (z : ℤ) → is_in_range (2 ^ 63) z ≡ true → FitsSigned w64 z
-fits_64 (pos n) e = record { sfits = below n (2 ^ 63) e }
-fits_64 (negsuc n) e = record { sfits = below n (2 ^ 63) e }
 
 number_ok : (kind : Kind) (z : ℤ) → IsMade (number_value kind z)
 number_ok kinds.Int32 z = in_range (is_in_range (2 ^ 31) z) (Int32 z) (fits_32 z)

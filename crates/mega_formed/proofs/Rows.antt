@@ -1,6 +1,7 @@
 -- Rows that have texts: those that entries leave, those of index entries, and those that changes make.
 use Rattle.std.proofs.Common.{◌≡◌, ℕ, suc, ◌+◌, ◌==◌, ◌<◌, ◌≤◌, Bool, true, false, cond, List, [], ◌∷◌, length, map, Option, Some, None, arith}
-use Rattle.std.specs.Prelude.{filter, nat_lt, is_none}
+use Rattle.std.specs.Prelude.{filter, nat_lt, is_none, ℤ, pos, negsuc, ◌^◌, FitsSigned}
+use Rattle.std.specs.Int.{w32, w64}
 use Rattle.std.specs.Map.{remove_entry}
 use Rattle.std.specs.BTreeMap.{insert_entry}
 use Rattle.std.specs.Ordering.{match_ordering}
@@ -129,6 +130,18 @@ set_row row number v h i = record {
 
 pub below : (n half : ℕ) → nat_lt n half ≡ true → n < half
 below n half e = grind (arith, nat_tests)
+
+abbrev is_within : ℕ → ℤ → Bool
+is_within half (pos n) = nat_lt n half
+is_within half (negsuc n) = nat_lt n half
+
+pub fits_32 : (z : ℤ) → is_within (2 ^ 31) z ≡ true → FitsSigned w32 z
+fits_32 (pos n) e = record { sfits = below n (2 ^ 31) e }
+fits_32 (negsuc n) e = record { sfits = below n (2 ^ 31) e }
+
+pub fits_64 : (z : ℤ) → is_within (2 ^ 63) z ≡ true → FitsSigned w64 z
+fits_64 (pos n) e = record { sfits = below n (2 ^ 63) e }
+fits_64 (negsuc n) e = record { sfits = below n (2 ^ 63) e }
 
 -- ---- the writes of local index entries
 

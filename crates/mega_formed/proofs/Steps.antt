@@ -5,7 +5,7 @@ use Rattle.mega_base.specs.declared.names.Epoch.{Epoch}
 use Rattle.mega_base.specs.declared.names.GroupId.{GroupId}
 use Rattle.mega_base.specs.declared.names.OpId.{OpId}
 use Rattle.mega_base.specs.Codec.{IsOption}
-use Rattle.mega_base.specs.Names.{IsGroup}
+use Rattle.mega_base.specs.Names.{IsGroup, IsU32}
 use Rattle.mega_cluster.specs.declared.cluster.Cluster.{Cluster}
 use Rattle.mega_entry.specs.declared.content.Content.{Content}
 use Rattle.mega_entry.specs.declared.content.Enter.{Enter}
@@ -25,16 +25,16 @@ use Rattle.mega_outcome.specs.declared.request.ReadRequest.{ReadRequest}
 use Rattle.mega_outcome.specs.declared.request.FindRequest.{FindRequest}
 use Rattle.mega_propose.specs.Rounds.{settled}
 use Rattle.mega_read.specs.Catching.{read_settled, site}
-use Rattle.mega_rules.specs.Met.{Met, Ticks, Begins, Takes, Sends, Counts, Serves, Invalidates, Applies}
+use Rattle.mega_rules.specs.Met.{Met, Starts, Ticks, Begins, Takes, Sends, Counts, Serves, Invalidates, Applies}
 use Rattle.mega_rules.specs.Members.{cells, has_rows, is_full}
 use Rattle.mega_rules.specs.Clock.{begun_of, clock_of, start_of}
-use Rattle.mega_rules.specs.Logs.{decided, groups_of}
+use Rattle.mega_rules.specs.Logs.{decided, groups_of, prefix_of}
 use Rattle.mega_rules.specs.Locks.{asked_for, grant_note, lapses_at}
 use Rattle.mega_rules.specs.Coordinators.{acquires_at, coordinator_calls, counts_notes, forget_notes, grant_notes, is_cell_in, lost_note, tick_notes, tick_told}
 use Rattle.mega_rules.specs.Replies.{reply_to}
 use Rattle.mega_rules.specs.Operations.{Node, Now, Operation, Phase, Proposes, Reads, Setting}
 use Rattle.mega_rules.specs.Acting.{ends, goes_on, reader_of, sends_more}
-use Rattle.mega_rules.specs.Steps.{Begin, Decision, Event, Heard, Step, Take, Tick, acts_in_turn, all_act, applied_at, apply_note, apply_notes, at_first, at_open, background, begin_step, begins, decision_at, decision_note, does_due, find_begins, first_settled, hears_message, if_new, is_out, last_answer, lapse_notes, lease_notes, local_find_begins, new_operation, news, onto, op_of, portion_of, read_begins, read_decision, refusal, settled_by, step, step_of, stored_after, take_step, taken, tick_step, ticked, told_decision, told_notes, unless_refused}
+use Rattle.mega_rules.specs.Steps.{Begin, Decision, Event, Heard, Step, Take, Tick, acts_in_turn, all_act, applied_at, apply_note, apply_notes, at_first, at_open, background, begin_step, begins, decision_at, decision_note, does_due, find_begins, first_settled, hears_message, if_new, is_out, last_answer, lapse_notes, lease_notes, local_find_begins, new_operation, news, onto, op_of, portion_of, read_begins, read_decision, refusal, crashed, settled_by, start, start_items, start_note, start_notes, step, step_of, stored_after, take_step, taken, tick_step, ticked, told_decision, told_notes, unless_refused}
 use Rattle.mega_formed.specs.Rounds.{AreMessages, Each, IsPlace, IsSender, IsShort}
 use Rattle.mega_formed.specs.Histories.{IsClock, IsItem, IsMet}
 use Rattle.mega_formed.specs.Decisions.{AreDecided}
@@ -326,3 +326,22 @@ pub step_formed : (s : Setting) (node : Node) (event : Event) → AreOutcomes s 
 step_formed s node (Tick now) a h n e = tick_formed s node now a h n e
 step_formed s node (Take message) a h n e = take_formed s node message a h n e
 step_formed s node (Begin request text) a h n e = begin_formed s node request text a h n e
+
+-- ---- a start, and a crash
+
+start_note_formed : (met : List Met) (group : GroupId) → IsMet (start_note met group)
+start_note_formed met group = either IsMet (nat_lt 0 (prefix_of met group)) (Applies group (prefix_of met group) ∷ []) [] (tt, tt) tt
+
+start_each : (met : List Met) (groups : List GroupId) → IsMet (flat_map (start_note met) groups)
+start_each met [] = tt
+start_each met (group ∷ groups) = both_formed (start_note met group) (flat_map (start_note met) groups) (start_note_formed met group) (start_each met groups)
+
+pub started : (s : Setting) (number : ℕ) (owed met : List Met) → IsU32 number → IsMet owed → IsMet met → IsNode (start s number owed met)
+started s number owed met n o h = record {
+  met = onto_formed (start_items s number owed met) met (both_formed (Starts number ∷ owed) (start_notes s (onto owed (Starts number ∷ met))) (n, o)
+      (either IsMet (has_rows s.cluster s.me) (flat_map (start_note (onto owed (Starts number ∷ met))) (groups_of (onto owed (Starts number ∷ met)))) [] (start_each (onto owed (Starts number ∷ met)) (groups_of (onto owed (Starts number ∷ met)))) tt)) h;
+  open_operations = tt;
+}
+
+pub crash_formed : (node : Node) → IsNode node → IsNode (crashed node)
+crash_formed node h = record { met = (tt, h.met); open_operations = tt }

@@ -9,7 +9,7 @@ use Rattle.mega_entry.specs.declared.content.Send.{Send}
 use Rattle.mega_entry.specs.declared.content.Enter.{Enter}
 use Rattle.mega_entry.specs.Entries.{IsEnter, IsQueue, enter_text}
 use Rattle.mega_index.specs.Rows.{Listed}
-use Rattle.mega_handler.specs.Named.{Meanings, effect}
+use Rattle.mega_handler.specs.Named.{Meaning, Meanings}
 use Rattle.mega_outcome.specs.declared.request.Request.{Request}
 use Rattle.mega_outcome.specs.declared.request.Request.TheVariants.{Txn, Batch, Read, Find, PumpEnter, PumpHandle, Refresh}
 use Rattle.mega_outcome.specs.declared.transaction.Change.{Change}
@@ -49,9 +49,11 @@ abbrev pub AreListed : Listed → Type 0
 AreListed rows = Each (λ (one : List ℕ × Row). IsRow one.1) rows
 
 -- rows and queues' names that a handler makes have texts, where the message and the rows that it sees have
+abbrev pub IsMeaning : Meaning → Type 0
+IsMeaning makes = (message : Enter) (rows : Listed) → IsEnter message → AreListed rows → Each IsRowed (makes message rows).0 × Each IsQueued (makes message rows).1
+
 abbrev pub AreHandlers : Meanings → Type 0
-AreHandlers handlers = (queue : List ℕ) (message : Enter) (rows : Listed) → IsEnter message → AreListed rows
-    → Each IsRowed (effect handlers queue message rows).0 × Each IsQueued (effect handlers queue message rows).1
+AreHandlers handlers = Each (λ (one : List ℕ × Meaning). IsMeaning one.1) handlers
 
 -- a message that an entry can hold, of which there is one that a message can hold
 pub record IsEntered (enter : Enter) : Type 0 where

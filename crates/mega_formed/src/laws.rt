@@ -16,10 +16,11 @@ ghost use Rattle.mega_wire.specs.declared.message.Message.{Message};
 ghost use Rattle.mega_rules.specs.Met.{Met};
 ghost use Rattle.mega_rules.specs.Replies.{reply_to};
 ghost use Rattle.mega_rules.specs.Coordinators.{acquires_at};
-ghost use Rattle.mega_rules.specs.Operations.{Setting};
-ghost use Rattle.mega_rules.specs.Steps.{Decision, background, news};
-ghost use Rattle.mega_rules.specs.Operations.{Node};
-ghost use Rattle.mega_rules.specs.Steps.{Event, step};
+ghost use Rattle.mega_rules.specs.Operations.{Node, Setting};
+ghost use Rattle.mega_rules.specs.Steps.{Decision, Event, background, crashed, news, start, step};
+ghost use Rattle.mega_base.specs.Names.{IsU32};
+ghost use Rattle.mega_cluster.specs.Header.{read_of};
+ghost use Rattle.mega_handler.specs.Effects.{copy_writes, credit_writes};
 ghost use Rattle.mega_rules.specs.Queues.{enter_entry, is_short};
 ghost use Rattle.mega_rules.specs.Acting.{handling, table_rows};
 ghost use Rattle.mega_base.specs.declared.names.GroupId.{GroupId};
@@ -31,7 +32,7 @@ ghost use Rattle.mega_index.specs.Rows.{after, list_after, no_rows};
 ghost use Rattle.mega_outcome.specs.declared.answer.Done.{Done};
 ghost use Rattle.mega_outcome.specs.declared.transaction.Transaction.{Transaction};
 ghost use Rattle.mega_outcome.specs.Outcome.{batch_outcome, entry_of_batch, entry_of_done, outcome};
-ghost use Rattle.mega_formed.specs.Requests.{IsEntered, IsTransaction};
+ghost use Rattle.mega_formed.specs.Requests.{IsEntered, IsMeaning, IsTransaction};
 ghost use Rattle.mega_formed.specs.Nodes.{IsEvent, IsNode, IsSetting, IsStep};
 ghost use Rattle.mega_formed.specs.Decisions.{AreDecided};
 ghost use Rattle.mega_formed.specs.Histories.{IsClock, IsCluster, IsMet};
@@ -83,4 +84,22 @@ pub fn outcomes_are_of_the_format()
 /// entries that can stand in a message, and what it met and its open operations are of the format then.
 pub fn steps_stay_of_the_format()
     ensures { (s : Setting) (node : Node) (event : Event) → IsSetting s → IsNode node → IsEvent event → IsStep (step s node event) }
+{}
+
+/// A start of a node that met only what is of the format, with what it finds of a step that was cut before it, and a crash leave the
+/// node of the format.
+pub fn starts_are_of_the_format()
+    ensures begins { (s : Setting) (number : ℕ) (owed met : List Met) → IsU32 number → IsMet owed → IsMet met → IsNode (start s number owed met) }
+    ensures crashes { (node : Node) → IsNode node → IsNode (crashed node) }
+{}
+
+/// A cluster that was read from the text of a header is of the format.
+pub fn clusters_are_of_the_format()
+    ensures { (least : ℕ) (text : List ℕ) (c : Cluster) → read_of least text ≡ Ok c → IsCluster c }
+{}
+
+/// The handlers that the store brings make only what an entry can hold.
+pub fn handlers_are_of_the_format()
+    ensures copies { IsMeaning (λ message rows. (copy_writes message.payload, [])) }
+    ensures credits { (key_property : ℕ) → IsMeaning (λ message rows. (credit_writes key_property message.payload rows, [])) }
 {}
