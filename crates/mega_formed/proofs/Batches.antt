@@ -20,11 +20,11 @@ use Rattle.mega_outcome.specs.declared.answer.Turn.TheVariants.{TooLarge}
 use Rattle.mega_outcome.specs.declared.transaction.Transaction.{Transaction}
 use Rattle.mega_outcome.specs.Outcome.{batch_length, batch_outcome, entry_cuts, entry_of_batch, left_out, no_batch, outcome_in, taken, with_all, with_next, with_result}
 use Rattle.mega_formed.specs.Rounds.{Each, IsSender, IsShort}
-use Rattle.mega_formed.specs.Requests.{IsQueued, IsRowed, IsTransaction}
+use Rattle.mega_formed.specs.Requests.{IsRowed, IsTransaction}
 use Rattle.mega_formed.proofs.Each.{each_both}
 use Rattle.mega_formed.proofs.Rows.{AreRows, after_rows, none_rows, written_rows}
 use Rattle.mega_formed.proofs.Texts.{parts}
-use Rattle.mega_formed.proofs.Outcomes.{IsDone, OkIs, outcome_ok, own_short}
+use Rattle.mega_formed.proofs.Outcomes.{IsDone, IsNamed, OkIs, outcome_ok, own_short}
 
 -- cuts whose indexes rise from low on, below high
 abbrev Within : ℕ → ℕ → List Cut → Type 0
@@ -50,7 +50,7 @@ rises low high (cut ∷ cuts) le h = let reach = within_reach (cut.index + 1) hi
 -- a batch so far
 record IsSoFar (b : Batch) : Type 0 where
   writes : Each IsRowed b.writes
-  sends : Each IsQueued b.sends
+  sends : Each IsNamed b.sends
   rising : Within 0 (length b.results) b.cuts
   all_writes : sum_by (λ (cut : Cut). cut.writes) b.cuts ≡ length b.writes
   all_sends : sum_by (λ (cut : Cut). cut.sends) b.cuts ≡ length b.sends
@@ -72,7 +72,7 @@ left_so_far b turn h = record {
 taken_so_far : (b : Batch) (done : Done) → IsSoFar b → IsDone done → batch_length (taken b done) ≤ 32768 → IsSoFar (taken b done)
 taken_so_far b done h d le = record {
   writes = each_both IsRowed b.writes done.writes h.writes d.writes;
-  sends = each_both IsQueued b.sends done.sends h.sends d.sends;
+  sends = each_both IsNamed b.sends done.sends h.sends d.sends;
   rising = subst (λ n. Within 0 n (b.cuts ++ last ∷ [])) (sym (length-append b.results (Ok done.replies ∷ []))) (within_last 0 (length b.results) b.cuts last refl h.rising);
   all_writes = (let one = sum_by-append (λ (cut : Cut). cut.writes) b.cuts (last ∷ []) in let all = h.all_writes in omega (arith, one, all, length-append b.writes done.writes));
   all_sends = (let one = sum_by-append (λ (cut : Cut). cut.sends) b.cuts (last ∷ []) in let all = h.all_sends in omega (arith, one, all, length-append b.sends done.sends));

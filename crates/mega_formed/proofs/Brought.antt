@@ -4,7 +4,6 @@ use Rattle.std.specs.Prelude.{if◌then◌else◌, ℤ, ◌+ℤ◌, ◌^◌, nat
 use Rattle.std.specs.Int.{cast_signed, from_be_bytes, w64}
 use Rattle.mega_base.specs.Codec.{IsOption}
 use Rattle.mega_base.specs.Reading.{Place, Read, ◌>>=◌, place, whole_of}
-use Rattle.mega_base.specs.Values.{IsRow, IsValue}
 use Rattle.mega_base.specs.declared.values.Row.{Row}
 use Rattle.mega_base.specs.declared.values.Value.{Value}
 use Rattle.mega_base.specs.declared.values.Value.TheVariants.{Int64}
@@ -15,7 +14,8 @@ use Rattle.mega_index.specs.Cells.{row_set, values_of}
 use Rattle.mega_index.specs.Rows.{Listed, row_under}
 use Rattle.mega_handler.specs.Effects.{copy_writes, credit_row, credit_writes, int64_of, is_in_range, read_write, sum_of, sum_written}
 use Rattle.mega_formed.specs.Rounds.{Each}
-use Rattle.mega_formed.specs.Requests.{AreListed, IsMeaning, IsRowed}
+use Rattle.mega_formed.specs.Requests.{AreListed, IsMeaning, IsRowed, IsSpelled, IsSpelledRow}
+use Rattle.mega_formed.proofs.Spelling.{rowed_of}
 use Rattle.mega_formed.proofs.Each.{either}
 use Rattle.mega_formed.proofs.Rows.{fits_64, set_row, under_rows}
 
@@ -33,7 +33,7 @@ whole_formed payload = go (write_at (place 0 payload)) refl
     end false write at h = tt
 
     go : (r : Read Write) → write_at (place 0 payload) ≡ r → IsRead (r >>= λ x. if length x.1.left == 0 then Ok x.0 else Err x.1.at)
-    go (Ok x) e = end (length x.1.left == 0) x.0 x.1.at ((write_codec.takes (place 0 payload) x.0 x.1 e).1).1
+    go (Ok x) e = end (length x.1.left == 0) x.0 x.1.at (rowed_of (x.0).row ((write_codec.takes (place 0 payload) x.0 x.1 e).1).1)
     go (Err at) e = tt
 
 read_formed : (r : Result Write ℕ) → IsRead r → Each IsRowed (read_write r)
@@ -46,7 +46,7 @@ copy_formed message rows m r = (read_formed (whole_of write_at message.payload) 
 -- a sum that is an int64, in a row
 abbrev IsSum : Option ℤ → Type 0
 IsSum None = Unit {0}
-IsSum (Some z) = IsValue (Int64 z)
+IsSum (Some z) = IsSpelled (Int64 z)
 
 sum_formed : (amount : ℤ) (number : Option ℤ) → IsSum (sum_of amount number)
 sum_formed amount None = tt
@@ -56,11 +56,11 @@ sum_formed amount (Some z) = go (is_in_range (2 ^ 63) (z +ℤ amount)) refl
     go true e = fits_64 (z +ℤ amount) e
     go false e = tt
 
-written_formed : (key : List ℕ) (property : ℕ) (row : Row) (sum : Option ℤ) → IsRow row → IsSum sum → Each IsRowed (sum_written key property row sum)
+written_formed : (key : List ℕ) (property : ℕ) (row : Row) (sum : Option ℤ) → IsSpelledRow row → IsSum sum → Each IsRowed (sum_written key property row sum)
 written_formed key property row None h s = tt
 written_formed key property row (Some z) h s = (set_row row property (Int64 z) h s, tt)
 
-credited : (key_property : ℕ) (amount : ℤ) (property : ℕ) (key : List ℕ) (row : Option Row) → IsOption IsRow row → Each IsRowed (credit_row key_property amount property key row)
+credited : (key_property : ℕ) (amount : ℤ) (property : ℕ) (key : List ℕ) (row : Option Row) → IsOption IsSpelledRow row → Each IsRowed (credit_row key_property amount property key row)
 credited key_property amount property key None h = tt
 credited key_property amount property key (Some row) h = either (Each IsRowed) (property == key_property) [] (sum_written key property row (sum_of amount (int64_of (values_of row property)))) tt
     (written_formed key property row (sum_of amount (int64_of (values_of row property))) h (sum_formed amount (int64_of (values_of row property))))

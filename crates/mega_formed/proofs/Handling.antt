@@ -3,16 +3,16 @@ use Rattle.std.proofs.Common.{◌≡◌, ℕ, ◌+◌, ◌≤◌, ◌&&◌, Bool
 use Rattle.std.specs.Prelude.{find, nat_le, nat_lt, is_some}
 use Rattle.std.proofs.lemmas.Bool.Decides.{nat_tests}
 use Rattle.mega_base.specs.Codec.{bytes_text}
-use Rattle.mega_base.specs.Values.{IsRow}
 use Rattle.mega_base.specs.declared.names.GroupId.{GroupId}
 use Rattle.mega_base.specs.declared.names.OpId.{OpId}
 use Rattle.mega_base.specs.declared.values.Row.{Row}
 use Rattle.mega_entry.specs.declared.content.Content.{Content}
 use Rattle.mega_entry.specs.declared.content.Enter.{Enter}
+use Rattle.mega_entry.specs.declared.content.Send.{Send}
 use Rattle.mega_entry.specs.declared.content.Write.{Write}
 use Rattle.mega_entry.specs.Entries.{IsEnter, IsName, IsSend, IsWrite, enter_text, entry_text, name_text}
 use Rattle.mega_schema.specs.declared.schema.Schema.{Schema}
-use Rattle.mega_index.specs.Fitted.{enter_length, fitted_writes, is_kept, kept_write, most_bytes, send_fits, table_of}
+use Rattle.mega_index.specs.Fitted.{enter_length, fitted_sends, fitted_writes, is_kept, kept_write, most_bytes, send_fits, table_of}
 use Rattle.mega_index.specs.LocalWrites.{index_writes}
 use Rattle.mega_index.specs.Rows.{Listed, Rows, list_after, row_under, written}
 use Rattle.mega_handler.specs.Effects.{Effect, entry_handling, handle_entry, handled}
@@ -20,11 +20,11 @@ use Rattle.mega_handler.specs.Named.{Meaning, Meanings, effect, effect_by, meani
 use Rattle.mega_rules.specs.Acting.{handling, table_rows}
 use Rattle.mega_rules.specs.Operations.{Setting}
 use Rattle.mega_formed.specs.Rounds.{Each, IsSender, IsShort}
-use Rattle.mega_formed.specs.Requests.{AreHandlers, AreListed, IsEntered, IsQueued, IsRowed}
+use Rattle.mega_formed.specs.Requests.{AreHandlers, AreListed, IsEntered, IsQueued, IsRowed, IsSpelledRow}
 use Rattle.mega_formed.proofs.Each.{each_both, each_filter, either}
 use Rattle.mega_formed.proofs.Rows.{after_listed, index_rowed}
 use Rattle.mega_formed.proofs.Texts.{no_items, number_front, one_item, parts}
-use Rattle.mega_formed.proofs.Outcomes.{bytes_front, few_sends, few_writes}
+use Rattle.mega_formed.proofs.Outcomes.{IsNamed, bytes_front, few_sends, few_writes, named_by}
 
 -- ---- what of an effect is kept
 
@@ -40,8 +40,24 @@ fitted_rowed s group rows (write ∷ writes) h = each_both IsRowed (kept_write s
 abbrev IsEffect : Effect → Type 0
 IsEffect effect = Each IsRowed effect.0 × Each IsQueued effect.1
 
-handled_formed : (s : Schema) (group : GroupId) (rows : Listed) (effect : Effect) → IsEffect effect → IsEffect (handled s group rows effect)
-handled_formed s group rows effect h = (fitted_rowed s group.key (row_under rows) effect.0 h.0, each_filter IsQueued (λ send. send_fits s send && nat_le (enter_length group.key send) most_bytes) effect.1 h.1)
+-- what fits the schema and the group: the queues have names then
+abbrev IsKept : Effect → Type 0
+IsKept effect = Each IsRowed effect.0 × Each IsNamed effect.1
+
+named_sends : (s : Schema) (group : List ℕ) (sends : List Send) → Each IsQueued sends → Each IsNamed (fitted_sends s group sends)
+named_sends s group [] h = tt
+named_sends s group (send ∷ sends) h = go (send_fits s send && nat_le (enter_length group send) most_bytes) refl (named_sends s group sends h.1)
+  where
+    left : (a b : Bool) → (a && b) ≡ true → a ≡ true
+    left true b h = refl
+    left false b h = cc
+
+    go : (t : Bool) → (send_fits s send && nat_le (enter_length group send) most_bytes) ≡ t → Each IsNamed (fitted_sends s group sends) → Each IsNamed (cond t (send ∷ fitted_sends s group sends) (fitted_sends s group sends))
+    go true e k = (named_by s send h.0 (left (send_fits s send) (nat_le (enter_length group send) most_bytes) e), k)
+    go false e k = k
+
+handled_formed : (s : Schema) (group : GroupId) (rows : Listed) (effect : Effect) → IsEffect effect → IsKept (handled s group rows effect)
+handled_formed s group rows effect h = (fitted_rowed s group.key (row_under rows) effect.0 h.0, named_sends s group.key effect.1 h.1)
 
 -- what the handlers make of a message
 made_formed : (test : List ℕ × Meaning → Bool) (handlers : Meanings) (message : Enter) (rows : Listed) → AreHandlers handlers → IsEnter message → AreListed rows → IsEffect (effect_by (meaning_of (find test handlers)) message rows)
@@ -84,7 +100,7 @@ marks op enter o h =
       omega (arith, parts (entry_handling op enter.name ([], [])), le),
     )
 
-does : (op : OpId) (enter : Enter) (effect : Effect) → IsSender op → IsEntered enter → IsEffect effect → nat_lt most_bytes (length (entry_text (entry_handling op enter.name effect))) ≡ false → IsShort (entry_handling op enter.name effect)
+does : (op : OpId) (enter : Enter) (effect : Effect) → IsSender op → IsEntered enter → IsKept effect → nat_lt most_bytes (length (entry_text (entry_handling op enter.name effect))) ≡ false → IsShort (entry_handling op enter.name effect)
 does op enter effect o h e short =
     let own = parts (entry_handling op enter.name effect) in
     let le = few (length (entry_text (entry_handling op enter.name effect))) short in (
@@ -103,7 +119,7 @@ does op enter effect o h e short =
     few : (n : ℕ) → nat_lt 32768 n ≡ false → n ≤ 32768
     few n e = grind (arith, nat_tests)
 
-handle_short : (op : OpId) (enter : Enter) (effect : Effect) → IsSender op → IsEntered enter → IsEffect effect → IsShort (handle_entry op enter.name effect)
+handle_short : (op : OpId) (enter : Enter) (effect : Effect) → IsSender op → IsEntered enter → IsKept effect → IsShort (handle_entry op enter.name effect)
 handle_short op enter effect o h e = go (nat_lt most_bytes (length (entry_text (entry_handling op enter.name effect)))) refl
   where
     go : (t : Bool) → nat_lt most_bytes (length (entry_text (entry_handling op enter.name effect))) ≡ t → IsShort (cond t (entry_handling op enter.name ([], [])) (entry_handling op enter.name effect))
@@ -116,4 +132,4 @@ handling_short s op group enter log a o h e =
     handle_short op enter (handled s.cluster.schema group (table_rows s.cluster.schema group (list_after log [])) (effect s.handlers enter.queue enter (table_rows s.cluster.schema group (list_after log [])))) o h
     (handled_formed s.cluster.schema group (table_rows s.cluster.schema group (list_after log [])) (effect s.handlers enter.queue enter (table_rows s.cluster.schema group (list_after log [])))
     (effect_formed s.handlers enter.queue enter (table_rows s.cluster.schema group (list_after log [])) a h.message
-    (each_filter (λ (one : List ℕ × Row). IsRow one.1) (λ (one : List ℕ × Row). is_some (table_of s.cluster.schema group.key one.0)) (list_after log []) (after_listed log [] e tt))))
+    (each_filter (λ (one : List ℕ × Row). IsSpelledRow one.1) (λ (one : List ℕ × Row). is_some (table_of s.cluster.schema group.key one.0)) (list_after log []) (after_listed log [] e tt))))

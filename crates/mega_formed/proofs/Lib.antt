@@ -8,6 +8,7 @@ pub mod Replies
 pub mod Queues
 pub mod Acting
 pub mod Steps
+pub mod Spelling
 pub mod Rows
 pub mod Outcomes
 pub mod Batches

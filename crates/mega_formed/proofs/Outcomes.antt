@@ -1,10 +1,10 @@
 -- What operations propose of their own is of the format: entries of transactions, of batches, and those that handle messages.
 use Rattle.std.proofs.Common.{◌≡◌, ◌∙◌, ap, ℕ, ◌+◌, ◌≤◌, max, Bool, true, false, cond, List, [], ◌∷◌, ◌++◌, length, length-append, flat_map, fold, Option, Some, None, Result, Ok, Err, refl, subst, arith}
-use Rattle.std.specs.Prelude.{ℤ, pos, negsuc, ◌+ℤ◌, nat_lt, ◌^◌, not, ◌&&◌, is_some, FitsSigned}
+use Rattle.std.specs.Prelude.{FitsSigned, is_some, nat_le, nat_lt, negsuc, not, pos, ℤ, ◌&&◌, ◌+ℤ◌, ◌^◌}
 use Rattle.std.specs.Int.{w32, w64}
 use Rattle.std.proofs.lemmas.Bool.Decides.{nat_tests}
-use Rattle.mega_base.specs.Codec.{IsList, IsOption, bytes_text, option_text}
-use Rattle.mega_base.specs.Values.{IsRow, IsValue, row_text}
+use Rattle.mega_base.specs.Codec.{IsBetween, IsList, IsOption, bytes_text, option_text}
+use Rattle.mega_base.specs.Values.{row_text}
 use Rattle.mega_base.specs.declared.names.OpId.{OpId}
 use Rattle.mega_base.specs.declared.values.Kind.{Kind}
 use Rattle.mega_base.specs.declared.values.Kind.TheVariants as kinds
@@ -15,13 +15,13 @@ use Rattle.mega_entry.specs.declared.content.Content.{Content}
 use Rattle.mega_entry.specs.declared.content.Cut.{Cut}
 use Rattle.mega_entry.specs.declared.content.Send.{Send}
 use Rattle.mega_entry.specs.declared.content.Write.{Write}
-use Rattle.mega_entry.specs.Entries.{HasCuts, IsEnter, IsName, IsSend, IsWrite, send_text, write_text}
+use Rattle.mega_entry.specs.Entries.{HasCuts, IsEnter, IsName, IsQueue, IsSend, IsWrite, send_text, write_text}
 use Rattle.mega_schema.specs.declared.schema.Property.{Property}
 use Rattle.mega_schema.specs.declared.schema.Schema.{Schema}
 use Rattle.mega_schema.specs.declared.schema.Table.{Table}
 use Rattle.mega_index.specs.Cells.{is_listed, key_values, row_set, values_of}
 use Rattle.mega_index.specs.Fits.{fits, long_key, numbered}
-use Rattle.mega_index.specs.Fitted.{enter_length, entry_of, most_bytes}
+use Rattle.mega_index.specs.Fitted.{enter_length, entry_of, is_group, is_queue, most_bytes, send_fits}
 use Rattle.mega_index.specs.Rows.{Rows, after, no_rows, written}
 use Rattle.mega_outcome.specs.declared.answer.Done.{Done}
 use Rattle.mega_outcome.specs.declared.answer.Turn.{Turn}
@@ -35,9 +35,10 @@ use Rattle.mega_outcome.specs.Reads.{all_reads}
 use Rattle.mega_outcome.specs.Changes.{add_at, add_in, add_to, all_changes, change, delete_at, is_in_range, is_number, number_of, number_value, or_overflow, put_in, replaced, sum_of}
 use Rattle.mega_outcome.specs.Outcome.{all_sends, entry_length, entry_of_done, first_change, first_read, first_send, longest, outcome, outcome_in, unless_large}
 use Rattle.mega_formed.specs.Rounds.{Each, IsSender, IsShort}
-use Rattle.mega_formed.specs.Requests.{IsChange, IsQueued, IsRowed, IsTransaction}
+use Rattle.mega_formed.specs.Requests.{IsChange, IsGiven, IsQueued, IsRowed, IsSpelled, IsSpelledRow, IsTransaction}
 use Rattle.mega_formed.proofs.Each.{all_of_each, each_both, either}
 use Rattle.mega_formed.proofs.Rows.{AreRows, after_rows, fits_32, fits_64, index_rowed, none_rows, set_row, written_rows}
+use Rattle.mega_formed.proofs.Spelling.{put_row, row_short}
 use Rattle.mega_formed.proofs.Texts.{no_items, number_front, parts}
 
 -- what comes of it is so, unless it is turned away
@@ -61,22 +62,26 @@ AreRowed writes = Each IsRowed writes
 
 -- ---- one change
 
-replaced_ok : (s : Schema) (n : ℕ) (key : List ℕ) (old new : Option Row) → IsOption IsRow new → AreRowed (replaced s n key old new)
+replaced_ok : (s : Schema) (n : ℕ) (key : List ℕ) (old new : Option Row) → IsOption IsSpelledRow new → AreRowed (replaced s n key old new)
 replaced_ok s n key old new h = (h, index_rowed s n old new h)
 
-put_ok : (s : Schema) (group : List ℕ) (rows : Rows) (i n : ℕ) (t : Option Table) (row : Row) → IsRow row → OkIs AreRowed (put_in s group rows i n t row)
+put_ok : (s : Schema) (group : List ℕ) (rows : Rows) (i n : ℕ) (t : Option Table) (row : Row) → Each IsGiven row.cells → OkIs AreRowed (put_in s group rows i n t row)
 put_ok s group rows i n None row h = tt
 put_ok s group rows i n (Some t) row h = then_ok Any AreRowed (key_in s group i n (key_values t.primary row)) (λ key. cond (fits s n row) (Ok (replaced s n key (rows key) (Some row))) (Err (BadRow i)))
-    (any_ok (key_in s group i n (key_values t.primary row))) (λ key _. either (OkIs AreRowed) (fits s n row) (Ok (replaced s n key (rows key) (Some row))) (Err (BadRow i)) (replaced_ok s n key (rows key) (Some row) h) tt)
+    (any_ok (key_in s group i n (key_values t.primary row))) (λ key _. go key (fits s n row) refl)
+  where
+    go : (key : List ℕ) (b : Bool) → fits s n row ≡ b → OkIs AreRowed (cond b (Ok (replaced s n key (rows key) (Some row))) (Err (BadRow i)))
+    go key true e = replaced_ok s n key (rows key) (Some row) (put_row s n row h e)
+    go key false e = tt
 
 delete_ok : (s : Schema) (i n : ℕ) (key : List ℕ) (row : Option Row) → OkIs AreRowed (delete_at s i n key row)
 delete_ok s i n key None = tt
 delete_ok s i n key (Some old) = replaced_ok s n key (Some old) None tt
 
 abbrev IsMade : Option Value → Type 0
-IsMade v = IsOption IsValue v
+IsMade v = IsOption IsSpelled v
 
-in_range : (t : Bool) (v : Value) → (t ≡ true → IsValue v) → IsMade (cond t (Some v) None)
+in_range : (t : Bool) (v : Value) → (t ≡ true → IsSpelled v) → IsMade (cond t (Some v) None)
 in_range true v h = h refl
 in_range false v h = tt
 
@@ -85,27 +90,27 @@ number_ok kinds.Int32 z = in_range (is_in_range (2 ^ 31) z) (Int32 z) (fits_32 z
 number_ok kinds.Int64 z = in_range (is_in_range (2 ^ 63) z) (Int64 z) (fits_64 z)
 number_ok _ z = tt
 
-made_ok : (i : ℕ) (v : Option Value) → IsMade v → OkIs IsValue (or_overflow i v)
+made_ok : (i : ℕ) (v : Option Value) → IsMade v → OkIs IsSpelled (or_overflow i v)
 made_ok i None h = tt
 made_ok i (Some v) h = h
 
-sum_ok : (i : ℕ) (kind : Kind) (z : Option ℤ) (is_long : Bool) (by : ℤ) → OkIs IsValue (sum_of i kind z is_long by)
+sum_ok : (i : ℕ) (kind : Kind) (z : Option ℤ) (is_long : Bool) (by : ℤ) → OkIs IsSpelled (sum_of i kind z is_long by)
 sum_ok i kind None is_long by = tt
 sum_ok i kind (Some z) true by = tt
 sum_ok i kind (Some z) false by = made_ok i (number_value kind (z +ℤ by)) (number_ok kind (z +ℤ by))
 
-add_to_ok : (s : Schema) (i n : ℕ) (t : Table) (key : List ℕ) (property : ℕ) (kind : Kind) (row : Option Row) (by : ℤ) → IsOption IsRow row → OkIs AreRowed (add_to s i n t key property kind row by)
+add_to_ok : (s : Schema) (i n : ℕ) (t : Table) (key : List ℕ) (property : ℕ) (kind : Kind) (row : Option Row) (by : ℤ) → IsOption IsSpelledRow row → OkIs AreRowed (add_to s i n t key property kind row by)
 add_to_ok s i n t key property kind None by h = tt
-add_to_ok s i n t key property kind (Some row) by h = then_ok IsValue AreRowed (sum_of i kind (number_of kind (values_of row property)) (is_some (long_key s n t row)) by)
+add_to_ok s i n t key property kind (Some row) by h = then_ok IsSpelled AreRowed (sum_of i kind (number_of kind (values_of row property)) (is_some (long_key s n t row)) by)
     (λ v. Ok (replaced s n key (Some row) (Some (row_set row property v)))) (sum_ok i kind (number_of kind (values_of row property)) (is_some (long_key s n t row)) by)
     (λ v w. replaced_ok s n key (Some row) (Some (row_set row property v)) (set_row row property v h w))
 
-add_in_ok : (s : Schema) (i n : ℕ) (t : Table) (key : List ℕ) (property : ℕ) (p : Option Property) (row : Option Row) (by : ℤ) → IsOption IsRow row → OkIs AreRowed (add_in s i n t key property p row by)
+add_in_ok : (s : Schema) (i n : ℕ) (t : Table) (key : List ℕ) (property : ℕ) (p : Option Property) (row : Option Row) (by : ℤ) → IsOption IsSpelledRow row → OkIs AreRowed (add_in s i n t key property p row by)
 add_in_ok s i n t key property None row by h = tt
 add_in_ok s i n t key property (Some p) row by h = either (OkIs AreRowed) (is_number p.kind p.need && not (is_listed t.primary property)) (add_to s i n t key property p.kind row by) (Err (BadRow i))
     (add_to_ok s i n t key property p.kind row by h) tt
 
-add_ok : (s : Schema) (i n : ℕ) (t : Option Table) (key : List ℕ) (property : ℕ) (row : Option Row) (by : ℤ) → IsOption IsRow row → OkIs AreRowed (add_at s i n t key property row by)
+add_ok : (s : Schema) (i n : ℕ) (t : Option Table) (key : List ℕ) (property : ℕ) (row : Option Row) (by : ℤ) → IsOption IsSpelledRow row → OkIs AreRowed (add_at s i n t key property row by)
 add_ok s i n None key property row by h = tt
 add_ok s i n (Some t) key property row by h = add_in_ok s i n t key property (numbered t.properties property) row by h
 
@@ -122,11 +127,44 @@ changes_ok s group rows i (c ∷ cs) h e = then_ok AreRowed AreRowed (change s g
     (λ writes w. then_ok AreRowed AreRowed (all_changes s group (written writes rows) (i + 1) cs) (λ others. Ok (writes ++ others)) (changes_ok s group (written writes rows) (i + 1) cs (written_rows writes rows w h) e.1)
     (λ others o. each_both IsRowed writes others w o))
 
+-- ---- the sends of a transaction
+
+abbrev pub IsNamed : Send → Type 0
+IsNamed send = IsQueue send.queue
+
+pub named_by : (s : Schema) (send : Send) → IsQueued send → send_fits s send ≡ true → IsNamed send
+named_by s send h e = (h, within (length send.queue) (right (is_group s (send.to).key) (is_queue send.queue) e))
+  where
+    right : (a b : Bool) → (a && b) ≡ true → b ≡ true
+    right true b h = h
+    right false b h = cc
+
+    within : (n : ℕ) → (nat_le 1 n && nat_le n 64) ≡ true → IsBetween 1 64 n
+    within n e = (least n e, most n e)
+      where
+        least : (n : ℕ) → (nat_le 1 n && nat_le n 64) ≡ true → 1 ≤ n
+        least n e = grind (arith, nat_tests)
+
+        most : (n : ℕ) → (nat_le 1 n && nat_le n 64) ≡ true → n ≤ 64
+        most n e = grind (arith, nat_tests)
+
+sends_ok : (s : Schema) (i : ℕ) (sends : List Send) → Each IsQueued sends → OkIs (λ _. Each IsNamed sends) (all_sends s i sends)
+sends_ok s i [] h = tt
+sends_ok s i (send ∷ sends) h = go (send_fits s send) refl (sends_ok s (i + 1) sends h.1)
+  where
+    more : (r : Result (Unit {0}) Turn) → IsNamed send → OkIs (λ _. Each IsNamed sends) r → OkIs (λ _. Each IsNamed (send ∷ sends)) r
+    more (Ok done) n k = (n, k)
+    more (Err turn) n k = tt
+
+    go : (b : Bool) → send_fits s send ≡ b → OkIs (λ _. Each IsNamed sends) (all_sends s (i + 1) sends) → OkIs (λ _. Each IsNamed (send ∷ sends)) (cond b (all_sends s (i + 1) sends) (Err (BadRow i)))
+    go true e k = more (all_sends s (i + 1) sends) (named_by s send h.0 e) k
+    go false e k = tt
+
 -- ---- the outcome of a transaction
 
 pub record IsDone (done : Done) : Type 0 where
   pub writes : Each IsRowed done.writes
-  pub sends : Each IsQueued done.sends
+  pub sends : Each IsNamed done.sends
   pub short : entry_length done.writes done.sends [] ≤ 32768
 
 at_least : (group : List ℕ) (n : ℕ) (sends : List Send) → n ≤ fold (λ most (send : Send). max most (enter_length group send)) n sends
@@ -151,9 +189,9 @@ outcome_ok s group t rows h f =
     then_ok Any IsDone (all_checks s group rows 0 t.checks) _ (any_ok (all_checks s group rows 0 t.checks)) (λ _ _.
     then_ok Any IsDone (all_reads s group rows (first_read t) t.reads) _ (any_ok (all_reads s group rows (first_read t) t.reads)) (λ replies _.
     then_ok AreRowed IsDone (all_changes s group rows (first_change t) t.writes) _ (changes_ok s group rows (first_change t) t.writes h f.writes) (λ writes w.
-    then_ok Any IsDone (all_sends s (first_send t) t.sends) _ (any_ok (all_sends s (first_send t) t.sends)) (λ _ _.
+    then_ok (λ _. Each IsNamed t.sends) IsDone (all_sends s (first_send t) t.sends) _ (sends_ok s (first_send t) t.sends f.sends) (λ _ named.
     large_ok (longest group writes t.sends) (record { replies = replies; writes = writes; sends = t.sends })
-    (λ e. record { writes = w; sends = f.sends; short = within (entry_length writes t.sends []) (longest group writes t.sends) e (at_least group (entry_length writes t.sends []) t.sends) })))))
+    (λ e. record { writes = w; sends = named; short = within (entry_length writes t.sends []) (longest group writes t.sends) e (at_least group (entry_length writes t.sends []) t.sends) })))))
 
 -- ---- an entry of so many bytes
 
@@ -169,9 +207,9 @@ writes_few (write ∷ writes) n le most h =
     let least : 4 ≤ n = omega (arith, rest) in
     let more = writes_few writes (length (flat_map write_text writes)) (omega arith) (omega (arith, rest, most)) h.1 in
     let count = more.1 in
-    ((((omega arith, omega (arith, le, front, own, most)), h.0), more.0), omega (arith, rest, count))
+    ((((omega arith, omega (arith, le, front, own, most)), row_short write.row h.0 (omega (arith, le, front, own, most))), more.0), omega (arith, rest, count))
 
-sends_few : (sends : List Send) (n : ℕ) → length (flat_map send_text sends) ≤ n → n ≤ 65536 → Each IsQueued sends → Each IsSend sends × (length sends ≤ n)
+sends_few : (sends : List Send) (n : ℕ) → length (flat_map send_text sends) ≤ n → n ≤ 65536 → Each IsNamed sends → Each IsSend sends × (length sends ≤ n)
 sends_few [] n le most h = (tt, omega arith)
 sends_few (send ∷ sends) n le most h =
     let front = length-append (send_text send) (flat_map send_text sends) in
@@ -186,14 +224,14 @@ sends_few (send ∷ sends) n le most h =
 pub few_writes : (writes : List Write) → length (flat_map write_text writes) ≤ 65536 → Each IsRowed writes → IsList 0 4294967295 IsWrite writes
 few_writes writes le h = let all = writes_few writes 65536 le (omega arith) h in let count = all.1 in record { each = all_of_each IsWrite writes all.0; least = omega arith; most = omega (arith, count) }
 
-pub few_sends : (sends : List Send) → length (flat_map send_text sends) ≤ 65536 → Each IsQueued sends → IsList 0 4294967295 IsSend sends
+pub few_sends : (sends : List Send) → length (flat_map send_text sends) ≤ 65536 → Each IsNamed sends → IsList 0 4294967295 IsSend sends
 few_sends sends le h = let all = sends_few sends 65536 le (omega arith) h in let count = all.1 in record { each = all_of_each IsSend sends all.0; least = omega arith; most = omega (arith, count) }
 
 -- the entry of an operation that writes and sends these, with these cuts
 abbrev own_entry : OpId → List Write → List Send → List Cut → Content
 own_entry op writes sends cuts = record { id = Some op; leader = op.node; writes = writes; sends = sends; enters = []; handles = []; cuts = cuts }
 
-pub own_short : (op : OpId) (writes : List Write) (sends : List Send) (cuts : List Cut) → IsSender op → Each IsRowed writes → Each IsQueued sends → HasCuts (own_entry op writes sends cuts) cuts → entry_length writes sends cuts ≤ 32768
+pub own_short : (op : OpId) (writes : List Write) (sends : List Send) (cuts : List Cut) → IsSender op → Each IsRowed writes → Each IsNamed sends → HasCuts (own_entry op writes sends cuts) cuts → entry_length writes sends cuts ≤ 32768
     → IsShort (own_entry op writes sends cuts)
 own_short op writes sends cuts o w s c le =
     let told = parts (entry_of writes sends [] cuts) in

@@ -10,7 +10,6 @@ use Rattle.std.specs.declared.cmp.Ordering.TheVariants.{Less, Equal, Greater}
 use Rattle.std.proofs.lemmas.Bool.Decides.{nat_tests}
 use Rattle.std.proofs.lemmas.List.Elements.{All-cons, All-nil}
 use Rattle.mega_base.specs.Codec.{IsList, IsOption}
-use Rattle.mega_base.specs.Values.{Ascends, IsRow, IsValue}
 use Rattle.mega_base.specs.declared.values.Cell.{Cell}
 use Rattle.mega_base.specs.declared.values.Row.{Row}
 use Rattle.mega_base.specs.declared.values.Value.{Value}
@@ -26,35 +25,36 @@ use Rattle.mega_index.specs.Fits.{entry_keys, group_bytes_of, indexes_of, number
 use Rattle.mega_index.specs.LocalWrites.{fresh, fresh_one, gone, gone_one, index_writes, index_writes_in, is_row}
 use Rattle.mega_index.specs.Rows.{Listed, Rows, after, changed, key_cmp, list_after, list_changed, list_written, no_rows, row_under, same_key, written}
 use Rattle.mega_formed.specs.Rounds.{Each, IsShort}
-use Rattle.mega_formed.specs.Requests.{AreListed, IsRowed}
+use Rattle.mega_formed.specs.Requests.{AreListed, IsRowed, IsSpelled, IsSpelledRow, Rises}
+use Rattle.mega_formed.proofs.Spelling.{rowed_of}
 use Rattle.mega_formed.proofs.Each.{each_both, each_of_all, each_weaker, either}
 
 -- ---- rows as a function, and as a list
 
 abbrev pub AreRows : Rows → Type 0
-AreRows rows = (key : List ℕ) → IsOption IsRow (rows key)
+AreRows rows = (key : List ℕ) → IsOption IsSpelledRow (rows key)
 
 pub none_rows : AreRows no_rows
 none_rows key = tt
 
 changed_rows : (rows : Rows) (write : Write) → AreRows rows → IsRowed write → AreRows (changed rows write)
-changed_rows rows write h w key = either (IsOption IsRow) (same_key write.key key) write.row (rows key) w (h key)
+changed_rows rows write h w key = either (IsOption IsSpelledRow) (same_key write.key key) write.row (rows key) w (h key)
 
 pub written_rows : (writes : List Write) (rows : Rows) → Each IsRowed writes → AreRows rows → AreRows (written writes rows)
 written_rows [] rows e h = h
 written_rows (write ∷ writes) rows e h = written_rows writes (changed rows write) e.1 (changed_rows rows write h e.0)
 
 pub writes_of : (entry : Content) → IsShort entry → Each IsRowed entry.writes
-writes_of entry h = each_weaker IsWrite IsRowed (λ write w. w.1) entry.writes (each_of_all IsWrite entry.writes ((h.0).writes).each)
+writes_of entry h = each_weaker IsWrite IsRowed (λ write w. rowed_of write.row w.1) entry.writes (each_of_all IsWrite entry.writes ((h.0).writes).each)
 
 pub after_rows : (log : List Content) (rows : Rows) → Each IsShort log → AreRows rows → AreRows (after log rows)
 after_rows [] rows e h = h
 after_rows (entry ∷ log) rows e h = after_rows log (written entry.writes rows) e.1 (written_rows entry.writes rows (writes_of entry e.0) h)
 
 abbrev IsOne : List ℕ × Row → Type 0
-IsOne one = IsRow one.1
+IsOne one = IsSpelledRow one.1
 
-insert_listed : (es : Listed) (k : List ℕ) (v : Row) → AreListed es → IsRow v → AreListed (insert_entry key_cmp es k v)
+insert_listed : (es : Listed) (k : List ℕ) (v : Row) → AreListed es → IsSpelledRow v → AreListed (insert_entry key_cmp es k v)
 insert_listed [] k v h r = (r, tt)
 insert_listed (e ∷ es) k v h r = go (key_cmp k e.0) (insert_listed es k v h.1 r)
   where
@@ -67,7 +67,7 @@ remove_listed : (test : List ℕ → Bool) (es : Listed) → AreListed es → Ar
 remove_listed test [] h = tt
 remove_listed test (e ∷ es) h = either AreListed (test e.0) es (e ∷ remove_entry test es) h.1 (h.0, remove_listed test es h.1)
 
-changed_listed : (listed : Listed) (key : List ℕ) (row : Option Row) → AreListed listed → IsOption IsRow row → AreListed (list_changed listed (record { key = key; row = row }))
+changed_listed : (listed : Listed) (key : List ℕ) (row : Option Row) → AreListed listed → IsOption IsSpelledRow row → AreListed (list_changed listed (record { key = key; row = row }))
 changed_listed listed key None h w = remove_listed (λ other. same_key key other) listed h
 changed_listed listed key (Some row) h w = insert_listed listed key row h w
 
@@ -81,17 +81,17 @@ after_listed (entry ∷ log) listed e h = after_listed log (list_written entry.w
 
 pub under_rows : (listed : Listed) → AreListed listed → AreRows (row_under listed)
 under_rows [] h key = tt
-under_rows (e ∷ es) h key = either (IsOption IsRow) (same_key key e.0) (Some e.1) (row_under es key) h.0 (under_rows es h.1 key)
+under_rows (e ∷ es) h key = either (IsOption IsSpelledRow) (same_key key e.0) (Some e.1) (row_under es key) h.0 (under_rows es h.1 key)
 
 -- ---- some cells of a row
 
-lower : (low least : ℕ) (cells : List Cell) → least ≤ low → Ascends low cells → Ascends least cells
+lower : (low least : ℕ) (cells : List Cell) → least ≤ low → Rises low cells → Rises least cells
 lower low least [] le h = tt
 lower low least (cell ∷ cells) le h = ((((let above = ((h.0).0).0 in omega (arith, le, above)), ((h.0).0).1), (h.0).1), h.1)
 
-filtered : (test : Cell → Bool) (low : ℕ) (cells : List Cell) → Ascends low cells → Ascends low (filter test cells)
+filtered : (test : Cell → Bool) (low : ℕ) (cells : List Cell) → Rises low cells → Rises low (filter test cells)
 filtered test low [] h = tt
-filtered test low (cell ∷ cells) h = either (Ascends low) (test cell) (cell ∷ filter test cells) (filter test cells)
+filtered test low (cell ∷ cells) h = either (Rises low) (test cell) (cell ∷ filter test cells) (filter test cells)
     (h.0, filtered test (cell.property + 1) cells h.1)
     (lower (cell.property + 1) low (filter test cells) (let above = ((h.0).0).0 in omega (arith, above)) (filtered test (cell.property + 1) cells h.1))
 
@@ -99,7 +99,7 @@ fewer : (test : Cell → Bool) (cells : List Cell) → length (filter test cells
 fewer test [] = omega arith
 fewer test (cell ∷ cells) = let le = fewer test cells in either (λ (l : List Cell). length l ≤ suc (length cells)) (test cell) (cell ∷ filter test cells) (filter test cells) (omega (arith, le)) (omega (arith, le))
 
-pub with_row : (numbers : List ℕ) (row : Row) → IsRow row → IsRow (row_with numbers row)
+pub with_row : (numbers : List ℕ) (row : Row) → IsSpelledRow row → IsSpelledRow (row_with numbers row)
 with_row numbers row h = record {
   few = (let le = fewer (λ (c : Cell). is_listed numbers c.property) row.cells in let few = h.few in omega (arith, le, few));
   rising = filtered (λ (c : Cell). is_listed numbers c.property) 0 row.cells h.rising;
@@ -107,14 +107,14 @@ with_row numbers row h = record {
 
 -- ---- another value of a row
 
-one_value : (v : Value) → IsValue v → IsList 1 4294967295 IsValue (v ∷ [])
-one_value v h = record { each = All-cons IsValue v [] h (All-nil IsValue); least = omega arith; most = omega arith }
+one_value : (v : Value) → IsSpelled v → (1 ≤ length (v ∷ [])) × Each IsSpelled (v ∷ [])
+one_value v h = (omega arith, (h, tt))
 
-set_cells : (number : ℕ) (v : Value) (low : ℕ) (cells : List Cell) → IsValue v → Ascends low cells → Ascends low (map (cell_set number v) cells)
+set_cells : (number : ℕ) (v : Value) (low : ℕ) (cells : List Cell) → IsSpelled v → Rises low cells → Rises low (map (cell_set number v) cells)
 set_cells number v low [] i h = tt
 set_cells number v low (c ∷ cs) i h = go (c.property == number) (set_cells number v (c.property + 1) cs i h.1)
   where
-    go : (t : Bool) → Ascends (c.property + 1) (map (cell_set number v) cs) → Ascends low (cond t (record { property = c.property; values = v ∷ [] }) c ∷ map (cell_set number v) cs)
+    go : (t : Bool) → Rises (c.property + 1) (map (cell_set number v) cs) → Rises low (cond t (record { property = c.property; values = v ∷ [] }) c ∷ map (cell_set number v) cs)
     go true k = (((h.0).0, one_value v i), k)
     go false k = (h.0, k)
 
@@ -122,7 +122,7 @@ same_length : (number : ℕ) (v : Value) (cells : List Cell) → length (map (ce
 same_length number v [] = omega arith
 same_length number v (c ∷ cs) = let le = same_length number v cs in omega (arith, le)
 
-pub set_row : (row : Row) (number : ℕ) (v : Value) → IsRow row → IsValue v → IsRow (row_set row number v)
+pub set_row : (row : Row) (number : ℕ) (v : Value) → IsSpelledRow row → IsSpelled v → IsSpelledRow (row_set row number v)
 set_row row number v h i = record {
   few = (let le = same_length number v row.cells in let few = h.few in omega (arith, le, few));
   rising = set_cells number v 0 row.cells i h.rising;
@@ -145,16 +145,16 @@ fits_64 (negsuc n) e = record { sfits = below n (2 ^ 63) e }
 
 -- ---- the writes of local index entries
 
-placed_listed : (entries : Listed) (value : Row) (keys : List (List ℕ)) → AreListed entries → IsRow value → AreListed (placed entries value keys)
+placed_listed : (entries : Listed) (value : Row) (keys : List (List ℕ)) → AreListed entries → IsSpelledRow value → AreListed (placed entries value keys)
 placed_listed entries value [] h r = h
 placed_listed entries value (key ∷ keys) h r = placed_listed (insert_entry key_cmp entries key value) value keys (insert_listed entries key value h r) r
 
-local_listed : (number : ℕ) (xs : List Index) (n : ℕ) (group : List ℕ) (key : List Value) (row : Row) (entries : Listed) → IsRow row → AreListed entries → AreListed (local_in number xs n group key row entries)
+local_listed : (number : ℕ) (xs : List Index) (n : ℕ) (group : List ℕ) (key : List Value) (row : Row) (entries : Listed) → IsSpelledRow row → AreListed entries → AreListed (local_in number xs n group key row entries)
 local_listed number [] n group key row entries r h = h
 local_listed number (x ∷ xs) n group key row entries r h = local_listed (number + 1) xs n group key row (with_local number x n group key row entries) r
     (either AreListed _ (placed entries (row_with x.storing row) (entry_keys number x group key row)) entries (placed_listed entries (row_with x.storing row) (entry_keys number x group key row) h (with_row x.storing row r)) h)
 
-entries_listed : (s : Schema) (n : ℕ) (t : Table) (row : Option Row) → IsOption IsRow row → AreListed (local_entries s n t row)
+entries_listed : (s : Schema) (n : ℕ) (t : Table) (row : Option Row) → IsOption IsSpelledRow row → AreListed (local_entries s n t row)
 entries_listed s n t None h = tt
 entries_listed s n t (Some row) h = either AreListed (row_fits s n t row) (local_in 1 (indexes_of s) n (group_bytes_of s n t row) (key_values t.primary row) row []) []
     (local_listed 1 (indexes_of s) n (group_bytes_of s n t row) (key_values t.primary row) row [] h tt) tt
@@ -167,10 +167,10 @@ fresh_rowed : (old new : Listed) → AreListed new → Each IsRowed (fresh old n
 fresh_rowed old [] h = tt
 fresh_rowed old (e ∷ es) h = each_both IsRowed (fresh_one old e) (fresh old es) (either (Each IsRowed) (is_row (row_under old e.0) e.1) [] (record { key = e.0; row = Some e.1 } ∷ []) tt (h.0, tt)) (fresh_rowed old es h.1)
 
-index_rowed_in : (s : Schema) (n : ℕ) (t : Option Table) (old new : Option Row) → IsOption IsRow new → Each IsRowed (index_writes_in s n t old new)
+index_rowed_in : (s : Schema) (n : ℕ) (t : Option Table) (old new : Option Row) → IsOption IsSpelledRow new → Each IsRowed (index_writes_in s n t old new)
 index_rowed_in s n None old new h = tt
 index_rowed_in s n (Some t) old new h = each_both IsRowed (gone (local_entries s n t new) (local_entries s n t old)) (fresh (local_entries s n t old) (local_entries s n t new))
     (gone_rowed (local_entries s n t new) (local_entries s n t old)) (fresh_rowed (local_entries s n t old) (local_entries s n t new) (entries_listed s n t new h))
 
-pub index_rowed : (s : Schema) (n : ℕ) (old new : Option Row) → IsOption IsRow new → Each IsRowed (index_writes s n old new)
+pub index_rowed : (s : Schema) (n : ℕ) (old new : Option Row) → IsOption IsSpelledRow new → Each IsRowed (index_writes s n old new)
 index_rowed s n old new h = index_rowed_in s n (numbered s.tables n) old new h
