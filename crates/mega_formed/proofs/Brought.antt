@@ -1,20 +1,19 @@
 -- The handlers that the store brings make only rows that have texts.
-use Rattle.std.proofs.Common.{◌≡◌, ℕ, zero, suc, ◌+◌, ◌==◌, Bool, true, false, cond, List, [], ◌∷◌, length, drop, take, Option, Some, None, Result, Ok, Err, refl, sym, subst, arith}
+use Rattle.std.proofs.Common.{◌≡◌, ℕ, ◌==◌, Bool, true, false, cond, List, [], length, drop, take, Option, Some, None, Result, Ok, Err, refl}
 use Rattle.std.specs.Prelude.{if◌then◌else◌, ℤ, ◌+ℤ◌, ◌^◌, nat_lt, slice_index}
 use Rattle.std.specs.Int.{cast_signed, from_be_bytes, w64}
 use Rattle.mega_base.specs.Codec.{IsOption}
-use Rattle.mega_base.specs.Reading.{Place, Read, ◌>>=◌, place, whole_of}
+use Rattle.mega_base.specs.Reading.{Read, ◌>>=◌, place, whole_of}
 use Rattle.mega_base.specs.declared.values.Row.{Row}
-use Rattle.mega_base.specs.declared.values.Value.{Value}
 use Rattle.mega_base.specs.declared.values.Value.TheVariants.{Int64}
 use Rattle.mega_entry.specs.declared.content.Write.{Write}
-use Rattle.mega_entry.specs.Entries.{IsWrite, write_at}
+use Rattle.mega_entry.specs.Entries.{write_at}
 use Rattle.mega_entry.specs.EntryLaws.{write_codec}
-use Rattle.mega_index.specs.Cells.{row_set, values_of}
-use Rattle.mega_index.specs.Rows.{Listed, row_under}
+use Rattle.mega_index.specs.Cells.{values_of}
+use Rattle.mega_index.specs.Rows.{row_under}
 use Rattle.mega_handler.specs.Effects.{copy_writes, credit_row, credit_writes, int64_of, is_in_range, read_write, sum_of, sum_written}
 use Rattle.mega_formed.specs.Rounds.{Each}
-use Rattle.mega_formed.specs.Requests.{AreListed, IsMeaning, IsRowed, IsSpelled, IsSpelledRow}
+use Rattle.mega_formed.specs.Requests.{IsMeaning, IsRowed, IsSpelled, IsSpelledRow}
 use Rattle.mega_formed.proofs.Spelling.{rowed_of}
 use Rattle.mega_formed.proofs.Each.{either}
 use Rattle.mega_formed.proofs.Rows.{fits_64, set_row, under_rows}
@@ -66,6 +65,8 @@ credited key_property amount property key (Some row) h = either (Each IsRowed) (
     (written_formed key property row (sum_of amount (int64_of (values_of row property))) h (sum_formed amount (int64_of (values_of row property))))
 
 pub credit_formed : (key_property : ℕ) → IsMeaning (λ message rows. (credit_writes key_property message.payload rows, []))
-credit_formed key_property message rows m r =
-    (either (Each IsRowed) (nat_lt (length message.payload) 9) [] (credit_row key_property (cast_signed w64 (from_be_bytes w64 (take 8 message.payload))) (slice_index message.payload 8) (drop 9 message.payload) (row_under rows (drop 9 message.payload))) tt
-    (credited key_property (cast_signed w64 (from_be_bytes w64 (take 8 message.payload))) (slice_index message.payload 8) (drop 9 message.payload) (row_under rows (drop 9 message.payload)) (under_rows rows r (drop 9 message.payload))), tt)
+credit_formed key_property message rows m r = (
+  either (Each IsRowed) (nat_lt (length message.payload) 9) [] (credit_row key_property (cast_signed w64 (from_be_bytes w64 (take 8 message.payload))) (slice_index message.payload 8) (drop 9 message.payload) (row_under rows (drop 9 message.payload))) tt
+      (credited key_property (cast_signed w64 (from_be_bytes w64 (take 8 message.payload))) (slice_index message.payload 8) (drop 9 message.payload) (row_under rows (drop 9 message.payload)) (under_rows rows r (drop 9 message.payload))),
+  tt,
+)

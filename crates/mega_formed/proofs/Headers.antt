@@ -1,14 +1,11 @@
 -- A cluster that was read from a header is of the format.
-use Rattle.std.proofs.Common.{◌≡◌, ℕ, ◌==◌, ◌≤◌, ◌&&◌, ◌||◌, Bool, true, false, not, cond, List, [], ◌∷◌, length, Option, Some, None, Result, Ok, Err, refl, subst, arith}
+use Rattle.std.proofs.Common.{◌≡◌, ℕ, ◌==◌, ◌≤◌, ◌&&◌, ◌||◌, Bool, true, false, not, cond, List, length, Option, Some, None, Result, Ok, Err, refl, subst, arith}
 use Rattle.std.specs.Prelude.{ℤ, pos, negsuc, codes, nat_le, nat_lt}
-use Rattle.std.specs.Str.{is_utf8}
 use Rattle.std.specs.List.{list_any}
 use Rattle.std.proofs.lemmas.Bool.Decides.{nat_tests}
-use Rattle.toml.specs.Data.{Data, string, integer, array, Members, get_member}
-use Rattle.toml.specs.Parse.{parse_document}
+use Rattle.toml.specs.Data.{Data, integer, Members, get_member}
 use Rattle.mega_base.specs.Codec.{IsOption}
 use Rattle.mega_base.specs.declared.values.NodeKind.{NodeKind}
-use Rattle.mega_schema.specs.declared.schema.Schema.{Schema}
 use Rattle.mega_cluster.specs.declared.cluster.Cluster.{Cluster}
 use Rattle.mega_cluster.specs.Header.{◌>>=◌, cells_of, counted, default_cells, document_of, has_unknown_key, header_of, is_full, needed, nodes_of, nodes_of_data, number_in, number_of, number_of_data, odd_cells, read_of, ruled_out, schema_of}
 use Rattle.mega_formed.specs.Histories.{IsCluster}

@@ -16,3 +16,4 @@ pub mod Handling
 pub mod Whole
 pub mod Brought
 pub mod Headers
+pub mod Lines

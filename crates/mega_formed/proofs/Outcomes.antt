@@ -1,7 +1,6 @@
 -- What operations propose of their own is of the format: entries of transactions, of batches, and those that handle messages.
 use Rattle.std.proofs.Common.{◌≡◌, ◌∙◌, ap, ℕ, ◌+◌, ◌≤◌, max, Bool, true, false, cond, List, [], ◌∷◌, ◌++◌, length, length-append, flat_map, fold, Option, Some, None, Result, Ok, Err, refl, subst, arith}
-use Rattle.std.specs.Prelude.{FitsSigned, is_some, nat_le, nat_lt, negsuc, not, pos, ℤ, ◌&&◌, ◌+ℤ◌, ◌^◌}
-use Rattle.std.specs.Int.{w32, w64}
+use Rattle.std.specs.Prelude.{is_some, nat_le, nat_lt, not, ℤ, ◌&&◌, ◌+ℤ◌, ◌^◌}
 use Rattle.std.proofs.lemmas.Bool.Decides.{nat_tests}
 use Rattle.mega_base.specs.Codec.{IsBetween, IsList, IsOption, bytes_text, option_text}
 use Rattle.mega_base.specs.Values.{row_text}

@@ -1,9 +1,9 @@
 -- Rows that have a text if that is short enough, against those that have one.
-use Rattle.std.proofs.Common.{◌≡◌, ◌∙◌, ap, ℕ, suc, ◌+◌, ◌==◌, ◌&&◌, ◌≤◌, Bool, true, false, cond, List, [], ◌∷◌, ◌++◌, length, length-append, flat_map, Option, Some, None, refl, arith}
-use Rattle.std.specs.Prelude.{All, nat_lt}
+use Rattle.std.proofs.Common.{◌≡◌, ℕ, ◌+◌, ◌==◌, ◌&&◌, ◌≤◌, Bool, true, false, List, [], ◌∷◌, length, length-append, flat_map, Option, Some, None, refl, arith}
+use Rattle.std.specs.Prelude.{nat_lt}
 use Rattle.std.specs.List.{list_all}
 use Rattle.std.proofs.lemmas.Bool.Decides.{nat_tests}
-use Rattle.mega_base.specs.Codec.{IsBetween, IsList, IsOption, option_text}
+use Rattle.mega_base.specs.Codec.{IsOption, option_text}
 use Rattle.mega_base.specs.Values.{Ascends, IsRow, IsValue, cell_text, row_text, value_text}
 use Rattle.mega_base.specs.declared.values.Cell.{Cell}
 use Rattle.mega_base.specs.declared.values.Row.{Row}
@@ -15,8 +15,7 @@ use Rattle.mega_schema.specs.declared.schema.Property.{Property}
 use Rattle.mega_schema.specs.declared.schema.Schema.{Schema}
 use Rattle.mega_schema.specs.declared.schema.Table.{Table}
 use Rattle.mega_keys.specs.Fit.{has_kind}
-use Rattle.mega_index.specs.Cells.{key_values}
-use Rattle.mega_index.specs.Fits.{cell_fits, cells_fit, fits, fits_in, has_place, has_required, is_count, key_of, long_key, numbered, properties_fit, row_fits}
+use Rattle.mega_index.specs.Fits.{cell_fits, cells_fit, fits, fits_in, has_place, has_required, is_count, numbered, properties_fit}
 use Rattle.mega_formed.specs.Rounds.{Each}
 use Rattle.mega_formed.specs.Requests.{IsGiven, IsSpelled, IsSpelledRow, Rises}
 use Rattle.mega_formed.proofs.Each.{all_of_each, each_of_all, each_weaker}

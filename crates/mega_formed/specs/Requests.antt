@@ -83,3 +83,17 @@ AreHandlers handlers = Each (λ (one : List ℕ × Meaning). IsMeaning one.1) ha
 pub record IsEntered (enter : Enter) : Type 0 where
   pub message : IsEnter enter
   pub short : length (enter_text enter) + 19 ≤ 65536
+
+-- what the types of a request keep by themselves: its numbers are in their ranges, and its texts are of UTF-8
+pub record IsTyped (t : Transaction) : Type 0 where
+  pub writes : Each IsChange t.writes
+  pub sends : Each IsQueued t.sends
+
+abbrev pub IsTypedRequest : Request → Type 0
+IsTypedRequest (Txn transaction) = IsTyped transaction
+IsTypedRequest (Batch group transactions) = Each IsTyped transactions
+IsTypedRequest (Read request) = Unit {0}
+IsTypedRequest (Find request) = Unit {0}
+IsTypedRequest PumpEnter = Unit {0}
+IsTypedRequest PumpHandle = Unit {0}
+IsTypedRequest Refresh = Unit {0}

@@ -1,6 +1,6 @@
 //! Laws, as contracts of functions that do nothing.
 
-ghost use Rattle.std.specs.Prelude.{◌≡◌, ◌≤◌, ℕ, List, [], length, Ok, Option, Some, true};
+ghost use Rattle.std.specs.Prelude.{◌≡◌, ◌≤◌, codes, ℕ, List, [], length, Ok, Option, Some, true};
 ghost use Rattle.mega_base.specs.declared.names.Epoch.{Epoch};
 ghost use Rattle.mega_entry.specs.declared.content.Content.{Content};
 ghost use Rattle.mega_wire.specs.declared.message.Body.{Body};
@@ -32,7 +32,14 @@ ghost use Rattle.mega_index.specs.Rows.{after, list_after, no_rows};
 ghost use Rattle.mega_outcome.specs.declared.answer.Done.{Done};
 ghost use Rattle.mega_outcome.specs.declared.transaction.Transaction.{Transaction};
 ghost use Rattle.mega_outcome.specs.Outcome.{batch_outcome, entry_of_batch, entry_of_done, outcome};
-ghost use Rattle.mega_formed.specs.Requests.{IsEntered, IsMeaning, IsTransaction};
+ghost use Rattle.serde_json.specs.Data.{Data};
+ghost use Rattle.serde_json.specs.Events.{items_len};
+ghost use Rattle.serde_json.specs.Find.{get};
+ghost use Rattle.mega_outcome.specs.declared.request.Request.TheVariants.{Find, Read, Txn};
+ghost use Rattle.mega_schedule.specs.Requests.{batch_of, find_request, read_request};
+ghost use Rattle.mega_schedule.specs.Rows.{transaction_of};
+ghost use Rattle.mega_schedule.specs.Values.{list_in};
+ghost use Rattle.mega_formed.specs.Requests.{IsEntered, IsMeaning, IsRequest, IsTransaction, IsTypedRequest};
 ghost use Rattle.mega_formed.specs.Nodes.{IsEvent, IsNode, IsSetting, IsStep};
 ghost use Rattle.mega_formed.specs.Decisions.{AreDecided};
 ghost use Rattle.mega_formed.specs.Histories.{IsClock, IsCluster, IsMet};
@@ -102,4 +109,13 @@ pub fn clusters_are_of_the_format()
 pub fn handlers_are_of_the_format()
     ensures copies { IsMeaning (λ message rows. (copy_writes message.payload, [])) }
     ensures credits { (key_property : ℕ) → IsMeaning (λ message rows. (credit_writes key_property message.payload rows, [])) }
+{}
+
+/// What a line of a schedule asks for is of the format, where the request keeps what its types say, and a batch has at most 16 transactions,
+/// as a line without fault has.
+pub fn lines_are_of_the_format()
+    ensures transactions { (schema : Schema) (group : Option Data) (d : Data) → IsTypedRequest (Txn (transaction_of schema group d)) → IsRequest (Txn (transaction_of schema group d)) }
+    ensures batches { (schema : Schema) (d : Data) → items_len (list_in (get (codes "txns") d)) ≤ 16 → IsTypedRequest (batch_of schema d) → IsRequest (batch_of schema d) }
+    ensures reads { (schema : Schema) (d : Data) → IsRequest (Read (read_request schema d)) }
+    ensures finds { (schema : Schema) (d : Data) → IsRequest (Find (find_request schema d)) }
 {}
