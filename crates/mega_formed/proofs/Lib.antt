@@ -17,3 +17,4 @@ pub mod Whole
 pub mod Brought
 pub mod Headers
 pub mod Lines
+pub mod Journals

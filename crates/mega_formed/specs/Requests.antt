@@ -79,7 +79,7 @@ IsMeaning makes = (message : Enter) (rows : Listed) → IsEnter message → AreL
 abbrev pub AreHandlers : Meanings → Type 0
 AreHandlers handlers = Each (λ (one : List ℕ × Meaning). IsMeaning one.1) handlers
 
--- a message that an entry can hold, of which there is one that a message can hold
+-- a message that was entered: the entry that holds it, which has 19 bytes more at least, can stand in a message of the format
 pub record IsEntered (enter : Enter) : Type 0 where
   pub message : IsEnter enter
   pub short : length (enter_text enter) + 19 ≤ 65536

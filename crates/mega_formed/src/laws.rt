@@ -1,6 +1,6 @@
 //! Laws, as contracts of functions that do nothing.
 
-ghost use Rattle.std.specs.Prelude.{◌≡◌, ◌≤◌, codes, ℕ, List, [], length, Ok, Option, Some, true};
+ghost use Rattle.std.specs.Prelude.{All, ◌≡◌, ◌≤◌, codes, ℕ, List, [], length, Ok, Option, Some, true};
 ghost use Rattle.mega_base.specs.declared.names.Epoch.{Epoch};
 ghost use Rattle.mega_entry.specs.declared.content.Content.{Content};
 ghost use Rattle.mega_wire.specs.declared.message.Body.{Body};
@@ -32,6 +32,8 @@ ghost use Rattle.mega_index.specs.Rows.{after, list_after, no_rows};
 ghost use Rattle.mega_outcome.specs.declared.answer.Done.{Done};
 ghost use Rattle.mega_outcome.specs.declared.transaction.Transaction.{Transaction};
 ghost use Rattle.mega_outcome.specs.Outcome.{batch_outcome, entry_of_batch, entry_of_done, outcome};
+ghost use Rattle.mega_wal.specs.Items.{IsItem as IsJournalItem};
+ghost use Rattle.mega_voter.specs.Journal.{items_in, journal_of};
 ghost use Rattle.serde_json.specs.Data.{Data};
 ghost use Rattle.serde_json.specs.Events.{items_len};
 ghost use Rattle.serde_json.specs.Find.{get};
@@ -118,4 +120,11 @@ pub fn lines_are_of_the_format()
     ensures batches { (schema : Schema) (d : Data) → items_len (list_in (get (codes "txns") d)) ≤ 16 → IsTypedRequest (batch_of schema d) → IsRequest (batch_of schema d) }
     ensures reads { (schema : Schema) (d : Data) → IsRequest (Read (read_request schema d)) }
     ensures finds { (schema : Schema) (d : Data) → IsRequest (Find (find_request schema d)) }
+{}
+
+/// What a voter's journal holds of what its node met has a text, where all that was met is of the format; so has what a promise or a vote
+/// puts there.
+pub fn journals_are_of_the_format()
+    ensures whole { (met : List Met) → IsMet met → All IsJournalItem (journal_of met) }
+    ensures votes { (body : Body) → IsBody body → All IsJournalItem (items_in body) }
 {}
