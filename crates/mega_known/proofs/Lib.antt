@@ -1,1 +1,4 @@
 pub mod Logs
+pub mod Followed
+pub mod Owned
+pub mod Applied

@@ -148,6 +148,9 @@ prefix_grows_after items met group = let rest = log_more_after items met group i
 
 -- ---- what a decision leaves
 
+pub decision_more : (g : GroupId) (p : ℕ) (e : Content) (met : List Met) (group : GroupId) → (more : List Content) × (log_of (Decides g p e ∷ met) group ≡ log_of met group ++ more)
+decision_more g p e met group = log_more (Decides g p e) met group
+
 pub other_decided : (g : GroupId) (p : ℕ) (e : Content) (met : List Met) (group : GroupId) (n : ℕ) → same_group g group ≡ false → decided (Decides g p e ∷ met) group n ≡ decided met group n
 other_decided g p e met group n apart = ap (λ (t : Bool). cond (t && p == n) (first_of (decided met group n) e) (decided met group n)) apart
 

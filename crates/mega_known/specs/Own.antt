@@ -6,6 +6,6 @@ use Rattle.mega_schema.specs.declared.schema.Schema.{Schema}
 use Rattle.mega_outcome.specs.Places.{key_in}
 use Rattle.mega_stored.specs.Stored.{GroupLogs, IsOwn}
 
--- no other group's entries write a row that an item of a group can name
-abbrev pub HasOwnRows : Schema → GroupLogs → Type 0
-HasOwnRows schema log = (group : GroupId) (i n : ℕ) (values : List Value) (key : List ℕ) → key_in schema group.key i n values ≡ Ok key → IsOwn log group key
+-- the rows that an item of a group can name are written by that group's entries alone
+pub record HasOwnRows (schema : Schema) (log : GroupLogs) : Type 0 where
+  pub own : (group : GroupId) (i n : ℕ) (values : List Value) (key : List ℕ) → key_in schema group.key i n values ≡ Ok key → IsOwn log group key

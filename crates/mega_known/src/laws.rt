@@ -1,15 +1,28 @@
 //! What follows from the definitions, as contracts of functions that do nothing.
 
-ghost use Rattle.std.specs.Prelude.{◌≡◌, ◌≤◌, ◌++◌, ◌∷◌, false, ℕ, List, Some, All, take};
+ghost use Rattle.std.specs.Prelude.{◌≡◌, ◌≤◌, ◌++◌, ◌∷◌, false, length, ℕ, List, Some, All, take};
 ghost use Rattle.mega_base.specs.declared.names.GroupId.{GroupId};
 ghost use Rattle.mega_entry.specs.declared.content.Content.{Content};
+ghost use Rattle.mega_disk.specs.VersionMaps.{Versions};
+ghost use Rattle.mega_schema.specs.declared.schema.Schema.{Schema};
+ghost use Rattle.mega_index.specs.Rows.{after, no_rows};
+ghost use Rattle.mega_outcome.specs.Answers.{rows_at};
+ghost use Rattle.mega_outcome.specs.Group.{AgreeIn};
+ghost use Rattle.mega_outcome.specs.Outcome.{batch_outcome, outcome};
+ghost use Rattle.mega_outcome.specs.Reads.{read_rows};
+ghost use Rattle.mega_outcome.specs.declared.transaction.RowRef.{RowRef};
+ghost use Rattle.mega_outcome.specs.declared.transaction.Transaction.{Transaction};
 ghost use Rattle.mega_wal.specs.Same.{same_group};
+ghost use Rattle.mega_replica.specs.Applying.{after_portion, after_read, applied, writes_of};
 ghost use Rattle.mega_rules.specs.Logs.{decided, groups_of, log_of, newest_of, prefix_of};
 ghost use Rattle.mega_rules.specs.Met.{Met, Decides};
 ghost use Rattle.mega_rules.specs.Steps.{onto};
-ghost use Rattle.mega_stored.specs.Stored.{log_in};
+ghost use Rattle.mega_stored.specs.declared.progress.Progress.{Progress};
+ghost use Rattle.mega_stored.specs.Following.{Follows};
+ghost use Rattle.mega_stored.specs.Stored.{Counts, GroupLogs, log_in};
 ghost use Rattle.mega_voter.specs.Journal.{journal_of};
 ghost use Rattle.mega_known.specs.Deciding.{IsNoDecision, is_decision};
+ghost use Rattle.mega_known.specs.Own.{HasOwnRows};
 
 /// The decided prefix of a group is that of the journal.
 #[tactic(auto, using(crate::proofs::Logs::log_is))]
@@ -35,4 +48,107 @@ pub fn only_decisions_among_many_change_logs()
     ensures prefixes { (items met : List Met) (group : GroupId) → All IsNoDecision items → prefix_of (onto items met) group ≡ prefix_of met group }
     ensures newest { (items met : List Met) (group : GroupId) → All IsNoDecision items → newest_of (onto items met) group ≡ newest_of met group }
     ensures groups { (items met : List Met) → All IsNoDecision items → groups_of (onto items met) ≡ groups_of met }
+{}
+
+/// Whatever is met, a log begins with what it was before.
+#[tactic(auto, using(crate::proofs::Logs::log_more, crate::proofs::Logs::log_front, crate::proofs::Logs::prefix_grows))]
+pub fn what_is_met_only_extends_logs()
+    ensures grown { (one : Met) (met : List Met) (group : GroupId) → (more : List Content) × (log_of (one ∷ met) group ≡ log_of met group ++ more) }
+    ensures front { (one : Met) (met : List Met) (group : GroupId) → take (prefix_of met group) (log_of (one ∷ met) group) ≡ log_of met group }
+    ensures prefixes { (one : Met) (met : List Met) (group : GroupId) → prefix_of met group ≤ prefix_of (one ∷ met) group }
+{}
+
+/// So it is over a list of things that are met.
+#[tactic(auto, using(crate::proofs::Logs::log_more_after, crate::proofs::Logs::log_front_after, crate::proofs::Logs::prefix_grows_after))]
+pub fn all_that_is_met_only_extends_logs()
+    ensures grown { (items met : List Met) (group : GroupId) → (more : List Content) × (log_of (onto items met) group ≡ log_of met group ++ more) }
+    ensures front { (items met : List Met) (group : GroupId) → take (prefix_of met group) (log_of (onto items met) group) ≡ log_of met group }
+    ensures prefixes { (items met : List Met) (group : GroupId) → prefix_of met group ≤ prefix_of (onto items met) group }
+{}
+
+/// A decision extends the log of its own group alone, and no log where its position was decided before.
+#[tactic(auto, using(crate::proofs::Logs::decision_more, crate::proofs::Logs::other_decided, crate::proofs::Logs::other_log, crate::proofs::Logs::again_decided, crate::proofs::Logs::again_log))]
+pub fn a_decision_extends_its_log()
+    ensures grown { (g : GroupId) (p : ℕ) (e : Content) (met : List Met) (group : GroupId) → (more : List Content) × (log_of (Decides g p e ∷ met) group ≡ log_of met group ++ more) }
+    ensures others { (g : GroupId) (p : ℕ) (e : Content) (met : List Met) (group : GroupId) (n : ℕ) → same_group g group ≡ false → decided (Decides g p e ∷ met) group n ≡ decided met group n }
+    ensures other_logs { (g : GroupId) (p : ℕ) (e : Content) (met : List Met) (group : GroupId) → same_group g group ≡ false → log_of (Decides g p e ∷ met) group ≡ log_of met group }
+    ensures again { (g : GroupId) (p : ℕ) (e found : Content) (met : List Met) (group : GroupId) (n : ℕ) → decided met g p ≡ Some found → decided (Decides g p e ∷ met) group n ≡ decided met group n }
+    ensures again_logs { (g : GroupId) (p : ℕ) (e found : Content) (met : List Met) (group : GroupId) → decided met g p ≡ Some found → log_of (Decides g p e ∷ met) group ≡ log_of met group }
+{}
+
+/// Rows that follow a node's logs follow them once it met more: what is decided since is not stored yet.
+#[tactic(auto, using(crate::proofs::Followed::follows_more))]
+pub fn rows_follow_what_is_met()
+    ensures { (version : Versions) (progress : GroupId → Progress) (one : Met) (met : List Met) (stored : Counts) →
+        Follows version progress (log_of met) stored → Follows version progress (log_of (one ∷ met)) stored }
+{}
+
+/// So it is over a list of things that are met.
+#[tactic(auto, using(crate::proofs::Followed::follows_after))]
+pub fn rows_follow_all_that_is_met()
+    ensures { (version : Versions) (progress : GroupId → Progress) (items met : List Met) (stored : Counts) →
+        Follows version progress (log_of met) stored → Follows version progress (log_of (onto items met)) stored }
+{}
+
+/// Where longer logs have rows of their own, their fronts have.
+#[tactic(auto, using(crate::proofs::Owned::shorter_owns))]
+pub fn shorter_logs_have_own_rows()
+    ensures { (schema : Schema) (log longer more : GroupLogs) → ((group : GroupId) → longer group ≡ log group ++ more group) → HasOwnRows schema longer → HasOwnRows schema log }
+{}
+
+/// So what a node met before has, where what it met by now has.
+#[tactic(auto, using(crate::proofs::Owned::owned_before))]
+pub fn earlier_logs_have_own_rows()
+    ensures { (schema : Schema) (one : Met) (met : List Met) → HasOwnRows schema (log_of (one ∷ met)) → HasOwnRows schema (log_of met) }
+{}
+
+/// And before a list of things that are met.
+#[tactic(auto, using(crate::proofs::Owned::owned_before_all))]
+pub fn logs_before_all_have_own_rows()
+    ensures { (schema : Schema) (items met : List Met) → HasOwnRows schema (log_of (onto items met)) → HasOwnRows schema (log_of met) }
+{}
+
+/// At a position that is applied, the rows that a group's items can name are those that the entries through it wrote.
+pub fn a_group_reads_its_log()
+    ensures { (version : Versions) (progress : GroupId → Progress) (log : GroupLogs) (stored : Counts) (schema : Schema) (group : GroupId) (p : ℕ) →
+        Follows version progress log stored → HasOwnRows schema log → p ≤ applied (log group) (stored group) →
+        AgreeIn schema group.key (rows_at version p) (after (take p (log group)) no_rows) }
+{}
+
+/// So a transaction, a batch and a read of a group come there to what they come to over its log.
+#[tactic(auto, using(crate::proofs::Owned::outcome_is, crate::proofs::Owned::batch_is, crate::proofs::Owned::rows_are))]
+pub fn what_a_group_does_is_of_its_log()
+    ensures alone { (version : Versions) (progress : GroupId → Progress) (log : GroupLogs) (stored : Counts) (schema : Schema) (group : GroupId) (p : ℕ) →
+        Follows version progress log stored → HasOwnRows schema log → p ≤ applied (log group) (stored group) →
+        (txn : Transaction) → txn.group ≡ group → outcome schema txn (rows_at version p) ≡ outcome schema txn (after (take p (log group)) no_rows) }
+    ensures batched { (version : Versions) (progress : GroupId → Progress) (log : GroupLogs) (stored : Counts) (schema : Schema) (group : GroupId) (p : ℕ) →
+        Follows version progress log stored → HasOwnRows schema log → p ≤ applied (log group) (stored group) →
+        (own : GroupId) (txns : List Transaction) → own ≡ group → batch_outcome schema own txns (rows_at version p) ≡ batch_outcome schema own txns (after (take p (log group)) no_rows) }
+    ensures reads { (version : Versions) (progress : GroupId → Progress) (log : GroupLogs) (stored : Counts) (schema : Schema) (group : GroupId) (p : ℕ) →
+        Follows version progress log stored → HasOwnRows schema log → p ≤ applied (log group) (stored group) →
+        (refs : List RowRef) → read_rows schema group refs (rows_at version p) ≡ read_rows schema group refs (after (take p (log group)) no_rows) }
+{}
+
+/// Once all that a read needs is stored, all entries through its position are applied.
+#[tactic(auto, using(crate::proofs::Applied::read_applies))]
+pub fn what_a_read_needs_is_applied()
+    ensures { (p : ℕ) (log : List Content) (stored : ℕ) → p ≤ length log → p ≤ applied log (after_read p log stored) }
+{}
+
+/// As more of a log is stored, no less of it is applied, and never more than there is.
+#[tactic(auto, using(crate::proofs::Applied::applied_more, crate::proofs::Applied::applied_within))]
+pub fn applied_positions_only_rise()
+    ensures rise { (log : List Content) (stored more : ℕ) → stored ≤ more → applied log stored ≤ applied log more }
+    ensures within { (log : List Content) (stored : ℕ) → applied log stored ≤ length log }
+{}
+
+/// A read and a portion store no less than what was stored, and no more than there is.
+#[tactic(auto, using(crate::proofs::Applied::read_keeps, crate::proofs::Applied::read_within, crate::proofs::Applied::portion_keeps, crate::proofs::Applied::portion_within, crate::proofs::Applied::read_applied_keeps, crate::proofs::Applied::portion_applied_keeps))]
+pub fn storing_takes_nothing_away()
+    ensures read { (p : ℕ) (log : List Content) (stored : ℕ) → stored ≤ after_read p log stored }
+    ensures read_within { (p : ℕ) (log : List Content) (stored : ℕ) → stored ≤ length (writes_of log) → after_read p log stored ≤ length (writes_of log) }
+    ensures read_applied { (p : ℕ) (log : List Content) (stored : ℕ) → applied log stored ≤ applied log (after_read p log stored) }
+    ensures portion { (most : ℕ) (log : List Content) (stored : ℕ) → stored ≤ length (writes_of log) → stored ≤ after_portion most log stored }
+    ensures portion_within { (most : ℕ) (log : List Content) (stored : ℕ) → after_portion most log stored ≤ length (writes_of log) }
+    ensures portion_applied { (most : ℕ) (log : List Content) (stored : ℕ) → stored ≤ length (writes_of log) → applied log stored ≤ applied log (after_portion most log stored) }
 {}
