@@ -1,8 +1,12 @@
 //! What follows from the definitions, as contracts of functions that do nothing.
 
-ghost use Rattle.std.specs.Prelude.{◌≡◌, ◌≤◌, ◌++◌, ◌∷◌, false, length, ℕ, List, Some, All, take};
+ghost use Rattle.std.specs.Prelude.{◌≡◌, ◌≤◌, ◌++◌, ◌∷◌, false, fold, length, map, ℕ, List, Option, Some, All, take};
+ghost use Rattle.mega_base.specs.declared.names.Epoch.{Epoch};
 ghost use Rattle.mega_base.specs.declared.names.GroupId.{GroupId};
+ghost use Rattle.mega_cluster.specs.declared.cluster.Cluster.{Cluster};
 ghost use Rattle.mega_entry.specs.declared.content.Content.{Content};
+ghost use Rattle.mega_wire.specs.declared.message.Body.{Body};
+ghost use Rattle.mega_wire.specs.declared.message.Message.{Message};
 ghost use Rattle.mega_disk.specs.VersionMaps.{Versions};
 ghost use Rattle.mega_schema.specs.declared.schema.Schema.{Schema};
 ghost use Rattle.mega_index.specs.Rows.{after, no_rows};
@@ -12,15 +16,27 @@ ghost use Rattle.mega_outcome.specs.Outcome.{batch_outcome, outcome};
 ghost use Rattle.mega_outcome.specs.Reads.{read_rows};
 ghost use Rattle.mega_outcome.specs.declared.transaction.RowRef.{RowRef};
 ghost use Rattle.mega_outcome.specs.declared.transaction.Transaction.{Transaction};
+ghost use Rattle.mega_wal.specs.declared.kept.Kept.{Kept};
 ghost use Rattle.mega_wal.specs.Same.{same_group};
+ghost use Rattle.mega_propose.specs.declared.round.Proposal.{Proposal};
+ghost use Rattle.mega_propose.specs.declared.round.Site.{Site};
+ghost use Rattle.mega_propose.specs.Rounds.{asks, completes, due, takes};
+ghost use Rattle.mega_read.specs.declared.reading.Reader.{Reader};
+ghost use Rattle.mega_read.specs.declared.reading.Reading.{Reading};
+ghost use Rattle.mega_read.specs.Catching.{falls_due, hears, local_read, polled_read, seeks};
 ghost use Rattle.mega_replica.specs.Applying.{after_portion, after_read, applied, writes_of};
+ghost use Rattle.mega_rules.specs.Acting.{goes_on};
+ghost use Rattle.mega_rules.specs.Coordinators.{acquires_at};
 ghost use Rattle.mega_rules.specs.Logs.{decided, groups_of, log_of, newest_of, prefix_of};
-ghost use Rattle.mega_rules.specs.Met.{Met, Decides};
-ghost use Rattle.mega_rules.specs.Steps.{onto};
+ghost use Rattle.mega_rules.specs.Met.{Met, Decides, Sends};
+ghost use Rattle.mega_rules.specs.Operations.{Now, Operation, Setting};
+ghost use Rattle.mega_rules.specs.Steps.{Decision, Heard, acts_in_turn, all_act, background, begins, does_due, hears_message, news, onto, ticked};
 ghost use Rattle.mega_stored.specs.declared.progress.Progress.{Progress};
 ghost use Rattle.mega_stored.specs.Following.{Follows};
 ghost use Rattle.mega_stored.specs.Stored.{Counts, GroupLogs, log_in};
 ghost use Rattle.mega_voter.specs.Journal.{journal_of};
+ghost use Rattle.mega_voter.specs.Telling.{Tells};
+ghost use Rattle.mega_known.specs.Asking.{Asks};
 ghost use Rattle.mega_known.specs.Deciding.{IsNoDecision, is_decision};
 ghost use Rattle.mega_known.specs.Own.{HasOwnRows};
 
@@ -77,21 +93,18 @@ pub fn a_decision_extends_its_log()
 {}
 
 /// Rows that follow a node's logs follow them once it met more: what is decided since is not stored yet.
-#[tactic(auto, using(crate::proofs::Followed::follows_more))]
 pub fn rows_follow_what_is_met()
     ensures { (version : Versions) (progress : GroupId → Progress) (one : Met) (met : List Met) (stored : Counts) →
         Follows version progress (log_of met) stored → Follows version progress (log_of (one ∷ met)) stored }
 {}
 
 /// So it is over a list of things that are met.
-#[tactic(auto, using(crate::proofs::Followed::follows_after))]
 pub fn rows_follow_all_that_is_met()
     ensures { (version : Versions) (progress : GroupId → Progress) (items met : List Met) (stored : Counts) →
         Follows version progress (log_of met) stored → Follows version progress (log_of (onto items met)) stored }
 {}
 
 /// Where longer logs have rows of their own, their fronts have.
-#[tactic(auto, using(crate::proofs::Owned::shorter_owns))]
 pub fn shorter_logs_have_own_rows()
     ensures { (schema : Schema) (log longer more : GroupLogs) → ((group : GroupId) → longer group ≡ log group ++ more group) → HasOwnRows schema longer → HasOwnRows schema log }
 {}
@@ -116,7 +129,6 @@ pub fn a_group_reads_its_log()
 {}
 
 /// So a transaction, a batch and a read of a group come there to what they come to over its log.
-#[tactic(auto, using(crate::proofs::Owned::outcome_is, crate::proofs::Owned::batch_is, crate::proofs::Owned::rows_are))]
 pub fn what_a_group_does_is_of_its_log()
     ensures alone { (version : Versions) (progress : GroupId → Progress) (log : GroupLogs) (stored : Counts) (schema : Schema) (group : GroupId) (p : ℕ) →
         Follows version progress log stored → HasOwnRows schema log → p ≤ applied (log group) (stored group) →
@@ -151,4 +163,54 @@ pub fn storing_takes_nothing_away()
     ensures portion { (most : ℕ) (log : List Content) (stored : ℕ) → stored ≤ length (writes_of log) → stored ≤ after_portion most log stored }
     ensures portion_within { (most : ℕ) (log : List Content) (stored : ℕ) → after_portion most log stored ≤ length (writes_of log) }
     ensures portion_applied { (most : ℕ) (log : List Content) (stored : ℕ) → stored ≤ length (writes_of log) → applied log stored ≤ applied log (after_portion most log stored) }
+{}
+
+/// A round sends neither promises nor votes.
+pub fn rounds_only_ask()
+    ensures begun { (s : Site) (leader : ℕ) (own : Content) (now : ℕ) → All Asks (asks s leader own now).sends }
+    ensures completed { (s : Site) (own : Content) (now : ℕ) → All Asks (completes s own now).sends }
+    ensures heard { (s : Site) (p : Proposal) (from now : ℕ) (body : Body) → All Asks (takes s p from now body).sends }
+    ensures ticked { (s : Site) (p : Proposal) (retry now : ℕ) → All Asks (due s p retry now).sends }
+{}
+
+/// Nor does a current read.
+pub fn reads_only_ask()
+    ensures local { (asked : List ℕ) (top : ℕ) → All Asks (local_read asked top).sends }
+    ensures polled { (who : Reader) (noted : Option Epoch) (asked : List ℕ) (now : ℕ) → All Asks (polled_read who noted asked now).sends }
+    ensures heard { (who : Reader) (r : Reading) (from now : ℕ) (body : Body) → All Asks (hears who r from now body).sends }
+    ensures ticked { (who : Reader) (r : Reading) (retry now : ℕ) → All Asks (falls_due who r retry now).sends }
+    ensures sought { (who : Reader) (r : Reading) (least now : ℕ) → All Asks (seeks who r least now).sends }
+{}
+
+/// Nor does an open operation that hears a message, or does what is due at a tick.
+pub fn operations_only_ask()
+    ensures heard { (s : Setting) (now : ℕ) (m : Message) (o : Operation) → All Asks (hears_message s now m o).sends }
+    ensures ticked { (s : Setting) (now : ℕ) (o : Operation) → All Asks (does_due s now o).sends }
+{}
+
+/// Nor does a node that tells of a decision, fetches what it lacks, or asks for its epoch.
+pub fn nodes_only_ask()
+    ensures news { (s : Setting) (d : Option Decision) → All Asks (news s d) }
+    ensures background { (s : Setting) (met : List Met) (now : ℕ) → All Asks (background s met now) }
+    ensures acquires { (c : Cluster) (me : ℕ) (met : List Met) (now : ℕ) → All Asks (acquires_at c me met now) }
+{}
+
+/// Nor does an operation that goes on or begins: where all that is to be sent so far asks, all does then.
+pub fn acting_only_asks()
+    ensures goes_on { (s : Setting) (now : Now) (o : Operation) → All Asks now.sends → All Asks (goes_on s now o).sends }
+    ensures begins { (s : Setting) (now : Now) (o : Operation) → All Asks now.sends → All Asks (begins s now o).sends }
+    ensures in_turn { (s : Setting) (now : Now) (t : Heard) → All Asks t.sends → All Asks now.sends → All Asks (acts_in_turn s now t).sends }
+    ensures ticked { (s : Setting) (clock : ℕ) (now : Now) (o : Operation) → All Asks now.sends → All Asks (ticked s clock now o).sends }
+{}
+
+/// Nor do all open operations, one after another.
+pub fn all_that_act_only_ask()
+    ensures heard { (s : Setting) (ts : List Heard) (now : Now) → All (λ (t : Heard). All Asks t.sends) ts → All Asks now.sends → All Asks (all_act s now ts).sends }
+    ensures ticked { (s : Setting) (clock : ℕ) (os : List Operation) (now : Now) → All Asks now.sends → All Asks (fold (ticked s clock) now os).sends }
+{}
+
+/// What is kept still tells what was met, once messages that ask are sent.
+pub fn what_is_met_stays_told()
+    ensures one { (kept : Kept) (met : List Met) (m : Message) → Asks m → Tells kept met → Tells kept (Sends m ∷ met) }
+    ensures all { (kept : Kept) (sends : List Message) (met : List Met) → All Asks sends → Tells kept met → Tells kept (onto (map Sends sends) met) }
 {}
