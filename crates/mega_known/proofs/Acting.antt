@@ -1,5 +1,5 @@
 -- What a node sends of its own accord in a step asks: none of it is a promise or a vote.
-use Rattle.std.proofs.Common.{ℕ, zero, suc, ◌+◌, nat_le, nat_lt, ◌&&◌, Bool, true, false, cond, List, [], ◌∷◌, ◌++◌, take, length, map, filter, flat_map, fold, Option, Some, None, Result, Ok, Err, refl}
+use Rattle.std.proofs.Common.{ℕ, zero, suc, ◌+◌, nat_le, nat_lt, ◌&&◌, Bool, true, false, cond, List, [], ◌∷◌, take, length, map, flat_map, fold, Option, Some, None, Result, Ok, Err, refl}
 use Rattle.std.specs.List.{All, list_any}
 use Rattle.std.proofs.lemmas.List.Elements.{All-append, All-head, All-tail}
 use Rattle.mega_base.specs.declared.names.Epoch.{Epoch}
@@ -12,7 +12,6 @@ use Rattle.mega_entry.specs.declared.content.Content.{Content}
 use Rattle.mega_entry.specs.declared.content.Enter.{Enter}
 use Rattle.mega_wire.specs.declared.message.Message.{Message}
 use Rattle.mega_handler.specs.Named.{has}
-use Rattle.mega_outcome.specs.declared.answer.Answer.{Answer}
 use Rattle.mega_outcome.specs.declared.answer.Batch.{Batch}
 use Rattle.mega_outcome.specs.declared.answer.Done.{Done}
 use Rattle.mega_outcome.specs.declared.answer.Turn.{Turn as Turned}
@@ -24,12 +23,11 @@ use Rattle.mega_outcome.specs.declared.request.Request.{Request}
 use Rattle.mega_outcome.specs.declared.request.Request.TheVariants.{Txn, Batch as BatchRequest, Read as ReadRequested, Find, PumpEnter, PumpHandle, Refresh}
 use Rattle.mega_outcome.specs.Outcome.{batch_outcome, entry_of_batch, entry_of_done, outcome}
 use Rattle.mega_propose.specs.Members.{others}
-use Rattle.mega_propose.specs.declared.round.Proposal.{Proposal}
 use Rattle.mega_read.specs.declared.reading.Reading.{Reading}
 use Rattle.mega_read.specs.declared.reading.Stage.{Stage}
 use Rattle.mega_read.specs.declared.reading.Stage.TheVariants.{Polling, Catching}
 use Rattle.mega_read.specs.declared.reading.Move.{Move as ReadMove}
-use Rattle.mega_read.specs.Catching.{asked_by, local_read, polled_read, seeks, site}
+use Rattle.mega_read.specs.Catching.{asked_by, local_read, polled_read, site}
 use Rattle.mega_rules.specs.Met.{Met}
 use Rattle.mega_rules.specs.Members.{has_rows, is_full, nodes, voters}
 use Rattle.mega_rules.specs.Clock.{clock_of, does_again, start_of, ticks_of}
@@ -37,8 +35,8 @@ use Rattle.mega_rules.specs.Logs.{decided, groups_of, log_of, newest_of, prefix_
 use Rattle.mega_rules.specs.Coordinators.{acquire_to, acquires, acquires_at, asked_cells, coordinator_calls, refused_at, serves_at, valid_at}
 use Rattle.mega_rules.specs.Queues.{Posted, enter_entry, is_named, names_entered, next_to_enter, next_to_handle, oldest_unhandled}
 use Rattle.mega_rules.specs.Operations.{Now, Operation, Phase, Promised, Proposes, Reads, Replies, Results, Setting}
-use Rattle.mega_rules.specs.Acting.{acts, acts_within, applied_logs, batch_sealed, begins_read, completes_read, ends, enters, finishes, goes_on, handles, handling, is_taken, is_visited, keeps, leader_after, listed_at, picks_group, picks_message, picks_to_enter, picks_to_handle, proposes, proposes_by, read_begun, reader_of, reads_on, rows_at, sealed, sends_more, table_rows, unless_decided, unless_full, validated_by, validates}
-use Rattle.mega_rules.specs.Steps.{Decision, Heard, acts_in_turn, all_act, background, begins, decide_to, does_due, fetch_to, fetches_for, find_begins, hears_message, is_out, local_find_begins, news, read_begins, ticked, unless_refused}
+use Rattle.mega_rules.specs.Acting.{acts, acts_within, applied_logs, batch_sealed, begins_read, completes_read, enters, finishes, goes_on, handles, handling, is_taken, is_visited, leader_after, listed_at, picks_group, picks_message, proposes, proposes_by, read_begun, reader_of, reads_on, rows_at, sealed, sends_more, table_rows, unless_decided, unless_full, validated_by, validates}
+use Rattle.mega_rules.specs.Steps.{Decision, Heard, acts_in_turn, all_act, background, begins, decide_to, does_due, fetch_to, fetches_for, find_begins, hears_message, is_out, local_find_begins, news, read_begins, ticked}
 use Rattle.mega_known.specs.Asking.{Asks}
 use Rattle.mega_known.proofs.Rounds.{asks_ask, due_ask, none, of_each, takes_ask, to_each}
 use Rattle.mega_known.proofs.Reading.{falls_due_ask, hears_ask, local_ask, polled_ask, seeks_ask}

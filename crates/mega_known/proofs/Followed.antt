@@ -1,5 +1,5 @@
 -- The rows that follow a node's logs follow them as the node meets more.
-use Rattle.std.proofs.Common.{ℕ, List, [], ◌∷◌}
+use Rattle.std.proofs.Common.{List, ◌∷◌}
 use Rattle.mega_base.specs.declared.names.GroupId.{GroupId}
 use Rattle.mega_disk.specs.VersionMaps.{Versions}
 use Rattle.mega_rules.specs.Met.{Met}

@@ -1,15 +1,13 @@
 -- What a current read sends asks: none of it is a promise or a vote.
-use Rattle.std.proofs.Common.{ℕ, ◌+◌, ◌&&◌, ◌||◌, ◌==◌, not, max, Bool, true, false, cond, List, [], ◌∷◌, ◌++◌, length, map, Option, Some, None, refl}
+use Rattle.std.proofs.Common.{ℕ, ◌+◌, ◌&&◌, ◌||◌, ◌==◌, not, Bool, true, false, cond, List, [], ◌∷◌, length, map, Option, Some, None, refl}
 use Rattle.std.specs.List.{All, list_all}
-use Rattle.std.proofs.lemmas.List.Elements.{All-cons}
 use Rattle.mega_base.specs.declared.names.Epoch.{Epoch}
 use Rattle.mega_wire.specs.declared.message.Body.{Body}
 use Rattle.mega_wire.specs.declared.message.Body.TheVariants.{Top, HaveNot}
 use Rattle.mega_wal.specs.Same.{same_group, same_op}
 use Rattle.mega_propose.specs.Members.{has, is_majority, with_node, without}
-use Rattle.mega_propose.specs.Rounds.{completes, due, is_due, takes}
+use Rattle.mega_propose.specs.Rounds.{is_due}
 use Rattle.mega_read.specs.declared.reading.Reader.{Reader}
-use Rattle.mega_read.specs.declared.reading.Search.{Search}
 use Rattle.mega_read.specs.declared.reading.Search.TheVariants.{Fetching, Filling}
 use Rattle.mega_read.specs.declared.reading.Stage.{Stage}
 use Rattle.mega_read.specs.declared.reading.Stage.TheVariants.{Polling, Catching}

@@ -1,10 +1,7 @@
 -- What a round sends asks: none of it is a promise or a vote.
-use Rattle.std.proofs.Common.{ℕ, ◌+◌, ◌&&◌, ◌==◌, max, nat_le, not, Bool, true, false, cond, List, [], ◌∷◌, ◌++◌, length, map, flat_map, Option, Some, None, refl}
+use Rattle.std.proofs.Common.{ℕ, ◌&&◌, ◌==◌, max, nat_le, not, Bool, true, false, cond, List, [], ◌∷◌, ◌++◌, length, map, flat_map, Option, refl}
 use Rattle.std.specs.List.{All, list_any}
 use Rattle.std.proofs.lemmas.List.Elements.{All-append, All-cons, All-nil}
-use Rattle.mega_base.specs.declared.names.OpId.{OpId}
-use Rattle.mega_base.specs.declared.names.GroupId.{GroupId}
-use Rattle.mega_base.specs.declared.names.Position.{Position}
 use Rattle.mega_ballot.specs.declared.ballot.Ballot.{Ballot}
 use Rattle.mega_ballot.specs.Order.{zero_ballot}
 use Rattle.mega_entry.specs.declared.content.Content.{Content}
@@ -19,7 +16,7 @@ use Rattle.mega_propose.specs.declared.round.Round.{Round}
 use Rattle.mega_propose.specs.declared.round.Round.TheVariants.{Asking, Preparing, Accepting, Covering, Settled, Waiting}
 use Rattle.mega_propose.specs.declared.round.Proposal.{Proposal}
 use Rattle.mega_propose.specs.declared.round.Move.{Move}
-use Rattle.mega_propose.specs.Rounds.{accept_to, accepted, asks, cell_numbers, completes, dead_to, due, greatest_vote, invalidate_to, invalidated, is_due, is_here, is_sent, last_round, next_ballot, picked, prepare_to, prepares, presses, promised, proposes, refused, same_ballot, takes, tells, uncovered, unheld, vote_round}
+use Rattle.mega_propose.specs.Rounds.{accept_to, accepted, asks, cell_numbers, completes, dead_to, due, greatest_vote, invalidate_to, invalidated, is_due, is_here, is_sent, last_round, next_ballot, picked, prepare_to, prepares, presses, promised, proposes, refused, same_ballot, takes, uncovered, unheld, vote_round}
 use Rattle.mega_known.specs.Asking.{Asks}
 
 pub none : All Asks []
