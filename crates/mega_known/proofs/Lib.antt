@@ -5,4 +5,6 @@ pub mod Applied
 pub mod Rounds
 pub mod Reading
 pub mod Acting
+pub mod Lasting
+pub mod Within
 pub mod Told

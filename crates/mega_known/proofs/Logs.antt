@@ -18,7 +18,7 @@ use Rattle.mega_stored.proofs.Logs.{log_grows}
 use Rattle.mega_voter.specs.Journal.{item_of, journal_of}
 use Rattle.mega_voter.proofs.Folds.{decided_is}
 use Rattle.mega_voter.proofs.Prefixes.{prefix_is}
-use Rattle.mega_known.specs.Deciding.{IsNoDecision, is_decision}
+use Rattle.mega_known.specs.Deciding.{IsNoDecision, SameLogs, is_decision}
 
 -- ---- the journal's logs
 
@@ -104,6 +104,23 @@ log_after (one ∷ items) met group silent = log_after items (one ∷ met) group
 
 pub prefix_after : (items met : List Met) (group : GroupId) → All IsNoDecision items → prefix_of (onto items met) group ≡ prefix_of met group
 prefix_after items met group silent = ap (λ (log : List Content). length log) (log_after items met group silent)
+
+-- the same is decided
+pub same_self : (met : List Met) → SameLogs met met
+same_self met = record { decisions = λ group n. refl; logs = λ group. refl; prefixes = λ group. refl; newest = λ group. refl; groups = refl }
+
+pub same_more : (one : Met) (base met : List Met) → is_decision one ≡ false → SameLogs base met → SameLogs base (one ∷ met)
+same_more one base met silent h = record {
+  decisions = λ group n. decided_stays one met group n silent ∙ h.decisions group n;
+  logs = λ group. log_stays one met group silent ∙ h.logs group;
+  prefixes = λ group. prefix_stays one met group silent ∙ h.prefixes group;
+  newest = λ group. newest_stays one met group silent ∙ h.newest group;
+  groups = groups_stay one met silent ∙ h.groups;
+}
+
+pub same_after : (items base met : List Met) → All IsNoDecision items → SameLogs base met → SameLogs base (onto items met)
+same_after [] base met silent h = h
+same_after (one ∷ items) base met silent h = same_after items base (one ∷ met) (All-tail IsNoDecision one items silent) (same_more one base met (All-head IsNoDecision one items silent) h)
 
 -- ---- logs grow
 

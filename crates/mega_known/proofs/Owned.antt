@@ -24,6 +24,7 @@ use Rattle.mega_stored.specs.Stored.{Counts, GroupLogs, IsUnwritten, last_write}
 use Rattle.mega_stored.specs.Following.{Follows}
 use Rattle.mega_stored.proofs.Writing.{last_write-append}
 use Rattle.mega_stored.proofs.Reading.{read_is}
+use Rattle.mega_known.specs.Deciding.{SameLogs}
 use Rattle.mega_known.specs.Own.{HasOwnRows}
 use Rattle.mega_known.proofs.Logs.{log_more, log_more_after}
 
@@ -50,6 +51,12 @@ owned_before schema one met = shorter_owns schema (log_of met) (log_of (one ∷ 
 
 pub owned_before_all : (schema : Schema) (items met : List Met) → HasOwnRows schema (log_of (onto items met)) → HasOwnRows schema (log_of met)
 owned_before_all schema items met = shorter_owns schema (log_of met) (log_of (onto items met)) (λ group. (log_more_after items met group).0) (λ group. (log_more_after items met group).1)
+
+pub owned_same_logs : (schema : Schema) (old new : List Met) → SameLogs old new → HasOwnRows schema (log_of old) → HasOwnRows schema (log_of new)
+owned_same_logs schema old new same owns = subst (λ (log : GroupLogs). HasOwnRows schema log) (sym (λ i group. same.logs group i)) owns
+
+pub owned_of_same_logs : (schema : Schema) (old new : List Met) → SameLogs old new → HasOwnRows schema (log_of new) → HasOwnRows schema (log_of old)
+owned_of_same_logs schema old new same owns = subst (λ (log : GroupLogs). HasOwnRows schema log) (λ i group. same.logs group i) owns
 
 -- what a group's items name is read as its entries wrote it
 pub reads_agree : (version : Versions) (progress : GroupId → Progress) (log : GroupLogs) (stored : Counts) (schema : Schema) (group : GroupId) (p : ℕ)

@@ -1,3 +1,4 @@
 pub mod Deciding
 pub mod Own
 pub mod Asking
+pub mod About

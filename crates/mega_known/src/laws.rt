@@ -25,7 +25,7 @@ ghost use Rattle.mega_read.specs.declared.reading.Reader.{Reader};
 ghost use Rattle.mega_read.specs.declared.reading.Reading.{Reading};
 ghost use Rattle.mega_read.specs.Catching.{falls_due, hears, local_read, polled_read, seeks};
 ghost use Rattle.mega_replica.specs.Applying.{after_portion, after_read, applied, writes_of};
-ghost use Rattle.mega_rules.specs.Acting.{goes_on};
+ghost use Rattle.mega_rules.specs.Acting.{completes_read, goes_on};
 ghost use Rattle.mega_rules.specs.Coordinators.{acquires_at};
 ghost use Rattle.mega_rules.specs.Logs.{decided, groups_of, log_of, newest_of, prefix_of};
 ghost use Rattle.mega_rules.specs.Met.{Met, Decides, Sends};
@@ -36,8 +36,9 @@ ghost use Rattle.mega_stored.specs.Following.{Follows};
 ghost use Rattle.mega_stored.specs.Stored.{Counts, GroupLogs, log_in};
 ghost use Rattle.mega_voter.specs.Journal.{journal_of};
 ghost use Rattle.mega_voter.specs.Telling.{Tells};
+ghost use Rattle.mega_known.specs.About.{IsAbout};
 ghost use Rattle.mega_known.specs.Asking.{Asks};
-ghost use Rattle.mega_known.specs.Deciding.{IsNoDecision, is_decision};
+ghost use Rattle.mega_known.specs.Deciding.{IsNoDecision, SameLogs, is_decision};
 ghost use Rattle.mega_known.specs.Own.{HasOwnRows};
 
 /// The decided prefix of a group is that of the journal.
@@ -197,6 +198,7 @@ pub fn nodes_only_ask()
 
 /// Nor does an operation that goes on or begins: where all that is to be sent so far asks, all does then.
 pub fn acting_only_asks()
+    ensures completes_read { (s : Setting) (now : Now) (group : GroupId) (r : Reading) (p : ℕ) → All Asks now.sends → All Asks (completes_read s now group r p).sends }
     ensures goes_on { (s : Setting) (now : Now) (o : Operation) → All Asks now.sends → All Asks (goes_on s now o).sends }
     ensures begins { (s : Setting) (now : Now) (o : Operation) → All Asks now.sends → All Asks (begins s now o).sends }
     ensures in_turn { (s : Setting) (now : Now) (t : Heard) → All Asks t.sends → All Asks now.sends → All Asks (acts_in_turn s now t).sends }
@@ -207,6 +209,34 @@ pub fn acting_only_asks()
 pub fn all_that_act_only_ask()
     ensures heard { (s : Setting) (ts : List Heard) (now : Now) → All (λ (t : Heard). All Asks t.sends) ts → All Asks now.sends → All Asks (all_act s now ts).sends }
     ensures ticked { (s : Setting) (clock : ℕ) (os : List Operation) (now : Now) → All Asks now.sends → All Asks (fold (ticked s clock) now os).sends }
+{}
+
+/// Where two histories decide the same, rows follow both, and both have rows of their own or neither.
+pub fn same_logs_serve_alike()
+    ensures items { (items base met : List Met) → All IsNoDecision items → SameLogs base met → SameLogs base (onto items met) }
+    ensures rows { (version : Versions) (progress : GroupId → Progress) (old new : List Met) (stored : Counts) →
+        SameLogs old new → Follows version progress (log_of old) stored → Follows version progress (log_of new) stored }
+    ensures own { (schema : Schema) (old new : List Met) → SameLogs old new → HasOwnRows schema (log_of old) → HasOwnRows schema (log_of new) }
+    ensures back { (schema : Schema) (old new : List Met) → SameLogs old new → HasOwnRows schema (log_of new) → HasOwnRows schema (log_of old) }
+{}
+
+/// Operations that act decide nothing.
+pub fn acting_decides_nothing()
+    ensures completes_read { (s : Setting) (now : Now) (group : GroupId) (r : Reading) (p : ℕ) → SameLogs now.met (completes_read s now group r p).met }
+    ensures goes_on { (s : Setting) (now : Now) (o : Operation) → SameLogs now.met (goes_on s now o).met }
+    ensures begins { (s : Setting) (now : Now) (o : Operation) → SameLogs now.met (begins s now o).met }
+    ensures in_turn { (s : Setting) (now : Now) (t : Heard) → All Asks t.sends → SameLogs now.met (acts_in_turn s now t).met }
+    ensures ticked { (s : Setting) (clock : ℕ) (now : Now) (o : Operation) → SameLogs now.met (ticked s clock now o).met }
+{}
+
+/// An operation reads, and proposes in, the group of its request.
+pub fn operations_stay_about_their_groups()
+    ensures heard { (s : Setting) (now : ℕ) (m : Message) (o : Operation) → IsAbout o → IsAbout (hears_message s now m o).operation }
+    ensures due { (s : Setting) (now : ℕ) (o : Operation) → IsAbout o → IsAbout (does_due s now o).operation }
+    ensures goes_on { (s : Setting) (now : Now) (o : Operation) → IsAbout o → All IsAbout now.kept → All IsAbout (goes_on s now o).kept }
+    ensures begins { (s : Setting) (now : Now) (o : Operation) → All IsAbout now.kept → All IsAbout (begins s now o).kept }
+    ensures in_turn { (s : Setting) (now : Now) (t : Heard) → All Asks t.sends → IsAbout t.operation → All IsAbout now.kept → All IsAbout (acts_in_turn s now t).kept }
+    ensures ticked { (s : Setting) (clock : ℕ) (now : Now) (o : Operation) → IsAbout o → All IsAbout now.kept → All IsAbout (ticked s clock now o).kept }
 {}
 
 /// What is kept still tells what was met, once messages that ask are sent.

@@ -1,5 +1,8 @@
-use Rattle.mega_known.proofs.Acting.{acts_in_turn_asks, begins_asks, goes_on_asks, ticked_asks}
+use Rattle.mega_known.proofs.Within.{acts_in_turn_asks, begins_asks, completes_read_asks, goes_on_asks, ticked_asks}
 use Rattle.mega_known.proofs.laws.acting_only_asks.Goals as goal
+
+pub returns-clause-completes_read : goal.returns-clause-completes_read
+returns-clause-completes_read c = completes_read_asks
 
 pub returns-clause-goes_on : goal.returns-clause-goes_on
 returns-clause-goes_on c = goes_on_asks

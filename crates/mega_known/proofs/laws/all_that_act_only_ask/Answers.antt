@@ -1,4 +1,4 @@
-use Rattle.mega_known.proofs.Acting.{all_act_asks, all_ticked_ask}
+use Rattle.mega_known.proofs.Within.{all_act_asks, all_ticked_ask}
 use Rattle.mega_known.proofs.laws.all_that_act_only_ask.Goals as goal
 
 pub returns-clause-heard : goal.returns-clause-heard
