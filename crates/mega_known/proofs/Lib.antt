@@ -8,3 +8,4 @@ pub mod Acting
 pub mod Lasting
 pub mod Within
 pub mod Told
+pub mod Ending

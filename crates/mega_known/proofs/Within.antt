@@ -38,7 +38,7 @@ ask_lasts = record {
     validated now group p None h = h
     validated now group p (Some refusal) h = h
 
-unasked : (o : Operation) → ⊥ → IsAbout o
+pub unasked : (o : Operation) → ⊥ → IsAbout o
 unasked o impossible = absurd impossible
 
 pub completes_read_asks : (s : Setting) (now : Now) (group : GroupId) (r : Reading) (p : ℕ) → AllAsk now → AllAsk (completes_read s now group r p)
@@ -64,7 +64,7 @@ all_ticked_ask s clock os now h = all_ticked_it AllAsk ⊥ ask_lasts s clock os 
 
 -- ---- nothing is decided
 
-logs_last : (base : List Met) → Lasts (λ now. SameLogs base now.met) ⊥
+pub logs_last : (base : List Met) → Lasts (λ now. SameLogs base now.met) ⊥
 logs_last base = record {
   keeps_it = λ now o about h. h;
   ends_it = λ now op answer h. h;

@@ -2,3 +2,4 @@ pub mod Deciding
 pub mod Own
 pub mod Asking
 pub mod About
+pub mod Acted

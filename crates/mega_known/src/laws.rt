@@ -29,14 +29,15 @@ ghost use Rattle.mega_rules.specs.Acting.{completes_read, goes_on};
 ghost use Rattle.mega_rules.specs.Coordinators.{acquires_at};
 ghost use Rattle.mega_rules.specs.Logs.{decided, groups_of, log_of, newest_of, prefix_of};
 ghost use Rattle.mega_rules.specs.Met.{Met, Decides, Sends};
-ghost use Rattle.mega_rules.specs.Operations.{Now, Operation, Setting};
-ghost use Rattle.mega_rules.specs.Steps.{Decision, Heard, acts_in_turn, all_act, background, begins, does_due, hears_message, news, onto, ticked};
+ghost use Rattle.mega_rules.specs.Operations.{Node, Now, Operation, Setting};
+ghost use Rattle.mega_rules.specs.Steps.{Decision, Event, Heard, acts_in_turn, all_act, background, begins, does_due, hears_message, news, onto, step, ticked};
 ghost use Rattle.mega_stored.specs.declared.progress.Progress.{Progress};
 ghost use Rattle.mega_stored.specs.Following.{Follows};
 ghost use Rattle.mega_stored.specs.Stored.{Counts, GroupLogs, log_in};
 ghost use Rattle.mega_voter.specs.Journal.{journal_of};
 ghost use Rattle.mega_voter.specs.Telling.{Tells};
 ghost use Rattle.mega_known.specs.About.{IsAbout};
+ghost use Rattle.mega_known.specs.Acted.{acted_on};
 ghost use Rattle.mega_known.specs.Asking.{Asks};
 ghost use Rattle.mega_known.specs.Deciding.{IsNoDecision, SameLogs, is_decision};
 ghost use Rattle.mega_known.specs.Own.{HasOwnRows};
@@ -227,6 +228,11 @@ pub fn acting_decides_nothing()
     ensures begins { (s : Setting) (now : Now) (o : Operation) → SameLogs now.met (begins s now o).met }
     ensures in_turn { (s : Setting) (now : Now) (t : Heard) → All Asks t.sends → SameLogs now.met (acts_in_turn s now t).met }
     ensures ticked { (s : Setting) (clock : ℕ) (now : Now) (o : Operation) → SameLogs now.met (ticked s clock now o).met }
+{}
+
+/// A step ends with the logs on which its operations acted.
+pub fn a_step_ends_with_its_logs()
+    ensures { (s : Setting) (node : Node) (event : Event) → SameLogs (acted_on s node event) (step s node event).node.met }
 {}
 
 /// An operation reads, and proposes in, the group of its request.
