@@ -1,5 +1,5 @@
 -- What a node sends of its own accord asks: none of it is a promise or a vote.
-use Rattle.std.proofs.Common.{ℕ, ◌+◌, nat_lt, ◌&&◌, Bool, true, false, cond, List, [], ◌∷◌, map, flat_map, Option, Some, None, refl}
+use Rattle.std.proofs.Common.{ℕ, nat_lt, ◌&&◌, Bool, true, false, cond, List, [], ◌∷◌, map, flat_map, Option, Some, None, refl}
 use Rattle.std.specs.List.{All}
 use Rattle.mega_base.specs.declared.names.Epoch.{Epoch}
 use Rattle.mega_cluster.specs.declared.cluster.Cluster.{Cluster}

@@ -1,11 +1,10 @@
 -- A step ends with the logs on which its operations acted.
-use Rattle.std.proofs.Common.{◌≡◌, ℕ, ◌+◌, nat_lt, ◌&&◌, Bool, true, false, cond, List, [], ◌∷◌, ◌++◌, map, flat_map, fold, Option, Some, None, refl, sym, ap, ◌∙◌, subst}
+use Rattle.std.proofs.Common.{◌≡◌, ℕ, nat_lt, Bool, true, false, cond, List, [], ◌∷◌, ◌++◌, map, flat_map, fold, Option, Some, None, refl, sym, subst}
 use Rattle.std.specs.List.{All}
 use Rattle.std.proofs.lemmas.List.Elements.{All-append, All-cons, All-nil, All-push}
 use Rattle.mega_base.specs.declared.names.GroupId.{GroupId}
 use Rattle.mega_coordinator.specs.declared.answers.NotValid.{NotValid}
 use Rattle.mega_wire.specs.declared.message.Message.{Message}
-use Rattle.mega_outcome.specs.declared.answer.Answer.{Answer}
 use Rattle.mega_outcome.specs.declared.request.Request.{Request}
 use Rattle.mega_rules.specs.Met.{Met, Answers, Applies, Begins, Sends, Takes, Ticks, Validates}
 use Rattle.mega_rules.specs.Members.{has_rows}
@@ -15,14 +14,13 @@ use Rattle.mega_rules.specs.Operations.{Node, Now, Operation, Setting}
 use Rattle.mega_rules.specs.Acting.{validated_by}
 use Rattle.mega_rules.specs.Coordinators.{acquires_at}
 use Rattle.mega_rules.specs.Replies.{reply_to}
-use Rattle.mega_rules.specs.Steps.{Begin, Decision, Event, Heard, Step, Take, Tick, all_act, applied_at, apply_note, apply_notes, at_first, at_open, background, begin_step, decision_note, first_settled, hears_message, if_new, lapse_notes, lease_notes, new_operation, news, onto, op_of, portion_of, refusal, step, step_of, stored_after, take_step, take_with, taken, tick_step, ticked, told_decision, told_notes, unless_refused}
-use Rattle.mega_known.specs.Asking.{Asks}
+use Rattle.mega_rules.specs.Steps.{Begin, Decision, Event, Heard, Step, Take, Tick, all_act, applied_at, apply_note, apply_notes, at_first, at_open, background, begin_step, decision_note, first_settled, hears_message, if_new, lapse_notes, lease_notes, new_operation, news, onto, op_of, portion_of, refusal, step, step_of, stored_after, take_step, taken, tick_step, ticked, told_decision, told_notes, unless_refused}
 use Rattle.mega_known.specs.Acted.{acted_on, or_settled}
 use Rattle.mega_known.specs.Deciding.{IsNoDecision, SameLogs}
 use Rattle.mega_known.proofs.Acting.{hears_message_asks}
 use Rattle.mega_known.proofs.Lasting.{IsHeard, Lasts, all_act_it, all_ticked_it, begun_it}
 use Rattle.mega_known.proofs.Logs.{same_after, same_self}
-use Rattle.mega_known.proofs.Within.{logs_last, unasked}
+use Rattle.mega_known.proofs.Within.{logs_last}
 
 pub onto_append : (xs ys met : List Met) → onto (xs ++ ys) met ≡ onto ys (onto xs met)
 onto_append [] ys met = refl

@@ -1,5 +1,5 @@
 -- What lasts through all that operations do within a step.
-use Rattle.std.proofs.Common.{◌≡◌, ℕ, zero, suc, ◌+◌, nat_le, ◌&&◌, Bool, true, false, cond, List, [], ◌∷◌, take, length, fold, Option, Some, None, Result, Ok, Err, refl}
+use Rattle.std.proofs.Common.{◌≡◌, ℕ, zero, suc, ◌+◌, nat_le, Bool, true, false, cond, List, [], ◌∷◌, take, length, fold, Option, Some, None, Result, Ok, Err, refl}
 use Rattle.std.specs.List.{All, list_any}
 use Rattle.std.proofs.lemmas.List.Elements.{All-head, All-tail}
 use Rattle.mega_base.specs.declared.names.Epoch.{Epoch}

@@ -9,3 +9,4 @@ pub mod Lasting
 pub mod Within
 pub mod Told
 pub mod Ending
+pub mod Completed

@@ -1,24 +1,19 @@
 -- What operations leave as they act: all that is sent asks, nothing is decided, and each stays about its group.
-use Rattle.std.proofs.Common.{◌≡◌, ℕ, ◌+◌, nat_lt, ◌&&◌, Bool, true, false, cond, List, [], ◌∷◌, ◌++◌, map, flat_map, fold, Option, Some, None, refl, sym, ap, ◌∙◌, subst}
+use Rattle.std.proofs.Common.{ℕ, List, fold, Option, Some, None, refl}
 use Rattle.std.specs.List.{All}
-use Rattle.std.proofs.lemmas.List.Elements.{All-append, All-cons, All-head, All-nil, All-push, All-tail, All-weaker}
+use Rattle.std.proofs.lemmas.List.Elements.{All-append, All-push, All-weaker}
 use Rattle.mega_base.specs.declared.names.GroupId.{GroupId}
-use Rattle.mega_base.specs.declared.names.OpId.{OpId}
 use Rattle.mega_coordinator.specs.declared.answers.NotValid.{NotValid}
-use Rattle.mega_wire.specs.declared.message.Message.{Message}
-use Rattle.mega_outcome.specs.declared.answer.Answer.{Answer}
 use Rattle.mega_read.specs.declared.reading.Reading.{Reading}
-use Rattle.mega_rules.specs.Met.{Met, Answers, Applies, Sends, Takes, Ticks, Validates}
-use Rattle.mega_rules.specs.Members.{has_rows}
-use Rattle.mega_rules.specs.Logs.{decided, groups_of, log_of, newest_of, prefix_of}
-use Rattle.mega_rules.specs.Operations.{Node, Now, Operation, Setting}
+use Rattle.mega_rules.specs.Met.{Met, Validates}
+use Rattle.mega_rules.specs.Operations.{Now, Operation, Setting}
 use Rattle.mega_rules.specs.Acting.{completes_read, goes_on, validated_by}
-use Rattle.mega_rules.specs.Steps.{Decision, Heard, acts_in_turn, all_act, applied_at, apply_note, apply_notes, at_first, begins, decision_note, onto, step_of, stored_after, taken, ticked, unless_refused}
+use Rattle.mega_rules.specs.Steps.{Heard, acts_in_turn, all_act, begins, ticked}
 use Rattle.mega_known.specs.About.{IsAbout}
 use Rattle.mega_known.specs.Asking.{Asks}
-use Rattle.mega_known.specs.Deciding.{IsNoDecision, SameLogs, is_decision}
+use Rattle.mega_known.specs.Deciding.{SameLogs}
 use Rattle.mega_known.proofs.Logs.{same_more, same_self}
-use Rattle.mega_known.proofs.Lasting.{IsHeard, Lasts, acts_in_turn_it, all_act_it, all_ticked_it, begins_it, begun_it, completes_read_it, goes_on_it, ticked_it}
+use Rattle.mega_known.proofs.Lasting.{IsHeard, Lasts, acts_in_turn_it, all_act_it, all_ticked_it, begins_it, completes_read_it, goes_on_it, ticked_it}
 
 -- ---- all that is to be sent asks
 

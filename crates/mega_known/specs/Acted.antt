@@ -1,7 +1,6 @@
 -- What a node has met where its operations begin to act in a step.
-use Rattle.std.specs.Prelude.{ℕ, List, ◌∷◌, map, Option, Some, None}
+use Rattle.std.specs.Prelude.{List, ◌∷◌, map, Option, Some, None}
 use Rattle.mega_wire.specs.declared.message.Message.{Message}
-use Rattle.mega_outcome.specs.declared.request.Request.{Request}
 use Rattle.mega_rules.specs.Met.{Met, Begins, Takes, Ticks}
 use Rattle.mega_rules.specs.Clock.{clock_of}
 use Rattle.mega_rules.specs.Operations.{Node, Setting}

@@ -230,6 +230,14 @@ pub fn acting_decides_nothing()
     ensures ticked { (s : Setting) (clock : ℕ) (now : Now) (o : Operation) → SameLogs now.met (ticked s clock now o).met }
 {}
 
+/// Once a read through a decided position is complete, all entries through it are applied, and of each group no fewer than before.
+pub fn a_completed_read_is_applied()
+    ensures through { (s : Setting) (now : Now) (group : GroupId) (r : Reading) (p : ℕ) → p ≤ prefix_of now.met group →
+        p ≤ applied (log_of (completes_read s now group r p).met group) ((completes_read s now group r p).stored group) }
+    ensures others { (s : Setting) (now : Now) (group : GroupId) (r : Reading) (p : ℕ) (other : GroupId) →
+        applied (log_of now.met other) (now.stored other) ≤ applied (log_of (completes_read s now group r p).met other) ((completes_read s now group r p).stored other) }
+{}
+
 /// A step ends with the logs on which its operations acted.
 pub fn a_step_ends_with_its_logs()
     ensures { (s : Setting) (node : Node) (event : Event) → SameLogs (acted_on s node event) (step s node event).node.met }
