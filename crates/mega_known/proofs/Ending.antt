@@ -1,7 +1,7 @@
 -- A step ends with the logs on which its operations acted.
 use Rattle.std.proofs.Common.{◌≡◌, ℕ, nat_lt, Bool, true, false, cond, List, [], ◌∷◌, ◌++◌, map, flat_map, fold, Option, Some, None, refl, sym, subst}
 use Rattle.std.specs.List.{All}
-use Rattle.std.proofs.lemmas.List.Elements.{All-append, All-cons, All-nil, All-push}
+use Rattle.std.proofs.lemmas.List.Elements.{All-append, All-cons, All-nil, All-push, All-weaker}
 use Rattle.mega_base.specs.declared.names.GroupId.{GroupId}
 use Rattle.mega_coordinator.specs.declared.answers.NotValid.{NotValid}
 use Rattle.mega_wire.specs.declared.message.Message.{Message}
@@ -16,71 +16,82 @@ use Rattle.mega_rules.specs.Coordinators.{acquires_at}
 use Rattle.mega_rules.specs.Replies.{reply_to}
 use Rattle.mega_rules.specs.Steps.{Begin, Decision, Event, Heard, Step, Take, Tick, all_act, applied_at, apply_note, apply_notes, at_first, at_open, background, begin_step, decision_note, first_settled, hears_message, if_new, lapse_notes, lease_notes, new_operation, news, onto, op_of, portion_of, refusal, step, step_of, stored_after, take_step, taken, tick_step, ticked, told_decision, told_notes, unless_refused}
 use Rattle.mega_known.specs.Acted.{acted_on, or_settled}
+use Rattle.mega_known.specs.Asking.{Asks}
 use Rattle.mega_known.specs.Deciding.{IsNoDecision, SameLogs}
+use Rattle.mega_known.specs.Sending.{IsUnmade}
 use Rattle.mega_known.proofs.Acting.{hears_message_asks}
 use Rattle.mega_known.proofs.Lasting.{IsHeard, Lasts, all_act_it, all_ticked_it, begun_it}
 use Rattle.mega_known.proofs.Logs.{same_after, same_self}
-use Rattle.mega_known.proofs.Within.{logs_last}
+use Rattle.mega_known.proofs.Within.{ask_lasts}
 
 pub onto_append : (xs ys met : List Met) → onto (xs ++ ys) met ≡ onto ys (onto xs met)
 onto_append [] ys met = refl
 onto_append (x ∷ xs) ys met = onto_append xs ys (x ∷ met)
 
--- ---- what is noted of validates, answers and applying is no decision
+-- ---- what is noted of validates, answers and applying is no decision, and no message
 
-record Quiet (now : Now) : Type 0 where
-  valid : All IsNoDecision now.valid
-  answers : All IsNoDecision now.answers
+abbrev pub IsSilent : Met → Type 0
+IsSilent one = IsNoDecision one × IsUnmade one
+
+pub undecided : (items : List Met) → All IsSilent items → All IsNoDecision items
+undecided items silent = All-weaker IsSilent IsNoDecision (λ one both. both.0) items silent
+
+pub unmade : (items : List Met) → All IsSilent items → All IsUnmade items
+unmade items silent = All-weaker IsSilent IsUnmade (λ one both. both.1) items silent
+
+pub record Quiet (now : Now) : Type 0 where
+  pub valid : All IsSilent now.valid
+  pub answers : All IsSilent now.answers
 
 quiet_lasts : Lasts Quiet ⊥
 quiet_lasts = record {
   keeps_it = λ now o about h. record { valid = h.valid; answers = h.answers };
-  ends_it = λ now op answer h. record { valid = h.valid; answers = All-push IsNoDecision now.answers (Answers op answer) h.answers refl };
+  ends_it = λ now op answer h. record { valid = h.valid; answers = All-push IsSilent now.answers (Answers op answer) h.answers (refl, refl) };
   sends_it = λ now sends more h. record { valid = h.valid; answers = h.answers };
   stores_it = λ now stored h. record { valid = h.valid; answers = h.answers };
   validates_it = λ now group p refusal h. validated now group p refusal h;
 }
   where
     validated : (now : Now) (group : GroupId) (p : ℕ) (refusal : Option NotValid) → Quiet now → Quiet (validated_by now group p refusal)
-    validated now group p None h = record { valid = All-push IsNoDecision now.valid (Validates group p) h.valid refl; answers = h.answers }
+    validated now group p None h = record { valid = All-push IsSilent now.valid (Validates group p) h.valid (refl, refl); answers = h.answers }
     validated now group p (Some refusal) h = h
 
--- both last through a step's acting
-record ActsOn (base : List Met) (now : Now) : Type 0 where
-  logs : SameLogs base now.met
-  quiet : Quiet now
+-- it lasts through a step's acting, and all that is sent asks
+pub record ActsOn (now : Now) : Type 0 where
+  pub sends : All Asks now.sends
+  pub quiet : Quiet now
 
-acting_lasts : (base : List Met) → Lasts (ActsOn base) ⊥
-acting_lasts base = record {
-  keeps_it = λ now o about h. record { logs = (logs_last base).keeps_it now o about h.logs; quiet = quiet_lasts.keeps_it now o about h.quiet };
-  ends_it = λ now op answer h. record { logs = (logs_last base).ends_it now op answer h.logs; quiet = quiet_lasts.ends_it now op answer h.quiet };
-  sends_it = λ now sends more h. record { logs = (logs_last base).sends_it now sends more h.logs; quiet = quiet_lasts.sends_it now sends more h.quiet };
-  stores_it = λ now stored h. record { logs = (logs_last base).stores_it now stored h.logs; quiet = quiet_lasts.stores_it now stored h.quiet };
-  validates_it = λ now group p refusal h. record { logs = (logs_last base).validates_it now group p refusal h.logs; quiet = quiet_lasts.validates_it now group p refusal h.quiet };
+pub acting_lasts : Lasts ActsOn ⊥
+acting_lasts = record {
+  keeps_it = λ now o about h. record { sends = ask_lasts.keeps_it now o about h.sends; quiet = quiet_lasts.keeps_it now o about h.quiet };
+  ends_it = λ now op answer h. record { sends = ask_lasts.ends_it now op answer h.sends; quiet = quiet_lasts.ends_it now op answer h.quiet };
+  sends_it = λ now sends more h. record { sends = ask_lasts.sends_it now sends more h.sends; quiet = quiet_lasts.sends_it now sends more h.quiet };
+  stores_it = λ now stored h. record { sends = ask_lasts.stores_it now stored h.sends; quiet = quiet_lasts.stores_it now stored h.quiet };
+  validates_it = λ now group p refusal h. record { sends = ask_lasts.validates_it now group p refusal h.sends; quiet = quiet_lasts.validates_it now group p refusal h.quiet };
 }
 
-acting_begins : (base : List Met) (now : Now) → now.met ≡ base → now.valid ≡ [] → now.answers ≡ [] → ActsOn base now
-acting_begins base now is none empty = record {
-  logs = subst (SameLogs base) (sym is) (same_self base);
-  quiet = record { valid = subst (All IsNoDecision) (sym none) (All-nil IsNoDecision); answers = subst (All IsNoDecision) (sym empty) (All-nil IsNoDecision) };
+pub acting_begins : (now : Now) → now.sends ≡ [] → now.valid ≡ [] → now.answers ≡ [] → ActsOn now
+acting_begins now nothing none empty = record {
+  sends = subst (All Asks) (sym nothing) (All-nil Asks);
+  quiet = record { valid = subst (All IsSilent) (sym none) (All-nil IsSilent); answers = subst (All IsSilent) (sym empty) (All-nil IsSilent) };
 }
 
-applied_silent : (was : List Met) (was_stored : GroupId → ℕ) (met : List Met) (stored : GroupId → ℕ) (groups : List GroupId) → All IsNoDecision (flat_map (apply_note was was_stored met stored) groups)
-applied_silent was was_stored met stored [] = All-nil IsNoDecision
+applied_silent : (was : List Met) (was_stored : GroupId → ℕ) (met : List Met) (stored : GroupId → ℕ) (groups : List GroupId) → All IsSilent (flat_map (apply_note was was_stored met stored) groups)
+applied_silent was was_stored met stored [] = All-nil IsSilent
 applied_silent was was_stored met stored (group ∷ groups) =
-    All-append IsNoDecision (apply_note was was_stored met stored group) (flat_map (apply_note was was_stored met stored) groups)
+    All-append IsSilent (apply_note was was_stored met stored group) (flat_map (apply_note was was_stored met stored) groups)
     (by (nat_lt (applied_at was was_stored group) (applied_at met stored group))) (applied_silent was was_stored met stored groups)
   where
-    by : (t : Bool) → All IsNoDecision (cond t (Applies group (applied_at met stored group) ∷ []) [])
-    by true = All-cons IsNoDecision (Applies group (applied_at met stored group)) [] refl (All-nil IsNoDecision)
-    by false = All-nil IsNoDecision
+    by : (t : Bool) → All IsSilent (cond t (Applies group (applied_at met stored group) ∷ []) [])
+    by true = All-cons IsSilent (Applies group (applied_at met stored group)) [] (refl, refl) (All-nil IsSilent)
+    by false = All-nil IsSilent
 
-apply_notes_silent : (s : Setting) (was : List Met) (was_stored : GroupId → ℕ) (met : List Met) (stored : GroupId → ℕ) → All IsNoDecision (apply_notes s was was_stored met stored)
+pub apply_notes_silent : (s : Setting) (was : List Met) (was_stored : GroupId → ℕ) (met : List Met) (stored : GroupId → ℕ) → All IsSilent (apply_notes s was was_stored met stored)
 apply_notes_silent s was was_stored met stored = by (has_rows s.cluster s.me)
   where
-    by : (t : Bool) → All IsNoDecision (cond t (flat_map (apply_note was was_stored met stored) (groups_of met)) [])
+    by : (t : Bool) → All IsSilent (cond t (flat_map (apply_note was was_stored met stored) (groups_of met)) [])
     by true = applied_silent was was_stored met stored (groups_of met)
-    by false = All-nil IsNoDecision
+    by false = All-nil IsSilent
 
 sent_silent : (sends : List Message) → All IsNoDecision (map Sends sends)
 sent_silent [] = All-nil IsNoDecision
@@ -88,16 +99,16 @@ sent_silent (m ∷ sends) = All-cons IsNoDecision (Sends m) (map Sends sends) re
 
 -- ---- a step as it ends
 
-step_logs : (node : Node) (own : Met) (locks durable applies : List Met) (sends : List Message) (now : Now) → All IsNoDecision applies → Quiet now
+step_logs : (node : Node) (own : Met) (locks durable applies : List Met) (sends : List Message) (now : Now) → All IsSilent applies → Quiet now
     → SameLogs (onto durable (onto locks (own ∷ node.met))) (step_of node own locks durable applies sends now).node.met
 step_logs node own locks durable applies sends now applied quiet =
     same_after (map Sends sends) base (onto ((((locks ++ durable) ++ applies) ++ now.valid) ++ now.answers) (own ∷ node.met)) (sent_silent sends)
     (subst (SameLogs base) (sym (onto_append (((locks ++ durable) ++ applies) ++ now.valid) now.answers (own ∷ node.met)))
-    (same_after now.answers base (onto (((locks ++ durable) ++ applies) ++ now.valid) (own ∷ node.met)) quiet.answers
+    (same_after now.answers base (onto (((locks ++ durable) ++ applies) ++ now.valid) (own ∷ node.met)) (undecided now.answers quiet.answers)
     (subst (SameLogs base) (sym (onto_append ((locks ++ durable) ++ applies) now.valid (own ∷ node.met)))
-    (same_after now.valid base (onto ((locks ++ durable) ++ applies) (own ∷ node.met)) quiet.valid
+    (same_after now.valid base (onto ((locks ++ durable) ++ applies) (own ∷ node.met)) (undecided now.valid quiet.valid)
     (subst (SameLogs base) (sym (onto_append (locks ++ durable) applies (own ∷ node.met)))
-    (same_after applies base (onto (locks ++ durable) (own ∷ node.met)) applied
+    (same_after applies base (onto (locks ++ durable) (own ∷ node.met)) (undecided applies applied)
     (subst (SameLogs base) (sym (onto_append locks durable (own ∷ node.met))) (same_self base))))))))
   where
     base : List Met
@@ -108,7 +119,7 @@ taken_logs : (s : Setting) (node : Node) (m : Message) (told : List Met) (ts : L
 taken_logs s node m told ts d reply told_news heard =
     step_logs node (Takes m) told (decision_note d) (apply_notes s node.met node.stored now.met now.stored) ((reply ++ told_news) ++ now.sends) now
     (apply_notes_silent s node.met node.stored now.met now.stored)
-    (all_act_it (ActsOn base) ⊥ (acting_lasts base) s ts (at_first base (stored_after s base node.stored d)) heard (acting_begins base _ refl refl refl)).quiet
+    (all_act_it ActsOn ⊥ acting_lasts s ts (at_first base (stored_after s base node.stored d)) heard (acting_begins _ refl refl refl)).quiet
   where
     base : List Met
     base = onto (decision_note d) (onto told (Takes m ∷ node.met))
@@ -116,7 +127,7 @@ taken_logs s node m told ts d reply told_news heard =
     now : Now
     now = all_act s (at_first base (stored_after s base node.stored d)) ts
 
-all_heard : (s : Setting) (clock : ℕ) (m : Message) (os : List Operation) → All (IsHeard ⊥) (map (hears_message s clock m) os)
+pub all_heard : (s : Setting) (clock : ℕ) (m : Message) (os : List Operation) → All (IsHeard ⊥) (map (hears_message s clock m) os)
 all_heard s clock m [] = All-nil (IsHeard ⊥)
 all_heard s clock m (o ∷ os) =
     All-cons (IsHeard ⊥) (hears_message s clock m o) (map (hears_message s clock m) os)
@@ -143,7 +154,7 @@ tick_logs s node now =
     step_logs node (Ticks now) (lease_notes s node.met now) (lapse_notes s node.met now) (apply_notes s node.met node.stored acc.met acc.stored)
     ((acquires_at s.cluster s.me node.met now ++ acc.sends) ++ background s node.met now) acc
     (apply_notes_silent s node.met node.stored acc.met acc.stored)
-    (all_ticked_it (ActsOn base) ⊥ (acting_lasts base) s now node.open_operations (at_first base (portion_of s node.met node.stored)) (λ impossible. absurd impossible) (acting_begins base _ refl refl refl)).quiet
+    (all_ticked_it ActsOn ⊥ acting_lasts s now node.open_operations (at_first base (portion_of s node.met node.stored)) (λ impossible. absurd impossible) (acting_begins _ refl refl refl)).quiet
   where
     base : List Met
     base = onto (lapse_notes s node.met now) (onto (lease_notes s node.met now) (Ticks now ∷ node.met))
@@ -155,7 +166,7 @@ begin_logs : (s : Setting) (node : Node) (request : Request) (text : List ℕ) �
 begin_logs s node request text =
     step_logs node (Begins (op_of s node.met) text) [] [] (apply_notes s node.met node.stored now.met now.stored) now.sends now
     (apply_notes_silent s node.met node.stored now.met now.stored)
-    (begun_it (ActsOn base) ⊥ (acting_lasts base) s (at_open (at_first base node.stored) node.open_operations) (new_operation (op_of s node.met) request (clock_of node.met)) (refusal s node request) (acting_begins base _ refl refl refl)).quiet
+    (begun_it ActsOn ⊥ acting_lasts s (at_open (at_first base node.stored) node.open_operations) (new_operation (op_of s node.met) request (clock_of node.met)) (refusal s node request) (acting_begins _ refl refl refl)).quiet
   where
     base : List Met
     base = Begins (op_of s node.met) text ∷ node.met

@@ -10,3 +10,4 @@ pub mod Within
 pub mod Told
 pub mod Ending
 pub mod Completed
+pub mod Sent

@@ -20,7 +20,7 @@ use Rattle.mega_known.proofs.Lasting.{IsHeard, Lasts, acts_in_turn_it, all_act_i
 abbrev pub AllAsk : Now → Type 0
 AllAsk now = All Asks now.sends
 
-ask_lasts : Lasts AllAsk ⊥
+pub ask_lasts : Lasts AllAsk ⊥
 ask_lasts = record {
   keeps_it = λ now o about h. h;
   ends_it = λ now op answer h. h;

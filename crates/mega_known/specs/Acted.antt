@@ -14,7 +14,13 @@ or_settled None settled = settled
 abbrev pub decision_in : Setting → Node → Message → Option Decision
 decision_in s node m = if_new node.met (or_settled (told_decision m.body) (first_settled (map (hears_message s (clock_of node.met) m) node.open_operations)))
 
--- the event's own item, what it says to cell and coordinator, and what is decided by it
+-- the event's own item
+abbrev pub own_item : Setting → Node → Event → Met
+own_item s node (Tick now) = Ticks now
+own_item s node (Take m) = Takes m
+own_item s node (Begin request text) = Begins (op_of s node.met) text
+
+-- with what it says to cell and coordinator, and what is decided by it
 abbrev pub acted_on : Setting → Node → Event → List Met
 acted_on s node (Tick now) = onto (lapse_notes s node.met now) (onto (lease_notes s node.met now) (Ticks now ∷ node.met))
 acted_on s node (Take m) = onto (decision_note (decision_in s node m)) (onto (told_notes s node.met m.from m.body) (Takes m ∷ node.met))

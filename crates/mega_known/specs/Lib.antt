@@ -3,3 +3,4 @@ pub mod Own
 pub mod Asking
 pub mod About
 pub mod Acted
+pub mod Sending

@@ -30,17 +30,19 @@ ghost use Rattle.mega_rules.specs.Coordinators.{acquires_at};
 ghost use Rattle.mega_rules.specs.Logs.{decided, groups_of, log_of, newest_of, prefix_of};
 ghost use Rattle.mega_rules.specs.Met.{Met, Decides, Sends};
 ghost use Rattle.mega_rules.specs.Operations.{Node, Now, Operation, Setting};
+ghost use Rattle.mega_rules.specs.Replies.{reply_to};
 ghost use Rattle.mega_rules.specs.Steps.{Decision, Event, Heard, acts_in_turn, all_act, background, begins, does_due, hears_message, news, onto, step, ticked};
 ghost use Rattle.mega_stored.specs.declared.progress.Progress.{Progress};
 ghost use Rattle.mega_stored.specs.Following.{Follows};
 ghost use Rattle.mega_stored.specs.Stored.{Counts, GroupLogs, log_in};
 ghost use Rattle.mega_voter.specs.Journal.{journal_of};
-ghost use Rattle.mega_voter.specs.Telling.{Tells};
+ghost use Rattle.mega_voter.specs.Telling.{IsAnswer, Tells};
 ghost use Rattle.mega_known.specs.About.{IsAbout};
-ghost use Rattle.mega_known.specs.Acted.{acted_on};
+ghost use Rattle.mega_known.specs.Acted.{acted_on, own_item};
 ghost use Rattle.mega_known.specs.Asking.{Asks};
 ghost use Rattle.mega_known.specs.Deciding.{IsNoDecision, SameLogs, is_decision};
 ghost use Rattle.mega_known.specs.Own.{HasOwnRows};
+ghost use Rattle.mega_known.specs.Sending.{IsUnmade, MaySend};
 
 /// The decided prefix of a group is that of the journal.
 #[tactic(auto, using(crate::proofs::Logs::log_is))]
@@ -251,6 +253,19 @@ pub fn operations_stay_about_their_groups()
     ensures begins { (s : Setting) (now : Now) (o : Operation) → All IsAbout now.kept → All IsAbout (begins s now o).kept }
     ensures in_turn { (s : Setting) (now : Now) (t : Heard) → All Asks t.sends → IsAbout t.operation → All IsAbout now.kept → All IsAbout (acts_in_turn s now t).kept }
     ensures ticked { (s : Setting) (clock : ℕ) (now : Now) (o : Operation) → IsAbout o → All IsAbout now.kept → All IsAbout (ticked s clock now o).kept }
+{}
+
+/// What asks may always be sent, and what may be sent still may once anything was met that is no message.
+pub fn what_may_be_sent()
+    ensures asks { (met : List Met) (m : Message) → Asks m → IsAnswer met m.body }
+    ensures all { (met : List Met) (sends : List Message) → All Asks sends → MaySend met sends }
+    ensures later { (items met : List Met) (body : Body) → All IsUnmade items → IsAnswer met body → IsAnswer (onto items met) body }
+    ensures reply { (c : Cluster) (me : ℕ) (items met : List Met) (m : Message) (rest : List Message) → All IsUnmade items → All Asks rest → MaySend (onto items met) (reply_to c me met m ++ rest) }
+{}
+
+/// Each message of a step may be sent where it is: behind what the step notes, and one after another.
+pub fn what_a_step_sends_may_be_sent()
+    ensures { (s : Setting) (node : Node) (event : Event) → MaySend (onto (step s node event).notes (own_item s node event ∷ node.met)) (step s node event).sends }
 {}
 
 /// What is kept still tells what was met, once messages that ask are sent.
