@@ -15,7 +15,7 @@ use Rattle.mega_rules.specs.Acting.{validated_by}
 use Rattle.mega_rules.specs.Coordinators.{acquires_at}
 use Rattle.mega_rules.specs.Replies.{reply_to}
 use Rattle.mega_rules.specs.Steps.{Begin, Decision, Event, Heard, Step, Take, Tick, all_act, applied_at, apply_note, apply_notes, at_first, at_open, background, begin_step, decision_note, first_settled, hears_message, if_new, lapse_notes, lease_notes, new_operation, news, onto, op_of, portion_of, refusal, step, step_of, stored_after, take_step, taken, tick_step, ticked, told_decision, told_notes, unless_refused}
-use Rattle.mega_known.specs.Acted.{acted_on, or_settled}
+use Rattle.mega_known.specs.Acted.{acted_on, or_settled, own_item}
 use Rattle.mega_known.specs.Asking.{Asks}
 use Rattle.mega_known.specs.Deciding.{IsNoDecision, SameLogs}
 use Rattle.mega_known.specs.Sending.{IsUnmade}
@@ -134,7 +134,7 @@ all_heard s clock m (o ∷ os) =
     (record { sends = hears_message_asks s clock m o; about = λ impossible. absurd impossible }) (all_heard s clock m os)
 
 -- a message is taken with the decision that it tells, or with what an operation settled by it
-abbrev taken_by : Setting → Node → Message → List Heard → Option Decision → Step
+abbrev pub taken_by : Setting → Node → Message → List Heard → Option Decision → Step
 taken_by s node m ts (Some d) = taken s node m (told_notes s node.met m.from m.body) ts (if_new node.met (Some d)) (reply_to s.cluster s.me node.met m) []
 taken_by s node m ts None =
     taken s node m (told_notes s node.met m.from m.body) ts (if_new node.met (first_settled ts)) (reply_to s.cluster s.me node.met m)
@@ -178,3 +178,14 @@ pub step_ends : (s : Setting) (node : Node) (event : Event) → SameLogs (acted_
 step_ends s node (Tick now) = tick_logs s node now
 step_ends s node (Take m) = take_logs s node m
 step_ends s node (Begin request text) = begin_logs s node request text
+
+-- a node met then what the step notes and sends
+taken_by_met : (s : Setting) (node : Node) (m : Message) (ts : List Heard) (told : Option Decision)
+    → (taken_by s node m ts told).node.met ≡ onto (map Sends (taken_by s node m ts told).sends) (onto (taken_by s node m ts told).notes (Takes m ∷ node.met))
+taken_by_met s node m ts (Some d) = refl
+taken_by_met s node m ts None = refl
+
+pub step_met : (s : Setting) (node : Node) (event : Event) → (step s node event).node.met ≡ onto (map Sends (step s node event).sends) (onto (step s node event).notes (own_item s node event ∷ node.met))
+step_met s node (Tick now) = refl
+step_met s node (Take m) = taken_by_met s node m (map (hears_message s (clock_of node.met) m) node.open_operations) (told_decision m.body)
+step_met s node (Begin request text) = refl

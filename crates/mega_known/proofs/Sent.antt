@@ -1,5 +1,5 @@
 -- What a step sends may be sent: its reply is what the voter's rule answers, and the rest asks.
-use Rattle.std.proofs.Common.{◌≡◌, ℕ, ◌==◌, ◌&&◌, Bool, true, false, cond, List, [], ◌∷◌, ◌++◌, map, filter, flat_map, fold, Option, Some, None, refl, sym, ap, ◌∙◌, subst}
+use Rattle.std.proofs.Common.{◌≡◌, ℕ, ◌==◌, ◌&&◌, Bool, true, false, cond, List, [], ◌∷◌, ◌++◌, map, fold, Option, Some, None, refl, sym, ap, ◌∙◌, subst}
 use Rattle.std.specs.List.{All, cons_option}
 use Rattle.std.proofs.lemmas.List.{append_assoc}
 use Rattle.std.proofs.lemmas.List.Elements.{All-append, All-cons, All-head, All-nil, All-tail}
@@ -11,8 +11,6 @@ use Rattle.mega_base.specs.declared.names.Position.{Position}
 use Rattle.mega_cluster.specs.declared.cluster.Cluster.{Cluster}
 use Rattle.mega_coordinator.specs.declared.answers.Counted.{Counted}
 use Rattle.mega_coordinator.specs.declared.answers.Counted.TheVariants.{No, Yes, Serving}
-use Rattle.mega_coordinator.specs.History.{lease_of}
-use Rattle.mega_coordinator.specs.Lease.{counted_by, granted_answer}
 use Rattle.mega_entry.specs.declared.content.Content.{Content}
 use Rattle.mega_locks.specs.declared.asked.Asked.{Asked}
 use Rattle.mega_locks.specs.declared.asked.Asked.TheVariants.{Granted as Grant, Renewed, Taken, Over}
@@ -21,15 +19,15 @@ use Rattle.mega_wire.specs.declared.message.Body.{Body}
 use Rattle.mega_wire.specs.declared.message.Body.TheVariants.{Where, Top, Accept, Accepted, Prepare, Promise, Invalidate, Invalidated, Dead, Fetch, Acquire, Granted}
 use Rattle.mega_rules.specs.Met.{Met, Begins, Counts, Decides, Grants, Invalidates, Sends, Serves, Takes, Ticks}
 use Rattle.mega_rules.specs.Members.{is_cell, is_full, is_voter}
-use Rattle.mega_rules.specs.Clock.{clock_of, start_of}
-use Rattle.mega_rules.specs.Coordinators.{acquires_at, coordinator_calls, counts_notes, grant_notes}
+use Rattle.mega_rules.specs.Clock.{clock_of}
+use Rattle.mega_rules.specs.Coordinators.{acquires_at, counts_notes, grant_notes}
 use Rattle.mega_rules.specs.Locks.{asked_for, grant_note, held_answer, held_at, lock_answer}
 use Rattle.mega_rules.specs.Logs.{decided, top_of}
-use Rattle.mega_rules.specs.Operations.{Node, Now, Operation, Setting}
+use Rattle.mega_rules.specs.Operations.{Node, Now, Setting}
 use Rattle.mega_rules.specs.Replies.{answer_to, fetched, reply_message, reply_to, where_served}
 use Rattle.mega_outcome.specs.declared.request.Request.{Request}
-use Rattle.mega_rules.specs.Steps.{Begin, Event, Step, Take, Tick, at_open, begin_step, lapse_notes, lease_notes, new_operation, op_of, portion_of, refusal, step, step_of, take_step, tick_step, ticked, unless_refused, Decision, Heard, all_act, apply_notes, at_first, background, decision_note, first_settled, hears_message, if_new, news, onto, stored_after, taken, told_decision, told_notes}
-use Rattle.mega_rules.specs.Voting.{act_made, acts, made_of, prepared, voted}
+use Rattle.mega_rules.specs.Steps.{Begin, Event, Take, Tick, at_open, begin_step, lapse_notes, lease_notes, new_operation, op_of, portion_of, refusal, step, take_step, tick_step, ticked, Decision, Heard, all_act, apply_notes, at_first, background, decision_note, first_settled, hears_message, if_new, news, onto, stored_after, taken, told_decision, told_notes}
+use Rattle.mega_rules.specs.Voting.{act_made, acts, prepared, voted}
 use Rattle.mega_voter.specs.Journal.{item_in}
 use Rattle.mega_voter.specs.Telling.{IsAnswer}
 use Rattle.mega_voter.proofs.Answered.{prepared_answers, voted_answers}
@@ -37,7 +35,7 @@ use Rattle.mega_known.specs.Asking.{Asks}
 use Rattle.mega_known.specs.Sending.{IsUnmade, MaySend}
 use Rattle.mega_known.specs.Acted.{own_item}
 use Rattle.mega_known.proofs.Acting.{acquires_at_asks, background_asks, news_ask}
-use Rattle.mega_known.proofs.Ending.{ActsOn, acting_begins, acting_lasts, all_heard, apply_notes_silent, unmade}
+use Rattle.mega_known.proofs.Ending.{ActsOn, acting_begins, acting_lasts, all_heard, apply_notes_silent, unmade, taken_by}
 use Rattle.mega_known.proofs.Lasting.{IsHeard, all_act_it, all_ticked_it, begun_it}
 
 -- ---- what was made stays
@@ -183,12 +181,6 @@ taken_may s node m told ts d told_news silent heard asks =
         (unmade applies (apply_notes_silent s node.met node.stored now.met now.stored)))
         (unmade now.valid acted.quiet.valid))
         (unmade now.answers acted.quiet.answers)
-
-abbrev taken_by : Setting → Node → Message → List Heard → Option Decision → Step
-taken_by s node m ts (Some d) = taken s node m (told_notes s node.met m.from m.body) ts (if_new node.met (Some d)) (reply_to s.cluster s.me node.met m) []
-taken_by s node m ts None =
-    taken s node m (told_notes s node.met m.from m.body) ts (if_new node.met (first_settled ts)) (reply_to s.cluster s.me node.met m)
-    (news s (if_new node.met (first_settled ts)))
 
 taken_by_may : (s : Setting) (node : Node) (m : Message) (ts : List Heard) (told : Option Decision) → All (IsHeard ⊥) ts → MaySend (onto (taken_by s node m ts told).notes (Takes m ∷ node.met)) (taken_by s node m ts told).sends
 taken_by_may s node m ts (Some d) heard = taken_may s node m (told_notes s node.met m.from m.body) ts (if_new node.met (Some d)) [] (told_unmade s node.met m.from m.body) heard (All-nil Asks)

@@ -240,9 +240,10 @@ pub fn a_completed_read_is_applied()
         applied (log_of now.met other) (now.stored other) ≤ applied (log_of (completes_read s now group r p).met other) ((completes_read s now group r p).stored other) }
 {}
 
-/// A step ends with the logs on which its operations acted.
+/// A step ends with what it notes and sends met, and with the logs on which its operations acted.
 pub fn a_step_ends_with_its_logs()
-    ensures { (s : Setting) (node : Node) (event : Event) → SameLogs (acted_on s node event) (step s node event).node.met }
+    ensures met { (s : Setting) (node : Node) (event : Event) → (step s node event).node.met ≡ onto (map Sends (step s node event).sends) (onto (step s node event).notes (own_item s node event ∷ node.met)) }
+    ensures logs { (s : Setting) (node : Node) (event : Event) → SameLogs (acted_on s node event) (step s node event).node.met }
 {}
 
 /// An operation reads, and proposes in, the group of its request.
