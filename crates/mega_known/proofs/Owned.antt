@@ -1,5 +1,5 @@
 -- What is of a group alone: of longer logs, of shorter ones, and in what a read sees.
-use Rattle.std.proofs.Common.{◌≡◌, ◌≤◌, ℕ, List, ◌∷◌, ◌++◌, take, Option, Some, None, sym, ap, ◌∙◌, subst}
+use Rattle.std.proofs.Common.{◌≡◌, ◌≤◌, ℕ, List, ◌∷◌, ◌++◌, take, Option, Some, None, sym, ap, ◌∙◌, subst, [], refl}
 use Rattle.std.proofs.lemmas.Grind.{flat_map-append}
 use Rattle.mega_base.specs.declared.names.GroupId.{GroupId}
 use Rattle.mega_base.specs.declared.values.Row.{Row}
@@ -51,6 +51,10 @@ owned_before schema one met = shorter_owns schema (log_of met) (log_of (one ∷ 
 
 pub owned_before_all : (schema : Schema) (items met : List Met) → HasOwnRows schema (log_of (onto items met)) → HasOwnRows schema (log_of met)
 owned_before_all schema items met = shorter_owns schema (log_of met) (log_of (onto items met)) (λ group. (log_more_after items met group).0) (λ group. (log_more_after items met group).1)
+
+-- a node that met nothing
+pub owned_first : (schema : Schema) → HasOwnRows schema (log_of [])
+owned_first schema = record { own = λ group i n values key named other apart. refl }
 
 pub owned_same_logs : (schema : Schema) (old new : List Met) → SameLogs old new → HasOwnRows schema (log_of old) → HasOwnRows schema (log_of new)
 owned_same_logs schema old new same owns = subst (λ (log : GroupLogs). HasOwnRows schema log) (sym (λ i group. same.logs group i)) owns

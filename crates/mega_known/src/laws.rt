@@ -1,6 +1,6 @@
 //! What follows from the definitions, as contracts of functions that do nothing.
 
-ghost use Rattle.std.specs.Prelude.{◌≡◌, ◌≤◌, ◌++◌, ◌∷◌, false, fold, length, map, ℕ, List, Option, Some, All, take};
+ghost use Rattle.std.specs.Prelude.{[], ◌≡◌, ◌≤◌, ◌++◌, ◌∷◌, false, fold, length, map, ℕ, List, Option, Some, All, take};
 ghost use Rattle.mega_base.specs.declared.names.Epoch.{Epoch};
 ghost use Rattle.mega_base.specs.declared.names.GroupId.{GroupId};
 ghost use Rattle.mega_cluster.specs.declared.cluster.Cluster.{Cluster};
@@ -106,6 +106,12 @@ pub fn rows_follow_what_is_met()
 pub fn rows_follow_all_that_is_met()
     ensures { (version : Versions) (progress : GroupId → Progress) (items met : List Met) (stored : Counts) →
         Follows version progress (log_of met) stored → Follows version progress (log_of (onto items met)) stored }
+{}
+
+/// A node that met nothing has logs with rows of their own.
+#[tactic(auto, using(crate::proofs::Owned::owned_first))]
+pub fn first_logs_have_own_rows()
+    ensures { (schema : Schema) → HasOwnRows schema (log_of []) }
 {}
 
 /// Where longer logs have rows of their own, their fronts have.
