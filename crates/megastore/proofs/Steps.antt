@@ -1,8 +1,9 @@
 -- How the lines of a schedule are done one after another.
-use Rattle.std.proofs.Common.{◌≡◌, ◌≢◌, ◌⊎◌, ℕ, ◌+◌, ◌≤◌, ◌<◌, Option, Some, None, List, [], ◌∷◌, ◌++◌, length, refl, sym, ◌∙◌, ap, subst, inl, inr, length-append, arith}
-use Rattle.std.specs.Io.KnownBytes.{IsAtEnd}
+use Rattle.std.proofs.Common.{◌≡◌, ◌≢◌, ◌⊎◌, ℕ, ◌+◌, ◌≤◌, ◌<◌, Option, Some, None, List, [], ◌∷◌, ◌++◌, length, refl, sym, ◌∙◌, ap, subst, inl, inr, append-nil, length-append, arith}
+use Rattle.std.specs.Io.KnownBytes.{append_known, Appends, IsAtEnd, Keeps}
 use Rattle.mega_io.specs.TextLines.{lines_of}
 use Rattle.mega_transcript.specs.declared.item.Item.{Item}
+use Rattle.mega_transcript.specs.Tape.{newest}
 use Rattle.mega_world.specs.declared.event.WorldEvent.{WorldEvent}
 use Rattle.mega_world.specs.declared.event.WorldEvent.TheVariants.{Deliver, Begin}
 use Rattle.mega_world.specs.Represents.{IsRefused, opened}
@@ -12,6 +13,8 @@ use Rattle.megastore.specs.declared.status.Stop.{Stop}
 use Rattle.megastore.specs.declared.status.Stop.TheVariants.{Refused, Unbuilt, Source, Sink, NoMemory}
 use Rattle.megastore.specs.PlainLines.{IsDelivery, IsPut}
 use Rattle.megastore.specs.Statuses.{status_of}
+use Rattle.megastore.specs.Texts.{text_of, told}
+use Rattle.megastore.proofs.Texts.{newest_twice}
 use Rattle.megastore.specs.LineForms.{IsBegin}
 use Rattle.megastore.specs.Replaying.{Replayed, IsStep, IsUnbuilt, IsUnsent, IsDone, Reaches, StopsUnbuilt, StopsRefused, HasOtherHeader, InputIsDone, InputIsUnbuilt, InputIsRefused, Follows, Differs, Ends, IsTooLong, IsHeaded, IsOther, in_order, headed, LeftIsDone, LeftIsUnbuilt, LeftIsRefused, StopsUnbuiltAt, StopsUnsentAt, InputDone, InputUnbuilt, InputRefused}
 
@@ -62,10 +65,16 @@ ran_on first now next tape after count line ran follows step = record {
   stands = stands_on first now next ran.done line ran.stands follows;
 }
 
-pub ran_out : (first now : Option (List ℕ)) (tape : List Item) (count : ℕ) → RanTo first now tape count → Ends now → LeftIsDone first
-ran_out None now tape count ran ends = tt
-ran_out (Some first) None tape count ran ends = absurd ran.stands
-ran_out (Some first) (Some now) tape count ran ends = record { done = ran.done; tape = tape; replayed = ran.replayed; all = ran.stands ∙ ap (in_order ran.done) ends }
+pub ran_out : (first now before after : Option (List ℕ)) (items : List Item) (count : ℕ) → RanTo first now (newest items) count → Ends now → Appends before after (text_of items) → LeftIsDone first before after
+ran_out None now before after items count ran ends written = tt
+ran_out (Some first) None before after items count ran ends written = absurd ran.stands
+ran_out (Some first) (Some now) before after items count ran ends written = record {
+  done = ran.done;
+  tape = newest items;
+  replayed = ran.replayed;
+  all = ran.stands ∙ ap (in_order ran.done) ends;
+  written = subst (λ (told_items : List Item). Appends before after (text_of told_items)) (sym (newest_twice items)) written;
+}
 
 pub stopped_unbuilt : (first now : Option (List ℕ)) (tape : List Item) (count number : ℕ) → RanTo first now tape count → number ≡ count + 1 → StopsUnbuiltAt now tape → LeftIsUnbuilt first number
 stopped_unbuilt None now tape count number ran next stops = tt
@@ -164,10 +173,31 @@ other_third (Some a) (Some b) (Some c) one two differs = λ schedule is.
     (same_rest_lines (lines_of b) (HEADER_SCHEMA ∷ HEADER_END ∷ schedule) HEADER_NODES HEADER_NODES (lines_of a) one is))
 
 -- what is said of the schedule is said of the input
-pub input_done : (a b : Option (List ℕ)) → IsHeaded a b → LeftIsDone b → InputDone a
-input_done None b headed done = tt
-input_done (Some a) None headed done = absurd headed
-input_done (Some a) (Some b) headed done = (lines_of b, headed, done)
+pub input_done : (a b before after : Option (List ℕ)) → IsHeaded a b → LeftIsDone b before after → InputDone a before after
+input_done None b before after headed done = tt
+input_done (Some a) None before after headed done = absurd headed
+input_done (Some a) (Some b) before after headed done = (lines_of b, headed, done)
+
+-- what waited is written too
+appended : (before mid after : Option (List ℕ)) (text : List ℕ) → Appends (append_known before []) mid text → Keeps mid (append_known after []) → Appends before after text
+appended None mid after text appends keeps = tt
+appended (Some xs) None after text appends keeps = absurd appends
+appended (Some xs) (Some ys) None text appends keeps = absurd keeps
+appended (Some xs) (Some ys) (Some zs) text appends keeps = sym (append-nil zs) ∙ keeps ∙ appends ∙ ap (λ front. front ++ text) (append-nil xs)
+
+pub input_written : (known before mid after : Option (List ℕ)) → InputDone known (append_known before []) mid → Keeps mid (append_known after []) → InputDone known before after
+input_written None before mid after done keeps = tt
+input_written (Some known) before mid after done keeps = (
+  done.0,
+  done.1,
+  record {
+    done = done.2.done;
+    tape = done.2.tape;
+    replayed = done.2.replayed;
+    all = done.2.all;
+    written = appended before mid after (told done.2.tape) done.2.written keeps;
+  },
+)
 
 pub input_unbuilt : (a b : Option (List ℕ)) (number : ℕ) → IsHeaded a b → LeftIsUnbuilt b number → InputUnbuilt a number
 input_unbuilt None b number headed stops = tt

@@ -1,6 +1,6 @@
 -- What a replay does with the lines of its input. Lines that were done stand newest first.
 use Rattle.std.specs.Prelude.{◌≡◌, ◌≢◌, ℕ, ◌+◌, ◌≤◌, ◌<◌, ◌⊎◌, Bool, true, false, List, [], ◌∷◌, length, Option, Some, None}
-use Rattle.std.specs.Io.KnownBytes.{IsAtEnd}
+use Rattle.std.specs.Io.KnownBytes.{Appends, IsAtEnd}
 use Rattle.mega_io.specs.TextLines.{lines_of}
 use Rattle.mega_transcript.specs.declared.item.Item.{Item}
 use Rattle.mega_transcript.specs.declared.item.Item.TheVariants.{Taken}
@@ -8,6 +8,7 @@ use Rattle.mega_transcript.specs.Tape.{is_sent, IsQuiet, Grows}
 use Rattle.mega_world.specs.Represents.{opened}
 use Rattle.megastore.specs.declared.header.TheConstants.{HEADER_NODES, HEADER_SCHEMA, HEADER_END}
 use Rattle.megastore.specs.PlainLines.{IsDelivery, IsPut}
+use Rattle.megastore.specs.Texts.{told}
 
 -- these lines, newest first, and then the others
 abbrev pub in_order : List (List ℕ) → List (List ℕ) → List (List ℕ)
@@ -41,12 +42,13 @@ pub record IsUnsent (line : List ℕ) (tape : List Item) (why : ℕ) : Type 0 wh
   pub unsent : is_sent tape message ≡ false
   pub reason : why ≡ 3
 
--- all lines of the schedule were done
-pub record IsDone (lines : List (List ℕ)) : Type 0 where
+-- all lines of the schedule were done, and the text of the tape was written after what was held before
+pub record IsDone (lines : List (List ℕ)) (before after : Option (List ℕ)) : Type 0 where
   pub done : List (List ℕ)
   pub tape : List Item
   pub replayed : Replayed done tape
   pub all : lines ≡ in_order done []
+  pub written : Appends before after (told tape)
 
 -- the lines of the schedule before this one were done
 pub record Reaches (lines : List (List ℕ)) (number : ℕ) (line : List ℕ) (tape : List Item) : Type 0 where
@@ -75,8 +77,8 @@ abbrev pub HasOtherHeader : List (List ℕ) → Type 0
 HasOtherHeader lines = (schedule : List (List ℕ)) → lines ≢ headed schedule
 
 -- the input is the header and a schedule, all of which was done
-abbrev pub InputIsDone : List (List ℕ) → Type 0
-InputIsDone lines = (schedule : List (List ℕ)) × (lines ≡ headed schedule) × IsDone schedule
+abbrev pub InputIsDone : List (List ℕ) → Option (List ℕ) → Option (List ℕ) → Type 0
+InputIsDone lines before after = (schedule : List (List ℕ)) × (lines ≡ headed schedule) × IsDone schedule before after
 
 -- the header is another one, or this line of the schedule is not built
 abbrev pub InputIsUnbuilt : List (List ℕ) → ℕ → Type 0
@@ -115,9 +117,9 @@ IsOther None = Unit {0}
 IsOther (Some known) = HasOtherHeader (lines_of known)
 
 -- what is said of a schedule whose bytes are told
-abbrev pub LeftIsDone : Option (List ℕ) → Type 0
-LeftIsDone None = Unit {0}
-LeftIsDone (Some left) = IsDone (lines_of left)
+abbrev pub LeftIsDone : Option (List ℕ) → Option (List ℕ) → Option (List ℕ) → Type 0
+LeftIsDone None before after = Unit {0}
+LeftIsDone (Some left) before after = IsDone (lines_of left) before after
 
 abbrev pub LeftIsUnbuilt : Option (List ℕ) → ℕ → Type 0
 LeftIsUnbuilt None number = Unit {0}
@@ -137,9 +139,9 @@ StopsUnsentAt None tape why = Unit {0}
 StopsUnsentAt (Some left) tape why = (line : List ℕ) × (rest : List (List ℕ)) × (lines_of left ≡ line ∷ rest) × IsUnsent line tape why
 
 -- what is said of an input whose bytes are told
-abbrev pub InputDone : Option (List ℕ) → Type 0
-InputDone None = Unit {0}
-InputDone (Some input) = InputIsDone (lines_of input)
+abbrev pub InputDone : Option (List ℕ) → Option (List ℕ) → Option (List ℕ) → Type 0
+InputDone None before after = Unit {0}
+InputDone (Some input) before after = InputIsDone (lines_of input) before after
 
 abbrev pub InputUnbuilt : Option (List ℕ) → ℕ → Type 0
 InputUnbuilt None number = Unit {0}

@@ -1,5 +1,8 @@
 ghost use Rattle.std.specs.Prelude.{◌≡◌, ◌≢◌, ◌≤◌, ◌<◌, ◌+◌, [], ◌∷◌, ℕ, List, Ok, Err, IfSome, IfOk, IfErr, OnOk, OnErr, length, true, false, All};
-ghost use Rattle.std.specs.Io.KnownBytes.{prepend_known, IsAtEnd};
+ghost use Rattle.std.specs.Io.KnownBytes.{prepend_known, append_known, Appends, IsAtEnd};
+ghost use Rattle.std.specs.Prelude.{Option, drop};
+ghost use Rattle.mega_transcript.specs.Lines.{line as line_of};
+ghost use Rattle.megastore.specs.Texts.{nameless, text_of};
 ghost use Rattle.mega_base.specs.Causes.{Rose};
 ghost use Rattle.mega_io.specs.TextLines.{lines_of};
 ghost use Rattle.mega_transcript.specs.Tape.{newest, is_sent, IsQuiet, Grows};
@@ -156,7 +159,9 @@ fn put(
 }
 
 /// The schema of no tables: no item that a replay of puts makes names one.
-fn nameless(alloc: Global) -> Schema {
+fn nameless(alloc: Global) -> Schema
+    ensures { result ≡ nameless }
+{
     Schema {
         name: Text::new(alloc),
         tables: Items::new(alloc),
@@ -167,7 +172,8 @@ fn nameless(alloc: Global) -> Schema {
 /// The tape's items from an index on.
 fn items_from(tape: &Tape, from: usize) -> &[Item]
     requires { All HasLine tape.now.items }
-    ensures { All HasLine result.now }
+    ensures fresh { result.now ≡ drop from tape.now.items }
+    ensures lines { All HasLine result.now }
 {
     match tape.items.as_slice().get(from..) {
         Some(fresh) => fresh,
@@ -184,14 +190,15 @@ fn write_from<O: Sink>(
     buffer: &mut WriteBuffer,
 ) -> Result<(), Stop>
     requires { All HasLine tape.now.items }
+    ensures text { OnOk result (Appends (append_known (O.held out.old) buffer.old) (append_known (O.held out.new) buffer.new) (text_of (drop from tape.now.items))) }
     ensures sink { result ≡ Err Stop.Sink → Rose (O.faults out.old) (O.faults out.new) }
     ensures only { IfErr result IsWriteStop }
     ensures count { O.faults out.old ≤ O.faults out.new }
 {
     let schema = nameless(alloc);
     let mut bytes = Bytes::new(alloc);
-    for item in items_from(tape, from) {
-        bytes.clear();
+    let fresh = items_from(tape, from);
+    for item in fresh {
         match write_item(alloc, &schema, item, &mut bytes, out, buffer) {
             Ok(()) => {}
             Err(stop) => return Err(stop),
@@ -210,10 +217,12 @@ fn write_item<O: Sink>(
     buffer: &mut WriteBuffer,
 ) -> Result<(), Stop>
     requires { HasLine item.now }
+    ensures text { OnOk result (Appends (append_known (O.held out.old) buffer.old) (append_known (O.held out.new) buffer.new) (line_of schema.now item.now)) }
     ensures sink { result ≡ Err Stop.Sink → Rose (O.faults out.old) (O.faults out.new) }
     ensures only { IfErr result IsWriteStop }
     ensures count { O.faults out.old ≤ O.faults out.new }
 {
+    bytes.clear();
     match text(alloc, schema, item, bytes) {
         Ok(()) => {}
         Err(_) => return Err(Stop::NoMemory),
@@ -243,6 +252,8 @@ fn do_line<I: Source, O: Sink>(
     ensures state { result ≡ Ok true → Represents 3 world.new (newest tape.new.items) }
     ensures line { result ≡ Ok true → Follows (prepend_known reader.old (I.left input.old)) (prepend_known reader.new (I.left input.new)) line.new }
     ensures step { result ≡ Ok true → IsStep line.new (newest tape.old.items) (newest tape.new.items) }
+    ensures text { result ≡ Ok true → Appends (append_known (O.held out.old) buffer.old) (append_known (O.held out.new) buffer.new) (text_of (drop (length tape.old.items) tape.new.items)) }
+    ensures still { result ≡ Ok false → (tape.new.items ≡ tape.old.items) × (append_known (O.held out.new) buffer.new ≡ append_known (O.held out.old) buffer.old) }
     ensures end { result ≡ Ok false → Ends (prepend_known reader.old (I.left input.old)) × IsAtEnd (I.left input.new) }
     ensures unbuilt { (at : ℕ) → result ≡ Err (Stop.Unbuilt at) → (at ≡ number) × StopsUnbuiltAt (prepend_known reader.old (I.left input.old)) (newest tape.old.items) }
     ensures refused { (at why : ℕ) → result ≡ Err (Stop.Refused at why) → (at ≡ number) × StopsUnsentAt (prepend_known reader.old (I.left input.old)) (newest tape.old.items) why }
@@ -285,7 +296,7 @@ fn run_lines<I: Source, O: Sink>(
     requires opened { newest tape.old.items ≡ opened 3 }
     requires formed { IsFormed world.old }
     requires lines { All HasLine tape.old.items }
-    ensures done { OnOk result (LeftIsDone (prepend_known reader.old (I.left input.old))) }
+    ensures done { OnOk result ((first : Option (List ℕ)) → Appends first (append_known (O.held out.old) buffer.old) (text_of tape.old.items) → LeftIsDone (prepend_known reader.old (I.left input.old)) first (append_known (O.held out.new) buffer.new)) }
     ensures end { OnOk result (IsAtEnd (I.left input.new)) }
     ensures unbuilt { (at : ℕ) → result ≡ Err (Stop.Unbuilt at) → LeftIsUnbuilt (prepend_known reader.old (I.left input.old)) at }
     ensures refused { (at why : ℕ) → result ≡ Err (Stop.Refused at why) → LeftIsRefused (prepend_known reader.old (I.left input.old)) at why }
@@ -328,7 +339,7 @@ fn run_schedule<I: Source, O: Sink>(
     out: &mut O,
     buffer: &mut WriteBuffer,
 ) -> Result<(), Stop>
-    ensures done { OnOk result (LeftIsDone (prepend_known reader.old (I.left input.old))) }
+    ensures done { OnOk result (LeftIsDone (prepend_known reader.old (I.left input.old)) (append_known (O.held out.old) buffer.old) (append_known (O.held out.new) buffer.new)) }
     ensures end { OnOk result (IsAtEnd (I.left input.new)) }
     ensures unbuilt { (at : ℕ) → result ≡ Err (Stop.Unbuilt at) → LeftIsUnbuilt (prepend_known reader.old (I.left input.old)) at }
     ensures refused { (at why : ℕ) → result ≡ Err (Stop.Refused at why) → LeftIsRefused (prepend_known reader.old (I.left input.old)) at why }
@@ -362,7 +373,7 @@ pub fn replay<I: Source, O: Sink>(
     out: &mut O,
     buffer: &mut WriteBuffer,
 ) -> Result<(), Stop>
-    ensures done { OnOk result (InputDone (I.left input.old)) }
+    ensures done { OnOk result (InputDone (I.left input.old) (append_known (O.held out.old) buffer.old) (append_known (O.held out.new) buffer.new)) }
     ensures end { OnOk result (IsAtEnd (I.left input.new)) }
     ensures unbuilt { (at : ℕ) → result ≡ Err (Stop.Unbuilt at) → InputUnbuilt (I.left input.old) at }
     ensures refused { (at why : ℕ) → result ≡ Err (Stop.Refused at why) → InputRefused (I.left input.old) at why }

@@ -20,7 +20,7 @@ const USAGE: &str =
 /// be written.
 pub fn run<I: Source, O: Sink>(alloc: Global, words: &[Text], input: &mut I, out: &mut O) -> u8
     ensures usage { (result ≡ 2) ↔ (is_form words.now ≡ false) }
-    ensures done { result ≡ 0 → InputDone (I.left input.old) }
+    ensures done { result ≡ 0 → InputDone (I.left input.old) (O.held out.old) (O.held out.new) }
     ensures end { result ≡ 0 → IsAtEnd (I.left input.new) }
     ensures refused { result ≡ 4 → (line : ℕ) × (why : ℕ) × InputRefused (I.left input.old) line why }
     ensures source { result ≡ 5 → Rose (I.faults input.old) (I.faults input.new) }

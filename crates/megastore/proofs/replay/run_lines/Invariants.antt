@@ -1,10 +1,11 @@
-use Rattle.std.proofs.Common.{◌≤◌}
+use Rattle.std.proofs.Common.{◌≤◌, ℕ, List, Option}
 use Rattle.std.specs.Prelude.{All}
-use Rattle.std.specs.Io.KnownBytes.{prepend_known}
+use Rattle.std.specs.Io.KnownBytes.{prepend_known, append_known, Appends}
 use Rattle.mega_transcript.specs.Lines.{HasLine}
 use Rattle.mega_transcript.specs.Tape.{newest}
 use Rattle.mega_world.specs.Formed.{IsFormed}
 use Rattle.mega_world.specs.Represents.{Represents}
+use Rattle.megastore.specs.Texts.{text_of}
 use Rattle.megastore.proofs.Steps.{RanTo}
 use Rattle.megastore.proofs.replay.run_lines.Given as goal
 
@@ -16,3 +17,4 @@ invariant-loop-count g l =
     × (g.O.Sink.faults l.fn.out ≤ g.O.Sink.faults l.out)
     × IsFormed l.world
     × All HasLine l.tape.items
+    × ((first : Option (List ℕ)) → Appends first (append_known (g.O.Sink.held l.fn.out) l.fn.buffer) (text_of l.fn.tape.items) → Appends first (append_known (g.O.Sink.held l.out) l.buffer) (text_of l.tape.items))
