@@ -1,11 +1,10 @@
 -- How reading a line takes the first of the input's lines.
-use Rattle.std.proofs.Common.{◌≡◌, ◌≢◌, ℕ, ◌+◌, ◌≤◌, ◌<◌, ◌==◌, if◌then◌else◌, Bool, true, false, Option, Some, None, List, [], ◌∷◌, ◌++◌, length, refl, sym, ◌∙◌, ap, subst, append_assoc, append-nil, length-append, arith}
+use Rattle.std.proofs.Common.{◌≡◌, ◌≢◌, ℕ, ◌≤◌, ◌==◌, if◌then◌else◌, Bool, true, false, Option, Some, None, List, [], ◌∷◌, ◌++◌, length, refl, sym, ◌∙◌, ap, append_assoc, append-nil, length-append, arith}
 use Rattle.std.proofs.lemmas.Bool.Decides.{nat_tests}
 use Rattle.std.proofs.lemmas.List.Elements.{All-head, All-tail}
-use Rattle.std.specs.Io.KnownBytes.{Consumes, IsAtEnd}
 use Rattle.mega_io.specs.declared.lines.Ended.TheVariants.{Feed, Input, Long}
 use Rattle.mega_io.specs.TextLines.{IsUnbroken, ReadsLine, close_line, lines_after, lines_of}
-use Rattle.megastore.specs.Replaying.{Follows, Differs, Ends, IsTooLong}
+use Rattle.megastore.specs.Replaying.{Follows, Ends, IsTooLong}
 
 pub other_byte : (byte : ℕ) → byte ≢ 10 → (byte == 10) ≡ false
 other_byte byte other = grind (arith, nat_tests)

@@ -1,6 +1,6 @@
 -- How the lines of a schedule are done one after another.
-use Rattle.std.proofs.Common.{◌≡◌, ◌≢◌, ◌⊎◌, ℕ, ◌+◌, ◌≤◌, ◌<◌, Option, Some, None, List, [], ◌∷◌, ◌++◌, length, refl, sym, ◌∙◌, ap, subst, inl, inr, append-nil, length-append, arith}
-use Rattle.std.specs.Io.KnownBytes.{append_known, Appends, IsAtEnd, Keeps}
+use Rattle.std.proofs.Common.{◌≡◌, ◌≢◌, ℕ, ◌+◌, ◌≤◌, ◌<◌, Option, Some, None, List, [], ◌∷◌, ◌++◌, length, refl, sym, ◌∙◌, ap, subst, inl, inr, append-nil, length-append, arith}
+use Rattle.std.specs.Io.KnownBytes.{append_known, Appends, Keeps}
 use Rattle.mega_io.specs.TextLines.{lines_of}
 use Rattle.mega_transcript.specs.declared.item.Item.{Item}
 use Rattle.mega_transcript.specs.Tape.{newest}
@@ -11,12 +11,11 @@ use Rattle.megastore.specs.declared.line.TheConstants.{DELIVER, DELIVER_END, PUT
 use Rattle.megastore.specs.declared.header.TheConstants.{HEADER_NODES, HEADER_SCHEMA, HEADER_END}
 use Rattle.megastore.specs.declared.status.Stop.{Stop}
 use Rattle.megastore.specs.declared.status.Stop.TheVariants.{Refused, Unbuilt, Source, Sink, NoMemory}
-use Rattle.megastore.specs.PlainLines.{IsDelivery, IsPut}
 use Rattle.megastore.specs.Statuses.{status_of}
 use Rattle.megastore.specs.Texts.{text_of, told}
 use Rattle.megastore.proofs.Texts.{newest_twice}
 use Rattle.megastore.specs.LineForms.{IsBegin}
-use Rattle.megastore.specs.Replaying.{Replayed, IsStep, IsUnbuilt, IsUnsent, IsDone, Reaches, StopsUnbuilt, StopsRefused, HasOtherHeader, InputIsDone, InputIsUnbuilt, InputIsRefused, Follows, Differs, Ends, IsTooLong, IsHeaded, IsOther, in_order, headed, LeftIsDone, LeftIsUnbuilt, LeftIsRefused, StopsUnbuiltAt, StopsUnsentAt, InputDone, InputUnbuilt, InputRefused}
+use Rattle.megastore.specs.Replaying.{Replayed, IsStep, IsUnbuilt, IsUnsent, Follows, Differs, Ends, IsTooLong, IsHeaded, IsOther, in_order, headed, LeftIsDone, LeftIsUnbuilt, LeftIsRefused, StopsUnbuiltAt, StopsUnsentAt, InputDone, InputUnbuilt, InputRefused}
 
 pub begin_not_refused : (event : WorldEvent) (node : ℕ) (tape : List Item) (why : ℕ) → IsBegin event node → 1 ≤ node → node ≤ 3 → IsRefused 3 tape event why → ⊥
 begin_not_refused (Deliver number) node tape why begins least most refused = begins

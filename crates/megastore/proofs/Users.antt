@@ -1,12 +1,11 @@
 -- The row that a put puts is one of the format, and short.
-use Rattle.std.proofs.Common.{◌≡◌, ℕ, ◌<◌, ◌≤◌, ◌+◌, ◌⊎◌, inl, inr, subst, sym, List, [], ◌∷◌, ◌++◌, length, length-append, get_or, rules, arith}
-use Rattle.std.specs.Prelude.{All, pos, IsUtf8}
+use Rattle.std.proofs.Common.{◌≡◌, ℕ, ◌<◌, ◌≤◌, ◌+◌, ◌⊎◌, inl, inr, List, [], ◌∷◌, ◌++◌, length, length-append, get_or, rules, arith}
+use Rattle.std.specs.Prelude.{pos, IsUtf8}
 use Rattle.std.specs.Str.{IsAscii}
 use Rattle.std.proofs.lemmas.Bool.{cases_lt}
 use Rattle.std.proofs.lemmas.List.{get_or_past}
 use Rattle.std.proofs.lemmas.List.Elements.{All-cons, All-nil, All-get_or}
 use Rattle.std.proofs.lemmas.Str.{IsUtf8-from_ascii}
-use Rattle.mega_base.specs.Codec.{IsList}
 use Rattle.mega_base.specs.Values.{IsValue, IsRow, value_text, cell_text, row_text}
 use Rattle.mega_base.specs.declared.values.Value.TheVariants.{Int64, Str}
 use Rattle.mega_base.specs.declared.values.Cell.{Cell}

@@ -1,7 +1,6 @@
 -- The words of the program and the statuses with which it ends.
-use Rattle.std.specs.Prelude.{◌≡◌, ℕ, Bool, false, nat_eq, codes, List, [], ◌∷◌, Option, Result, Ok, Err}
+use Rattle.std.specs.Prelude.{ℕ, Bool, false, nat_eq, codes, List, [], ◌∷◌}
 use Rattle.std.specs.Cmp.Lexicographic.{pointwise}
-use Rattle.std.specs.Io.KnownBytes.{IsAtEnd}
 use Rattle.megastore.specs.declared.status.Stop.{Stop}
 use Rattle.megastore.specs.declared.status.Stop.TheVariants.{Refused, Unbuilt, Source, Sink, NoMemory}
 

@@ -1,4 +1,3 @@
-use Rattle.std.proofs.Common.{refl}
 use Rattle.megastore.proofs.Inputs.{line_follows, last_follows, too_long}
 use Rattle.megastore.proofs.header.next_line.Goals as goal
 

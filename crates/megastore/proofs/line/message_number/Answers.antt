@@ -1,4 +1,4 @@
-use Rattle.std.proofs.Common.{◌≤◌, arith, refl}
+use Rattle.std.proofs.Common.{arith, refl}
 use Rattle.megastore.proofs.Lines.{read_more, too_great}
 use Rattle.megastore.proofs.line.message_number.Goals as goal
 

@@ -1,4 +1,4 @@
-use Rattle.std.proofs.Common.{◌≡◌, ◌+◌, ◌≤◌, ◌∷◌, [], ◌++◌, ◌∙◌, ap, subst, sym, List, length}
+use Rattle.std.proofs.Common.{◌+◌, ◌≤◌, ◌∷◌, [], ◌++◌, ◌∙◌, ap, subst, sym, List, length}
 use Rattle.mega_base.specs.Values.{row_text}
 use Rattle.mega_base.specs.declared.values.Row.{Row}
 use Rattle.mega_outcome.specs.declared.transaction.Change.{Change}

@@ -1,4 +1,4 @@
-use Rattle.std.proofs.Common.{◌≡◌, ◌≤◌, ℕ, List, Option, Ok, Err, ap, subst, sym, arith}
+use Rattle.std.proofs.Common.{◌≡◌, ℕ, List, Option, Ok, Err, ap, subst, sym, arith}
 use Rattle.std.specs.Io.KnownBytes.{prepend_known, append_known, Appends}
 use Rattle.megastore.specs.declared.status.Stop.TheVariants.{Refused}
 use Rattle.megastore.specs.Texts.{text_of}
