@@ -1,8 +1,7 @@
-use Rattle.std.proofs.Common.{◌≡◌, ◌≤◌, ◌∷◌, true, length, refl, subst, sym}
-use Rattle.mega_transcript.specs.Tape.{newest, is_sent, Grows}
+use Rattle.std.proofs.Common.{◌≤◌, ◌∷◌, length, refl, subst, sym}
+use Rattle.mega_transcript.specs.Tape.{newest, Grows}
 use Rattle.mega_transcript.specs.declared.item.Item.TheVariants.{Taken}
 use Rattle.mega_transcript.proofs.Tapes.{grows-refl}
-use Rattle.mega_world.specs.Represents.{Represents}
 use Rattle.mega_world.proofs.Waiting.{represents_nodes, sent_within}
 use Rattle.mega_world.proofs.world.World.deliver.Goals as goal
 
