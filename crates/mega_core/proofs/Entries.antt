@@ -1,18 +1,16 @@
 -- The entry of a put has a text, short enough for a message.
-use Rattle.std.proofs.Common.{◌≡◌, ◌∙◌, ap, sym, subst, ℕ, ◌+◌, ◌≤◌, List, [], ◌∷◌, ◌++◌, length, length-append, append-nil, arith, Some}
-use Rattle.std.specs.Prelude.{All}
+use Rattle.std.proofs.Common.{◌≡◌, ◌∙◌, ap, ℕ, ◌+◌, ◌≤◌, List, [], ◌∷◌, ◌++◌, length, length-append, arith, Some}
 use Rattle.std.specs.List.{flat_map}
 use Rattle.std.proofs.lemmas.List.Elements.{All-cons, All-nil}
-use Rattle.mega_base.specs.Codec.{number_text, bytes_text, option_text, list_text, IsList}
+use Rattle.mega_base.specs.Codec.{number_text, bytes_text, option_text, list_text}
 use Rattle.mega_base.specs.Digits.{length_number_text}
 use Rattle.mega_base.specs.Names.{IsNode, IsOp, op_text, node_text, u32_text}
 use Rattle.mega_base.specs.Values.{row_text, IsRow}
 use Rattle.mega_base.specs.declared.names.OpId.{OpId}
 use Rattle.mega_base.specs.declared.names.NodeId.{NodeId}
 use Rattle.mega_base.specs.declared.values.Row.{Row}
-use Rattle.mega_entry.specs.Entries.{most_items, write_text, send_text, enter_text, name_text, cuts_text, entry_text, IsWrite, IsSend, IsEnter, IsName, IsEntry}
+use Rattle.mega_entry.specs.Entries.{write_text, send_text, enter_text, name_text, cuts_text, IsWrite, IsSend, IsEnter, IsName}
 use Rattle.mega_entry.specs.declared.content.Write.{Write}
-use Rattle.mega_entry.specs.declared.content.Content.{Content}
 use Rattle.mega_core.specs.Puts.{IsHeld, AreShort}
 
 number_front : (k n : ℕ) (rest : List ℕ) → length (number_text k n ++ rest) ≡ k + length rest

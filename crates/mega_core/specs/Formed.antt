@@ -1,5 +1,5 @@
 -- What a node keeps, takes and gives, so that all that it notes and sends has a line.
-use Rattle.std.specs.Prelude.{ℕ, ◌≤◌, List, All, IfSome}
+use Rattle.std.specs.Prelude.{ℕ, ◌≤◌, All, IfSome}
 use Rattle.std.specs.Ordering.{nat_cmp}
 use Rattle.std.specs.BTreeMap.{get}
 use Rattle.mega_base.specs.Names.{IsNode, IsOp}

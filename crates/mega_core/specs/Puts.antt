@@ -1,7 +1,6 @@
 -- Puts, and the entries that a message can hold.
 use Rattle.std.specs.Prelude.{◌≡◌, ℕ, ◌+◌, ◌≤◌, List, [], ◌∷◌, length}
 use Rattle.mega_base.specs.Codec.{IsNested, IsList, list_text}
-use Rattle.mega_base.specs.Names.{IsGroup}
 use Rattle.mega_base.specs.Values.{row_text, IsRow}
 use Rattle.mega_base.specs.declared.values.Row.{Row}
 use Rattle.mega_entry.specs.Entries.{most_items, write_text, IsWrite, entry_text, IsEntry}
