@@ -1,0 +1,5 @@
+pub mod Sending
+pub mod Plain
+pub mod Noting
+pub mod Events
+pub mod Least
