@@ -1,0 +1,9 @@
+pub mod Reading
+pub mod Keys
+pub mod Writing
+pub mod Decided
+pub mod Nodes
+pub mod Uncut
+pub mod Steps
+pub mod Draining
+pub mod Mixing
