@@ -1,0 +1,7 @@
+mod Doing
+mod Standing
+mod Going
+mod Onward
+mod Within
+mod InTurn
+mod Begun

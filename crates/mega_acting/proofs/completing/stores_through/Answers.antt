@@ -1,0 +1,7 @@
+use Rattle.mega_rules.specs.Logs.{log_of}
+use Rattle.mega_voter.specs.Journal.{journal_of}
+use Rattle.mega_known.proofs.Logs.{log_is}
+use Rattle.mega_acting.proofs.completing.stores_through.Goals as goal
+
+pub returns-in-Ok-clause-state : goal.returns-in-Ok-clause-state
+returns-in-Ok-clause-state g c now tells follows = c.in-Ok.ensures.follows (journal_of now.met) (log_of now.met) now.stored tells.journal (log_is now.met c.args.group.now) follows

@@ -1,0 +1,10 @@
+pub mod Deeds
+pub mod Working
+pub mod Completed
+pub mod Reaching
+pub mod Stands
+pub mod Built
+pub mod Faults
+pub mod Sees
+pub mod Coming
+pub mod Turns

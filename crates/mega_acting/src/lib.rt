@@ -1,0 +1,25 @@
+//! What the open operations of a node do in a step, one after another: they end, propose, or read on, each on what those
+//! before it left (CIDR 2011, reads and writes).
+#![tactic(auto)]
+
+mod acting;
+mod beginning;
+mod came;
+mod completing;
+mod deed;
+mod entries;
+mod fault;
+mod finishing;
+mod outcomes;
+mod proposing;
+mod reached;
+mod replica;
+mod turning;
+mod work;
+
+pub use came::Came;
+pub use deed::{Deed, End};
+pub use fault::ActFault;
+pub use reached::Reached;
+pub use replica::Replica;
+pub use work::{Answered, Valid, Work};
