@@ -1,0 +1,15 @@
+pub mod Left
+pub mod Sent
+pub mod Members
+pub mod Replied
+pub mod Portions
+pub mod Groups
+pub mod Alike
+pub mod Silent
+pub mod Walked
+pub mod Ended
+pub mod Begun
+pub mod Messages
+pub mod Opened
+pub mod Clocks
+pub mod Refused

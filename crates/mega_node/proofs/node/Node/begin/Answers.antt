@@ -1,0 +1,57 @@
+use Rattle.std.proofs.Common.{◌≡◌, ◌∙◌, List, [], map, ap, subst}
+use Rattle.mega_rules.specs.Met.{Begins}
+use Rattle.mega_rules.specs.Steps.{Step as RuleStep, op_of}
+use Rattle.mega_stored.specs.Following.{progress_at}
+use Rattle.mega_acting.specs.Stands.{setting}
+use Rattle.mega_node.specs.declared.note.Note.{Note}
+use Rattle.mega_node.specs.Beginning.{has_begun}
+use Rattle.mega_node.specs.Notes.{met_of}
+use Rattle.mega_node.specs.Represents.{Represents}
+use Rattle.mega_node.proofs.Begun.{begin_is, begin_may, represents_keeps}
+use Rattle.mega_node.proofs.node.Node.begin.Goals as goal
+
+pub returns-clause-notes : goal.returns-clause-notes
+returns-clause-notes g c = λ told h node represents owned.
+    let old = c.args.self.now.replica in
+    let mid = c.begins.new.self.replica in
+    let s = setting old.members old.me h in
+    let t = setting mid.members mid.me h in
+    let t_is : t ≡ s = (λ i. setting (c.in_ok-work.ensures.members i) (c.in_ok-work.ensures.me i) h) in
+    let text = c.args.text.now in
+    let request = c.args.request in
+    let is = begin_is s node request text t c.new.result c.new-2.result t_is c.new.ensures c.new-2.ensures in
+    let keeps = represents_keeps s old.voter.logs.kept old.leases (g.V.Versions.version old.rows.rows) (progress_at old.rows.progress) c.args.self.now.open c.args.self.now.begun node represents in
+    let first : map met_of c.new-none.result ≡ [] = ap (λ (notes : List Note). map met_of notes) c.new-none.ensures in
+    let made = c.in_ok-step.ensures.made h node (Begins (op_of s node.met) text) [] [] (has_begun s node request text) (c.in_ok-before.ensures node.met node.stored keeps) (c.in_ok-work.ensures.acted told h node text represents owned) first (begin_may s node request text _ is) in
+    made.notes ∙ ap (λ (step : RuleStep). step.notes) is
+
+pub returns-clause-sends : goal.returns-clause-sends
+returns-clause-sends g c = λ told h node represents owned.
+    let old = c.args.self.now.replica in
+    let mid = c.begins.new.self.replica in
+    let s = setting old.members old.me h in
+    let t = setting mid.members mid.me h in
+    let t_is : t ≡ s = (λ i. setting (c.in_ok-work.ensures.members i) (c.in_ok-work.ensures.me i) h) in
+    let text = c.args.text.now in
+    let request = c.args.request in
+    let is = begin_is s node request text t c.new.result c.new-2.result t_is c.new.ensures c.new-2.ensures in
+    let keeps = represents_keeps s old.voter.logs.kept old.leases (g.V.Versions.version old.rows.rows) (progress_at old.rows.progress) c.args.self.now.open c.args.self.now.begun node represents in
+    let first : map met_of c.new-none.result ≡ [] = ap (λ (notes : List Note). map met_of notes) c.new-none.ensures in
+    let made = c.in_ok-step.ensures.made h node (Begins (op_of s node.met) text) [] [] (has_begun s node request text) (c.in_ok-before.ensures node.met node.stored keeps) (c.in_ok-work.ensures.acted told h node text represents owned) first (begin_may s node request text _ is) in
+    made.sends ∙ ap (λ (step : RuleStep). step.sends) is
+
+pub returns-clause-state : goal.returns-clause-state
+returns-clause-state g c = λ told h node represents owned.
+    let old = c.args.self.now.replica in
+    let mid = c.begins.new.self.replica in
+    let s = setting old.members old.me h in
+    let t = setting mid.members mid.me h in
+    let t_is : t ≡ s = (λ i. setting (c.in_ok-work.ensures.members i) (c.in_ok-work.ensures.me i) h) in
+    let text = c.args.text.now in
+    let request = c.args.request in
+    let is = begin_is s node request text t c.new.result c.new-2.result t_is c.new.ensures c.new-2.ensures in
+    let keeps = represents_keeps s old.voter.logs.kept old.leases (g.V.Versions.version old.rows.rows) (progress_at old.rows.progress) c.args.self.now.open c.args.self.now.begun node represents in
+    let first : map met_of c.new-none.result ≡ [] = ap (λ (notes : List Note). map met_of notes) c.new-none.ensures in
+    let made = c.in_ok-step.ensures.made h node (Begins (op_of s node.met) text) [] [] (has_begun s node request text) (c.in_ok-before.ensures node.met node.stored keeps) (c.in_ok-work.ensures.acted told h node text represents owned) first (begin_may s node request text _ is) in
+    let new = c.ends.new.self in
+    subst (λ (step : RuleStep). Represents (setting new.replica.members new.replica.me h) new.replica.voter.logs.kept new.replica.leases (g.V.Versions.version new.replica.rows.rows) (progress_at new.replica.rows.progress) new.open new.begun step.node) is made.state

@@ -1,0 +1,24 @@
+use Rattle.std.proofs.Common.{◌≡◌, ◌∙◌, ◌∷◌, [], subst, sym}
+use Rattle.mega_cluster.specs.declared.cluster.Cluster.{Cluster}
+use Rattle.mega_rules.specs.Logs.{log_of}
+use Rattle.mega_rules.specs.Met.{Starts}
+use Rattle.mega_rules.specs.Steps.{start}
+use Rattle.mega_leases.specs.Tells.{Tells}
+use Rattle.mega_stored.specs.Following.{progress_at}
+use Rattle.mega_acting.specs.Stands.{setting}
+use Rattle.mega_node.specs.Represents.{Represents}
+use Rattle.mega_node.proofs.Opened.{started}
+use Rattle.mega_node.proofs.node.Node.start.Goals as goal
+
+pub returns-clause-state : goal.returns-clause-state
+returns-clause-state g c = λ h holds none.
+    let cluster = c.args.cluster in
+    let me = c.args.me in
+    let kept = c.in_ok-voter.voter.logs.kept in
+    let leases = c.leases_of-leases.result in
+    let version = g.V.Versions.version c.new-rows.result.rows in
+    let progress = progress_at c.new-rows.result.progress in
+    let members_is : c.in_ok-members.members ≡ cluster = c.in_ok-members.ensures.ok in
+    let leased = subst (λ (one : Cluster). Tells one me leases (Starts 1 ∷ [])) (c.cluster.ensures ∙ members_is) c.leases_of-leases.ensures in
+    let first = started cluster me h kept leases version progress c.requires.full (c.in_ok-voter.ensures.state holds) leased (c.new-rows.ensures.follows (log_of (Starts 1 ∷ [])) none) in
+    coe 0 1 (i. Represents (setting (sym members_is i) me h) kept leases version progress (sym c.new.ensures i) 0 (start (setting cluster me h) 1 [] [])) first

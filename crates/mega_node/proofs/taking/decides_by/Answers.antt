@@ -1,0 +1,17 @@
+use Rattle.std.proofs.Common.{◌∙◌, ap, sym}
+use Rattle.mega_cluster.specs.declared.cluster.Cluster.{Cluster}
+use Rattle.mega_rules.specs.Steps.{decision_note, onto}
+use Rattle.mega_stored.specs.Following.{progress_at}
+use Rattle.mega_known.proofs.Followed.{follows_after}
+use Rattle.mega_acting.specs.Stands.{setting}
+use Rattle.mega_node.proofs.Members.{full_has_rows}
+use Rattle.mega_node.proofs.taking.decides_by.Goals as goal
+
+pub returns-clause-follows : goal.returns-clause-follows
+returns-clause-follows g c = λ h met stored full placed tells follows.
+    let r = c.args.replica.now in
+    let d = c.in_ok-found-2.found in
+    c.in_ok-stores.ensures (setting r.members r.me h) (onto (decision_note d) met) stored (full_has_rows r.members r.me full)
+    (sym (c.from-most.ensures ∙ ap (λ (one : Cluster). one.apply) c.cluster.ensures))
+    (c.in_ok-found-2.ensures.state met placed tells)
+    (follows_after (g.V.Versions.version r.rows.rows) (progress_at r.rows.progress) (decision_note d) met stored follows)

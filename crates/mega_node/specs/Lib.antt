@@ -1,0 +1,10 @@
+pub mod Notes
+pub mod Represents
+pub mod Placed
+pub mod Positions
+pub mod Made
+pub mod Acted
+pub mod Beginning
+pub mod Taking
+pub mod Faults
+pub mod Ticking
