@@ -1,0 +1,85 @@
+-- A run stays of the format of messages through a step of a node.
+use Rattle.std.proofs.Common.{◌≡◌, ℕ, ◌+◌, ◌==◌, cond, Bool, true, false, List, [], ◌∷◌, flat_map, Some, refl, sym, ◌∙◌, subst, arith}
+use Rattle.std.proofs.lemmas.Bool.Decides.{nat_tests}
+use Rattle.mega_cluster.specs.declared.cluster.Cluster.{Cluster}
+use Rattle.mega_handler.specs.Named.{Meanings}
+use Rattle.mega_wire.specs.declared.message.Message.{Message}
+use Rattle.mega_wire.specs.Messages.{IsMessage}
+use Rattle.mega_transcript.specs.declared.item.Item.{Item}
+use Rattle.mega_transcript.specs.declared.item.Item.TheVariants.{Sent}
+use Rattle.mega_transcript.specs.Tape.{onto, sent_count}
+use Rattle.mega_transcript.proofs.Tapes.{onto-append}
+use Rattle.mega_rules.specs.Members.{is_node}
+use Rattle.mega_rules.specs.Met.{Met, Starts, Crashes, Ticks, Begins, Takes, Sends, Unsends, Grants, Lapses, Counts, Forgets, Serves, Loses, Validates, Invalidates, Decides, Applies, Answers}
+use Rattle.mega_rules.specs.Steps.{Event, Step, step}
+use Rattle.mega_formed.specs.Histories.{IsCluster}
+use Rattle.mega_formed.specs.Nodes.{IsEvent, IsNode, IsStep}
+use Rattle.mega_formed.specs.Requests.{AreHandlers}
+use Rattle.mega_formed.specs.Rounds.{AreMessages, IsMember}
+use Rattle.mega_formed.proofs.Whole.{whole_step as step_formed}
+use Rattle.mega_promises.specs.Items.{numbered, shown}
+use Rattle.mega_promises.specs.Messages.{message_of}
+use Rattle.mega_promises.specs.Runs.{Standing, setting, whole_step}
+use Rattle.mega_events.specs.Formed.{IsFormed}
+
+-- the nodes of a cluster of the format have numbers of the format
+pub is_member : (c : Cluster) (me : ℕ) → IsCluster c → is_node c me ≡ true → IsMember me
+is_member c me formed is = let few = formed.nodes in (grind (arith, nat_tests), grind (arith, nat_tests))
+
+pub made_formed : (c : Cluster) (h : Meanings) (now : Standing) (me : ℕ) (event : Event) → IsFormed c now → AreHandlers h → is_node c me ≡ true → IsEvent event → IsStep (step (setting c h me) (now.node me) event)
+made_formed c h now me event formed handlers is asked =
+    step_formed (setting c h me) (now.node me) event (record { cluster = formed.cluster; me = is_member c me formed.cluster is; handlers = handlers }) (formed.nodes me) asked
+
+-- messages of a tape that are all of the format
+abbrev AreFormed : List Item → Type 0
+AreFormed tape = (number : ℕ) (message : Message) → message_of tape number ≡ Some message → IsMessage message
+
+sent_formed : (n : ℕ) (ms : List Message) (tape : List Item) → AreMessages ms → AreFormed tape → AreFormed (onto (numbered n ms) tape)
+sent_formed n [] tape each formed = formed
+sent_formed n (m ∷ ms) tape each formed = sent_formed (n + 1) ms (Sent n m ∷ tape) each.1 (λ number message is. by (n == number) number message is)
+  where
+    by : (t : Bool) (number : ℕ) (message : Message) → cond t (Some m) (message_of tape number) ≡ Some message → IsMessage message
+    by true number message is = let same : m ≡ message = cc in subst IsMessage same each.0
+    by false number message is = formed number message is
+
+-- no note is a message's
+shown_silent : (me : ℕ) (one : Met) (tape : List Item) (n : ℕ) → message_of (onto (shown me one) tape) n ≡ message_of tape n
+shown_silent me (Starts start) tape n = refl
+shown_silent me Crashes tape n = refl
+shown_silent me (Ticks now) tape n = refl
+shown_silent me (Begins op text) tape n = refl
+shown_silent me (Takes message) tape n = refl
+shown_silent me (Sends message) tape n = refl
+shown_silent me (Unsends message) tape n = refl
+shown_silent me (Grants other epoch) tape n = refl
+shown_silent me (Lapses other epoch) tape n = refl
+shown_silent me (Counts cell epoch) tape n = refl
+shown_silent me (Forgets cell epoch) tape n = refl
+shown_silent me (Serves epoch) tape n = refl
+shown_silent me (Loses epoch) tape n = refl
+shown_silent me (Validates group position) tape n = refl
+shown_silent me (Invalidates group position) tape n = refl
+shown_silent me (Decides group position entry) tape n = refl
+shown_silent me (Applies group position) tape n = refl
+shown_silent me (Answers op answer) tape n = refl
+
+notes_formed : (me : ℕ) (notes : List Met) (tape : List Item) → AreFormed tape → AreFormed (onto (flat_map (shown me) notes) tape)
+notes_formed me [] tape formed = formed
+notes_formed me (one ∷ notes) tape formed =
+    subst AreFormed (sym (onto-append (shown me one) (flat_map (shown me) notes) tape))
+    (notes_formed me notes (onto (shown me one) tape) (λ number message is. formed number message (sym (shown_silent me one tape number) ∙ is)))
+
+pub formed_on : (c : Cluster) (now : Standing) (me : ℕ) (own : List Item) (made : Step) → IsFormed c now → IsStep made → ((number : ℕ) → message_of (onto own now.tape) number ≡ message_of now.tape number)
+    → (whole_step c now me own made).tape ≡ onto (numbered (sent_count now.tape + 1) made.sends) (onto (flat_map (shown me) made.notes) (onto own now.tape))
+    → IsFormed c (whole_step c now me own made)
+formed_on c now me own made formed step_is same shows = record {
+  cluster = formed.cluster;
+  nodes = λ other. by (me == other) other;
+  messages = subst AreFormed (sym shows)
+      (sent_formed (sent_count now.tape + 1) made.sends (onto (flat_map (shown me) made.notes) (onto own now.tape)) step_is.sends
+      (notes_formed me made.notes (onto own now.tape) (λ number message is. formed.messages number message (sym (same number) ∙ is))));
+}
+  where
+    by : (t : Bool) (other : ℕ) → IsNode (cond t made.node (now.node other))
+    by true other = step_is.node
+    by false other = formed.nodes other

@@ -1,0 +1,12 @@
+pub mod Staying
+pub mod Owning
+pub mod Forming
+pub mod Lining
+pub mod Joining
+pub mod Happening
+pub mod Starting
+pub mod Noted
+pub mod Stepped
+pub mod Placing
+pub mod Finding
+pub mod Emptying

@@ -1,0 +1,17 @@
+//! All nodes of a cluster and the messages between them, as the events of a run drive them.
+#![tactic(auto)]
+
+mod applying;
+mod beginning;
+mod delivering;
+mod draining;
+mod dropping;
+mod fault;
+mod noting;
+mod opening;
+mod stepping;
+mod ticking;
+mod world;
+
+pub use fault::WorldFault;
+pub use world::World;
