@@ -1,5 +1,9 @@
+pub mod Counting
 pub mod Lines
 pub mod Inputs
+pub mod Progress
+pub mod Running
 pub mod Texts
 pub mod Steps
+pub mod Cuts
 pub mod Users

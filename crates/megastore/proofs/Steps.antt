@@ -1,25 +1,18 @@
 -- How the lines of a schedule are done one after another.
-use Rattle.std.proofs.Common.{◌≡◌, ◌≢◌, ℕ, ◌+◌, ◌≤◌, ◌<◌, Option, Some, None, List, [], ◌∷◌, ◌++◌, length, refl, sym, ◌∙◌, ap, subst, inl, inr, append-nil, length-append, arith}
-use Rattle.std.specs.Io.KnownBytes.{append_known, Appends, Keeps}
+use Rattle.std.proofs.Common.{◌≡◌, ◌≢◌, ℕ, ◌+◌, ◌≤◌, ◌<◌, Option, Some, None, List, [], ◌∷◌, ◌++◌, length, refl, sym, ◌∙◌, ap, subst, inl, inr, length-append, arith}
 use Rattle.mega_io.specs.TextLines.{lines_of}
 use Rattle.mega_transcript.specs.declared.item.Item.{Item}
-use Rattle.mega_transcript.specs.Tape.{newest}
-use Rattle.mega_world.specs.declared.event.WorldEvent.{WorldEvent}
-use Rattle.mega_world.specs.declared.event.WorldEvent.TheVariants.{Deliver, Begin}
-use Rattle.mega_world.specs.Represents.{IsRefused, opened}
+use Rattle.mega_promises.specs.Runs.{Happening, Standing}
+use Rattle.mega_events.specs.declared.world.World.{World}
 use Rattle.megastore.specs.declared.line.TheConstants.{DELIVER, DELIVER_END, PUT, PUT_ROW, PUT_END}
 use Rattle.megastore.specs.declared.header.TheConstants.{HEADER_NODES, HEADER_SCHEMA, HEADER_END}
-use Rattle.megastore.specs.declared.status.Stop.{Stop}
-use Rattle.megastore.specs.declared.status.Stop.TheVariants.{Refused, Unbuilt, Source, Sink, NoMemory}
-use Rattle.megastore.specs.Statuses.{status_of}
 use Rattle.megastore.specs.Texts.{text_of, told}
-use Rattle.megastore.proofs.Texts.{newest_twice}
-use Rattle.megastore.specs.LineForms.{IsBegin}
-use Rattle.megastore.specs.Replaying.{Replayed, IsStep, IsUnbuilt, IsUnsent, Follows, Differs, Ends, IsTooLong, IsHeaded, IsOther, in_order, headed, LeftIsDone, LeftIsUnbuilt, LeftIsRefused, StopsUnbuiltAt, StopsUnsentAt, InputDone, InputUnbuilt, InputRefused}
-
-pub begin_not_refused : (event : WorldEvent) (node : ℕ) (tape : List Item) (why : ℕ) → IsBegin event node → 1 ≤ node → node ≤ 3 → IsRefused 3 tape event why → ⊥
-begin_not_refused (Deliver number) node tape why begins least most refused = begins
-begin_not_refused (Begin at request text) node tape why begins least most refused = elim refused.1 [ inl zero ↦ omega arith | inr past ↦ omega arith ]
+use Rattle.megastore.proofs.Texts.{newest_twice, front_on}
+use Rattle.megastore.proofs.Progress.{as_front, wrote_front}
+use Rattle.megastore.specs.Progress.{Writes, WritesFront}
+use Rattle.megastore.specs.Running.{AllHappen, StandsAfter, Went, stood}
+use Rattle.megastore.specs.Replaying.{IsUnbuilt, IsNotBuilt, IsRefused, Follows, Differs, Ends, IsTooLong, IsHeaded, IsOther, in_order, headed, Reaches, LeftIsDone, LeftIsBegun, LeftIsUnbuilt, LeftIsRefused, StopsUnbuiltAt, StopsRefusedAt, CutsLine, InputDone, InputBegun, InputUnbuilt, InputRefused}
+use Rattle.megastore.proofs.Running.{replayed}
 
 -- a line that is too long is none of those that are built
 pub long_unbuilt : (line : List ℕ) (tape : List Item) → 65536 < length line → IsUnbuilt line tape
@@ -40,15 +33,16 @@ Stands None now done = Unit {0}
 Stands (Some first) None done = ⊥
 Stands (Some first) (Some now) done = lines_of first ≡ in_order done (lines_of now)
 
-pub record RanTo (first now : Option (List ℕ)) (tape : List Item) (count : ℕ) : Type 0 where
+pub record RanTo (first now : Option (List ℕ)) (world : World) (items : List Item) (count : ℕ) : Type 0 where
   pub done : List (List ℕ)
-  pub replayed : Replayed done tape
+  pub events : List Happening
+  pub after : StandsAfter done events world items
   pub counted : count ≡ length done
-  pub stands : Stands first now done
+  pub left : Stands first now done
 
-pub begun : (first : Option (List ℕ)) (tape : List Item) → tape ≡ opened 3 → RanTo first first tape 0
-begun None tape is = record { done = []; replayed = is; counted = refl; stands = tt }
-begun (Some first) tape is = record { done = []; replayed = is; counted = refl; stands = refl }
+pub begun : (first : Option (List ℕ)) (world : World) (items : List Item) → StandsAfter [] [] world items → RanTo first first world items 0
+begun None world items opens = record { done = []; events = []; after = opens; counted = refl; left = tt }
+begun (Some first) world items opens = record { done = []; events = []; after = opens; counted = refl; left = refl }
 
 pub stands_on : (first now next : Option (List ℕ)) (done : List (List ℕ)) (line : List ℕ) → Stands first now done → Follows now next line → Stands first next (line ∷ done)
 stands_on None now next done line stands follows = tt
@@ -56,76 +50,133 @@ stands_on (Some first) None next done line stands follows = absurd stands
 stands_on (Some first) (Some now) None done line stands follows = absurd follows
 stands_on (Some first) (Some now) (Some next) done line stands follows = stands ∙ ap (in_order done) follows
 
-pub ran_on : (first now next : Option (List ℕ)) (tape after : List Item) (count : ℕ) (line : List ℕ) → RanTo first now tape count → Follows now next line → IsStep line tape after → RanTo first next after (count + 1)
-ran_on first now next tape after count line ran follows step = record {
+pub ran_on : (first now next : Option (List ℕ)) (world other : World) (items after : List Item) (count : ℕ) (line : List ℕ) (ran : RanTo first now world items count) → Follows now next line → Went line ran.events other after
+    → RanTo first next other after (count + 1)
+ran_on first now next world other items after count line ran follows went = record {
   done = line ∷ ran.done;
-  replayed = (tape, ran.replayed, step);
+  events = went.one ∷ ran.events;
+  after = record { happen = (ran.after.happen, went.happens); here = went.here };
   counted = omega (arith, ran.counted);
-  stands = stands_on first now next ran.done line ran.stands follows;
+  left = stands_on first now next ran.done line ran.left follows;
 }
 
-pub ran_out : (first now before after : Option (List ℕ)) (items : List Item) (count : ℕ) → RanTo first now (newest items) count → Ends now → Appends before after (text_of items) → LeftIsDone first before after
-ran_out None now before after items count ran ends written = tt
-ran_out (Some first) None before after items count ran ends written = absurd ran.stands
-ran_out (Some first) (Some now) before after items count ran ends written = record {
+-- what is said of the text of the stored tape is said of that of the run's
+pub told_newest : (Says : List ℕ → Type 0) (world : World) (items : List Item) (lines : List (List ℕ)) (events : List Happening) → StandsAfter lines events world items → Says (text_of items) → Says (told (stood events).tape)
+told_newest Says world items lines events after said = subst (λ (tape : List Item). Says (told tape)) after.here.tape (subst Says (sym (ap text_of (newest_twice items))) said)
+
+pub ran_out : (first now : Option (List ℕ)) (Says : List ℕ → Type 0) (world : World) (items : List Item) (count : ℕ) → RanTo first now world items count → Ends now → Says (text_of items) → LeftIsDone first Says
+ran_out None now Says world items count ran ends said = tt
+ran_out (Some first) None Says world items count ran ends said = absurd ran.left
+ran_out (Some first) (Some now) Says world items count ran ends said = record {
   done = ran.done;
-  tape = newest items;
-  replayed = ran.replayed;
-  all = ran.stands ∙ ap (in_order ran.done) ends;
-  written = subst (λ (told_items : List Item). Appends before after (text_of told_items)) (sym (newest_twice items)) written;
+  events = ran.events;
+  replayed = replayed ran.done ran.events ran.after.happen;
+  all = ran.left ∙ ap (in_order ran.done) ends;
+  said = told_newest Says world items ran.done ran.events ran.after said;
 }
 
-pub stopped_unbuilt : (first now : Option (List ℕ)) (tape : List Item) (count number : ℕ) → RanTo first now tape count → number ≡ count + 1 → StopsUnbuiltAt now tape → LeftIsUnbuilt first number
-stopped_unbuilt None now tape count number ran next stops = tt
-stopped_unbuilt (Some first) None tape count number ran next stops = absurd ran.stands
-stopped_unbuilt (Some first) (Some now) tape count number ran next stops = record {
+begun_with : (first now : Option (List ℕ)) (Says : List ℕ → Type 0) (done : List (List ℕ)) (events : List Happening) → AllHappen done events → Stands first now done → Says (told (stood events).tape) → LeftIsBegun first Says
+begun_with None now Says done events happen left said = tt
+begun_with (Some first) None Says done events happen left said = absurd left
+begun_with (Some first) (Some now) Says done events happen left said =
+    record { done = done; rest = lines_of now; events = events; replayed = replayed done events happen; all = left; said = said }
+
+pub cut_here : (first now : Option (List ℕ)) (Says : List ℕ → Type 0) (world : World) (items : List Item) (count : ℕ) → RanTo first now world items count → Says (text_of items) → LeftIsBegun first Says
+cut_here first now Says world items count ran said =
+    begun_with first now Says ran.done ran.events ran.after.happen ran.left (told_newest Says world items ran.done ran.events ran.after said)
+
+none_done : (first : Option (List ℕ)) → Stands first first []
+none_done None = tt
+none_done (Some first) = refl
+
+pub cut_before : (first : Option (List ℕ)) (Says : List ℕ → Type 0) → Says (told (stood []).tape) → LeftIsBegun first Says
+cut_before first Says said = begun_with first first Says [] [] tt (none_done first) said
+
+pub cut_first : (first : Option (List ℕ)) (Says : List ℕ → Type 0) (world : World) (items : List Item) → StandsAfter [] [] world items → Says (text_of items) → LeftIsBegun first Says
+cut_first first Says world items opens said = cut_here first first Says world items 0 (begun first world items opens) said
+
+-- the run was cut off between two lines
+pub cut_after : (start left : Option (List ℕ)) (world : World) (items : List Item) (count : ℕ) (first now : Option (List ℕ)) (waiting : List ℕ) → RanTo start left world items count → Writes first now waiting (text_of items)
+    → LeftIsBegun start (WritesFront first now waiting)
+cut_after start left world items count first now waiting ran written = cut_here start left (WritesFront first now waiting) world items count ran (as_front first now waiting (text_of items) written)
+
+-- the line at hand was cut off, or its text was
+pub cut_line : (start left next : Option (List ℕ)) (line : List ℕ) (world other : World) (old new : List Item) (count : ℕ) (first mid now : Option (List ℕ)) (waiting later : List ℕ) (ran : RanTo start left world old count)
+    → Writes first mid waiting (text_of old) → CutsLine left next line ran.events other old new (WritesFront mid now later) waiting → LeftIsBegun start (WritesFront first now later)
+cut_line start left next line world other old new count first mid now waiting later ran before (inl cut) =
+    cut_here start left (WritesFront first now later) world old count ran (wrote_front first mid now waiting later (text_of old) before cut)
+cut_line start left next line world other old new count first mid now waiting later ran before (inr cut) =
+    cut_here start next (WritesFront first now later) other new (count + 1) (ran_on start left next world other old new count line ran cut.0 cut.1)
+    (front_on first mid now waiting later line ran.events world other old new ran.after.here cut.1 before cut.2)
+
+pub reached : (first now : List ℕ) (world : World) (items : List Item) (count number : ℕ) (line : List ℕ) (rest : List (List ℕ)) (ran : RanTo (Some first) (Some now) world items count) → lines_of now ≡ line ∷ rest → number ≡ count + 1
+    → Reaches (lines_of first) number line ran.events
+reached first now world items count number line rest ran is next =
+    record { done = ran.done; rest = rest; replayed = replayed ran.done ran.events ran.after.happen; all = ran.left ∙ ap (in_order ran.done) is; counted = omega (arith, ran.counted) }
+
+pub stopped_unbuilt : (first now : Option (List ℕ)) (Says : List ℕ → Type 0) (world : World) (items : List Item) (count number : ℕ) (ran : RanTo first now world items count) → number ≡ count + 1 → StopsUnbuiltAt now (stood ran.events) → Says (text_of items)
+    → LeftIsUnbuilt first number Says
+stopped_unbuilt None now Says world items count number ran next stops said = tt
+stopped_unbuilt (Some first) None Says world items count number ran next stops said = absurd ran.left
+stopped_unbuilt (Some first) (Some now) Says world items count number ran next stops said = record {
   line = stops.0;
-  tape = tape;
-  reaches = record { done = ran.done; rest = stops.1; replayed = ran.replayed; all = ran.stands ∙ ap (in_order ran.done) stops.2; counted = omega (arith, ran.counted) };
+  events = ran.events;
+  reaches = reached first now world items count number stops.0 stops.1 ran stops.2 next;
   why = inl stops.3;
+  said = told_newest Says world items ran.done ran.events ran.after said;
 }
 
-pub stopped_refused : (first now : Option (List ℕ)) (tape : List Item) (count number why : ℕ) → RanTo first now tape count → number ≡ count + 1 → StopsUnsentAt now tape why → LeftIsRefused first number why
-stopped_refused None now tape count number why ran next stops = tt
-stopped_refused (Some first) None tape count number why ran next stops = absurd ran.stands
-stopped_refused (Some first) (Some now) tape count number why ran next stops = record {
+pub stopped_refused : (first now : Option (List ℕ)) (Says : List ℕ → Type 0) (world : World) (items : List Item) (count number why : ℕ) (ran : RanTo first now world items count) → number ≡ count + 1 → StopsRefusedAt now (stood ran.events) why
+    → Says (text_of items) → LeftIsRefused first number why Says
+stopped_refused None now Says world items count number why ran next stops said = tt
+stopped_refused (Some first) None Says world items count number why ran next stops said = absurd ran.left
+stopped_refused (Some first) (Some now) Says world items count number why ran next stops said = record {
   line = stops.0;
-  tape = tape;
-  reaches = record { done = ran.done; rest = stops.1; replayed = ran.replayed; all = ran.stands ∙ ap (in_order ran.done) stops.2; counted = omega (arith, ran.counted) };
-  unsent = stops.3;
+  events = ran.events;
+  reaches = reached first now world items count number stops.0 stops.1 ran stops.2 next;
+  refused = stops.3;
+  said = told_newest Says world items ran.done ran.events ran.after said;
 }
 
-pub stopped_past : (first now next : Option (List ℕ)) (tape : List Item) (count : ℕ) (line : List ℕ) → RanTo first now tape count → 1000000 ≤ count → Follows now next line → LeftIsUnbuilt first (count + 1)
-stopped_past None now next tape count line ran past follows = tt
-stopped_past (Some first) None next tape count line ran past follows = absurd ran.stands
-stopped_past (Some first) (Some now) None tape count line ran past follows = absurd follows
-stopped_past (Some first) (Some now) (Some next) tape count line ran past follows = record {
+pub stopped_past : (first now next : Option (List ℕ)) (Says : List ℕ → Type 0) (world : World) (items : List Item) (count number : ℕ) (line : List ℕ) → RanTo first now world items count → number ≡ count + 1 → 1000000 ≤ count → Follows now next line
+    → Says (text_of items) → LeftIsUnbuilt first number Says
+stopped_past None now next Says world items count number line ran is past follows said = tt
+stopped_past (Some first) None next Says world items count number line ran is past follows said = absurd ran.left
+stopped_past (Some first) (Some now) None Says world items count number line ran is past follows said = absurd follows
+stopped_past (Some first) (Some now) (Some next) Says world items count number line ran is past follows said = record {
   line = line;
-  tape = tape;
-  reaches = record { done = ran.done; rest = lines_of next; replayed = ran.replayed; all = ran.stands ∙ ap (in_order ran.done) follows; counted = omega (arith, ran.counted) };
+  events = ran.events;
+  reaches = reached first now world items count number line (lines_of next) ran follows is;
   why = inr (omega arith);
+  said = told_newest Says world items ran.done ran.events ran.after said;
 }
 
-pub stopped_long : (first now : Option (List ℕ)) (tape : List Item) (count : ℕ) → RanTo first now tape count → IsTooLong now → LeftIsUnbuilt first (count + 1)
-stopped_long None now tape count ran long = tt
-stopped_long (Some first) None tape count ran long = absurd ran.stands
-stopped_long (Some first) (Some now) tape count ran long = record {
+pub stopped_long : (first now : Option (List ℕ)) (Says : List ℕ → Type 0) (world : World) (items : List Item) (count number : ℕ) → RanTo first now world items count → number ≡ count + 1 → IsTooLong now → Says (text_of items)
+    → LeftIsUnbuilt first number Says
+stopped_long None now Says world items count number ran is long said = tt
+stopped_long (Some first) None Says world items count number ran is long said = absurd ran.left
+stopped_long (Some first) (Some now) Says world items count number ran is long said = record {
   line = long.0;
-  tape = tape;
-  reaches = record { done = ran.done; rest = long.1; replayed = ran.replayed; all = ran.stands ∙ ap (in_order ran.done) long.2; counted = omega (arith, ran.counted) };
-  why = inl (long_unbuilt long.0 tape long.3);
+  events = ran.events;
+  reaches = reached first now world items count number long.0 long.1 ran long.2 is;
+  why = inl (inl (long_unbuilt long.0 (stood ran.events).tape long.3));
+  said = told_newest Says world items ran.done ran.events ran.after said;
 }
 
 -- the line at hand stops the run
-pub unbuilt_at : (now next : Option (List ℕ)) (tape : List Item) (line : List ℕ) → Follows now next line → IsUnbuilt line tape → StopsUnbuiltAt now tape
-unbuilt_at None next tape line follows unbuilt = tt
-unbuilt_at (Some now) None tape line follows unbuilt = absurd follows
-unbuilt_at (Some now) (Some next) tape line follows unbuilt = (line, lines_of next, follows, unbuilt)
+pub unbuilt_at : (now next : Option (List ℕ)) (at : Standing) (line : List ℕ) → Follows now next line → IsNotBuilt line at → StopsUnbuiltAt now at
+unbuilt_at None next at line follows unbuilt = tt
+unbuilt_at (Some now) None at line follows unbuilt = absurd follows
+unbuilt_at (Some now) (Some next) at line follows unbuilt = (line, lines_of next, follows, unbuilt)
 
-pub unsent_at : (now next : Option (List ℕ)) (tape : List Item) (line : List ℕ) (why : ℕ) → Follows now next line → IsUnsent line tape why → StopsUnsentAt now tape why
-unsent_at None next tape line why follows unsent = tt
-unsent_at (Some now) None tape line why follows unsent = absurd follows
-unsent_at (Some now) (Some next) tape line why follows unsent = (line, lines_of next, follows, unsent)
+pub long_at : (now : Option (List ℕ)) (at : Standing) → IsTooLong now → StopsUnbuiltAt now at
+long_at None at long = tt
+long_at (Some now) at long = (long.0, long.1, long.2, inl (long_unbuilt long.0 at.tape long.3))
+
+pub refused_at : (now next : Option (List ℕ)) (at : Standing) (line : List ℕ) (why : ℕ) → Follows now next line → IsRefused line at why → StopsRefusedAt now at why
+refused_at None next at line why follows refused = tt
+refused_at (Some now) None at line why follows refused = absurd follows
+refused_at (Some now) (Some next) at line why follows refused = (line, lines_of next, follows, refused)
 
 -- the header
 pub same_head : (xs ys : List (List ℕ)) (x y : List ℕ) (all : List (List ℕ)) → all ≡ x ∷ xs → all ≡ y ∷ ys → x ≡ y
@@ -172,57 +223,30 @@ other_third (Some a) (Some b) (Some c) one two differs = λ schedule is.
     (same_rest_lines (lines_of b) (HEADER_SCHEMA ∷ HEADER_END ∷ schedule) HEADER_NODES HEADER_NODES (lines_of a) one is))
 
 -- what is said of the schedule is said of the input
-pub input_done : (a b before after : Option (List ℕ)) → IsHeaded a b → LeftIsDone b before after → InputDone a before after
-input_done None b before after headed done = tt
-input_done (Some a) None before after headed done = absurd headed
-input_done (Some a) (Some b) before after headed done = (lines_of b, headed, done)
+pub input_done : (a b : Option (List ℕ)) (Says : List ℕ → Type 0) → IsHeaded a b → LeftIsDone b Says → InputDone a Says
+input_done None b Says headed done = tt
+input_done (Some a) None Says headed done = absurd headed
+input_done (Some a) (Some b) Says headed done = (lines_of b, headed, done)
 
--- what waited is written too
-appended : (before mid after : Option (List ℕ)) (text : List ℕ) → Appends (append_known before []) mid text → Keeps mid (append_known after []) → Appends before after text
-appended None mid after text appends keeps = tt
-appended (Some xs) None after text appends keeps = absurd appends
-appended (Some xs) (Some ys) None text appends keeps = absurd keeps
-appended (Some xs) (Some ys) (Some zs) text appends keeps = sym (append-nil zs) ∙ keeps ∙ appends ∙ ap (λ front. front ++ text) (append-nil xs)
+pub input_begun : (a b : Option (List ℕ)) (Says : List ℕ → Type 0) → IsHeaded a b → LeftIsBegun b Says → InputBegun a Says
+input_begun None b Says headed begun = tt
+input_begun (Some a) None Says headed begun = absurd headed
+input_begun (Some a) (Some b) Says headed begun = inr (lines_of b, headed, begun)
 
-pub input_written : (known before mid after : Option (List ℕ)) → InputDone known (append_known before []) mid → Keeps mid (append_known after []) → InputDone known before after
-input_written None before mid after done keeps = tt
-input_written (Some known) before mid after done keeps = (
-  done.0,
-  done.1,
-  record {
-    done = done.2.done;
-    tape = done.2.tape;
-    replayed = done.2.replayed;
-    all = done.2.all;
-    written = appended before mid after (told done.2.tape) done.2.written keeps;
-  },
-)
+pub input_unbegun : (a : Option (List ℕ)) (Says : List ℕ → Type 0) → Says [] → InputBegun a Says
+input_unbegun None Says said = tt
+input_unbegun (Some a) Says said = inl said
 
-pub input_unbuilt : (a b : Option (List ℕ)) (number : ℕ) → IsHeaded a b → LeftIsUnbuilt b number → InputUnbuilt a number
-input_unbuilt None b number headed stops = tt
-input_unbuilt (Some a) None number headed stops = absurd headed
-input_unbuilt (Some a) (Some b) number headed stops = inr (lines_of b, headed, stops)
+pub input_unbuilt : (a b : Option (List ℕ)) (Says : List ℕ → Type 0) (number : ℕ) → IsHeaded a b → LeftIsUnbuilt b number Says → InputUnbuilt a number Says
+input_unbuilt None b Says number headed stops = tt
+input_unbuilt (Some a) None Says number headed stops = absurd headed
+input_unbuilt (Some a) (Some b) Says number headed stops = inr (lines_of b, headed, stops)
 
-pub input_other : (a : Option (List ℕ)) → IsOther a → InputUnbuilt a 0
-input_other None other = tt
-input_other (Some a) other = inl (other, refl)
+pub input_other : (a : Option (List ℕ)) (Says : List ℕ → Type 0) (number : ℕ) → IsOther a → number ≡ 0 → Says [] → InputUnbuilt a number Says
+input_other None Says number other is said = tt
+input_other (Some a) Says number other is said = inl (other, is, said)
 
-pub input_refused : (a b : Option (List ℕ)) (number why : ℕ) → IsHeaded a b → LeftIsRefused b number why → InputRefused a number why
-input_refused None b number why headed stops = tt
-input_refused (Some a) None number why headed stops = absurd headed
-input_refused (Some a) (Some b) number why headed stops = (lines_of b, headed, stops)
-
--- what a status tells of the stop behind it
-pub refused_by : (stop : Stop) (known : Option (List ℕ)) → status_of stop ≡ 4 → ((line why : ℕ) → stop ≡ Refused line why → InputRefused known line why) → (line : ℕ) × (why : ℕ) × InputRefused known line why
-refused_by (Refused line why) known is said = (line, why, said line why refl)
-refused_by (Unbuilt line) known is said = absurd (omega arith)
-refused_by Source known is said = absurd (omega arith)
-refused_by Sink known is said = absurd (omega arith)
-refused_by NoMemory known is said = absurd (omega arith)
-
-pub unbuilt_by : (stop : Stop) (known : Option (List ℕ)) → status_of stop ≡ 11 → ((line : ℕ) → stop ≡ Unbuilt line → InputUnbuilt known line) → (line : ℕ) × InputUnbuilt known line
-unbuilt_by (Refused line why) known is said = absurd (omega arith)
-unbuilt_by (Unbuilt line) known is said = (line, said line refl)
-unbuilt_by Source known is said = absurd (omega arith)
-unbuilt_by Sink known is said = absurd (omega arith)
-unbuilt_by NoMemory known is said = absurd (omega arith)
+pub input_refused : (a b : Option (List ℕ)) (Says : List ℕ → Type 0) (number why : ℕ) → IsHeaded a b → LeftIsRefused b number why Says → InputRefused a number why Says
+input_refused None b Says number why headed stops = tt
+input_refused (Some a) None Says number why headed stops = absurd headed
+input_refused (Some a) (Some b) Says number why headed stops = (lines_of b, headed, stops)

@@ -1,7 +1,11 @@
+pub mod Counting
 pub mod PlainLines
 pub mod LineForms
 pub mod Users
 pub mod Texts
+pub mod Progress
+pub mod LastLines
+pub mod Running
 pub mod Replaying
 pub mod Statuses
 pub mod Stops

@@ -1,14 +1,19 @@
 -- What a replay does with the lines of its input. Lines that were done stand newest first.
-use Rattle.std.specs.Prelude.{◌≡◌, ◌≢◌, ℕ, ◌+◌, ◌<◌, ◌⊎◌, true, false, List, [], ◌∷◌, length, Option, Some, None}
-use Rattle.std.specs.Io.KnownBytes.{Appends}
+use Rattle.std.specs.Prelude.{◌≡◌, ◌≢◌, ℕ, ◌+◌, ◌<◌, ◌⊎◌, List, [], ◌∷◌, ◌++◌, length, drop, Option, Some, None}
 use Rattle.mega_io.specs.TextLines.{lines_of}
+use Rattle.mega_schedule.specs.declared.world_event.WorldEvent.TheVariants.{Deliver}
 use Rattle.mega_transcript.specs.declared.item.Item.{Item}
-use Rattle.mega_transcript.specs.declared.item.Item.TheVariants.{Taken}
-use Rattle.mega_transcript.specs.Tape.{is_sent, IsQuiet, Grows}
-use Rattle.mega_world.specs.Represents.{opened}
+use Rattle.mega_transcript.specs.Tape.{IsQuiet}
+use Rattle.mega_rules.specs.Examples.{cluster}
+use Rattle.mega_promises.specs.Runs.{Happening, Standing, refusal}
+use Rattle.mega_events.specs.declared.world.World.{World}
+use Rattle.mega_events.specs.Unbuilt.{IsUnbuilt as IsUnbuiltEvent}
 use Rattle.megastore.specs.declared.header.TheConstants.{HEADER_NODES, HEADER_SCHEMA, HEADER_END}
 use Rattle.megastore.specs.PlainLines.{IsDelivery, IsPut}
-use Rattle.megastore.specs.Texts.{told}
+use Rattle.megastore.specs.Running.{Replayed, Went, stood, uncut}
+use Rattle.megastore.specs.Texts.{text_of, told}
+use Rattle.megastore.specs.Users.{put_event}
+use Rattle.megastore.specs.LastLines.{unbuilt_line, refused_line}
 
 -- these lines, newest first, and then the others
 abbrev pub in_order : List (List ℕ) → List (List ℕ) → List (List ℕ)
@@ -19,74 +24,93 @@ in_order (line ∷ earlier) rest = in_order earlier (line ∷ rest)
 abbrev pub headed : List (List ℕ) → List (List ℕ)
 headed lines = HEADER_NODES ∷ HEADER_SCHEMA ∷ HEADER_END ∷ lines
 
--- a delivery of a message that was sent, or a put where every message was taken: what follows goes onto the tape
-abbrev pub IsStep : List ℕ → List Item → List Item → Type 0
-IsStep line before tape =
-    ((number : ℕ) × IsDelivery line number × (is_sent before number ≡ true) × Grows (Taken number ∷ before) tape)
-    ⊎ ((node : ℕ) × (name : List ℕ) × IsPut line node name × IsQuiet before × Grows before tape)
-
--- the tape is one of the three nodes' starts and a step for each of these lines
-abbrev pub Replayed : List (List ℕ) → List Item → Type 0
-Replayed [] tape = tape ≡ opened 3
-Replayed (line ∷ earlier) tape = (before : List Item) × Replayed earlier before × IsStep line before tape
-
 -- the line is no delivery, and no put that is built at this tape
 pub record IsUnbuilt (line : List ℕ) (tape : List Item) : Type 0 where
   pub no_delivery : (number : ℕ) → IsDelivery line number → ⊥
   pub no_put : (node : ℕ) (name : List ℕ) → IsPut line node name → IsQuiet tape → ⊥
 
--- the line delivers a message that was not sent
-pub record IsUnsent (line : List ℕ) (tape : List Item) (why : ℕ) : Type 0 where
+-- the line delivers a message that is not handed over yet, unless that is refused, or puts a name where that is not served yet
+abbrev pub IsUnserved : List ℕ → Standing → Type 0
+IsUnserved line now =
+    ((message : ℕ) × IsDelivery line message × (refusal cluster now (Deliver message) ≡ None → IsUnbuiltEvent cluster [] uncut now (Deliver message)))
+    ⊎ ((node : ℕ) × (name : List ℕ) × IsPut line node name × IsUnbuiltEvent cluster [] uncut now (put_event node name))
+
+abbrev pub IsNotBuilt : List ℕ → Standing → Type 0
+IsNotBuilt line now = IsUnbuilt line now.tape ⊎ IsUnserved line now
+
+-- the line delivers a message, which the run refuses: 3, it was not sent
+pub record IsRefused (line : List ℕ) (now : Standing) (why : ℕ) : Type 0 where
   pub message : ℕ
   pub delivers : IsDelivery line message
-  pub unsent : is_sent tape message ≡ false
-  pub reason : why ≡ 3
+  pub refused : refusal cluster now (Deliver message) ≡ Some why
 
--- all lines of the schedule were done, and the text of the tape was written after what was held before
-pub record IsDone (lines : List (List ℕ)) (before after : Option (List ℕ)) : Type 0 where
+-- all lines of the schedule were done, and this is said of the text of their tape
+pub record IsDone (lines : List (List ℕ)) (Says : List ℕ → Type 0) : Type 0 where
   pub done : List (List ℕ)
-  pub tape : List Item
-  pub replayed : Replayed done tape
+  pub events : List Happening
+  pub replayed : Replayed done events
   pub all : lines ≡ in_order done []
-  pub written : Appends before after (told tape)
+  pub said : Says (told (stood events).tape)
 
--- the lines of the schedule before this one were done
-pub record Reaches (lines : List (List ℕ)) (number : ℕ) (line : List ℕ) (tape : List Item) : Type 0 where
+-- some first lines of the schedule were done, and this is said of the text of their tape
+pub record IsBegun (lines : List (List ℕ)) (Says : List ℕ → Type 0) : Type 0 where
   pub done : List (List ℕ)
   pub rest : List (List ℕ)
-  pub replayed : Replayed done tape
+  pub events : List Happening
+  pub replayed : Replayed done events
+  pub all : lines ≡ in_order done rest
+  pub said : Says (told (stood events).tape)
+
+-- the lines of the schedule before this one were done
+pub record Reaches (lines : List (List ℕ)) (number : ℕ) (line : List ℕ) (events : List Happening) : Type 0 where
+  pub done : List (List ℕ)
+  pub rest : List (List ℕ)
+  pub replayed : Replayed done events
   pub all : lines ≡ in_order done (line ∷ rest)
   pub counted : number ≡ length done + 1
 
 -- this line of the schedule is not built, or it comes after the last that may be
-pub record StopsUnbuilt (lines : List (List ℕ)) (number : ℕ) : Type 0 where
+pub record StopsUnbuilt (lines : List (List ℕ)) (number : ℕ) (Says : List ℕ → Type 0) : Type 0 where
   pub line : List ℕ
-  pub tape : List Item
-  pub reaches : Reaches lines number line tape
-  pub why : IsUnbuilt line tape ⊎ (1000000 < number)
+  pub events : List Happening
+  pub reaches : Reaches lines number line events
+  pub why : IsNotBuilt line (stood events) ⊎ (1000000 < number)
+  pub said : Says (told (stood events).tape)
 
--- this line of the schedule delivers a message that was not sent
-pub record StopsRefused (lines : List (List ℕ)) (number why : ℕ) : Type 0 where
+-- the event of this line of the schedule is refused
+pub record StopsRefused (lines : List (List ℕ)) (number why : ℕ) (Says : List ℕ → Type 0) : Type 0 where
   pub line : List ℕ
-  pub tape : List Item
-  pub reaches : Reaches lines number line tape
-  pub unsent : IsUnsent line tape why
+  pub events : List Happening
+  pub reaches : Reaches lines number line events
+  pub refused : IsRefused line (stood events) why
+  pub said : Says (told (stood events).tape)
 
 -- the input's lines have another header
 abbrev pub HasOtherHeader : List (List ℕ) → Type 0
 HasOtherHeader lines = (schedule : List (List ℕ)) → lines ≢ headed schedule
 
 -- the input is the header and a schedule, all of which was done
-abbrev pub InputIsDone : List (List ℕ) → Option (List ℕ) → Option (List ℕ) → Type 0
-InputIsDone lines before after = (schedule : List (List ℕ)) × (lines ≡ headed schedule) × IsDone schedule before after
+abbrev pub InputIsDone : List (List ℕ) → (List ℕ → Type 0) → Type 0
+InputIsDone lines Says = (schedule : List (List ℕ)) × (lines ≡ headed schedule) × IsDone schedule Says
 
--- the header is another one, or this line of the schedule is not built
-abbrev pub InputIsUnbuilt : List (List ℕ) → ℕ → Type 0
-InputIsUnbuilt lines number = (HasOtherHeader lines × (number ≡ 0)) ⊎ ((schedule : List (List ℕ)) × (lines ≡ headed schedule) × StopsUnbuilt schedule number)
+-- the header is another one, and this is said of no text, or this line of the schedule is not built
+abbrev pub InputIsUnbuilt : List (List ℕ) → ℕ → (List ℕ → Type 0) → Type 0
+InputIsUnbuilt lines number Says = (HasOtherHeader lines × (number ≡ 0) × Says []) ⊎ ((schedule : List (List ℕ)) × (lines ≡ headed schedule) × StopsUnbuilt schedule number Says)
 
 -- this line of the schedule is refused
-abbrev pub InputIsRefused : List (List ℕ) → ℕ → ℕ → Type 0
-InputIsRefused lines number why = (schedule : List (List ℕ)) × (lines ≡ headed schedule) × StopsRefused schedule number why
+abbrev pub InputIsRefused : List (List ℕ) → ℕ → ℕ → (List ℕ → Type 0) → Type 0
+InputIsRefused lines number why Says = (schedule : List (List ℕ)) × (lines ≡ headed schedule) × StopsRefused schedule number why Says
+
+-- this is said of no text, or the input is the header and a schedule, of which some first lines were done
+abbrev pub InputIsBegun : List (List ℕ) → (List ℕ → Type 0) → Type 0
+InputIsBegun lines Says = Says [] ⊎ ((schedule : List (List ℕ)) × (lines ≡ headed schedule) × IsBegun schedule Says)
+
+-- this is said of the text of lines that were done, or of that and the last line, where the input has a line that stops it
+abbrev pub InputIsCut : List (List ℕ) → (List ℕ → Type 0) → Type 0
+InputIsCut lines Says =
+    InputIsBegun lines Says
+    ⊎ ((number : ℕ) × InputIsUnbuilt lines number (λ text. Says (text ++ unbuilt_line number)))
+    ⊎ ((number : ℕ) × (why : ℕ) × InputIsRefused lines number why (λ text. Says (text ++ refused_line number why)))
 
 -- what is known of an input whose bytes are told, before a line was read and after
 abbrev pub Follows : Option (List ℕ) → Option (List ℕ) → List ℕ → Type 0
@@ -117,36 +141,53 @@ IsOther None = Unit {0}
 IsOther (Some known) = HasOtherHeader (lines_of known)
 
 -- what is said of a schedule whose bytes are told
-abbrev pub LeftIsDone : Option (List ℕ) → Option (List ℕ) → Option (List ℕ) → Type 0
-LeftIsDone None before after = Unit {0}
-LeftIsDone (Some left) before after = IsDone (lines_of left) before after
+abbrev pub LeftIsDone : Option (List ℕ) → (List ℕ → Type 0) → Type 0
+LeftIsDone None Says = Unit {0}
+LeftIsDone (Some left) Says = IsDone (lines_of left) Says
 
-abbrev pub LeftIsUnbuilt : Option (List ℕ) → ℕ → Type 0
-LeftIsUnbuilt None number = Unit {0}
-LeftIsUnbuilt (Some left) number = StopsUnbuilt (lines_of left) number
+abbrev pub LeftIsBegun : Option (List ℕ) → (List ℕ → Type 0) → Type 0
+LeftIsBegun None Says = Unit {0}
+LeftIsBegun (Some left) Says = IsBegun (lines_of left) Says
 
-abbrev pub LeftIsRefused : Option (List ℕ) → ℕ → ℕ → Type 0
-LeftIsRefused None number why = Unit {0}
-LeftIsRefused (Some left) number why = StopsRefused (lines_of left) number why
+abbrev pub LeftIsUnbuilt : Option (List ℕ) → ℕ → (List ℕ → Type 0) → Type 0
+LeftIsUnbuilt None number Says = Unit {0}
+LeftIsUnbuilt (Some left) number Says = StopsUnbuilt (lines_of left) number Says
 
--- the next line is not built, or delivers a message that was not sent
-abbrev pub StopsUnbuiltAt : Option (List ℕ) → List Item → Type 0
-StopsUnbuiltAt None tape = Unit {0}
-StopsUnbuiltAt (Some left) tape = (line : List ℕ) × (rest : List (List ℕ)) × (lines_of left ≡ line ∷ rest) × IsUnbuilt line tape
+abbrev pub LeftIsRefused : Option (List ℕ) → ℕ → ℕ → (List ℕ → Type 0) → Type 0
+LeftIsRefused None number why Says = Unit {0}
+LeftIsRefused (Some left) number why Says = StopsRefused (lines_of left) number why Says
 
-abbrev pub StopsUnsentAt : Option (List ℕ) → List Item → ℕ → Type 0
-StopsUnsentAt None tape why = Unit {0}
-StopsUnsentAt (Some left) tape why = (line : List ℕ) × (rest : List (List ℕ)) × (lines_of left ≡ line ∷ rest) × IsUnsent line tape why
+-- the next line is not built, or is refused
+abbrev pub StopsUnbuiltAt : Option (List ℕ) → Standing → Type 0
+StopsUnbuiltAt None now = Unit {0}
+StopsUnbuiltAt (Some left) now = (line : List ℕ) × (rest : List (List ℕ)) × (lines_of left ≡ line ∷ rest) × IsNotBuilt line now
+
+abbrev pub StopsRefusedAt : Option (List ℕ) → Standing → ℕ → Type 0
+StopsRefusedAt None now why = Unit {0}
+StopsRefusedAt (Some left) now why = (line : List ℕ) × (rest : List (List ℕ)) × (lines_of left ≡ line ∷ rest) × IsRefused line now why
+
+-- before a line or within it the text was cut: this is said of what was to be written before, or of that and the text of what the line added
+abbrev pub CutsLine : Option (List ℕ) → Option (List ℕ) → List ℕ → List Happening → World → List Item → List Item → (List ℕ → Type 0) → List ℕ → Type 0
+CutsLine now next line events world old new Says before =
+    Says before ⊎ (Follows now next line × Went line events world new × Says (before ++ text_of (drop (length old) new)))
 
 -- what is said of an input whose bytes are told
-abbrev pub InputDone : Option (List ℕ) → Option (List ℕ) → Option (List ℕ) → Type 0
-InputDone None before after = Unit {0}
-InputDone (Some input) before after = InputIsDone (lines_of input) before after
+abbrev pub InputDone : Option (List ℕ) → (List ℕ → Type 0) → Type 0
+InputDone None Says = Unit {0}
+InputDone (Some input) Says = InputIsDone (lines_of input) Says
 
-abbrev pub InputUnbuilt : Option (List ℕ) → ℕ → Type 0
-InputUnbuilt None number = Unit {0}
-InputUnbuilt (Some input) number = InputIsUnbuilt (lines_of input) number
+abbrev pub InputBegun : Option (List ℕ) → (List ℕ → Type 0) → Type 0
+InputBegun None Says = Unit {0}
+InputBegun (Some input) Says = InputIsBegun (lines_of input) Says
 
-abbrev pub InputRefused : Option (List ℕ) → ℕ → ℕ → Type 0
-InputRefused None number why = Unit {0}
-InputRefused (Some input) number why = InputIsRefused (lines_of input) number why
+abbrev pub InputUnbuilt : Option (List ℕ) → ℕ → (List ℕ → Type 0) → Type 0
+InputUnbuilt None number Says = Unit {0}
+InputUnbuilt (Some input) number Says = InputIsUnbuilt (lines_of input) number Says
+
+abbrev pub InputRefused : Option (List ℕ) → ℕ → ℕ → (List ℕ → Type 0) → Type 0
+InputRefused None number why Says = Unit {0}
+InputRefused (Some input) number why Says = InputIsRefused (lines_of input) number why Says
+
+abbrev pub InputCut : Option (List ℕ) → (List ℕ → Type 0) → Type 0
+InputCut None Says = Unit {0}
+InputCut (Some input) Says = InputIsCut (lines_of input) Says

@@ -26,3 +26,9 @@ IsLineStop (Refused line why) = Unit {0}
 IsLineStop (Unbuilt line) = Unit {0}
 IsLineStop NoMemory = Unit {0}
 IsLineStop _ = ⊥
+
+-- no last line tells of the stop
+abbrev pub IsUntold : Stop → Type 0
+IsUntold (Refused line why) = ⊥
+IsUntold (Unbuilt line) = ⊥
+IsUntold _ = Unit {0}

@@ -1,14 +1,12 @@
 ghost use Rattle.std.specs.Prelude.{◌≡◌, ◌≢◌, ◌+◌, ◌≤◌, ◌++◌, ◌↔◌, ℕ, List, IfSome, IsNone, IsTrue, IfOk, Ok, None};
 ghost use Rattle.megastore.specs.PlainLines.{IsMessageNumber, IsName, IsDelivery, IsPut as IsPutLine, IsNoLine};
-ghost use Rattle.megastore.specs.LineForms.{IsSpelled, IsBegin};
-ghost use Rattle.megastore.specs.Users.{user_row};
+ghost use Rattle.megastore.specs.LineForms.{IsSpelled};
+ghost use Rattle.megastore.specs.Users.{put_event, put_of, put_text, user_row};
 ghost use Rattle.std.specs.Prelude.{[], ◌∷◌};
-ghost use Rattle.mega_core.specs.Puts.{IsPut};
-ghost use Rattle.mega_world.specs.Formed.{IsBuilt};
 
 use mega_base::{Bytes, Cell, GroupId, Items, NoMemory, NodeId, Row, Text, Value};
 use mega_outcome::{Change, Request, Transaction};
-use mega_world::WorldEvent;
+use mega_schedule::WorldEvent;
 use std::alloc::Global;
 
 /// A line of a schedule in its plain spelling.
@@ -158,9 +156,9 @@ pub fn read_line(alloc: Global, line: &[u8]) -> Result<Option<Line>, NoMemory>
 
 /// The event of the put of a name at a node.
 pub fn put_event(alloc: Global, node: u8, name: Text) -> Result<WorldEvent, NoMemory>
-    requires { IsName name }
-    ensures begin { IfOk result (λ event. IsBegin event node) }
-    ensures built { IfOk result IsBuilt }
+    requires least { 1 ≤ node }
+    requires most { node ≤ 3 }
+    ensures { IfOk result (λ event. event ≡ put_event node name) }
 {
     let text = begin_text(alloc, node, &name)?;
     let transaction = put_of(alloc, name)?;
@@ -171,19 +169,37 @@ pub fn put_event(alloc: Global, node: u8, name: Text) -> Result<WorldEvent, NoMe
     })
 }
 
+/// The digit of a node from 1 to 3.
+fn digit_of(node: u8) -> &'static str
+    requires least { 1 ≤ node }
+    requires most { node ≤ 3 }
+    ensures { result.now ≡ (node + 48) ∷ [] }
+{
+    match node {
+        1 => "1",
+        2 => "2",
+        _ => "3",
+    }
+}
+
 /// The line's object, compact, with its keys in ascending order.
-fn begin_text(alloc: Global, node: u8, name: &Text) -> Result<Text, NoMemory> {
-    let name = name.as_str();
-    let text = format!(in alloc;
-        "{{\"checks\":[],\"do\":\"txn\",\"group\":[\"User\",[101]],\"node\":{node},\"reads\":[],\"sends\":[],\"writes\":[{{\"put\":\"User\",\"row\":{{\"name\":\"{name}\",\"user_id\":101}}}}]}}"
-    )?;
-    Ok(Text::from_string(text))
+fn begin_text(alloc: Global, node: u8, name: &Text) -> Result<Text, NoMemory>
+    requires least { 1 ≤ node }
+    requires most { node ≤ 3 }
+    ensures { IfOk result (λ text. text ≡ put_text node name.now) }
+{
+    let mut text = Text::new(alloc);
+    text.push_str("{\"checks\":[],\"do\":\"txn\",\"group\":[\"User\",[101]],\"node\":")?;
+    text.push_str(digit_of(node))?;
+    text.push_str(",\"reads\":[],\"sends\":[],\"writes\":[{\"put\":\"User\",\"row\":{\"name\":\"")?;
+    text.push_str(name.as_str())?;
+    text.push_str("\",\"user_id\":101}}]}")?;
+    Ok(text)
 }
 
 /// The transaction that puts user 101 with this name.
 fn put_of(alloc: Global, name: Text) -> Result<Transaction, NoMemory>
-    requires { IsName name }
-    ensures { IfOk result IsPut }
+    ensures { IfOk result (λ transaction. transaction ≡ put_of name) }
 {
     let row = row_of(alloc, name)?;
     let mut writes = Items::new(alloc);

@@ -1,30 +1,34 @@
-ghost use Rattle.std.specs.Prelude.{◌≡◌, ◌≢◌, ◌≤◌, ◌<◌, ◌+◌, [], ◌∷◌, ℕ, List, Ok, Err, IfSome, IfOk, IfErr, OnOk, OnErr, length, true, false, All};
-ghost use Rattle.std.specs.Io.KnownBytes.{prepend_known, append_known, Appends, IsAtEnd};
-ghost use Rattle.std.specs.Prelude.{Option, drop};
+ghost use Rattle.std.specs.Prelude.{◌≡◌, ◌≢◌, ◌≤◌, ◌<◌, ◌+◌, ◌++◌, [], ℕ, List, Ok, Err, IfOk, IfErr, OnOk, OnErr, length, true, false, All};
+ghost use Rattle.std.specs.Io.KnownBytes.{prepend_known, IsAtEnd};
+ghost use Rattle.std.specs.Prelude.{None, Option, drop, IfSome};
 ghost use Rattle.mega_transcript.specs.Lines.{line as line_of};
 ghost use Rattle.megastore.specs.Texts.{nameless, text_of};
 ghost use Rattle.mega_base.specs.Causes.{Rose};
 ghost use Rattle.mega_io.specs.TextLines.{lines_of};
-ghost use Rattle.mega_transcript.specs.Tape.{newest, is_sent, IsQuiet, Grows};
+ghost use Rattle.mega_transcript.specs.Tape.{newest, IsQuiet};
 ghost use Rattle.mega_transcript.specs.Lines.{HasLine};
-ghost use Rattle.mega_world.specs.Represents.{Represents, opened};
-ghost use Rattle.mega_world.specs.Formed.{IsFormed};
+ghost use Rattle.mega_promises.specs.Runs.{Happening, refusal};
+ghost use Rattle.mega_rules.specs.Examples.{cluster};
+ghost use Rattle.mega_events.specs.Unbuilt.{IsUnbuilt as IsUnbuiltEvent};
 ghost use Rattle.megastore.specs.PlainLines.{IsName};
-ghost use Rattle.megastore.specs.Replaying.{Follows, Differs, Ends, StopsUnbuiltAt, StopsUnsentAt, LeftIsDone, LeftIsUnbuilt, LeftIsRefused, InputDone, InputUnbuilt, InputRefused, IsHeaded, IsOther, IsStep, IsUnbuilt, IsUnsent};
-ghost use Rattle.megastore.specs.Stops.{IsReadStop, IsWriteStop, IsLineStop, IsWorldStop};
+ghost use Rattle.megastore.specs.Progress.{Writes, WritesFront};
+ghost use Rattle.megastore.specs.Running.{IsStanding, StandsAfter, Went, Spells, stood, uncut};
+ghost use Rattle.megastore.specs.Replaying.{Follows, Differs, Ends, StopsUnbuiltAt, StopsRefusedAt, LeftIsDone, LeftIsBegun, LeftIsUnbuilt, LeftIsRefused, CutsLine, InputDone, InputBegun, InputUnbuilt, InputRefused, IsHeaded, IsOther, IsNotBuilt, IsRefused, IsUnbuilt};
+ghost use Rattle.megastore.specs.Stops.{IsReadStop, IsWriteStop, IsLineStop};
 
+use crate::cluster::opened;
 use crate::header::{HEADER_END, HEADER_NODES, HEADER_SCHEMA, Next, next_line};
 use crate::line::{Line, put_event, read_line};
+use crate::quiet::is_quiet;
 use crate::status::Stop;
-use mega_base::{Bytes, Items, Text};
-use mega_io::{LineReader, Sink, SinkError, Source, WriteBuffer};
+use crate::writing::write_piece;
+use mega_base::{Bytes, Items, NoMemory, Text};
+use mega_events::{World, WorldFault};
+use mega_io::{LineReader, Sink, Source};
+use mega_schedule::WorldEvent;
 use mega_schema::Schema;
 use mega_transcript::{Item, Tape, text};
-use mega_world::{World, WorldEvent, WorldFault};
 use std::alloc::Global;
-
-/// The number of nodes in the one header that is built.
-const NODES: u8 = 3;
 
 /// How many lines a schedule may have.
 const LINES: u64 = 1_000_000;
@@ -72,6 +76,52 @@ fn expect_header<I: Source>(
     expect_line(reader, input, line, &HEADER_END)
 }
 
+/// Makes an event happen that a line spells.
+fn happen(
+    alloc: Global,
+    line: &[u8],
+    event: WorldEvent,
+    number: u64,
+    world: &mut World,
+    tape: &mut Tape,
+) -> Result<(), Stop>
+    requires lines { All HasLine tape.old.items }
+    requires standing { IsStanding world.old tape.old.items }
+    requires spelled { Spells line.now (newest tape.old.items) event }
+    ensures state { OnOk result ((done : List (List ℕ)) (events : List Happening) → StandsAfter done events world.old tape.old.items → Went line.now events world.new tape.new.items) }
+    ensures unbuilt { (at : ℕ) → result ≡ Err (Stop.Unbuilt at) → (done : List (List ℕ)) (events : List Happening) → StandsAfter done events world.old tape.old.items → (at ≡ number) × IsNotBuilt line.now (stood events) }
+    ensures refused { (at why : ℕ) → result ≡ Err (Stop.Refused at why) → (done : List (List ℕ)) (events : List Happening) → StandsAfter done events world.old tape.old.items → (at ≡ number) × IsRefused line.now (stood events) why }
+    ensures only { IfErr result IsLineStop }
+    ensures lines { OnOk result (All HasLine tape.new.items) }
+{
+    match world.apply(alloc, event, tape) {
+        Ok(()) => Ok(()),
+        Err(WorldFault::Refused { why }) => Err(Stop::Refused { line: number, why }),
+        Err(WorldFault::Unbuilt) => Err(Stop::Unbuilt { line: number }),
+        Err(WorldFault::DiskFault) => Err(Stop::NoMemory),
+        Err(WorldFault::Full { .. }) => Err(Stop::NoMemory),
+        Err(WorldFault::BadRecord { .. }) => Err(Stop::NoMemory),
+        Err(WorldFault::NoMemory) => Err(Stop::NoMemory),
+    }
+}
+
+/// The event that a line spells, where it is built.
+fn event_of(alloc: Global, line: &[u8], tape: &Tape) -> Result<Option<WorldEvent>, NoMemory>
+    ensures some { IfOk result (λ read. IfSome read (λ event. Spells line.now (newest tape.now.items) event)) }
+    ensures none { result ≡ Ok None → IsUnbuilt line.now (newest tape.now.items) }
+{
+    match read_line(alloc, line)? {
+        Some(Line::Deliver { message }) => Ok(Some(WorldEvent::Deliver { message })),
+        Some(Line::Put { node, name }) => {
+            if !is_quiet(alloc, tape)? {
+                return Ok(None);
+            }
+            Ok(Some(put_event(alloc, node, name)?))
+        }
+        None => Ok(None),
+    }
+}
+
 /// Makes the event of a line happen.
 fn take_line(
     alloc: Global,
@@ -80,82 +130,20 @@ fn take_line(
     world: &mut World,
     tape: &mut Tape,
 ) -> Result<(), Stop>
-    requires formed { IsFormed world.old }
     requires lines { All HasLine tape.old.items }
-    ensures state { OnOk result (Represents 3 world.old (newest tape.old.items) → Represents 3 world.new (newest tape.new.items)) }
-    ensures step { OnOk result (Represents 3 world.old (newest tape.old.items) → IsStep line.now (newest tape.old.items) (newest tape.new.items)) }
-    ensures unbuilt { (at : ℕ) → result ≡ Err (Stop.Unbuilt at) → Represents 3 world.old (newest tape.old.items) → (at ≡ number) × IsUnbuilt line.now (newest tape.old.items) }
-    ensures refused { (at why : ℕ) → result ≡ Err (Stop.Refused at why) → Represents 3 world.old (newest tape.old.items) → (at ≡ number) × IsUnsent line.now (newest tape.old.items) why }
+    requires standing { IsStanding world.old tape.old.items }
+    ensures state { OnOk result ((done : List (List ℕ)) (events : List Happening) → StandsAfter done events world.old tape.old.items → Went line.now events world.new tape.new.items) }
+    ensures unbuilt { (at : ℕ) → result ≡ Err (Stop.Unbuilt at) → (done : List (List ℕ)) (events : List Happening) → StandsAfter done events world.old tape.old.items → (at ≡ number) × IsNotBuilt line.now (stood events) }
+    ensures refused { (at why : ℕ) → result ≡ Err (Stop.Refused at why) → (done : List (List ℕ)) (events : List Happening) → StandsAfter done events world.old tape.old.items → (at ≡ number) × IsRefused line.now (stood events) why }
     ensures only { IfErr result IsLineStop }
-    ensures formed { OnOk result (IsFormed world.new) }
     ensures lines { OnOk result (All HasLine tape.new.items) }
 {
-    match read_line(alloc, line) {
-        Ok(Some(Line::Deliver { message })) => deliver(alloc, message, number, world, tape),
-        Ok(Some(Line::Put { node, name })) => put(alloc, node, name, number, world, tape),
-        Ok(None) => Err(Stop::Unbuilt { line: number }),
-        Err(_) => Err(Stop::NoMemory),
-    }
-}
-
-/// Delivers a message.
-fn deliver(
-    alloc: Global,
-    message: u64,
-    number: u64,
-    world: &mut World,
-    tape: &mut Tape,
-) -> Result<(), Stop>
-    requires formed { IsFormed world.old }
-    requires lines { All HasLine tape.old.items }
-    ensures state { OnOk result (Represents 3 world.old (newest tape.old.items) → Represents 3 world.new (newest tape.new.items)) }
-    ensures items { OnOk result (Represents 3 world.old (newest tape.old.items) → (is_sent (newest tape.old.items) message ≡ true) × Grows (Item.Taken message ∷ newest tape.old.items) (newest tape.new.items)) }
-    ensures refused { (at why : ℕ) → result ≡ Err (Stop.Refused at why) → Represents 3 world.old (newest tape.old.items) → (at ≡ number) × (why ≡ 3) × (is_sent (newest tape.old.items) message ≡ false) }
-    ensures only { IfErr result IsWorldStop }
-    ensures formed { OnOk result (IsFormed world.new) }
-    ensures lines { OnOk result (All HasLine tape.new.items) }
-{
-    match world.apply(alloc, WorldEvent::Deliver { message }, tape) {
-        Ok(()) => Ok(()),
-        Err(WorldFault::Refused { why }) => Err(Stop::Refused { line: number, why }),
-        Err(WorldFault::NoMemory) => Err(Stop::NoMemory),
-    }
-}
-
-/// Puts a name at a node, where every message was taken.
-fn put(
-    alloc: Global,
-    node: u8,
-    name: Text,
-    number: u64,
-    world: &mut World,
-    tape: &mut Tape,
-) -> Result<(), Stop>
-    requires least { 1 ≤ node }
-    requires most { node ≤ 3 }
-    requires formed { IsFormed world.old }
-    requires lines { All HasLine tape.old.items }
-    requires name { IsName name }
-    ensures state { OnOk result (Represents 3 world.old (newest tape.old.items) → Represents 3 world.new (newest tape.new.items)) }
-    ensures items { OnOk result (Represents 3 world.old (newest tape.old.items) → IsQuiet (newest tape.old.items) × Grows (newest tape.old.items) (newest tape.new.items)) }
-    ensures unbuilt { (at : ℕ) → result ≡ Err (Stop.Unbuilt at) → Represents 3 world.old (newest tape.old.items) → (at ≡ number) × (IsQuiet (newest tape.old.items) → ⊥) }
-    ensures refused { (at why : ℕ) → result ≡ Err (Stop.Refused at why) → Represents 3 world.old (newest tape.old.items) → ⊥ }
-    ensures only { IfErr result IsLineStop }
-    ensures formed { OnOk result (IsFormed world.new) }
-    ensures lines { OnOk result (All HasLine tape.new.items) }
-{
-    if !world.is_quiet() {
-        return Err(Stop::Unbuilt { line: number });
-    }
-    let event = match put_event(alloc, node, name) {
-        Ok(event) => event,
+    let event = match event_of(alloc, line, tape) {
+        Ok(Some(event)) => event,
+        Ok(None) => return Err(Stop::Unbuilt { line: number }),
         Err(_) => return Err(Stop::NoMemory),
     };
-    match world.apply(alloc, event, tape) {
-        Ok(()) => Ok(()),
-        Err(WorldFault::Refused { why }) => Err(Stop::Refused { line: number, why }),
-        Err(WorldFault::NoMemory) => Err(Stop::NoMemory),
-    }
+    happen(alloc, line, event, number, world, tape)
 }
 
 /// The schema of no tables: no item that a replay of puts makes names one.
@@ -187,19 +175,19 @@ fn write_from<O: Sink>(
     tape: &Tape,
     from: usize,
     out: &mut O,
-    buffer: &mut WriteBuffer,
+    waiting: &mut Bytes,
 ) -> Result<(), Stop>
     requires { All HasLine tape.now.items }
-    ensures text { OnOk result (Appends (append_known (O.held out.old) buffer.old) (append_known (O.held out.new) buffer.new) (text_of (drop from tape.now.items))) }
+    ensures text { OnOk result (Writes (O.held out.old) (O.held out.new) waiting.new (waiting.old ++ text_of (drop from tape.now.items))) }
+    ensures cut { OnErr result (WritesFront (O.held out.old) (O.held out.new) waiting.new (waiting.old ++ text_of (drop from tape.now.items))) }
     ensures sink { result ≡ Err Stop.Sink → Rose (O.faults out.old) (O.faults out.new) }
     ensures only { IfErr result IsWriteStop }
     ensures count { O.faults out.old ≤ O.faults out.new }
 {
     let schema = nameless(alloc);
-    let mut bytes = Bytes::new(alloc);
     let fresh = items_from(tape, from);
     for item in fresh {
-        match write_item(alloc, &schema, item, &mut bytes, out, buffer) {
+        match write_item(alloc, &schema, item, out, waiting) {
             Ok(()) => {}
             Err(stop) => return Err(stop),
         }
@@ -212,25 +200,23 @@ fn write_item<O: Sink>(
     alloc: Global,
     schema: &Schema,
     item: &Item,
-    bytes: &mut Bytes,
     out: &mut O,
-    buffer: &mut WriteBuffer,
+    waiting: &mut Bytes,
 ) -> Result<(), Stop>
     requires { HasLine item.now }
-    ensures text { OnOk result (Appends (append_known (O.held out.old) buffer.old) (append_known (O.held out.new) buffer.new) (line_of schema.now item.now)) }
+    ensures text { OnOk result (Writes (O.held out.old) (O.held out.new) waiting.new (waiting.old ++ line_of schema.now item.now)) }
+    ensures cut { OnErr result (WritesFront (O.held out.old) (O.held out.new) waiting.new (waiting.old ++ line_of schema.now item.now)) }
     ensures sink { result ≡ Err Stop.Sink → Rose (O.faults out.old) (O.faults out.new) }
     ensures only { IfErr result IsWriteStop }
     ensures count { O.faults out.old ≤ O.faults out.new }
 {
-    bytes.clear();
-    match text(alloc, schema, item, bytes) {
+    match write_piece(out, waiting) {
         Ok(()) => {}
-        Err(_) => return Err(Stop::NoMemory),
+        Err(stop) => return Err(stop),
     }
-    match buffer.put(out, bytes.as_slice()) {
+    match text(alloc, schema, item, waiting) {
         Ok(()) => Ok(()),
-        Err(SinkError::Failed) => Err(Stop::Sink),
-        Err(SinkError::NoMemory) => Err(Stop::NoMemory),
+        Err(_) => Err(Stop::NoMemory),
     }
 }
 
@@ -244,24 +230,24 @@ fn do_line<I: Source, O: Sink>(
     world: &mut World,
     tape: &mut Tape,
     out: &mut O,
-    buffer: &mut WriteBuffer,
+    waiting: &mut Bytes,
 ) -> Result<bool, Stop>
-    requires represents { Represents 3 world.old (newest tape.old.items) }
-    requires formed { IsFormed world.old }
     requires lines { All HasLine tape.old.items }
-    ensures state { result ≡ Ok true → Represents 3 world.new (newest tape.new.items) }
+    requires standing { IsStanding world.old tape.old.items }
+    ensures step { result ≡ Ok true → (done : List (List ℕ)) (events : List Happening) → StandsAfter done events world.old tape.old.items → Went line.new events world.new tape.new.items }
     ensures line { result ≡ Ok true → Follows (prepend_known reader.old (I.left input.old)) (prepend_known reader.new (I.left input.new)) line.new }
-    ensures step { result ≡ Ok true → IsStep line.new (newest tape.old.items) (newest tape.new.items) }
-    ensures text { result ≡ Ok true → Appends (append_known (O.held out.old) buffer.old) (append_known (O.held out.new) buffer.new) (text_of (drop (length tape.old.items) tape.new.items)) }
-    ensures still { result ≡ Ok false → (tape.new.items ≡ tape.old.items) × (append_known (O.held out.new) buffer.new ≡ append_known (O.held out.old) buffer.old) }
+    ensures text { result ≡ Ok true → Writes (O.held out.old) (O.held out.new) waiting.new (waiting.old ++ text_of (drop (length tape.old.items) tape.new.items)) }
+    ensures still { result ≡ Ok false → (tape.new.items ≡ tape.old.items) × (O.held out.new ≡ O.held out.old) × (waiting.new ≡ waiting.old) }
     ensures end { result ≡ Ok false → Ends (prepend_known reader.old (I.left input.old)) × IsAtEnd (I.left input.new) }
-    ensures unbuilt { (at : ℕ) → result ≡ Err (Stop.Unbuilt at) → (at ≡ number) × StopsUnbuiltAt (prepend_known reader.old (I.left input.old)) (newest tape.old.items) }
-    ensures refused { (at why : ℕ) → result ≡ Err (Stop.Refused at why) → (at ≡ number) × StopsUnsentAt (prepend_known reader.old (I.left input.old)) (newest tape.old.items) why }
+    ensures unbuilt { (at : ℕ) → result ≡ Err (Stop.Unbuilt at) → (done : List (List ℕ)) (events : List Happening) → StandsAfter done events world.old tape.old.items → (at ≡ number) × StopsUnbuiltAt (prepend_known reader.old (I.left input.old)) (stood events) }
+    ensures refused { (at why : ℕ) → result ≡ Err (Stop.Refused at why) → (done : List (List ℕ)) (events : List Happening) → StandsAfter done events world.old tape.old.items → (at ≡ number) × StopsRefusedAt (prepend_known reader.old (I.left input.old)) (stood events) why }
+    ensures unbuilt_kept { (at : ℕ) → result ≡ Err (Stop.Unbuilt at) → (O.held out.new ≡ O.held out.old) × (waiting.new ≡ waiting.old) }
+    ensures refused_kept { (at why : ℕ) → result ≡ Err (Stop.Refused at why) → (O.held out.new ≡ O.held out.old) × (waiting.new ≡ waiting.old) }
+    ensures cut { OnErr result ((done : List (List ℕ)) (events : List Happening) → StandsAfter done events world.old tape.old.items → CutsLine (prepend_known reader.old (I.left input.old)) (prepend_known reader.new (I.left input.new)) line.new events world.new tape.old.items tape.new.items (WritesFront (O.held out.old) (O.held out.new) waiting.new) waiting.old) }
     ensures source { result ≡ Err Stop.Source → Rose (I.faults input.old) (I.faults input.new) }
     ensures sink { result ≡ Err Stop.Sink → Rose (O.faults out.old) (O.faults out.new) }
     ensures inputs { I.faults input.old ≤ I.faults input.new }
     ensures outs { O.faults out.old ≤ O.faults out.new }
-    ensures formed { result ≡ Ok true → IsFormed world.new }
     ensures lines { result ≡ Ok true → All HasLine tape.new.items }
 {
     match next_line(reader, input, line) {
@@ -275,7 +261,7 @@ fn do_line<I: Source, O: Sink>(
         Ok(()) => {}
         Err(stop) => return Err(stop),
     }
-    match write_from(alloc, tape, written, out, buffer) {
+    match write_from(alloc, tape, written, out, waiting) {
         Ok(()) => Ok(true),
         Err(stop) => Err(stop),
     }
@@ -290,16 +276,15 @@ fn run_lines<I: Source, O: Sink>(
     world: &mut World,
     tape: &mut Tape,
     out: &mut O,
-    buffer: &mut WriteBuffer,
+    waiting: &mut Bytes,
 ) -> Result<(), Stop>
-    requires represents { Represents 3 world.old (newest tape.old.items) }
-    requires opened { newest tape.old.items ≡ opened 3 }
-    requires formed { IsFormed world.old }
+    requires standing { StandsAfter [] [] world.old tape.old.items }
     requires lines { All HasLine tape.old.items }
-    ensures done { OnOk result ((first : Option (List ℕ)) → Appends first (append_known (O.held out.old) buffer.old) (text_of tape.old.items) → LeftIsDone (prepend_known reader.old (I.left input.old)) first (append_known (O.held out.new) buffer.new)) }
+    ensures done { OnOk result ((first : Option (List ℕ)) → Writes first (O.held out.old) waiting.old (text_of tape.old.items) → LeftIsDone (prepend_known reader.old (I.left input.old)) (Writes first (O.held out.new) waiting.new)) }
     ensures end { OnOk result (IsAtEnd (I.left input.new)) }
-    ensures unbuilt { (at : ℕ) → result ≡ Err (Stop.Unbuilt at) → LeftIsUnbuilt (prepend_known reader.old (I.left input.old)) at }
-    ensures refused { (at why : ℕ) → result ≡ Err (Stop.Refused at why) → LeftIsRefused (prepend_known reader.old (I.left input.old)) at why }
+    ensures unbuilt { (at : ℕ) → result ≡ Err (Stop.Unbuilt at) → (first : Option (List ℕ)) → Writes first (O.held out.old) waiting.old (text_of tape.old.items) → LeftIsUnbuilt (prepend_known reader.old (I.left input.old)) at (Writes first (O.held out.new) waiting.new) }
+    ensures refused { (at why : ℕ) → result ≡ Err (Stop.Refused at why) → (first : Option (List ℕ)) → Writes first (O.held out.old) waiting.old (text_of tape.old.items) → LeftIsRefused (prepend_known reader.old (I.left input.old)) at why (Writes first (O.held out.new) waiting.new) }
+    ensures cut { OnErr result ((first : Option (List ℕ)) → Writes first (O.held out.old) waiting.old (text_of tape.old.items) → LeftIsBegun (prepend_known reader.old (I.left input.old)) (WritesFront first (O.held out.new) waiting.new)) }
     ensures source { result ≡ Err Stop.Source → Rose (I.faults input.old) (I.faults input.new) }
     ensures sink { result ≡ Err Stop.Sink → Rose (O.faults out.old) (O.faults out.new) }
     ensures inputs { I.faults input.old ≤ I.faults input.new }
@@ -315,7 +300,7 @@ fn run_lines<I: Source, O: Sink>(
             world,
             tape,
             out,
-            buffer,
+            waiting,
         ) {
             Ok(true) => {}
             Ok(false) => return Ok(()),
@@ -337,12 +322,14 @@ fn run_schedule<I: Source, O: Sink>(
     input: &mut I,
     line: &mut Bytes,
     out: &mut O,
-    buffer: &mut WriteBuffer,
+    waiting: &mut Bytes,
 ) -> Result<(), Stop>
-    ensures done { OnOk result (LeftIsDone (prepend_known reader.old (I.left input.old)) (append_known (O.held out.old) buffer.old) (append_known (O.held out.new) buffer.new)) }
+    requires { waiting.old ≡ [] }
+    ensures done { OnOk result (LeftIsDone (prepend_known reader.old (I.left input.old)) (Writes (O.held out.old) (O.held out.new) waiting.new)) }
     ensures end { OnOk result (IsAtEnd (I.left input.new)) }
-    ensures unbuilt { (at : ℕ) → result ≡ Err (Stop.Unbuilt at) → LeftIsUnbuilt (prepend_known reader.old (I.left input.old)) at }
-    ensures refused { (at why : ℕ) → result ≡ Err (Stop.Refused at why) → LeftIsRefused (prepend_known reader.old (I.left input.old)) at why }
+    ensures unbuilt { (at : ℕ) → result ≡ Err (Stop.Unbuilt at) → LeftIsUnbuilt (prepend_known reader.old (I.left input.old)) at (Writes (O.held out.old) (O.held out.new) waiting.new) }
+    ensures refused { (at why : ℕ) → result ≡ Err (Stop.Refused at why) → LeftIsRefused (prepend_known reader.old (I.left input.old)) at why (Writes (O.held out.old) (O.held out.new) waiting.new) }
+    ensures cut { OnErr result (LeftIsBegun (prepend_known reader.old (I.left input.old)) (WritesFront (O.held out.old) (O.held out.new) waiting.new)) }
     ensures source { result ≡ Err Stop.Source → Rose (I.faults input.old) (I.faults input.new) }
     ensures sink { result ≡ Err Stop.Sink → Rose (O.faults out.old) (O.faults out.new) }
     ensures inputs { I.faults input.old ≤ I.faults input.new }
@@ -351,32 +338,34 @@ fn run_schedule<I: Source, O: Sink>(
     let mut tape = Tape {
         items: Items::new(alloc),
     };
-    let mut world = match World::new(alloc, NODES, &mut tape) {
+    let mut world = match opened(alloc, &mut tape) {
         Ok(world) => world,
-        Err(_) => return Err(Stop::NoMemory),
+        Err(stop) => return Err(stop),
     };
-    match write_from(alloc, &tape, 0, out, buffer) {
+    match write_from(alloc, &tape, 0, out, waiting) {
         Ok(()) => {}
         Err(stop) => return Err(stop),
     }
     run_lines(
-        alloc, reader, input, line, &mut world, &mut tape, out, buffer,
+        alloc, reader, input, line, &mut world, &mut tape, out, waiting,
     )
 }
 
-/// Reads a header and a schedule, and writes the transcript of what happens, through the buffer. It is
-/// done exactly where every line is a step; it stops at the header where that is another one, and else
-/// at the first line that is not built or is refused.
+/// Reads a header and a schedule, and writes the transcript of what happens; its last bytes may wait.
+/// It is done exactly where every line is a step; it stops at the header where that is another one,
+/// and else at the first line that is not built or is refused.
 pub fn replay<I: Source, O: Sink>(
     alloc: Global,
     input: &mut I,
     out: &mut O,
-    buffer: &mut WriteBuffer,
+    waiting: &mut Bytes,
 ) -> Result<(), Stop>
-    ensures done { OnOk result (InputDone (I.left input.old) (append_known (O.held out.old) buffer.old) (append_known (O.held out.new) buffer.new)) }
+    requires { waiting.old ≡ [] }
+    ensures done { OnOk result (InputDone (I.left input.old) (Writes (O.held out.old) (O.held out.new) waiting.new)) }
     ensures end { OnOk result (IsAtEnd (I.left input.new)) }
-    ensures unbuilt { (at : ℕ) → result ≡ Err (Stop.Unbuilt at) → InputUnbuilt (I.left input.old) at }
-    ensures refused { (at why : ℕ) → result ≡ Err (Stop.Refused at why) → InputRefused (I.left input.old) at why }
+    ensures unbuilt { (at : ℕ) → result ≡ Err (Stop.Unbuilt at) → InputUnbuilt (I.left input.old) at (Writes (O.held out.old) (O.held out.new) waiting.new) }
+    ensures refused { (at why : ℕ) → result ≡ Err (Stop.Refused at why) → InputRefused (I.left input.old) at why (Writes (O.held out.old) (O.held out.new) waiting.new) }
+    ensures cut { OnErr result (InputBegun (I.left input.old) (WritesFront (O.held out.old) (O.held out.new) waiting.new)) }
     ensures source { result ≡ Err Stop.Source → Rose (I.faults input.old) (I.faults input.new) }
     ensures sink { result ≡ Err Stop.Sink → Rose (O.faults out.old) (O.faults out.new) }
     ensures inputs { I.faults input.old ≤ I.faults input.new }
@@ -392,5 +381,5 @@ pub fn replay<I: Source, O: Sink>(
         Ok(false) => return Err(Stop::Unbuilt { line: 0 }),
         Err(stop) => return Err(stop),
     }
-    run_schedule(alloc, &mut reader, input, &mut line, out, buffer)
+    run_schedule(alloc, &mut reader, input, &mut line, out, waiting)
 }

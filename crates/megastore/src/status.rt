@@ -1,6 +1,6 @@
-ghost use Rattle.std.specs.Prelude.{◌≡◌, ◌≤◌};
+ghost use Rattle.std.specs.Prelude.{◌≡◌, ◌++◌, OnOk, OnErr, IsOk};
 
-use mega_io::{Sink, put};
+use mega_base::{Bytes, NoMemory};
 use std::alloc::Global;
 
 /// Why a replay ends before the end of its input. Lines of the schedule are counted from 1; the header
@@ -21,6 +21,8 @@ pub enum Stop {
 
 impl Stop {
     ghost use Rattle.megastore.specs.Statuses.{status_of};
+    ghost use Rattle.megastore.specs.LastLines.{last_line};
+    ghost use Rattle.megastore.specs.Stops.{IsUntold};
 
     /// The status with which the program ends.
     pub fn status(&self) -> u8
@@ -35,17 +37,22 @@ impl Stop {
         }
     }
 
-    /// Writes the last line that tells of the stop, where there is one and it can be written.
-    pub fn tell<O: Sink>(&self, alloc: Global, out: &mut O)
-        ensures { O.faults out.old ≤ O.faults out.new }
+    /// Appends the last line that tells of the stop, where it has one. A refusal leaves `out`.
+    pub fn tell(&self, alloc: Global, out: &mut Bytes) -> Result<(), NoMemory>
+        ensures ok { OnOk result (out.new ≡ out.old ++ last_line self.now) }
+        ensures err { OnErr result (out.new ≡ out.old) }
+        ensures none { IsUntold self.now → IsOk result }
     {
-        let told = match self {
-            Stop::Refused { line, why } => format!(in alloc; "refused {line} world {why}\n"),
-            Stop::Unbuilt { line } => format!(in alloc; "unbuilt {line}\n"),
-            _ => Ok(String::new(alloc)),
-        };
-        if let Ok(last) = told {
-            let _ = put(out, last.as_bytes());
+        match self {
+            Stop::Refused { line, why } => {
+                let told = format!(in alloc; "refused {line} world {why}\n")?;
+                out.extend_from_slice(told.as_bytes())
+            }
+            Stop::Unbuilt { line } => {
+                let told = format!(in alloc; "unbuilt {line}\n")?;
+                out.extend_from_slice(told.as_bytes())
+            }
+            Stop::Source | Stop::Sink | Stop::NoMemory => Ok(()),
         }
     }
 }

@@ -180,3 +180,20 @@ fn a_sink_that_fails_at_a_call_holds_a_front(rt: HostRuntime) -> Result<(), Fail
     }
     Ok(())
 }
+
+#[test]
+fn a_refusal_that_cannot_be_told_is_a_fault_of_the_sink(rt: HostRuntime) -> Result<(), Fail> {
+    let alloc = rt.alloc();
+    let told = format!(in alloc; "{STARTS}refused 1 world 3\n")?;
+    for calls in 0..told.as_bytes().len() {
+        let mut input = source_of(alloc, &[HEADER, "{\"do\":\"deliver\",\"message\":1}\n"])?;
+        let mut out = Narrow {
+            inner: MemSink::new(alloc, vec![in alloc; calls as u64 + 1]?),
+        };
+        let status = run(alloc, replay_words(alloc)?.as_slice(), &mut input, &mut out);
+        assert_eq!(rt; status, 6);
+        assert_eq!(rt; out.inner.bytes().len(), calls);
+        assert!(rt; told.as_bytes().starts_with(out.inner.bytes()));
+    }
+    Ok(())
+}

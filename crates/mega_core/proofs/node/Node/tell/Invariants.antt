@@ -1,5 +1,0 @@
-use Rattle.mega_core.specs.Formed.{IsShown}
-use Rattle.mega_core.proofs.node.Node.tell.Given as goal
-
-abbrev pub invariant-loop-voter : goal.invariant-loop-voter
-invariant-loop-voter l = IsShown l.step
