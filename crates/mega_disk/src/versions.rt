@@ -90,6 +90,7 @@ pub trait Versions {
         ensures marks { marked self.new ≡ marked self.old }
         ensures same { SameImages moment may_open opened_since self.old self.new }
         ensures faults { faults self.new ≡ faults self.old }
+        ensures bad_stays { (n : ℕ) → is_bad self.new n → is_bad self.old n }
         ensures fuse { fuse_left self.new ≡ fuse_left self.old }
         ensures by_fuse { fails_by_fuse self.new ≡ fails_by_fuse self.old };
 
@@ -168,6 +169,7 @@ pub trait Versions {
         ensures marks { marked self.new ≡ marked self.old }
         ensures same { SameImages moment may_open opened_since self.old self.new }
         ensures faults { faults self.new ≡ faults self.old }
+        ensures bad_stays { (n : ℕ) → is_bad self.new n → is_bad self.old n }
         ensures fuse { fuse_left self.new ≡ fuse_left self.old }
         ensures by_fuse { fails_by_fuse self.new ≡ fails_by_fuse self.old };
 
@@ -205,6 +207,7 @@ pub trait Versions {
         ensures full { is_full self.new ≡ is_full self.old }
         ensures same { SameImages moment may_open opened_since self.old self.new }
         ensures faults { faults self.new ≡ faults self.old }
+        ensures bad_stays { (n : ℕ) → is_bad self.new n → is_bad self.old n }
         ensures fuse { fuse_left self.new ≡ set_to calls (fuse_left self.old) }
         ensures by_fuse { fails_by_fuse self.new ≡ fails_by_fuse self.old };
 

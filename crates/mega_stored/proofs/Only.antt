@@ -11,6 +11,7 @@ only_here store x = record {
   faults = refl;
   fuse = refl;
   by_fuse = refl;
+  bad_stays = λ n bad. bad;
 }
 
 pub only_then : {V : Type 0} (store : Ghosts V) (old mid new : V) → OnlyPuts store old mid → OnlyPuts store mid new → OnlyPuts store old new
@@ -25,4 +26,5 @@ only_then store old mid new first second = record {
   faults = second.faults ∙ first.faults;
   fuse = second.fuse ∙ first.fuse;
   by_fuse = second.by_fuse ∙ first.by_fuse;
+  bad_stays = λ n bad. first.bad_stays n (second.bad_stays n bad);
 }

@@ -1,3 +1,4 @@
 pub mod Stored
 pub mod Following
 pub mod Puts
+pub mod Faring

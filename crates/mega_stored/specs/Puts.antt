@@ -1,5 +1,5 @@
 -- What putting versions leaves of the store that holds them.
-use Rattle.std.specs.Prelude.{◌≡◌}
+use Rattle.std.specs.Prelude.{◌≡◌, ℕ}
 use Rattle.mega_disk.specs.Images.{SameImages}
 use Rattle.mega_disk.specs.declared.versions.Versions.{Ghosts}
 
@@ -11,3 +11,4 @@ pub record OnlyPuts {V : Type 0} (store : Ghosts V) (old new : V) : Type 0 where
   pub faults : store.faults new ≡ store.faults old
   pub fuse : store.fuse_left new ≡ store.fuse_left old
   pub by_fuse : store.fails_by_fuse new ≡ store.fails_by_fuse old
+  pub bad_stays : (n : ℕ) → store.is_bad new n → store.is_bad old n
