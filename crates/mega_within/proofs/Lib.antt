@@ -1,0 +1,8 @@
+pub mod Members
+pub mod Rounds
+pub mod Reading
+pub mod Histories
+pub mod Replies
+pub mod Acting
+pub mod Steps
+pub mod Headers

@@ -1,0 +1,4 @@
+pub mod Messages
+pub mod Rounds
+pub mod Reads
+pub mod Nodes
