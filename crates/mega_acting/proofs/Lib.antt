@@ -1,3 +1,4 @@
+mod Refused
 mod Doing
 mod Standing
 mod Going

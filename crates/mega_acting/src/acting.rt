@@ -9,9 +9,11 @@ ghost use Rattle.mega_rules.specs.Operations.{Now, Operation as Open, Proposes, 
 ghost use Rattle.mega_rules.specs.Acting.{completes_read, finishes, goes_on, reader_of, reads_on, seeks_on, unless_decided};
 ghost use Rattle.mega_read.specs.Catching.{seeks};
 ghost use Rattle.mega_stored.specs.Following.{progress_at};
+ghost use Rattle.mega_stored.specs.Faring.{Fares};
 ghost use Rattle.mega_acting.specs.declared.fault.ActFault.TheVariants.{NoMemory as OutOfMemory, Unbuilt};
 ghost use Rattle.mega_voter.specs.Telling.{Tells};
 ghost use Rattle.mega_acting.specs.Built.{is_built};
+ghost use Rattle.mega_acting.specs.Faults.{failed_by};
 ghost use Rattle.mega_acting.specs.Deeds.{does};
 ghost use Rattle.mega_acting.specs.Reaching.{operation_of};
 ghost use Rattle.mega_acting.specs.Stands.{Stands, setting};
@@ -128,6 +130,7 @@ impl<R: Records, V: Versions> Replica<R, V> {
             Stands (setting self.old.members self.old.me h) self.old.voter.logs.kept self.old.leases (V.version self.old.rows.rows) (progress_at self.old.rows.progress) now.met now.stored →
             work.old ≡ work_of now →
             work.new ≡ work_of (finishes (setting self.old.members self.old.me h) again (completes_read (setting self.old.members self.old.me h) now reached.group reached.reading reached.position) (operation_of reached) reached.group reached.reading reached.position)) }
+        ensures fares { Fares V.Versions (failed_by result) self.old.rows.rows self.new.rows.rows }
         ensures members { self.new.members ≡ self.old.members }
         ensures me { self.new.me ≡ self.old.me }
         ensures voter { self.new.voter ≡ self.old.voter }
@@ -161,6 +164,7 @@ impl<R: Records, V: Versions> Replica<R, V> {
     }
 
     /// An operation acts: one whose position is decided ends, and one that reads completes its read, or seeks what is not decided.
+    #[tactic(auto, using(mega_stored::proofs::Fared::fares_here, crate::proofs::Refused::fares_unkept))]
     pub fn acts(
         &mut self,
         alloc: Global,
@@ -174,6 +178,7 @@ impl<R: Records, V: Versions> Replica<R, V> {
         ensures work { OnOk result ((h : Meanings) (now : Now) → V.is_told ≡ true → IsAbout operation →
             Stands (setting self.old.members self.old.me h) self.old.voter.logs.kept self.old.leases (V.version self.old.rows.rows) (progress_at self.old.rows.progress) now.met now.stored →
             work.old ≡ work_of now → work.new ≡ work_of (goes_on (setting self.old.members self.old.me h) now operation)) }
+        ensures fares { Fares V.Versions (failed_by result) self.old.rows.rows self.new.rows.rows }
         ensures members { self.new.members ≡ self.old.members }
         ensures me { self.new.me ≡ self.old.me }
         ensures voter { self.new.voter ≡ self.old.voter }
@@ -206,6 +211,7 @@ impl<R: Records, V: Versions> Replica<R, V> {
     }
 
     /// An operation reads on.
+    #[tactic(auto, using(mega_stored::proofs::Fared::fares_here, crate::proofs::Refused::fares_unkept))]
     fn reads_on(
         &mut self,
         alloc: Global,
@@ -221,6 +227,7 @@ impl<R: Records, V: Versions> Replica<R, V> {
         ensures work { OnOk result ((h : Meanings) (now : Now) (again : Now → Open → Now) → V.is_told ≡ true → IsOf kept.request group →
             Stands (setting self.old.members self.old.me h) self.old.voter.logs.kept self.old.leases (V.version self.old.rows.rows) (progress_at self.old.rows.progress) now.met now.stored →
             work.old ≡ work_of now → work.new ≡ work_of (reads_on (setting self.old.members self.old.me h) again now (whole kept (Reads group reading)) group reading)) }
+        ensures fares { Fares V.Versions (failed_by result) self.old.rows.rows self.new.rows.rows }
         ensures members { self.new.members ≡ self.old.members }
         ensures me { self.new.me ≡ self.old.me }
         ensures voter { self.new.voter ≡ self.old.voter }

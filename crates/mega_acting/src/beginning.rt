@@ -1,4 +1,4 @@
-ghost use Rattle.std.specs.Prelude.{◌≡◌, IfOk, OnOk, Err, [], ◌∷◌, false, true};
+ghost use Rattle.std.specs.Prelude.{◌≡◌, IfOk, OnOk, Err, None, [], ◌∷◌, false, true};
 ghost use Rattle.mega_handler.specs.Named.{Meanings};
 ghost use Rattle.mega_leases.specs.Tells.{Tells as TellsLeases};
 ghost use Rattle.mega_rules.specs.Clock.{clock_of};
@@ -7,9 +7,11 @@ ghost use Rattle.mega_rules.specs.Acting.{read_begun};
 ghost use Rattle.mega_known.specs.About.{IsOf};
 ghost use Rattle.mega_rules.specs.Steps.{begins, new_operation};
 ghost use Rattle.mega_stored.specs.Following.{progress_at};
+ghost use Rattle.mega_stored.specs.Faring.{Fares};
 ghost use Rattle.mega_voter.specs.Telling.{Tells};
 ghost use Rattle.mega_acting.specs.declared.fault.ActFault.TheVariants.{Unbuilt};
 ghost use Rattle.mega_acting.specs.Built.{is_built};
+ghost use Rattle.mega_acting.specs.Faults.{failed_by};
 ghost use Rattle.mega_acting.specs.Stands.{Stands, setting};
 ghost use Rattle.mega_acting.specs.Working.{work_of};
 
@@ -50,6 +52,7 @@ fn read_begun<R: Records>(
 /// The group that a request reads and writes, where it is served.
 fn group_of(alloc: Global, request: &Request) -> Result<GroupId, ActFault>
     ensures group { IfOk result (λ group. (is_built request.now ≡ true) × IsOf request.now group) }
+    ensures apart { failed_by result ≡ None }
     ensures unbuilt { result ≡ Err Unbuilt → is_built request.now ≡ false }
 {
     match request {
@@ -77,6 +80,7 @@ struct FirstRead {
 
 impl<R: Records, V: Versions> Replica<R, V> {
     /// A transaction or a batch begins: it reads its group, and goes on in the same step where that read is local.
+    #[tactic(auto, using(mega_stored::proofs::Fared::fares_here, crate::proofs::Refused::fares_apart))]
     pub fn begins(
         &mut self,
         alloc: Global,
@@ -91,6 +95,7 @@ impl<R: Records, V: Versions> Replica<R, V> {
         ensures work { OnOk result ((h : Meanings) (now : Now) → V.is_told ≡ true →
             Stands (setting self.old.members self.old.me h) self.old.voter.logs.kept self.old.leases (V.version self.old.rows.rows) (progress_at self.old.rows.progress) now.met now.stored →
             work.old ≡ work_of now → work.new ≡ work_of (begins (setting self.old.members self.old.me h) now (new_operation op request (clock_of now.met)))) }
+        ensures fares { Fares V.Versions (failed_by result) self.old.rows.rows self.new.rows.rows }
         ensures members { self.new.members ≡ self.old.members }
         ensures me { self.new.me ≡ self.old.me }
         ensures voter { self.new.voter ≡ self.old.voter }
@@ -128,6 +133,7 @@ impl<R: Records, V: Versions> Replica<R, V> {
             TellsLeases self.now.members self.now.me self.now.leases now.met → first.made ≡ read_begun (setting self.now.members self.now.me h) now o first.group []) }
         ensures visited { IfOk result (λ first. first.visited ≡ first.group ∷ []) }
         ensures group { IfOk result (λ first. (is_built request.now ≡ true) × IsOf request.now first.group) }
+        ensures apart { failed_by result ≡ None }
         ensures unbuilt { result ≡ Err Unbuilt → is_built request.now ≡ false }
     {
         let group = group_of(alloc, request)?;

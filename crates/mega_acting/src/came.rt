@@ -1,9 +1,11 @@
 ghost use Rattle.std.specs.Prelude.{◌≡◌, IfOk, Some, true, false, Err};
 ghost use Rattle.mega_disk.specs.VersionMaps.{SameVersions};
 ghost use Rattle.mega_outcome.specs.Answers.{rows_at};
+ghost use Rattle.mega_stored.specs.Faring.{Fares};
 ghost use Rattle.mega_acting.specs.declared.fault.ActFault.TheVariants.{Unbuilt};
 ghost use Rattle.mega_acting.specs.Built.{is_built};
 ghost use Rattle.mega_acting.specs.Coming.{comes};
+ghost use Rattle.mega_acting.specs.Faults.{failed_by};
 
 use crate::fault::ActFault;
 use crate::outcomes::{batch_at, outcome_at};
@@ -33,6 +35,7 @@ pub(crate) fn is_built(request: &Request) -> bool
 }
 
 /// What a request comes to over the rows at a position.
+#[tactic(auto, using(mega_stored::proofs::Fared::fares_here))]
 pub(crate) fn comes_to<V: Versions>(
     alloc: Global,
     schema: &Schema,
@@ -42,6 +45,7 @@ pub(crate) fn comes_to<V: Versions>(
 ) -> Result<Came, ActFault>
     ensures exact { IfOk result (λ came. V.is_told ≡ true → comes schema.now request.now (rows_at (V.version rows.old) position) ≡ Some came) }
     ensures versions { SameVersions (V.version rows.old) (V.version rows.new) }
+    ensures fares { Fares V.Versions (failed_by result) rows.old rows.new }
     ensures unbuilt { result ≡ Err Unbuilt → is_built request.now ≡ false }
 {
     match request {

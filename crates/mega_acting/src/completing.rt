@@ -8,11 +8,13 @@ ghost use Rattle.mega_rules.specs.Clock.{clock_of};
 ghost use Rattle.mega_rules.specs.Operations.{Now, Operation as Open};
 ghost use Rattle.mega_rules.specs.Acting.{completes_read, finishes, validates};
 ghost use Rattle.mega_leases.specs.Tells.{Tells as TellsLeases};
+ghost use Rattle.mega_stored.specs.Faring.{Fares};
 ghost use Rattle.mega_stored.specs.Following.{Follows, progress_at};
 ghost use Rattle.mega_voter.specs.Telling.{Tells};
 ghost use Rattle.mega_acting.specs.Completed.{completed, stored_through, valid_if};
 ghost use Rattle.mega_acting.specs.declared.fault.ActFault.TheVariants.{Unbuilt};
 ghost use Rattle.mega_acting.specs.Built.{is_built};
+ghost use Rattle.mega_acting.specs.Faults.{failed_by};
 ghost use Rattle.mega_acting.specs.Reaching.{operation_of};
 ghost use Rattle.mega_acting.specs.Stands.{Stands, setting};
 ghost use Rattle.mega_acting.specs.Working.{work_of};
@@ -40,6 +42,7 @@ fn stores_through<R: Records, V: Versions>(
     ensures state { OnOk result ((now : Now) → Tells voter.now.logs.kept now.met →
         Follows (V.version rows.old.rows) (progress_at rows.old.progress) (log_of now.met) now.stored →
         Follows (V.version rows.new.rows) (progress_at rows.new.progress) (log_of now.met) (stored_through now group.now position).stored) }
+    ensures fares { Fares V.Versions (failed_by result) rows.old.rows rows.new.rows }
     ensures built { result ≡ Err Unbuilt → ⊥ }
 {
     match rows.apply_through(alloc, group, &voter.logs, Position(position)) {
@@ -68,6 +71,7 @@ fn validates(
 
 /// A read of a group through a position completes: all that it needs is stored, and the group is made valid where it polled in
 /// an epoch that still serves. Tells whether it was made valid.
+#[tactic(auto, using(crate::proofs::Refused::fares_unkept))]
 fn completes_read<R: Records, V: Versions>(
     alloc: Global,
     voter: &Voter<R>,
@@ -84,6 +88,7 @@ fn completes_read<R: Records, V: Versions>(
         Stands (setting c me h) voter.now.logs.kept leases.old (V.version rows.old.rows) (progress_at rows.old.progress) now.met now.stored →
         Stands (setting c me h) voter.now.logs.kept leases.new (V.version rows.new.rows) (progress_at rows.new.progress)
         (completed now group.now position made).met (completed now group.now position made).stored) }
+    ensures fares { Fares V.Versions (failed_by result) rows.old.rows rows.new.rows }
     ensures built { result ≡ Err Unbuilt → ⊥ }
 {
     stores_through(alloc, voter, rows, group, position)?;
@@ -92,6 +97,7 @@ fn completes_read<R: Records, V: Versions>(
 }
 
 /// The read of an operation completes.
+#[tactic(auto, using(crate::proofs::Refused::fares_unkept))]
 pub(crate) fn reads_through<R: Records, V: Versions>(
     alloc: Global,
     voter: &Voter<R>,
@@ -108,6 +114,7 @@ pub(crate) fn reads_through<R: Records, V: Versions>(
     ensures work { OnOk result ((c : _) (me : _) (h : Meanings) (now : Now) →
         Stands (setting c me h) voter.now.logs.kept leases.old (V.version rows.old.rows) (progress_at rows.old.progress) now.met now.stored →
         work.old ≡ work_of now → work.new ≡ work_of (completes_read (setting c me h) now reached.now.group reached.now.reading reached.now.position)) }
+    ensures fares { Fares V.Versions (failed_by result) rows.old.rows rows.new.rows }
     ensures built { result ≡ Err Unbuilt → ⊥ }
 {
     let made = completes_read(
@@ -124,6 +131,7 @@ pub(crate) fn reads_through<R: Records, V: Versions>(
 }
 
 /// An operation whose read is complete goes on to what it asks.
+#[tactic(auto, using(crate::proofs::Refused::fares_unkept))]
 pub(crate) fn goes<R: Records, V: Versions>(
     alloc: Global,
     members: &Members,
@@ -143,6 +151,7 @@ pub(crate) fn goes<R: Records, V: Versions>(
         reached.position ≤ applied (log_of now.met reached.group) (now.stored reached.group) → clock ≡ clock_of now.met →
         Stands (setting members.now me h) voter.now.logs.kept leases (V.version rows.old.rows) (progress_at rows.old.progress) now.met now.stored →
         work.old ≡ work_of now → work.new ≡ work_of (finishes (setting members.now me h) again now (operation_of reached) reached.group reached.reading reached.position)) }
+    ensures fares { Fares V.Versions (failed_by result) rows.old.rows rows.new.rows }
     ensures unbuilt { result ≡ Err Unbuilt → is_built reached.kept.request ≡ false }
 {
     let deed = reached.finishes(alloc, members, voter, clock, &mut rows.rows)?;

@@ -5,11 +5,13 @@ ghost use Rattle.mega_known.specs.About.{IsOf};
 ghost use Rattle.mega_rules.specs.Clock.{clock_of};
 ghost use Rattle.mega_rules.specs.Operations.{Now, Operation};
 ghost use Rattle.mega_rules.specs.Acting.{finishes};
+ghost use Rattle.mega_stored.specs.Faring.{Fares};
 ghost use Rattle.mega_voter.specs.Telling.{Tells};
 ghost use Rattle.mega_acting.specs.declared.fault.ActFault.TheVariants.{Unbuilt};
 ghost use Rattle.mega_acting.specs.Built.{is_built};
 ghost use Rattle.mega_acting.specs.Coming.{sealed_by};
 ghost use Rattle.mega_acting.specs.Deeds.{does};
+ghost use Rattle.mega_acting.specs.Faults.{failed_by};
 ghost use Rattle.mega_acting.specs.Reaching.{operation_of};
 ghost use Rattle.mega_acting.specs.Sees.{Sees};
 ghost use Rattle.mega_acting.specs.Stands.{setting};
@@ -35,6 +37,7 @@ fn is_limit(members: &Members, position: u64) -> bool
 
 impl Reached {
     /// The operation ends where the log has reached its limit, and else proposes what its request comes to over the rows.
+    #[tactic(auto, using(mega_stored::proofs::Fared::fares_here, crate::proofs::Refused::fares_unkept))]
     pub(crate) fn finishes<R: Records, V: Versions>(
         self,
         alloc: Global,
@@ -48,6 +51,7 @@ impl Reached {
             Sees members.now.schema (V.version rows.old) self.group self.position now → IsOf self.kept.request self.group →
             does now deed ≡ finishes (setting members.now me h) again now (operation_of self) self.group self.reading self.position) }
         ensures versions { SameVersions (V.version rows.old) (V.version rows.new) }
+        ensures fares { Fares V.Versions (failed_by result) rows.old rows.new }
         ensures unbuilt { result ≡ Err Unbuilt → is_built self.kept.request ≡ false }
     {
         if !is_built(&self.kept.request) {

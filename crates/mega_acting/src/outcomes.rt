@@ -2,8 +2,9 @@ ghost use Rattle.std.specs.Prelude.{◌≡◌, ◌≤◌, IfOk, Err, Some, true,
 ghost use Rattle.mega_disk.specs.VersionMaps.{SameVersions};
 ghost use Rattle.mega_outcome.specs.Answers.{rows_at};
 ghost use Rattle.mega_outcome.specs.Outcome.{batch_outcome, outcome};
+ghost use Rattle.mega_stored.specs.Faring.{Fares};
 ghost use Rattle.mega_acting.specs.declared.fault.ActFault.TheVariants.{Unbuilt};
-ghost use Rattle.mega_acting.specs.Faults.{fault_of};
+ghost use Rattle.mega_acting.specs.Faults.{failed_by, fault_of};
 
 use crate::fault::ActFault;
 use mega_base::{GroupId, Position};
@@ -36,6 +37,7 @@ pub(crate) fn outcome_at<V: Versions>(
 ) -> Result<Result<Done, Turn>, ActFault>
     ensures exact { IfOk result (λ came. V.is_told ≡ true → came ≡ outcome schema.now txn.now (rows_at (V.version rows.old) position)) }
     ensures versions { SameVersions (V.version rows.old) (V.version rows.new) }
+    ensures fares { Fares V.Versions (failed_by result) rows.old rows.new }
     ensures built { result ≡ Err Unbuilt → ⊥ }
 {
     match run(alloc, schema, txn, rows, Position(position)) {
@@ -59,6 +61,7 @@ pub(crate) fn batch_at<V: Versions>(
     requires { length txns.now ≤ 16 }
     ensures exact { IfOk result (λ came. V.is_told ≡ true → came ≡ batch_outcome schema.now group.now txns.now (rows_at (V.version rows.old) position)) }
     ensures versions { SameVersions (V.version rows.old) (V.version rows.new) }
+    ensures fares { Fares V.Versions (failed_by result) rows.old rows.new }
     ensures built { result ≡ Err Unbuilt → ⊥ }
 {
     match run_all(alloc, schema, group, txns, rows, Position(position)) {

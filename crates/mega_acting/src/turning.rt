@@ -4,8 +4,10 @@ ghost use Rattle.mega_known.specs.About.{IsAbout};
 ghost use Rattle.mega_rules.specs.Operations.{Now};
 ghost use Rattle.mega_rules.specs.Steps.{acts_in_turn, all_act, ticked};
 ghost use Rattle.mega_stored.specs.Following.{progress_at};
+ghost use Rattle.mega_stored.specs.Faring.{Fares};
 ghost use Rattle.mega_acting.specs.declared.fault.ActFault.TheVariants.{Unbuilt};
 ghost use Rattle.mega_acting.specs.Built.{is_built};
+ghost use Rattle.mega_acting.specs.Faults.{failed_by};
 ghost use Rattle.mega_acting.specs.Stands.{Stands, setting};
 ghost use Rattle.mega_acting.specs.Turns.{IsBuilt, IsBuiltHeard, IsHeardAbout};
 ghost use Rattle.mega_acting.specs.Working.{work_of};
@@ -21,6 +23,7 @@ use std::alloc::Global;
 
 impl<R: Records, V: Versions> Replica<R, V> {
     /// An operation acts that comes to something: what it sends for that goes out first.
+    #[tactic(auto, using(mega_stored::proofs::Fared::fares_here, crate::proofs::Refused::fares_unkept))]
     pub fn acts_in_turn(
         &mut self,
         alloc: Global,
@@ -34,6 +37,7 @@ impl<R: Records, V: Versions> Replica<R, V> {
         ensures work { OnOk result ((h : Meanings) (now : Now) → V.is_told ≡ true → IsHeardAbout heard →
             Stands (setting self.old.members self.old.me h) self.old.voter.logs.kept self.old.leases (V.version self.old.rows.rows) (progress_at self.old.rows.progress) now.met now.stored →
             work.old ≡ work_of now → work.new ≡ work_of (acts_in_turn (setting self.old.members self.old.me h) now heard)) }
+        ensures fares { Fares V.Versions (failed_by result) self.old.rows.rows self.new.rows.rows }
         ensures members { self.new.members ≡ self.old.members }
         ensures me { self.new.me ≡ self.old.me }
         ensures voter { self.new.voter ≡ self.old.voter }
@@ -53,6 +57,7 @@ impl<R: Records, V: Versions> Replica<R, V> {
     }
 
     /// Operations act one after another, each on what those before it left.
+    #[tactic(auto, using(mega_stored::proofs::Fared::fares_here))]
     pub fn all_act(
         &mut self,
         alloc: Global,
@@ -66,6 +71,7 @@ impl<R: Records, V: Versions> Replica<R, V> {
         ensures work { OnOk result ((h : Meanings) (now : Now) → V.is_told ≡ true → All IsHeardAbout heard →
             Stands (setting self.old.members self.old.me h) self.old.voter.logs.kept self.old.leases (V.version self.old.rows.rows) (progress_at self.old.rows.progress) now.met now.stored →
             work.old ≡ work_of now → work.new ≡ work_of (all_act (setting self.old.members self.old.me h) now heard)) }
+        ensures fares { Fares V.Versions (failed_by result) self.old.rows.rows self.new.rows.rows }
         ensures members { self.new.members ≡ self.old.members }
         ensures me { self.new.me ≡ self.old.me }
         ensures voter { self.new.voter ≡ self.old.voter }
@@ -78,6 +84,7 @@ impl<R: Records, V: Versions> Replica<R, V> {
     }
 
     /// An operation at a tick: it ends where its patience has ended, and else does what is due.
+    #[tactic(auto, using(mega_stored::proofs::Fared::fares_here, crate::proofs::Refused::fares_unkept))]
     pub fn ticked(
         &mut self,
         alloc: Global,
@@ -92,6 +99,7 @@ impl<R: Records, V: Versions> Replica<R, V> {
         ensures work { OnOk result ((h : Meanings) (now : Now) → V.is_told ≡ true → IsAbout operation →
             Stands (setting self.old.members self.old.me h) self.old.voter.logs.kept self.old.leases (V.version self.old.rows.rows) (progress_at self.old.rows.progress) now.met now.stored →
             work.old ≡ work_of now → work.new ≡ work_of (ticked (setting self.old.members self.old.me h) clock now operation)) }
+        ensures fares { Fares V.Versions (failed_by result) self.old.rows.rows self.new.rows.rows }
         ensures members { self.new.members ≡ self.old.members }
         ensures me { self.new.me ≡ self.old.me }
         ensures voter { self.new.voter ≡ self.old.voter }
@@ -113,6 +121,7 @@ impl<R: Records, V: Versions> Replica<R, V> {
     }
 
     /// All open operations at a tick, one after another.
+    #[tactic(auto, using(mega_stored::proofs::Fared::fares_here))]
     pub fn all_ticked(
         &mut self,
         alloc: Global,
@@ -127,6 +136,7 @@ impl<R: Records, V: Versions> Replica<R, V> {
         ensures work { OnOk result ((h : Meanings) (now : Now) → V.is_told ≡ true → All IsAbout operations →
             Stands (setting self.old.members self.old.me h) self.old.voter.logs.kept self.old.leases (V.version self.old.rows.rows) (progress_at self.old.rows.progress) now.met now.stored →
             work.old ≡ work_of now → work.new ≡ work_of (fold (ticked (setting self.old.members self.old.me h) clock) now operations)) }
+        ensures fares { Fares V.Versions (failed_by result) self.old.rows.rows self.new.rows.rows }
         ensures members { self.new.members ≡ self.old.members }
         ensures me { self.new.me ≡ self.old.me }
         ensures voter { self.new.voter ≡ self.old.voter }

@@ -1,9 +1,12 @@
-use Rattle.std.proofs.Common.{◌∙◌, fold, ap, subst}
+use Rattle.std.proofs.Common.{◌∙◌, fold, None, ap, subst, rules}
 use Rattle.std.proofs.lemmas.List.Elements.{All-rest}
 use Rattle.std.specs.Vec.Iter.{into_iter_items}
 use Rattle.mega_rules.specs.Operations.{Now}
 use Rattle.mega_rules.specs.Steps.{acts_in_turn}
+use Rattle.mega_stored.specs.Faring.{Fares}
 use Rattle.mega_stored.specs.Following.{progress_at}
+use Rattle.mega_stored.proofs.Fared.{fares_then}
+use Rattle.mega_acting.specs.Faults.{failed_by}
 use Rattle.mega_acting.specs.Stands.{Stands, setting}
 use Rattle.mega_acting.specs.Turns.{IsBuiltHeard, IsHeardAbout}
 use Rattle.mega_acting.specs.Working.{work_of}
@@ -30,5 +33,14 @@ loop-one-preserved g c =
       members = c.in_ok-acts_in_turn.ensures.members ∙ loop.invariant.members;
       me = c.in_ok-acts_in_turn.ensures.me ∙ loop.invariant.me;
       voter = c.in_ok-acts_in_turn.ensures.voter ∙ loop.invariant.voter;
+      fares = fares_then g.V.Versions None before.rows.rows loop.self.rows.rows new.rows.rows loop.invariant.fares c.in_ok-acts_in_turn.ensures.fares;
       built = λ all. All-rest IsBuiltHeard one (into_iter_items c.next.new.self) (into_iter_items loop.one-iterator) c.in-Some.ensures.steps.0 (loop.invariant.built all);
     }
+
+pub returns-in_err-acts_in_turn-clause-fares : goal.returns-in_err-acts_in_turn-clause-fares
+returns-in_err-acts_in_turn-clause-fares g c =
+    let before = c.args.self.now.rows.rows in
+    let mid = c.loop-one.self.rows.rows in
+    let new = c.acts_in_turn.new.self.rows.rows in
+    let rest : Fares g.V.Versions (failed_by c.from_residual.result) mid new = search rules in
+    fares_then g.V.Versions (failed_by c.from_residual.result) before mid new c.loop-one.invariant.fares rest

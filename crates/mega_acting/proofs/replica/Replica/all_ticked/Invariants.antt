@@ -1,10 +1,12 @@
 use Rattle.std.proofs.Common.{◌≡◌, true, All, fold}
+use Rattle.std.specs.Prelude.{None}
 use Rattle.std.specs.Vec.Iter.{into_iter_items}
 use Rattle.mega_handler.specs.Named.{Meanings}
 use Rattle.mega_known.specs.About.{IsAbout}
 use Rattle.mega_rules.specs.Operations.{Now}
 use Rattle.mega_rules.specs.Steps.{ticked}
 use Rattle.mega_stored.specs.Following.{progress_at}
+use Rattle.mega_stored.specs.Faring.{Fares}
 use Rattle.mega_acting.specs.Stands.{Stands, setting}
 use Rattle.mega_acting.specs.Turns.{IsBuilt}
 use Rattle.mega_acting.specs.Working.{work_of}
@@ -22,5 +24,6 @@ invariant-loop-operation g l = record {
   members : l.self.members ≡ l.initial.self.members;
   me : l.self.me ≡ l.initial.self.me;
   voter : l.self.voter ≡ l.initial.self.voter;
+  fares : Fares g.V.Versions None l.initial.self.rows.rows l.self.rows.rows;
   built : All IsBuilt l.fn.operations → All IsBuilt (into_iter_items l.operation-iterator);
 }

@@ -1,5 +1,9 @@
+use Rattle.std.proofs.Common.{None, rules}
 use Rattle.mega_rules.specs.Acting.{completes_read}
 use Rattle.mega_known.proofs.Completed.{completed_applied}
+use Rattle.mega_stored.specs.Faring.{Fares}
+use Rattle.mega_stored.proofs.Fared.{fares_then}
+use Rattle.mega_acting.specs.Faults.{failed_by}
 use Rattle.mega_acting.specs.Stands.{setting}
 use Rattle.mega_acting.proofs.replica.Replica.completes.Goals as goal
 
@@ -21,3 +25,14 @@ returns-clause-work g c h now again told of le r is =
     let after = c.in-Ok.ensures.state self.members self.me h now r in
     c.in_ok-goes.ensures.work self.me h c.reads_through.new.leases then again told of (completed_applied s now reached.group reached.reading reached.position le) (c.now-clock.ensures self.members self.me then.met after.leased) after
     (c.in-Ok.ensures.work self.members self.me h now r is)
+
+pub returns-in_err-goes-clause-fares : goal.returns-in_err-goes-clause-fares
+returns-in_err-goes-clause-fares g c =
+    let before = c.args.self.now.rows.rows in
+    let mid = c.reads_through.new.rows.rows in
+    let new = c.goes.new.rows.rows in
+    let rest : Fares g.V.Versions (failed_by c.from_residual.result) mid new = search rules in
+    fares_then g.V.Versions (failed_by c.from_residual.result) before mid new c.in-Ok.ensures.fares rest
+
+pub returns-clause-fares : goal.returns-clause-fares
+returns-clause-fares g c = fares_then g.V.Versions None c.args.self.now.rows.rows c.reads_through.new.rows.rows c.goes.new.rows.rows c.in-Ok.ensures.fares c.in_ok-goes.ensures.fares
