@@ -13,3 +13,4 @@ pub mod Messages
 pub mod Opened
 pub mod Clocks
 pub mod Refused
+pub mod Failing

@@ -8,10 +8,12 @@ ghost use Rattle.mega_rules.specs.Met.{Met};
 ghost use Rattle.mega_rules.specs.Operations.{Node as RuleNode, Now};
 ghost use Rattle.mega_rules.specs.Members.{is_full};
 ghost use Rattle.mega_rules.specs.Steps.{Begin, at_first, at_open, begins, new_operation, op_of, refusal, unless_refused};
+ghost use Rattle.mega_stored.specs.Faring.{Fares};
 ghost use Rattle.mega_stored.specs.Following.{progress_at};
 ghost use Rattle.mega_voter.specs.Telling.{Tells};
 ghost use Rattle.mega_acting.specs.declared.fault.ActFault.TheVariants.{Unbuilt};
 ghost use Rattle.mega_acting.specs.Built.{is_built};
+ghost use Rattle.mega_acting.specs.Faults.{failed_by};
 ghost use Rattle.mega_acting.specs.Stands.{Stands, setting};
 ghost use Rattle.mega_acting.specs.Working.{work_of};
 ghost use Rattle.mega_node.specs.Acted.{HasActed};
@@ -83,6 +85,7 @@ fn is_built(request: &Request) -> bool
 }
 
 /// An operation begins whose request is served.
+#[tactic(auto, using(mega_stored::proofs::Fared::fares_here))]
 fn serves<R: Records, V: Versions>(
     alloc: Global,
     replica: &mut Replica<R, V>,
@@ -102,6 +105,7 @@ fn serves<R: Records, V: Versions>(
     ensures voter { replica.new.voter ≡ replica.old.voter }
     ensures built { OnOk result (is_built request ≡ true) }
     ensures unbuilt { result ≡ Err Unbuilt → is_built request ≡ false }
+    ensures fares { Fares V.Versions (failed_by result) replica.old.rows.rows replica.new.rows.rows }
 {
     if !is_built(&request) {
         return Err(ActFault::Unbuilt);
@@ -110,6 +114,7 @@ fn serves<R: Records, V: Versions>(
 }
 
 /// An operation begins, unless it is refused.
+#[tactic(auto, using(mega_stored::proofs::Fared::fares_here))]
 fn unless_refused<R: Records, V: Versions>(
     alloc: Global,
     replica: &mut Replica<R, V>,
@@ -130,6 +135,7 @@ fn unless_refused<R: Records, V: Versions>(
     ensures voter { replica.new.voter ≡ replica.old.voter }
     ensures built { OnOk result (refusal ≡ None → is_built request ≡ true) }
     ensures unbuilt { result ≡ Err Unbuilt → is_built request ≡ false }
+    ensures fares { Fares V.Versions (failed_by result) replica.old.rows.rows replica.new.rows.rows }
 {
     match refusal {
         None => serves(alloc, replica, work, op, request),
@@ -154,6 +160,7 @@ impl<R: Records, V: Versions> Node<R, V> {
         ensures members { self.new.replica.members ≡ self.old.replica.members }
         ensures me { self.new.replica.me ≡ self.old.replica.me }
         ensures unbuilt { result ≡ Err Unbuilt → is_built request ≡ false }
+        ensures fares { Fares V.Versions (failed_by result) self.old.replica.rows.rows self.new.replica.rows.rows }
     {
         let op = next_op(&self.replica.voter, self.replica.me, self.begun);
         let refusal = refusal(self.begun, self.open.as_slice());

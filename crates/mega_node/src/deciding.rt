@@ -1,4 +1,4 @@
-ghost use Rattle.std.specs.Prelude.{◌≡◌, ◌<◌, ◌++◌, ◌∷◌, ℕ, List, map, is_none, is_some, Some, true, IfOk, OnOk};
+ghost use Rattle.std.specs.Prelude.{◌≡◌, ◌<◌, ◌++◌, ◌∷◌, ℕ, List, map, is_none, is_some, None, Some, true, IfOk, OnOk};
 ghost use Rattle.mega_base.specs.declared.names.GroupId.{GroupId as Group};
 ghost use Rattle.mega_known.specs.Acted.{or_settled};
 ghost use Rattle.mega_rules.specs.Logs.{decided, log_of};
@@ -6,6 +6,7 @@ ghost use Rattle.mega_rules.specs.Members.{has_rows};
 ghost use Rattle.mega_rules.specs.Met.{Decides, Met};
 ghost use Rattle.mega_rules.specs.Operations.{Setting};
 ghost use Rattle.mega_rules.specs.Steps.{decision_note, first_settled, if_new, onto, stored_after, told_decision};
+ghost use Rattle.mega_stored.specs.Faring.{Fares};
 ghost use Rattle.mega_stored.specs.Following.{Follows, progress_at};
 ghost use Rattle.mega_voter.specs.Telling.{Tells};
 ghost use Rattle.mega_node.specs.Notes.{met_of};
@@ -154,6 +155,7 @@ pub(crate) fn decides<R: Records>(
 }
 
 /// Stores a portion of the group of a decision.
+#[tactic(auto, using(mega_stored::proofs::Fared::fares_by_puts, mega_stored::proofs::Fared::fares_here))]
 pub(crate) fn stores<R: Records, V: Versions>(
     alloc: Global,
     voter: &Voter<R>,
@@ -161,9 +163,10 @@ pub(crate) fn stores<R: Records, V: Versions>(
     most: u64,
     found: &Option<Chosen>,
 ) -> Result<(), NoMemory>
-    ensures { OnOk result ((s : Setting) (met : List Met) (stored : Group → ℕ) → has_rows s.cluster s.me ≡ true → s.cluster.apply ≡ most → Tells voter.now.logs.kept met →
+    ensures follows { OnOk result ((s : Setting) (met : List Met) (stored : Group → ℕ) → has_rows s.cluster s.me ≡ true → s.cluster.apply ≡ most → Tells voter.now.logs.kept met →
         Follows (V.version rows.old.rows) (progress_at rows.old.progress) (log_of met) stored →
         Follows (V.version rows.new.rows) (progress_at rows.new.progress) (log_of met) (stored_after s met stored found.now)) }
+    ensures fares { Fares V.Versions None rows.old.rows rows.new.rows }
 {
     match found {
         Some(found) => match rows.apply_some(alloc, &found.group, &voter.logs, most) {

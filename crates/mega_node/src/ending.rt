@@ -86,6 +86,7 @@ impl<R: Records, V: Versions> Node<R, V> {
             Made (setting self.new.replica.members self.new.replica.me h) made self.new.replica.voter.logs.kept self.new.replica.leases (V.version self.new.replica.rows.rows) (progress_at self.new.replica.rows.progress) self.new.open self.new.begun (ended (setting self.old.replica.members self.old.replica.me h) node own locks durable ((opening ++ now.sends) ++ closing) now)) }
         ensures members { self.new.replica.members ≡ self.old.replica.members }
         ensures me { self.new.replica.me ≡ self.old.replica.me }
+        ensures rows { self.new.replica.rows ≡ self.old.replica.rows }
     {
         let applies = apply_notes(alloc, &self.replica.voter, &self.replica.rows, before)?;
         let Work {

@@ -1,4 +1,4 @@
-ghost use Rattle.std.specs.Prelude.{length, ◌≡◌, ◌≢◌, ◌⊎◌, ◌≤◌, ◌<◌, ◌+◌, ◌^◌, ℕ, List, [], map, None, true, false, IfOk, OnOk, Err};
+ghost use Rattle.std.specs.Prelude.{length, ◌≡◌, ◌≢◌, ◌⊎◌, ◌≤◌, ◌<◌, ◌+◌, ◌^◌, ℕ, List, [], map, None, true, false, IfOk, OnOk, OnErr, Err};
 ghost use Rattle.mega_handler.specs.Named.{Meanings};
 ghost use Rattle.mega_known.specs.Acted.{acted_on, decision_in};
 ghost use Rattle.mega_known.specs.Own.{HasOwnRows};
@@ -7,11 +7,13 @@ ghost use Rattle.mega_rules.specs.Logs.{log_of};
 ghost use Rattle.mega_rules.specs.Members.{is_full};
 ghost use Rattle.mega_rules.specs.Operations.{Node as RuleNode};
 ghost use Rattle.mega_rules.specs.Steps.{Begin, Take, Tick, start, step};
+ghost use Rattle.mega_stored.specs.Faring.{Fares};
 ghost use Rattle.mega_stored.specs.Following.{progress_at};
 ghost use Rattle.mega_wal.specs.Kept.{Represents as Holds};
 ghost use Rattle.mega_acting.specs.Built.{is_built};
 ghost use Rattle.mega_acting.specs.Stands.{setting};
-ghost use Rattle.mega_node.specs.declared.fault.StepFault.TheVariants.{Late, Stranger, Unbuilt};
+ghost use Rattle.mega_node.specs.declared.fault.StepFault.TheVariants.{Late, NoMemory, Stranger, Unbuilt};
+ghost use Rattle.mega_node.specs.Faults.{failed_by};
 ghost use Rattle.mega_node.specs.Notes.{met_of};
 ghost use Rattle.mega_node.specs.Placed.{IsPlaced};
 ghost use Rattle.mega_node.specs.Represents.{Represents};
@@ -61,6 +63,7 @@ impl<R: Records + Drop, V: Versions + Drop> Node<R, V> {
         ensures members { IfOk result (λ node. node.replica.members ≡ cluster) }
         ensures me { IfOk result (λ node. node.replica.me ≡ me) }
         ensures unbuilt { result ≡ Err Unbuilt → Holds logs.kept [] → 255 < length cluster.nodes }
+        ensures only { OnErr result ((result ≡ Err NoMemory) ⊎ (result ≡ Err Unbuilt)) }
     {
         let members = members_of(alloc, cluster)?;
         let voter = voter_of(alloc, logs)?;
@@ -101,6 +104,7 @@ impl<R: Records, V: Versions> Node<R, V> {
         ensures built { result ≡ Err Unbuilt → (h : Meanings) (node : RuleNode) → Represents (setting self.old.replica.members self.old.replica.me h) self.old.replica.voter.logs.kept self.old.replica.leases (V.version self.old.replica.rows.rows) (progress_at self.old.replica.rows.progress) self.old.open self.old.begun node → ⊥ }
         ensures stranger { result ≡ Err Stranger → IsByStranger message.now.from message.now.body }
         ensures late { result ≡ Err Late → (h : Meanings) (node : RuleNode) → Represents (setting self.old.replica.members self.old.replica.me h) self.old.replica.voter.logs.kept self.old.replica.leases (V.version self.old.replica.rows.rows) (progress_at self.old.replica.rows.progress) self.old.open self.old.begun node → IsLate self.old.replica.members message.now.body }
+        ensures fares { Fares V.Versions (failed_by result) self.old.replica.rows.rows self.new.replica.rows.rows }
     {
         let before = positions(alloc, &self.replica.voter, &self.replica.rows)?;
         let opened = mem::replace(&mut self.open, Items::new(alloc));
@@ -134,6 +138,7 @@ impl<R: Records, V: Versions> Node<R, V> {
         ensures unbuilt { result ≡ Err Unbuilt → is_built request ≡ false }
         ensures stranger { result ≢ Err Stranger }
         ensures late { result ≢ Err Late }
+        ensures fares { Fares V.Versions (failed_by result) self.old.replica.rows.rows self.new.replica.rows.rows }
     {
         let before = positions(alloc, &self.replica.voter, &self.replica.rows)?;
         let work = self.begins(alloc, request)?;
@@ -168,6 +173,7 @@ impl<R: Records, V: Versions> Node<R, V> {
         ensures built { result ≡ Err Unbuilt → (h : Meanings) (node : RuleNode) → Represents (setting self.old.replica.members self.old.replica.me h) self.old.replica.voter.logs.kept self.old.replica.leases (V.version self.old.replica.rows.rows) (progress_at self.old.replica.rows.progress) self.old.open self.old.begun node → ⊥ }
         ensures stranger { result ≢ Err Stranger }
         ensures late { result ≢ Err Late }
+        ensures fares { Fares V.Versions (failed_by result) self.old.replica.rows.rows self.new.replica.rows.rows }
     {
         let before = positions(alloc, &self.replica.voter, &self.replica.rows)?;
         let made = ticks(alloc, &mut self.replica, now)?;

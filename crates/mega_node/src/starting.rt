@@ -1,10 +1,10 @@
-ghost use Rattle.std.specs.Prelude.{◌≡◌, ◌⊎◌, ◌<◌, ◌+◌, ◌^◌, ◌∷◌, [], length, true, IfOk, OnOk, Err};
+ghost use Rattle.std.specs.Prelude.{◌≡◌, ◌⊎◌, ◌<◌, ◌+◌, ◌^◌, ◌∷◌, [], length, true, IfOk, OnOk, OnErr, Err};
 ghost use Rattle.mega_leases.specs.Tells.{Tells as TellsLeases};
 ghost use Rattle.mega_rules.specs.Members.{is_full};
 ghost use Rattle.mega_rules.specs.Met.{Starts};
 ghost use Rattle.mega_voter.specs.Telling.{Tells};
 ghost use Rattle.mega_wal.specs.Kept.{Represents as Holds};
-ghost use Rattle.mega_node.specs.declared.fault.StepFault.TheVariants.{Unbuilt};
+ghost use Rattle.mega_node.specs.declared.fault.StepFault.TheVariants.{NoMemory, Unbuilt};
 
 use crate::fault::StepFault;
 use mega_base::NodeId;
@@ -20,6 +20,7 @@ use std::alloc::Global;
 pub(crate) fn members_of(alloc: Global, cluster: Cluster) -> Result<Members, StepFault>
     ensures ok { IfOk result (λ members. members ≡ cluster) }
     ensures many { result ≡ Err Unbuilt → 255 < length cluster.nodes }
+    ensures only { OnErr result ((result ≡ Err NoMemory) ⊎ (result ≡ Err Unbuilt)) }
 {
     match Members::new(alloc, cluster) {
         Ok(members) => Ok(members),
@@ -32,6 +33,7 @@ pub(crate) fn members_of(alloc: Global, cluster: Cluster) -> Result<Members, Ste
 fn first_start<R: Records>(alloc: Global, voter: &mut Voter<R>) -> Result<(), StepFault>
     ensures state { OnOk result (Holds voter.old.logs.kept [] → Tells voter.new.logs.kept (Starts 1 ∷ [])) }
     ensures later { result ≡ Err Unbuilt → Holds voter.old.logs.kept [] → ⊥ }
+    ensures only { OnErr result ((result ≡ Err NoMemory) ⊎ (result ≡ Err Unbuilt)) }
 {
     if voter.start() != 0 {
         return Err(StepFault::Unbuilt);
@@ -49,6 +51,7 @@ pub(crate) fn voter_of<R: Records + Drop>(
 ) -> Result<Voter<R>, StepFault>
     ensures state { IfOk result (λ voter. Holds logs.kept [] → Tells voter.logs.kept (Starts 1 ∷ [])) }
     ensures later { result ≡ Err Unbuilt → Holds logs.kept [] → ⊥ }
+    ensures only { OnErr result ((result ≡ Err NoMemory) ⊎ (result ≡ Err Unbuilt)) }
 {
     let mut voter = Voter::new(logs);
     first_start(alloc, &mut voter)?;

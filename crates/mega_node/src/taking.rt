@@ -1,4 +1,4 @@
-ghost use Rattle.std.specs.Prelude.{◌≡◌, ◌≢◌, ◌++◌, ℕ, List, All, map, true, IfOk, OnOk, Err};
+ghost use Rattle.std.specs.Prelude.{◌≡◌, ◌≢◌, ◌++◌, ℕ, List, All, map, true, None, IfOk, OnOk, Err};
 ghost use Rattle.std.specs.List.{range_with_len};
 ghost use Rattle.mega_base.specs.declared.names.GroupId.{GroupId as Group};
 ghost use Rattle.mega_handler.specs.Named.{Meanings};
@@ -12,13 +12,16 @@ ghost use Rattle.mega_rules.specs.Members.{is_full};
 ghost use Rattle.mega_rules.specs.Met.{Met};
 ghost use Rattle.mega_rules.specs.Operations.{Node as RuleNode, Setting};
 ghost use Rattle.mega_rules.specs.Steps.{Take, all_act, at_first, decide_to, decision_note, first_settled, hears_message, if_new, news, onto, stored_after, told_decision};
+ghost use Rattle.mega_stored.specs.Faring.{Fares};
 ghost use Rattle.mega_stored.specs.Following.{Follows, progress_at};
 ghost use Rattle.mega_voter.specs.Telling.{Tells};
 ghost use Rattle.mega_acting.specs.declared.fault.ActFault.TheVariants as act;
+ghost use Rattle.mega_acting.specs.Faults.{failed_by as failed_to_act};
 ghost use Rattle.mega_acting.specs.Stands.{Stands, setting};
 ghost use Rattle.mega_acting.specs.Turns.{IsBuiltHeard, IsHeardAbout};
 ghost use Rattle.mega_acting.specs.Working.{work_of};
 ghost use Rattle.mega_node.specs.declared.fault.StepFault.TheVariants.{Late, Stranger, Unbuilt};
+ghost use Rattle.mega_node.specs.Faults.{failed_by};
 ghost use Rattle.mega_node.specs.Notes.{met_of};
 ghost use Rattle.mega_node.specs.Placed.{IsPlaced};
 ghost use Rattle.mega_node.specs.Represents.{Represents};
@@ -129,6 +132,7 @@ fn news_by(
 }
 
 /// Decides what a message tells or an operation settled by it, and stores a portion of its group.
+#[tactic(auto, using(mega_stored::proofs::Fared::fares_here))]
 fn decides_by<R: Records, V: Versions>(
     alloc: Global,
     replica: &mut Replica<R, V>,
@@ -143,6 +147,7 @@ fn decides_by<R: Records, V: Versions>(
     ensures members { replica.new.members ≡ replica.old.members }
     ensures me { replica.new.me ≡ replica.old.me }
     ensures leases { replica.new.leases ≡ replica.old.leases }
+    ensures fares { Fares V.Versions None replica.old.rows.rows replica.new.rows.rows }
 {
     let found = decision(alloc, &message.body, heard)?;
     let found = decides(alloc, &mut replica.voter, found)?;
@@ -179,6 +184,7 @@ fn assemble(
 }
 
 /// The node takes a message, as far as its operations act.
+#[tactic(auto, using(mega_stored::proofs::Fared::fares_here, crate::proofs::Failing::fares_from))]
 pub(crate) fn takes<R: Records, V: Versions>(
     alloc: Global,
     replica: &mut Replica<R, V>,
@@ -197,6 +203,8 @@ pub(crate) fn takes<R: Records, V: Versions>(
     ensures built { result ≢ Err Unbuilt }
     ensures stranger { result ≡ Err Stranger → IsByStranger message.now.from message.now.body }
     ensures late { result ≡ Err Late → (met : List Met) → TellsLeases replica.old.members replica.old.me replica.old.leases met → IsLate replica.old.members message.now.body }
+    ensures apart { failed_by result ≡ None }
+    ensures fares { Fares V.Versions None replica.old.rows.rows replica.new.rows.rows }
 {
     let clock = replica.leases.now();
     let heard = all_hear(alloc, &replica.members, clock, message, opened)?;
@@ -231,6 +239,7 @@ pub(crate) fn acts<R: Records, V: Versions>(
     ensures me { replica.new.me ≡ replica.old.me }
     ensures voter { replica.new.voter ≡ replica.old.voter }
     ensures unbuilt { result ≡ Err act.Unbuilt → All IsBuiltHeard heard → ⊥ }
+    ensures fares { Fares V.Versions (failed_to_act result) replica.old.rows.rows replica.new.rows.rows }
 {
     let mut work = Work::new(alloc);
     replica.all_act(alloc, &mut work, heard)?;

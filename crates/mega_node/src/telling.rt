@@ -1,4 +1,4 @@
-ghost use Rattle.std.specs.Prelude.{◌≡◌, ◌≢◌, ◌∷◌, List, map, true, IfOk, OnOk, Err};
+ghost use Rattle.std.specs.Prelude.{◌≡◌, ◌≢◌, ◌∷◌, List, map, true, None, IfOk, OnOk, Err};
 ghost use Rattle.mega_handler.specs.Named.{Meanings};
 ghost use Rattle.mega_leases.specs.Notes.{met_of as leases_met};
 ghost use Rattle.mega_leases.specs.Taking.{IsByStranger, IsLate};
@@ -10,6 +10,7 @@ ghost use Rattle.mega_rules.specs.Steps.{onto, told_notes};
 ghost use Rattle.mega_voter.specs.Telling.{Tells};
 ghost use Rattle.mega_acting.specs.Stands.{setting};
 ghost use Rattle.mega_node.specs.declared.fault.StepFault.TheVariants.{Late, Stranger, Unbuilt};
+ghost use Rattle.mega_node.specs.Faults.{failed_by};
 ghost use Rattle.mega_node.specs.Notes.{met_of};
 
 use crate::fault::StepFault;
@@ -100,6 +101,7 @@ pub(crate) fn of_leases(alloc: Global, more: Items<OfLeases>) -> Result<Items<No
 }
 
 /// The node takes a message: its cell and its coordinator are told, and it replies.
+#[tactic(auto, using(crate::proofs::Failing::taking_is_apart))]
 pub(crate) fn is_told<R: Records, V: Versions>(
     alloc: Global,
     replica: &mut Replica<R, V>,
@@ -119,6 +121,7 @@ pub(crate) fn is_told<R: Records, V: Versions>(
     ensures built { result ≢ Err Unbuilt }
     ensures stranger { result ≡ Err Stranger → IsByStranger message.now.from message.now.body }
     ensures late { result ≡ Err Late → (met : List Met) → TellsLeases replica.old.members replica.old.me replica.old.leases met → IsLate replica.old.members message.now.body }
+    ensures apart { failed_by result ≡ None }
 {
     let mine = vote_reply(alloc, &replica.voter, &message.body)?;
     let told = replica.leases.takes(alloc, message)?;

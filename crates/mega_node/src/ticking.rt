@@ -1,4 +1,4 @@
-ghost use Rattle.std.specs.Prelude.{◌≡◌, ◌++◌, ℕ, List, map, flat_map, fold, true, IfOk, OnOk, Err, All};
+ghost use Rattle.std.specs.Prelude.{◌≡◌, ◌++◌, ℕ, List, map, flat_map, fold, true, None, IfOk, OnOk, Err, All};
 ghost use Rattle.mega_base.specs.declared.names.GroupId.{GroupId as Group};
 ghost use Rattle.mega_handler.specs.Named.{Meanings};
 ghost use Rattle.mega_known.specs.About.{IsAbout};
@@ -12,10 +12,12 @@ ghost use Rattle.mega_rules.specs.Members.{has_rows};
 ghost use Rattle.mega_rules.specs.Met.{Met};
 ghost use Rattle.mega_rules.specs.Operations.{Node as RuleNode, Operation as Open, Setting};
 ghost use Rattle.mega_rules.specs.Steps.{Tick, at_first, background, fetches_for, portion_of, ticked};
+ghost use Rattle.mega_stored.specs.Faring.{Fares};
 ghost use Rattle.mega_stored.specs.Following.{Follows, progress_at};
 ghost use Rattle.mega_stored.specs.Stored.{stored_with};
 ghost use Rattle.mega_voter.specs.Telling.{Tells};
 ghost use Rattle.mega_acting.specs.declared.fault.ActFault.TheVariants as act;
+ghost use Rattle.mega_acting.specs.Faults.{failed_by as failed_to_act};
 ghost use Rattle.mega_acting.specs.Stands.{Stands, setting};
 ghost use Rattle.mega_acting.specs.Turns.{IsBuilt};
 ghost use Rattle.mega_acting.specs.Working.{work_of};
@@ -46,6 +48,7 @@ pub struct Ticked {
 }
 
 /// Stores a portion of a group.
+#[tactic(auto, using(mega_stored::proofs::Fared::fares_by_puts))]
 fn store_portion<R: Records, V: Versions>(
     alloc: Global,
     voter: &Voter<R>,
@@ -53,9 +56,10 @@ fn store_portion<R: Records, V: Versions>(
     most: u64,
     group: &GroupId,
 ) -> Result<(), NoMemory>
-    ensures { OnOk result ((met : List Met) (stored : Group → ℕ) → Tells voter.now.logs.kept met →
+    ensures follows { OnOk result ((met : List Met) (stored : Group → ℕ) → Tells voter.now.logs.kept met →
         Follows (V.version rows.old.rows) (progress_at rows.old.progress) (log_of met) stored →
         Follows (V.version rows.new.rows) (progress_at rows.new.progress) (log_of met) (stored_with stored group.now (after_portion most (log_of met group.now) (stored group.now)))) }
+    ensures fares { Fares V.Versions None rows.old.rows rows.new.rows }
 {
     match rows.apply_some(alloc, group, &voter.logs, most) {
         Ok(()) => Ok(()),
@@ -64,15 +68,17 @@ fn store_portion<R: Records, V: Versions>(
 }
 
 /// Stores a portion of each group.
+#[tactic(auto, using(mega_stored::proofs::Fared::fares_here, mega_stored::proofs::Fared::fares_then))]
 fn store_portions<R: Records, V: Versions>(
     alloc: Global,
     voter: &Voter<R>,
     rows: &mut StoredRows<V>,
     most: u64,
 ) -> Result<(), NoMemory>
-    ensures { OnOk result ((s : Setting) (met : List Met) (stored : Group → ℕ) → has_rows s.cluster s.me ≡ true → s.cluster.apply ≡ most → Tells voter.now.logs.kept met →
+    ensures follows { OnOk result ((s : Setting) (met : List Met) (stored : Group → ℕ) → has_rows s.cluster s.me ≡ true → s.cluster.apply ≡ most → Tells voter.now.logs.kept met →
         Follows (V.version rows.old.rows) (progress_at rows.old.progress) (log_of met) stored →
         Follows (V.version rows.new.rows) (progress_at rows.new.progress) (log_of met) (portion_of s met stored)) }
+    ensures fares { Fares V.Versions None rows.old.rows rows.new.rows }
 {
     let groups = voter.groups(alloc)?;
     for group in groups {
@@ -209,6 +215,7 @@ pub(crate) fn acts_ticked<R: Records, V: Versions>(
     ensures me { replica.new.me ≡ replica.old.me }
     ensures voter { replica.new.voter ≡ replica.old.voter }
     ensures unbuilt { result ≡ Err act.Unbuilt → All IsBuilt operations → ⊥ }
+    ensures fares { Fares V.Versions (failed_to_act result) replica.old.rows.rows replica.new.rows.rows }
 {
     let mut work = Work::new(alloc);
     replica.all_ticked(alloc, &mut work, now, operations)?;
@@ -216,6 +223,7 @@ pub(crate) fn acts_ticked<R: Records, V: Versions>(
 }
 
 /// The node ticks, as far as its operations act.
+#[tactic(auto, using(mega_stored::proofs::Fared::fares_here))]
 pub(crate) fn ticks<R: Records, V: Versions>(
     alloc: Global,
     replica: &mut Replica<R, V>,
@@ -227,6 +235,7 @@ pub(crate) fn ticks<R: Records, V: Versions>(
         HasTicked (setting replica.old.members replica.old.me h) (setting replica.new.members replica.new.me h) made replica.new.voter.logs.kept replica.new.leases (V.version replica.new.rows.rows) (progress_at replica.new.rows.progress) node now) }
     ensures members { replica.new.members ≡ replica.old.members }
     ensures me { replica.new.me ≡ replica.old.me }
+    ensures fares { Fares V.Versions None replica.old.rows.rows replica.new.rows.rows }
 {
     let again = replica.leases.does_again(now);
     let closing = background(alloc, &replica.voter, &replica.members, replica.me, again)?;

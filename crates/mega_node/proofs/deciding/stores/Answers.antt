@@ -8,8 +8,8 @@ use Rattle.mega_known.proofs.Logs.{log_is}
 use Rattle.mega_node.proofs.Portions.{stored_after_is}
 use Rattle.mega_node.proofs.deciding.stores.Goals as goal
 
-pub returns-in-Ok : goal.returns-in-Ok
-returns-in-Ok g c = λ s met stored rows apply tells follows.
+pub returns-in-Ok-clause-follows : goal.returns-in-Ok-clause-follows
+returns-in-Ok-clause-follows g c = λ s met stored rows apply tells follows.
     let d : Decision = record { group = c.found.inside.group; position = c.found.inside.position; entry = c.found.inside.entry } in
     let is : c.args.found.now ≡ Some d = c.in-Some.is ∙ ap (λ (one : Decision). Some one) (sym c.found.view_is) in
     let version = g.V.Versions.version c.apply_some.new.self.rows in
@@ -18,6 +18,6 @@ returns-in-Ok g c = λ s met stored rows apply tells follows.
     (subst (λ (counts : GroupId → ℕ). Follows version progress (log_of met) counts) (λ i other. stored_after_is s met stored c.args.most d rows apply other i)
     (c.in-Ok.ensures.follows (journal_of met) (log_of met) stored tells.journal (log_is met d.group) follows))
 
-pub returns-in-None : goal.returns-in-None
-returns-in-None g c = λ s met stored rows apply tells follows.
+pub returns-in-None-clause-follows : goal.returns-in-None-clause-follows
+returns-in-None-clause-follows g c = λ s met stored rows apply tells follows.
     subst (λ (found : Option Decision). Follows (g.V.Versions.version c.args.rows.now.rows) (progress_at c.args.rows.now.progress) (log_of met) (stored_after s met stored found)) (sym c.in-None.is) follows

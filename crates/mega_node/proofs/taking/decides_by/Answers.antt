@@ -11,7 +11,7 @@ pub returns-clause-follows : goal.returns-clause-follows
 returns-clause-follows g c = λ h met stored full placed tells follows.
     let r = c.args.replica.now in
     let d = c.in_ok-found-2.found in
-    c.in_ok-stores.ensures (setting r.members r.me h) (onto (decision_note d) met) stored (full_has_rows r.members r.me full)
+    c.in_ok-stores.ensures.follows (setting r.members r.me h) (onto (decision_note d) met) stored (full_has_rows r.members r.me full)
     (sym (c.from-most.ensures ∙ ap (λ (one : Cluster). one.apply) c.cluster.ensures))
     (c.in_ok-found-2.ensures.state met placed tells)
     (follows_after (g.V.Versions.version r.rows.rows) (progress_at r.rows.progress) (decision_note d) met stored follows)

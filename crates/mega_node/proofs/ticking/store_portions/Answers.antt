@@ -1,8 +1,9 @@
-use Rattle.std.proofs.Common.{◌≡◌, ◌∙◌, ℕ, [], subst, sym, rules}
+use Rattle.std.proofs.Common.{◌≡◌, ◌∙◌, ℕ, [], None, subst, sym, rules}
 use Rattle.std.specs.Vec.Iter.{into_iter_items, into_iter_len}
 use Rattle.mega_base.specs.declared.names.GroupId.{GroupId}
 use Rattle.mega_rules.specs.Logs.{log_of}
 use Rattle.mega_stored.specs.Following.{Follows, progress_at}
+use Rattle.mega_stored.proofs.Fared.{fares_here, fares_then}
 use Rattle.mega_node.proofs.Left.{nothing_left, one_less}
 use Rattle.mega_node.proofs.Portions.{StoredSo, portion_is, stored_first, stored_next}
 use Rattle.mega_node.proofs.ticking.store_portions.Goals as goal
@@ -13,6 +14,7 @@ loop-group-init g c = record {
   all = λ met stored tells follows.
       subst (StoredSo (g.V.Versions.version c.args.rows.now.rows) (progress_at c.args.rows.now.progress) c.args.most met stored) (sym (c.into_iter-group-iterator.ensures.into_iter_gives.0 ∙ c.in_ok-groups.ensures met tells))
       (stored_first (g.V.Versions.version c.args.rows.now.rows) (progress_at c.args.rows.now.progress) c.args.most met stored follows);
+  fares = fares_here g.V.Versions c.args.rows.now.rows;
 }
 
 pub loop-group-preserved : goal.loop-group-preserved
@@ -22,12 +24,13 @@ loop-group-preserved g c = record {
       let old = c.loop-group.rows in
       let new = c.store_portion.new.rows in
       stored_next (g.V.Versions.version old.rows) (progress_at old.progress) (g.V.Versions.version new.rows) (progress_at new.progress) c.args.most met stored c.in-Some.group (into_iter_items c.next.new.self)
-      (λ counts. c.in_ok-store_portion.ensures met counts tells)
+      (λ counts. c.in_ok-store_portion.ensures.follows met counts tells)
       (subst (StoredSo (g.V.Versions.version old.rows) (progress_at old.progress) c.args.most met stored) c.in-Some.ensures.steps.0 (c.loop-group.invariant.all met stored tells follows));
+  fares = fares_then g.V.Versions None c.args.rows.now.rows c.loop-group.rows.rows c.store_portion.new.rows.rows c.loop-group.invariant.fares c.store_portion.ensures.fares;
 }
 
-pub returns : goal.returns
-returns g c = λ s met stored rows apply tells follows.
+pub returns-clause-follows : goal.returns-clause-follows
+returns-clause-follows g c = λ s met stored rows apply tells follows.
     let none : into_iter_items c.loop-group.group-iterator ≡ [] = nothing_left (into_iter_items c.loop-group.group-iterator) (sym c.loop-group.invariant.count ∙ c.in-None.ensures.steps.0) in
     let new = c.loop-group.rows in
     let version = g.V.Versions.version new.rows in

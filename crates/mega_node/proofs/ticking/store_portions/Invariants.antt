@@ -1,9 +1,10 @@
-use Rattle.std.proofs.Common.{◌≡◌, ℕ, List, length}
+use Rattle.std.proofs.Common.{◌≡◌, ℕ, List, length, None}
 use Rattle.std.specs.Vec.Iter.{into_iter_items, into_iter_len}
 use Rattle.mega_base.specs.declared.names.GroupId.{GroupId}
 use Rattle.mega_rules.specs.Met.{Met}
 use Rattle.mega_rules.specs.Logs.{log_of}
 use Rattle.mega_voter.specs.Telling.{Tells}
+use Rattle.mega_stored.specs.Faring.{Fares}
 use Rattle.mega_stored.specs.Following.{Follows, progress_at}
 use Rattle.mega_node.proofs.Portions.{StoredSo}
 use Rattle.mega_node.proofs.ticking.store_portions.Given as goal
@@ -13,4 +14,5 @@ invariant-loop-group g l = record {
   count : into_iter_len l.group-iterator ≡ length (into_iter_items l.group-iterator);
   all : (met : List Met) (stored : GroupId → ℕ) → Tells l.voter.logs.kept met → Follows (g.V.Versions.version l.fn.rows.rows) (progress_at l.fn.rows.progress) (log_of met) stored
       → StoredSo (g.V.Versions.version l.rows.rows) (progress_at l.rows.progress) l.most met stored (into_iter_items l.group-iterator);
+  fares : Fares g.V.Versions None l.fn.rows.rows l.rows.rows;
 }

@@ -33,7 +33,7 @@ returns-clause-ticked g c = λ h node open_ones begun represents owned.
     let version = g.V.Versions.version c.store_portions.new.rows.rows in
     let progress = progress_at c.store_portions.new.rows.progress in
     let counts = portion_of s node.met node.stored in
-    let stored = c.in_ok-store_portions.ensures s node.met node.stored rows (sym (c.from-most.ensures ∙ ap (λ (one : Cluster). one.apply) c.cluster.ensures)) represents.tells represents.follows in
+    let stored = c.in_ok-store_portions.ensures.follows s node.met node.stored rows (sym (c.from-most.ensures ∙ ap (λ (one : Cluster). one.apply) c.cluster.ensures)) represents.tells represents.follows in
     let lease = lease_notes s node.met now in
     record {
       notes = c.in_ok-notes.ensures ∙ (λ i. lease_is i ++ lapse_is i);
