@@ -3,3 +3,4 @@ pub mod Plain
 pub mod Noting
 pub mod Events
 pub mod Least
+pub mod Quiet

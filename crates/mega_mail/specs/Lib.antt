@@ -1,3 +1,4 @@
 pub mod Carries
 pub mod Plain
 pub mod Stands
+pub mod Waiting

@@ -1,4 +1,4 @@
-ghost use Rattle.std.specs.Prelude.{◌≡◌, ◌+◌, ◌++◌, [], ◌∷◌, List, true, length, OnOk};
+ghost use Rattle.std.specs.Prelude.{◌≡◌, ◌+◌, ◌++◌, [], ◌∷◌, List, true, false, length, OnOk};
 ghost use Rattle.std.specs.Option.{option_copied};
 ghost use Rattle.mega_promises.specs.Items.{numbered};
 ghost use Rattle.mega_promises.specs.Messages.{is_dropped, message_of};
@@ -6,6 +6,7 @@ ghost use Rattle.mega_transcript.specs.declared.item.Item.{Item as OnTape};
 ghost use Rattle.mega_transcript.specs.declared.item.Item.TheVariants as item;
 ghost use Rattle.mega_transcript.specs.Tape.{is_sent, onto, sent_count};
 ghost use Rattle.mega_mail.specs.Carries.{Carries, message_at};
+ghost use Rattle.mega_mail.specs.Waiting.{NoneWaits, SomeWaits};
 
 use mega_base::{Copied, Items, NoMemory};
 use mega_transcript::{Item, Tape};
@@ -56,6 +57,14 @@ impl Mail {
         ensures { (tape : List OnTape) → Carries self.now tape → result ≡ is_dropped tape number }
     {
         self.dropped.contains(&number)
+    }
+
+    /// Whether no message waits: each that was sent was taken or dropped.
+    pub fn is_quiet(&self) -> bool
+        ensures quiet { result ≡ true → (tape : List OnTape) → Carries self.now tape → NoneWaits tape }
+        ensures waits { result ≡ false → (tape : List OnTape) → Carries self.now tape → SomeWaits tape }
+    {
+        self.waiting.is_empty()
     }
 
     /// A message that was sent is taken.
