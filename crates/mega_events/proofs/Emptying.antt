@@ -42,6 +42,7 @@ dropped_at c h cuts now number old new items after r nodes carries is = record {
   mail = drop_stands c h cuts now number old.mail new.mail r.mail carries;
   tape = ap newest is ∙ newest-append items (Dropped number) ∙ ap (λ t. Dropped number ∷ t) r.tape;
   formed = record { cluster = r.formed.cluster; nodes = r.formed.nodes; messages = r.formed.messages };
+  within = record { cells = r.within.cells; nodes = r.within.nodes; messages = r.within.messages };
 }
 
 -- a drain that is cut
@@ -55,6 +56,7 @@ cut_at c now world items after r is = record {
   };
   tape = ap newest is ∙ newest-append items Cut ∙ ap (λ t. Cut ∷ t) r.tape;
   formed = record { cluster = r.formed.cluster; nodes = r.formed.nodes; messages = r.formed.messages };
+  within = record { cells = r.within.cells; nodes = r.within.nodes; messages = r.within.messages };
 }
 
 -- ---- nodes' groups have rows of their own before a drain, where they have them behind it

@@ -15,7 +15,7 @@ use Rattle.mega_rules.specs.Steps.{Event, Step, step}
 use Rattle.mega_formed.specs.Histories.{IsCluster}
 use Rattle.mega_formed.specs.Nodes.{IsEvent, IsNode, IsStep}
 use Rattle.mega_formed.specs.Requests.{AreHandlers}
-use Rattle.mega_formed.specs.Rounds.{AreMessages, IsMember}
+use Rattle.mega_formed.specs.Rounds.{Each, IsMember}
 use Rattle.mega_formed.proofs.Whole.{whole_step as step_formed}
 use Rattle.mega_promises.specs.Items.{numbered, shown}
 use Rattle.mega_promises.specs.Messages.{message_of}
@@ -30,17 +30,17 @@ pub made_formed : (c : Cluster) (h : Meanings) (now : Standing) (me : ℕ) (even
 made_formed c h now me event formed handlers is asked =
     step_formed (setting c h me) (now.node me) event (record { cluster = formed.cluster; me = is_member c me formed.cluster is; handlers = handlers }) (formed.nodes me) asked
 
--- messages of a tape that are all of the format
-abbrev AreFormed : List Item → Type 0
-AreFormed tape = (number : ℕ) (message : Message) → message_of tape number ≡ Some message → IsMessage message
+-- messages of a tape that are all so
+abbrev pub AreAll : (Message → Type 0) → List Item → Type 0
+AreAll P tape = (number : ℕ) (message : Message) → message_of tape number ≡ Some message → P message
 
-sent_formed : (n : ℕ) (ms : List Message) (tape : List Item) → AreMessages ms → AreFormed tape → AreFormed (onto (numbered n ms) tape)
-sent_formed n [] tape each formed = formed
-sent_formed n (m ∷ ms) tape each formed = sent_formed (n + 1) ms (Sent n m ∷ tape) each.1 (λ number message is. by (n == number) number message is)
+sent_all : (P : Message → Type 0) (n : ℕ) (ms : List Message) (tape : List Item) → Each P ms → AreAll P tape → AreAll P (onto (numbered n ms) tape)
+sent_all P n [] tape each all = all
+sent_all P n (m ∷ ms) tape each all = sent_all P (n + 1) ms (Sent n m ∷ tape) each.1 (λ number message is. by (n == number) number message is)
   where
-    by : (t : Bool) (number : ℕ) (message : Message) → cond t (Some m) (message_of tape number) ≡ Some message → IsMessage message
-    by true number message is = let same : m ≡ message = cc in subst IsMessage same each.0
-    by false number message is = formed number message is
+    by : (t : Bool) (number : ℕ) (message : Message) → cond t (Some m) (message_of tape number) ≡ Some message → P message
+    by true number message is = let same : m ≡ message = cc in subst P same each.0
+    by false number message is = all number message is
 
 -- no note is a message's
 shown_silent : (me : ℕ) (one : Met) (tape : List Item) (n : ℕ) → message_of (onto (shown me one) tape) n ≡ message_of tape n
@@ -63,11 +63,19 @@ shown_silent me (Decides group position entry) tape n = refl
 shown_silent me (Applies group position) tape n = refl
 shown_silent me (Answers op answer) tape n = refl
 
-notes_formed : (me : ℕ) (notes : List Met) (tape : List Item) → AreFormed tape → AreFormed (onto (flat_map (shown me) notes) tape)
-notes_formed me [] tape formed = formed
-notes_formed me (one ∷ notes) tape formed =
-    subst AreFormed (sym (onto-append (shown me one) (flat_map (shown me) notes) tape))
-    (notes_formed me notes (onto (shown me one) tape) (λ number message is. formed number message (sym (shown_silent me one tape number) ∙ is)))
+notes_all : (P : Message → Type 0) (me : ℕ) (notes : List Met) (tape : List Item) → AreAll P tape → AreAll P (onto (flat_map (shown me) notes) tape)
+notes_all P me [] tape all = all
+notes_all P me (one ∷ notes) tape all =
+    subst (AreAll P) (sym (onto-append (shown me one) (flat_map (shown me) notes) tape))
+    (notes_all P me notes (onto (shown me one) tape) (λ number message is. all number message (sym (shown_silent me one tape number) ∙ is)))
+
+-- so they are behind a step that sends only such
+pub step_all : (P : Message → Type 0) (me : ℕ) (own tape after : List Item) (notes : List Met) (sends : List Message) → AreAll P tape → Each P sends → ((number : ℕ) → message_of (onto own tape) number ≡ message_of tape number)
+    → after ≡ onto (numbered (sent_count tape + 1) sends) (onto (flat_map (shown me) notes) (onto own tape)) → AreAll P after
+step_all P me own tape after notes sends all each same shows =
+    subst (AreAll P) (sym shows)
+    (sent_all P (sent_count tape + 1) sends (onto (flat_map (shown me) notes) (onto own tape)) each
+    (notes_all P me notes (onto own tape) (λ number message is. all number message (sym (same number) ∙ is))))
 
 pub formed_on : (c : Cluster) (now : Standing) (me : ℕ) (own : List Item) (made : Step) → IsFormed c now → IsStep made → ((number : ℕ) → message_of (onto own now.tape) number ≡ message_of now.tape number)
     → (whole_step c now me own made).tape ≡ onto (numbered (sent_count now.tape + 1) made.sends) (onto (flat_map (shown me) made.notes) (onto own now.tape))
@@ -75,9 +83,7 @@ pub formed_on : (c : Cluster) (now : Standing) (me : ℕ) (own : List Item) (mad
 formed_on c now me own made formed step_is same shows = record {
   cluster = formed.cluster;
   nodes = λ other. by (me == other) other;
-  messages = subst AreFormed (sym shows)
-      (sent_formed (sent_count now.tape + 1) made.sends (onto (flat_map (shown me) made.notes) (onto own now.tape)) step_is.sends
-      (notes_formed me made.notes (onto own now.tape) (λ number message is. formed.messages number message (sym (same number) ∙ is))));
+  messages = step_all IsMessage me own now.tape (whole_step c now me own made).tape made.notes made.sends formed.messages step_is.sends same shows;
 }
   where
     by : (t : Bool) (other : ℕ) → IsNode (cond t made.node (now.node other))

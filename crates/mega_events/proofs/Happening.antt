@@ -8,7 +8,7 @@ use Rattle.mega_base.specs.Codec.{IsBetween}
 use Rattle.mega_base.specs.declared.names.NodeId.{NodeId}
 use Rattle.mega_base.specs.declared.names.OpId.{OpId}
 use Rattle.mega_disk.specs.declared.mem_records.MemRecords.{MemRecords}
-use Rattle.mega_disk.specs.declared.mem_versions.MemVersions.{MemVersions}
+use Rattle.mega_rows.specs.declared.rows.VersionedRows.{VersionedRows}
 use Rattle.mega_cluster.specs.declared.cluster.Cluster.{Cluster}
 use Rattle.mega_handler.specs.Named.{Meanings}
 use Rattle.mega_leases.specs.Taking.{IsByStranger, IsLate}
@@ -31,6 +31,7 @@ use Rattle.mega_rules.specs.Steps.{Begin, Step as RuleStep, Take, op_of, step, T
 use Rattle.mega_known.specs.Acted.{acted_on, decision_in}
 use Rattle.mega_known.specs.Own.{HasOwnRows}
 use Rattle.mega_formed.specs.Nodes.{IsStep}
+use Rattle.mega_within.specs.Nodes.{StepWithin}
 use Rattle.mega_promises.specs.Items.{numbered, shown, number}
 use Rattle.mega_promises.specs.Messages.{message_of}
 use Rattle.mega_promises.specs.Runs.{Cuts, Standing, after_event, setting, up, whole_step, with_items}
@@ -54,6 +55,7 @@ use Rattle.mega_events.proofs.Lining.{notes_lines, sent_lines}
 use Rattle.mega_events.proofs.Owning.{owned_by_step}
 use Rattle.mega_events.proofs.Placing.{placed}
 use Rattle.mega_events.proofs.Staying.{begin_up, take_up, tick_up}
+use Rattle.mega_events.proofs.Within.{made_within, within_on}
 
 -- an event's own items: they are no messages', nothing of leases, and have lines
 pub record AreOwn (c : Cluster) (own : List Item) : Type 0 where
@@ -111,16 +113,17 @@ ups c now me own ruled were is stays other = by (me == other) refl
 
 -- a world that showed a step
 pub shown_at : (c : Cluster) (now : Standing) (me : ℕ) (own : List Item) (ruled : RuleStep) (old new : World) (taken : Mail) (items after : List Item) (made : Step)
-    → IsAt c old items now → AreOwn c own → is_node c me ≡ true → IsStep ruled → is_up ruled.node.met ≡ true
+    → IsAt c old items now → AreOwn c own → is_node c me ≡ true → IsStep ruled → StepWithin c ruled → is_up ruled.node.met ≡ true
     → Makes version_of c new.nodes.items now.node me made ruled → Carries taken (onto own now.tape) → Shows items own taken new.mail me made after
     → IsAt c new after (whole_step c now me own ruled)
-shown_at c now me own ruled old new taken items after made r is there formed stays makes carries shows = record {
+shown_at c now me own ruled old new taken items after made r is there formed within stays makes carries shows = record {
   nodes = makes.members;
   mail = step_stands c now me own ruled old.mail taken new.mail r.mail is.plain (is.silent now.tape) makes.plain carries
       (λ before h. subst (λ ms. Carries new.mail (onto (numbered (sent_count before + 1) ms) before)) makes.sends (shows.carried before h))
       (ups c now me own ruled r.mail.up_are there stays);
   tape = shown_tape c now items own me ruled after is r.tape makes.plain (shown_items c now items own taken new.mail me made ruled after is shows carries makes.notes makes.sends);
   formed = formed_on c now me own ruled r.formed formed (is.messages now.tape) (step_shows c now me own ruled is.plain makes.plain);
+  within = within_on c now me own ruled r.within within (is.messages now.tape) (step_shows c now me own ruled is.plain makes.plain);
 }
 
 -- the items that it added have lines
@@ -165,9 +168,9 @@ pub delivered_at : (c : Cluster) (h : Meanings) (cuts : Cuts) (now : Standing) (
 delivered_at c h cuts now number message old new taken items after made r sound is there makes carries shows =
     subst (IsAt c new after) (sym (delivers c h cuts now number message r.mail.unfused is))
     (shown_at c now message.to (Taken number ∷ []) (step (setting c h message.to) (now.node message.to) (Take message)) old new taken items after made r (taken_own c number) there
-    (taken_formed c h cuts old items now number message r sound is there) (take_up (setting c h message.to) (now.node message.to) message (r.mail.up_are message.to ∙ there)) makes carries shows)
+    (taken_formed c h cuts old items now number message r sound is there) (made_within c h now message.to (Take message) r.within there (r.within.messages number message is)) (take_up (setting c h message.to) (now.node message.to) message (r.mail.up_are message.to ∙ there)) makes carries shows)
 
-pub delivered_lined : (c : Cluster) (h : Meanings) (cuts : Cuts) (now : Standing) (number : ℕ) (message : Message) (old : World) (taken new : Mail) (items after : List Item) (made : Step) (nodes : List (Node MemRecords MemVersions))
+pub delivered_lined : (c : Cluster) (h : Meanings) (cuts : Cuts) (now : Standing) (number : ℕ) (message : Message) (old : World) (taken new : Mail) (items after : List Item) (made : Step) (nodes : List (Node MemRecords VersionedRows))
     → IsAt c old items now → IsSound c h cuts now (Deliver number) → message_of now.tape number ≡ Some message → is_node c message.to ≡ true
     → Makes version_of c nodes now.node message.to made (step (setting c h message.to) (now.node message.to) (Take message))
     → Carries taken (Taken number ∷ now.tape) → Shows items (Taken number ∷ []) taken new message.to made after → All HasLine items → All HasLine after
@@ -235,10 +238,10 @@ begun_at c h cuts now node request text op old new items after made r sound ther
     subst (IsAt c new after) (sym (begins c h cuts now node request text r.mail.unfused))
     (shown_at c now node.0 (shown node.0 (Begins (op_of (setting c h node.0) (now.node node.0).met) text)) (step (setting c h node.0) (now.node node.0) (Begin request text)) old new old.mail items after made r
     (begun_own c (setting c h node.0) (now.node node.0) node.0 text) there (begun_formed c h cuts old items now node request text r sound there)
-    (begin_up (setting c h node.0) (now.node node.0) request text (r.mail.up_are node.0 ∙ there)) makes (begun_carried old.mail now (op_of (setting c h node.0) (now.node node.0).met) text r.mail.carries)
+    (made_within c h now node.0 (Begin request text) r.within there tt) (begin_up (setting c h node.0) (now.node node.0) request text (r.mail.up_are node.0 ∙ there)) makes (begun_carried old.mail now (op_of (setting c h node.0) (now.node node.0).met) text r.mail.carries)
     (subst (λ (one : OpId). Shows items (BeginItem one text ∷ []) old.mail new.mail node.0 made after) named shows))
 
-pub begun_lined : (c : Cluster) (h : Meanings) (cuts : Cuts) (now : Standing) (node : NodeId) (request : Request) (text : List ℕ) (op : OpId) (old : World) (new : Mail) (items after : List Item) (made : Step) (nodes : List (Node MemRecords MemVersions))
+pub begun_lined : (c : Cluster) (h : Meanings) (cuts : Cuts) (now : Standing) (node : NodeId) (request : Request) (text : List ℕ) (op : OpId) (old : World) (new : Mail) (items after : List Item) (made : Step) (nodes : List (Node MemRecords VersionedRows))
     → IsAt c old items now → IsSound c h cuts now (BeginEvent node request text) → is_node c node.0 ≡ true → op ≡ op_of (setting c h node.0) (now.node node.0).met
     → Makes version_of c nodes now.node node.0 made (step (setting c h node.0) (now.node node.0) (Begin request text))
     → Shows items (BeginItem op text ∷ []) old.mail new node.0 made after → All HasLine items → All HasLine after
@@ -283,9 +286,9 @@ ticked_at c h cuts now node clock old new items after made r sound there makes s
     subst (IsAt c new after) (sym (ticks c h cuts now node clock r.mail.unfused))
     (shown_at c now node.0 (TickItem (number node.0) clock ∷ []) (step (setting c h node.0) (now.node node.0) (Tick clock)) old new old.mail items after made r
     (ticked_own c node.0 clock) there (ticked_formed c h cuts old items now node clock r sound there)
-    (tick_up (setting c h node.0) (now.node node.0) clock (r.mail.up_are node.0 ∙ there)) makes (ticked_carried old.mail now node.0 clock r.mail.carries) shows)
+    (made_within c h now node.0 (Tick clock) r.within there tt) (tick_up (setting c h node.0) (now.node node.0) clock (r.mail.up_are node.0 ∙ there)) makes (ticked_carried old.mail now node.0 clock r.mail.carries) shows)
 
-pub ticked_lined : (c : Cluster) (h : Meanings) (cuts : Cuts) (now : Standing) (node : NodeId) (clock : ℕ) (old : World) (new : Mail) (items after : List Item) (made : Step) (nodes : List (Node MemRecords MemVersions))
+pub ticked_lined : (c : Cluster) (h : Meanings) (cuts : Cuts) (now : Standing) (node : NodeId) (clock : ℕ) (old : World) (new : Mail) (items after : List Item) (made : Step) (nodes : List (Node MemRecords VersionedRows))
     → IsAt c old items now → IsSound c h cuts now (TickEvent node clock) → is_node c node.0 ≡ true → Makes version_of c nodes now.node node.0 made (step (setting c h node.0) (now.node node.0) (Tick clock))
     → Shows items (TickItem (number node.0) clock ∷ []) old.mail new node.0 made after → All HasLine items → All HasLine after
 ticked_lined c h cuts now node clock old new items after made nodes r sound there makes shows lined =

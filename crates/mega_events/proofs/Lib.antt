@@ -6,7 +6,9 @@ pub mod Joining
 pub mod Happening
 pub mod Starting
 pub mod Noted
+pub mod Failing
 pub mod Stepped
 pub mod Placing
 pub mod Finding
 pub mod Emptying
+pub mod Within

@@ -19,6 +19,8 @@ use Rattle.mega_rules.specs.Steps.{onto, start, start_items, start_note, start_n
 use Rattle.mega_formed.specs.Histories.{IsCluster}
 use Rattle.mega_formed.specs.Nodes.{IsNode}
 use Rattle.mega_formed.proofs.Steps.{started}
+use Rattle.mega_within.specs.Nodes.{StaysWithin}
+use Rattle.mega_within.proofs.Steps.{first_started}
 use Rattle.mega_promises.specs.Items.{number, shown}
 use Rattle.mega_promises.specs.Messages.{message_of}
 use Rattle.mega_promises.specs.Runs.{Whole, Standing, after_append, empty_node, fated_start, nothing_yet, opening, set_at, setting, whole_start, with_items}
@@ -31,6 +33,7 @@ use Rattle.mega_node.specs.declared.node.Node.{Node}
 use Rattle.mega_events.specs.Formed.{IsFormed}
 use Rattle.mega_events.specs.Members.{AreMembers, AreStarted, IsMember}
 use Rattle.mega_events.specs.Opening.{first_starts}
+use Rattle.mega_events.specs.Within.{RunsWithin}
 use Rattle.mega_events.proofs.Stepped.{IsTold, same_setting}
 
 -- ---- the first start of a node
@@ -179,6 +182,20 @@ opening_formed c h formed = record {
 
     by : (t : Bool) (me : ℕ) → IsNode (cond t (start (setting c h me) 1 [] []) empty_node)
     by true me = started (setting c h me) 1 [] [] (omega arith, omega arith) tt tt
+    by false me = record { met = tt; open_operations = tt }
+
+pub opening_within : (c : Cluster) (h : Meanings) → c.cells ≤ length c.nodes → RunsWithin c (opening c h)
+opening_within c h few = record {
+  cells = few;
+  nodes = λ me. subst (StaysWithin c) (sym (o.node_is me)) (by (is_among (length c.nodes) me) me);
+  messages = λ n message is. let none = ap (λ t. message_of t n) o.tape_is ∙ starts_sent (length c.nodes) n in let no = sym none ∙ is in cc;
+}
+  where
+    o : Opened c h (length c.nodes) (opening c h)
+    o = opening_opened c h
+
+    by : (t : Bool) (me : ℕ) → StaysWithin c (cond t (start (setting c h me) 1 [] []) empty_node)
+    by true me = first_started (setting c h me) 1
     by false me = record { met = tt; open_operations = tt }
 
 pub opening_members : {R V : Type 0} (version : V → Versions) (c : Cluster) (h : Meanings) (nodes : List (Node R V)) → length nodes ≡ length c.nodes → AreStarted version c nodes → AreMembers version c nodes (opening c h).node

@@ -125,7 +125,7 @@ leases_made version wanted c h nodes ruled i me node stepped made event is there
     ap (list_any is_of_leases) (sym (notes_made version wanted c h me node stepped made event (ruled me) (member_at version c nodes ruled i me node is there all) own known steps)) ∙ any_met made.notes ∙ shows
 
 -- a fault that is not built yet is one of these
-pub unbuilt_by : {A : Type 0} (why : StepFault) → fault_of why ≡ Unbuilt → (why ≡ fault.Unbuilt → A) → (why ≡ fault.Stranger → A) → (why ≡ fault.Late → A) → A
+pub unbuilt_by : {A : Type 0} (why : StepFault) → fault_of why ≡ Some Unbuilt → (why ≡ fault.Unbuilt → A) → (why ≡ fault.Stranger → A) → (why ≡ fault.Late → A) → A
 unbuilt_by fault.DiskFault is f g k = cc
 unbuilt_by (fault.Full n) is f g k = cc
 unbuilt_by (fault.BadRecord n) is f g k = cc

@@ -1,14 +1,16 @@
 -- The fault of a world where a node of it did not step.
+use Rattle.std.specs.Prelude.{Option, Some, None}
 use Rattle.mega_node.specs.declared.fault.StepFault.{StepFault}
 use Rattle.mega_node.specs.declared.fault.StepFault.TheVariants as step
 use Rattle.mega_events.specs.declared.fault.WorldFault.{WorldFault}
-use Rattle.mega_events.specs.declared.fault.WorldFault.TheVariants.{BadRecord, DiskFault, Full, NoMemory, Unbuilt}
+use Rattle.mega_events.specs.declared.fault.WorldFault.TheVariants.{NoMemory, Unbuilt}
 
-abbrev pub fault_of : StepFault → WorldFault
-fault_of step.DiskFault = DiskFault
-fault_of (step.Full n) = Full n
-fault_of (step.BadRecord n) = BadRecord n
-fault_of step.Unbuilt = Unbuilt
-fault_of step.Stranger = Unbuilt
-fault_of step.Late = Unbuilt
-fault_of step.NoMemory = NoMemory
+-- none stands for what only a device of rows does, since a world keeps its rows in memory
+abbrev pub fault_of : StepFault → Option WorldFault
+fault_of step.DiskFault = None
+fault_of (step.Full n) = None
+fault_of (step.BadRecord n) = None
+fault_of step.Unbuilt = Some Unbuilt
+fault_of step.Stranger = Some Unbuilt
+fault_of step.Late = Some Unbuilt
+fault_of step.NoMemory = Some NoMemory

@@ -5,3 +5,4 @@ pub mod Opening
 pub mod Shown
 pub mod Stands
 pub mod Unbuilt
+pub mod Within

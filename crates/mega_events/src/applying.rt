@@ -2,6 +2,7 @@ ghost use Rattle.std.specs.Prelude.{◌≡◌, ℕ, OnOk, Err, Some, None};
 ghost use Rattle.std.specs.Prelude.{All};
 ghost use Rattle.mega_cluster.specs.declared.cluster.Cluster.{Cluster};
 ghost use Rattle.mega_handler.specs.Named.{Meanings};
+ghost use Rattle.mega_schedule.specs.declared.world_event.WorldEvent.TheVariants.{Deliver};
 ghost use Rattle.mega_transcript.specs.Lines.{HasLine};
 ghost use Rattle.mega_promises.specs.Runs.{Cuts, Standing, after_event, refusal};
 ghost use Rattle.mega_events.specs.declared.fault.WorldFault.TheVariants.{Refused, Unbuilt};
@@ -34,6 +35,7 @@ impl World {
         ensures tape { (why : ℕ) → result ≡ Err (Refused why) → tape.new.items ≡ tape.old.items }
         ensures unbuilt { result ≡ Err Unbuilt → (c : Cluster) (h : Meanings) (cuts : Cuts) (now : Standing) → IsAt c self.old tape.old.items now → IsSound c h cuts now event →
             IsUnbuilt c h cuts now event }
+        ensures allowed { result ≡ Err Unbuilt → (number : ℕ) → event ≡ Deliver number → (c : Cluster) (now : Standing) → IsAt c self.old tape.old.items now → refusal c now event ≡ None }
     {
         match event {
             WorldEvent::Deliver { message } => self.deliver(alloc, message, tape),

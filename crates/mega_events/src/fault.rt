@@ -1,4 +1,5 @@
-ghost use Rattle.std.specs.Prelude.{◌≡◌};
+ghost use Rattle.std.specs.Prelude.{◌≡◌, Some, None};
+ghost use Rattle.mega_node.specs.Faults.{of_store};
 ghost use Rattle.mega_events.specs.Faults.{fault_of};
 
 use mega_base::NoMemory;
@@ -8,16 +9,11 @@ use mega_node::StepFault;
 #[derive(Clone, Copy, PartialEq, Eq, Debug, Drop)]
 pub enum WorldFault {
     /// The run refuses it, and the world is as it was: 6, there is no such node; 3, no message of that number was sent; 4, it was
-    /// dropped; 1, its receiver is none of the nodes; 5, the node's clock showed a later time; 7, the request names no group or index.
+    /// dropped; 5, the node's clock showed a later time; 7, the request names no group or index. It is never 1, that a message's
+    /// receiver is down: each goes to a node, and all are up.
     Refused { why: u8 },
     /// It is not served yet. After this and all that follow the world is not used again.
     Unbuilt,
-    /// A device of the rows failed.
-    DiskFault,
-    /// A device file would have this length, more than 2^40.
-    Full { length: u64 },
-    /// The bytes that were read of this run are none of the format.
-    BadRecord { number: u64 },
     /// An allocation was refused.
     NoMemory,
 }
@@ -32,15 +28,16 @@ impl From<NoMemory> for WorldFault {
     }
 }
 
-/// The fault of a world where a node of it did not step.
+/// The fault of a world where a node of it did not step; its rows did not fail.
 pub(crate) fn fault_of(fault: StepFault) -> WorldFault
-    ensures { result ≡ fault_of fault }
+    requires { of_store fault ≡ None }
+    ensures { fault_of fault ≡ Some result }
 {
     match fault {
-        StepFault::DiskFault => WorldFault::DiskFault,
-        StepFault::Full { length } => WorldFault::Full { length },
-        StepFault::BadRecord { number } => WorldFault::BadRecord { number },
         StepFault::Unbuilt | StepFault::Stranger | StepFault::Late => WorldFault::Unbuilt,
         StepFault::NoMemory => WorldFault::NoMemory,
+        StepFault::DiskFault | StepFault::Full { .. } | StepFault::BadRecord { .. } => {
+            unreachable!()
+        }
     }
 }

@@ -7,10 +7,12 @@ mod delivering;
 mod draining;
 mod dropping;
 mod fault;
+pub mod laws;
 mod noting;
 mod opening;
 mod stepping;
 mod ticking;
+mod waiting;
 mod world;
 
 pub use fault::WorldFault;

@@ -1,4 +1,4 @@
-ghost use Rattle.std.specs.Prelude.{◌≡◌, ◌⊎◌, ◌≤◌, ◌<◌, ◌+◌, ◌^◌, ◌++◌, ◌∷◌, ℕ, [], length, true, IfOk, OnOk};
+ghost use Rattle.std.specs.Prelude.{◌≡◌, ◌⊎◌, ◌≤◌, ◌<◌, ◌+◌, ◌^◌, ◌++◌, ◌∷◌, ℕ, [], length, true, IfOk, OnOk, OnErr, Err};
 ghost use Rattle.std.specs.Prelude.{All};
 ghost use Rattle.mega_handler.specs.Named.{Meanings};
 ghost use Rattle.mega_transcript.specs.Lines.{HasLine};
@@ -6,6 +6,7 @@ ghost use Rattle.mega_transcript.specs.Tape.{newest};
 ghost use Rattle.mega_rules.specs.Members.{is_full, is_node};
 ghost use Rattle.mega_rules.specs.Steps.{start};
 ghost use Rattle.mega_promises.specs.Runs.{opening, setting};
+ghost use Rattle.mega_events.specs.declared.fault.WorldFault.TheVariants.{NoMemory as OutOfMemory};
 ghost use Rattle.mega_events.specs.Members.{AreStarted, IsMember};
 ghost use Rattle.mega_events.specs.Opening.{first_starts};
 ghost use Rattle.mega_events.specs.Stands.{IsAt, version_of};
@@ -14,26 +15,29 @@ use crate::fault::{WorldFault, fault_of};
 use crate::world::{Member, World};
 use mega_base::{Copied, NoMemory, NodeId};
 use mega_cluster::Cluster;
-use mega_disk::{MemRecords, MemVersions};
+use mega_disk::MemRecords;
 use mega_mail::Mail;
 use mega_node::Node;
+use mega_rows::VersionedRows;
 use mega_transcript::{Item, Tape};
 use mega_wal::Logs;
 use std::alloc::Global;
 
 /// A full node of a cluster at its first start, over logs and rows in memory that hold nothing.
 fn started(alloc: Global, cluster: &Cluster, me: u8) -> Result<Member, WorldFault>
+    requires few { length cluster.now.nodes ≤ 9 }
     requires cells { (cluster.now.cells ≡ 1) ⊎ (cluster.now.cells ≡ 3) ⊎ (cluster.now.cells ≡ 5) }
     requires fits { cluster.now.lease + cluster.now.margin < 2 ^ 64 }
     requires full { is_full cluster.now me ≡ true }
-    ensures { IfOk result (λ node. (h : Meanings) → IsMember version_of cluster.now me node (start (setting cluster.now h me) 1 [] [])) }
+    ensures node { IfOk result (λ node. (h : Meanings) → IsMember version_of cluster.now me node (start (setting cluster.now h me) 1 [] [])) }
+    ensures only { OnErr result (result ≡ Err OutOfMemory) }
 {
     let own = cluster.copy(alloc)?;
     let logs = match Logs::open(alloc, MemRecords::new(alloc)) {
         Ok(logs) => logs,
         Err(_refused) => return Err(WorldFault::NoMemory),
     };
-    match Node::start(alloc, own, me, logs, MemVersions::new(alloc)) {
+    match Node::start(alloc, own, me, logs, VersionedRows::new(alloc)) {
         Ok(node) => Ok(node),
         Err(fault) => Err(fault_of(fault)),
     }
@@ -58,6 +62,7 @@ fn start_all(alloc: Global, cluster: &Cluster, tape: &mut Tape) -> Result<Vec<Me
     ensures nodes { IfOk result (λ nodes. AreStarted version_of cluster.now nodes.items) }
     ensures tape { OnOk result (newest tape.new.items ≡ first_starts (length cluster.now.nodes)) }
     ensures lines { OnOk result (All HasLine tape.new.items) }
+    ensures only { OnErr result (result ≡ Err OutOfMemory) }
 {
     let mut nodes = Vec::new(alloc);
     let count = cluster.nodes.len() as u8;
@@ -84,9 +89,11 @@ impl World {
         requires cells { (cluster.now.cells ≡ 1) ⊎ (cluster.now.cells ≡ 3) ⊎ (cluster.now.cells ≡ 5) }
         requires fits { cluster.now.lease + cluster.now.margin < 2 ^ 64 }
         requires limit { (cluster.now.limit).0 ≤ 1000000 }
+        requires housed { cluster.now.cells ≤ length cluster.now.nodes }
         requires full { (me : ℕ) → is_node cluster.now me ≡ true → is_full cluster.now me ≡ true }
         ensures state { IfOk result (λ world. (h : Meanings) → IsAt cluster.now world tape.new.items (opening cluster.now h)) }
         ensures lines { OnOk result (All HasLine tape.new.items) }
+        ensures only { OnErr result (result ≡ Err OutOfMemory) }
     {
         let nodes = match start_all(alloc, cluster, tape) {
             Ok(nodes) => nodes,

@@ -2,12 +2,13 @@ ghost use Rattle.std.specs.Prelude.{◌≡◌, ◌≤◌, length, true};
 ghost use Rattle.mega_cluster.specs.declared.cluster.Cluster.{Cluster};
 ghost use Rattle.mega_rules.specs.Members.{is_node};
 
-use mega_disk::{MemRecords, MemVersions};
+use mega_disk::MemRecords;
 use mega_mail::Mail;
 use mega_node::Node;
+use mega_rows::VersionedRows;
 
 /// A node whose logs and rows are in memory.
-pub(crate) type Member = Node<MemRecords, MemVersions>;
+pub(crate) type Member = Node<MemRecords, VersionedRows>;
 
 /// The nodes of a cluster, all full and up, and all messages between them.
 #[derive(Drop)]

@@ -17,7 +17,7 @@ loop-before-preserved c =
     let before = c.loop-before.before in
     let were = c.loop-before.invariant in record {
       count = ap length c.in_ok-add.ensures ∙ length_last nodes c.in-Ok.node before were.count;
-      each = subst (AreStarted version_of c.args.cluster.now) (sym c.in_ok-add.ensures) (started_more version_of c.args.cluster.now nodes c.in-Ok.node before were.count were.each c.in-Ok.ensures);
+      each = subst (AreStarted version_of c.args.cluster.now) (sym c.in_ok-add.ensures) (started_more version_of c.args.cluster.now nodes c.in-Ok.node before were.count were.each c.in-Ok.ensures.node);
       tape = ap newest c.in_ok-push.ensures.ok ∙ starts_more items before were.tape;
       lines = subst (All HasLine) (sym c.in_ok-push.ensures.ok) (All-push HasLine items (Start (number (before + 1)) 1) were.lines tt);
     }

@@ -2,6 +2,7 @@ use Rattle.std.proofs.Common.{◌-◌, ◌∙◌, ap, inr, refl, sym}
 use Rattle.mega_rules.specs.Operations.{Node as RuleNode, Setting}
 use Rattle.mega_rules.specs.Steps.{Begin}
 use Rattle.mega_events.specs.Stands.{version_of}
+use Rattle.mega_events.proofs.Failing.{no_rows}
 use Rattle.mega_events.proofs.Stepped.{Steps, counted, found, leases_made, makes_step, member_at}
 use Rattle.mega_events.proofs.stepping.begin_at.Goals as goal
 
@@ -49,3 +50,6 @@ returns-then-shows_leases-clause-unbuilt c unbuilt cluster h ruled all own =
     } in
     inr (leases_made version_of wanted cluster h c.args.nodes.now.items ruled i me node c.begin.new.self c.in-Ok.made (Begin c.args.request c.args.text.now) (counted i me at c.requires.least) there all own tt steps
     (sym c.shows_leases.ensures ∙ c.if-shows_leases.true))
+
+pub fault_of-requires : goal.fault_of-requires
+fault_of-requires c = no_rows _ c.in-Err.fault c.index_mut-node.result.now.replica.rows.rows c.begin.new.self.replica.rows.rows c.in-Err.ensures.fares (λ x. refl) (λ x n bad. bad)

@@ -1,10 +1,11 @@
-use Rattle.std.proofs.Common.{◌≡◌, ◌-◌, ◌∙◌, Err, ap, inl, inr, refl, sym}
+use Rattle.std.proofs.Common.{◌≡◌, ◌-◌, ◌∙◌, Err, Some, ap, inl, inr, refl, sym}
 use Rattle.mega_rules.specs.Operations.{Node as RuleNode, Setting}
 use Rattle.mega_rules.specs.Steps.{Take}
 use Rattle.mega_known.specs.Acted.{decision_in}
 use Rattle.mega_node.specs.Placed.{IsPlaced}
 use Rattle.mega_events.specs.declared.fault.WorldFault.TheVariants.{Unbuilt}
 use Rattle.mega_events.specs.Stands.{version_of}
+use Rattle.mega_events.proofs.Failing.{no_rows}
 use Rattle.mega_events.proofs.Stepped.{Steps, counted, found, late_to, leases_made, makes_step, member_at, told_own, unbuilt_by}
 use Rattle.mega_events.proofs.stepping.take_at.Goals as goal
 
@@ -53,7 +54,10 @@ returns-in-Err-clause-unbuilt c unbuilt cluster h ruled all own known =
     let there = found c.args.nodes.now.items i me node at c.requires.least c.requires.most c.index_mut-node.ensures.value in
     let one = member_at version_of cluster c.args.nodes.now.items ruled i me node (counted i me at c.requires.least) there all in
     let is : c.fault_of.result ≡ Unbuilt = cc in
-    unbuilt_by c.in-Err.fault (sym c.fault_of.ensures ∙ is)
+    unbuilt_by c.in-Err.fault (c.fault_of.ensures ∙ ap Some is)
     (λ same. absurd (c.in-Err.ensures.built (ap Err same) h (ruled me) (told_own version_of cluster h me node (ruled me) one)))
     (λ same. inl (c.in-Err.ensures.stranger (ap Err same)))
     (λ same. inr (inl (late_to version_of cluster me node (ruled me) c.args.message.now.body one (c.in-Err.ensures.late (ap Err same) h (ruled me) (told_own version_of cluster h me node (ruled me) one)))))
+
+pub fault_of-requires : goal.fault_of-requires
+fault_of-requires c = no_rows _ c.in-Err.fault c.index_mut-node.result.now.replica.rows.rows c.take.new.self.replica.rows.rows c.in-Err.ensures.fares (λ x. refl) (λ x n bad. bad)

@@ -1,6 +1,6 @@
 use Rattle.std.proofs.Common.{◌-◌, [], ap, subst}
 use Rattle.mega_disk.specs.declared.mem_records.MemRecords.{MemRecords}
-use Rattle.mega_disk.specs.declared.mem_versions.MemVersions.{MemVersions}
+use Rattle.mega_rows.specs.declared.rows.VersionedRows.{VersionedRows}
 use Rattle.mega_leases.specs.Tells.{Tells}
 use Rattle.mega_node.specs.declared.node.Node.{Node}
 use Rattle.mega_events.specs.Stands.{version_of}
@@ -16,4 +16,4 @@ returns c cluster now all =
     let there = found c.args.nodes.now i me node at c.requires.least c.requires.most c.index-nodes-from.is in
     let one = member_at version_of cluster c.args.nodes.now now.node i me node (counted i me at c.requires.least) there all in
     let told = one.told [] in
-    c.now.ensures cluster me (now.node me).met (subst (λ (n : Node MemRecords MemVersions). Tells cluster me n.replica.leases (now.node me).met) c.index-nodes-from.is told.leased)
+    c.now.ensures cluster me (now.node me).met (subst (λ (n : Node MemRecords VersionedRows). Tells cluster me n.replica.leases (now.node me).met) c.index-nodes-from.is told.leased)

@@ -1,5 +1,5 @@
 use Rattle.mega_events.specs.Stands.{version_of}
-use Rattle.mega_events.proofs.Starting.{cells_few, opening_formed, opening_members, opening_stands, opening_tape}
+use Rattle.mega_events.proofs.Starting.{cells_few, opening_formed, opening_members, opening_stands, opening_tape, opening_within}
 use Rattle.mega_events.proofs.world.World.new.Goals as goal
 
 pub returns-clause-state : goal.returns-clause-state
@@ -9,4 +9,5 @@ returns-clause-state c h =
       mail = opening_stands cluster h c.new.result c.new.ensures;
       tape = opening_tape cluster h c.start_all.new.tape.items c.in-Ok.ensures.tape;
       formed = opening_formed cluster h (record { nodes = c.requires.few; cells = cells_few cluster.cells c.requires.cells; limit = c.requires.limit });
+      within = opening_within cluster h c.requires.housed;
     }
