@@ -1,4 +1,4 @@
-pub mod Counting
+pub mod Calm
 pub mod Lines
 pub mod Inputs
 pub mod Progress
@@ -7,3 +7,5 @@ pub mod Texts
 pub mod Steps
 pub mod Cuts
 pub mod Users
+pub mod Headers
+pub mod Waits

@@ -1,5 +1,5 @@
 -- The run of the events that lines spell: it is a run, it keeps what laws of runs say, and its events are of the format.
-use Rattle.std.proofs.Common.{Bool, zero, suc, not, ◌&&◌, ◌≡◌, ℕ, ◌+◌, ◌-◌, ◌≤◌, Option, Some, None, Ok, List, [], ◌∷◌, ◌++◌, length, drop, take, true, false, if◌then◌else◌, refl, sym, ◌∙◌, ap, subst, inl, inr, append_assoc, append-nil, length-append, arith, rules}
+use Rattle.std.proofs.Common.{Bool, zero, suc, not, ⊎_elim, ◌&&◌, ◌≡◌, ℕ, ◌+◌, ◌-◌, ◌≤◌, Option, Some, None, Ok, List, [], ◌∷◌, ◌++◌, length, drop, take, true, false, if◌then◌else◌, refl, sym, ◌∙◌, ap, subst, inl, inr, append_assoc, append-nil, length-append, arith, rules}
 use Rattle.std.specs.Prelude.{flat_map}
 use Rattle.std.proofs.Math.Seq.{drop-append_seam, take-append_seam}
 use Rattle.mega_syntax.specs.Reading.{word_at, name_at, items_at, name_step, names_at, need_at, property_at, property_step, properties_at, group_at, inside_at, entity_at, clause_at, clause_step, table_at, storing_at, index_at, change_at, created_at, statement_at, placed_step, schema_at}
@@ -10,8 +10,12 @@ use Rattle.mega_schedule.specs.declared.world_event.WorldEvent.TheVariants.{Deli
 use Rattle.mega_outcome.specs.declared.request.Request.TheVariants.{Txn}
 use Rattle.mega_transcript.specs.declared.item.Item.{Item}
 use Rattle.mega_transcript.specs.declared.item.Item.TheVariants.{Taken, Unsafe}
-use Rattle.mega_transcript.specs.Tape.{newest, sent_count}
+use Rattle.mega_transcript.specs.Tape.{is_sent, newest, sent_count}
 use Rattle.mega_wire.specs.declared.message.Message.{Message}
+use Rattle.mega_wire.specs.declared.message.Body.{Body}
+use Rattle.mega_wire.specs.declared.message.Body.TheVariants.{Where, Top, Accept, Accepted, Refused, Prepare, Promise, Invalidate, Invalidated, Dead, Held, Unheld, Decide, Fetch, Have, HaveNot, Acquire, Granted, Past, Request as Requested, Reply}
+use Rattle.mega_leases.specs.Taking.{IsLate}
+use Rattle.mega_timeless.specs.Timeless.{is_about_leases}
 use Rattle.mega_rules.specs.Examples.{cluster}
 use Rattle.mega_rules.specs.Members.{is_node}
 use Rattle.mega_rules.specs.Operations.{Node}
@@ -21,13 +25,13 @@ use Rattle.mega_known.specs.Own.{HasOwnRows}
 use Rattle.mega_rules.specs.Logs.{log_of}
 use Rattle.mega_rules.specs.Steps.{Event, Step, crashed, Take, Begin as Start, op_of, step}
 use Rattle.mega_promises.specs.Messages.{is_unsafe, message_of}
-use Rattle.mega_promises.specs.Runs.{CutByData, CutByLog, Fate, Happening, IsRun, Standing, Whole, after_event, appends, at_node, because, breaks, fate_of, fated, goes_on, handed, met_in, opening, refusal, replies_in, set_at, setting, unless_refused, up, with_item, with_items}
+use Rattle.mega_promises.specs.Runs.{CutByData, CutByLog, Fate, Happening, IsRun, Standing, Whole, after_event, appends, at_node, because, breaks, fate_of, fated, goes_on, handed, met_in, opening, receiver_down, refusal, replies_in, set_at, setting, unless_refused, up, with_item, with_items}
 use Rattle.mega_cluster.specs.declared.cluster.Cluster.{Cluster}
 use Rattle.mega_formed.specs.Requests.{IsRequest}
 use Rattle.mega_events.specs.declared.world.World.{World}
 use Rattle.mega_events.specs.Formed.{IsSound, IsAsked}
 use Rattle.mega_events.specs.Stands.{IsAt}
-use Rattle.mega_events.specs.Unbuilt.{IsUnbuilt as IsUnbuiltEvent}
+use Rattle.mega_events.specs.Unbuilt.{IsUnbuilt as IsUnbuiltEvent, IsUntaken}
 use Rattle.mega_laws.specs.Indexed.{IsDeclared}
 use Rattle.mega_laws.proofs.Agreement.{agreement}
 use Rattle.mega_laws.proofs.Answered.{serial}
@@ -38,8 +42,11 @@ use Rattle.mega_owned.proofs.Nodes.{node_owns}
 use Rattle.megastore.specs.PlainLines.{IsName}
 use Rattle.megastore.specs.Users.{meaning, name_in, put_event, put_of, put_text, text_after, text_before, text_between, usage}
 use Rattle.megastore.specs.Running.{AllHappen, Happens, Replayed, Spells, Went, in_turn, schema_text, stood, uncut}
-use Rattle.megastore.specs.Replaying.{IsRefused, IsUnserved}
+use Rattle.megastore.specs.Replaying.{IsRefused}
 use Rattle.megastore.proofs.Users.{put_asked}
+use Rattle.megastore.proofs.Calm.{IsCalm, delivery_shows, put_shows}
+use Rattle.mega_mail.specs.Plain.{shows_leases}
+use Rattle.mega_events.proofs.Within.{delivery_refused as unsent_or_dropped}
 
 -- the run over events, the newest first, is that over the events in order
 turned : (events rest : List Happening) → goes_on cluster uncut (opening cluster []) (in_turn events rest) ≡ goes_on cluster uncut (stood events) rest
@@ -196,22 +203,82 @@ put_allowed world items now node name at least most =
     let there = node_there node least most in
     ap (λ (b : Bool). because (not b) 6 (because (not (up now node)) 1 None)) there ∙ ap (λ (b : Bool). because (not b) 1 None) (at.mail.up_are node ∙ there)
 
-pub refused_here : (world : World) (items : List Item) (now : Standing) (line : List ℕ) (event : WorldEvent) (why : ℕ) → IsAt cluster world items now → Spells line now.tape event → refusal cluster now event ≡ Some why → IsRefused line now why
-refused_here world items now line event why at (inl delivery) refused =
-    record { message = delivery.0; delivers = delivery.1; refused = subst (λ (e : WorldEvent). refusal cluster now e ≡ Some why) delivery.2 refused }
-refused_here world items now line event why at (inr put) refused =
+-- a delivery is refused only where the message was not sent
+delivery_refused : (world : World) (items : List Item) (now : Standing) (number why : ℕ) → IsAt cluster world items now → IsCalm now → refusal cluster now (Deliver number) ≡ Some why
+    → (is_sent now.tape number ≡ false) × (why ≡ 3)
+delivery_refused world items now number why at calm refused =
+    by (is_sent now.tape number) refl (ap (λ (b : Bool). because (not (is_sent now.tape number)) 3 (because b 4 (because (receiver_down now (message_of now.tape number)) 1 None))) (sym (calm.undropped number)) ∙ refused)
+  where
+    by : (sent : Bool) → is_sent now.tape number ≡ sent → because (not (is_sent now.tape number)) 3 (because false 4 (because (receiver_down now (message_of now.tape number)) 1 None)) ≡ Some why
+        → (is_sent now.tape number ≡ false) × (why ≡ 3)
+    by true is found =
+        let same : because (receiver_down now (message_of now.tape number)) 1 None ≡ Some why =
+            ap (λ (b : Bool). because (not b) 3 (because false 4 (because (receiver_down now (message_of now.tape number)) 1 None))) (sym is) ∙ found in
+        absurd (reached (receiver_down now (message_of now.tape number)) same)
+      where
+        reached : (down : Bool) → because down 1 None ≡ Some why → ⊥
+        reached true is_one = ⊎_elim (λ three. let one : 1 ≡ why = cc in omega (arith, one, three)) (λ four. let one : 1 ≡ why = cc in omega (arith, one, four)) (unsent_or_dropped cluster now number why at.mail.up_are at.within refused)
+        reached false is_none = cc
+    by false is found =
+        let same : Some 3 ≡ Some why = ap (λ (b : Bool). because (not b) 3 (because false 4 (because (receiver_down now (message_of now.tape number)) 1 None))) (sym is) ∙ found in
+        (is, cc)
+
+pub refused_here : (world : World) (items : List Item) (now : Standing) (line : List ℕ) (event : WorldEvent) (why : ℕ) → IsAt cluster world items now → IsCalm now → Spells line now.tape event → refusal cluster now event ≡ Some why
+    → IsRefused line now.tape why
+refused_here world items now line event why at calm (inl delivery) refused =
+    let told = delivery_refused world items now delivery.0 why at calm (subst (λ (e : WorldEvent). refusal cluster now e ≡ Some why) delivery.2 refused) in
+    record { message = delivery.0; delivers = delivery.1; unsent = told.0; reason = told.1 }
+refused_here world items now line event why at calm (inr put) refused =
     let allowed = put_allowed world items now put.0 put.1 at put.2.least put.2.most in
     let same : ◌≡◌ {A = Option ℕ} None (Some why) = sym allowed ∙ subst (λ (e : WorldEvent). refusal cluster now e ≡ Some why) put.4 refused in
     cc
 
-pub unserved_here : (world : World) (items : List Item) (now : Standing) (line : List ℕ) (event : WorldEvent) → IsAt cluster world items now → Spells line now.tape event
-    → (refusal cluster now event ≡ None → IsUnbuiltEvent cluster [] uncut now event) → IsUnserved line now
-unserved_here world items now line event at (inl delivery) unserved =
-    inl (delivery.0, delivery.1, subst (λ (e : WorldEvent). refusal cluster now e ≡ None → IsUnbuiltEvent cluster [] uncut now e) delivery.2 unserved)
-unserved_here world items now line event at (inr put) unserved =
-    inr (
-      put.0,
-      put.1,
-      put.2,
-      subst (λ (e : WorldEvent). refusal cluster now e ≡ None → IsUnbuiltEvent cluster [] uncut now e) put.4 unserved (put_allowed world items now put.0 put.1 at put.2.least put.2.most),
-    )
+-- neither a put nor a delivery is anything that the world does not serve
+true_is_false : true ≡ false → ⊥
+true_is_false is = cc
+
+not_both : (b : Bool) → b ≡ true → b ≡ false → ⊥
+not_both b is is_not = cc
+
+late_is_of_leases : (c : Cluster) (body : Body) → is_about_leases body ≡ false → IsLate c body → ⊥
+late_is_of_leases c (Granted cell epoch clock) plain late = true_is_false plain
+late_is_of_leases c (Where op group) plain late = late
+late_is_of_leases c (Top op group position) plain late = late
+late_is_of_leases c (Accept op group position ballot entry) plain late = late
+late_is_of_leases c (Accepted op group position ballot entry) plain late = late
+late_is_of_leases c (Refused op group position asked shown entry) plain late = late
+late_is_of_leases c (Prepare op group position ballot) plain late = late
+late_is_of_leases c (Promise op group position ballot accepted) plain late = late
+late_is_of_leases c (Invalidate op group position) plain late = late
+late_is_of_leases c (Invalidated op group position) plain late = late
+late_is_of_leases c (Dead op cell node) plain late = late
+late_is_of_leases c (Held op cell node) plain late = late
+late_is_of_leases c (Unheld op cell node) plain late = late
+late_is_of_leases c (Decide group position entry) plain late = late
+late_is_of_leases c (Fetch op group position) plain late = late
+late_is_of_leases c (Have op group position entry) plain late = late
+late_is_of_leases c (HaveNot op group position) plain late = late
+late_is_of_leases c (Acquire cell epoch clock) plain late = late
+late_is_of_leases c (Past cell epoch greatest) plain late = late
+late_is_of_leases c (Requested token json) plain late = late
+late_is_of_leases c (Reply token text) plain late = late
+
+message_served : (now : Standing) (number : ℕ) (found : Option Message) → message_of now.tape number ≡ found → IsCalm now → IsUntaken cluster [] now found → ⊥
+message_served now number None is calm unserved = unserved
+message_served now number (Some m) is calm unserved =
+    ⊎_elim (late_is_of_leases cluster m.body (calm.timeless number m is))
+    (λ shows. not_both (shows_leases (step (setting cluster [] m.to) (now.node m.to) (Take m))) shows (delivery_shows now number m calm is)) unserved
+
+pub served : (line : List ℕ) (now : Standing) (event : WorldEvent) → IsCalm now → Spells line now.tape event → IsUnbuiltEvent cluster [] uncut now event → ⊥
+served line now event calm (inl delivery) unserved =
+    message_served now delivery.0 (message_of now.tape delivery.0) refl calm (subst (λ (e : WorldEvent). IsUnbuiltEvent cluster [] uncut now e) delivery.2 unserved)
+served line now event calm (inr put) unserved =
+    ⊎_elim (λ unbuilt. true_is_false unbuilt)
+    (λ shows. not_both (shows_leases (step (setting cluster [] put.0) (now.node put.0) (Start (Txn (put_of put.1)) (put_text put.0 put.1)))) shows (put_shows now put.0 put.1)) (subst (λ (e : WorldEvent). IsUnbuiltEvent cluster [] uncut now e) put.4 unserved)
+
+-- an event is not refused where it is no delivery that is
+pub allowed_here : (world : World) (items : List Item) (now : Standing) (line : List ℕ) (event : WorldEvent) → IsAt cluster world items now → Spells line now.tape event
+    → ((number : ℕ) → event ≡ Deliver number → refusal cluster now event ≡ None) → refusal cluster now event ≡ None
+allowed_here world items now line event at (inl delivery) handed = handed delivery.0 delivery.2
+allowed_here world items now line event at (inr put) handed =
+    subst (λ (e : WorldEvent). refusal cluster now e ≡ None) (sym put.4) (put_allowed world items now put.0 put.1 at put.2.least put.2.most)

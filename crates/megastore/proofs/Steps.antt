@@ -2,7 +2,7 @@
 use Rattle.std.proofs.Common.{◌≡◌, ◌≢◌, ℕ, ◌+◌, ◌≤◌, ◌<◌, Option, Some, None, List, [], ◌∷◌, ◌++◌, length, refl, sym, ◌∙◌, ap, subst, inl, inr, length-append, arith}
 use Rattle.mega_io.specs.TextLines.{lines_of}
 use Rattle.mega_transcript.specs.declared.item.Item.{Item}
-use Rattle.mega_promises.specs.Runs.{Happening, Standing}
+use Rattle.mega_promises.specs.Runs.{Happening}
 use Rattle.mega_events.specs.declared.world.World.{World}
 use Rattle.megastore.specs.declared.line.TheConstants.{DELIVER, DELIVER_END, PUT, PUT_ROW, PUT_END}
 use Rattle.megastore.specs.declared.header.TheConstants.{HEADER_NODES, HEADER_SCHEMA, HEADER_END}
@@ -11,7 +11,7 @@ use Rattle.megastore.proofs.Texts.{newest_twice, front_on}
 use Rattle.megastore.proofs.Progress.{as_front, wrote_front}
 use Rattle.megastore.specs.Progress.{Writes, WritesFront}
 use Rattle.megastore.specs.Running.{AllHappen, StandsAfter, Went, stood}
-use Rattle.megastore.specs.Replaying.{IsUnbuilt, IsNotBuilt, IsRefused, Follows, Differs, Ends, IsTooLong, IsHeaded, IsOther, in_order, headed, Reaches, LeftIsDone, LeftIsBegun, LeftIsUnbuilt, LeftIsRefused, StopsUnbuiltAt, StopsRefusedAt, CutsLine, InputDone, InputBegun, InputUnbuilt, InputRefused}
+use Rattle.megastore.specs.Replaying.{IsUnbuilt, IsRefused, Follows, Differs, Ends, IsTooLong, IsHeaded, IsOther, in_order, headed, Reaches, LeftIsDone, LeftIsBegun, LeftIsUnbuilt, LeftIsRefused, StopsUnbuiltAt, StopsRefusedAt, CutsLine, InputDone, InputBegun, InputUnbuilt, InputRefused}
 use Rattle.megastore.proofs.Running.{replayed}
 
 -- a line that is too long is none of those that are built
@@ -114,7 +114,7 @@ pub reached : (first now : List ℕ) (world : World) (items : List Item) (count 
 reached first now world items count number line rest ran is next =
     record { done = ran.done; rest = rest; replayed = replayed ran.done ran.events ran.after.happen; all = ran.left ∙ ap (in_order ran.done) is; counted = omega (arith, ran.counted) }
 
-pub stopped_unbuilt : (first now : Option (List ℕ)) (Says : List ℕ → Type 0) (world : World) (items : List Item) (count number : ℕ) (ran : RanTo first now world items count) → number ≡ count + 1 → StopsUnbuiltAt now (stood ran.events) → Says (text_of items)
+pub stopped_unbuilt : (first now : Option (List ℕ)) (Says : List ℕ → Type 0) (world : World) (items : List Item) (count number : ℕ) (ran : RanTo first now world items count) → number ≡ count + 1 → StopsUnbuiltAt now (stood ran.events).tape → Says (text_of items)
     → LeftIsUnbuilt first number Says
 stopped_unbuilt None now Says world items count number ran next stops said = tt
 stopped_unbuilt (Some first) None Says world items count number ran next stops said = absurd ran.left
@@ -126,7 +126,7 @@ stopped_unbuilt (Some first) (Some now) Says world items count number ran next s
   said = told_newest Says world items ran.done ran.events ran.after said;
 }
 
-pub stopped_refused : (first now : Option (List ℕ)) (Says : List ℕ → Type 0) (world : World) (items : List Item) (count number why : ℕ) (ran : RanTo first now world items count) → number ≡ count + 1 → StopsRefusedAt now (stood ran.events) why
+pub stopped_refused : (first now : Option (List ℕ)) (Says : List ℕ → Type 0) (world : World) (items : List Item) (count number why : ℕ) (ran : RanTo first now world items count) → number ≡ count + 1 → StopsRefusedAt now (stood ran.events).tape why
     → Says (text_of items) → LeftIsRefused first number why Says
 stopped_refused None now Says world items count number why ran next stops said = tt
 stopped_refused (Some first) None Says world items count number why ran next stops said = absurd ran.left
@@ -159,21 +159,21 @@ stopped_long (Some first) (Some now) Says world items count number ran is long s
   line = long.0;
   events = ran.events;
   reaches = reached first now world items count number long.0 long.1 ran long.2 is;
-  why = inl (inl (long_unbuilt long.0 (stood ran.events).tape long.3));
+  why = inl (long_unbuilt long.0 (stood ran.events).tape long.3);
   said = told_newest Says world items ran.done ran.events ran.after said;
 }
 
 -- the line at hand stops the run
-pub unbuilt_at : (now next : Option (List ℕ)) (at : Standing) (line : List ℕ) → Follows now next line → IsNotBuilt line at → StopsUnbuiltAt now at
+pub unbuilt_at : (now next : Option (List ℕ)) (at : List Item) (line : List ℕ) → Follows now next line → IsUnbuilt line at → StopsUnbuiltAt now at
 unbuilt_at None next at line follows unbuilt = tt
 unbuilt_at (Some now) None at line follows unbuilt = absurd follows
 unbuilt_at (Some now) (Some next) at line follows unbuilt = (line, lines_of next, follows, unbuilt)
 
-pub long_at : (now : Option (List ℕ)) (at : Standing) → IsTooLong now → StopsUnbuiltAt now at
+pub long_at : (now : Option (List ℕ)) (at : List Item) → IsTooLong now → StopsUnbuiltAt now at
 long_at None at long = tt
-long_at (Some now) at long = (long.0, long.1, long.2, inl (long_unbuilt long.0 at.tape long.3))
+long_at (Some now) at long = (long.0, long.1, long.2, long_unbuilt long.0 at long.3)
 
-pub refused_at : (now next : Option (List ℕ)) (at : Standing) (line : List ℕ) (why : ℕ) → Follows now next line → IsRefused line at why → StopsRefusedAt now at why
+pub refused_at : (now next : Option (List ℕ)) (at : List Item) (line : List ℕ) (why : ℕ) → Follows now next line → IsRefused line at why → StopsRefusedAt now at why
 refused_at None next at line why follows refused = tt
 refused_at (Some now) None at line why follows refused = absurd follows
 refused_at (Some now) (Some next) at line why follows refused = (line, lines_of next, follows, refused)

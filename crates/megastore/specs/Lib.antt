@@ -1,4 +1,3 @@
-pub mod Counting
 pub mod PlainLines
 pub mod LineForms
 pub mod Users

@@ -1,18 +1,14 @@
 -- What a replay does with the lines of its input. Lines that were done stand newest first.
-use Rattle.std.specs.Prelude.{◌≡◌, ◌≢◌, ℕ, ◌+◌, ◌<◌, ◌⊎◌, List, [], ◌∷◌, ◌++◌, length, drop, Option, Some, None}
+use Rattle.std.specs.Prelude.{◌≡◌, ◌≢◌, ℕ, ◌+◌, ◌<◌, ◌⊎◌, false, List, [], ◌∷◌, ◌++◌, length, drop, Option, Some, None}
 use Rattle.mega_io.specs.TextLines.{lines_of}
-use Rattle.mega_schedule.specs.declared.world_event.WorldEvent.TheVariants.{Deliver}
 use Rattle.mega_transcript.specs.declared.item.Item.{Item}
-use Rattle.mega_transcript.specs.Tape.{IsQuiet}
-use Rattle.mega_rules.specs.Examples.{cluster}
-use Rattle.mega_promises.specs.Runs.{Happening, Standing, refusal}
+use Rattle.mega_transcript.specs.Tape.{IsQuiet, is_sent}
+use Rattle.mega_promises.specs.Runs.{Happening}
 use Rattle.mega_events.specs.declared.world.World.{World}
-use Rattle.mega_events.specs.Unbuilt.{IsUnbuilt as IsUnbuiltEvent}
 use Rattle.megastore.specs.declared.header.TheConstants.{HEADER_NODES, HEADER_SCHEMA, HEADER_END}
 use Rattle.megastore.specs.PlainLines.{IsDelivery, IsPut}
-use Rattle.megastore.specs.Running.{Replayed, Went, stood, uncut}
+use Rattle.megastore.specs.Running.{Replayed, Went, stood}
 use Rattle.megastore.specs.Texts.{text_of, told}
-use Rattle.megastore.specs.Users.{put_event}
 use Rattle.megastore.specs.LastLines.{unbuilt_line, refused_line}
 
 -- these lines, newest first, and then the others
@@ -29,20 +25,12 @@ pub record IsUnbuilt (line : List ℕ) (tape : List Item) : Type 0 where
   pub no_delivery : (number : ℕ) → IsDelivery line number → ⊥
   pub no_put : (node : ℕ) (name : List ℕ) → IsPut line node name → IsQuiet tape → ⊥
 
--- the line delivers a message that is not handed over yet, unless that is refused, or puts a name where that is not served yet
-abbrev pub IsUnserved : List ℕ → Standing → Type 0
-IsUnserved line now =
-    ((message : ℕ) × IsDelivery line message × (refusal cluster now (Deliver message) ≡ None → IsUnbuiltEvent cluster [] uncut now (Deliver message)))
-    ⊎ ((node : ℕ) × (name : List ℕ) × IsPut line node name × IsUnbuiltEvent cluster [] uncut now (put_event node name))
-
-abbrev pub IsNotBuilt : List ℕ → Standing → Type 0
-IsNotBuilt line now = IsUnbuilt line now.tape ⊎ IsUnserved line now
-
--- the line delivers a message, which the run refuses: 3, it was not sent
-pub record IsRefused (line : List ℕ) (now : Standing) (why : ℕ) : Type 0 where
+-- the line delivers a message that was not sent, which is refused for this reason: 3
+pub record IsRefused (line : List ℕ) (tape : List Item) (why : ℕ) : Type 0 where
   pub message : ℕ
   pub delivers : IsDelivery line message
-  pub refused : refusal cluster now (Deliver message) ≡ Some why
+  pub unsent : is_sent tape message ≡ false
+  pub reason : why ≡ 3
 
 -- all lines of the schedule were done, and this is said of the text of their tape
 pub record IsDone (lines : List (List ℕ)) (Says : List ℕ → Type 0) : Type 0 where
@@ -74,7 +62,7 @@ pub record StopsUnbuilt (lines : List (List ℕ)) (number : ℕ) (Says : List �
   pub line : List ℕ
   pub events : List Happening
   pub reaches : Reaches lines number line events
-  pub why : IsNotBuilt line (stood events) ⊎ (1000000 < number)
+  pub why : IsUnbuilt line (stood events).tape ⊎ (1000000 < number)
   pub said : Says (told (stood events).tape)
 
 -- the event of this line of the schedule is refused
@@ -82,7 +70,7 @@ pub record StopsRefused (lines : List (List ℕ)) (number why : ℕ) (Says : Lis
   pub line : List ℕ
   pub events : List Happening
   pub reaches : Reaches lines number line events
-  pub refused : IsRefused line (stood events) why
+  pub refused : IsRefused line (stood events).tape why
   pub said : Says (told (stood events).tape)
 
 -- the input's lines have another header
@@ -158,13 +146,13 @@ LeftIsRefused None number why Says = Unit {0}
 LeftIsRefused (Some left) number why Says = StopsRefused (lines_of left) number why Says
 
 -- the next line is not built, or is refused
-abbrev pub StopsUnbuiltAt : Option (List ℕ) → Standing → Type 0
-StopsUnbuiltAt None now = Unit {0}
-StopsUnbuiltAt (Some left) now = (line : List ℕ) × (rest : List (List ℕ)) × (lines_of left ≡ line ∷ rest) × IsNotBuilt line now
+abbrev pub StopsUnbuiltAt : Option (List ℕ) → List Item → Type 0
+StopsUnbuiltAt None tape = Unit {0}
+StopsUnbuiltAt (Some left) tape = (line : List ℕ) × (rest : List (List ℕ)) × (lines_of left ≡ line ∷ rest) × IsUnbuilt line tape
 
-abbrev pub StopsRefusedAt : Option (List ℕ) → Standing → ℕ → Type 0
-StopsRefusedAt None now why = Unit {0}
-StopsRefusedAt (Some left) now why = (line : List ℕ) × (rest : List (List ℕ)) × (lines_of left ≡ line ∷ rest) × IsRefused line now why
+abbrev pub StopsRefusedAt : Option (List ℕ) → List Item → ℕ → Type 0
+StopsRefusedAt None tape why = Unit {0}
+StopsRefusedAt (Some left) tape why = (line : List ℕ) × (rest : List (List ℕ)) × (lines_of left ≡ line ∷ rest) × IsRefused line tape why
 
 -- before a line or within it the text was cut: this is said of what was to be written before, or of that and the text of what the line added
 abbrev pub CutsLine : Option (List ℕ) → Option (List ℕ) → List ℕ → List Happening → World → List Item → List Item → (List ℕ → Type 0) → List ℕ → Type 0

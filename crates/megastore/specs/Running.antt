@@ -1,5 +1,5 @@
 -- The run of the cluster of the header that is built, over the events that lines spell. Lines and events stand newest first.
-use Rattle.std.specs.Prelude.{◌≡◌, ℕ, ◌⊎◌, List, [], ◌∷◌, None, codes}
+use Rattle.std.specs.Prelude.{◌≡◌, ℕ, ◌⊎◌, List, [], ◌∷◌, ◌++◌, None, codes}
 use Rattle.mega_schedule.specs.declared.world_event.WorldEvent.{WorldEvent}
 use Rattle.mega_schedule.specs.declared.world_event.WorldEvent.TheVariants.{Deliver}
 use Rattle.mega_transcript.specs.declared.item.Item.{Item}
@@ -9,6 +9,7 @@ use Rattle.mega_promises.specs.Promises.{Agree, IsSerial}
 use Rattle.mega_promises.specs.Runs.{Cuts, Happening, IsRun, Standing, Whole, after_event, opening, refusal, unless_refused}
 use Rattle.mega_events.specs.declared.world.World.{World}
 use Rattle.mega_events.specs.Stands.{IsAt}
+use Rattle.megastore.specs.declared.header.TheConstants.{HEADER_NODES, HEADER_SCHEMA}
 use Rattle.megastore.specs.PlainLines.{IsDelivery, IsPut}
 use Rattle.megastore.specs.Users.{meaning, put_event}
 
@@ -21,6 +22,10 @@ Spells line tape event =
 -- the text of the schema of the header that is built
 abbrev pub schema_text : List ℕ
 schema_text = codes "CREATE SCHEMA S; CREATE TABLE User { required int64 user_id; required string name; } PRIMARY KEY(user_id), ENTITY GROUP ROOT;"
+
+-- the text of that header, as it stands before the line `---`
+abbrev pub header_text : List ℕ
+header_text = HEADER_NODES ++ (10 ∷ (HEADER_SCHEMA ++ 10 ∷ []))
 
 -- no fuse is set, so nothing is cut
 abbrev pub uncut : Cuts

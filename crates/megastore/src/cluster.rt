@@ -1,9 +1,10 @@
 ghost use Rattle.std.specs.Prelude.{◌≡◌, ◌++◌, [], codes, All, IfErr, IfOk, OnOk, Ok};
 ghost use Rattle.mega_rules.specs.Examples.{cluster, schema as schema_of_users, users as table_of_users};
 ghost use Rattle.mega_transcript.specs.Lines.{HasLine};
+ghost use Rattle.mega_cluster.specs.Header.{read_of};
 ghost use Rattle.mega_schema.specs.Verdict.{parse_of};
 ghost use Rattle.megastore.specs.declared.header.TheConstants.{HEADER_SCHEMA};
-ghost use Rattle.megastore.specs.Running.{StandsAfter, schema_text};
+ghost use Rattle.megastore.specs.Running.{StandsAfter, header_text, schema_text};
 
 use crate::status::Stop;
 use mega_base::{Items, Kind, NoMemory, NodeKind, Position, Text};
@@ -17,6 +18,11 @@ use std::alloc::Global;
 pub fn the_header_has_the_schema()
     ensures text { HEADER_SCHEMA ≡ codes "schema = \"" ++ (schema_text ++ codes "\"") }
     ensures parsed { parse_of schema_text ≡ Ok cluster.schema }
+{}
+
+/// The header that is built reads as the cluster, by the rules of headers.
+pub fn the_header_reads_as_the_cluster()
+    ensures { read_of 1 header_text ≡ Ok cluster }
 {}
 
 /// A property that every row has.

@@ -7,13 +7,12 @@ ghost use Rattle.mega_base.specs.Causes.{Rose};
 ghost use Rattle.mega_io.specs.TextLines.{lines_of};
 ghost use Rattle.mega_transcript.specs.Tape.{newest, IsQuiet};
 ghost use Rattle.mega_transcript.specs.Lines.{HasLine};
-ghost use Rattle.mega_promises.specs.Runs.{Happening, refusal};
-ghost use Rattle.mega_rules.specs.Examples.{cluster};
-ghost use Rattle.mega_events.specs.Unbuilt.{IsUnbuilt as IsUnbuiltEvent};
+ghost use Rattle.mega_transcript.specs.declared.item.Item.{Item as OnTape};
+ghost use Rattle.mega_promises.specs.Runs.{Happening};
 ghost use Rattle.megastore.specs.PlainLines.{IsName};
 ghost use Rattle.megastore.specs.Progress.{Writes, WritesFront};
 ghost use Rattle.megastore.specs.Running.{IsStanding, StandsAfter, Went, Spells, stood, uncut};
-ghost use Rattle.megastore.specs.Replaying.{Follows, Differs, Ends, StopsUnbuiltAt, StopsRefusedAt, LeftIsDone, LeftIsBegun, LeftIsUnbuilt, LeftIsRefused, CutsLine, InputDone, InputBegun, InputUnbuilt, InputRefused, IsHeaded, IsOther, IsNotBuilt, IsRefused, IsUnbuilt};
+ghost use Rattle.megastore.specs.Replaying.{Follows, Differs, Ends, StopsUnbuiltAt, StopsRefusedAt, LeftIsDone, LeftIsBegun, LeftIsUnbuilt, LeftIsRefused, CutsLine, InputDone, InputBegun, InputUnbuilt, InputRefused, IsHeaded, IsOther, IsRefused, IsUnbuilt};
 ghost use Rattle.megastore.specs.Stops.{IsReadStop, IsWriteStop, IsLineStop};
 
 use crate::cluster::opened;
@@ -89,8 +88,8 @@ fn happen(
     requires standing { IsStanding world.old tape.old.items }
     requires spelled { Spells line.now (newest tape.old.items) event }
     ensures state { OnOk result ((done : List (List ℕ)) (events : List Happening) → StandsAfter done events world.old tape.old.items → Went line.now events world.new tape.new.items) }
-    ensures unbuilt { (at : ℕ) → result ≡ Err (Stop.Unbuilt at) → (done : List (List ℕ)) (events : List Happening) → StandsAfter done events world.old tape.old.items → (at ≡ number) × IsNotBuilt line.now (stood events) }
-    ensures refused { (at why : ℕ) → result ≡ Err (Stop.Refused at why) → (done : List (List ℕ)) (events : List Happening) → StandsAfter done events world.old tape.old.items → (at ≡ number) × IsRefused line.now (stood events) why }
+    ensures built { (at : ℕ) → result ≢ Err (Stop.Unbuilt at) }
+    ensures refused { (at why : ℕ) → result ≡ Err (Stop.Refused at why) → (done : List (List ℕ)) (events : List Happening) → StandsAfter done events world.old tape.old.items → (at ≡ number) × IsRefused line.now (stood events).tape why }
     ensures only { IfErr result IsLineStop }
     ensures lines { OnOk result (All HasLine tape.new.items) }
 {
@@ -98,22 +97,19 @@ fn happen(
         Ok(()) => Ok(()),
         Err(WorldFault::Refused { why }) => Err(Stop::Refused { line: number, why }),
         Err(WorldFault::Unbuilt) => Err(Stop::Unbuilt { line: number }),
-        Err(WorldFault::DiskFault) => Err(Stop::NoMemory),
-        Err(WorldFault::Full { .. }) => Err(Stop::NoMemory),
-        Err(WorldFault::BadRecord { .. }) => Err(Stop::NoMemory),
         Err(WorldFault::NoMemory) => Err(Stop::NoMemory),
     }
 }
 
 /// The event that a line spells, where it is built.
-fn event_of(alloc: Global, line: &[u8], tape: &Tape) -> Result<Option<WorldEvent>, NoMemory>
-    ensures some { IfOk result (λ read. IfSome read (λ event. Spells line.now (newest tape.now.items) event)) }
-    ensures none { result ≡ Ok None → IsUnbuilt line.now (newest tape.now.items) }
+fn event_of(alloc: Global, line: &[u8], world: &World) -> Result<Option<WorldEvent>, NoMemory>
+    ensures some { IfOk result (λ read. IfSome read (λ event. (items : List OnTape) → IsStanding world.now items → Spells line.now (newest items) event)) }
+    ensures none { result ≡ Ok None → (items : List OnTape) → IsStanding world.now items → IsUnbuilt line.now (newest items) }
 {
     match read_line(alloc, line)? {
         Some(Line::Deliver { message }) => Ok(Some(WorldEvent::Deliver { message })),
         Some(Line::Put { node, name }) => {
-            if !is_quiet(alloc, tape)? {
+            if !is_quiet(world) {
                 return Ok(None);
             }
             Ok(Some(put_event(alloc, node, name)?))
@@ -133,12 +129,12 @@ fn take_line(
     requires lines { All HasLine tape.old.items }
     requires standing { IsStanding world.old tape.old.items }
     ensures state { OnOk result ((done : List (List ℕ)) (events : List Happening) → StandsAfter done events world.old tape.old.items → Went line.now events world.new tape.new.items) }
-    ensures unbuilt { (at : ℕ) → result ≡ Err (Stop.Unbuilt at) → (done : List (List ℕ)) (events : List Happening) → StandsAfter done events world.old tape.old.items → (at ≡ number) × IsNotBuilt line.now (stood events) }
-    ensures refused { (at why : ℕ) → result ≡ Err (Stop.Refused at why) → (done : List (List ℕ)) (events : List Happening) → StandsAfter done events world.old tape.old.items → (at ≡ number) × IsRefused line.now (stood events) why }
+    ensures unbuilt { (at : ℕ) → result ≡ Err (Stop.Unbuilt at) → (done : List (List ℕ)) (events : List Happening) → StandsAfter done events world.old tape.old.items → (at ≡ number) × IsUnbuilt line.now (stood events).tape }
+    ensures refused { (at why : ℕ) → result ≡ Err (Stop.Refused at why) → (done : List (List ℕ)) (events : List Happening) → StandsAfter done events world.old tape.old.items → (at ≡ number) × IsRefused line.now (stood events).tape why }
     ensures only { IfErr result IsLineStop }
     ensures lines { OnOk result (All HasLine tape.new.items) }
 {
-    let event = match event_of(alloc, line, tape) {
+    let event = match event_of(alloc, line, world) {
         Ok(Some(event)) => event,
         Ok(None) => return Err(Stop::Unbuilt { line: number }),
         Err(_) => return Err(Stop::NoMemory),
@@ -239,8 +235,8 @@ fn do_line<I: Source, O: Sink>(
     ensures text { result ≡ Ok true → Writes (O.held out.old) (O.held out.new) waiting.new (waiting.old ++ text_of (drop (length tape.old.items) tape.new.items)) }
     ensures still { result ≡ Ok false → (tape.new.items ≡ tape.old.items) × (O.held out.new ≡ O.held out.old) × (waiting.new ≡ waiting.old) }
     ensures end { result ≡ Ok false → Ends (prepend_known reader.old (I.left input.old)) × IsAtEnd (I.left input.new) }
-    ensures unbuilt { (at : ℕ) → result ≡ Err (Stop.Unbuilt at) → (done : List (List ℕ)) (events : List Happening) → StandsAfter done events world.old tape.old.items → (at ≡ number) × StopsUnbuiltAt (prepend_known reader.old (I.left input.old)) (stood events) }
-    ensures refused { (at why : ℕ) → result ≡ Err (Stop.Refused at why) → (done : List (List ℕ)) (events : List Happening) → StandsAfter done events world.old tape.old.items → (at ≡ number) × StopsRefusedAt (prepend_known reader.old (I.left input.old)) (stood events) why }
+    ensures unbuilt { (at : ℕ) → result ≡ Err (Stop.Unbuilt at) → (done : List (List ℕ)) (events : List Happening) → StandsAfter done events world.old tape.old.items → (at ≡ number) × StopsUnbuiltAt (prepend_known reader.old (I.left input.old)) (stood events).tape }
+    ensures refused { (at why : ℕ) → result ≡ Err (Stop.Refused at why) → (done : List (List ℕ)) (events : List Happening) → StandsAfter done events world.old tape.old.items → (at ≡ number) × StopsRefusedAt (prepend_known reader.old (I.left input.old)) (stood events).tape why }
     ensures unbuilt_kept { (at : ℕ) → result ≡ Err (Stop.Unbuilt at) → (O.held out.new ≡ O.held out.old) × (waiting.new ≡ waiting.old) }
     ensures refused_kept { (at why : ℕ) → result ≡ Err (Stop.Refused at why) → (O.held out.new ≡ O.held out.old) × (waiting.new ≡ waiting.old) }
     ensures cut { OnErr result ((done : List (List ℕ)) (events : List Happening) → StandsAfter done events world.old tape.old.items → CutsLine (prepend_known reader.old (I.left input.old)) (prepend_known reader.new (I.left input.new)) line.new events world.new tape.old.items tape.new.items (WritesFront (O.held out.old) (O.held out.new) waiting.new) waiting.old) }

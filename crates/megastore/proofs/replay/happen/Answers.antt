@@ -1,10 +1,11 @@
-use Rattle.std.proofs.Common.{ℕ, ◌≡◌, [], Some, Err, ap, subst, sym, inr}
+use Rattle.std.proofs.Common.{ℕ, ◌≡◌, [], Some, Err, ap, subst, sym}
 use Rattle.mega_transcript.specs.declared.item.Item.{Item}
 use Rattle.std.specs.Prelude.{List}
 use Rattle.mega_promises.specs.Runs.{refusal}
 use Rattle.mega_rules.specs.Examples.{cluster}
 use Rattle.megastore.specs.Running.{Spells, stood, uncut}
-use Rattle.megastore.proofs.Running.{refused_here, sound, unserved_here, went}
+use Rattle.megastore.proofs.Calm.{run_calm}
+use Rattle.megastore.proofs.Running.{allowed_here, refused_here, served, sound, went}
 use Rattle.megastore.proofs.replay.happen.Goals as goal
 
 pub returns-in-Ok-clause-state : goal.returns-in-Ok-clause-state
@@ -29,17 +30,19 @@ returns-in-Err-Refused-clause-refused c at why is done events after =
     let same : c.in-Err-Refused.why ≡ why = cc in
     let refused = c.in-Err-Refused.ensures.refused c.in-Err-Refused.why (ap Err c.in-Err-Refused.field-0-is) cluster (stood events) after.here in (
       cc,
-      refused_here c.args.world.now c.args.tape.now.items (stood events) c.args.line.now c.args.event why after.here spelled
+      refused_here c.args.world.now c.args.tape.now.items (stood events) c.args.line.now c.args.event why after.here (run_calm done events after.happen) spelled
           (subst (λ (w : ℕ). refusal cluster (stood events) c.args.event ≡ Some w) same refused),
     )
 
-pub returns-in-Err-Unbuilt-clause-unbuilt : goal.returns-in-Err-Unbuilt-clause-unbuilt
-returns-in-Err-Unbuilt-clause-unbuilt c at is done events after =
-    let spelled = subst (λ (tape : List Item). Spells c.args.line.now tape c.args.event) after.here.tape c.requires.spelled in (
-      cc,
-      inr
-          (unserved_here c.args.world.now c.args.tape.now.items (stood events) c.args.line.now c.args.event after.here spelled
-          (λ allowed.
-          c.in-Err-Unbuilt.ensures.unbuilt (ap Err c.in-Err-Unbuilt.field-0-is) cluster [] uncut (stood events) after.here
-          (sound done events c.args.line.now c.args.event after.happen spelled allowed))),
-    )
+pub returns-in-Err-Unbuilt-clause-built : goal.returns-in-Err-Unbuilt-clause-built
+returns-in-Err-Unbuilt-clause-built c at is =
+    let done = c.requires.standing.0 in
+    let events = c.requires.standing.1 in
+    let after = c.requires.standing.2 in
+    let spelled = subst (λ (tape : List Item). Spells c.args.line.now tape c.args.event) after.here.tape c.requires.spelled in
+    let allowed =
+        allowed_here c.args.world.now c.args.tape.now.items (stood events) c.args.line.now c.args.event after.here spelled
+        (λ number delivers. c.in-Err-Unbuilt.ensures.allowed (ap Err c.in-Err-Unbuilt.field-0-is) number delivers cluster (stood events) after.here) in
+    served c.args.line.now (stood events) c.args.event (run_calm done events after.happen) spelled
+    (c.in-Err-Unbuilt.ensures.unbuilt (ap Err c.in-Err-Unbuilt.field-0-is) cluster [] uncut (stood events) after.here
+    (sound done events c.args.line.now c.args.event after.happen spelled allowed))
