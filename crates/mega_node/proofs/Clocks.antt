@@ -9,6 +9,7 @@ use Rattle.mega_wire.specs.declared.message.Message.{Message}
 use Rattle.mega_rules.specs.Met.{Met, Ticks}
 use Rattle.mega_rules.specs.Clock.{begun_of, last_number}
 use Rattle.mega_rules.specs.Coordinators.{acquires_at}
+use Rattle.mega_rules.specs.Logs.{groups_of}
 use Rattle.mega_rules.specs.Members.{is_full}
 use Rattle.mega_rules.specs.Operations.{Node, Now, Operation, Setting}
 use Rattle.mega_rules.specs.Steps.{Step, Tick, at_first, background, lapse_notes, lease_notes, onto, portion_of, step, ticked}
@@ -44,6 +45,20 @@ note_begun (note.Invalidates group position) met = refl
 pub leases_begun : (notes : List Note) (met : List Met) → begun_of (onto (map met_of notes) met) ≡ begun_of met
 leases_begun [] met = refl
 leases_begun (one ∷ notes) met = leases_begun notes (met_of one ∷ met) ∙ note_begun one met
+
+-- and decides nothing
+note_groups : (one : Note) (met : List Met) → groups_of (met_of one ∷ met) ≡ groups_of met
+note_groups (note.Grants node epoch) met = refl
+note_groups (note.Lapses node epoch) met = refl
+note_groups (note.Counts cell epoch) met = refl
+note_groups (note.Forgets cell epoch) met = refl
+note_groups (note.Serves epoch) met = refl
+note_groups (note.Loses epoch) met = refl
+note_groups (note.Invalidates group position) met = refl
+
+pub leases_groups : (notes : List Note) (met : List Met) → groups_of (onto (map met_of notes) met) ≡ groups_of met
+leases_groups [] met = refl
+leases_groups (one ∷ notes) met = leases_groups notes (met_of one ∷ met) ∙ note_groups one met
 
 module _ (s : Setting) (node : Node) (now : ℕ) where
   abbrev ticking_from : Now

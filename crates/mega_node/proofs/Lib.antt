@@ -6,6 +6,7 @@ pub mod Portions
 pub mod Groups
 pub mod Alike
 pub mod Silent
+pub mod Walking
 pub mod Walked
 pub mod Ended
 pub mod Begun
@@ -14,3 +15,4 @@ pub mod Opened
 pub mod Clocks
 pub mod Refused
 pub mod Failing
+pub mod Untouched

@@ -2,6 +2,7 @@ pub mod Notes
 pub mod Represents
 pub mod Placed
 pub mod Positions
+pub mod Touching
 pub mod Made
 pub mod Acted
 pub mod Beginning

@@ -1,32 +1,25 @@
--- The applied positions of a node's groups.
-use Rattle.std.specs.Prelude.{◌≡◌, ℕ, if◌then◌else◌, List, [], ◌∷◌, unwrap_or}
-use Rattle.std.specs.BTreeMap.{BTreeMap, get}
+-- The applied positions of groups before a step, and what is noted of those of which more is applied then.
+use Rattle.std.specs.Prelude.{ℕ, nat_lt, if◌then◌else◌, List, [], ◌∷◌}
 use Rattle.mega_base.specs.declared.names.GroupId.{GroupId}
 use Rattle.mega_disk.specs.VersionMaps.{Versions}
 use Rattle.mega_wal.specs.declared.kept.Kept.{Kept}
-use Rattle.mega_wal.specs.History.{group_cmp}
-use Rattle.mega_wal.specs.Same.{same_group}
-use Rattle.mega_rules.specs.Met.{Met}
+use Rattle.mega_rules.specs.Met.{Met, Applies}
 use Rattle.mega_rules.specs.Logs.{log_of}
 use Rattle.mega_rules.specs.Steps.{applied_at}
 use Rattle.mega_voter.specs.Telling.{Tells}
 use Rattle.mega_stored.specs.declared.progress.Progress.{Progress}
 use Rattle.mega_stored.specs.Following.{Follows}
-
--- the position that is kept of a group, 0 where none is
-abbrev pub position_at : BTreeMap GroupId ℕ → GroupId → ℕ
-position_at positions group = unwrap_or (get group_cmp positions group) 0
-
--- the applied position of each group
-pub record AreApplied (positions : BTreeMap GroupId ℕ) (met : List Met) (stored : GroupId → ℕ) : Type 0 where
-  pub each : (group : GroupId) → position_at positions group ≡ applied_at met stored group
+use Rattle.mega_node.specs.declared.applying.Before.{Before}
 
 -- logs and rows that tell what a node met, and how far it has stored
 pub record Keeps (kept : Kept) (version : Versions) (progress : GroupId → Progress) (met : List Met) (stored : GroupId → ℕ) : Type 0 where
   pub tells : Tells kept met
   pub follows : Follows version progress (log_of met) stored
 
--- values of groups, with those of these groups set one after another
-abbrev pub set_each : (GroupId → ℕ) → List GroupId → (GroupId → ℕ) → GroupId → ℕ
-set_each value [] found other = found other
-set_each value (group ∷ groups) found other = set_each value groups (λ one. if same_group group one then value group else found one) other
+-- the applied position of a group
+abbrev pub before_at : List Met → (GroupId → ℕ) → GroupId → Before
+before_at met stored group = record { group = group; position = applied_at met stored group }
+
+-- a group is noted of which more is applied than before
+abbrev pub note_since : List Met → (GroupId → ℕ) → Before → List Met
+note_since met stored before = if nat_lt before.position (applied_at met stored before.group) then Applies before.group (applied_at met stored before.group) ∷ [] else []

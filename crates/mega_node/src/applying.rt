@@ -1,12 +1,10 @@
-ghost use Rattle.std.specs.Prelude.{◌≡◌, ◌++◌, ℕ, List, map, flat_map, if◌then◌else◌, IfOk, OnOk};
+ghost use Rattle.std.specs.Prelude.{◌≡◌, ◌++◌, ℕ, List, map, flat_map, IfOk, OnOk};
 ghost use Rattle.mega_base.specs.declared.names.GroupId.{GroupId as Group};
-ghost use Rattle.mega_wal.specs.Same.{same_group};
-ghost use Rattle.mega_rules.specs.Logs.{groups_of};
 ghost use Rattle.mega_rules.specs.Met.{Met};
-ghost use Rattle.mega_rules.specs.Steps.{applied_at, apply_note};
+ghost use Rattle.mega_rules.specs.Steps.{applied_at};
 ghost use Rattle.mega_stored.specs.Following.{progress_at};
 ghost use Rattle.mega_node.specs.Notes.{met_of};
-ghost use Rattle.mega_node.specs.Positions.{AreApplied, Keeps, position_at};
+ghost use Rattle.mega_node.specs.Positions.{Keeps, before_at, note_since};
 
 use crate::note::Note;
 use mega_base::{GroupId, Items, NoMemory};
@@ -14,19 +12,12 @@ use mega_disk::{Records, Versions};
 use mega_stored::StoredRows;
 use mega_voter::Voter;
 use std::alloc::Global;
-use std::collections::BTreeMap;
 
-/// The applied position of each group; a group that is not there has none.
-pub(crate) type Positions = BTreeMap<GroupId, u64>;
-
-/// The position of a group, 0 for none.
-fn position_at(positions: &Positions, group: &GroupId) -> u64
-    ensures { result ≡ position_at positions.now group.now }
-{
-    match positions.get(group) {
-        Some(position) => *position,
-        None => 0,
-    }
+/// The applied position of a group before a step.
+#[derive(Debug, Drop)]
+pub struct Before {
+    pub group: GroupId,
+    pub position: u64,
 }
 
 /// The applied position of a group.
@@ -42,76 +33,70 @@ fn applied_at<R: Records, V: Versions>(
     rows.applied(group, &voter.logs).0
 }
 
-/// Sets the position of a group to its applied one.
-fn set_applied<R: Records, V: Versions>(
+/// A group with its applied position.
+fn before_at<R: Records, V: Versions>(
     voter: &Voter<R>,
     rows: &StoredRows<V>,
-    positions: &mut Positions,
     group: GroupId,
-) -> Result<(), NoMemory>
-    ensures { OnOk result ((met : List Met) (stored : Group → ℕ) →
-        Keeps voter.now.logs.kept (V.version rows.now.rows) (progress_at rows.now.progress) met stored →
-        (other : Group) → position_at positions.new other ≡ (if same_group group other then applied_at met stored group else position_at positions.old other)) }
+) -> Before
+    ensures { (met : List Met) (stored : Group → ℕ) →
+        Keeps voter.now.logs.kept (V.version rows.now.rows) (progress_at rows.now.progress) met stored → result ≡ before_at met stored group }
 {
     let position = applied_at(voter, rows, &group);
-    positions.insert(group, position)?;
-    Ok(())
+    Before { group, position }
 }
 
-/// The applied position of each group.
+/// The applied positions of these groups.
 pub(crate) fn positions<R: Records, V: Versions>(
     alloc: Global,
     voter: &Voter<R>,
     rows: &StoredRows<V>,
-) -> Result<Positions, NoMemory>
-    ensures { IfOk result (λ positions. (met : List Met) (stored : Group → ℕ) →
-        Keeps voter.now.logs.kept (V.version rows.now.rows) (progress_at rows.now.progress) met stored → AreApplied positions met stored) }
+    groups: Items<GroupId>,
+) -> Result<Items<Before>, NoMemory>
+    ensures { IfOk result (λ before. (met : List Met) (stored : Group → ℕ) →
+        Keeps voter.now.logs.kept (V.version rows.now.rows) (progress_at rows.now.progress) met stored → before ≡ map (before_at met stored) groups) }
 {
-    let groups = voter.groups(alloc)?;
-    let mut positions = BTreeMap::new(alloc);
-    for group in groups {
-        set_applied(voter, rows, &mut positions, group)?;
+    let mut before = Items::new(alloc);
+    for group in groups.into_vec() {
+        before.push(before_at(voter, rows, group))?;
     }
-    Ok(positions)
+    Ok(before)
 }
 
-/// Notes the applied position of a group where it is above this one.
+/// Notes the applied position of a group where it is above the one before.
 fn note_applied<R: Records, V: Versions>(
     voter: &Voter<R>,
     rows: &StoredRows<V>,
-    before: &Positions,
     notes: &mut Items<Note>,
-    group: GroupId,
+    before: Before,
 ) -> Result<(), NoMemory>
-    ensures { OnOk result ((was : List Met) (was_stored : Group → ℕ) (met : List Met) (stored : Group → ℕ) →
-        AreApplied before.now was was_stored →
+    ensures { OnOk result ((met : List Met) (stored : Group → ℕ) →
         Keeps voter.now.logs.kept (V.version rows.now.rows) (progress_at rows.now.progress) met stored →
-        map met_of notes.new ≡ map met_of notes.old ++ apply_note was was_stored met stored group) }
+        map met_of notes.new ≡ map met_of notes.old ++ note_since met stored before) }
 {
-    let position = applied_at(voter, rows, &group);
-    if position_at(before, &group) < position {
+    let position = applied_at(voter, rows, &before.group);
+    if before.position < position {
+        let group = before.group;
         notes.push(Note::Applied { group, position })?;
         return Ok(());
     }
     Ok(())
 }
 
-/// What is noted of the groups of which more is applied than these positions say, in order.
+/// What is noted of the groups of which more is applied than before, in order.
 pub(crate) fn apply_notes<R: Records, V: Versions>(
     alloc: Global,
     voter: &Voter<R>,
     rows: &StoredRows<V>,
-    before: &Positions,
+    before: Items<Before>,
 ) -> Result<Items<Note>, NoMemory>
-    ensures { IfOk result (λ notes. (was : List Met) (was_stored : Group → ℕ) (met : List Met) (stored : Group → ℕ) →
-        AreApplied before.now was was_stored →
+    ensures { IfOk result (λ notes. (met : List Met) (stored : Group → ℕ) →
         Keeps voter.now.logs.kept (V.version rows.now.rows) (progress_at rows.now.progress) met stored →
-        map met_of notes ≡ flat_map (apply_note was was_stored met stored) (groups_of met)) }
+        map met_of notes ≡ flat_map (note_since met stored) before) }
 {
-    let groups = voter.groups(alloc)?;
     let mut notes = Items::new(alloc);
-    for group in groups {
-        note_applied(voter, rows, before, &mut notes, group)?;
+    for one in before.into_vec() {
+        note_applied(voter, rows, &mut notes, one)?;
     }
     Ok(notes)
 }

@@ -160,6 +160,9 @@ impl<R: Records, V: Versions> Node<R, V> {
         ensures members { self.new.replica.members ≡ self.old.replica.members }
         ensures me { self.new.replica.me ≡ self.old.replica.me }
         ensures unbuilt { result ≡ Err Unbuilt → is_built request ≡ false }
+        ensures built { OnOk result ((h : Meanings) (node : RuleNode) →
+            Represents (setting self.old.replica.members self.old.replica.me h) self.old.replica.voter.logs.kept self.old.replica.leases (V.version self.old.replica.rows.rows) (progress_at self.old.replica.rows.progress) self.old.open self.old.begun node →
+            refusal (setting self.old.replica.members self.old.replica.me h) node request ≡ None → is_built request ≡ true) }
         ensures fares { Fares V.Versions (failed_by result) self.old.replica.rows.rows self.new.replica.rows.rows }
     {
         let op = next_op(&self.replica.voter, self.replica.me, self.begun);

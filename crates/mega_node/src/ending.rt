@@ -1,8 +1,9 @@
-ghost use Rattle.std.specs.Prelude.{◌≡◌, ◌++◌, ◌∷◌, List, map, IfOk, OnOk};
+ghost use Rattle.std.specs.Prelude.{◌≡◌, ◌++◌, ◌∷◌, List, map, flat_map, IfOk, OnOk};
 ghost use Rattle.mega_handler.specs.Named.{Meanings};
 ghost use Rattle.mega_rules.specs.Met.{Met, Sends};
 ghost use Rattle.mega_rules.specs.Operations.{Node as RuleNode, Now};
-ghost use Rattle.mega_rules.specs.Steps.{onto};
+ghost use Rattle.mega_rules.specs.Logs.{groups_of};
+ghost use Rattle.mega_rules.specs.Steps.{apply_note, onto};
 ghost use Rattle.mega_known.specs.Sending.{MaySend};
 ghost use Rattle.mega_stored.specs.Following.{progress_at};
 ghost use Rattle.mega_voter.specs.Telling.{IsAnswer, Tells};
@@ -10,9 +11,9 @@ ghost use Rattle.mega_acting.specs.Stands.{setting};
 ghost use Rattle.mega_node.specs.Acted.{HasActed, ended};
 ghost use Rattle.mega_node.specs.Made.{Made};
 ghost use Rattle.mega_node.specs.Notes.{met_of};
-ghost use Rattle.mega_node.specs.Positions.{AreApplied};
+ghost use Rattle.mega_node.specs.Positions.{note_since};
 
-use crate::applying::{Positions, apply_notes};
+use crate::applying::{Before, apply_notes};
 use crate::joining::{add_sends, joined};
 use crate::node::Node;
 use crate::note::Note;
@@ -67,19 +68,19 @@ fn all_sends(
 }
 
 impl<R: Records, V: Versions> Node<R, V> {
-    /// The step ends: what is applied since these positions is noted behind the first notes, then what the operations came
+    /// The step ends: of these groups what is applied since is noted behind the first notes, then what the operations came
     /// to, and all that is sent is told to the voter.
     pub(crate) fn ends(
         &mut self,
         alloc: Global,
-        before: &Positions,
+        before: Items<Before>,
         first: Items<Note>,
         work: Work,
         opening: Items<Message>,
         closing: Items<Message>,
     ) -> Result<Step, NoMemory>
         ensures made { IfOk result (λ made. (h : Meanings) (node : RuleNode) (own : Met) (locks durable : List Met) (now : Now) →
-            AreApplied before.now node.met node.stored →
+            flat_map (note_since now.met now.stored) before ≡ flat_map (apply_note node.met node.stored now.met now.stored) (groups_of now.met) →
             HasActed (setting self.old.replica.members self.old.replica.me h) self.old.replica.voter.logs.kept self.old.replica.leases (V.version self.old.replica.rows.rows) (progress_at self.old.replica.rows.progress) self.old.begun work (onto durable (onto locks (own ∷ node.met))) now →
             map met_of first ≡ locks ++ durable →
             MaySend (onto (ended (setting self.old.replica.members self.old.replica.me h) node own locks durable ((opening ++ now.sends) ++ closing) now).notes (own ∷ node.met)) ((opening ++ now.sends) ++ closing) →

@@ -17,6 +17,7 @@ mod step;
 mod taking;
 mod telling;
 mod ticking;
+mod touching;
 
 pub use fault::StepFault;
 pub use node::Node;

@@ -24,6 +24,7 @@ use crate::starting::{leases_of, members_of, voter_of};
 use crate::step::Step;
 use crate::taking::{Taken, acts, takes};
 use crate::ticking::{Ticked, acts_ticked, ticks};
+use crate::touching::{asked_groups, touched};
 use mega_acting::Replica;
 use mega_base::{Items, Text};
 use mega_cluster::Cluster;
@@ -106,7 +107,8 @@ impl<R: Records, V: Versions> Node<R, V> {
         ensures late { result ≡ Err Late → (h : Meanings) (node : RuleNode) → Represents (setting self.old.replica.members self.old.replica.me h) self.old.replica.voter.logs.kept self.old.replica.leases (V.version self.old.replica.rows.rows) (progress_at self.old.replica.rows.progress) self.old.open self.old.begun node → IsLate self.old.replica.members message.now.body }
         ensures fares { Fares V.Versions (failed_by result) self.old.replica.rows.rows self.new.replica.rows.rows }
     {
-        let before = positions(alloc, &self.replica.voter, &self.replica.rows)?;
+        let groups = touched(alloc, &message.body, self.open.as_slice())?;
+        let before = positions(alloc, &self.replica.voter, &self.replica.rows, groups)?;
         let opened = mem::replace(&mut self.open, Items::new(alloc));
         let taken = takes(alloc, &mut self.replica, opened, message)?;
         let Taken {
@@ -115,7 +117,7 @@ impl<R: Records, V: Versions> Node<R, V> {
             heard,
         } = taken;
         let work = acts(alloc, &mut self.replica, heard)?;
-        let step = self.ends(alloc, &before, notes, work, sends, Items::new(alloc))?;
+        let step = self.ends(alloc, before, notes, work, sends, Items::new(alloc))?;
         Ok(step)
     }
 
@@ -140,12 +142,13 @@ impl<R: Records, V: Versions> Node<R, V> {
         ensures late { result ≢ Err Late }
         ensures fares { Fares V.Versions (failed_by result) self.old.replica.rows.rows self.new.replica.rows.rows }
     {
-        let before = positions(alloc, &self.replica.voter, &self.replica.rows)?;
+        let groups = asked_groups(alloc, &request)?;
+        let before = positions(alloc, &self.replica.voter, &self.replica.rows, groups)?;
         let work = self.begins(alloc, request)?;
         let none = Items::new(alloc);
         let step = self.ends(
             alloc,
-            &before,
+            before,
             none,
             work,
             Items::new(alloc),
@@ -175,7 +178,9 @@ impl<R: Records, V: Versions> Node<R, V> {
         ensures late { result ≢ Err Late }
         ensures fares { Fares V.Versions (failed_by result) self.old.replica.rows.rows self.new.replica.rows.rows }
     {
-        let before = positions(alloc, &self.replica.voter, &self.replica.rows)?;
+        let found = self.replica.voter.groups(alloc)?;
+        let groups = Items::from_vec(found);
+        let before = positions(alloc, &self.replica.voter, &self.replica.rows, groups)?;
         let made = ticks(alloc, &mut self.replica, now)?;
         let Ticked {
             notes,
@@ -184,7 +189,7 @@ impl<R: Records, V: Versions> Node<R, V> {
         } = made;
         let opened = mem::replace(&mut self.open, Items::new(alloc));
         let work = acts_ticked(alloc, &mut self.replica, now, opened)?;
-        let step = self.ends(alloc, &before, notes, work, opening, closing)?;
+        let step = self.ends(alloc, before, notes, work, opening, closing)?;
         Ok(step)
     }
 }

@@ -1,6 +1,7 @@
 use Rattle.std.proofs.Common.{◌≡◌, ◌∙◌, ◌++◌, ◌∷◌, List, ap, map, refl, sym}
 use Rattle.mega_cluster.specs.declared.cluster.Cluster.{Cluster}
 use Rattle.mega_rules.specs.Clock.{begun_of}
+use Rattle.mega_rules.specs.Logs.{groups_of}
 use Rattle.mega_rules.specs.Met.{Ticks}
 use Rattle.mega_rules.specs.Steps.{lapse_notes, lease_notes, onto, portion_of}
 use Rattle.mega_leases.specs.declared.note.Note.{Note}
@@ -10,7 +11,7 @@ use Rattle.mega_voter.proofs.Told.{silent_told}
 use Rattle.mega_stored.specs.Following.{progress_at}
 use Rattle.mega_known.proofs.Followed.{follows_after, follows_more}
 use Rattle.mega_acting.specs.Stands.{setting}
-use Rattle.mega_node.proofs.Clocks.{leases_begun}
+use Rattle.mega_node.proofs.Clocks.{leases_begun, leases_groups}
 use Rattle.mega_node.proofs.Members.{full_has_rows}
 use Rattle.mega_node.proofs.ticking.ticks.Goals as goal
 
@@ -47,4 +48,6 @@ returns-clause-ticked g c = λ h node open_ones begun represents owned.
       };
       begun = (λ i. begun_of (onto (sym lapse_is i) (onto (sym lease_is i) (own ∷ node.met))))
           ∙ (leases_begun made.of_cell (onto (map met_of made.of_coordinator) (own ∷ node.met)) ∙ leases_begun made.of_coordinator (own ∷ node.met));
+      groups = (λ i. groups_of (onto (sym lapse_is i) (onto (sym lease_is i) (own ∷ node.met))))
+          ∙ (leases_groups made.of_cell (onto (map met_of made.of_coordinator) (own ∷ node.met)) ∙ leases_groups made.of_coordinator (own ∷ node.met));
     }

@@ -6,8 +6,11 @@ use Rattle.mega_acting.specs.Stands.{setting}
 use Rattle.mega_node.specs.declared.note.Note.{Note}
 use Rattle.mega_node.specs.Beginning.{has_begun}
 use Rattle.mega_node.specs.Notes.{met_of}
+use Rattle.mega_node.specs.Positions.{before_at}
 use Rattle.mega_node.specs.Represents.{Represents}
+use Rattle.mega_node.specs.Touching.{asked_groups}
 use Rattle.mega_node.proofs.Begun.{begin_is, begin_may, represents_keeps}
+use Rattle.mega_node.proofs.Untouched.{begin_noted}
 use Rattle.mega_node.proofs.node.Node.begin.Goals as goal
 
 pub returns-clause-notes : goal.returns-clause-notes
@@ -21,8 +24,11 @@ returns-clause-notes g c = λ told h node represents owned.
     let request = c.args.request in
     let is = begin_is s node request text t c.new.result c.new-2.result t_is c.new.ensures c.new-2.ensures in
     let keeps = represents_keeps s old.voter.logs.kept old.leases (g.V.Versions.version old.rows.rows) (progress_at old.rows.progress) c.args.self.now.open c.args.self.now.begun node represents in
+    let acted = c.in_ok-work.ensures.acted told h node text represents owned in
+    let before : c.in_ok-before.before ≡ map (before_at node.met node.stored) (asked_groups request) = c.in_ok-before.ensures node.met node.stored keeps ∙ ap (map (before_at node.met node.stored)) c.in_ok-groups.ensures in
+    let noted = begin_noted s node request text c.in_ok-before.before (c.in_ok-work.ensures.built h node represents) acted.acted before in
     let first : map met_of c.new-none.result ≡ [] = ap (λ (notes : List Note). map met_of notes) c.new-none.ensures in
-    let made = c.in_ok-step.ensures.made h node (Begins (op_of s node.met) text) [] [] (has_begun s node request text) (c.in_ok-before.ensures node.met node.stored keeps) (c.in_ok-work.ensures.acted told h node text represents owned) first (begin_may s node request text _ is) in
+    let made = c.in_ok-step.ensures.made h node (Begins (op_of s node.met) text) [] [] (has_begun s node request text) noted acted first (begin_may s node request text _ is) in
     made.notes ∙ ap (λ (step : RuleStep). step.notes) is
 
 pub returns-clause-sends : goal.returns-clause-sends
@@ -36,8 +42,11 @@ returns-clause-sends g c = λ told h node represents owned.
     let request = c.args.request in
     let is = begin_is s node request text t c.new.result c.new-2.result t_is c.new.ensures c.new-2.ensures in
     let keeps = represents_keeps s old.voter.logs.kept old.leases (g.V.Versions.version old.rows.rows) (progress_at old.rows.progress) c.args.self.now.open c.args.self.now.begun node represents in
+    let acted = c.in_ok-work.ensures.acted told h node text represents owned in
+    let before : c.in_ok-before.before ≡ map (before_at node.met node.stored) (asked_groups request) = c.in_ok-before.ensures node.met node.stored keeps ∙ ap (map (before_at node.met node.stored)) c.in_ok-groups.ensures in
+    let noted = begin_noted s node request text c.in_ok-before.before (c.in_ok-work.ensures.built h node represents) acted.acted before in
     let first : map met_of c.new-none.result ≡ [] = ap (λ (notes : List Note). map met_of notes) c.new-none.ensures in
-    let made = c.in_ok-step.ensures.made h node (Begins (op_of s node.met) text) [] [] (has_begun s node request text) (c.in_ok-before.ensures node.met node.stored keeps) (c.in_ok-work.ensures.acted told h node text represents owned) first (begin_may s node request text _ is) in
+    let made = c.in_ok-step.ensures.made h node (Begins (op_of s node.met) text) [] [] (has_begun s node request text) noted acted first (begin_may s node request text _ is) in
     made.sends ∙ ap (λ (step : RuleStep). step.sends) is
 
 pub returns-clause-state : goal.returns-clause-state
@@ -51,7 +60,10 @@ returns-clause-state g c = λ told h node represents owned.
     let request = c.args.request in
     let is = begin_is s node request text t c.new.result c.new-2.result t_is c.new.ensures c.new-2.ensures in
     let keeps = represents_keeps s old.voter.logs.kept old.leases (g.V.Versions.version old.rows.rows) (progress_at old.rows.progress) c.args.self.now.open c.args.self.now.begun node represents in
+    let acted = c.in_ok-work.ensures.acted told h node text represents owned in
+    let before : c.in_ok-before.before ≡ map (before_at node.met node.stored) (asked_groups request) = c.in_ok-before.ensures node.met node.stored keeps ∙ ap (map (before_at node.met node.stored)) c.in_ok-groups.ensures in
+    let noted = begin_noted s node request text c.in_ok-before.before (c.in_ok-work.ensures.built h node represents) acted.acted before in
     let first : map met_of c.new-none.result ≡ [] = ap (λ (notes : List Note). map met_of notes) c.new-none.ensures in
-    let made = c.in_ok-step.ensures.made h node (Begins (op_of s node.met) text) [] [] (has_begun s node request text) (c.in_ok-before.ensures node.met node.stored keeps) (c.in_ok-work.ensures.acted told h node text represents owned) first (begin_may s node request text _ is) in
+    let made = c.in_ok-step.ensures.made h node (Begins (op_of s node.met) text) [] [] (has_begun s node request text) noted acted first (begin_may s node request text _ is) in
     let new = c.ends.new.self in
     subst (λ (step : RuleStep). Represents (setting new.replica.members new.replica.me h) new.replica.voter.logs.kept new.replica.leases (g.V.Versions.version new.replica.rows.rows) (progress_at new.replica.rows.progress) new.open new.begun step.node) is made.state

@@ -23,3 +23,9 @@ returns-clause-acted g c = λ told h node text represents owned.
     (c.refusal-refusal.ensures old.members old.me h node c.args.request represents.full (represents.opened ∙ sym opened) represents.begun_is)
     (c.at_open-work.ensures [] node.stored ∙ ap (λ (kept : List Operation). work_of (at_open (at_first [] node.stored) kept)) (c.replace-open.ensures.value ∙ sym represents.opened))
     says.built (λ now. says.state h now told) (λ now. says.work h now told)
+
+pub returns-clause-built : goal.returns-clause-built
+returns-clause-built g c = λ h node represents none.
+    let old = c.args.self.now.replica in
+    c.in_ok-unless_refused.ensures.built
+    (c.refusal-refusal.ensures old.members old.me h node c.args.request represents.full (represents.opened ∙ sym c.as_slice.ensures) represents.begun_is ∙ none)

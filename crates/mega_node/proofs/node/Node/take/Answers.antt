@@ -1,15 +1,20 @@
-use Rattle.std.proofs.Common.{◌≡◌, ◌∙◌, List, ap, subst, sym, rules}
+use Rattle.std.proofs.Common.{◌≡◌, ◌∙◌, List, ap, map, subst, sym, rules}
+use Rattle.std.specs.List.{All}
 use Rattle.mega_rules.specs.Met.{Takes}
 use Rattle.mega_rules.specs.Operations.{Operation}
 use Rattle.mega_rules.specs.Steps.{Step as RuleStep, Take, decision_note, stored_after, told_notes}
 use Rattle.mega_stored.specs.Following.{progress_at}
 use Rattle.mega_known.specs.Acted.{acted_on, decision_in}
 use Rattle.mega_acting.specs.Stands.{setting}
+use Rattle.mega_acting.specs.Turns.{IsBuilt}
+use Rattle.mega_node.specs.Positions.{before_at}
 use Rattle.mega_node.specs.Represents.{Represents}
 use Rattle.mega_node.specs.Taking.{has_taken}
+use Rattle.mega_node.specs.Touching.{touched}
 use Rattle.mega_node.proofs.Begun.{represents_keeps}
 use Rattle.mega_node.proofs.Messages.{heard_are_about, heard_are_built, take_acts, take_is, take_may}
 use Rattle.mega_node.proofs.Refused.{unbuilt_is}
+use Rattle.mega_node.proofs.Untouched.{take_noted}
 use Rattle.mega_node.proofs.node.Node.take.Goals as goal
 
 pub returns-in_err-work-clause-built : goal.returns-in_err-work-clause-built
@@ -18,8 +23,8 @@ returns-in_err-work-clause-built g c = λ is h node represents.
     let version = g.V.Versions.version r0.rows.rows in
     let progress = progress_at r0.rows.progress in
     let s = setting r0.members r0.me h in
-    let before = subst (λ (os : List Operation). Represents s r0.voter.logs.kept r0.leases version progress os c.args.self.now.begun node) (sym c.replace-opened.ensures.value) represents in
-    let heard_is = c.in_ok-taken.ensures.heard h node c.args.self.now.begun before in
+    let opened = subst (λ (os : List Operation). Represents s r0.voter.logs.kept r0.leases version progress os c.args.self.now.begun node) (sym c.replace-opened.ensures.value) represents in
+    let heard_is = c.in_ok-taken.ensures.heard h node c.args.self.now.begun opened in
     c.in_err-work.ensures.unbuilt (search (rules, unbuilt_is))
     (heard_are_built s node c.args.message.now r0.voter.logs.kept r0.leases version progress c.args.self.now.open c.args.self.now.begun c.in_ok-taken.taken.heard represents heard_is)
 
@@ -34,8 +39,8 @@ returns-clause-notes g c = λ told h node represents owned placed.
     let progress = progress_at r0.rows.progress in
     let m = c.args.message.now in
     let s = setting r0.members r0.me h in
-    let before = subst (λ (os : List Operation). Represents s r0.voter.logs.kept r0.leases version progress os begun node) (sym c.replace-opened.ensures.value) represents in
-    let taken = c.in_ok-taken.ensures.taken h node begun before owned placed in
+    let opened = subst (λ (os : List Operation). Represents s r0.voter.logs.kept r0.leases version progress os begun node) (sym c.replace-opened.ensures.value) represents in
+    let taken = c.in_ok-taken.ensures.taken h node begun opened owned placed in
     let heard = c.in_ok-taken.taken.heard in
     let t1 = setting r1.members r1.me h in
     let t2 = setting r2.members r2.me h in
@@ -49,7 +54,10 @@ returns-clause-notes g c = λ told h node represents owned placed.
     (c.in_ok-work.ensures.state told h base stored about taken.stands) (c.in_ok-work.ensures.work told h base stored about taken.stands) in
     let is = take_is s node m t2 c.in_ok-taken.taken.sends c.new-2.result (t2_is ∙ t1_is) taken.sends c.new-2.ensures in
     let keeps = represents_keeps s r0.voter.logs.kept r0.leases version progress own_open begun node represents in
-    let made = c.in_ok-step.ensures.made h node (Takes m) (told_notes s node.met m.from m.body) (decision_note (decision_in s node m)) (has_taken s node m) (c.in_ok-before.ensures node.met node.stored keeps) acted taken.notes (take_may s node m _ is) in
+    let groups : c.in_ok-groups.groups ≡ touched m.body node.open_operations = c.in_ok-groups.ensures ∙ ap (touched m.body) (c.as_slice.ensures ∙ sym represents.opened) in
+    let before : c.in_ok-before.before ≡ map (before_at node.met node.stored) (touched m.body node.open_operations) = c.in_ok-before.ensures node.met node.stored keeps ∙ ap (map (before_at node.met node.stored)) groups in
+    let noted = take_noted s node m c.in_ok-before.before (subst (All IsBuilt) (sym represents.opened) represents.built) acted.acted before in
+    let made = c.in_ok-step.ensures.made h node (Takes m) (told_notes s node.met m.from m.body) (decision_note (decision_in s node m)) (has_taken s node m) noted acted taken.notes (take_may s node m _ is) in
     made.notes ∙ ap (λ (step : RuleStep). step.notes) is
 
 pub returns-clause-sends : goal.returns-clause-sends
@@ -63,8 +71,8 @@ returns-clause-sends g c = λ told h node represents owned placed.
     let progress = progress_at r0.rows.progress in
     let m = c.args.message.now in
     let s = setting r0.members r0.me h in
-    let before = subst (λ (os : List Operation). Represents s r0.voter.logs.kept r0.leases version progress os begun node) (sym c.replace-opened.ensures.value) represents in
-    let taken = c.in_ok-taken.ensures.taken h node begun before owned placed in
+    let opened = subst (λ (os : List Operation). Represents s r0.voter.logs.kept r0.leases version progress os begun node) (sym c.replace-opened.ensures.value) represents in
+    let taken = c.in_ok-taken.ensures.taken h node begun opened owned placed in
     let heard = c.in_ok-taken.taken.heard in
     let t1 = setting r1.members r1.me h in
     let t2 = setting r2.members r2.me h in
@@ -78,7 +86,10 @@ returns-clause-sends g c = λ told h node represents owned placed.
     (c.in_ok-work.ensures.state told h base stored about taken.stands) (c.in_ok-work.ensures.work told h base stored about taken.stands) in
     let is = take_is s node m t2 c.in_ok-taken.taken.sends c.new-2.result (t2_is ∙ t1_is) taken.sends c.new-2.ensures in
     let keeps = represents_keeps s r0.voter.logs.kept r0.leases version progress own_open begun node represents in
-    let made = c.in_ok-step.ensures.made h node (Takes m) (told_notes s node.met m.from m.body) (decision_note (decision_in s node m)) (has_taken s node m) (c.in_ok-before.ensures node.met node.stored keeps) acted taken.notes (take_may s node m _ is) in
+    let groups : c.in_ok-groups.groups ≡ touched m.body node.open_operations = c.in_ok-groups.ensures ∙ ap (touched m.body) (c.as_slice.ensures ∙ sym represents.opened) in
+    let before : c.in_ok-before.before ≡ map (before_at node.met node.stored) (touched m.body node.open_operations) = c.in_ok-before.ensures node.met node.stored keeps ∙ ap (map (before_at node.met node.stored)) groups in
+    let noted = take_noted s node m c.in_ok-before.before (subst (All IsBuilt) (sym represents.opened) represents.built) acted.acted before in
+    let made = c.in_ok-step.ensures.made h node (Takes m) (told_notes s node.met m.from m.body) (decision_note (decision_in s node m)) (has_taken s node m) noted acted taken.notes (take_may s node m _ is) in
     made.sends ∙ ap (λ (step : RuleStep). step.sends) is
 
 pub returns-clause-state : goal.returns-clause-state
@@ -92,8 +103,8 @@ returns-clause-state g c = λ told h node represents owned placed.
     let progress = progress_at r0.rows.progress in
     let m = c.args.message.now in
     let s = setting r0.members r0.me h in
-    let before = subst (λ (os : List Operation). Represents s r0.voter.logs.kept r0.leases version progress os begun node) (sym c.replace-opened.ensures.value) represents in
-    let taken = c.in_ok-taken.ensures.taken h node begun before owned placed in
+    let opened = subst (λ (os : List Operation). Represents s r0.voter.logs.kept r0.leases version progress os begun node) (sym c.replace-opened.ensures.value) represents in
+    let taken = c.in_ok-taken.ensures.taken h node begun opened owned placed in
     let heard = c.in_ok-taken.taken.heard in
     let t1 = setting r1.members r1.me h in
     let t2 = setting r2.members r2.me h in
@@ -107,6 +118,9 @@ returns-clause-state g c = λ told h node represents owned placed.
     (c.in_ok-work.ensures.state told h base stored about taken.stands) (c.in_ok-work.ensures.work told h base stored about taken.stands) in
     let is = take_is s node m t2 c.in_ok-taken.taken.sends c.new-2.result (t2_is ∙ t1_is) taken.sends c.new-2.ensures in
     let keeps = represents_keeps s r0.voter.logs.kept r0.leases version progress own_open begun node represents in
-    let made = c.in_ok-step.ensures.made h node (Takes m) (told_notes s node.met m.from m.body) (decision_note (decision_in s node m)) (has_taken s node m) (c.in_ok-before.ensures node.met node.stored keeps) acted taken.notes (take_may s node m _ is) in
+    let groups : c.in_ok-groups.groups ≡ touched m.body node.open_operations = c.in_ok-groups.ensures ∙ ap (touched m.body) (c.as_slice.ensures ∙ sym represents.opened) in
+    let before : c.in_ok-before.before ≡ map (before_at node.met node.stored) (touched m.body node.open_operations) = c.in_ok-before.ensures node.met node.stored keeps ∙ ap (map (before_at node.met node.stored)) groups in
+    let noted = take_noted s node m c.in_ok-before.before (subst (All IsBuilt) (sym represents.opened) represents.built) acted.acted before in
+    let made = c.in_ok-step.ensures.made h node (Takes m) (told_notes s node.met m.from m.body) (decision_note (decision_in s node m)) (has_taken s node m) noted acted taken.notes (take_may s node m _ is) in
     let new = c.ends.new.self in
     subst (λ (step : RuleStep). Represents (setting new.replica.members new.replica.me h) new.replica.voter.logs.kept new.replica.leases (g.V.Versions.version new.replica.rows.rows) (progress_at new.replica.rows.progress) new.open new.begun step.node) is made.state

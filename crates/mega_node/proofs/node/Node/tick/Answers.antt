@@ -1,5 +1,6 @@
-use Rattle.std.proofs.Common.{◌≡◌, ◌∙◌, ap, subst, sym, rules}
+use Rattle.std.proofs.Common.{◌≡◌, ◌∙◌, ap, map, subst, sym, rules}
 use Rattle.std.specs.List.{All}
+use Rattle.mega_rules.specs.Logs.{groups_of}
 use Rattle.mega_rules.specs.Met.{Ticks}
 use Rattle.mega_rules.specs.Steps.{Step as RuleStep, Tick, lapse_notes, lease_notes, portion_of}
 use Rattle.mega_stored.specs.Following.{progress_at}
@@ -7,11 +8,13 @@ use Rattle.mega_known.specs.About.{IsAbout}
 use Rattle.mega_known.specs.Acted.{acted_on}
 use Rattle.mega_acting.specs.Stands.{setting}
 use Rattle.mega_acting.specs.Turns.{IsBuilt}
+use Rattle.mega_node.specs.Positions.{before_at}
 use Rattle.mega_node.specs.Represents.{Represents}
 use Rattle.mega_node.specs.Ticking.{has_ticked}
 use Rattle.mega_node.proofs.Begun.{represents_keeps}
 use Rattle.mega_node.proofs.Clocks.{tick_acts, tick_is, tick_may}
 use Rattle.mega_node.proofs.Refused.{unbuilt_is}
+use Rattle.mega_node.proofs.Untouched.{tick_noted}
 use Rattle.mega_node.proofs.node.Node.tick.Goals as goal
 
 pub returns-in_err-work-clause-built : goal.returns-in_err-work-clause-built
@@ -43,7 +46,10 @@ returns-clause-notes g c = λ told h node represents owned.
     (c.in_ok-work.ensures.state told h base stored about made1.stands) (c.in_ok-work.ensures.work told h base stored about made1.stands) in
     let is = tick_is s node now t2 c.in_ok-made.made.opening c.in_ok-made.made.closing (t2_is ∙ t1_is) made1.opening made1.closing in
     let keeps = represents_keeps s r0.voter.logs.kept r0.leases version progress own_open begun node represents in
-    let made = c.in_ok-step.ensures.made h node (Ticks now) (lease_notes s node.met now) (lapse_notes s node.met now) (has_ticked s node now) (c.in_ok-before.ensures node.met node.stored keeps) acted made1.notes (tick_may s node now _ is) in
+    let groups : c.from_vec-groups.result ≡ groups_of node.met = c.from_vec-groups.ensures ∙ c.in_ok-found.ensures node.met represents.tells in
+    let before : c.in_ok-before.before ≡ map (before_at node.met node.stored) (groups_of node.met) = c.in_ok-before.ensures node.met node.stored keeps ∙ ap (map (before_at node.met node.stored)) groups in
+    let noted = tick_noted s node now c.in_ok-before.before made1.groups acted.acted before in
+    let made = c.in_ok-step.ensures.made h node (Ticks now) (lease_notes s node.met now) (lapse_notes s node.met now) (has_ticked s node now) noted acted made1.notes (tick_may s node now _ is) in
     made.notes ∙ ap (λ (step : RuleStep). step.notes) is
 
 pub returns-clause-sends : goal.returns-clause-sends
@@ -71,7 +77,10 @@ returns-clause-sends g c = λ told h node represents owned.
     (c.in_ok-work.ensures.state told h base stored about made1.stands) (c.in_ok-work.ensures.work told h base stored about made1.stands) in
     let is = tick_is s node now t2 c.in_ok-made.made.opening c.in_ok-made.made.closing (t2_is ∙ t1_is) made1.opening made1.closing in
     let keeps = represents_keeps s r0.voter.logs.kept r0.leases version progress own_open begun node represents in
-    let made = c.in_ok-step.ensures.made h node (Ticks now) (lease_notes s node.met now) (lapse_notes s node.met now) (has_ticked s node now) (c.in_ok-before.ensures node.met node.stored keeps) acted made1.notes (tick_may s node now _ is) in
+    let groups : c.from_vec-groups.result ≡ groups_of node.met = c.from_vec-groups.ensures ∙ c.in_ok-found.ensures node.met represents.tells in
+    let before : c.in_ok-before.before ≡ map (before_at node.met node.stored) (groups_of node.met) = c.in_ok-before.ensures node.met node.stored keeps ∙ ap (map (before_at node.met node.stored)) groups in
+    let noted = tick_noted s node now c.in_ok-before.before made1.groups acted.acted before in
+    let made = c.in_ok-step.ensures.made h node (Ticks now) (lease_notes s node.met now) (lapse_notes s node.met now) (has_ticked s node now) noted acted made1.notes (tick_may s node now _ is) in
     made.sends ∙ ap (λ (step : RuleStep). step.sends) is
 
 pub returns-clause-state : goal.returns-clause-state
@@ -99,6 +108,9 @@ returns-clause-state g c = λ told h node represents owned.
     (c.in_ok-work.ensures.state told h base stored about made1.stands) (c.in_ok-work.ensures.work told h base stored about made1.stands) in
     let is = tick_is s node now t2 c.in_ok-made.made.opening c.in_ok-made.made.closing (t2_is ∙ t1_is) made1.opening made1.closing in
     let keeps = represents_keeps s r0.voter.logs.kept r0.leases version progress own_open begun node represents in
-    let made = c.in_ok-step.ensures.made h node (Ticks now) (lease_notes s node.met now) (lapse_notes s node.met now) (has_ticked s node now) (c.in_ok-before.ensures node.met node.stored keeps) acted made1.notes (tick_may s node now _ is) in
+    let groups : c.from_vec-groups.result ≡ groups_of node.met = c.from_vec-groups.ensures ∙ c.in_ok-found.ensures node.met represents.tells in
+    let before : c.in_ok-before.before ≡ map (before_at node.met node.stored) (groups_of node.met) = c.in_ok-before.ensures node.met node.stored keeps ∙ ap (map (before_at node.met node.stored)) groups in
+    let noted = tick_noted s node now c.in_ok-before.before made1.groups acted.acted before in
+    let made = c.in_ok-step.ensures.made h node (Ticks now) (lease_notes s node.met now) (lapse_notes s node.met now) (has_ticked s node now) noted acted made1.notes (tick_may s node now _ is) in
     let new = c.ends.new.self in
     subst (λ (step : RuleStep). Represents (setting new.replica.members new.replica.me h) new.replica.voter.logs.kept new.replica.leases (g.V.Versions.version new.replica.rows.rows) (progress_at new.replica.rows.progress) new.open new.begun step.node) is made.state
