@@ -1,5 +1,5 @@
 -- A step applies nothing more of groups that it does not touch.
-use Rattle.std.proofs.Common.{◌≡◌, ℕ, ◌||◌, Bool, true, false, cond, is_none, List, [], ◌∷◌, ◌++◌, map, flat_map, fold, Option, Some, None, refl, sym, ap, subst, ◌∙◌}
+use Rattle.std.proofs.Common.{◌≡◌, ℕ, ◌||◌, Bool, true, false, cond, is_none, List, [], ◌∷◌, map, flat_map, fold, Option, Some, None, refl, sym, ap, ◌∙◌}
 use Rattle.std.specs.List.{All}
 use Rattle.std.proofs.lemmas.List.Elements.{All-cons, All-head, All-nil, All-tail, All-weaker}
 use Rattle.mega_base.specs.declared.names.GroupId.{GroupId}
@@ -18,7 +18,7 @@ use Rattle.mega_rules.specs.Acting.{validated_by}
 use Rattle.mega_rules.specs.Clock.{clock_of}
 use Rattle.mega_rules.specs.Logs.{decided, groups_of, log_of}
 use Rattle.mega_rules.specs.Operations.{Node, Now, Operation, Phase, Proposes, Reads, Setting}
-use Rattle.mega_rules.specs.Steps.{Begin, Decision, Heard, Take, Tick, all_act, applied_at, apply_note, at_first, decision_at, decision_note, first_settled, hears_message, if_new, new_operation, onto, op_of, portion_of, read_decision, refusal, settled_by, stored_after, told_decision, told_notes, unless_refused}
+use Rattle.mega_rules.specs.Steps.{Decision, Heard, Take, Tick, applied_at, apply_note, at_first, decision_at, decision_note, first_settled, hears_message, if_new, new_operation, onto, op_of, portion_of, read_decision, refusal, settled_by, stored_after, told_decision, told_notes}
 use Rattle.mega_known.specs.About.{IsOf, group_in}
 use Rattle.mega_known.specs.Acted.{acted_on, decision_in, or_settled}
 use Rattle.mega_known.proofs.Logs.{groups_after, log_after, log_stays, other_log}

@@ -15,9 +15,9 @@ use std::alloc::Global;
 
 /// The applied position of a group before a step.
 #[derive(Debug, Drop)]
-pub struct Before {
-    pub group: GroupId,
-    pub position: u64,
+pub(crate) struct Before {
+    pub(crate) group: GroupId,
+    pub(crate) position: u64,
 }
 
 /// The applied position of a group.
