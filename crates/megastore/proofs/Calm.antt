@@ -77,9 +77,9 @@ step_calm : (c : Cluster) (now : Standing) (me : ℕ) (own : List Item) (made : 
     → (AreCalm now.tape → AreCalm (onto own now.tape)) → shows_leases made ≡ false → All IsTimeless made.sends → IsCalm (whole_step c now me own made)
 step_calm c now me own made calm plain_own owned plain each =
     let after : AreCalm (whole_step c now me own made).tape =
-        subst AreCalm (sym (step_shows c now me own made plain_own plain))
-        (sent_calm (sent_count now.tape + 1) made.sends (onto (flat_map (shown me) made.notes) (onto own now.tape)) each
-        (notes_calm me made.notes (onto own now.tape) (owned (record { undropped = calm.undropped; timeless = calm.timeless })))) in
+    subst AreCalm (sym (step_shows c now me own made plain_own plain))
+    (sent_calm (sent_count now.tape + 1) made.sends (onto (flat_map (shown me) made.notes) (onto own now.tape)) each
+    (notes_calm me made.notes (onto own now.tape) (owned (record { undropped = calm.undropped; timeless = calm.timeless })))) in
     record { unfused = still_unfused c now me own made calm.unfused; undropped = after.undropped; timeless = after.timeless }
 
 -- the message that is delivered shows nothing of leases

@@ -213,7 +213,7 @@ delivery_refused world items now number why at calm refused =
         → (is_sent now.tape number ≡ false) × (why ≡ 3)
     by true is found =
         let same : because (receiver_down now (message_of now.tape number)) 1 None ≡ Some why =
-            ap (λ (b : Bool). because (not b) 3 (because false 4 (because (receiver_down now (message_of now.tape number)) 1 None))) (sym is) ∙ found in
+        ap (λ (b : Bool). because (not b) 3 (because false 4 (because (receiver_down now (message_of now.tape number)) 1 None))) (sym is) ∙ found in
         absurd (reached (receiver_down now (message_of now.tape number)) same)
       where
         reached : (down : Bool) → because down 1 None ≡ Some why → ⊥

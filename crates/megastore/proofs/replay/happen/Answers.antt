@@ -41,8 +41,8 @@ returns-in-Err-Unbuilt-clause-built c at is =
     let after = c.requires.standing.2 in
     let spelled = subst (λ (tape : List Item). Spells c.args.line.now tape c.args.event) after.here.tape c.requires.spelled in
     let allowed =
-        allowed_here c.args.world.now c.args.tape.now.items (stood events) c.args.line.now c.args.event after.here spelled
-        (λ number delivers. c.in-Err-Unbuilt.ensures.allowed (ap Err c.in-Err-Unbuilt.field-0-is) number delivers cluster (stood events) after.here) in
+    allowed_here c.args.world.now c.args.tape.now.items (stood events) c.args.line.now c.args.event after.here spelled
+    (λ number delivers. c.in-Err-Unbuilt.ensures.allowed (ap Err c.in-Err-Unbuilt.field-0-is) number delivers cluster (stood events) after.here) in
     served c.args.line.now (stood events) c.args.event (run_calm done events after.happen) spelled
     (c.in-Err-Unbuilt.ensures.unbuilt (ap Err c.in-Err-Unbuilt.field-0-is) cluster [] uncut (stood events) after.here
     (sound done events c.args.line.now c.args.event after.happen spelled allowed))
