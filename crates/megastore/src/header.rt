@@ -1,7 +1,7 @@
-ghost use Rattle.std.specs.Prelude.{◌≡◌, ◌≢◌, ◌≤◌, [], Ok, Err, IfErr, IfOk, true, false};
+ghost use Rattle.std.specs.Prelude.{◌≡◌, ◌≢◌, ◌≤◌, [], Ok, Err, IfErr, length, true, false};
 ghost use Rattle.std.specs.Io.KnownBytes.{prepend_known, IsAtEnd};
 ghost use Rattle.mega_base.specs.Causes.{Rose};
-ghost use Rattle.megastore.specs.Replaying.{Follows, Differs, Ends, IsTooLong};
+ghost use Rattle.megastore.specs.Replaying.{Follows, Differs, Ends, IsTooLong, IsHeaded, IsOther};
 ghost use Rattle.megastore.specs.Stops.{IsReadStop};
 
 use crate::status::Stop;
@@ -65,4 +65,47 @@ fn last_line(line: &Bytes) -> Next
     } else {
         Next::Line
     }
+}
+
+/// Reads a line of the header, and tells whether it is the one expected.
+fn expect_line<I: Source>(
+    reader: &mut LineReader,
+    input: &mut I,
+    line: &mut Bytes,
+    expected: &[u8],
+) -> Result<bool, Stop>
+    requires { length expected.now ≤ 65536 }
+    ensures same { result ≡ Ok true → Follows (prepend_known reader.old (I.left input.old)) (prepend_known reader.new (I.left input.new)) expected.now }
+    ensures other { result ≡ Ok false → Differs (prepend_known reader.old (I.left input.old)) expected.now }
+    ensures source { result ≡ Err Stop.Source → Rose (I.faults input.old) (I.faults input.new) }
+    ensures only { IfErr result IsReadStop }
+    ensures count { I.faults input.old ≤ I.faults input.new }
+{
+    match next_line(reader, input, line) {
+        Ok(Next::Line) => Ok(line.as_slice() == expected),
+        Ok(Next::End) => Ok(false),
+        Ok(Next::Long) => Ok(false),
+        Err(stop) => Err(stop),
+    }
+}
+
+/// Reads the header, and tells whether it is the one that is built.
+pub fn expect_header<I: Source>(
+    reader: &mut LineReader,
+    input: &mut I,
+    line: &mut Bytes,
+) -> Result<bool, Stop>
+    ensures same { result ≡ Ok true → IsHeaded (prepend_known reader.old (I.left input.old)) (prepend_known reader.new (I.left input.new)) }
+    ensures other { result ≡ Ok false → IsOther (prepend_known reader.old (I.left input.old)) }
+    ensures source { result ≡ Err Stop.Source → Rose (I.faults input.old) (I.faults input.new) }
+    ensures only { IfErr result IsReadStop }
+    ensures count { I.faults input.old ≤ I.faults input.new }
+{
+    if !expect_line(reader, input, line, &HEADER_NODES)? {
+        return Ok(false);
+    }
+    if !expect_line(reader, input, line, &HEADER_SCHEMA)? {
+        return Ok(false);
+    }
+    expect_line(reader, input, line, &HEADER_END)
 }

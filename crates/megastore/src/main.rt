@@ -2,6 +2,7 @@
 #![tactic(auto)]
 
 mod cluster;
+mod happening;
 mod header;
 mod line;
 mod quiet;
@@ -10,6 +11,8 @@ mod run;
 mod status;
 #[cfg(test)]
 mod tests;
+#[cfg(test)]
+mod world_tests;
 mod writing;
 
 use mega_base::Text;

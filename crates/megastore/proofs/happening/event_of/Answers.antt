@@ -1,5 +1,5 @@
 use Rattle.std.proofs.Common.{Ok, ap}
-use Rattle.megastore.proofs.replay.event_of.Goals as goal
+use Rattle.megastore.proofs.happening.event_of.Goals as goal
 
 pub returns-in-None-clause-none : goal.returns-in-None-clause-none
 returns-in-None-clause-none c is items standing =

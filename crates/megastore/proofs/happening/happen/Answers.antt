@@ -6,7 +6,7 @@ use Rattle.mega_rules.specs.Examples.{cluster}
 use Rattle.megastore.specs.Running.{Spells, stood, uncut}
 use Rattle.megastore.proofs.Calm.{run_calm}
 use Rattle.megastore.proofs.Running.{allowed_here, refused_here, served, sound, went}
-use Rattle.megastore.proofs.replay.happen.Goals as goal
+use Rattle.megastore.proofs.happening.happen.Goals as goal
 
 pub returns-in-Ok-clause-state : goal.returns-in-Ok-clause-state
 returns-in-Ok-clause-state c done events after =
@@ -46,3 +46,6 @@ returns-in-Err-Unbuilt-clause-built c at is =
     served c.args.line.now (stood events) c.args.event (run_calm done events after.happen) spelled
     (c.in-Err-Unbuilt.ensures.unbuilt (ap Err c.in-Err-Unbuilt.field-0-is) cluster [] uncut (stood events) after.here
     (sound done events c.args.line.now c.args.event after.happen spelled allowed))
+
+pub returns-in-Ok-clause-refused : goal.returns-in-Ok-clause-refused
+returns-in-Ok-clause-refused c at why is done events after = let none : ⊥ = cc in absurd none

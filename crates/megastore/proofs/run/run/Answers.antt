@@ -25,3 +25,6 @@ returns-then-not-is_form-clause-used g c is =
     let bytes : c.as_bytes.result.now ≡ usage_line = c.as_bytes.ensures.value in
     either_front c.put.result (g.O.Sink.held c.args.out.now) (g.O.Sink.held c.put.new.sink) usage_line (subst (λ (text : List ℕ). OnOk c.put.result (Appends (g.O.Sink.held c.args.out.now) (g.O.Sink.held c.put.new.sink) text)) bytes c.put.ensures.ok)
     (subst (λ (text : List ℕ). OnErr c.put.result (AppendsFront (g.O.Sink.held c.args.out.now) (g.O.Sink.held c.put.new.sink) text)) bytes c.put.ensures.err)
+
+pub returns-in-Ok-clause-refused : goal.returns-in-Ok-clause-refused
+returns-in-Ok-clause-refused g c is = let none : ⊥ = cc in absurd none

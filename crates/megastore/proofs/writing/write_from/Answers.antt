@@ -3,7 +3,7 @@ use Rattle.mega_transcript.specs.declared.item.Item.{Item}
 use Rattle.megastore.specs.Progress.{WritesFront}
 use Rattle.megastore.specs.Texts.{text_of}
 use Rattle.megastore.proofs.Texts.{item_written, item_cut}
-use Rattle.megastore.proofs.replay.write_from.Goals as goal
+use Rattle.megastore.proofs.writing.write_from.Goals as goal
 
 pub returns-in-Err-clause-cut : goal.returns-in-Err-clause-cut
 returns-in-Err-clause-cut g c =

@@ -1,7 +1,7 @@
 use Rattle.std.proofs.Common.{◌≤◌, ◌++◌, take}
 use Rattle.megastore.specs.Progress.{Writes}
 use Rattle.megastore.specs.Texts.{text_of}
-use Rattle.megastore.proofs.replay.write_from.Given as goal
+use Rattle.megastore.proofs.writing.write_from.Given as goal
 
 abbrev pub invariant-loop-item : goal.invariant-loop-item
 invariant-loop-item g l =
