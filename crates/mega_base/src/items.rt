@@ -1,3 +1,4 @@
+//! A list of items that contracts see as one.
 ghost use Rattle.std.specs.Prelude.{◌≡◌, [], ◌∷◌, ◌++◌, ◌==◌, IfOk, OnOk, OnErr, IfErr, length};
 ghost use Rattle.std.specs.Cmp.Lexicographic.{pointwise, lists_per};
 

@@ -14,8 +14,6 @@ mod names;
 mod nested;
 mod row_fields;
 mod same;
-#[cfg(test)]
-mod tests;
 mod text;
 mod text_field;
 mod value_fields;

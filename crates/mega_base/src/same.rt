@@ -1,3 +1,4 @@
+//! Values of which it can be told whether they are equal.
 ghost use Rattle.std.specs.Prelude.{◌≡◌, ◌↔◌, IsTrue};
 
 use crate::bytes::Bytes;

@@ -1,3 +1,4 @@
+//! The format of a property's value.
 use crate::bytes::Bytes;
 use crate::copied::NoMemory;
 use crate::cursor::Cursor;

@@ -1,3 +1,4 @@
+//! The values that rows hold: kinds, values, cells, rows, and the shapes of row keys.
 use crate::bytes::Bytes;
 use crate::copied::{Copied, NoMemory};
 use crate::items::Items;

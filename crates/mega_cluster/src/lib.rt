@@ -10,6 +10,3 @@ mod nodes;
 pub use cluster::Cluster;
 pub use fault::HeaderFault;
 pub use header::read;
-
-#[cfg(test)]
-mod tests;

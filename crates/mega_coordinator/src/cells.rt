@@ -1,3 +1,4 @@
+//! The number of lock cells of a cluster.
 ghost use Rattle.std.specs.Prelude.{◌≤◌};
 
 /// The number of lock cells of a cluster.

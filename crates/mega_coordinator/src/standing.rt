@@ -1,3 +1,4 @@
+//! What a coordinator keeps of a group for the present epoch.
 use mega_base::Position;
 
 /// What a coordinator keeps of a group for the present epoch: the greatest position at which it was

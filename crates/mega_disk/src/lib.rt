@@ -23,6 +23,3 @@ pub use pair::{Device, Pair};
 pub use past::Past;
 pub use records::{RecordError, Records};
 pub use versions::{StoreError, Versions};
-
-#[cfg(test)]
-mod tests;

@@ -1,3 +1,4 @@
+//! A log entry that is held once and lent, so that a copy shares its content.
 ghost use Rattle.std.specs.Prelude.{◌≡◌, IfOk};
 
 use crate::content::Content;

@@ -9,6 +9,3 @@ mod page;
 mod writing;
 
 pub use writing::generate;
-
-#[cfg(test)]
-mod tests;

@@ -10,6 +10,3 @@ pub use copy::Copy;
 pub use credit::Credit;
 pub use handler::Handler;
 pub use handlers::{HandlerFault, Handlers};
-
-#[cfg(test)]
-mod tests;

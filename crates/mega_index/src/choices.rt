@@ -1,3 +1,4 @@
+//! One value of each indexed property, in all ways.
 ghost use Rattle.std.specs.Prelude.{◌≡◌, [], ◌∷◌, ◌++◌, IfOk, OnOk};
 ghost use Rattle.mega_index.specs.Fits.{with_each, extended, choices};
 

@@ -1,3 +1,4 @@
+//! Why an index refuses a call.
 use mega_base::NoMemory;
 
 /// Why an index refused a call.

@@ -1,3 +1,4 @@
+//! Sources and sinks over the readers and writers of the system.
 ghost use Rattle.std.specs.Prelude.{None};
 
 use crate::sink::{Sink, SinkError};

@@ -8,6 +8,3 @@ mod opening;
 mod parse;
 
 pub use journal::Journal;
-
-#[cfg(test)]
-mod tests;

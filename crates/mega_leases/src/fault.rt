@@ -1,3 +1,4 @@
+//! Why leases do not take a message.
 ghost use Rattle.std.specs.Prelude.{◌≡◌};
 
 use mega_base::NoMemory;

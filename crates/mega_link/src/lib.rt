@@ -9,8 +9,6 @@ mod mem_link;
 mod outbox;
 mod peer;
 mod std_clock;
-#[cfg(test)]
-mod tests;
 mod udp_link;
 
 pub use clock::{Clock, LATEST};

@@ -1,3 +1,4 @@
+//! A link over UDP, between addresses of nodes and of clients.
 ghost use Rattle.std.specs.Prelude.{◌≡◌, None};
 
 use crate::link::Link;

@@ -5,4 +5,3 @@ pub mod Items
 pub mod Grown
 pub mod GrownChanges
 pub mod Group
-pub mod Accounts

@@ -1,3 +1,4 @@
+//! What transactions, batches and operations come to: replies, refusals and answers.
 use mega_base::{Copied, GroupId, Items, NoMemory, NodeKind, OpId, Position, Row, Text};
 use mega_entry::{Cut, Send, Write};
 use mega_index::Found;

@@ -33,6 +33,3 @@ pub use laws::{outcomes_look_at_their_group, outcomes_stay_under_more_properties
 pub use outcomes::run;
 pub use request::{FindRequest, Mode, ReadRequest, Request};
 pub use transaction::{Change, Check, RowRef, Transaction};
-
-#[cfg(test)]
-mod tests;

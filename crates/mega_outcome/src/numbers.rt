@@ -1,3 +1,4 @@
+//! The numbers of a transaction's items: checks, reads, writes and sends in turn.
 ghost use Rattle.std.specs.Prelude.{◌≡◌, ◌+◌, IfOk};
 ghost use Rattle.mega_outcome.specs.Numbers.{AreNumbers};
 

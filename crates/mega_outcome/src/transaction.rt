@@ -1,3 +1,4 @@
+//! A transaction on one entity group: its checks, reads, writes and sends.
 use mega_base::{Copied, GroupId, Items, NoMemory, Row, Value};
 use mega_entry::Send;
 use std::alloc::Global;

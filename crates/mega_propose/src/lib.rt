@@ -12,8 +12,6 @@ mod round;
 mod same;
 mod sending;
 mod taking;
-#[cfg(test)]
-mod tests;
 mod votes;
 
 pub use due::is_due;

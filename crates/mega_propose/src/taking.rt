@@ -1,3 +1,4 @@
+//! What a round leads to that takes a message from a node.
 ghost use Rattle.std.specs.Prelude.{◌≡◌, IfOk};
 ghost use Rattle.mega_propose.specs.Rounds.{is_here, sees, takes};
 

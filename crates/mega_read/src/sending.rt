@@ -1,3 +1,4 @@
+//! The messages of a read: questions for top positions and for entries.
 ghost use Rattle.std.specs.Prelude.{◌≡◌, map, IfOk};
 ghost use Rattle.mega_read.specs.Catching.{fetch_to, helpers, message, where_to};
 

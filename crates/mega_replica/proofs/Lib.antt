@@ -1,1 +1,15 @@
 pub mod Writes
+pub mod Entries
+pub mod Writing
+pub mod Places
+pub mod Telling
+pub mod Only
+pub mod Fared
+pub mod Joined
+pub mod Reading
+pub mod Growing
+pub mod Listing
+pub mod Steps
+pub mod Opened
+pub mod Next
+pub mod Logs

@@ -1,1 +1,5 @@
 pub mod Applying
+pub mod Stored
+pub mod Following
+pub mod Puts
+pub mod Faring

@@ -1,9 +1,13 @@
-//! How far a node has stored the writes of a group's decided prefix, and how many entries are applied then (CIDR 2011,
-//! write-ahead log).
+//! The rows of a node, as they follow the decided prefixes of its logs: each write stands at the position of its entry
+//! (CIDR 2011, write-ahead log).
 #![tactic(auto)]
 
 mod applying;
-#[cfg(test)]
-mod tests;
+pub mod laws;
+mod progress;
+mod rows;
+mod storing;
 
 pub use applying::{after_portion, after_read, applied, writes_through};
+pub use progress::Progress;
+pub use rows::StoredRows;

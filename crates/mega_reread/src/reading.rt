@@ -1,3 +1,4 @@
+//! Reads all lines of an input, and tells of those that are none of an item.
 use crate::counts::Counts;
 use crate::line::written_back;
 use crate::stop::Stop;

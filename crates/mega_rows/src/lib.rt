@@ -4,7 +4,5 @@
 mod line;
 mod lines;
 mod rows;
-#[cfg(test)]
-mod tests;
 
 pub use rows::VersionedRows;

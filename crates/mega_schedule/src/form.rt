@@ -1,3 +1,4 @@
+//! The forms of lines, and the words that name forms, modes, devices and pumps.
 ghost use Rattle.std.specs.Prelude.{◌≡◌};
 ghost use Rattle.mega_syntax.specs.Names.{same};
 ghost use Rattle.mega_schedule.specs.Forms.{form_named, mode_named, device_named, pump_named};
@@ -7,7 +8,7 @@ use mega_outcome::Mode;
 
 /// The form of a line, which the word of its `do` names.
 #[derive(Clone, Copy, PartialEq, Eq, Debug, Drop)]
-pub(crate) enum Form {
+pub enum Form {
     Tick,
     Deliver,
     Drop,
@@ -25,7 +26,7 @@ pub(crate) enum Form {
 
 /// What a pump does.
 #[derive(Clone, Copy, PartialEq, Eq, Debug, Drop)]
-pub(crate) enum Pump {
+pub enum Pump {
     Enter,
     Handle,
 }

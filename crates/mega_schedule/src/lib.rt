@@ -13,8 +13,7 @@ mod values;
 mod verdict;
 mod world_event;
 
+pub use form::{Form, Pump};
 pub use read::event;
+pub use verdict::Verdict;
 pub use world_event::{LineFault, WorldEvent};
-
-#[cfg(test)]
-mod tests;

@@ -1,3 +1,4 @@
+//! A declared schema: its tables, properties and indexes, numbered from 1.
 use mega_base::{Items, Kind, Text};
 use mega_syntax::Need;
 

@@ -21,6 +21,3 @@ pub use words::{
     ChangeWords, Clause, IndexWords, Name, Placed, PropertyWords, SchemaWords, Statement,
     TableWords,
 };
-
-#[cfg(test)]
-mod tests;

@@ -32,6 +32,3 @@ pub use item::{Item, Note, Tape};
 pub use laws::text_tells_tape;
 pub use lines::text;
 pub use parsing::parse;
-
-#[cfg(test)]
-mod tests;

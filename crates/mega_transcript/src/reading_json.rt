@@ -1,3 +1,4 @@
+//! Reads a word that is JSON.
 ghost use Rattle.std.specs.Prelude.{◌≡◌, IfOk, option_map};
 ghost use Rattle.serde_json.specs.View.{view};
 ghost use Rattle.mega_transcript.specs.Requests.{json_of};

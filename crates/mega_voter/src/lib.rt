@@ -5,8 +5,6 @@
 mod answers;
 pub mod laws;
 mod readers;
-#[cfg(test)]
-mod tests;
 mod voter;
 
 pub use voter::Voter;

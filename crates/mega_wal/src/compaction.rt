@@ -1,3 +1,4 @@
+//! The items that say all that is kept, as one record for a replacement.
 ghost use Rattle.std.specs.Prelude.{◌≡◌, ◌++◌, ◌∷◌, [], ◌<◌, ◌^◌, All, OnOk, IfOk, length, ◌&&◌, ◌||◌};
 ghost use Rattle.std.specs.List.{flat_map};
 ghost use Rattle.std.specs.List.Sorted.{IsStrictlySortedBy};

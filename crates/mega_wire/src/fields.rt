@@ -1,3 +1,4 @@
+//! Reads the fields that kinds of messages share: places, entries, votes and clock readings.
 ghost use Rattle.mega_base.specs.Reading.{option_at};
 ghost use Rattle.mega_base.specs.Pairs.{pair_at};
 ghost use Rattle.mega_base.specs.Faults.{Reads};

@@ -1,18 +1,13 @@
 //! The program: reads a cluster and a schedule, and writes the transcript of what happened.
 #![tactic(auto)]
 
-mod cluster;
 mod happening;
-mod header;
-mod line;
-mod quiet;
+mod heading;
+mod input;
+mod opening;
 mod replay;
 mod run;
 mod status;
-#[cfg(test)]
-mod tests;
-#[cfg(test)]
-mod world_tests;
 mod writing;
 
 use mega_base::Text;

@@ -1,0 +1,46 @@
+use Rattle.std.proofs.Common.{◌∙◌, fold, None, ap, subst, rules}
+use Rattle.std.proofs.lemmas.List.Elements.{All-rest}
+use Rattle.std.specs.Vec.Iter.{into_iter_items}
+use Rattle.mega_rules.specs.Operations.{Now}
+use Rattle.mega_rules.specs.Steps.{acts_in_turn}
+use Rattle.mega_replica.specs.Faring.{Fares}
+use Rattle.mega_replica.specs.Following.{progress_at}
+use Rattle.mega_replica.proofs.Fared.{fares_then}
+use Rattle.mega_actions.specs.Faults.{failed_by}
+use Rattle.mega_actions.specs.Stands.{Stands, setting}
+use Rattle.mega_actions.specs.Turns.{IsBuiltHeard, IsHeardAbout}
+use Rattle.mega_actions.specs.Working.{work_of}
+use Rattle.mega_actions.proofs.InTurn.{all_before, goes_next, of_last}
+use Rattle.mega_actions.proofs.replica.Replica.all_act.Goals as goal
+
+pub loop-one-preserved : goal.loop-one-preserved
+loop-one-preserved g c =
+    let loop = c.loop-one in
+    let before = c.args.self.now in
+    let new = c.acts_in_turn.new.self in
+    let one = c.in-Some.one in
+    record {
+      state = λ h now told all stands.
+          let s = setting before.members before.me h in
+          subst (λ (then : Now). Stands (setting new.members new.me h) new.voter.logs.kept new.leases (g.V.Versions.version new.rows.rows) (progress_at new.rows.progress) then.met then.stored)
+          (goes_next (acts_in_turn) s (setting loop.self.members loop.self.me h) now loop.yielded one (λ i. setting (loop.invariant.members i) (loop.invariant.me i) h))
+          (c.in_ok-acts_in_turn.ensures.state h (fold (acts_in_turn s) now loop.yielded) told (of_last IsHeardAbout loop.yielded one all) (loop.invariant.state h now told (all_before IsHeardAbout loop.yielded one all) stands));
+      work = λ h now told all stands same.
+          let s = setting before.members before.me h in
+          c.in_ok-acts_in_turn.ensures.work h (fold (acts_in_turn s) now loop.yielded) told (of_last IsHeardAbout loop.yielded one all) (loop.invariant.state h now told (all_before IsHeardAbout loop.yielded one all) stands)
+          (loop.invariant.work h now told (all_before IsHeardAbout loop.yielded one all) stands same)
+          ∙ ap work_of (goes_next (acts_in_turn) s (setting loop.self.members loop.self.me h) now loop.yielded one (λ i. setting (loop.invariant.members i) (loop.invariant.me i) h));
+      members = c.in_ok-acts_in_turn.ensures.members ∙ loop.invariant.members;
+      me = c.in_ok-acts_in_turn.ensures.me ∙ loop.invariant.me;
+      voter = c.in_ok-acts_in_turn.ensures.voter ∙ loop.invariant.voter;
+      fares = fares_then g.V.Versions None before.rows.rows loop.self.rows.rows new.rows.rows loop.invariant.fares c.in_ok-acts_in_turn.ensures.fares;
+      built = λ all. All-rest IsBuiltHeard one (into_iter_items c.next.new.self) (into_iter_items loop.one-iterator) c.in-Some.ensures.steps.0 (loop.invariant.built all);
+    }
+
+pub returns-in_err-acts_in_turn-clause-fares : goal.returns-in_err-acts_in_turn-clause-fares
+returns-in_err-acts_in_turn-clause-fares g c =
+    let before = c.args.self.now.rows.rows in
+    let mid = c.loop-one.self.rows.rows in
+    let new = c.acts_in_turn.new.self.rows.rows in
+    let rest : Fares g.V.Versions (failed_by c.from_residual.result) mid new = search rules in
+    fares_then g.V.Versions (failed_by c.from_residual.result) before mid new c.loop-one.invariant.fares rest

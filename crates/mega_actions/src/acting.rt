@@ -1,0 +1,269 @@
+//! What an operation does that acts: it reads, seeks, finishes or ends.
+ghost use Rattle.std.specs.Prelude.{◌≡◌, ◌≤◌, ◌+◌, ◌<◌, ◌^◌, nat_le, IfOk, OnOk, OnErr, Err, false, true};
+ghost use Rattle.mega_handler.specs.Named.{Meanings};
+ghost use Rattle.mega_node_laws.specs.About.{IsAbout, IsOf};
+ghost use Rattle.mega_operations.specs.Whole.{whole};
+ghost use Rattle.mega_operations.specs.Phases.{promised_of};
+ghost use Rattle.mega_rules.specs.Clock.{clock_of};
+ghost use Rattle.mega_rules.specs.Logs.{decided, prefix_of};
+ghost use Rattle.mega_rules.specs.Operations.{Now, Operation as Open, Proposes, Reads};
+ghost use Rattle.mega_rules.specs.Acting.{completes_read, finishes, goes_on, reader_of, reads_on, seeks_on, unless_decided};
+ghost use Rattle.mega_read.specs.Catching.{seeks};
+ghost use Rattle.mega_replica.specs.Following.{progress_at};
+ghost use Rattle.mega_replica.specs.Faring.{Fares};
+ghost use Rattle.mega_actions.specs.declared.fault.ActFault.TheVariants.{NoMemory as OutOfMemory, Unbuilt};
+ghost use Rattle.mega_voter.specs.Telling.{Tells};
+ghost use Rattle.mega_actions.specs.Built.{is_built};
+ghost use Rattle.mega_actions.specs.Faults.{failed_by};
+ghost use Rattle.mega_actions.specs.Deeds.{does};
+ghost use Rattle.mega_actions.specs.Reaching.{operation_of};
+ghost use Rattle.mega_actions.specs.Stands.{Stands, setting};
+ghost use Rattle.mega_actions.specs.Working.{work_of};
+
+use crate::completing::{goes, reads_through};
+use crate::deed::{Deed, End};
+use crate::fault::ActFault;
+use crate::proposing::{Proposing, unless_decided};
+use crate::reached::Reached;
+use crate::replica::Replica;
+use crate::work::Work;
+use mega_base::{GroupId, NoMemory, OpId, Position};
+use mega_disk::{Records, Versions};
+use mega_operations::{Kept, Members, Operation, Phase};
+use mega_read::Reading;
+use mega_voter::Voter;
+use std::alloc::Global;
+
+/// What a read comes to that seeks the least position that is not decided.
+fn sought(
+    alloc: Global,
+    members: &Members,
+    clock: u64,
+    op: OpId,
+    group: &GroupId,
+    reading: Reading,
+    least: u64,
+) -> Result<mega_read::Move, NoMemory>
+    ensures { IfOk result (λ made. (me : _) (h : Meanings) → made ≡ seeks (reader_of (setting members.now me h) op group.now) reading least clock) }
+{
+    match members.reader(alloc, op, group) {
+        Ok(who) => {
+            let made = reading.seeks(alloc, &who, least, clock)?;
+            Ok(made)
+        }
+        Err(refused) => {
+            drop(reading);
+            Err(refused)
+        }
+    }
+}
+
+/// What an operation does whose read seeks the least position that is not decided.
+fn seeks(
+    alloc: Global,
+    members: &Members,
+    clock: u64,
+    kept: Kept,
+    group: GroupId,
+    reading: Reading,
+    least: u64,
+) -> Result<Deed, NoMemory>
+    ensures { IfOk result (λ deed. (me : _) (h : Meanings) (now : Now) → clock ≡ clock_of now.met →
+        does now deed ≡ seeks_on (whole kept (Reads group reading)) now group (seeks (reader_of (setting members.now me h) kept.id group) reading least (clock_of now.met))) }
+{
+    match sought(alloc, members, clock, kept.id, &group, reading, least) {
+        Ok(made) => {
+            let mega_read::Move { reading, sends } = made;
+            let operation = kept.in_phase(Phase::Reads { group, reading });
+            Ok(Deed {
+                sends: Some(sends),
+                end: End::Stays(operation),
+            })
+        }
+        Err(refused) => {
+            drop(kept);
+            drop(group);
+            Err(refused)
+        }
+    }
+}
+
+/// An operation that proposes ends where its position is decided.
+fn checks<R: Records>(
+    voter: &Voter<R>,
+    work: &mut Work,
+    kept: Kept,
+    own: Proposing,
+) -> Result<(), ActFault>
+    ensures work { OnOk result ((now : Now) → Tells voter.now.logs.kept now.met → work.old ≡ work_of now →
+        work.new ≡ work_of (unless_decided now (whole kept (Proposes own.group own.position own.asked own.proposal (promised_of own.promised))) own.position (promised_of own.promised) (decided now.met own.group own.position))) }
+    ensures memory { OnErr result (result ≡ Err OutOfMemory) }
+{
+    let found = voter.decided(&own.group, Position(own.position));
+    let deed = unless_decided(kept, own, None, found);
+    work.does(deed)?;
+    Ok(())
+}
+
+/// Whether all positions through this one are decided, where so many are.
+fn is_reached(through: u64, prefix: u64) -> bool
+    ensures exact { result ≡ nat_le through prefix }
+    ensures within { result ≡ true → through ≤ prefix }
+    ensures room { result ≡ false → prefix + 1 < 2 ^ 64 }
+{
+    through <= prefix
+}
+
+impl<R: Records, V: Versions> Replica<R, V> {
+    /// The read of an operation completes through a decided position, and the operation goes on to what it asks.
+    fn completes(
+        &mut self,
+        alloc: Global,
+        work: &mut Work,
+        reached: Reached,
+    ) -> Result<(), ActFault>
+        ensures state { OnOk result ((h : Meanings) (now : Now) (again : Now → Open → Now) → V.is_told ≡ true → IsOf reached.kept.request reached.group → reached.position ≤ prefix_of now.met reached.group →
+            Stands (setting self.old.members self.old.me h) self.old.voter.logs.kept self.old.leases (V.version self.old.rows.rows) (progress_at self.old.rows.progress) now.met now.stored →
+            Stands (setting self.new.members self.new.me h) self.new.voter.logs.kept self.new.leases (V.version self.new.rows.rows) (progress_at self.new.rows.progress)
+            (finishes (setting self.old.members self.old.me h) again (completes_read (setting self.old.members self.old.me h) now reached.group reached.reading reached.position) (operation_of reached) reached.group reached.reading reached.position).met
+            (finishes (setting self.old.members self.old.me h) again (completes_read (setting self.old.members self.old.me h) now reached.group reached.reading reached.position) (operation_of reached) reached.group reached.reading reached.position).stored) }
+        ensures work { OnOk result ((h : Meanings) (now : Now) (again : Now → Open → Now) → V.is_told ≡ true → IsOf reached.kept.request reached.group → reached.position ≤ prefix_of now.met reached.group →
+            Stands (setting self.old.members self.old.me h) self.old.voter.logs.kept self.old.leases (V.version self.old.rows.rows) (progress_at self.old.rows.progress) now.met now.stored →
+            work.old ≡ work_of now →
+            work.new ≡ work_of (finishes (setting self.old.members self.old.me h) again (completes_read (setting self.old.members self.old.me h) now reached.group reached.reading reached.position) (operation_of reached) reached.group reached.reading reached.position)) }
+        ensures fares { Fares V.Versions (failed_by result) self.old.rows.rows self.new.rows.rows }
+        ensures members { self.new.members ≡ self.old.members }
+        ensures me { self.new.me ≡ self.old.me }
+        ensures voter { self.new.voter ≡ self.old.voter }
+        ensures unbuilt { result ≡ Err Unbuilt → is_built reached.kept.request ≡ false }
+    {
+        match reads_through(
+            alloc,
+            &self.voter,
+            &mut self.leases,
+            &mut self.rows,
+            work,
+            &reached,
+        ) {
+            Ok(()) => {}
+            Err(fault) => {
+                drop(reached);
+                return Err(fault);
+            }
+        }
+        let clock = self.leases.now();
+        goes(
+            alloc,
+            &self.members,
+            &self.voter,
+            clock,
+            &mut self.rows,
+            work,
+            reached,
+        )?;
+        Ok(())
+    }
+
+    /// An operation acts: one whose position is decided ends, and one that reads completes its read, or seeks what is not decided.
+    #[tactic(auto, using(mega_replica::proofs::Fared::fares_here, crate::proofs::Refused::fares_unkept))]
+    pub fn acts(
+        &mut self,
+        alloc: Global,
+        work: &mut Work,
+        operation: Operation,
+    ) -> Result<(), ActFault>
+        ensures state { OnOk result ((h : Meanings) (now : Now) → V.is_told ≡ true → IsAbout operation →
+            Stands (setting self.old.members self.old.me h) self.old.voter.logs.kept self.old.leases (V.version self.old.rows.rows) (progress_at self.old.rows.progress) now.met now.stored →
+            Stands (setting self.new.members self.new.me h) self.new.voter.logs.kept self.new.leases (V.version self.new.rows.rows) (progress_at self.new.rows.progress)
+            (goes_on (setting self.old.members self.old.me h) now operation).met (goes_on (setting self.old.members self.old.me h) now operation).stored) }
+        ensures work { OnOk result ((h : Meanings) (now : Now) → V.is_told ≡ true → IsAbout operation →
+            Stands (setting self.old.members self.old.me h) self.old.voter.logs.kept self.old.leases (V.version self.old.rows.rows) (progress_at self.old.rows.progress) now.met now.stored →
+            work.old ≡ work_of now → work.new ≡ work_of (goes_on (setting self.old.members self.old.me h) now operation)) }
+        ensures fares { Fares V.Versions (failed_by result) self.old.rows.rows self.new.rows.rows }
+        ensures members { self.new.members ≡ self.old.members }
+        ensures me { self.new.me ≡ self.old.me }
+        ensures voter { self.new.voter ≡ self.old.voter }
+        ensures unbuilt { result ≡ Err Unbuilt → is_built operation.request ≡ false }
+    {
+        let (kept, phase) = operation.parts();
+        match phase {
+            Phase::Reads { group, reading } => {
+                self.reads_on(alloc, work, kept, group, reading)?;
+                Ok(())
+            }
+            Phase::Proposes {
+                group,
+                position,
+                asked,
+                proposal,
+                promised,
+            } => {
+                let own = Proposing {
+                    group,
+                    position,
+                    asked,
+                    proposal,
+                    promised,
+                };
+                checks(&self.voter, work, kept, own)?;
+                Ok(())
+            }
+        }
+    }
+
+    /// An operation reads on.
+    #[tactic(auto, using(mega_replica::proofs::Fared::fares_here, crate::proofs::Refused::fares_unkept))]
+    fn reads_on(
+        &mut self,
+        alloc: Global,
+        work: &mut Work,
+        kept: Kept,
+        group: GroupId,
+        reading: Reading,
+    ) -> Result<(), ActFault>
+        ensures state { OnOk result ((h : Meanings) (now : Now) (again : Now → Open → Now) → V.is_told ≡ true → IsOf kept.request group →
+            Stands (setting self.old.members self.old.me h) self.old.voter.logs.kept self.old.leases (V.version self.old.rows.rows) (progress_at self.old.rows.progress) now.met now.stored →
+            Stands (setting self.new.members self.new.me h) self.new.voter.logs.kept self.new.leases (V.version self.new.rows.rows) (progress_at self.new.rows.progress)
+            (reads_on (setting self.old.members self.old.me h) again now (whole kept (Reads group reading)) group reading).met (reads_on (setting self.old.members self.old.me h) again now (whole kept (Reads group reading)) group reading).stored) }
+        ensures work { OnOk result ((h : Meanings) (now : Now) (again : Now → Open → Now) → V.is_told ≡ true → IsOf kept.request group →
+            Stands (setting self.old.members self.old.me h) self.old.voter.logs.kept self.old.leases (V.version self.old.rows.rows) (progress_at self.old.rows.progress) now.met now.stored →
+            work.old ≡ work_of now → work.new ≡ work_of (reads_on (setting self.old.members self.old.me h) again now (whole kept (Reads group reading)) group reading)) }
+        ensures fares { Fares V.Versions (failed_by result) self.old.rows.rows self.new.rows.rows }
+        ensures members { self.new.members ≡ self.old.members }
+        ensures me { self.new.me ≡ self.old.me }
+        ensures voter { self.new.voter ≡ self.old.voter }
+        ensures unbuilt { result ≡ Err Unbuilt → is_built kept.request ≡ false }
+    {
+        let Some(through) = reading.through_of() else {
+            let operation = kept.in_phase(Phase::Reads { group, reading });
+            work.does(Deed {
+                sends: None,
+                end: End::Stays(operation),
+            })?;
+            return Ok(());
+        };
+        let prefix = self.voter.prefix(&group).0;
+        if is_reached(through, prefix) {
+            let reached = Reached {
+                kept,
+                group,
+                reading,
+                position: through,
+            };
+            self.completes(alloc, work, reached)?;
+            return Ok(());
+        }
+        let clock = self.leases.now();
+        let deed = seeks(
+            alloc,
+            &self.members,
+            clock,
+            kept,
+            group,
+            reading,
+            prefix + 1,
+        )?;
+        work.does(deed)?;
+        Ok(())
+    }
+}

@@ -1,0 +1,149 @@
+//! An operation begins, with a current read of the group of its request.
+ghost use Rattle.std.specs.Prelude.{◌≡◌, IfOk, OnOk, Err, None, [], ◌∷◌, false, true};
+ghost use Rattle.mega_handler.specs.Named.{Meanings};
+ghost use Rattle.mega_leases.specs.Tells.{Tells as TellsLeases};
+ghost use Rattle.mega_rules.specs.Clock.{clock_of};
+ghost use Rattle.mega_rules.specs.Operations.{Now, Operation as Open};
+ghost use Rattle.mega_rules.specs.Acting.{read_begun};
+ghost use Rattle.mega_node_laws.specs.About.{IsOf};
+ghost use Rattle.mega_rules.specs.Steps.{begins, new_operation};
+ghost use Rattle.mega_replica.specs.Following.{progress_at};
+ghost use Rattle.mega_replica.specs.Faring.{Fares};
+ghost use Rattle.mega_voter.specs.Telling.{Tells};
+ghost use Rattle.mega_actions.specs.declared.fault.ActFault.TheVariants.{Unbuilt};
+ghost use Rattle.mega_actions.specs.Built.{is_built};
+ghost use Rattle.mega_actions.specs.Faults.{failed_by};
+ghost use Rattle.mega_actions.specs.Stands.{Stands, setting};
+ghost use Rattle.mega_actions.specs.Working.{work_of};
+
+use crate::fault::ActFault;
+use crate::replica::Replica;
+use crate::work::Work;
+use mega_base::{Copied, GroupId, Items, NoMemory, OpId};
+use mega_disk::{Records, Versions};
+use mega_leases::Leases;
+use mega_operations::{Heard, Members, Operation, Phase};
+use mega_outcome::Request;
+use mega_read::local_read;
+use mega_voter::Voter;
+use std::alloc::Global;
+
+/// The current read with which an operation begins: local where the group is valid, and else a poll.
+fn read_begun<R: Records>(
+    alloc: Global,
+    members: &Members,
+    voter: &Voter<R>,
+    leases: &Leases,
+    op: OpId,
+    group: &GroupId,
+) -> Result<mega_read::Move, NoMemory>
+    ensures { IfOk result (λ made. (me : _) (h : Meanings) (now : Now) (o : Open) → o.id ≡ op → o.visited ≡ [] → Tells voter.now.logs.kept now.met → TellsLeases members.now me leases.now now.met →
+        made ≡ read_begun (setting members.now me h) now o group.now []) }
+{
+    let asked = Items::new(alloc);
+    if leases.is_valid(group) {
+        let top = voter.top(group).0;
+        return Ok(local_read(alloc, asked, top));
+    }
+    let who = members.reader(alloc, op, group)?;
+    let made = who.polled_read(alloc, leases.serves(), asked, leases.now())?;
+    Ok(made)
+}
+
+/// The group that a request reads and writes, where it is served.
+fn group_of(alloc: Global, request: &Request) -> Result<GroupId, ActFault>
+    ensures group { IfOk result (λ group. (is_built request.now ≡ true) × IsOf request.now group) }
+    ensures apart { failed_by result ≡ None }
+    ensures unbuilt { result ≡ Err Unbuilt → is_built request.now ≡ false }
+{
+    match request {
+        Request::Txn(txn) => Ok(txn.group.copy(alloc)?),
+        Request::Batch(group, txns) if txns.len() <= 16 => Ok(group.copy(alloc)?),
+        _ => Err(ActFault::Unbuilt),
+    }
+}
+
+/// The groups that an operation has visited that began with a read of this one.
+fn visited_by(alloc: Global, group: &GroupId) -> Result<Items<GroupId>, NoMemory>
+    ensures { IfOk result (λ visited. visited ≡ group.now ∷ []) }
+{
+    let mut visited = Items::new(alloc);
+    visited.push(group.copy(alloc)?)?;
+    Ok(visited)
+}
+
+/// The read with which an operation begins, of the group of its request.
+struct FirstRead {
+    group: GroupId,
+    visited: Items<GroupId>,
+    made: mega_read::Move,
+}
+
+impl<R: Records, V: Versions> Replica<R, V> {
+    /// A transaction or a batch begins: it reads its group, and goes on in the same step where that read is local.
+    #[tactic(auto, using(mega_replica::proofs::Fared::fares_here, crate::proofs::Refused::fares_apart))]
+    pub fn begins(
+        &mut self,
+        alloc: Global,
+        work: &mut Work,
+        op: OpId,
+        request: Request,
+    ) -> Result<(), ActFault>
+        ensures state { OnOk result ((h : Meanings) (now : Now) → V.is_told ≡ true →
+            Stands (setting self.old.members self.old.me h) self.old.voter.logs.kept self.old.leases (V.version self.old.rows.rows) (progress_at self.old.rows.progress) now.met now.stored →
+            Stands (setting self.new.members self.new.me h) self.new.voter.logs.kept self.new.leases (V.version self.new.rows.rows) (progress_at self.new.rows.progress)
+            (begins (setting self.old.members self.old.me h) now (new_operation op request (clock_of now.met))).met (begins (setting self.old.members self.old.me h) now (new_operation op request (clock_of now.met))).stored) }
+        ensures work { OnOk result ((h : Meanings) (now : Now) → V.is_told ≡ true →
+            Stands (setting self.old.members self.old.me h) self.old.voter.logs.kept self.old.leases (V.version self.old.rows.rows) (progress_at self.old.rows.progress) now.met now.stored →
+            work.old ≡ work_of now → work.new ≡ work_of (begins (setting self.old.members self.old.me h) now (new_operation op request (clock_of now.met)))) }
+        ensures fares { Fares V.Versions (failed_by result) self.old.rows.rows self.new.rows.rows }
+        ensures members { self.new.members ≡ self.old.members }
+        ensures me { self.new.me ≡ self.old.me }
+        ensures voter { self.new.voter ≡ self.old.voter }
+        ensures unbuilt { result ≡ Err Unbuilt → is_built request ≡ false }
+    {
+        match self.first_read(alloc, op, &request) {
+            Ok(first) => {
+                let FirstRead {
+                    group,
+                    visited,
+                    made,
+                } = first;
+                let mega_read::Move { reading, sends } = made;
+                let operation = Operation {
+                    id: op,
+                    request,
+                    began: self.leases.now(),
+                    visited,
+                    message: None,
+                    phase: Phase::Reads { group, reading },
+                };
+                self.acts_in_turn(alloc, work, Heard { operation, sends })?;
+                Ok(())
+            }
+            Err(fault) => {
+                drop(request);
+                Err(fault)
+            }
+        }
+    }
+
+    /// The read with which an operation begins.
+    fn first_read(&self, alloc: Global, op: OpId, request: &Request) -> Result<FirstRead, ActFault>
+        ensures read { IfOk result (λ first. (h : Meanings) (now : Now) (o : Open) → o.id ≡ op → o.visited ≡ [] → Tells self.now.voter.logs.kept now.met →
+            TellsLeases self.now.members self.now.me self.now.leases now.met → first.made ≡ read_begun (setting self.now.members self.now.me h) now o first.group []) }
+        ensures visited { IfOk result (λ first. first.visited ≡ first.group ∷ []) }
+        ensures group { IfOk result (λ first. (is_built request.now ≡ true) × IsOf request.now first.group) }
+        ensures apart { failed_by result ≡ None }
+        ensures unbuilt { result ≡ Err Unbuilt → is_built request.now ≡ false }
+    {
+        let group = group_of(alloc, request)?;
+        let visited = visited_by(alloc, &group)?;
+        let made = read_begun(alloc, &self.members, &self.voter, &self.leases, op, &group)?;
+        Ok(FirstRead {
+            group,
+            visited,
+            made,
+        })
+    }
+}

@@ -1,0 +1,16 @@
+//! What a node keeps beside its open operations: its logs, its leases and its rows.
+use mega_disk::{Records, Versions};
+use mega_leases::Leases;
+use mega_operations::Members;
+use mega_replica::StoredRows;
+use mega_voter::Voter;
+
+/// What a node keeps beside its open operations: its cluster and number, its logs, its leases and its rows.
+#[derive(Drop)]
+pub struct Replica<R: Records, V: Versions> {
+    pub members: Members,
+    pub me: u8,
+    pub voter: Voter<R>,
+    pub leases: Leases,
+    pub rows: StoredRows<V>,
+}

@@ -1,0 +1,24 @@
+-- Which faults of a step are the store's.
+use Rattle.std.proofs.Common.{◌≡◌, refl, subst, sym}
+use Rattle.std.specs.Prelude.{Option, None}
+use Rattle.mega_disk.specs.declared.versions.StoreError.{StoreError}
+use Rattle.mega_disk.specs.declared.versions.Versions.{Ghosts}
+use Rattle.mega_leases.specs.declared.fault.TakeFault.{TakeFault}
+use Rattle.mega_leases.specs.declared.fault.TakeFault.TheVariants as take
+use Rattle.mega_replica.specs.Faring.{Fares}
+use Rattle.mega_replica.proofs.Fared.{fares_here}
+use Rattle.mega_core.specs.Faults.{of_store, taking_fault_of}
+
+-- none for which a message is not taken
+pub taking_is_apart : (f : TakeFault) → of_store (taking_fault_of f) ≡ None
+taking_is_apart take.Stranger = refl
+taking_is_apart take.Late = refl
+taking_is_apart take.NoMemory = refl
+
+-- nothing was called, and what failed was not the store
+pub fares_apart : {V : Type 0} (store : Ghosts V) (failed : Option StoreError) (x : V) → failed ≡ None → Fares store failed x x
+fares_apart {V} store failed x apart = subst (λ (one : Option StoreError). Fares store one x x) (sym apart) (fares_here store x)
+
+-- rows that were not called at first
+pub fares_from : {V : Type 0} (store : Ghosts V) (failed : Option StoreError) (old mid new : V) → mid ≡ old → Fares store failed mid new → Fares store failed old new
+fares_from {V} store failed old mid new is fares = subst (λ (one : V). Fares store failed one new) is fares

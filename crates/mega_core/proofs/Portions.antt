@@ -1,0 +1,101 @@
+-- Portions that are stored: of the group of a decision, and of each group.
+use Rattle.std.proofs.Common.{◌≡◌, ◌≤◌, ◌||◌, ℕ, Bool, true, false, cond, List, [], ◌∷◌, length, Some, Ordering, Less, Equal, Greater, refl, sym, ap, ◌∙◌, arith}
+use Rattle.std.specs.List.{AllByRecursion}
+use Rattle.std.specs.List.Sorted.{IsStrictlySortedBy}
+use Rattle.std.specs.Ordering.{ordering_reverse}
+use Rattle.mega_base.specs.declared.names.GroupId.{GroupId}
+use Rattle.mega_disk.specs.VersionMaps.{Versions}
+use Rattle.mega_entry.specs.declared.content.Content.{Content}
+use Rattle.mega_wal.specs.History.{group_cmp}
+use Rattle.mega_wal.specs.Same.{same_group}
+use Rattle.mega_wal.proofs.Fitting.{group_order}
+use Rattle.mega_wal.proofs.Sames.{same_group_equal, same_group_self}
+use Rattle.mega_replica.specs.Applying.{after_portion, writes_of}
+use Rattle.mega_rules.specs.Met.{Met}
+use Rattle.mega_rules.specs.Logs.{groups_of, log_of}
+use Rattle.mega_rules.specs.Members.{has_rows}
+use Rattle.mega_rules.specs.Operations.{Setting}
+use Rattle.mega_rules.specs.Steps.{Decision, portion_of, stored_after}
+use Rattle.mega_voter.proofs.Grouped.{groups_sorted}
+use Rattle.mega_replica.specs.declared.progress.Progress.{Progress}
+use Rattle.mega_replica.specs.Following.{Follows}
+use Rattle.mega_replica.specs.Stored.{stored_with}
+use Rattle.mega_replica.proofs.Joined.{stored_total}
+use Rattle.mega_core.proofs.Groups.{has, no_log}
+
+-- a node with rows stores a portion
+pub portion_is : (s : Setting) (met : List Met) (stored : GroupId → ℕ) (most : ℕ) (group : GroupId) → has_rows s.cluster s.me ≡ true → s.cluster.apply ≡ most → after_portion most (log_of met group) (stored group) ≡ portion_of s met stored group
+portion_is s met stored most group rows apply =
+    ap (λ n. after_portion n (log_of met group) (stored group)) (sym apply) ∙ ap (λ t. cond t (after_portion s.cluster.apply (log_of met group) (stored group)) 0) (sym rows)
+
+pub stored_after_is : (s : Setting) (met : List Met) (stored : GroupId → ℕ) (most : ℕ) (d : Decision) → has_rows s.cluster s.me ≡ true → s.cluster.apply ≡ most
+    → (other : GroupId) → stored_with stored d.group (after_portion most (log_of met d.group) (stored d.group)) other ≡ stored_after s met stored (Some d) other
+stored_after_is s met stored most d rows apply other = go (same_group d.group other) refl
+  where
+    go : (t : Bool) → same_group d.group other ≡ t → cond t (after_portion most (log_of met d.group) (stored d.group)) (stored other) ≡ cond t (portion_of s met stored other) (stored other)
+    go true e = ap (λ group. after_portion most (log_of met group) (stored group)) (same_group_equal d.group other e) ∙ portion_is s met stored most other rows apply
+    go false e = refl
+
+-- ---- a portion of each group
+
+abbrev AllAbove : GroupId → List GroupId → Type 0
+AllAbove group groups = AllByRecursion (λ other. group_cmp group other ≡ Less) groups
+
+not_above : (least : GroupId) (groups : List GroupId) → AllAbove least groups → has least groups ≡ false
+not_above least [] all = refl
+not_above least (other ∷ groups) all = go (same_group other least) refl (not_above least groups all.1)
+  where
+    go : (t : Bool) → same_group other least ≡ t → has least groups ≡ false → (t || has least groups) ≡ false
+    go true e rest = let is = ap (λ g. group_cmp least g) (same_group_equal other least e) in let self = group_order.antisymm least least in absurd (cross (group_cmp least least) (sym is ∙ all.0) self)
+      where
+        cross : (o : Ordering) → o ≡ Less → o ≡ ordering_reverse o → ⊥
+        cross Less e h = cc
+        cross Equal e h = cc
+        cross Greater e h = cc
+    go false e rest = rest
+
+-- those that are left are as they were, and of all others a portion is stored
+pub record StoredSo (version : Versions) (progress : GroupId → Progress) (most : ℕ) (met : List Met) (stored : GroupId → ℕ) (left : List GroupId) : Type 0 where
+  pub now : GroupId → ℕ
+  pub follows : Follows version progress (log_of met) now
+  pub sorted : IsStrictlySortedBy group_cmp left
+  pub each : (group : GroupId) → now group ≡ cond (has group left) (stored group) (after_portion most (log_of met group) (stored group))
+
+nothing_more : (most : ℕ) (log : List Content) (count : ℕ) → count ≤ length (writes_of log) → log ≡ [] → count ≡ after_portion most log count
+nothing_more most log count few empty = let none : length (writes_of log) ≡ 0 = ap (λ (xs : List Content). length (writes_of xs)) empty in omega (arith, few, none)
+
+pub stored_first : (version : Versions) (progress : GroupId → Progress) (most : ℕ) (met : List Met) (stored : GroupId → ℕ) → Follows version progress (log_of met) stored → StoredSo version progress most met stored (groups_of met)
+stored_first version progress most met stored follows = record { now = stored; follows = follows; sorted = groups_sorted met; each = λ group. by group (has group (groups_of met)) refl }
+  where
+    by : (group : GroupId) (t : Bool) → has group (groups_of met) ≡ t → stored group ≡ cond t (stored group) (after_portion most (log_of met group) (stored group))
+    by group true e = refl
+    by group false e = nothing_more most (log_of met group) (stored group) (stored_total version progress (log_of met) stored group follows) (no_log met group e)
+
+next_each : (most : ℕ) (met : List Met) (stored now : GroupId → ℕ) (one : GroupId) (left : List GroupId) → has one left ≡ false
+    → ((group : GroupId) → now group ≡ cond (has group (one ∷ left)) (stored group) (after_portion most (log_of met group) (stored group)))
+    → (group : GroupId) → stored_with now one (after_portion most (log_of met one) (now one)) group ≡ cond (has group left) (stored group) (after_portion most (log_of met group) (stored group))
+next_each most met stored now one left alone each group = go (same_group one group) (has group left) refl refl (each group)
+  where
+    here : now one ≡ stored one
+    here = each one ∙ ap (λ t. cond (t || has one left) (stored one) (after_portion most (log_of met one) (stored one))) (same_group_self one)
+
+    go : (a b : Bool) → same_group one group ≡ a → has group left ≡ b → now group ≡ cond (a || b) (stored group) (after_portion most (log_of met group) (stored group))
+        → cond a (after_portion most (log_of met one) (now one)) (now group) ≡ cond b (stored group) (after_portion most (log_of met group) (stored group))
+    go true true e f is = absurd (cross (sym f ∙ (ap (λ g. has g left) (sym (same_group_equal one group e)) ∙ alone)))
+      where
+        cross : true ≡ false → ⊥
+        cross h = cc
+    go true false e f is = ap (after_portion most (log_of met one)) here ∙ ap (λ g. after_portion most (log_of met g) (stored g)) (same_group_equal one group e)
+    go false true e f is = is
+    go false false e f is = is
+
+pub stored_next : (version : Versions) (progress : GroupId → Progress) (version2 : Versions) (progress2 : GroupId → Progress) (most : ℕ) (met : List Met) (stored : GroupId → ℕ) (one : GroupId) (left : List GroupId)
+    → ((counts : GroupId → ℕ) → Follows version progress (log_of met) counts → Follows version2 progress2 (log_of met) (stored_with counts one (after_portion most (log_of met one) (counts one))))
+    → StoredSo version progress most met stored (one ∷ left) → StoredSo version2 progress2 most met stored left
+unfolding IsStrictlySortedBy
+stored_next version progress version2 progress2 most met stored one left stores so = record {
+  now = stored_with so.now one (after_portion most (log_of met one) (so.now one));
+  follows = stores so.now so.follows;
+  sorted = so.sorted.1;
+  each = next_each most met stored so.now one left (not_above one left so.sorted.0) so.each;
+}

@@ -1,0 +1,13 @@
+-- A step is not served only where what an operation asks is not.
+use Rattle.std.proofs.Common.{◌≡◌, refl}
+use Rattle.mega_actions.specs.declared.fault.ActFault.{ActFault}
+use Rattle.mega_actions.specs.declared.fault.ActFault.TheVariants as act
+use Rattle.mega_core.specs.declared.fault.StepFault.TheVariants as fault
+use Rattle.mega_core.specs.Faults.{fault_of}
+
+pub unbuilt_is : (refused : ActFault) → fault_of refused ≡ fault.Unbuilt → refused ≡ act.Unbuilt
+unbuilt_is act.DiskFault is = absurd (cc)
+unbuilt_is (act.Full length) is = absurd (cc)
+unbuilt_is (act.BadRecord number) is = absurd (cc)
+unbuilt_is act.Unbuilt is = refl
+unbuilt_is act.NoMemory is = absurd (cc)

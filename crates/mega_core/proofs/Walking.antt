@@ -1,0 +1,199 @@
+-- One walk through what operations of given groups do as they act in a step, for any fact of the node that they cannot break.
+use Rattle.std.proofs.Common.{◌≡◌, ℕ, zero, suc, ◌+◌, nat_le, Bool, true, false, cond, List, [], ◌∷◌, map, length, fold, Option, Some, None, Result, Ok, Err, refl}
+use Rattle.std.specs.List.{All, list_any}
+use Rattle.std.proofs.lemmas.List.Elements.{All-cons, All-head, All-nil, All-tail}
+use Rattle.mega_base.specs.declared.names.Epoch.{Epoch}
+use Rattle.mega_base.specs.declared.names.GroupId.{GroupId}
+use Rattle.mega_base.specs.declared.names.OpId.{OpId}
+use Rattle.mega_coordinator.specs.declared.answers.NotValid.{NotValid}
+use Rattle.mega_entry.specs.declared.content.Content.{Content}
+use Rattle.mega_entry.specs.declared.content.Enter.{Enter}
+use Rattle.mega_wire.specs.declared.message.Message.{Message}
+use Rattle.mega_outcome.specs.declared.answer.Answer.{Answer}
+use Rattle.mega_outcome.specs.declared.answer.Batch.{Batch}
+use Rattle.mega_outcome.specs.declared.answer.Done.{Done}
+use Rattle.mega_outcome.specs.declared.answer.Turn.{Turn as Turned}
+use Rattle.mega_outcome.specs.declared.request.FindRequest.{FindRequest}
+use Rattle.mega_outcome.specs.declared.request.Mode.{Mode}
+use Rattle.mega_outcome.specs.declared.request.Mode.TheVariants.{Current, Snapshot, Inconsistent}
+use Rattle.mega_outcome.specs.declared.request.ReadRequest.{ReadRequest}
+use Rattle.mega_outcome.specs.declared.request.Request.{Request}
+use Rattle.mega_outcome.specs.declared.request.Request.TheVariants.{Txn, Batch as BatchRequest, Read as ReadRequested, Find, PumpEnter, PumpHandle, Refresh}
+use Rattle.mega_outcome.specs.Outcome.{batch_outcome, entry_of_batch, entry_of_done, outcome}
+use Rattle.mega_propose.specs.Rounds.{asks}
+use Rattle.mega_read.specs.declared.reading.Reading.{Reading}
+use Rattle.mega_read.specs.declared.reading.Stage.{Stage}
+use Rattle.mega_read.specs.declared.reading.Stage.TheVariants.{Polling, Catching}
+use Rattle.mega_read.specs.Catching.{asked_by, site, seeks}
+use Rattle.mega_replica.specs.Applying.{after_read}
+use Rattle.mega_rules.specs.Clock.{clock_of}
+use Rattle.mega_rules.specs.Logs.{decided, groups_of, log_of, prefix_of}
+use Rattle.mega_rules.specs.Coordinators.{refused_at}
+use Rattle.mega_rules.specs.Operations.{Now, Operation, Phase, Promised, Proposes, Reads, Replies, Results, Setting}
+use Rattle.mega_rules.specs.Acting.{acts, acts_within, batch_sealed, begins_read, completes_read, ends, finishes, goes_on, in_phase, is_taken, keeps, leader_after, proposes, proposes_by, read_begun, reader_of, reads_on, rows_at, sealed, sends_more, stored_with, unless_decided, unless_full, validated_by, validates, visiting}
+use Rattle.mega_rules.specs.Steps.{Heard, acts_in_turn, all_act, begins, does_due, find_begins, hears_message, is_out, local_find_begins, read_begins, ticked, unless_refused}
+use Rattle.mega_node_laws.specs.About.{group_in}
+use Rattle.mega_actions.specs.Built.{is_built}
+use Rattle.mega_actions.specs.Turns.{IsBuilt, IsBuiltHeard}
+use Rattle.mega_core.specs.Touching.{asked_groups, named}
+
+-- a fact of a node within a step that nothing can break which served operations do in such groups
+pub record Walks (P : Now → Type 0) (Mine : GroupId → Type 0) : Type 0 where
+  pub keeps_it : (now : Now) (o : Operation) → IsBuilt o → P now → P (keeps now o)
+  pub ends_it : (now : Now) (op : OpId) (answer : Answer) → P now → P (ends now op answer)
+  pub sends_it : (now : Now) (sends : List Message) → P now → P (sends_more now sends)
+  pub stores_it : (now : Now) (group : GroupId) (count : ℕ) → Mine group → P now
+      → P (record { met = now.met; stored = stored_with now.stored group count; kept = now.kept; valid = now.valid; answers = now.answers; sends = now.sends })
+  pub validates_it : (now : Now) (group : GroupId) (p : ℕ) (refusal : Option NotValid) → P now → P (validated_by now group p refusal)
+
+-- an operation acts in such a group
+abbrev pub IsIn : (GroupId → Type 0) → Operation → Type 0
+IsIn Mine o = Mine (group_in o.phase)
+
+abbrev pub IsHeardIn : (GroupId → Type 0) → Heard → Type 0
+IsHeardIn Mine t = Mine (group_in t.operation.phase)
+
+-- and it stays there as it hears
+heard_in : (Mine : GroupId → Type 0) (s : Setting) (clock : ℕ) (m : Message) (o : Operation) (phase : Phase) → Mine (group_in phase)
+    → IsHeardIn Mine (hears_message s clock m (record { id = o.id; request = o.request; began = o.began; visited = o.visited; message = o.message; phase = phase }))
+heard_in Mine s clock m o (Reads group r) mine = mine
+heard_in Mine s clock m o (Proposes group n asked proposal promised) mine = mine
+
+pub all_heard_in : (Mine : GroupId → Type 0) (s : Setting) (clock : ℕ) (m : Message) (os : List Operation) → All (IsIn Mine) os → All (IsHeardIn Mine) (map (hears_message s clock m) os)
+all_heard_in Mine s clock m [] are = All-nil (IsHeardIn Mine)
+all_heard_in Mine s clock m (o ∷ os) are =
+    All-cons (IsHeardIn Mine) (hears_message s clock m o) (map (hears_message s clock m) os) (heard_in Mine s clock m o o.phase (All-head (IsIn Mine) o os are)) (all_heard_in Mine s clock m os (All-tail (IsIn Mine) o os are))
+
+module _ (P : Now → Type 0) (Mine : GroupId → Type 0) (w : Walks P Mine) (s : Setting) where
+  either : (t : Bool) (one other : Now) → P one → P other → P (cond t one other)
+  either true one other h k = h
+  either false one other h k = k
+
+  unless_decided_walked : (now : Now) (o : Operation) (n : ℕ) (promised : Promised) (d : Option Content) → IsBuilt o → P now → P (unless_decided now o n promised d)
+  unless_decided_walked now o n promised None is h = w.keeps_it now o is h
+  unless_decided_walked now o n promised (Some entry) is h = w.ends_it now o.id _ h
+
+  proposes_by_walked : (now : Now) (o : Operation) (group : GroupId) (r : Reading) (p : ℕ) (own : Content) (promised : Promised) (leader : Option ℕ) → IsBuilt o → P now → P (proposes_by s now o group r p own promised leader)
+  proposes_by_walked now o group r p own promised None is h = w.keeps_it now o is h
+  proposes_by_walked now o group r p own promised (Some leader) is h =
+      unless_decided_walked (sends_more now (asks (site (reader_of s o.id group) (asked_by r) (p + 1)) leader own (clock_of now.met)).sends)
+      (in_phase o (Proposes group (p + 1) (asked_by r) (asks (site (reader_of s o.id group) (asked_by r) (p + 1)) leader own (clock_of now.met)).proposal promised))
+      (p + 1) promised (decided now.met group (p + 1)) is (w.sends_it now _ h)
+
+  proposes_walked : (now : Now) (o : Operation) (group : GroupId) (r : Reading) (p : ℕ) (own : Content) (promised : Promised) → IsBuilt o → P now → P (proposes s now o group r p own promised)
+  proposes_walked now o group r p own promised is h = proposes_by_walked now o group r p own promised (leader_after s now group p) is h
+
+  validates_walked : (now : Now) (group : GroupId) (p : ℕ) (noted : Option Epoch) → P now → P (validates s now group p noted)
+  validates_walked now group p None h = h
+  validates_walked now group p (Some noted) h = w.validates_it now group p (refused_at s.cluster now.met group p noted) h
+
+  completes_walked : (now : Now) (group : GroupId) (r : Reading) (p : ℕ) → Mine group → P now → P (completes_read s now group r p)
+  completes_walked now group r p mine h =
+      validates_walked (record { met = now.met; stored = stored_with now.stored group (after_read p (log_of now.met group) (now.stored group)); kept = now.kept; valid = now.valid; answers = now.answers; sends = now.sends }) group p r.noted
+      (w.stores_it now group (after_read p (log_of now.met group) (now.stored group)) mine h)
+
+  sealed_walked : (now : Now) (o : Operation) (group : GroupId) (r : Reading) (p : ℕ) (result : Result Done Turned) → IsBuilt o → P now → P (sealed s now o group r p result)
+  sealed_walked now o group r p (Err turn) is h = w.ends_it now o.id _ h
+  sealed_walked now o group r p (Ok done) is h = proposes_walked now o group r p (entry_of_done o.id done) (Replies done.replies) is h
+
+  batch_walked : (now : Now) (o : Operation) (group : GroupId) (r : Reading) (p : ℕ) (b : Batch) → IsBuilt o → P now → P (batch_sealed s now o group r p b)
+  batch_walked now o group r p b is h = either (list_any is_taken b.results) _ _ (proposes_walked now o group r p (entry_of_batch o.id b) (Results b.results) is h) (w.ends_it now o.id _ h)
+
+  unless_full_walked : (now : Now) (o : Operation) (p : ℕ) (next : Now) → P now → P next → P (unless_full s now o p next)
+  unless_full_walked now o p next h k = either (nat_le (s.cluster.limit).0 p) _ next (w.ends_it now o.id _ h) k
+
+  module _ (id : OpId) (began : ℕ) (visited : List GroupId) (message : Option Enter) where
+    abbrev one : Request → Phase → Operation
+    one request phase = record { id = id; request = request; began = began; visited = visited; message = message; phase = phase }
+
+    finishes_by : (again : Now → Operation → Now) (now : Now) (request : Request) (phase : Phase) (group : GroupId) (r : Reading) (p : ℕ) → is_built request ≡ true → P now → P (finishes s again now (one request phase) group r p)
+    finishes_by again now (Txn transaction) phase group r p is h =
+        unless_full_walked now (one (Txn transaction) phase) p _ h (sealed_walked now (one (Txn transaction) phase) group r p (outcome s.cluster.schema transaction (rows_at now group p)) is h)
+    finishes_by again now (BatchRequest own transactions) phase group r p is h =
+        unless_full_walked now (one (BatchRequest own transactions) phase) p _ h (batch_walked now (one (BatchRequest own transactions) phase) group r p (batch_outcome s.cluster.schema own transactions (rows_at now group p)) is h)
+    finishes_by again now (ReadRequested request) phase group r p is h = w.ends_it now id _ h
+    finishes_by again now (Find request) phase group r p is h = w.ends_it now id _ h
+    finishes_by again now PumpEnter phase group r p is h = absurd (cc)
+    finishes_by again now PumpHandle phase group r p is h = absurd (cc)
+    finishes_by again now Refresh phase group r p is h = w.keeps_it now (one Refresh phase) is h
+
+  finishes_walked : (again : Now → Operation → Now) (now : Now) (o : Operation) (group : GroupId) (r : Reading) (p : ℕ) → IsBuilt o → P now → P (finishes s again now o group r p)
+  finishes_walked again now o group r p is h = finishes_by o.id o.began o.visited o.message again now o.request o.phase group r p is h
+
+  reads_on_by : (again : Now → Operation → Now) (now : Now) (o : Operation) (group : GroupId) (noted : Option Epoch) (asked : List ℕ) (stage : Stage) → IsBuilt o → Mine group → P now → P (reads_on s again now o group (record { noted = noted; asked = asked; stage = stage }))
+  reads_on_by again now o group noted asked (Polling heard best at) is mine h = w.keeps_it now o is h
+  reads_on_by again now o group noted asked (Catching p search) is mine h = either (nat_le p (prefix_of now.met group)) _ _
+      (finishes_walked again (completes_read s now group (record { noted = noted; asked = asked; stage = Catching p search }) p) o group (record { noted = noted; asked = asked; stage = Catching p search }) p is
+      (completes_walked now group (record { noted = noted; asked = asked; stage = Catching p search }) p mine h))
+      (w.keeps_it (sends_more now (seeks (reader_of s o.id group) (record { noted = noted; asked = asked; stage = Catching p search }) (prefix_of now.met group + 1) (clock_of now.met)).sends)
+      (in_phase o (Reads group (seeks (reader_of s o.id group) (record { noted = noted; asked = asked; stage = Catching p search }) (prefix_of now.met group + 1) (clock_of now.met)).reading)) is (w.sends_it now _ h))
+
+  acts_by : (again : Now → Operation → Now) (now : Now) (id : OpId) (request : Request) (began : ℕ) (visited : List GroupId) (message : Option Enter) (phase : Phase) → is_built request ≡ true → Mine (group_in phase) → P now
+      → P (acts s again now (record { id = id; request = request; began = began; visited = visited; message = message; phase = phase }))
+  acts_by again now id request began visited message (Reads group r) is mine h =
+      reads_on_by again now (record { id = id; request = request; began = began; visited = visited; message = message; phase = Reads group r }) group r.noted r.asked r.stage is mine h
+  acts_by again now id request began visited message (Proposes group n asked proposal promised) is mine h =
+      unless_decided_walked now (record { id = id; request = request; began = began; visited = visited; message = message; phase = Proposes group n asked proposal promised }) n promised (decided now.met group n) is h
+
+  within_walked : (most : ℕ) (now : Now) (o : Operation) → IsBuilt o → IsIn Mine o → P now → P (acts_within most s now o)
+  within_walked zero now o is mine h = w.keeps_it now o is h
+  within_walked (suc most) now o is mine h = acts_by (acts_within most s) now o.id o.request o.began o.visited o.message o.phase is mine h
+
+  goes_on_walked : (now : Now) (o : Operation) → IsBuilt o → IsIn Mine o → P now → P (goes_on s now o)
+  goes_on_walked now o is mine h = within_walked (length (groups_of now.met) + 2) now o is mine h
+
+  pub all_walked : (ts : List Heard) (now : Now) → All IsBuiltHeard ts → All (IsHeardIn Mine) ts → P now → P (all_act s now ts)
+  all_walked [] now each mine h = h
+  all_walked (t ∷ ts) now each mine h =
+      all_walked ts (acts_in_turn s now t) (All-tail IsBuiltHeard t ts each) (All-tail (IsHeardIn Mine) t ts mine)
+      (goes_on_walked (sends_more now t.sends) t.operation (All-head IsBuiltHeard t ts each) (All-head (IsHeardIn Mine) t ts mine) (w.sends_it now t.sends h))
+
+  due_built : (clock : ℕ) (o : Operation) (phase : Phase) → IsBuilt o
+      → IsBuilt (does_due s clock (record { id = o.id; request = o.request; began = o.began; visited = o.visited; message = o.message; phase = phase })).operation
+  due_built clock o (Reads group r) is = is
+  due_built clock o (Proposes group n asked proposal promised) is = is
+
+  due_mine : (clock : ℕ) (o : Operation) (phase : Phase) → Mine (group_in phase)
+      → IsHeardIn Mine (does_due s clock (record { id = o.id; request = o.request; began = o.began; visited = o.visited; message = o.message; phase = phase }))
+  due_mine clock o (Reads group r) mine = mine
+  due_mine clock o (Proposes group n asked proposal promised) mine = mine
+
+  pub all_ticked_walked : (clock : ℕ) (os : List Operation) (now : Now) → All IsBuilt os → All (IsIn Mine) os → P now → P (fold (ticked s clock) now os)
+  all_ticked_walked clock [] now are mine h = h
+  all_ticked_walked clock (o ∷ os) now are mine h =
+      all_ticked_walked clock os (ticked s clock now o) (All-tail IsBuilt o os are) (All-tail (IsIn Mine) o os mine)
+      (either (is_out s clock o) _ _ (w.ends_it now o.id _ h)
+      (goes_on_walked (sends_more now (does_due s clock o).sends) (does_due s clock o).operation (due_built clock o o.phase (All-head IsBuilt o os are)) (due_mine clock o o.phase (All-head (IsIn Mine) o os mine)) (w.sends_it now _ h)))
+
+  module _ (id : OpId) (began : ℕ) (visited : List GroupId) (message : Option Enter) (phase : Phase) where
+    begins_read_walked : (now : Now) (request : Request) (group : GroupId) → is_built request ≡ true → Mine group → P now → P (begins_read s (goes_on s) now (one id began visited message request phase) group None [])
+    begins_read_walked now request group is mine h =
+        goes_on_walked (sends_more now (read_begun s now (one id began visited message request phase) group []).sends)
+        (visiting (one id began visited message request phase) group None (read_begun s now (one id began visited message request phase) group [])) is mine (w.sends_it now _ h)
+
+    read_walked : (now : Now) (request : ReadRequest) (mode : Mode) → is_built (ReadRequested request) ≡ true → Mine request.group → P now → P (read_begins s now (one id began visited message (ReadRequested request) phase) request mode)
+    read_walked now request Current is mine h = begins_read_walked now (ReadRequested request) request.group is mine h
+    read_walked now request Snapshot is mine h = w.ends_it now id _ h
+    read_walked now request Inconsistent is mine h = w.ends_it now id _ h
+
+    local_find_walked : (now : Now) (request : FindRequest) (group : GroupId) (mode : Mode) → is_built (Find request) ≡ true → Mine group → P now → P (local_find_begins s now (one id began visited message (Find request) phase) request group mode)
+    local_find_walked now request group Current is mine h = begins_read_walked now (Find request) group is mine h
+    local_find_walked now request group Snapshot is mine h = w.ends_it now id _ h
+    local_find_walked now request group Inconsistent is mine h = w.ends_it now id _ h
+
+    find_walked : (now : Now) (request : FindRequest) (group : Option GroupId) → is_built (Find request) ≡ true → All Mine (named group) → P now → P (find_begins s now (one id began visited message (Find request) phase) request group)
+    find_walked now request None is mine h = w.ends_it now id _ h
+    find_walked now request (Some group) is mine h = local_find_walked now request group request.mode is (All-head Mine group [] mine) h
+
+    begins_by : (now : Now) (request : Request) → is_built request ≡ true → All Mine (asked_groups request) → P now → P (begins s now (one id began visited message request phase))
+    begins_by now (Txn transaction) is mine h = begins_read_walked now (Txn transaction) transaction.group is (All-head Mine transaction.group [] mine) h
+    begins_by now (BatchRequest group transactions) is mine h = begins_read_walked now (BatchRequest group transactions) group is (All-head Mine group [] mine) h
+    begins_by now (ReadRequested request) is mine h = read_walked now request request.mode is (All-head Mine request.group [] mine) h
+    begins_by now (Find request) is mine h = find_walked now request request.group is mine h
+    begins_by now PumpEnter is mine h = absurd (cc)
+    begins_by now PumpHandle is mine h = absurd (cc)
+    begins_by now Refresh is mine h = w.ends_it now id _ h
+
+  pub begun_walked : (now : Now) (o : Operation) (refusal : Option Answer) → (refusal ≡ None → IsBuilt o) → All Mine (asked_groups o.request) → P now → P (unless_refused s now o refusal)
+  begun_walked now o None is mine h = begins_by o.id o.began o.visited o.message o.phase now o.request (is refl) mine h
+  begun_walked now o (Some answer) is mine h = w.ends_it now o.id answer h

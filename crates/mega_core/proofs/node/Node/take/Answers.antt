@@ -1,0 +1,132 @@
+use Rattle.std.proofs.Common.{◌≡◌, ◌∙◌, cond, List, [], ap, map, refl, subst, sym, rules}
+use Rattle.std.specs.List.{All}
+use Rattle.mega_base.specs.declared.names.GroupId.{GroupId}
+use Rattle.mega_rules.specs.Members.{has_rows}
+use Rattle.mega_rules.specs.Met.{Takes}
+use Rattle.mega_rules.specs.Operations.{Operation}
+use Rattle.mega_rules.specs.Steps.{Step as RuleStep, Take, decision_note, stored_after, told_notes}
+use Rattle.mega_replica.specs.Following.{progress_at}
+use Rattle.mega_node_laws.specs.Acted.{acted_on, decision_in}
+use Rattle.mega_actions.specs.Stands.{setting}
+use Rattle.mega_actions.specs.Turns.{IsBuilt}
+use Rattle.mega_core.specs.Positions.{before_at}
+use Rattle.mega_core.specs.Represents.{Represents}
+use Rattle.mega_core.specs.Taking.{has_taken}
+use Rattle.mega_core.specs.Touching.{touched}
+use Rattle.mega_core.proofs.Begun.{represents_keeps}
+use Rattle.mega_core.proofs.Messages.{heard_are_about, heard_are_built, take_acts, take_is, take_may}
+use Rattle.mega_core.proofs.Refused.{unbuilt_is}
+use Rattle.mega_core.proofs.Untouched.{take_noted}
+use Rattle.mega_core.proofs.Watched.{watched_noted}
+use Rattle.mega_core.proofs.node.Node.take.Goals as goal
+
+pub returns-in_err-work-clause-built : goal.returns-in_err-work-clause-built
+returns-in_err-work-clause-built g c = λ is h node represents.
+    let r0 = c.args.self.now.replica in
+    let version = g.V.Versions.version r0.rows.rows in
+    let progress = progress_at r0.rows.progress in
+    let s = setting r0.members r0.me h in
+    let opened = subst (λ (os : List Operation). Represents s r0.voter.logs.kept r0.leases version progress os c.args.self.now.begun node) (sym c.replace-opened.ensures.value) represents in
+    let heard_is = c.in_ok-taken.ensures.heard h node c.args.self.now.begun opened in
+    c.in_err-work.ensures.unbuilt (search (rules, unbuilt_is))
+    (heard_are_built s node c.args.message.now r0.voter.logs.kept r0.leases version progress c.args.self.now.open c.args.self.now.begun c.in_ok-taken.taken.heard represents heard_is)
+
+pub returns-clause-notes : goal.returns-clause-notes
+returns-clause-notes g c = λ told h node represents owned placed.
+    let r0 = c.args.self.now.replica in
+    let r1 = c.takes.new.replica in
+    let r2 = c.acts.new.replica in
+    let own_open = c.args.self.now.open in
+    let begun = c.args.self.now.begun in
+    let version = g.V.Versions.version r0.rows.rows in
+    let progress = progress_at r0.rows.progress in
+    let m = c.args.message.now in
+    let s = setting r0.members r0.me h in
+    let opened = subst (λ (os : List Operation). Represents s r0.voter.logs.kept r0.leases version progress os begun node) (sym c.replace-opened.ensures.value) represents in
+    let taken = c.in_ok-taken.ensures.taken h node begun opened owned placed in
+    let heard = c.in_ok-taken.taken.heard in
+    let t1 = setting r1.members r1.me h in
+    let t2 = setting r2.members r2.me h in
+    let t1_is : t1 ≡ s = (λ i. setting (c.in_ok-taken.ensures.members i) (c.in_ok-taken.ensures.me i) h) in
+    let t2_is : t2 ≡ t1 = (λ i. setting (c.in_ok-work.ensures.members i) (c.in_ok-work.ensures.me i) h) in
+    let about = heard_are_about s node m r0.voter.logs.kept r0.leases version progress own_open begun heard represents taken.heard in
+    let base = acted_on s node (Take m) in
+    let stored = stored_after s base node.stored (decision_in s node m) in
+    let acted = take_acts s node m t1 t2 r0.voter.logs.kept r1.voter.logs.kept r2.voter.logs.kept r0.leases r2.leases version (g.V.Versions.version r2.rows.rows) progress (progress_at r2.rows.progress) own_open begun
+    c.in_ok-work.work heard represents taken.heard t1_is t2_is (λ i. (c.in_ok-work.ensures.voter i).logs.kept) taken.stands.tells
+    (c.in_ok-work.ensures.state told h base stored about taken.stands) (c.in_ok-work.ensures.work told h base stored about taken.stands) in
+    let is = take_is s node m t2 c.in_ok-taken.taken.sends c.new-2.result (t2_is ∙ t1_is) taken.sends c.new-2.ensures in
+    let keeps = represents_keeps s r0.voter.logs.kept r0.leases version progress own_open begun node represents in
+    let groups = touched m.body node.open_operations in
+    let groups_are : c.in_ok-groups.groups ≡ groups = c.in_ok-groups.ensures ∙ ap (touched m.body) (c.as_slice.ensures ∙ sym represents.opened) in
+    let before = c.in_ok-before.ensures node.met node.stored keeps ∙ ap (λ (some : List GroupId). cond (has_rows r0.members r0.me) (map (before_at node.met node.stored) some) []) groups_are in
+    let noted = watched_noted s t2 node groups c.in_ok-before.before (has_taken s node m) (t2_is ∙ t1_is) before (take_noted s node m (map (before_at node.met node.stored) groups) (subst (All IsBuilt) (sym represents.opened) represents.built) acted.acted refl) in
+    let made = c.in_ok-step.ensures.made h node (Takes m) (told_notes s node.met m.from m.body) (decision_note (decision_in s node m)) (has_taken s node m) noted acted taken.notes (take_may s node m _ is) in
+    made.notes ∙ ap (λ (step : RuleStep). step.notes) is
+
+pub returns-clause-sends : goal.returns-clause-sends
+returns-clause-sends g c = λ told h node represents owned placed.
+    let r0 = c.args.self.now.replica in
+    let r1 = c.takes.new.replica in
+    let r2 = c.acts.new.replica in
+    let own_open = c.args.self.now.open in
+    let begun = c.args.self.now.begun in
+    let version = g.V.Versions.version r0.rows.rows in
+    let progress = progress_at r0.rows.progress in
+    let m = c.args.message.now in
+    let s = setting r0.members r0.me h in
+    let opened = subst (λ (os : List Operation). Represents s r0.voter.logs.kept r0.leases version progress os begun node) (sym c.replace-opened.ensures.value) represents in
+    let taken = c.in_ok-taken.ensures.taken h node begun opened owned placed in
+    let heard = c.in_ok-taken.taken.heard in
+    let t1 = setting r1.members r1.me h in
+    let t2 = setting r2.members r2.me h in
+    let t1_is : t1 ≡ s = (λ i. setting (c.in_ok-taken.ensures.members i) (c.in_ok-taken.ensures.me i) h) in
+    let t2_is : t2 ≡ t1 = (λ i. setting (c.in_ok-work.ensures.members i) (c.in_ok-work.ensures.me i) h) in
+    let about = heard_are_about s node m r0.voter.logs.kept r0.leases version progress own_open begun heard represents taken.heard in
+    let base = acted_on s node (Take m) in
+    let stored = stored_after s base node.stored (decision_in s node m) in
+    let acted = take_acts s node m t1 t2 r0.voter.logs.kept r1.voter.logs.kept r2.voter.logs.kept r0.leases r2.leases version (g.V.Versions.version r2.rows.rows) progress (progress_at r2.rows.progress) own_open begun
+    c.in_ok-work.work heard represents taken.heard t1_is t2_is (λ i. (c.in_ok-work.ensures.voter i).logs.kept) taken.stands.tells
+    (c.in_ok-work.ensures.state told h base stored about taken.stands) (c.in_ok-work.ensures.work told h base stored about taken.stands) in
+    let is = take_is s node m t2 c.in_ok-taken.taken.sends c.new-2.result (t2_is ∙ t1_is) taken.sends c.new-2.ensures in
+    let keeps = represents_keeps s r0.voter.logs.kept r0.leases version progress own_open begun node represents in
+    let groups = touched m.body node.open_operations in
+    let groups_are : c.in_ok-groups.groups ≡ groups = c.in_ok-groups.ensures ∙ ap (touched m.body) (c.as_slice.ensures ∙ sym represents.opened) in
+    let before = c.in_ok-before.ensures node.met node.stored keeps ∙ ap (λ (some : List GroupId). cond (has_rows r0.members r0.me) (map (before_at node.met node.stored) some) []) groups_are in
+    let noted = watched_noted s t2 node groups c.in_ok-before.before (has_taken s node m) (t2_is ∙ t1_is) before (take_noted s node m (map (before_at node.met node.stored) groups) (subst (All IsBuilt) (sym represents.opened) represents.built) acted.acted refl) in
+    let made = c.in_ok-step.ensures.made h node (Takes m) (told_notes s node.met m.from m.body) (decision_note (decision_in s node m)) (has_taken s node m) noted acted taken.notes (take_may s node m _ is) in
+    made.sends ∙ ap (λ (step : RuleStep). step.sends) is
+
+pub returns-clause-state : goal.returns-clause-state
+returns-clause-state g c = λ told h node represents owned placed.
+    let r0 = c.args.self.now.replica in
+    let r1 = c.takes.new.replica in
+    let r2 = c.acts.new.replica in
+    let own_open = c.args.self.now.open in
+    let begun = c.args.self.now.begun in
+    let version = g.V.Versions.version r0.rows.rows in
+    let progress = progress_at r0.rows.progress in
+    let m = c.args.message.now in
+    let s = setting r0.members r0.me h in
+    let opened = subst (λ (os : List Operation). Represents s r0.voter.logs.kept r0.leases version progress os begun node) (sym c.replace-opened.ensures.value) represents in
+    let taken = c.in_ok-taken.ensures.taken h node begun opened owned placed in
+    let heard = c.in_ok-taken.taken.heard in
+    let t1 = setting r1.members r1.me h in
+    let t2 = setting r2.members r2.me h in
+    let t1_is : t1 ≡ s = (λ i. setting (c.in_ok-taken.ensures.members i) (c.in_ok-taken.ensures.me i) h) in
+    let t2_is : t2 ≡ t1 = (λ i. setting (c.in_ok-work.ensures.members i) (c.in_ok-work.ensures.me i) h) in
+    let about = heard_are_about s node m r0.voter.logs.kept r0.leases version progress own_open begun heard represents taken.heard in
+    let base = acted_on s node (Take m) in
+    let stored = stored_after s base node.stored (decision_in s node m) in
+    let acted = take_acts s node m t1 t2 r0.voter.logs.kept r1.voter.logs.kept r2.voter.logs.kept r0.leases r2.leases version (g.V.Versions.version r2.rows.rows) progress (progress_at r2.rows.progress) own_open begun
+    c.in_ok-work.work heard represents taken.heard t1_is t2_is (λ i. (c.in_ok-work.ensures.voter i).logs.kept) taken.stands.tells
+    (c.in_ok-work.ensures.state told h base stored about taken.stands) (c.in_ok-work.ensures.work told h base stored about taken.stands) in
+    let is = take_is s node m t2 c.in_ok-taken.taken.sends c.new-2.result (t2_is ∙ t1_is) taken.sends c.new-2.ensures in
+    let keeps = represents_keeps s r0.voter.logs.kept r0.leases version progress own_open begun node represents in
+    let groups = touched m.body node.open_operations in
+    let groups_are : c.in_ok-groups.groups ≡ groups = c.in_ok-groups.ensures ∙ ap (touched m.body) (c.as_slice.ensures ∙ sym represents.opened) in
+    let before = c.in_ok-before.ensures node.met node.stored keeps ∙ ap (λ (some : List GroupId). cond (has_rows r0.members r0.me) (map (before_at node.met node.stored) some) []) groups_are in
+    let noted = watched_noted s t2 node groups c.in_ok-before.before (has_taken s node m) (t2_is ∙ t1_is) before (take_noted s node m (map (before_at node.met node.stored) groups) (subst (All IsBuilt) (sym represents.opened) represents.built) acted.acted refl) in
+    let made = c.in_ok-step.ensures.made h node (Takes m) (told_notes s node.met m.from m.body) (decision_note (decision_in s node m)) (has_taken s node m) noted acted taken.notes (take_may s node m _ is) in
+    let new = c.ends.new.self in
+    subst (λ (step : RuleStep). Represents (setting new.replica.members new.replica.me h) new.replica.voter.logs.kept new.replica.leases (g.V.Versions.version new.replica.rows.rows) (progress_at new.replica.rows.progress) new.open new.begun step.node) is made.state

@@ -1,0 +1,10 @@
+use Rattle.std.proofs.Common.{List, drop, map}
+use Rattle.mega_leases.specs.Notes.{met_of}
+use Rattle.mega_rules.specs.Met.{Met}
+use Rattle.mega_rules.specs.Steps.{onto}
+use Rattle.mega_voter.specs.Telling.{Tells}
+use Rattle.mega_core.proofs.Sent.{KeptSo}
+use Rattle.mega_core.proofs.telling.keep_notes.Given as goal
+
+abbrev pub invariant-loop-note : goal.invariant-loop-note
+invariant-loop-note g l = (met : List Met) → Tells l.fn.voter.logs.kept met → KeptSo l.voter.logs.kept (drop l.note-index l.notes) (onto (map met_of l.notes) met)

@@ -1,0 +1,13 @@
+pub mod Notes
+pub mod Served
+pub mod Kind
+pub mod Represents
+pub mod Placed
+pub mod Positions
+pub mod Touching
+pub mod Made
+pub mod Acted
+pub mod Beginning
+pub mod Taking
+pub mod Faults
+pub mod Ticking

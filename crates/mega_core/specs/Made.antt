@@ -1,0 +1,18 @@
+-- A step that is made: what is noted and sent, and what is kept then.
+use Rattle.std.specs.Prelude.{◌≡◌, ℕ, List, map}
+use Rattle.mega_base.specs.declared.names.GroupId.{GroupId}
+use Rattle.mega_disk.specs.VersionMaps.{Versions}
+use Rattle.mega_wal.specs.declared.kept.Kept.{Kept}
+use Rattle.mega_rules.specs.Operations.{Operation, Setting}
+use Rattle.mega_rules.specs.Steps.{Step as RuleStep}
+use Rattle.mega_leases.specs.declared.leases.Leases.{Leases}
+use Rattle.mega_replica.specs.declared.progress.Progress.{Progress}
+use Rattle.mega_core.specs.declared.step.Step.{Step}
+use Rattle.mega_core.specs.Notes.{met_of}
+use Rattle.mega_core.specs.Represents.{Represents}
+
+-- it is the step of the rules, and what is kept represents the node then
+pub record Made (s : Setting) (made : Step) (kept : Kept) (leases : Leases) (version : Versions) (progress : GroupId → Progress) (open_ones : List Operation) (begun : ℕ) (step : RuleStep) : Type 0 where
+  pub notes : map met_of made.notes ≡ step.notes
+  pub sends : made.sends ≡ step.sends
+  pub state : Represents s kept leases version progress open_ones begun step.node

@@ -1,0 +1,51 @@
+-- What taking a message comes to, part by part.
+use Rattle.std.specs.Prelude.{◌≡◌, ◌++◌, List, [], map, Option, Some, None}
+use Rattle.mega_base.specs.declared.names.GroupId.{GroupId}
+use Rattle.mega_disk.specs.VersionMaps.{Versions}
+use Rattle.mega_wal.specs.declared.kept.Kept.{Kept}
+use Rattle.mega_wire.specs.declared.message.Message.{Message}
+use Rattle.mega_wire.specs.declared.message.Body.{Body}
+use Rattle.mega_wire.specs.declared.message.Body.TheVariants.{Where, Top, Accept, Prepare, Fetch}
+use Rattle.mega_rules.specs.Met.{Met}
+use Rattle.mega_rules.specs.Clock.{clock_of}
+use Rattle.mega_rules.specs.Logs.{decided, top_of}
+use Rattle.mega_rules.specs.Operations.{Node, Now, Setting}
+use Rattle.mega_rules.specs.Replies.{fetched, reply_to}
+use Rattle.mega_rules.specs.Steps.{Decision, Take, all_act, at_first, decision_note, hears_message, news, stored_after, told_decision, told_notes}
+use Rattle.mega_rules.specs.Voting.{acts, prepared, voted}
+use Rattle.mega_leases.specs.declared.leases.Leases.{Leases}
+use Rattle.mega_replica.specs.declared.progress.Progress.{Progress}
+use Rattle.mega_node_laws.specs.Acted.{acted_on, decision_in}
+use Rattle.mega_actions.specs.Stands.{Stands}
+use Rattle.mega_core.specs.declared.taking.Taken.{Taken}
+use Rattle.mega_core.specs.Notes.{met_of}
+
+-- the reply of a voter
+abbrev pub vote_reply : List Met → Body → Option Body
+vote_reply met (Where op group) = Some (Top op group (record { 0 = top_of met group }))
+vote_reply met (Accept op group position ballot entry) = Some (voted (acts met group position.0) op group position ballot entry)
+vote_reply met (Prepare op group position ballot) = Some (prepared (acts met group position.0) op group position ballot)
+vote_reply met (Fetch op group position) = Some (fetched op group position (decided met group position.0))
+vote_reply met _ = None
+
+-- the first reply, or else the other
+abbrev pub or_reply : Option Body → Option Body → Option Body
+or_reply (Some body) other = Some body
+or_reply None other = other
+
+-- what is told of a decision to all other nodes: nothing where the message told it
+abbrev pub news_by : Setting → Option Decision → Option Decision → List Message
+news_by s None d = news s d
+news_by s (Some told) d = []
+
+-- a message is taken: what is noted, sent and heard by then, what the operations act on, and what is kept
+pub record HasTaken (s : Setting) (t : Setting) (made : Taken) (kept : Kept) (leases : Leases) (version : Versions) (progress : GroupId → Progress) (node : Node) (m : Message) : Type 0 where
+  pub notes : map met_of made.notes ≡ told_notes s node.met m.from m.body ++ decision_note (decision_in s node m)
+  pub sends : made.sends ≡ reply_to s.cluster s.me node.met m ++ news_by s (told_decision m.body) (decision_in s node m)
+  pub heard : made.heard ≡ map (hears_message s (clock_of node.met) m) node.open_operations
+  pub stands : Stands t kept leases version progress (acted_on s node (Take m)) (stored_after s (acted_on s node (Take m)) node.stored (decision_in s node m))
+
+-- the operations act on it
+abbrev pub has_taken : Setting → Node → Message → Now
+has_taken s node m =
+    all_act s (at_first (acted_on s node (Take m)) (stored_after s (acted_on s node (Take m)) node.stored (decision_in s node m))) (map (hears_message s (clock_of node.met) m) node.open_operations)

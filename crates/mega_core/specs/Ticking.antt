@@ -1,0 +1,36 @@
+-- What a tick comes to, part by part.
+use Rattle.std.specs.Prelude.{◌≡◌, ◌++◌, ℕ, map, fold}
+use Rattle.mega_base.specs.declared.names.GroupId.{GroupId}
+use Rattle.mega_base.specs.declared.names.OpId.{OpId}
+use Rattle.mega_disk.specs.VersionMaps.{Versions}
+use Rattle.mega_wal.specs.declared.kept.Kept.{Kept}
+use Rattle.mega_wire.specs.declared.message.Message.{Message}
+use Rattle.mega_wire.specs.declared.message.Body.TheVariants.{Fetch}
+use Rattle.mega_rules.specs.Clock.{begun_of}
+use Rattle.mega_rules.specs.Coordinators.{acquires_at}
+use Rattle.mega_rules.specs.Logs.{groups_of}
+use Rattle.mega_rules.specs.Operations.{Node, Now, Setting}
+use Rattle.mega_rules.specs.Steps.{Tick, at_first, background, lapse_notes, lease_notes, portion_of, ticked}
+use Rattle.mega_leases.specs.declared.leases.Leases.{Leases}
+use Rattle.mega_replica.specs.declared.progress.Progress.{Progress}
+use Rattle.mega_node_laws.specs.Acted.{acted_on}
+use Rattle.mega_actions.specs.Stands.{Stands}
+use Rattle.mega_core.specs.declared.ticking.Ticked.{Ticked}
+use Rattle.mega_core.specs.Notes.{met_of}
+
+-- a node is asked for the entry at a position
+abbrev pub fetch_message : OpId → ℕ → GroupId → ℕ → ℕ → Message
+fetch_message op me group n to = record { from = me; to = to; body = Fetch op group (record { 0 = n }) }
+
+-- a tick: what is noted, and sent before and behind what the operations send, what these act on, and what is kept
+pub record HasTicked (s : Setting) (t : Setting) (made : Ticked) (kept : Kept) (leases : Leases) (version : Versions) (progress : GroupId → Progress) (node : Node) (now : ℕ) : Type 0 where
+  pub notes : map met_of made.notes ≡ lease_notes s node.met now ++ lapse_notes s node.met now
+  pub opening : made.opening ≡ acquires_at s.cluster s.me node.met now
+  pub closing : made.closing ≡ background s node.met now
+  pub stands : Stands t kept leases version progress (acted_on s node (Tick now)) (portion_of s node.met node.stored)
+  pub begun : begun_of (acted_on s node (Tick now)) ≡ begun_of node.met
+  pub groups : groups_of (acted_on s node (Tick now)) ≡ groups_of node.met
+
+-- the operations act on it
+abbrev pub has_ticked : Setting → Node → ℕ → Now
+has_ticked s node now = fold (ticked s now) (at_first (acted_on s node (Tick now)) (portion_of s node.met node.stored)) node.open_operations

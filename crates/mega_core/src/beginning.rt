@@ -1,0 +1,184 @@
+//! An operation begins, or is refused at once.
+ghost use Rattle.std.specs.Prelude.{◌≡◌, ℕ, List, min, true, false, None, IfOk, OnOk, Err};
+ghost use Rattle.mega_handler.specs.Named.{Meanings};
+ghost use Rattle.mega_node_laws.specs.Acted.{acted_on};
+ghost use Rattle.mega_node_laws.specs.Own.{HasOwnRows};
+ghost use Rattle.mega_rules.specs.Clock.{begun_of, clock_of, last_number};
+ghost use Rattle.mega_rules.specs.Logs.{log_of};
+ghost use Rattle.mega_rules.specs.Met.{Met};
+ghost use Rattle.mega_rules.specs.Operations.{Node as RuleNode, Now};
+ghost use Rattle.mega_rules.specs.Members.{kind_of};
+ghost use Rattle.mega_rules.specs.Steps.{Begin, at_first, at_open, begins, missing_kind, new_operation, op_of, refusal, unless_refused};
+ghost use Rattle.mega_replica.specs.Faring.{Fares};
+ghost use Rattle.mega_replica.specs.Following.{progress_at};
+ghost use Rattle.mega_voter.specs.Telling.{Tells};
+ghost use Rattle.mega_actions.specs.declared.fault.ActFault.TheVariants.{Unbuilt};
+ghost use Rattle.mega_actions.specs.Built.{is_built};
+ghost use Rattle.mega_actions.specs.Faults.{failed_by};
+ghost use Rattle.mega_actions.specs.Stands.{Stands, setting};
+ghost use Rattle.mega_actions.specs.Working.{work_of};
+ghost use Rattle.mega_core.specs.Acted.{HasActed};
+ghost use Rattle.mega_core.specs.Beginning.{has_begun};
+ghost use Rattle.mega_core.specs.Represents.{Represents};
+
+use crate::kinds::{kind_of, missing_kind};
+use crate::node::Node;
+use mega_actions::{ActFault, Deed, End, Replica, Work};
+use mega_base::{Items, NodeId, NodeKind, OpId};
+use mega_disk::{Records, Versions};
+use mega_operations::Operation;
+use mega_outcome::{Answer, Request};
+use mega_voter::Voter;
+use std::alloc::Global;
+use std::mem;
+
+/// As many operations may be open at a node.
+const MOST_OPEN: usize = 64;
+
+/// The number that the last operation of a start has, and all behind it.
+const LAST_NUMBER: u32 = 4294967295;
+
+/// The name of the next operation of a node that has begun so many.
+fn next_op<R: Records>(voter: &Voter<R>, me: u8, begun: u32) -> OpId
+    ensures { (c : _) (h : Meanings) (met : List Met) → Tells voter.now.logs.kept met → begun ≡ min (begun_of met) last_number → result ≡ op_of (setting c me h) met }
+{
+    OpId {
+        node: NodeId(me),
+        start: voter.start(),
+        number: begun.saturating_add(1),
+    }
+}
+
+/// Why an operation is not served that begins at a node which has begun so many, whose kind it misses, and at which so many
+/// are open.
+fn refusal(begun: u32, missing: Option<NodeKind>, opened: &[Operation]) -> Option<Answer>
+    ensures { (c me : _) (h : Meanings) (node : RuleNode) (request : Request) → missing ≡ missing_kind request (kind_of c me) → node.open_operations ≡ opened.now →
+        begun ≡ min (begun_of node.met) last_number → result ≡ refusal (setting c me h) node request }
+{
+    if begun >= LAST_NUMBER - 1 {
+        return Some(Answer::Worn);
+    }
+    if let Some(kind) = missing {
+        return Some(Answer::NotHere { kind });
+    }
+    if opened.len() >= MOST_OPEN {
+        return Some(Answer::Busy { count: 64 });
+    }
+    None
+}
+
+/// The operations that are open stay so.
+fn at_open(alloc: Global, opened: Items<Operation>) -> Work
+    ensures { (met : List Met) (stored : _) → result ≡ work_of (at_open (at_first met stored) opened) }
+{
+    Work {
+        kept: opened,
+        valid: Items::new(alloc),
+        answers: Items::new(alloc),
+        sends: Items::new(alloc),
+    }
+}
+
+/// Whether a request is served.
+fn is_built(request: &Request) -> bool
+    ensures { result ≡ is_built request.now }
+{
+    match request {
+        Request::Txn(_) => true,
+        Request::Batch(_, txns) => txns.len() <= 16,
+        _ => false,
+    }
+}
+
+/// An operation begins whose request is served.
+#[tactic(auto, using(mega_replica::proofs::Fared::fares_here))]
+fn serves<R: Records, V: Versions>(
+    alloc: Global,
+    replica: &mut Replica<R, V>,
+    work: &mut Work,
+    op: OpId,
+    request: Request,
+) -> Result<(), ActFault>
+    ensures state { OnOk result ((h : Meanings) (now : Now) → V.is_told ≡ true →
+        Stands (setting replica.old.members replica.old.me h) replica.old.voter.logs.kept replica.old.leases (V.version replica.old.rows.rows) (progress_at replica.old.rows.progress) now.met now.stored →
+        Stands (setting replica.new.members replica.new.me h) replica.new.voter.logs.kept replica.new.leases (V.version replica.new.rows.rows) (progress_at replica.new.rows.progress)
+        (begins (setting replica.old.members replica.old.me h) now (new_operation op request (clock_of now.met))).met (begins (setting replica.old.members replica.old.me h) now (new_operation op request (clock_of now.met))).stored) }
+    ensures work { OnOk result ((h : Meanings) (now : Now) → V.is_told ≡ true →
+        Stands (setting replica.old.members replica.old.me h) replica.old.voter.logs.kept replica.old.leases (V.version replica.old.rows.rows) (progress_at replica.old.rows.progress) now.met now.stored →
+        work.old ≡ work_of now → work.new ≡ work_of (begins (setting replica.old.members replica.old.me h) now (new_operation op request (clock_of now.met)))) }
+    ensures members { replica.new.members ≡ replica.old.members }
+    ensures me { replica.new.me ≡ replica.old.me }
+    ensures voter { replica.new.voter ≡ replica.old.voter }
+    ensures built { OnOk result (is_built request ≡ true) }
+    ensures unbuilt { result ≡ Err Unbuilt → is_built request ≡ false }
+    ensures fares { Fares V.Versions (failed_by result) replica.old.rows.rows replica.new.rows.rows }
+{
+    if !is_built(&request) {
+        return Err(ActFault::Unbuilt);
+    }
+    replica.begins(alloc, work, op, request)
+}
+
+/// An operation begins, unless it is refused.
+#[tactic(auto, using(mega_replica::proofs::Fared::fares_here))]
+fn unless_refused<R: Records, V: Versions>(
+    alloc: Global,
+    replica: &mut Replica<R, V>,
+    work: &mut Work,
+    op: OpId,
+    request: Request,
+    refusal: Option<Answer>,
+) -> Result<(), ActFault>
+    ensures state { OnOk result ((h : Meanings) (now : Now) → V.is_told ≡ true →
+        Stands (setting replica.old.members replica.old.me h) replica.old.voter.logs.kept replica.old.leases (V.version replica.old.rows.rows) (progress_at replica.old.rows.progress) now.met now.stored →
+        Stands (setting replica.new.members replica.new.me h) replica.new.voter.logs.kept replica.new.leases (V.version replica.new.rows.rows) (progress_at replica.new.rows.progress)
+        (unless_refused (setting replica.old.members replica.old.me h) now (new_operation op request (clock_of now.met)) refusal).met (unless_refused (setting replica.old.members replica.old.me h) now (new_operation op request (clock_of now.met)) refusal).stored) }
+    ensures work { OnOk result ((h : Meanings) (now : Now) → V.is_told ≡ true →
+        Stands (setting replica.old.members replica.old.me h) replica.old.voter.logs.kept replica.old.leases (V.version replica.old.rows.rows) (progress_at replica.old.rows.progress) now.met now.stored →
+        work.old ≡ work_of now → work.new ≡ work_of (unless_refused (setting replica.old.members replica.old.me h) now (new_operation op request (clock_of now.met)) refusal)) }
+    ensures members { replica.new.members ≡ replica.old.members }
+    ensures me { replica.new.me ≡ replica.old.me }
+    ensures voter { replica.new.voter ≡ replica.old.voter }
+    ensures built { OnOk result (refusal ≡ None → is_built request ≡ true) }
+    ensures unbuilt { result ≡ Err Unbuilt → is_built request ≡ false }
+    ensures fares { Fares V.Versions (failed_by result) replica.old.rows.rows replica.new.rows.rows }
+{
+    match refusal {
+        None => serves(alloc, replica, work, op, request),
+        Some(answer) => {
+            work.does(Deed {
+                sends: None,
+                end: End::Ends(op, answer),
+            })?;
+            Ok(())
+        }
+    }
+}
+
+impl<R: Records, V: Versions> Node<R, V> {
+    /// An operation begins: what the step has come to then.
+    pub(crate) fn begins(&mut self, alloc: Global, request: Request) -> Result<Work, ActFault>
+        ensures acted { V.is_told ≡ true → IfOk result (λ work. (h : Meanings) (node : RuleNode) (text : List ℕ) →
+            Represents (setting self.old.replica.members self.old.replica.me h) self.old.replica.voter.logs.kept self.old.replica.leases (V.version self.old.replica.rows.rows) (progress_at self.old.replica.rows.progress) self.old.open self.old.begun node →
+            HasOwnRows self.old.replica.members.schema (log_of (acted_on (setting self.old.replica.members self.old.replica.me h) node (Begin request text))) →
+            HasActed (setting self.new.replica.members self.new.replica.me h) self.new.replica.voter.logs.kept self.new.replica.leases (V.version self.new.replica.rows.rows) (progress_at self.new.replica.rows.progress) self.new.begun work
+            (acted_on (setting self.old.replica.members self.old.replica.me h) node (Begin request text)) (has_begun (setting self.old.replica.members self.old.replica.me h) node request text)) }
+        ensures members { self.new.replica.members ≡ self.old.replica.members }
+        ensures me { self.new.replica.me ≡ self.old.replica.me }
+        ensures unbuilt { result ≡ Err Unbuilt → is_built request ≡ false }
+        ensures built { OnOk result ((h : Meanings) (node : RuleNode) →
+            Represents (setting self.old.replica.members self.old.replica.me h) self.old.replica.voter.logs.kept self.old.replica.leases (V.version self.old.replica.rows.rows) (progress_at self.old.replica.rows.progress) self.old.open self.old.begun node →
+            refusal (setting self.old.replica.members self.old.replica.me h) node request ≡ None → is_built request ≡ true) }
+        ensures fares { Fares V.Versions (failed_by result) self.old.replica.rows.rows self.new.replica.rows.rows }
+    {
+        let op = next_op(&self.replica.voter, self.replica.me, self.begun);
+        let kind = kind_of(self.replica.members.cluster(), self.replica.me);
+        let missing = missing_kind(&request, kind);
+        let refusal = refusal(self.begun, missing, self.open.as_slice());
+        self.begun = op.number;
+        let open = mem::replace(&mut self.open, Items::new(alloc));
+        let mut work = at_open(alloc, open);
+        unless_refused(alloc, &mut self.replica, &mut work, op, request, refusal)?;
+        Ok(work)
+    }
+}

@@ -1,0 +1,105 @@
+//! A step ends: its notes and messages in their order, and what is sent told to the voter.
+ghost use Rattle.std.specs.Prelude.{◌≡◌, ◌++◌, ◌∷◌, List, map, flat_map, IfOk, OnOk};
+ghost use Rattle.mega_handler.specs.Named.{Meanings};
+ghost use Rattle.mega_rules.specs.Met.{Met, Sends};
+ghost use Rattle.mega_rules.specs.Operations.{Node as RuleNode, Now};
+ghost use Rattle.mega_rules.specs.Steps.{apply_notes, onto};
+ghost use Rattle.mega_node_laws.specs.Sending.{MaySend};
+ghost use Rattle.mega_replica.specs.Following.{progress_at};
+ghost use Rattle.mega_voter.specs.Telling.{IsAnswer, Tells};
+ghost use Rattle.mega_actions.specs.Stands.{setting};
+ghost use Rattle.mega_core.specs.Acted.{HasActed, ended};
+ghost use Rattle.mega_core.specs.Made.{Made};
+ghost use Rattle.mega_core.specs.Notes.{met_of};
+ghost use Rattle.mega_core.specs.Positions.{note_since};
+
+use crate::applying::{Before, apply_notes};
+use crate::joining::{add_sends, joined};
+use crate::node::Node;
+use crate::note::Note;
+use crate::step::Step;
+use mega_actions::Work;
+use mega_base::{Items, NoMemory};
+use mega_disk::{Records, Versions};
+use mega_voter::Voter;
+use mega_wire::Message;
+use std::alloc::Global;
+
+/// Tells the voter of a message that its node sends.
+fn tell_sent<R: Records>(
+    alloc: Global,
+    voter: &mut Voter<R>,
+    message: &Message,
+) -> Result<(), NoMemory>
+    ensures { OnOk result ((met : List Met) → IsAnswer met message.now.body → Tells voter.old.logs.kept met → Tells voter.new.logs.kept (Sends message.now ∷ met)) }
+{
+    match voter.sent(alloc, message) {
+        Ok(()) => Ok(()),
+        Err(_) => Err(NoMemory),
+    }
+}
+
+/// Tells the voter of all messages that its node sends in a step.
+fn tell_all_sent<R: Records>(
+    alloc: Global,
+    voter: &mut Voter<R>,
+    sends: &[Message],
+) -> Result<(), NoMemory>
+    ensures { OnOk result ((met : List Met) → MaySend met sends.now → Tells voter.old.logs.kept met → Tells voter.new.logs.kept (onto (map Sends sends.now) met)) }
+{
+    for message in sends {
+        tell_sent(alloc, voter, message)?;
+    }
+    Ok(())
+}
+
+/// What is sent in a step: what it opens with, what the operations send, and what it closes with.
+fn all_sends(
+    opening: Items<Message>,
+    sends: Items<Message>,
+    closing: Items<Message>,
+) -> Result<Items<Message>, NoMemory>
+    ensures { IfOk result (λ all. all ≡ (opening ++ sends) ++ closing) }
+{
+    let mut all = opening;
+    add_sends(&mut all, sends)?;
+    add_sends(&mut all, closing)?;
+    Ok(all)
+}
+
+impl<R: Records, V: Versions> Node<R, V> {
+    /// The step ends: of these groups what is applied since is noted behind the first notes, then what the operations came
+    /// to, and all that is sent is told to the voter.
+    pub(crate) fn ends(
+        &mut self,
+        alloc: Global,
+        before: Items<Before>,
+        first: Items<Note>,
+        work: Work,
+        opening: Items<Message>,
+        closing: Items<Message>,
+    ) -> Result<Step, NoMemory>
+        ensures made { IfOk result (λ made. (h : Meanings) (node : RuleNode) (own : Met) (locks durable : List Met) (now : Now) →
+            flat_map (note_since now.met now.stored) before ≡ apply_notes (setting self.old.replica.members self.old.replica.me h) node.met node.stored now.met now.stored →
+            HasActed (setting self.old.replica.members self.old.replica.me h) self.old.replica.voter.logs.kept self.old.replica.leases (V.version self.old.replica.rows.rows) (progress_at self.old.replica.rows.progress) self.old.begun work (onto durable (onto locks (own ∷ node.met))) now →
+            map met_of first ≡ locks ++ durable →
+            MaySend (onto (ended (setting self.old.replica.members self.old.replica.me h) node own locks durable ((opening ++ now.sends) ++ closing) now).notes (own ∷ node.met)) ((opening ++ now.sends) ++ closing) →
+            Made (setting self.new.replica.members self.new.replica.me h) made self.new.replica.voter.logs.kept self.new.replica.leases (V.version self.new.replica.rows.rows) (progress_at self.new.replica.rows.progress) self.new.open self.new.begun (ended (setting self.old.replica.members self.old.replica.me h) node own locks durable ((opening ++ now.sends) ++ closing) now)) }
+        ensures members { self.new.replica.members ≡ self.old.replica.members }
+        ensures me { self.new.replica.me ≡ self.old.replica.me }
+        ensures rows { self.new.replica.rows ≡ self.old.replica.rows }
+    {
+        let applies = apply_notes(alloc, &self.replica.voter, &self.replica.rows, before)?;
+        let Work {
+            kept,
+            valid,
+            answers,
+            sends,
+        } = work;
+        let notes = joined(first, applies, valid, answers)?;
+        let sends = all_sends(opening, sends, closing)?;
+        tell_all_sent(alloc, &mut self.replica.voter, sends.as_slice())?;
+        self.open = kept;
+        Ok(Step { notes, sends })
+    }
+}

@@ -1,0 +1,196 @@
+//! A node of a cluster: its start, and its three steps.
+ghost use Rattle.std.specs.Prelude.{◌≡◌, ◌≢◌, ◌⊎◌, ℕ, List, [], map, None, true, false, IfOk, OnOk, OnErr, Err};
+ghost use Rattle.mega_handler.specs.Named.{Meanings};
+ghost use Rattle.mega_node_laws.specs.Acted.{acted_on, decision_in};
+ghost use Rattle.mega_node_laws.specs.Own.{HasOwnRows};
+ghost use Rattle.mega_leases.specs.Taking.{IsByStranger, IsLate};
+ghost use Rattle.mega_rules.specs.Logs.{log_of};
+ghost use Rattle.mega_rules.specs.Members.{is_node};
+ghost use Rattle.mega_rules.specs.Operations.{Node as RuleNode};
+ghost use Rattle.mega_rules.specs.Steps.{Begin, Take, Tick, start, step};
+ghost use Rattle.mega_replica.specs.Faring.{Fares};
+ghost use Rattle.mega_replica.specs.Following.{progress_at};
+ghost use Rattle.mega_wal.specs.Kept.{Represents as Holds};
+ghost use Rattle.mega_actions.specs.Built.{is_built};
+ghost use Rattle.mega_actions.specs.Stands.{setting};
+ghost use Rattle.mega_core.specs.declared.fault.StepFault.TheVariants.{Late, NoMemory, Stranger, Unbuilt};
+ghost use Rattle.mega_core.specs.Faults.{failed_by};
+ghost use Rattle.mega_core.specs.Notes.{met_of};
+ghost use Rattle.mega_core.specs.Placed.{IsPlaced};
+ghost use Rattle.mega_core.specs.Represents.{Represents};
+ghost use Rattle.mega_core.specs.Served.{IsServed};
+
+use crate::applying::watched;
+use crate::fault::StepFault;
+use crate::starting::{leases_of, members_of, voter_of};
+use crate::step::Step;
+use crate::taking::{Taken, acts, takes};
+use crate::ticking::{Ticked, acts_ticked, ticks};
+use crate::touching::{asked_groups, touched};
+use mega_actions::Replica;
+use mega_base::{Items, Text};
+use mega_cluster::Cluster;
+use mega_disk::{Records, Versions};
+use mega_operations::Operation;
+use mega_outcome::Request;
+use mega_replica::StoredRows;
+use mega_wal::Logs;
+use mega_wire::Message;
+use std::alloc::Global;
+use std::mem;
+
+/// A node of a cluster, of any kind, from a start of it on: what it keeps, and its open operations in order of begin.
+#[derive(Drop)]
+pub struct Node<R: Records, V: Versions> {
+    pub replica: Replica<R, V>,
+    pub open: Items<Operation>,
+    pub begun: u32,
+}
+
+impl<R: Records + Drop, V: Versions + Drop> Node<R, V> {
+    /// The node of this number at its first start, over logs and rows that hold nothing; `Unbuilt` where the logs tell of
+    /// a start.
+    pub fn start(
+        alloc: Global,
+        cluster: Cluster,
+        me: u8,
+        logs: Logs<R>,
+        rows: V,
+    ) -> Result<Node<R, V>, StepFault>
+        requires served { IsServed cluster }
+        requires member { is_node cluster me ≡ true }
+        ensures state { IfOk result (λ node. (h : Meanings) → Holds logs.kept [] → ((key : List ℕ) (n : ℕ) → V.version rows key n ≡ None) →
+            Represents (setting node.replica.members node.replica.me h) node.replica.voter.logs.kept node.replica.leases (V.version node.replica.rows.rows) (progress_at node.replica.rows.progress) node.open node.begun
+            (start (setting cluster me h) 1 [] [])) }
+        ensures members { IfOk result (λ node. node.replica.members ≡ cluster) }
+        ensures me { IfOk result (λ node. node.replica.me ≡ me) }
+        ensures unbuilt { result ≡ Err Unbuilt → Holds logs.kept [] → ⊥ }
+        ensures only { OnErr result ((result ≡ Err NoMemory) ⊎ (result ≡ Err Unbuilt)) }
+    {
+        let members = members_of(alloc, cluster)?;
+        let voter = voter_of(alloc, logs)?;
+        let leases = leases_of(alloc, members.cluster(), me);
+        let rows = StoredRows::new(alloc, rows);
+        let replica = Replica {
+            members,
+            me,
+            voter,
+            leases,
+            rows,
+        };
+        Ok(Node {
+            replica,
+            open: Items::new(alloc),
+            begun: 0,
+        })
+    }
+}
+
+impl<R: Records, V: Versions> Node<R, V> {
+    /// The node takes a message.
+    pub fn take(&mut self, alloc: Global, message: &Message) -> Result<Step, StepFault>
+        ensures notes { V.is_told ≡ true → IfOk result (λ made. (h : Meanings) (node : RuleNode) →
+            Represents (setting self.old.replica.members self.old.replica.me h) self.old.replica.voter.logs.kept self.old.replica.leases (V.version self.old.replica.rows.rows) (progress_at self.old.replica.rows.progress) self.old.open self.old.begun node →
+            HasOwnRows self.old.replica.members.schema (log_of (acted_on (setting self.old.replica.members self.old.replica.me h) node (Take message.now))) → IsPlaced (decision_in (setting self.old.replica.members self.old.replica.me h) node message.now) →
+            map met_of made.notes ≡ (step (setting self.old.replica.members self.old.replica.me h) node (Take message.now)).notes) }
+        ensures sends { V.is_told ≡ true → IfOk result (λ made. (h : Meanings) (node : RuleNode) →
+            Represents (setting self.old.replica.members self.old.replica.me h) self.old.replica.voter.logs.kept self.old.replica.leases (V.version self.old.replica.rows.rows) (progress_at self.old.replica.rows.progress) self.old.open self.old.begun node →
+            HasOwnRows self.old.replica.members.schema (log_of (acted_on (setting self.old.replica.members self.old.replica.me h) node (Take message.now))) → IsPlaced (decision_in (setting self.old.replica.members self.old.replica.me h) node message.now) →
+            made.sends ≡ (step (setting self.old.replica.members self.old.replica.me h) node (Take message.now)).sends) }
+        ensures state { V.is_told ≡ true → OnOk result ((h : Meanings) (node : RuleNode) →
+            Represents (setting self.old.replica.members self.old.replica.me h) self.old.replica.voter.logs.kept self.old.replica.leases (V.version self.old.replica.rows.rows) (progress_at self.old.replica.rows.progress) self.old.open self.old.begun node →
+            HasOwnRows self.old.replica.members.schema (log_of (acted_on (setting self.old.replica.members self.old.replica.me h) node (Take message.now))) → IsPlaced (decision_in (setting self.old.replica.members self.old.replica.me h) node message.now) →
+            Represents (setting self.new.replica.members self.new.replica.me h) self.new.replica.voter.logs.kept self.new.replica.leases (V.version self.new.replica.rows.rows) (progress_at self.new.replica.rows.progress) self.new.open self.new.begun (step (setting self.old.replica.members self.old.replica.me h) node (Take message.now)).node) }
+        ensures members { self.new.replica.members ≡ self.old.replica.members }
+        ensures me { self.new.replica.me ≡ self.old.replica.me }
+        ensures built { result ≡ Err Unbuilt → (h : Meanings) (node : RuleNode) → Represents (setting self.old.replica.members self.old.replica.me h) self.old.replica.voter.logs.kept self.old.replica.leases (V.version self.old.replica.rows.rows) (progress_at self.old.replica.rows.progress) self.old.open self.old.begun node → ⊥ }
+        ensures stranger { result ≡ Err Stranger → IsByStranger message.now.from message.now.body }
+        ensures late { result ≡ Err Late → (h : Meanings) (node : RuleNode) → Represents (setting self.old.replica.members self.old.replica.me h) self.old.replica.voter.logs.kept self.old.replica.leases (V.version self.old.replica.rows.rows) (progress_at self.old.replica.rows.progress) self.old.open self.old.begun node → IsLate self.old.replica.members message.now.body }
+        ensures fares { Fares V.Versions (failed_by result) self.old.replica.rows.rows self.new.replica.rows.rows }
+    {
+        let groups = touched(alloc, &message.body, self.open.as_slice())?;
+        let before = watched(alloc, &self.replica, groups)?;
+        let opened = mem::replace(&mut self.open, Items::new(alloc));
+        let taken = takes(alloc, &mut self.replica, opened, message)?;
+        let Taken {
+            notes,
+            sends,
+            heard,
+        } = taken;
+        let work = acts(alloc, &mut self.replica, heard)?;
+        let step = self.ends(alloc, before, notes, work, sends, Items::new(alloc))?;
+        Ok(step)
+    }
+
+    /// An operation begins at the node; the text is its request.
+    pub fn begin(&mut self, alloc: Global, request: Request, text: &Text) -> Result<Step, StepFault>
+        ensures notes { V.is_told ≡ true → IfOk result (λ made. (h : Meanings) (node : RuleNode) →
+            Represents (setting self.old.replica.members self.old.replica.me h) self.old.replica.voter.logs.kept self.old.replica.leases (V.version self.old.replica.rows.rows) (progress_at self.old.replica.rows.progress) self.old.open self.old.begun node →
+            HasOwnRows self.old.replica.members.schema (log_of (acted_on (setting self.old.replica.members self.old.replica.me h) node (Begin request text.now))) →
+            map met_of made.notes ≡ (step (setting self.old.replica.members self.old.replica.me h) node (Begin request text.now)).notes) }
+        ensures sends { V.is_told ≡ true → IfOk result (λ made. (h : Meanings) (node : RuleNode) →
+            Represents (setting self.old.replica.members self.old.replica.me h) self.old.replica.voter.logs.kept self.old.replica.leases (V.version self.old.replica.rows.rows) (progress_at self.old.replica.rows.progress) self.old.open self.old.begun node →
+            HasOwnRows self.old.replica.members.schema (log_of (acted_on (setting self.old.replica.members self.old.replica.me h) node (Begin request text.now))) →
+            made.sends ≡ (step (setting self.old.replica.members self.old.replica.me h) node (Begin request text.now)).sends) }
+        ensures state { V.is_told ≡ true → OnOk result ((h : Meanings) (node : RuleNode) →
+            Represents (setting self.old.replica.members self.old.replica.me h) self.old.replica.voter.logs.kept self.old.replica.leases (V.version self.old.replica.rows.rows) (progress_at self.old.replica.rows.progress) self.old.open self.old.begun node →
+            HasOwnRows self.old.replica.members.schema (log_of (acted_on (setting self.old.replica.members self.old.replica.me h) node (Begin request text.now))) →
+            Represents (setting self.new.replica.members self.new.replica.me h) self.new.replica.voter.logs.kept self.new.replica.leases (V.version self.new.replica.rows.rows) (progress_at self.new.replica.rows.progress) self.new.open self.new.begun (step (setting self.old.replica.members self.old.replica.me h) node (Begin request text.now)).node) }
+        ensures members { self.new.replica.members ≡ self.old.replica.members }
+        ensures me { self.new.replica.me ≡ self.old.replica.me }
+        ensures unbuilt { result ≡ Err Unbuilt → is_built request ≡ false }
+        ensures stranger { result ≢ Err Stranger }
+        ensures late { result ≢ Err Late }
+        ensures fares { Fares V.Versions (failed_by result) self.old.replica.rows.rows self.new.replica.rows.rows }
+    {
+        let groups = asked_groups(alloc, &request)?;
+        let before = watched(alloc, &self.replica, groups)?;
+        let work = self.begins(alloc, request)?;
+        let none = Items::new(alloc);
+        let step = self.ends(
+            alloc,
+            before,
+            none,
+            work,
+            Items::new(alloc),
+            Items::new(alloc),
+        )?;
+        Ok(step)
+    }
+
+    /// The node's clock shows `now`, in milliseconds.
+    pub fn tick(&mut self, alloc: Global, now: u64) -> Result<Step, StepFault>
+        ensures notes { V.is_told ≡ true → IfOk result (λ made. (h : Meanings) (node : RuleNode) →
+            Represents (setting self.old.replica.members self.old.replica.me h) self.old.replica.voter.logs.kept self.old.replica.leases (V.version self.old.replica.rows.rows) (progress_at self.old.replica.rows.progress) self.old.open self.old.begun node →
+            HasOwnRows self.old.replica.members.schema (log_of (acted_on (setting self.old.replica.members self.old.replica.me h) node (Tick now))) →
+            map met_of made.notes ≡ (step (setting self.old.replica.members self.old.replica.me h) node (Tick now)).notes) }
+        ensures sends { V.is_told ≡ true → IfOk result (λ made. (h : Meanings) (node : RuleNode) →
+            Represents (setting self.old.replica.members self.old.replica.me h) self.old.replica.voter.logs.kept self.old.replica.leases (V.version self.old.replica.rows.rows) (progress_at self.old.replica.rows.progress) self.old.open self.old.begun node →
+            HasOwnRows self.old.replica.members.schema (log_of (acted_on (setting self.old.replica.members self.old.replica.me h) node (Tick now))) →
+            made.sends ≡ (step (setting self.old.replica.members self.old.replica.me h) node (Tick now)).sends) }
+        ensures state { V.is_told ≡ true → OnOk result ((h : Meanings) (node : RuleNode) →
+            Represents (setting self.old.replica.members self.old.replica.me h) self.old.replica.voter.logs.kept self.old.replica.leases (V.version self.old.replica.rows.rows) (progress_at self.old.replica.rows.progress) self.old.open self.old.begun node →
+            HasOwnRows self.old.replica.members.schema (log_of (acted_on (setting self.old.replica.members self.old.replica.me h) node (Tick now))) →
+            Represents (setting self.new.replica.members self.new.replica.me h) self.new.replica.voter.logs.kept self.new.replica.leases (V.version self.new.replica.rows.rows) (progress_at self.new.replica.rows.progress) self.new.open self.new.begun (step (setting self.old.replica.members self.old.replica.me h) node (Tick now)).node) }
+        ensures members { self.new.replica.members ≡ self.old.replica.members }
+        ensures me { self.new.replica.me ≡ self.old.replica.me }
+        ensures built { result ≡ Err Unbuilt → (h : Meanings) (node : RuleNode) → Represents (setting self.old.replica.members self.old.replica.me h) self.old.replica.voter.logs.kept self.old.replica.leases (V.version self.old.replica.rows.rows) (progress_at self.old.replica.rows.progress) self.old.open self.old.begun node → ⊥ }
+        ensures stranger { result ≢ Err Stranger }
+        ensures late { result ≢ Err Late }
+        ensures fares { Fares V.Versions (failed_by result) self.old.replica.rows.rows self.new.replica.rows.rows }
+    {
+        let found = self.replica.voter.groups(alloc)?;
+        let groups = Items::from_vec(found);
+        let before = watched(alloc, &self.replica, groups)?;
+        let made = ticks(alloc, &mut self.replica, now)?;
+        let Ticked {
+            notes,
+            opening,
+            closing,
+        } = made;
+        let opened = mem::replace(&mut self.open, Items::new(alloc));
+        let work = acts_ticked(alloc, &mut self.replica, now, opened)?;
+        let step = self.ends(alloc, before, notes, work, opening, closing)?;
+        Ok(step)
+    }
+}

@@ -1,0 +1,257 @@
+//! A message is taken: what is told by it, what is decided, and what the operations do then.
+ghost use Rattle.std.specs.Prelude.{◌≡◌, ◌≢◌, ◌++◌, ℕ, List, All, map, true, false, None, IfOk, OnOk, Err};
+ghost use Rattle.std.specs.List.{range_with_len};
+ghost use Rattle.mega_base.specs.declared.names.GroupId.{GroupId as Group};
+ghost use Rattle.mega_handler.specs.Named.{Meanings};
+ghost use Rattle.mega_node_laws.specs.Acted.{acted_on, decision_in, or_settled};
+ghost use Rattle.mega_node_laws.specs.Own.{HasOwnRows};
+ghost use Rattle.mega_leases.specs.Taking.{IsByStranger, IsLate};
+ghost use Rattle.mega_leases.specs.Tells.{Tells as TellsLeases};
+ghost use Rattle.mega_rules.specs.Clock.{clock_of};
+ghost use Rattle.mega_rules.specs.Logs.{log_of};
+ghost use Rattle.mega_rules.specs.Members.{has_rows};
+ghost use Rattle.mega_rules.specs.Met.{Met};
+ghost use Rattle.mega_rules.specs.Operations.{Node as RuleNode, Setting};
+ghost use Rattle.mega_rules.specs.Steps.{Take, all_act, at_first, decide_to, decision_note, first_settled, hears_message, if_new, news, onto, stored_after, told_decision};
+ghost use Rattle.mega_replica.specs.Faring.{Fares};
+ghost use Rattle.mega_replica.specs.Following.{Follows, progress_at};
+ghost use Rattle.mega_voter.specs.Telling.{Tells};
+ghost use Rattle.mega_actions.specs.declared.fault.ActFault.TheVariants as act;
+ghost use Rattle.mega_actions.specs.Faults.{failed_by as failed_to_act};
+ghost use Rattle.mega_actions.specs.Stands.{Stands, setting};
+ghost use Rattle.mega_actions.specs.Turns.{IsBuiltHeard, IsHeardAbout};
+ghost use Rattle.mega_actions.specs.Working.{work_of};
+ghost use Rattle.mega_core.specs.declared.fault.StepFault.TheVariants.{Late, Stranger, Unbuilt};
+ghost use Rattle.mega_core.specs.Faults.{failed_by};
+ghost use Rattle.mega_core.specs.Notes.{met_of};
+ghost use Rattle.mega_core.specs.Placed.{IsPlaced};
+ghost use Rattle.mega_core.specs.Represents.{Represents};
+ghost use Rattle.mega_core.specs.Taking.{HasTaken, news_by};
+
+use crate::deciding::{Chosen, decides, decision, note_decision, stores, tells_decision};
+use crate::fault::StepFault;
+use crate::hearing::all_hear;
+use crate::joining::add_sends;
+use crate::kinds::has_rows;
+use crate::note::Note;
+use crate::telling::{Told, is_told};
+use mega_actions::{ActFault, Replica, Work};
+use mega_base::{Copied, Items, NoMemory, Position};
+use mega_disk::{Records, Versions};
+use mega_operations::{Heard, Members, Operation};
+use mega_propose::others;
+use mega_wire::{Body, Message};
+use std::alloc::Global;
+
+/// A message that is taken, before the operations act: what is noted and sent, and what they come to.
+#[derive(Debug, Drop)]
+pub struct Taken {
+    pub notes: Items<Note>,
+    pub sends: Items<Message>,
+    pub heard: Items<Heard>,
+}
+
+/// The numbers of so many nodes.
+#[tactic(auto, using(mega_leases::proofs::Ticked::one_cell_more))]
+pub(crate) fn nodes(alloc: Global, count: u8) -> Result<Items<u8>, NoMemory>
+    ensures { IfOk result (λ made. made ≡ range_with_len 1 count) }
+{
+    let mut made = Items::new(alloc);
+    for before in 0..count {
+        made.push(before + 1)?;
+    }
+    Ok(made)
+}
+
+/// Tells a node of a decision.
+fn decide_to(alloc: Global, me: u8, found: &Chosen, to: u8) -> Result<Message, NoMemory>
+    ensures { IfOk result (λ made. made ≡ decide_to me found.now to) }
+{
+    let group = found.group.copy(alloc)?;
+    let entry = found.entry.copy(alloc)?;
+    let body = Body::Decide {
+        group,
+        position: Position(found.position),
+        entry,
+    };
+    Ok(Message { from: me, to, body })
+}
+
+/// Tells these nodes of a decision.
+fn decide_to_all(
+    alloc: Global,
+    me: u8,
+    found: &Chosen,
+    nodes: &[u8],
+) -> Result<Items<Message>, NoMemory>
+    ensures { IfOk result (λ sends. sends ≡ map (decide_to me found.now) nodes.now) }
+{
+    let mut sends = Items::new(alloc);
+    for node in nodes {
+        let message = decide_to(alloc, me, found, *node)?;
+        sends.push(message)?;
+    }
+    Ok(sends)
+}
+
+/// Tells all other nodes of a decision, if there is one. Members are never more than 255.
+fn news(
+    alloc: Global,
+    members: &Members,
+    me: u8,
+    found: &Option<Chosen>,
+) -> Result<Items<Message>, NoMemory>
+    ensures { IfOk result (λ sends. (s : Setting) → s.cluster ≡ members.now → s.me ≡ me → sends ≡ news s found.now) }
+{
+    match found {
+        Some(found) => {
+            let count = members.cluster().nodes.len();
+            if count > 255 {
+                return Err(NoMemory);
+            }
+            let nodes = nodes(alloc, count as u8)?;
+            let others = others(alloc, me, nodes.as_slice())?;
+            decide_to_all(alloc, me, found, others.as_slice())
+        }
+        None => Ok(Items::new(alloc)),
+    }
+}
+
+/// Tells all other nodes of a decision that no message told.
+fn news_by(
+    alloc: Global,
+    members: &Members,
+    me: u8,
+    body: &Body,
+    found: &Option<Chosen>,
+) -> Result<Items<Message>, NoMemory>
+    ensures { IfOk result (λ sends. (s : Setting) → s.cluster ≡ members.now → s.me ≡ me → sends ≡ news_by s (told_decision body.now) found.now) }
+{
+    if tells_decision(body) {
+        return Ok(Items::new(alloc));
+    }
+    news(alloc, members, me, found)
+}
+
+/// Decides what a message tells or an operation settled by it, and stores a portion of its group where rows are kept.
+#[tactic(auto, using(mega_replica::proofs::Fared::fares_here))]
+fn decides_by<R: Records, V: Versions>(
+    alloc: Global,
+    replica: &mut Replica<R, V>,
+    message: &Message,
+    heard: &[Heard],
+) -> Result<Option<Chosen>, NoMemory>
+    ensures new { IfOk result (λ d. (met : List Met) → Tells replica.old.voter.logs.kept met → d ≡ if_new met (or_settled (told_decision message.now.body) (first_settled heard.now))) }
+    ensures kept { IfOk result (λ d. (met : List Met) → IsPlaced d → Tells replica.old.voter.logs.kept met → Tells replica.new.voter.logs.kept (onto (decision_note d) met)) }
+    ensures follows { IfOk result (λ d. (h : Meanings) (met : List Met) (stored : Group → ℕ) → (has_rows replica.old.members replica.old.me ≡ false → (group : Group) → stored group ≡ 0) → IsPlaced d → Tells replica.old.voter.logs.kept met →
+        Follows (V.version replica.old.rows.rows) (progress_at replica.old.rows.progress) (log_of met) stored →
+        Follows (V.version replica.new.rows.rows) (progress_at replica.new.rows.progress) (log_of (onto (decision_note d) met)) (stored_after (setting replica.old.members replica.old.me h) (onto (decision_note d) met) stored d)) }
+    ensures members { replica.new.members ≡ replica.old.members }
+    ensures me { replica.new.me ≡ replica.old.me }
+    ensures leases { replica.new.leases ≡ replica.old.leases }
+    ensures fares { Fares V.Versions None replica.old.rows.rows replica.new.rows.rows }
+{
+    let found = decision(alloc, &message.body, heard)?;
+    let found = decides(alloc, &mut replica.voter, found)?;
+    let keeps = has_rows(replica.members.cluster(), replica.me);
+    let most = u64::from(replica.members.cluster().apply);
+    stores(
+        alloc,
+        &replica.voter,
+        &mut replica.rows,
+        keeps,
+        most,
+        &found,
+    )?;
+    Ok(found)
+}
+
+/// What is taken: a decision is noted behind what was told, and its news is sent behind the reply.
+fn assemble(
+    alloc: Global,
+    members: &Members,
+    me: u8,
+    body: &Body,
+    told: Told,
+    heard: Items<Heard>,
+    found: &Option<Chosen>,
+) -> Result<Taken, NoMemory>
+    ensures notes { IfOk result (λ made. map met_of made.notes ≡ map met_of told.notes ++ decision_note found.now) }
+    ensures sends { IfOk result (λ made. (s : Setting) → s.cluster ≡ members.now → s.me ≡ me → made.sends ≡ told.sends ++ news_by s (told_decision body.now) found.now) }
+    ensures heard { IfOk result (λ made. made.heard ≡ heard) }
+{
+    let Told { notes, sends } = told;
+    let mut notes = notes;
+    note_decision(alloc, &mut notes, found)?;
+    let news = news_by(alloc, members, me, body, found)?;
+    let mut sends = sends;
+    add_sends(&mut sends, news)?;
+    Ok(Taken {
+        notes,
+        sends,
+        heard,
+    })
+}
+
+/// The node takes a message, as far as its operations act.
+#[tactic(auto, using(mega_replica::proofs::Fared::fares_here, crate::proofs::Failing::fares_from))]
+pub(crate) fn takes<R: Records, V: Versions>(
+    alloc: Global,
+    replica: &mut Replica<R, V>,
+    opened: Items<Operation>,
+    message: &Message,
+) -> Result<Taken, StepFault>
+    ensures taken { IfOk result (λ made. (h : Meanings) (node : RuleNode) (begun : ℕ) →
+        Represents (setting replica.old.members replica.old.me h) replica.old.voter.logs.kept replica.old.leases (V.version replica.old.rows.rows) (progress_at replica.old.rows.progress) opened begun node →
+        HasOwnRows replica.old.members.schema (log_of (acted_on (setting replica.old.members replica.old.me h) node (Take message.now))) → IsPlaced (decision_in (setting replica.old.members replica.old.me h) node message.now) →
+        HasTaken (setting replica.old.members replica.old.me h) (setting replica.new.members replica.new.me h) made replica.new.voter.logs.kept replica.new.leases (V.version replica.new.rows.rows) (progress_at replica.new.rows.progress) node message.now) }
+    ensures heard { IfOk result (λ made. (h : Meanings) (node : RuleNode) (begun : ℕ) →
+        Represents (setting replica.old.members replica.old.me h) replica.old.voter.logs.kept replica.old.leases (V.version replica.old.rows.rows) (progress_at replica.old.rows.progress) opened begun node →
+        made.heard ≡ map (hears_message (setting replica.old.members replica.old.me h) (clock_of node.met) message.now) node.open_operations) }
+    ensures members { replica.new.members ≡ replica.old.members }
+    ensures me { replica.new.me ≡ replica.old.me }
+    ensures built { result ≢ Err Unbuilt }
+    ensures stranger { result ≡ Err Stranger → IsByStranger message.now.from message.now.body }
+    ensures late { result ≡ Err Late → (met : List Met) → TellsLeases replica.old.members replica.old.me replica.old.leases met → IsLate replica.old.members message.now.body }
+    ensures apart { failed_by result ≡ None }
+    ensures fares { Fares V.Versions None replica.old.rows.rows replica.new.rows.rows }
+{
+    let clock = replica.leases.now();
+    let heard = all_hear(alloc, &replica.members, clock, message, opened)?;
+    let told = is_told(alloc, replica, message)?;
+    let found = decides_by(alloc, replica, message, heard.as_slice())?;
+    let made = assemble(
+        alloc,
+        &replica.members,
+        replica.me,
+        &message.body,
+        told,
+        heard,
+        &found,
+    )?;
+    Ok(made)
+}
+
+/// The operations act on what they heard.
+pub(crate) fn acts<R: Records, V: Versions>(
+    alloc: Global,
+    replica: &mut Replica<R, V>,
+    heard: Items<Heard>,
+) -> Result<Work, ActFault>
+    ensures state { V.is_told ≡ true → OnOk result ((h : Meanings) (met : List Met) (stored : Group → ℕ) → All IsHeardAbout heard →
+        Stands (setting replica.old.members replica.old.me h) replica.old.voter.logs.kept replica.old.leases (V.version replica.old.rows.rows) (progress_at replica.old.rows.progress) met stored →
+        Stands (setting replica.new.members replica.new.me h) replica.new.voter.logs.kept replica.new.leases (V.version replica.new.rows.rows) (progress_at replica.new.rows.progress)
+        (all_act (setting replica.old.members replica.old.me h) (at_first met stored) heard).met (all_act (setting replica.old.members replica.old.me h) (at_first met stored) heard).stored) }
+    ensures work { V.is_told ≡ true → IfOk result (λ work. (h : Meanings) (met : List Met) (stored : Group → ℕ) → All IsHeardAbout heard →
+        Stands (setting replica.old.members replica.old.me h) replica.old.voter.logs.kept replica.old.leases (V.version replica.old.rows.rows) (progress_at replica.old.rows.progress) met stored →
+        work ≡ work_of (all_act (setting replica.old.members replica.old.me h) (at_first met stored) heard)) }
+    ensures members { replica.new.members ≡ replica.old.members }
+    ensures me { replica.new.me ≡ replica.old.me }
+    ensures voter { replica.new.voter ≡ replica.old.voter }
+    ensures unbuilt { result ≡ Err act.Unbuilt → All IsBuiltHeard heard → ⊥ }
+    ensures fares { Fares V.Versions (failed_to_act result) replica.old.rows.rows replica.new.rows.rows }
+{
+    let mut work = Work::new(alloc);
+    replica.all_act(alloc, &mut work, heard)?;
+    Ok(work)
+}

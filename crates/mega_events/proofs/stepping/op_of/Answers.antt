@@ -1,6 +1,0 @@
-use Rattle.mega_events.specs.Stands.{version_of}
-use Rattle.mega_events.proofs.Stepped.{id_is}
-use Rattle.mega_events.proofs.stepping.op_of.Goals as goal
-
-pub returns : goal.returns
-returns c cluster h me ruled one = id_is version_of cluster h me c.args.node.now ruled c.start.result c.saturating_add.result one c.start.ensures.exact c.saturating_add.ensures

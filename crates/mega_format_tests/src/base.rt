@@ -1,0 +1,45 @@
+//! Fields of a text in turn, and texts that are no UTF-8.
+use crate::changes::check_places;
+use mega_base::{Bytes, Cursor, CursorFault, Text, put_bytes, put_u8, put_u32, put_u64};
+use std::test::Fail;
+
+#[test]
+fn fields_in_turn(rt: HostRuntime) -> Result<(), Fail> {
+    let mut out = Bytes::new(rt.alloc());
+    put_u8(&mut out, 7)?;
+    put_u32(&mut out, 0x0102_0304)?;
+    put_u64(&mut out, 5)?;
+    put_bytes(&mut out, b"ab")?;
+    let mut cursor = Cursor::new(out.as_slice());
+    assert_eq!(rt; cursor.take_u8(), Ok(7));
+    assert_eq!(rt; cursor.take_u32(), Ok(0x0102_0304));
+    assert_eq!(rt; cursor.take_u64(), Ok(5));
+    assert!(rt; cursor.take_bytes() == Ok(b"ab".as_slice()));
+    assert!(rt; cursor.is_at_end());
+    assert_eq!(rt; cursor.take_u8(), Err(CursorFault::Short { at: 19 }));
+    let mut long = Cursor::new(&[0, 1, 0, 1, 9]);
+    assert!(rt;
+        long.take_bytes()
+            == Err(CursorFault::Long {
+                at: 3,
+                length: 65_537
+            })
+    );
+    assert_eq!(rt; long.at(), 0);
+    Ok(())
+}
+
+/// Texts, each behind the place where it is refused, or behind 1000.
+const TEXTS: &str = "1000 00000002c3a9
+5 00000002c328
+4 00000001c3a9
+5 00000003eda080
+5 00000004f4908080
+7 0000000961e282
+4 00000009ff
+0 01";
+
+#[test]
+fn texts(rt: HostRuntime) -> Result<(), Fail> {
+    check_places::<Text>(&rt, rt.alloc(), TEXTS)
+}

@@ -1,0 +1,109 @@
+//! Headers that are read, with their defaults and without, and headers that break each rule.
+use mega_base::{NodeKind, Text};
+use mega_cluster::{Cluster, HeaderFault, read};
+use std::alloc::Global;
+use std::test::Fail;
+
+const SCHEMA: &str =
+    "schema = \"CREATE SCHEMA S; CREATE TABLE User { required int64 user_id; required string name; } PRIMARY KEY(user_id), ENTITY GROUP ROOT;\"";
+
+const LOOSE: &str =
+    "schema = \"CREATE SCHEMA S; CREATE TABLE A { optional int64 x; } PRIMARY KEY(x), ENTITY GROUP ROOT;\"";
+
+const ONE: &str = "nodes = [\"full\"]";
+
+const THREE: &str = "nodes = [\"full\", \"witness\", \"read\"]";
+
+/// Headers, each behind the rule that it breaks; words in capitals stand for the lines above.
+const FAULTS: &str = r#"1 nodes = 
+7 ONE & SCHEMA & colour = 1
+3 SCHEMA
+3 nodes = [] & SCHEMA
+3 nodes = ["full", "half"] & SCHEMA
+4 nodes = ["witness"] & SCHEMA
+5 THREE & SCHEMA & cells = 2
+5 ONE & SCHEMA & cells = 3
+6 ONE & SCHEMA & lease = 0
+6 ONE & SCHEMA & retry = 1.5
+6 ONE & SCHEMA & apply = 1001
+2 ONE
+2 ONE & schema = 5
+2 ONE & LOOSE
+7 colour = 1 & nodes = []
+3 nodes = [] & cells = 2
+4 nodes = ["read"] & cells = 2
+5 ONE & cells = 2 & lease = 0
+6 ONE & LOOSE & margin = -1"#;
+
+/// The header of these lines.
+fn header(alloc: Global, lines: &str) -> Result<Text, Fail> {
+    let mut text = Text::new(alloc);
+    for line in lines.split(" & ") {
+        text.push_str(match line {
+            "SCHEMA" => SCHEMA,
+            "LOOSE" => LOOSE,
+            "ONE" => ONE,
+            "THREE" => THREE,
+            _ => line,
+        })?;
+        text.push_str("\r\n")?;
+    }
+    Ok(text)
+}
+
+/// The rule that a header breaks, 0 for none.
+fn rule_of(header: Result<Cluster, HeaderFault>) -> u8 {
+    match header {
+        Err(HeaderFault::Rule { rule }) => rule,
+        _ => 0,
+    }
+}
+
+#[test]
+fn a_header_has_defaults(rt: HostRuntime) -> Result<(), Fail> {
+    let alloc = rt.alloc();
+    let text = header(alloc, "THREE & SCHEMA & addresses = 5")?;
+    let cluster = read(alloc, text.as_bytes(), 3)?;
+    let kinds = [NodeKind::Full, NodeKind::Witness, NodeKind::Read];
+    assert!(rt; cluster.nodes.as_slice() == kinds.as_slice());
+    assert!(rt; cluster.cells == 3 && cluster.lease == 100 && cluster.patience == 1000);
+    assert!(rt; cluster.retry == 50 && cluster.margin == 20 && cluster.apply == 64);
+    assert!(rt; cluster.limit.0 == 1_000_000 && cluster.addresses.is_empty());
+    assert!(rt; cluster.schema.tables.len() == 1);
+    Ok(())
+}
+
+#[test]
+fn a_header_tells_what_it_gives(rt: HostRuntime) -> Result<(), Fail> {
+    let alloc = rt.alloc();
+    let given =
+        "ONE & SCHEMA & cells = 1 & lease = 7 & margin = 0 & apply = 1000 & limit = 2 & addresses = [\"a\", \"b\"]";
+    let text = header(alloc, given)?;
+    let cluster = read(alloc, text.as_bytes(), 0)?;
+    assert!(rt; cluster.cells == 1 && cluster.lease == 7 && cluster.margin == 0);
+    assert!(rt; cluster.apply == 1000 && cluster.limit.0 == 2 && cluster.addresses.len() == 2);
+    Ok(())
+}
+
+#[test]
+fn each_rule_is_told_in_order(rt: HostRuntime) -> Result<(), Fail> {
+    let alloc = rt.alloc();
+    for row in FAULTS.lines() {
+        let (wanted, lines) = row.split_once(' ').ok_or("no rule")?;
+        let text = header(alloc, lines)?;
+        let rule = rule_of(read(alloc, text.as_bytes(), 0));
+        let rule = format!(in alloc; "{rule}")?;
+        assert_eq!(rt; rule.as_str(), wanted, "{lines}");
+    }
+    Ok(())
+}
+
+#[test]
+fn few_nodes_and_long_texts_are_refused(rt: HostRuntime) -> Result<(), Fail> {
+    let alloc = rt.alloc();
+    let text = header(alloc, "ONE & SCHEMA")?;
+    assert_eq!(rt; rule_of(read(alloc, text.as_bytes(), 2)), 3);
+    let long = vec![in alloc; b' '; 262_145]?;
+    assert_eq!(rt; rule_of(read(alloc, long.as_slice(), 0)), 6);
+    Ok(())
+}

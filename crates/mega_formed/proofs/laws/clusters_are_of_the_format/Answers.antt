@@ -1,5 +1,0 @@
-use Rattle.mega_formed.proofs.Headers.{cluster_formed}
-use Rattle.mega_formed.proofs.laws.clusters_are_of_the_format.Goals as goal
-
-pub returns : goal.returns
-returns c = cluster_formed

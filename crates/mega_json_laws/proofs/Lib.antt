@@ -1,0 +1,4 @@
+pub mod Contents
+pub mod Tokens
+pub mod Trees
+pub mod Whole

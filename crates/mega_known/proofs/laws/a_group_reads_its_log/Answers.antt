@@ -1,5 +1,0 @@
-use Rattle.mega_known.proofs.Owned.{reads_agree}
-use Rattle.mega_known.proofs.laws.a_group_reads_its_log.Goals as goal
-
-pub returns : goal.returns
-returns c = reads_agree

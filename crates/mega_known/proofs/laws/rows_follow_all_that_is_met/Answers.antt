@@ -1,5 +1,0 @@
-use Rattle.mega_known.proofs.Followed.{follows_after}
-use Rattle.mega_known.proofs.laws.rows_follow_all_that_is_met.Goals as goal
-
-pub returns : goal.returns
-returns c = follows_after

@@ -1,5 +1,0 @@
-use Rattle.mega_known.proofs.Owned.{shorter_owns}
-use Rattle.mega_known.proofs.laws.shorter_logs_have_own_rows.Goals as goal
-
-pub returns : goal.returns
-returns c = shorter_owns

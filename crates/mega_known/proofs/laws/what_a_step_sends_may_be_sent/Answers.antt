@@ -1,5 +1,0 @@
-use Rattle.mega_known.proofs.Sent.{step_may}
-use Rattle.mega_known.proofs.laws.what_a_step_sends_may_be_sent.Goals as goal
-
-pub returns : goal.returns
-returns c = step_may

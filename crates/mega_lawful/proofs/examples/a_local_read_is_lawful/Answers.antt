@@ -1,9 +1,0 @@
-use Rattle.std.proofs.Common.{[], refl}
-use Rattle.mega_promises.specs.Runs.{Whole}
-use Rattle.mega_rules.specs.Examples.{cluster}
-use Rattle.mega_lawful.specs.Examples.{stands_after, then_reads}
-use Rattle.mega_lawful.proofs.Runs.{run_lawful}
-use Rattle.mega_lawful.proofs.examples.a_local_read_is_lawful.Goals as goal
-
-pub returns-clause-lawful : goal.returns-clause-lawful
-returns-clause-lawful c = run_lawful cluster [] then_reads (stands_after then_reads).tape (record { cuts = λ tape. Whole; tape_is = refl })

@@ -1,5 +1,0 @@
-use Rattle.mega_lawful.proofs.Replied.{answer_fair}
-use Rattle.mega_lawful.proofs.laws.replies_are_allowed.Goals as goal
-
-pub returns : goal.returns
-returns c = λ cluster tape me from met s asked took answer h. (answer_fair cluster tape me from met s asked took answer h).0

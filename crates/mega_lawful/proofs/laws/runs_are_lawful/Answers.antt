@@ -1,5 +1,0 @@
-use Rattle.mega_lawful.proofs.Runs.{run_lawful}
-use Rattle.mega_lawful.proofs.laws.runs_are_lawful.Goals as goal
-
-pub returns : goal.returns
-returns c = run_lawful

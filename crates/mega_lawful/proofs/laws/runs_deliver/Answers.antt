@@ -1,6 +1,0 @@
-use Rattle.mega_laws.proofs.Sending.{messages}
-use Rattle.mega_lawful.proofs.Runs.{run_written}
-use Rattle.mega_lawful.proofs.laws.runs_deliver.Goals as goal
-
-pub returns : goal.returns
-returns c = λ cluster usage handlers first events tape same run fits. messages cluster usage tape handlers same (run_written cluster usage first events tape run fits)

@@ -1,5 +1,0 @@
-use Rattle.mega_laws.proofs.Answered.{serial}
-use Rattle.mega_laws.proofs.answers.answers_are_serial.Goals as goal
-
-pub returns : goal.returns
-returns c = serial

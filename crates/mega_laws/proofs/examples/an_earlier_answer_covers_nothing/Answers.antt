@@ -1,5 +1,0 @@
-use Rattle.mega_laws.proofs.Settling.{not_believed}
-use Rattle.mega_laws.proofs.examples.an_earlier_answer_covers_nothing.Goals as goal
-
-pub returns : goal.returns
-returns c = not_believed

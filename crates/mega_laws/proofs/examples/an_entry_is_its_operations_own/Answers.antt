@@ -1,5 +1,0 @@
-use Rattle.mega_laws.proofs.Writing.{not_own}
-use Rattle.mega_laws.proofs.examples.an_entry_is_its_operations_own.Goals as goal
-
-pub returns : goal.returns
-returns c = not_own

@@ -1,5 +1,0 @@
-use Rattle.mega_laws.proofs.GrowingSchemas.{outcome_stays}
-use Rattle.mega_laws.proofs.growing.outcomes_stay_as_schemas_grow.Goals as goal
-
-pub returns : goal.returns
-returns c = outcome_stays

@@ -1,5 +1,0 @@
-use Rattle.mega_laws.proofs.FittingLogs.{log_fits}
-use Rattle.mega_laws.proofs.growing.rows_of_logs_fit.Goals as goal
-
-pub returns : goal.returns
-returns c = log_fits

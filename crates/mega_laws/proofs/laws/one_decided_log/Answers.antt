@@ -1,5 +1,0 @@
-use Rattle.mega_laws.proofs.Agreement.{agreement}
-use Rattle.mega_laws.proofs.laws.one_decided_log.Goals as goal
-
-pub returns : goal.returns
-returns c = agreement

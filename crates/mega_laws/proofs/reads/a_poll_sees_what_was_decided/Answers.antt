@@ -1,5 +1,0 @@
-use Rattle.mega_laws.proofs.Polled.{polled_above}
-use Rattle.mega_laws.proofs.reads.a_poll_sees_what_was_decided.Goals as goal
-
-pub returns : goal.returns
-returns c = polled_above

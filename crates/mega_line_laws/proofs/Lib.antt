@@ -1,0 +1,5 @@
+pub mod Spelled
+pub mod Typed
+pub mod Again
+pub mod Asking
+pub mod Starting

@@ -1,4 +1,0 @@
-pub mod Carries
-pub mod Plain
-pub mod Stands
-pub mod Waiting

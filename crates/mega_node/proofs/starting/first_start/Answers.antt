@@ -1,6 +1,0 @@
-use Rattle.std.proofs.Common.{[]}
-use Rattle.mega_voter.proofs.Told.{nothing_told}
-use Rattle.mega_node.proofs.starting.first_start.Goals as goal
-
-pub returns-in-Ok-clause-state : goal.returns-in-Ok-clause-state
-returns-in-Ok-clause-state g c = λ holds. c.in-Ok.ensures.state [] (nothing_told c.args.voter.now.logs.kept holds)

@@ -1,5 +1,0 @@
-use Rattle.std.proofs.Common.{[], refl}
-use Rattle.mega_node.proofs.starting.leases_of.Goals as goal
-
-pub returns : goal.returns
-returns c = c.start.ensures [] [] tt refl

@@ -1,0 +1,11 @@
+//! Tests of rounds, reads, leases and operations over what these libraries show.
+#![tactic(auto)]
+
+#[cfg(test)]
+mod leases_tests;
+#[cfg(test)]
+mod operations_tests;
+#[cfg(test)]
+mod propose_tests;
+#[cfg(test)]
+mod read_tests;

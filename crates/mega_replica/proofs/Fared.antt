@@ -1,0 +1,85 @@
+-- How calls on rows fare one after another.
+use Rattle.std.proofs.Common.{◌≡◌, ◌∙◌, ◌≤◌, subst, sym, inl, inr, ⊎_elim, refl, ℕ, arith}
+use Rattle.std.specs.Prelude.{Option, Some, None, true}
+use Rattle.mega_base.specs.Causes.{Rose}
+use Rattle.mega_disk.specs.Fuse.{Fuse, Untold, Unset, Left, MayBurn, Burns}
+use Rattle.mega_disk.specs.declared.versions.StoreError.{StoreError}
+use Rattle.mega_disk.specs.declared.versions.StoreError.TheVariants.{DiskFault, Full, BadRecord}
+use Rattle.mega_disk.specs.declared.versions.Versions.{Ghosts}
+use Rattle.mega_replica.specs.Faring.{Fares}
+use Rattle.mega_replica.specs.Puts.{OnlyPuts}
+
+burn_here : (f : Fuse) → MayBurn f f
+burn_here Untold = refl
+burn_here Unset = refl
+burn_here (Left n) = inr (n, refl, omega arith)
+
+burn_then : (f g h : Fuse) → MayBurn f g → MayBurn g h → MayBurn f h
+burn_then Untold g h first second = subst (λ (m : Fuse). MayBurn m h) first second
+burn_then Unset g h first second = subst (λ (m : Fuse). MayBurn m h) first second
+burn_then (Left n) g h first second =
+    ⊎_elim
+    (λ gone. inl (let P : Fuse → Type 0 = λ m. MayBurn m h in subst P gone second))
+    (λ left.
+    let P : Fuse → Type 0 = λ m. MayBurn m h in
+    ⊎_elim (λ gone. inl gone) (λ less. inr (less.0, less.1, omega (arith, less.2, left.2))) (subst P left.1 second))
+    first
+
+burns_then : (f g h : Fuse) → MayBurn f g → Burns g h → Burns f h
+burns_then Untold g h first burns = absurd (untold (sym first ∙ burns.was_set.1))
+  where
+    untold : Untold ≡ Left burns.was_set.0 → ⊥
+    untold e = cc
+burns_then Unset g h first burns = absurd (unset (sym first ∙ burns.was_set.1))
+  where
+    unset : Unset ≡ Left burns.was_set.0 → ⊥
+    unset e = cc
+burns_then (Left n) g h first burns = record { was_set = (n, refl); gone = burns.gone }
+
+rose_later : (a b c : ℕ) → a ≤ b → Rose b c → Rose a c
+rose_later a b c le rose = omega (arith, le, rose)
+
+-- nothing was called
+pub fares_here : {V : Type 0} (store : Ghosts V) (x : V) → Fares store None x x
+fares_here store x = record {
+  later = omega arith;
+  bad_stays = λ n h. h;
+  may_burn = burn_here (store.fuse_left x);
+  by_fuse = λ h. h;
+  cause = λ e. absurd (none e);
+  bad = λ n e. absurd (none e);
+  never_full = λ n e. none e;
+  burns = λ h e. absurd (none e);
+}
+  where
+    none : {e : StoreError} → None ≡ Some e → ⊥
+    none q = cc
+
+-- calls that went well, and then others
+pub fares_then : {V : Type 0} (store : Ghosts V) (failed : Option StoreError) (old mid new : V) → Fares store None old mid → Fares store failed mid new → Fares store failed old new
+fares_then store failed old mid new first second = record {
+  later = omega (arith, first.later, second.later);
+  bad_stays = λ n h. first.bad_stays n (second.bad_stays n h);
+  may_burn = burn_then (store.fuse_left old) (store.fuse_left mid) (store.fuse_left new) first.may_burn second.may_burn;
+  by_fuse = λ h. second.by_fuse (first.by_fuse h);
+  cause = λ e. rose_later (store.faults old) (store.faults mid) (store.faults new) first.later (second.cause e);
+  bad = λ n e. first.bad_stays n (second.bad n e);
+  never_full = second.never_full;
+  burns = λ h e. burns_then (store.fuse_left old) (store.fuse_left mid) (store.fuse_left new) first.may_burn (second.burns (first.by_fuse h) e);
+}
+
+-- puts call no device
+pub fares_by_puts : {V : Type 0} (store : Ghosts V) (old new : V) → OnlyPuts store old new → Fares store None old new
+fares_by_puts store old new only = record {
+  later = omega (arith, only.faults);
+  bad_stays = only.bad_stays;
+  may_burn = subst (λ (f : Fuse). MayBurn (store.fuse_left old) f) (sym only.fuse) (burn_here (store.fuse_left old));
+  by_fuse = λ h. only.by_fuse ∙ h;
+  cause = λ e. absurd (none e);
+  bad = λ n e. absurd (none e);
+  never_full = λ n e. none e;
+  burns = λ h e. absurd (none e);
+}
+  where
+    none : {e : StoreError} → None ≡ Some e → ⊥
+    none q = cc

@@ -1,5 +1,0 @@
-use Rattle.mega_stored.proofs.Logs.{log_grows}
-use Rattle.mega_stored.proofs.laws.logs_only_grow.Goals as goal
-
-pub returns : goal.returns
-returns c = log_grows

@@ -1,5 +1,0 @@
-use Rattle.mega_stored.proofs.Reading.{read_is}
-use Rattle.mega_stored.proofs.laws.reads_see_the_log.Goals as goal
-
-pub returns : goal.returns
-returns c = read_is

@@ -1,5 +1,0 @@
-use Rattle.mega_stored.proofs.Reading.{stored_is}
-use Rattle.mega_stored.proofs.laws.reads_see_what_is_stored.Goals as goal
-
-pub returns : goal.returns
-returns c = stored_is

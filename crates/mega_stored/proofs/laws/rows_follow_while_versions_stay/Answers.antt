@@ -1,5 +1,0 @@
-use Rattle.mega_stored.proofs.Growing.{follows_same}
-use Rattle.mega_stored.proofs.laws.rows_follow_while_versions_stay.Goals as goal
-
-pub returns : goal.returns
-returns c = follows_same

@@ -1,5 +1,0 @@
-use Rattle.mega_stored.proofs.Listing.{scan_is}
-use Rattle.mega_stored.proofs.laws.scans_list_the_log.Goals as goal
-
-pub returns : goal.returns
-returns c = scan_is

@@ -1,5 +1,0 @@
-use Rattle.mega_stored.proofs.Listing.{scan_stored}
-use Rattle.mega_stored.proofs.laws.scans_list_what_is_stored.Goals as goal
-
-pub returns : goal.returns
-returns c = scan_stored

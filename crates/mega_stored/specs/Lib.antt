@@ -1,4 +1,0 @@
-pub mod Stored
-pub mod Following
-pub mod Puts
-pub mod Faring

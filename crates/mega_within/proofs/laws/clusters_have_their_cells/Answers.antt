@@ -1,5 +1,0 @@
-use Rattle.mega_within.proofs.Headers.{cells_few}
-use Rattle.mega_within.proofs.laws.clusters_have_their_cells.Goals as goal
-
-pub returns : goal.returns
-returns c = cells_few

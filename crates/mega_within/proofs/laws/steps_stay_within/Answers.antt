@@ -1,5 +1,0 @@
-use Rattle.mega_within.proofs.Steps.{step_within}
-use Rattle.mega_within.proofs.laws.steps_stay_within.Goals as goal
-
-pub returns : goal.returns
-returns c = step_within

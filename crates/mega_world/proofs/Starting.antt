@@ -1,0 +1,273 @@
+-- How a cluster stands once its nodes are started.
+use Rattle.std.proofs.Common.{◌≡◌, ◌⊎◌, inl, inr, ℕ, ◌+◌, ◌<◌, ◌≤◌, ◌==◌, ◌&&◌, nat_le, cond, Bool, true, false, List, [], ◌∷◌, ◌++◌, flat_map, fold, length, length-append, Some, None, refl, sym, ap, ◌∙◌, subst, zero, suc, arith}
+use Rattle.std.proofs.lemmas.Bool.Decides.{nat_tests}
+use Rattle.std.proofs.lemmas.Option.{slice_get_within}
+use Rattle.std.specs.BTreeSet.{contains}
+use Rattle.std.specs.List.{range_with_len, slice_get}
+use Rattle.mega_base.specs.declared.names.Epoch.{Epoch}
+use Rattle.mega_cluster.specs.declared.cluster.Cluster.{Cluster}
+use Rattle.mega_disk.specs.VersionMaps.{Versions}
+use Rattle.mega_handler.specs.Named.{Meanings}
+use Rattle.mega_transcript.specs.declared.item.Item.{Item}
+use Rattle.mega_transcript.specs.declared.item.Item.TheVariants.{Start}
+use Rattle.mega_transcript.specs.Tape.{newest}
+use Rattle.mega_transcript.proofs.Tapes.{newest-append}
+use Rattle.mega_rules.specs.Clock.{is_up}
+use Rattle.mega_rules.specs.Logs.{groups_of}
+use Rattle.mega_rules.specs.Members.{has_rows}
+use Rattle.mega_rules.specs.Met.{Starts}
+use Rattle.mega_rules.specs.Operations.{Node as RuleNode, Setting}
+use Rattle.mega_rules.specs.Steps.{onto, start, start_items, start_note, start_notes}
+use Rattle.mega_format_laws.specs.Histories.{IsCluster}
+use Rattle.mega_format_laws.specs.Nodes.{IsNode}
+use Rattle.mega_format_laws.proofs.Steps.{started}
+use Rattle.mega_member_laws.specs.Nodes.{StaysWithin}
+use Rattle.mega_member_laws.proofs.Steps.{first_started}
+use Rattle.mega_promises.specs.Items.{number, shown}
+use Rattle.mega_promises.specs.Messages.{is_unsafe, message_of}
+use Rattle.mega_promises.specs.Runs.{Whole, Standing, after_append, empty_node, fated_start, has_lapsed, nothing_yet, opening, set_at, setting, whole_start, with_items}
+use Rattle.mega_world.specs.declared.mail.Mail.{Mail}
+use Rattle.mega_world.specs.declared.safety.Lapse.{Lapse}
+use Rattle.mega_world.specs.declared.safety.Safety.{Safety}
+use Rattle.mega_world.specs.Carries.{Carries}
+use Rattle.mega_world.specs.AllUp.{AllUp}
+use Rattle.mega_world.proofs.Carrying.{shown_on}
+use Rattle.mega_actions.specs.Stands.{setting as at_node}
+use Rattle.mega_core.specs.declared.node.Node.{Node}
+use Rattle.mega_world.specs.Formed.{IsFormed}
+use Rattle.mega_world.specs.Lapses.{KnowsLeases, lapse, lapse_cmp}
+use Rattle.mega_world.specs.Members.{AreMembers, AreStarted, IsMember}
+use Rattle.mega_world.specs.Opening.{first_starts}
+use Rattle.mega_world.specs.Within.{RunsWithin}
+use Rattle.mega_world.proofs.Stepped.{IsTold, same_setting}
+
+-- ---- the first start of a node
+
+no_notes : (s : Setting) → start_notes s (Starts 1 ∷ []) ≡ []
+no_notes s = by (has_rows s.cluster s.me)
+  where
+    by : (t : Bool) → cond t (flat_map (start_note (Starts 1 ∷ [])) (groups_of (Starts 1 ∷ []))) [] ≡ []
+    by true = refl
+    by false = refl
+
+first_items : (s : Setting) → start_items s 1 [] [] ≡ Starts 1 ∷ []
+first_items s = ap (λ notes. Starts 1 ∷ notes) (no_notes s)
+
+first_up : (s : Setting) → is_up (start s 1 [] []).met ≡ true
+first_up s = ap (λ items. is_up (onto items [])) (first_items s)
+
+-- ---- the first starts of so many nodes
+
+abbrev is_among : ℕ → ℕ → Bool
+is_among k me = nat_le 1 me && nat_le me k
+
+abbrev node_at : Cluster → Meanings → ℕ → ℕ → RuleNode
+node_at c h k me = cond (is_among k me) (start (setting c h me) 1 [] []) empty_node
+
+pub record Opened (c : Cluster) (h : Meanings) (k : ℕ) (now : Standing) : Type 0 where
+  node_is : (me : ℕ) → now.node me ≡ node_at c h k me
+  tape_is : now.tape ≡ first_starts k
+  of_log : (me : ℕ) → now.log_fuse me ≡ None
+  of_data : (me : ℕ) → now.data_fuse me ≡ None
+  unstarted : (me : ℕ) → k < me → now.starts me ≡ 0
+  unowed : (me : ℕ) → now.owed me ≡ []
+
+none_opened : (c : Cluster) (h : Meanings) → Opened c h 0 nothing_yet
+none_opened c h = record {
+  node_is = λ me. let none : is_among 0 me ≡ false = grind (arith, nat_tests) in sym (ap (λ t. cond t (start (setting c h me) 1 [] []) empty_node) none);
+  tape_is = refl;
+  of_log = λ me. refl;
+  of_data = λ me. refl;
+  unstarted = λ me past. refl;
+  unowed = λ me. refl;
+}
+
+fresh_met : (c : Cluster) (h : Meanings) (k : ℕ) (now : Standing) → Opened c h k now → (now.node (suc k)).met ≡ []
+fresh_met c h k now o =
+    let none : is_among k (suc k) ≡ false = grind (arith, nat_tests) in
+    ap (λ (n : RuleNode). n.met) (o.node_is (suc k) ∙ ap (λ t. cond t (start (setting c h (suc k)) 1 [] []) empty_node) none)
+
+starts_first : (c : Cluster) (h : Meanings) (k : ℕ) (now : Standing) → Opened c h k now
+    → fated_start c h now (suc k) Whole ≡ whole_start c now (suc k) (start_items (setting c h (suc k)) 1 [] []) (start (setting c h (suc k)) 1 [] [])
+starts_first c h k now o =
+    ap (λ n. whole_start c now (suc k) (start_items s (n + 1) (now.owed (suc k)) (now.node (suc k)).met) (start s (n + 1) (now.owed (suc k)) (now.node (suc k)).met))
+    (o.unstarted (suc k) (omega arith))
+    ∙ ap (λ owed. whole_start c now (suc k) (start_items s 1 owed (now.node (suc k)).met) (start s 1 owed (now.node (suc k)).met)) (o.unowed (suc k))
+    ∙ ap (λ met. whole_start c now (suc k) (start_items s 1 [] met) (start s 1 [] met)) (fresh_met c h k now o)
+  where
+    s : Setting
+    s = setting c h (suc k)
+
+whole_opened : (c : Cluster) (h : Meanings) (k : ℕ) (now : Standing) → Opened c h k now → Opened c h (suc k) (whole_start c now (suc k) (start_items (setting c h (suc k)) 1 [] []) (start (setting c h (suc k)) 1 [] []))
+whole_opened c h k now o = record {
+  node_is = λ me. node_by (suc k == me) me refl;
+  tape_is = ap (λ items. with_items c (set_at now.node (suc k) first) now.tape (flat_map (shown (suc k)) items)) (first_items (setting c h (suc k))) ∙ ap (λ t. Start (number (suc k)) 1 ∷ t) o.tape_is;
+  of_log = λ me. log_by (suc k == me) me;
+  of_data = o.of_data;
+  unstarted = λ me past. let apart : (suc k == me) ≡ false = grind (arith, nat_tests) in
+      ap (λ t. cond t (now.starts (suc k) + 1) (now.starts me)) apart ∙ o.unstarted me (omega (arith, past));
+  unowed = λ me. owed_by (suc k == me) me;
+}
+  where
+    first : RuleNode
+    first = start (setting c h (suc k)) 1 [] []
+
+    node_by : (t : Bool) (me : ℕ) → (suc k == me) ≡ t → cond t first (now.node me) ≡ node_at c h (suc k) me
+    node_by true me same =
+        let e : suc k ≡ me = grind (arith, nat_tests) in let among : is_among (suc k) (suc k) ≡ true = grind (arith, nat_tests) in
+        subst (λ n. first ≡ node_at c h (suc k) n) e (sym (ap (λ t. cond t first empty_node) among))
+    node_by false me apart =
+        let among : is_among k me ≡ is_among (suc k) me = grind (arith, nat_tests) in
+        o.node_is me ∙ ap (λ t. cond t (start (setting c h me) 1 [] []) empty_node) among
+
+    log_by : (t : Bool) (me : ℕ) → cond t (after_append (now.log_fuse (suc k))) (now.log_fuse me) ≡ None
+    log_by true me = ap after_append (o.of_log (suc k))
+    log_by false me = o.of_log me
+
+    owed_by : (t : Bool) (me : ℕ) → cond t [] (now.owed me) ≡ []
+    owed_by true me = refl
+    owed_by false me = o.unowed me
+
+opened_more : (c : Cluster) (h : Meanings) (k : ℕ) (now : Standing) → Opened c h k now → Opened c h (suc k) (fated_start c h now (suc k) Whole)
+opened_more c h k now o = subst (Opened c h (suc k)) (sym (starts_first c h k now o)) (whole_opened c h k now o)
+
+opened_all : (c : Cluster) (h : Meanings) (m k : ℕ) (now : Standing) → Opened c h k now → Opened c h (k + m) (fold (λ one me. fated_start c h one me Whole) now (range_with_len (suc k) m))
+opened_all c h zero k now o = let e : k ≡ k + 0 = omega arith in subst (λ n. Opened c h n now) e o
+opened_all c h (suc m) k now o =
+    let e : suc k + m ≡ k + suc m = omega arith in
+    let f : suc (suc k) ≡ suc k + 1 = omega arith in
+    subst (λ n. Opened c h n (fold (λ one me. fated_start c h one me Whole) (fated_start c h now (suc k) Whole) (range_with_len (suc k + 1) m))) e
+    (subst (λ n. Opened c h (suc k + m) (fold (λ one me. fated_start c h one me Whole) (fated_start c h now (suc k) Whole) (range_with_len n m))) f
+    (opened_all c h m (suc k) (fated_start c h now (suc k) Whole) (opened_more c h k now o)))
+
+pub opening_opened : (c : Cluster) (h : Meanings) → Opened c h (length c.nodes) (opening c h)
+opening_opened c h = let e : 0 + length c.nodes ≡ length c.nodes = omega arith in subst (λ n. Opened c h n (opening c h)) e (opened_all c h (length c.nodes) 0 nothing_yet (none_opened c h))
+
+-- ---- what follows
+
+starts_carried : (mail : Mail) (k : ℕ) → Carries mail [] → Carries mail (first_starts k)
+starts_carried mail zero r = r
+starts_carried mail (suc k) r = shown_on mail (suc k) (Starts 1) (first_starts k) (starts_carried mail k r)
+
+starts_sent : (k n : ℕ) → message_of (first_starts k) n ≡ None
+starts_sent zero n = refl
+starts_sent (suc k) n = starts_sent k n
+
+pub opening_stands : (c : Cluster) (h : Meanings) (mail : Mail) → Carries mail [] → AllUp c mail (opening c h)
+opening_stands c h mail nothing = record {
+  carries = subst (Carries mail) (sym o.tape_is) (starts_carried mail (length c.nodes) nothing);
+  unfused = record { of_log = o.of_log; of_data = o.of_data };
+  up_are = λ me. ap (λ (n : RuleNode). is_up n.met) (o.node_is me) ∙ by (is_among (length c.nodes) me) me;
+}
+  where
+    o : Opened c h (length c.nodes) (opening c h)
+    o = opening_opened c h
+
+    by : (t : Bool) (me : ℕ) → is_up (cond t (start (setting c h me) 1 [] []) empty_node).met ≡ t
+    by true me = first_up (setting c h me)
+    by false me = refl
+
+pub opening_tape : (c : Cluster) (h : Meanings) (items : List Item) → newest items ≡ first_starts (length c.nodes) → newest items ≡ (opening c h).tape
+opening_tape c h items is = is ∙ sym (opening_opened c h).tape_is
+
+pub cells_few : (cells : ℕ) → (cells ≡ 1) ⊎ ((cells ≡ 3) ⊎ (cells ≡ 5)) → cells ≤ 5
+cells_few cells (inl one) = omega (arith, one)
+cells_few cells (inr (inl three)) = omega (arith, three)
+cells_few cells (inr (inr five)) = omega (arith, five)
+
+-- no epoch lapsed yet, and leases are safe
+first_lapsed : (s : Setting) (node : ℕ) (epoch : Epoch) → has_lapsed (start s 1 [] []).met node epoch ≡ false
+first_lapsed s node epoch = ap (λ items. has_lapsed (onto items []) node epoch) (first_items s)
+
+starts_safe : (k : ℕ) → is_unsafe (first_starts k) ≡ false
+starts_safe zero = refl
+starts_safe (suc k) = starts_safe k
+
+pub opening_leases : (c : Cluster) (h : Meanings) (safety : Safety) → ((one : Lapse) → contains lapse_cmp safety.lapses one ≡ false) → safety.is_told ≡ false → KnowsLeases safety (opening c h).node (opening c h).tape
+opening_leases c h safety none told = record {
+  lapses = record {
+    each = λ cell node epoch. none (lapse cell node epoch)
+        ∙ sym (ap (λ (n : RuleNode). has_lapsed n.met node epoch) (o.node_is cell) ∙ by (is_among (length c.nodes) cell) cell node epoch);
+  };
+  told = told ∙ sym (ap is_unsafe o.tape_is ∙ starts_safe (length c.nodes));
+}
+  where
+    o : Opened c h (length c.nodes) (opening c h)
+    o = opening_opened c h
+
+    by : (t : Bool) (cell node : ℕ) (epoch : Epoch) → has_lapsed (cond t (start (setting c h cell) 1 [] []) empty_node).met node epoch ≡ false
+    by true cell node epoch = first_lapsed (setting c h cell) node epoch
+    by false cell node epoch = refl
+
+pub opening_formed : (c : Cluster) (h : Meanings) → IsCluster c → c.lease ≤ 1000000000 → IsFormed c (opening c h)
+opening_formed c h formed lease = record {
+  cluster = formed;
+  lease = lease;
+  nodes = λ me. subst IsNode (sym (o.node_is me)) (by (is_among (length c.nodes) me) me);
+  messages = λ n message is. let none = ap (λ t. message_of t n) o.tape_is ∙ starts_sent (length c.nodes) n in let no = sym none ∙ is in cc;
+}
+  where
+    o : Opened c h (length c.nodes) (opening c h)
+    o = opening_opened c h
+
+    by : (t : Bool) (me : ℕ) → IsNode (cond t (start (setting c h me) 1 [] []) empty_node)
+    by true me = started (setting c h me) 1 [] [] (omega arith, omega arith) tt tt
+    by false me = record { met = tt; open_operations = tt }
+
+pub opening_within : (c : Cluster) (h : Meanings) → c.cells ≤ length c.nodes → RunsWithin c (opening c h)
+opening_within c h few = record {
+  cells = few;
+  nodes = λ me. subst (StaysWithin c) (sym (o.node_is me)) (by (is_among (length c.nodes) me) me);
+  messages = λ n message is. let none = ap (λ t. message_of t n) o.tape_is ∙ starts_sent (length c.nodes) n in let no = sym none ∙ is in cc;
+}
+  where
+    o : Opened c h (length c.nodes) (opening c h)
+    o = opening_opened c h
+
+    by : (t : Bool) (me : ℕ) → StaysWithin c (cond t (start (setting c h me) 1 [] []) empty_node)
+    by true me = first_started (setting c h me) 1
+    by false me = record { met = tt; open_operations = tt }
+
+pub opening_members : {R V : Type 0} (version : V → Versions) (c : Cluster) (h : Meanings) (nodes : List (Node R V)) → length nodes ≡ length c.nodes → AreStarted version c nodes → AreMembers version c nodes (opening c h).node
+opening_members version c h nodes count started_are = record {
+  count = count;
+  each = λ i node is. let below = slice_get_within nodes i node is in
+      let among : is_among (length c.nodes) (i + 1) ≡ true = grind (arith, nat_tests) in
+      subst (IsMember version c (i + 1) node) (sym ((opening_opened c h).node_is (i + 1) ∙ ap (λ t. cond t (start (setting c h (i + 1)) 1 [] []) empty_node) among)) (started_are.each h i node is);
+}
+
+-- one more node is started
+pub starts_more : (items : List Item) (k : ℕ) → newest items ≡ first_starts k → newest (items ++ Start (number (k + 1)) 1 ∷ []) ≡ first_starts (k + 1)
+starts_more items k is =
+    let e : suc k ≡ k + 1 = omega arith in
+    newest-append items (Start (number (k + 1)) 1) ∙ ap (λ t. Start (number (k + 1)) 1 ∷ t) is
+    ∙ ap (λ n. Start (number n) 1 ∷ first_starts k) (sym e) ∙ ap first_starts e
+
+last_found : {X : Type 0} (xs : List X) (x y : X) (i : ℕ) (P : ℕ → X → Type 0) → ((j : ℕ) (z : X) → slice_get xs j ≡ Some z → P j z) → P (length xs) x → slice_get (xs ++ x ∷ []) i ≡ Some y → P i y
+last_found [] x y zero P each last is = let same : x ≡ y = cc in subst (P 0) same last
+last_found [] x y (suc i) P each last is = cc
+last_found (first ∷ xs) x y zero P each last is = each 0 y is
+last_found (first ∷ xs) x y (suc i) P each last is = last_found xs x y i (λ j z. P (suc j) z) (λ j z found. each (suc j) z found) last is
+
+pub none_started : {R V : Type 0} (version : V → Versions) (c : Cluster) → AreStarted {R = R} version c []
+none_started version c = record { each = λ h i node is. cc }
+
+pub started_more : {R V : Type 0} (version : V → Versions) (c : Cluster) (nodes : List (Node R V)) (one : Node R V) (k : ℕ) → length nodes ≡ k → AreStarted version c nodes
+    → ((h : Meanings) → IsMember version c (k + 1) one (start (setting c h (k + 1)) 1 [] [])) → AreStarted version c (nodes ++ one ∷ [])
+started_more {R} {V} version c nodes one k count were last = record {
+  each = λ h i node is. last_found nodes one node i (λ (j : ℕ) (z : Node R V). IsMember version c (j + 1) z (start (setting c h (j + 1)) 1 [] [])) (were.each h)
+      (subst (λ n. IsMember version c (n + 1) one (start (setting c h (n + 1)) 1 [] [])) (sym count) (last h)) is;
+}
+
+-- a node that was made so is the first of its cluster's run
+pub first_member : {R V : Type 0} (version : V → Versions) (c own : Cluster) (h : Meanings) (me : ℕ) (node : Node R V) → own ≡ c → node.replica.members ≡ own → node.replica.me ≡ me
+    → ((g : Meanings) → IsTold version (at_node node.replica.members node.replica.me g) node (start (at_node own me g) 1 [] [])) → IsMember version c me node (start (setting c h me) 1 [] [])
+first_member version c own h me node same members number told = record {
+  members = members ∙ same;
+  number = number;
+  told = λ g. subst (λ (k : Cluster). IsTold version (setting c g me) node (start (setting k g me) 1 [] [])) same
+      (subst (λ (s : Setting). IsTold version s node (start (at_node own me g) 1 [] [])) (same_setting node.replica.members c g node.replica.me me (members ∙ same) number) (told g));
+}
+
+pub length_last : {X : Type 0} (xs : List X) (x : X) (k : ℕ) → length xs ≡ k → length (xs ++ x ∷ []) ≡ k + 1
+length_last xs x k is = length-append xs (x ∷ []) ∙ ap (λ n. n + 1) is

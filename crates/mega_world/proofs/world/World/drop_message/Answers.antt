@@ -1,0 +1,15 @@
+use Rattle.std.proofs.Common.{◌≡◌, ◌∙◌, Some, ap, refl, sym}
+use Rattle.mega_world.proofs.Emptying.{dropped_at}
+use Rattle.mega_world.proofs.Finding.{drop_sent}
+use Rattle.mega_world.proofs.world.World.drop_message.Goals as goal
+
+pub returns-in-Some-clause-refused : goal.returns-in-Some-clause-refused
+returns-in-Some-clause-refused c why is cluster now r = let same : c.in-Some.why ≡ why = cc in sym (c.in-Some.ensures cluster now r.mail) ∙ ap Some same
+
+pub returns-in_ok-push-in-None-clause-state : goal.returns-in_ok-push-in-None-clause-state
+returns-in_ok-push-in-None-clause-state c cluster h cuts now r =
+    dropped_at cluster h cuts now c.args.number c.args.self.now (record { nodes = c.args.self.now.nodes; mail = c.drops.new.self; safety = c.args.self.now.safety }) c.args.tape.now.items c.push.new.self r refl refl
+    (c.in_ok-drops-in-None.ensures now.tape r.mail.carries (drop_sent cluster now c.args.number (sym (c.in-None.ensures cluster now r.mail)))) c.in_ok-push-in-None.ensures.ok
+
+pub returns-in_ok-push-in-None-clause-happens : goal.returns-in_ok-push-in-None-clause-happens
+returns-in_ok-push-in-None-clause-happens c cluster now r = sym (c.in-None.ensures cluster now r.mail)

@@ -1,0 +1,16 @@
+-- The fault of a world where a node of it did not step.
+use Rattle.std.specs.Prelude.{Option, Some, None}
+use Rattle.mega_core.specs.declared.fault.StepFault.{StepFault}
+use Rattle.mega_core.specs.declared.fault.StepFault.TheVariants as step
+use Rattle.mega_world.specs.declared.fault.WorldFault.{WorldFault}
+use Rattle.mega_world.specs.declared.fault.WorldFault.TheVariants.{NoMemory, Unbuilt}
+
+-- none stands for what only a device of rows does, since a world keeps its rows in memory
+abbrev pub fault_of : StepFault → Option WorldFault
+fault_of step.DiskFault = None
+fault_of (step.Full n) = None
+fault_of (step.BadRecord n) = None
+fault_of step.Unbuilt = Some Unbuilt
+fault_of step.Stranger = Some Unbuilt
+fault_of step.Late = Some Unbuilt
+fault_of step.NoMemory = Some NoMemory

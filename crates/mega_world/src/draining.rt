@@ -1,0 +1,51 @@
+//! Waiting messages are delivered, the smallest number first, up to a limit.
+ghost use Rattle.std.specs.Prelude.{◌≡◌, ◌≢◌, ℕ, OnOk, Err};
+ghost use Rattle.std.specs.Prelude.{All};
+ghost use Rattle.mega_cluster.specs.declared.cluster.Cluster.{Cluster};
+ghost use Rattle.mega_handler.specs.Named.{Meanings};
+ghost use Rattle.mega_schedule.specs.declared.world_event.WorldEvent.TheVariants as event;
+ghost use Rattle.mega_transcript.specs.Lines.{HasLine};
+ghost use Rattle.mega_promises.specs.Runs.{Cuts, Standing, after_event};
+ghost use Rattle.mega_world.specs.declared.fault.WorldFault.TheVariants.{Refused, Unbuilt};
+ghost use Rattle.mega_world.specs.Formed.{IsSound};
+ghost use Rattle.mega_world.specs.Stands.{IsAt};
+
+use crate::fault::WorldFault;
+use crate::world::World;
+use mega_transcript::{Item, Tape};
+use std::alloc::Global;
+
+impl World {
+    /// Messages that wait are delivered, the smallest number first, at most so many; where one is left then, the drain is cut.
+    pub(crate) fn drain(
+        &mut self,
+        alloc: Global,
+        most: u64,
+        tape: &mut Tape,
+    ) -> Result<(), WorldFault>
+        ensures state { OnOk result ((c : Cluster) (h : Meanings) (cuts : Cuts) (now : Standing) → IsAt c self.old tape.old.items now → IsSound c h cuts now (event.Drain most) →
+            IsAt c self.new tape.new.items (after_event c h cuts now (event.Drain most))) }
+        ensures lines { OnOk result ((c : Cluster) (h : Meanings) (cuts : Cuts) (now : Standing) → IsAt c self.old tape.old.items now → IsSound c h cuts now (event.Drain most) →
+            All HasLine tape.old.items → All HasLine tape.new.items) }
+        ensures served { (why : ℕ) → result ≢ Err (Refused why) }
+        ensures built { result ≡ Err Unbuilt → (c : Cluster) (h : Meanings) (cuts : Cuts) (now : Standing) → IsAt c self.old tape.old.items now → IsSound c h cuts now (event.Drain most) → ⊥ }
+    {
+        for _turn in 0..most {
+            let number = match self.mail.next_delivery(self.nodes.as_slice().len()) {
+                Some(number) => number,
+                None => return Ok(()),
+            };
+            match self.hand(alloc, number, tape) {
+                Ok(()) => {}
+                Err(fault) => return Err(fault),
+            }
+        }
+        match self.mail.next_delivery(self.nodes.as_slice().len()) {
+            Some(_number) => {
+                tape.items.push(Item::Cut)?;
+                Ok(())
+            }
+            None => Ok(()),
+        }
+    }
+}

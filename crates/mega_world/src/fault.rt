@@ -1,0 +1,44 @@
+//! Why an event does not happen in a world.
+ghost use Rattle.std.specs.Prelude.{◌≡◌, Some, None};
+ghost use Rattle.mega_core.specs.Faults.{of_store};
+ghost use Rattle.mega_world.specs.Faults.{fault_of};
+
+use mega_base::NoMemory;
+use mega_core::StepFault;
+
+/// Why an event did not happen.
+#[derive(Clone, Copy, PartialEq, Eq, Debug, Drop)]
+pub enum WorldFault {
+    /// The run refuses it, and the world is as it was: 6, there is no such node; 3, no message of that number was sent; 4, it was
+    /// dropped; 5, the node's clock showed a later time; 7, the request names no group or index. It is never 1, that a message's
+    /// receiver is down: each goes to a node, and all are up.
+    Refused { why: u8 },
+    /// A crash, a start, a fuse or such a request is not served yet. After this and all that follow the world is not used again.
+    Unbuilt,
+    /// An allocation was refused.
+    NoMemory,
+}
+
+impl From<NoMemory> for WorldFault {
+    ghost use Rattle.mega_world.specs.declared.fault.WorldFault.TheVariants.{NoMemory as OutOfMemory};
+
+    ghost from_gives = { λ _ fault. fault ≡ OutOfMemory };
+
+    fn from(_refused: NoMemory) -> WorldFault {
+        WorldFault::NoMemory
+    }
+}
+
+/// The fault of a world where a node of it did not step; its rows did not fail.
+pub(crate) fn fault_of(fault: StepFault) -> WorldFault
+    requires { of_store fault ≡ None }
+    ensures { fault_of fault ≡ Some result }
+{
+    match fault {
+        StepFault::Unbuilt | StepFault::Stranger | StepFault::Late => WorldFault::Unbuilt,
+        StepFault::NoMemory => WorldFault::NoMemory,
+        StepFault::DiskFault | StepFault::Full { .. } | StepFault::BadRecord { .. } => {
+            unreachable!()
+        }
+    }
+}

@@ -1,0 +1,107 @@
+//! A world begins: all nodes start for the first time, with nothing on their devices.
+ghost use Rattle.std.specs.Prelude.{◌≡◌, ◌⊎◌, ◌≤◌, ◌<◌, ◌+◌, ◌^◌, ◌++◌, ◌∷◌, [], length, true, IfOk, OnOk, OnErr, Err};
+ghost use Rattle.std.specs.Prelude.{All};
+ghost use Rattle.mega_handler.specs.Named.{Meanings};
+ghost use Rattle.mega_transcript.specs.Lines.{HasLine};
+ghost use Rattle.mega_transcript.specs.Tape.{newest};
+ghost use Rattle.mega_core.specs.Served.{IsServed};
+ghost use Rattle.mega_rules.specs.Members.{is_node};
+ghost use Rattle.mega_rules.specs.Steps.{start};
+ghost use Rattle.mega_promises.specs.Runs.{opening, setting};
+ghost use Rattle.mega_world.specs.declared.fault.WorldFault.TheVariants.{NoMemory as OutOfMemory};
+ghost use Rattle.mega_world.specs.Members.{AreStarted, IsMember};
+ghost use Rattle.mega_world.specs.Opening.{first_starts};
+ghost use Rattle.mega_world.specs.Stands.{IsAt, version_of};
+
+use crate::fault::{WorldFault, fault_of};
+use crate::mail::Mail;
+use crate::safety::Safety;
+use crate::world::{Member, World};
+use mega_base::{Copied, NoMemory, NodeId};
+use mega_cluster::Cluster;
+use mega_core::Node;
+use mega_disk::MemRecords;
+use mega_rows::VersionedRows;
+use mega_transcript::{Item, Tape};
+use mega_wal::Logs;
+use std::alloc::Global;
+
+/// A node of a cluster at its first start, over logs and rows in memory that hold nothing.
+fn started(alloc: Global, cluster: &Cluster, me: u8) -> Result<Member, WorldFault>
+    requires served { IsServed cluster.now }
+    requires member { is_node cluster.now me ≡ true }
+    ensures node { IfOk result (λ node. (h : Meanings) → IsMember version_of cluster.now me node (start (setting cluster.now h me) 1 [] [])) }
+    ensures only { OnErr result (result ≡ Err OutOfMemory) }
+{
+    let own = cluster.copy(alloc)?;
+    let logs = match Logs::open(alloc, MemRecords::new(alloc)) {
+        Ok(logs) => logs,
+        Err(_refused) => return Err(WorldFault::NoMemory),
+    };
+    match Node::start(alloc, own, me, logs, VersionedRows::new(alloc)) {
+        Ok(node) => Ok(node),
+        Err(fault) => Err(fault_of(fault)),
+    }
+}
+
+/// Adds a node behind these.
+fn add(nodes: &mut Vec<Member>, node: Member) -> Result<(), NoMemory>
+    ensures { OnOk result (nodes.new.items ≡ nodes.old.items ++ node ∷ []) }
+{
+    nodes.push(node)?;
+    Ok(())
+}
+
+/// Starts all nodes of a cluster, in order, and puts their starts on the tape.
+fn start_all(alloc: Global, cluster: &Cluster, tape: &mut Tape) -> Result<Vec<Member>, WorldFault>
+    requires tape { tape.old.items ≡ [] }
+    requires few { length cluster.now.nodes ≤ 9 }
+    requires served { IsServed cluster.now }
+    ensures count { IfOk result (λ nodes. length nodes.items ≡ length cluster.now.nodes) }
+    ensures nodes { IfOk result (λ nodes. AreStarted version_of cluster.now nodes.items) }
+    ensures tape { OnOk result (newest tape.new.items ≡ first_starts (length cluster.now.nodes)) }
+    ensures lines { OnOk result (All HasLine tape.new.items) }
+    ensures only { OnErr result (result ≡ Err OutOfMemory) }
+{
+    let mut nodes = Vec::new(alloc);
+    let count = cluster.nodes.len() as u8;
+    for before in 0..count {
+        let me = before + 1;
+        let node = match started(alloc, cluster, me) {
+            Ok(node) => node,
+            Err(fault) => return Err(fault),
+        };
+        add(&mut nodes, node)?;
+        tape.items.push(Item::Start {
+            node: NodeId(me),
+            start: 1,
+        })?;
+    }
+    Ok(nodes)
+}
+
+impl World {
+    /// A cluster, of nodes of any kinds, all started for the first time on empty disks, with their starts on the tape, which is empty before.
+    pub fn new(alloc: Global, cluster: &Cluster, tape: &mut Tape) -> Result<World, WorldFault>
+        requires tape { tape.old.items ≡ [] }
+        requires few { length cluster.now.nodes ≤ 9 }
+        requires cells { (cluster.now.cells ≡ 1) ⊎ (cluster.now.cells ≡ 3) ⊎ (cluster.now.cells ≡ 5) }
+        requires fits { cluster.now.lease + cluster.now.margin < 2 ^ 64 }
+        requires lease { cluster.now.lease ≤ 1000000000 }
+        requires limit { (cluster.now.limit).0 ≤ 1000000 }
+        requires housed { cluster.now.cells ≤ length cluster.now.nodes }
+        ensures state { IfOk result (λ world. (h : Meanings) → IsAt cluster.now world tape.new.items (opening cluster.now h)) }
+        ensures lines { OnOk result (All HasLine tape.new.items) }
+        ensures only { OnErr result (result ≡ Err OutOfMemory) }
+    {
+        let nodes = match start_all(alloc, cluster, tape) {
+            Ok(nodes) => nodes,
+            Err(fault) => return Err(fault),
+        };
+        Ok(World {
+            nodes,
+            mail: Mail::new(alloc),
+            safety: Safety::new(alloc),
+        })
+    }
+}

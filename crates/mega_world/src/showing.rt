@@ -1,0 +1,103 @@
+//! What a step makes comes onto the tape, and `unsafe` behind the first item that breaks.
+
+ghost use Rattle.std.specs.Prelude.{◌≡◌, ◌+◌, ◌++◌, ◌∷◌, ◌||◌, [], ℕ, List, OnOk, if◌then◌else◌};
+ghost use Rattle.std.specs.Prelude.{All};
+ghost use Rattle.mega_cluster.specs.declared.cluster.Cluster.{Cluster};
+ghost use Rattle.mega_transcript.specs.declared.item.Item.{Item as OnTape};
+ghost use Rattle.mega_transcript.specs.declared.item.Item.TheVariants as item;
+ghost use Rattle.mega_transcript.specs.Lines.{HasLine};
+ghost use Rattle.mega_transcript.specs.Tape.{newest, sent_count};
+ghost use Rattle.mega_rules.specs.Operations.{Node as RuleNode};
+ghost use Rattle.mega_core.specs.Notes.{met_of};
+ghost use Rattle.mega_promises.specs.Items.{numbered, shown};
+ghost use Rattle.mega_promises.specs.Runs.{with_items};
+ghost use Rattle.mega_world.specs.Carries.{Carries};
+ghost use Rattle.mega_world.specs.Lapses.{KnowsLeases};
+ghost use Rattle.mega_world.specs.Showing.{AreUp, IsShown, IsStepped};
+ghost use Rattle.mega_world.specs.Shown.{notes_shown};
+
+use crate::judging::breaks_first;
+use crate::noting::item_of;
+use crate::safety::{Safety, keep_lapses};
+use crate::world::{Member, World};
+use mega_base::{Items, NoMemory};
+use mega_core::{Note, Step};
+use mega_transcript::{Item, Tape};
+use std::alloc::Global;
+
+/// Tells that leases are not safe from the last item on, where it is the first to show that.
+fn tell(is_first: bool, safety: &mut Safety, tape: &mut Tape) -> Result<(), NoMemory>
+    ensures tape { OnOk result (tape.new.items ≡ (if is_first then tape.old.items ++ item.Unsafe ∷ [] else tape.old.items)) }
+    ensures told { OnOk result (safety.new.is_told ≡ (is_first || safety.old.is_told)) }
+    ensures lapses { safety.new.lapses ≡ safety.old.lapses }
+{
+    if !is_first {
+        return Ok(());
+    }
+    tape.items.push(Item::Unsafe)?;
+    safety.is_told = true;
+    Ok(())
+}
+
+/// The item of a note comes onto the tape; the first that shows that leases are not safe is followed by this.
+fn put(
+    me: u8,
+    note: Note,
+    nodes: &[Member],
+    safety: &mut Safety,
+    tape: &mut Tape,
+) -> Result<(), NoMemory>
+    ensures tape { OnOk result ((c : Cluster) (ruled : ℕ → RuleNode) → AreUp c nodes.now ruled → KnowsLeases safety.old ruled (newest tape.old.items) →
+        newest tape.new.items ≡ with_items c ruled (newest tape.old.items) (shown me (met_of note))) }
+    ensures leases { OnOk result ((c : Cluster) (ruled : ℕ → RuleNode) → AreUp c nodes.now ruled → KnowsLeases safety.old ruled (newest tape.old.items) →
+        KnowsLeases safety.new ruled (newest tape.new.items)) }
+    ensures lines { OnOk result (All HasLine tape.old.items → All HasLine (shown me (met_of note)) → All HasLine tape.new.items) }
+{
+    let item = item_of(me, note);
+    let is_first = breaks_first(nodes, safety, &item);
+    tape.items.push(item)?;
+    tell(is_first, safety, tape)?;
+    Ok(())
+}
+
+/// The notes of a node come onto the tape.
+fn put_all(
+    me: u8,
+    notes: Items<Note>,
+    nodes: &[Member],
+    safety: &mut Safety,
+    tape: &mut Tape,
+) -> Result<(), NoMemory>
+    ensures tape { OnOk result ((c : Cluster) (ruled : ℕ → RuleNode) → AreUp c nodes.now ruled → KnowsLeases safety.old ruled (newest tape.old.items) →
+        newest tape.new.items ≡ with_items c ruled (newest tape.old.items) (notes_shown me notes)) }
+    ensures leases { OnOk result ((c : Cluster) (ruled : ℕ → RuleNode) → AreUp c nodes.now ruled → KnowsLeases safety.old ruled (newest tape.old.items) →
+        KnowsLeases safety.new ruled (newest tape.new.items)) }
+    ensures lines { OnOk result (All HasLine tape.old.items → All HasLine (notes_shown me notes) → All HasLine tape.new.items) }
+{
+    for note in notes.into_vec() {
+        put(me, note, nodes, safety, tape)?;
+    }
+    Ok(())
+}
+
+impl World {
+    /// What a step of a node makes comes onto the tape: its notes, and then its messages, each under the next number.
+    pub(crate) fn show(
+        &mut self,
+        alloc: Global,
+        me: u8,
+        made: Step,
+        tape: &mut Tape,
+    ) -> Result<(), NoMemory>
+        ensures shown { OnOk result ((c : Cluster) (was ruled : ℕ → RuleNode) → IsStepped c self.old me made.notes was ruled (newest tape.old.items) →
+            IsShown c self.old self.new me made ruled tape.old.items tape.new.items) }
+        ensures lines { OnOk result ((before : List OnTape) → Carries self.old.mail before → All HasLine tape.old.items → All HasLine (notes_shown me made.notes) →
+            All HasLine (numbered (sent_count before + 1) made.sends) → All HasLine tape.new.items) }
+    {
+        let Step { notes, sends } = made;
+        keep_lapses(&mut self.safety.lapses, me, &notes)?;
+        put_all(me, notes, self.nodes.as_slice(), &mut self.safety, tape)?;
+        self.mail.send_all(alloc, sends, tape)?;
+        Ok(())
+    }
+}

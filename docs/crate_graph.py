@@ -1,0 +1,46 @@
+#!/usr/bin/env python3
+"""Prints, for each crate of crates.txt, the crates whose code it calls, and those that only its contracts and proofs cite.
+
+Usage, at the top of the repository: docs/crate_graph.py
+"""
+import re
+from pathlib import Path
+
+TOP = Path(__file__).resolve().parent.parent
+CALLED = re.compile(r"^\s*(?:pub )?use (\w+)(?:::|;)", re.MULTILINE)
+NAMED = re.compile(r"\b(\w+)::\w")
+CITED = re.compile(r"\bRattle\.(\w+)\.")
+
+
+def crates():
+    """The crates of the repository, lowest first."""
+    lines = (TOP / "crates.txt").read_text().splitlines()
+    return [line.split(":")[0] for line in lines if line and not line.startswith("#")]
+
+
+def text_of(crate, pattern):
+    return "\n".join(path.read_text() for path in sorted((TOP / "crates" / crate).glob(pattern)))
+
+
+def uses(crate, known):
+    """What the code of a crate calls, and what only its contracts, definitions and proofs cite."""
+    code = "\n".join(line for line in text_of(crate, "src/**/*.rt").splitlines() if "ghost use" not in line)
+    called = {name for name in CALLED.findall(code) + NAMED.findall(code) if name in known and name != crate}
+    all_text = text_of(crate, "src/**/*.rt") + text_of(crate, "specs/**/*.antt") + text_of(crate, "proofs/**/*.antt")
+    cited = {name for name in CITED.findall(all_text) if name in known and name != crate}
+    return called, cited - called
+
+
+def main():
+    order = crates()
+    rank = {name: place for place, name in enumerate(order)}
+    print("| crate | its code calls | only contracts and proofs cite |")
+    print("|---|---|---|")
+    for crate in order:
+        called, cited = uses(crate, rank)
+        shown = [", ".join(name.removeprefix("mega_") for name in sorted(names, key=rank.get)) for names in (called, cited)]
+        print(f"| `{crate}` | {shown[0]} | {shown[1]} |")
+
+
+if __name__ == "__main__":
+    main()
