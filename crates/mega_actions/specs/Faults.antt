@@ -19,6 +19,13 @@ fault_of (turn.Full n) = Some (Full n)
 fault_of (turn.BadRecord n) = Some (BadRecord n)
 fault_of turn.NoMemory = Some NoMemory
 
+-- the fault that an error of the store is
+abbrev pub act_of : StoreError → ActFault
+act_of store.DiskFault = DiskFault
+act_of (store.Full n) = Full n
+act_of (store.BadRecord n) = BadRecord n
+act_of store.NoMemory = NoMemory
+
 -- the store's error that a fault is, where it is one
 abbrev pub of_store : ActFault → Option StoreError
 of_store DiskFault = Some store.DiskFault

@@ -3,6 +3,7 @@
 #![tactic(auto)]
 
 mod acting;
+mod answering;
 mod beginning;
 mod came;
 mod completing;

@@ -1,4 +1,3 @@
-//! Finds the entries of a global index that begin with given values, in order of key.
 ghost use Rattle.std.specs.Prelude.{◌≡◌, ◌≤◌, true, [], length, map, nat_le, if◌then◌else◌, Some, None, IfOk, IfSome, IfNone};
 ghost use Rattle.mega_keys.specs.Spelling.{index_bytes};
 ghost use Rattle.mega_index.specs.Fits.{numbered, indexes_of};
@@ -35,7 +34,8 @@ fn front_of(alloc: Global, number: u8, values: &[Value]) -> Result<Option<Bytes>
     }
 }
 
-fn values_in(alloc: Global, entries: Entries) -> Result<Vec<Found>, NoMemory>
+/// What is found, in order of the entries' keys.
+pub fn values_in(alloc: Global, entries: Entries) -> Result<Vec<Found>, NoMemory>
     ensures { IfOk result (λ found. found.items ≡ values_in entries.entries) }
 {
     let mut found = Vec::new(alloc);

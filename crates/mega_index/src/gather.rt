@@ -1,4 +1,3 @@
-//! Gathers the entries of the rows that are wanted, by their keys.
 ghost use Rattle.std.specs.Prelude.{◌≡◌, ◌≤◌, filter, [], ◌∷◌, if◌then◌else◌, Some, IfOk, OnOk};
 ghost use Rattle.mega_index.specs.Fits.{numbered};
 ghost use Rattle.mega_index.specs.Entries.{placed, found_of};
@@ -102,7 +101,7 @@ fn add_in(
 }
 
 /// Adds the entries that a row has in an index and whose keys begin so.
-fn add_row(
+pub fn add_row(
     alloc: Global,
     entries: &mut Entries,
     schema: &Schema,

@@ -16,6 +16,7 @@ mod held;
 mod hints;
 mod keys;
 mod laws;
+mod listed;
 mod local;
 mod long;
 mod refresh;
@@ -31,6 +32,10 @@ pub use found::Found;
 pub use global::GlobalIndex;
 pub use keys::{group_of, key_of};
 pub use laws::local_writes_turn_entries;
+pub use listed::find_over;
 pub use long::{has_place, long_key, row_fits};
 pub use same::values_are;
 pub use writes::{index_writes, local_writes};
+
+#[cfg(test)]
+mod tests;

@@ -31,5 +31,9 @@ pub use batches::run_all;
 pub use extending::extends_outcome;
 pub use laws::{outcomes_look_at_their_group, outcomes_stay_under_more_properties};
 pub use outcomes::run;
+pub use reading::read_rows;
 pub use request::{FindRequest, Mode, ReadRequest, Request};
 pub use transaction::{Change, Check, RowRef, Transaction};
+
+#[cfg(test)]
+mod tests;

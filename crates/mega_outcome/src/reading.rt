@@ -1,7 +1,6 @@
-//! The reads of a transaction, each of the rows as they stand.
 ghost use Rattle.std.specs.Prelude.{◌≡◌, ◌+◌, ◌<◌, ◌^◌, true, length, option_map, IfOk};
 ghost use Rattle.std.specs.Result.{result_err};
-ghost use Rattle.mega_outcome.specs.Reads.{shown, read, all_reads};
+ghost use Rattle.mega_outcome.specs.Reads.{shown, read, all_reads, read_rows};
 ghost use Rattle.mega_outcome.specs.Steps.{IsInside};
 ghost use Rattle.mega_outcome.specs.Answers.{rows_at, seen};
 ghost use Rattle.mega_outcome.specs.Looks.{Looks};
@@ -10,10 +9,11 @@ use crate::answer::{Shown, Turn};
 use crate::looking::Pending;
 use crate::places::row_in;
 use crate::transaction::RowRef;
-use mega_base::{Items, Position, Row};
+use mega_base::{GroupId, Items, Position, Row};
 use mega_disk::{StoreError, Versions};
 use mega_schema::Schema;
 use std::alloc::Global;
+use std::collections::BTreeMap;
 
 /// A row of the table as it is shown, where it is there.
 fn shown(table: u8, there: Option<Row>) -> Option<Shown>
@@ -74,4 +74,27 @@ pub fn all_reads<V: Versions>(
         item += 1;
     }
     Ok(Ok(replies))
+}
+
+/// The rows of a group that a read names, at a position, in its order, or the refusal of its first item that names no
+/// row of the group.
+#[tactic(auto, using(crate::proofs::Seen::seen_empty))]
+pub fn read_rows<V: Versions>(
+    alloc: Global,
+    schema: &Schema,
+    group: &GroupId,
+    refs: &[RowRef],
+    rows: &mut V,
+    at: Position,
+) -> Result<Result<Items<Option<Shown>>, Turn>, StoreError>
+    ensures exact { V.is_told ≡ true → IfOk result (λ answer. answer ≡ read_rows schema.now group.now refs.now (rows_at (V.version rows.old) at.0)) }
+    ensures inside { IfOk result IsInside }
+    ensures looks { Looks V.Versions (result_err result) rows.old rows.new }
+{
+    if u32::try_from(refs.len()).is_err() {
+        return Err(StoreError::NoMemory);
+    }
+    let pending = BTreeMap::new(alloc);
+    let group = group.key.as_slice();
+    all_reads(alloc, schema, group, &pending, rows, at, 0, refs)
 }

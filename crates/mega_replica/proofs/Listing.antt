@@ -25,10 +25,10 @@ use Rattle.mega_replica.proofs.Reading.{or_row, read_is, stored_is, unwritten_fr
 
 -- ---- what stands under a key
 
-key_is : (a b : List ℕ) → same_key a b ≡ true → a ≡ b
+pub key_is : (a b : List ℕ) → same_key a b ≡ true → a ≡ b
 key_is a b = (same_key-Decides a b).0
 
-same_self : (a : List ℕ) → same_key a a ≡ true
+pub same_self : (a : List ℕ) → same_key a a ≡ true
 same_self a = (same_key-Decides a a).1 refl
 
 key_apart : (a b : List ℕ) → same_key a b ≡ false → a ≡ b → ⊥
@@ -75,11 +75,11 @@ under-insert (e ∷ es) q v k = by (key_cmp q e.0) refl (under-insert es q v k)
 
 -- ---- lists in order of key
 
-abbrev Below : List ℕ → Listed → Type 0
+abbrev pub Below : List ℕ → Listed → Type 0
 Below k [] = Unit {0}
 Below k (e ∷ es) = (key_cmp k e.0 ≡ Less) × Below k es
 
-abbrev Ascends : Listed → Type 0
+abbrev pub Ascends : Listed → Type 0
 Ascends [] = Unit {0}
 Ascends (e ∷ es) = Below e.0 es × Ascends es
 
@@ -159,27 +159,27 @@ changed-ascends listed write up = by write.row
     by None = remove-ascends (λ other. same_key write.key other) listed up
     by (Some row) = insert-ascends write.key row listed up
 
-written-ascends : (writes : List Write) (listed : Listed) → Ascends listed → Ascends (list_written writes listed)
+pub written-ascends : (writes : List Write) (listed : Listed) → Ascends listed → Ascends (list_written writes listed)
 written-ascends [] listed up = up
 written-ascends (write ∷ writes) listed up = written-ascends writes (list_changed listed write) (changed-ascends listed write up)
 
-list_written_is : (writes : List Write) (listed : Listed) → Ascends listed → row_under (list_written writes listed) ≡ written writes (row_under listed)
+pub list_written_is : (writes : List Write) (listed : Listed) → Ascends listed → row_under (list_written writes listed) ≡ written writes (row_under listed)
 list_written_is [] listed up = refl
 list_written_is (write ∷ writes) listed up =
     list_written_is writes (list_changed listed write) (changed-ascends listed write up) ∙ ap (written writes) (λ i k. changed_is listed write k up i)
 
-after-ascends : (log : List Content) (listed : Listed) → Ascends listed → Ascends (list_after log listed)
+pub after-ascends : (log : List Content) (listed : Listed) → Ascends listed → Ascends (list_after log listed)
 after-ascends [] listed up = up
 after-ascends (entry ∷ log) listed up = after-ascends log (list_written entry.writes listed) (written-ascends entry.writes listed up)
 
-after_is : (log : List Content) (listed : Listed) → Ascends listed → row_under (list_after log listed) ≡ after log (row_under listed)
+pub after_is : (log : List Content) (listed : Listed) → Ascends listed → row_under (list_after log listed) ≡ after log (row_under listed)
 after_is [] listed up = refl
 after_is (entry ∷ log) listed up =
     after_is log (list_written entry.writes listed) (written-ascends entry.writes listed up) ∙ ap (after log) (list_written_is entry.writes listed up)
 
 -- ---- rows of lists in order of key
 
-has_row : (es : Listed) (key : List ℕ) (row : Row) → row_under es key ≡ Some row → HasRow es key row
+pub has_row : (es : Listed) (key : List ℕ) (row : Row) → row_under es key ≡ Some row → HasRow es key row
 has_row [] key row is = absurd cc
 has_row (e ∷ es) key row is = by (has_row es key row) (same_key key e.0) refl is
   where
@@ -197,19 +197,19 @@ below_row (e ∷ es) k key row below has = ⊎_elim (λ here. ap (key_cmp k) (sy
 not_below : (k : List ℕ) → key_cmp k k ≡ Less → ⊥
 not_below k less = let same : is_eq (key_cmp k k) ≡ true = same_self k in let no : is_eq (key_cmp k k) ≡ false = ap is_eq less in cc
 
-row_is : (es : Listed) (key : List ℕ) (row : Row) → Ascends es → HasRow es key row → row_under es key ≡ Some row
+pub row_is : (es : Listed) (key : List ℕ) (row : Row) → Ascends es → HasRow es key row → row_under es key ≡ Some row
 row_is [] key row up has = absurd has
 row_is (e ∷ es) key row up has = ⊎_elim
     (λ here. ap (λ (b : Bool). cond b (Some e.1) (row_under es key)) ((same_key-Decides key e.0).1 (sym here.0)) ∙ ap Some here.1)
     (λ there. ap (λ (b : Bool). cond b (Some e.1) (row_under es key)) (not_key key e.0 (λ same. not_below e.0 (let less = below_row es e.0 key row up.0 there in ap (key_cmp e.0) (sym same) ∙ less))) ∙ row_is es key row up.1 there)
     has
 
-ascends : (es : Listed) → HasAscendingKeys es → Ascends es
+pub ascends : (es : Listed) → HasAscendingKeys es → Ascends es
 ascends [] up = tt
 ascends (e ∷ []) up = (tt, tt)
 ascends (e ∷ f ∷ es) up = let more = ascends (f ∷ es) up.1 in ((up.0, below-trans e.0 f.0 es up.0 more.0), more)
 
-abbrev Covers : Listed → Listed → Type 0
+abbrev pub Covers : Listed → Listed → Type 0
 Covers a b = (key : List ℕ) (row : Row) → HasRow a key row → HasRow b key row
 
 less_both : (a b : List ℕ) → key_cmp a b ≡ Less → key_cmp b a ≡ Less → ⊥
@@ -232,7 +232,7 @@ rest_covers x y xs ys same up into key row has = ⊎_elim
     (λ there. there)
     (into key row (inr has))
 
-same_rows : (a b : Listed) → Ascends a → Ascends b → Covers a b → Covers b a → a ≡ b
+pub same_rows : (a b : Listed) → Ascends a → Ascends b → Covers a b → Covers b a → a ≡ b
 same_rows [] [] up_a up_b into back = refl
 same_rows [] (y ∷ b) up_a up_b into back = absurd (back y.0 y.1 (inl (refl, refl)))
 same_rows (x ∷ a) [] up_a up_b into back = absurd (into x.0 x.1 (inl (refl, refl)))
@@ -243,7 +243,7 @@ same_rows (x ∷ a) (y ∷ b) up_a up_b into back =
 
 -- ---- keys that are not written
 
-after_writes : (log : List Content) (rows : Rows) → after log rows ≡ written (writes_of log) rows
+pub after_writes : (log : List Content) (rows : Rows) → after log rows ≡ written (writes_of log) rows
 after_writes [] rows = refl
 after_writes (entry ∷ log) rows = after_writes log (written entry.writes rows) ∙ joins entry.writes (writes_of log) rows
   where
@@ -255,14 +255,14 @@ no_version : (a b : Version) → or_else a b ≡ None → b ≡ None
 no_version None b is = is
 no_version (Some row) b is = absurd cc
 
-unwritten_through : (log : List Content) (p : ℕ) (key : List ℕ) → IsUnwritten key log → last_write key (writes_of (take p log)) ≡ None
+pub unwritten_through : (log : List Content) (p : ℕ) (key : List ℕ) → IsUnwritten key log → last_write key (writes_of (take p log)) ≡ None
 unwritten_through log p key none =
     no_version (last_write key (writes_of (drop p log))) (last_write key (writes_of (take p log)))
     (sym (last_write-append key (writes_of (take p log)) (writes_of (drop p log)))
     ∙ ap (last_write key) (sym (flat_map-append (λ (entry : Content). entry.writes) (take p log) (drop p log)))
     ∙ ap (λ (entries : List Content). last_write key (writes_of entries)) (take-append-drop p log) ∙ none)
 
-unwritten_rows : (writes : List Write) (key : List ℕ) → last_write key writes ≡ None → written writes no_rows key ≡ None
+pub unwritten_rows : (writes : List Write) (key : List ℕ) → last_write key writes ≡ None → written writes no_rows key ≡ None
 unwritten_rows writes key none = written_is writes no_rows key ∙ ap (λ (last : Version). or_row last None) none
 
 -- a scan is the list that has the rows of its range, and no others

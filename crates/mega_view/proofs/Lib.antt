@@ -1,0 +1,6 @@
+mod Numbers
+mod Keys
+mod Ranges
+mod Scanned
+mod Listed
+mod Logged
