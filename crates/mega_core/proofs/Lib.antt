@@ -18,3 +18,4 @@ pub mod Refused
 pub mod Failing
 pub mod Untouched
 pub mod Watched
+pub mod Restarted

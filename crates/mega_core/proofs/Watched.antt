@@ -9,11 +9,12 @@ use Rattle.mega_core.specs.declared.applying.Before.{Before}
 use Rattle.mega_core.specs.Positions.{before_at, note_since}
 use Rattle.mega_core.proofs.Untouched.{Noted}
 
-pub watched_noted : (s t : Setting) (node : Node) (groups : List GroupId) (before : List Before) (now : Now) → t ≡ s
-    → before ≡ cond (has_rows s.cluster s.me) (map (before_at node.met node.stored) groups) [] → Noted node (map (before_at node.met node.stored) groups) now
+pub watched_noted : (s t : Setting) (node : Node) (groups : List GroupId) (before : List Before) (now : Now) (keeps : Bool) → t ≡ s → keeps ≡ has_rows s.cluster s.me
+    → before ≡ cond keeps (map (before_at node.met node.stored) groups) [] → Noted node (map (before_at node.met node.stored) groups) now
     → flat_map (note_since now.met now.stored) before ≡ apply_notes t node.met node.stored now.met now.stored
-watched_noted s t node groups before now t_is before_is noted =
-    ap (flat_map (note_since now.met now.stored)) before_is ∙ (by (has_rows s.cluster s.me) ∙ ap (λ one. apply_notes one node.met node.stored now.met now.stored) (sym t_is))
+watched_noted s t node groups before now keeps t_is keeps_is before_is noted =
+    ap (flat_map (note_since now.met now.stored)) before_is ∙ (by keeps ∙ (ap (λ b. cond b (flat_map (apply_note node.met node.stored now.met now.stored) (groups_of now.met)) []) keeps_is
+    ∙ ap (λ one. apply_notes one node.met node.stored now.met now.stored) (sym t_is)))
   where
     by : (b : Bool) → flat_map (note_since now.met now.stored) (cond b (map (before_at node.met node.stored) groups) []) ≡ cond b (flat_map (apply_note node.met node.stored now.met now.stored) (groups_of now.met)) []
     by true = noted

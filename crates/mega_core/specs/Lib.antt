@@ -11,3 +11,4 @@ pub mod Beginning
 pub mod Taking
 pub mod Faults
 pub mod Ticking
+pub mod Restarting

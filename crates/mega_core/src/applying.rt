@@ -1,16 +1,12 @@
-//! Which groups a step applies more of, and what is noted of that.
 ghost use Rattle.std.specs.Prelude.{◌≡◌, ◌++◌, if◌then◌else◌, ℕ, List, [], map, flat_map, IfOk, OnOk};
 ghost use Rattle.mega_base.specs.declared.names.GroupId.{GroupId as Group};
-ghost use Rattle.mega_rules.specs.Members.{has_rows};
 ghost use Rattle.mega_rules.specs.Met.{Met};
 ghost use Rattle.mega_rules.specs.Steps.{applied_at};
 ghost use Rattle.mega_replica.specs.Following.{progress_at};
 ghost use Rattle.mega_core.specs.Notes.{met_of};
 ghost use Rattle.mega_core.specs.Positions.{Keeps, before_at, note_since};
 
-use crate::kinds::has_rows;
 use crate::note::Note;
-use mega_actions::Replica;
 use mega_base::{GroupId, Items, NoMemory};
 use mega_disk::{Records, Versions};
 use mega_replica::StoredRows;
@@ -70,15 +66,16 @@ fn positions<R: Records, V: Versions>(
 /// The applied positions of the groups of which a step may apply more: none at a node that keeps no rows.
 pub(crate) fn watched<R: Records, V: Versions>(
     alloc: Global,
-    replica: &Replica<R, V>,
+    voter: &Voter<R>,
+    rows: &StoredRows<V>,
+    keeps: bool,
     groups: Items<GroupId>,
 ) -> Result<Items<Before>, NoMemory>
     ensures { IfOk result (λ before. (met : List Met) (stored : Group → ℕ) →
-        Keeps replica.now.voter.logs.kept (V.version replica.now.rows.rows) (progress_at replica.now.rows.progress) met stored →
-        before ≡ (if has_rows replica.now.members replica.now.me then map (before_at met stored) groups else [])) }
+        Keeps voter.now.logs.kept (V.version rows.now.rows) (progress_at rows.now.progress) met stored → before ≡ (if keeps then map (before_at met stored) groups else [])) }
 {
-    if has_rows(replica.members.cluster(), replica.me) {
-        return positions(alloc, &replica.voter, &replica.rows, groups);
+    if keeps {
+        return positions(alloc, voter, rows, groups);
     }
     Ok(Items::new(alloc))
 }

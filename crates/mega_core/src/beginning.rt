@@ -1,4 +1,3 @@
-//! An operation begins, or is refused at once.
 ghost use Rattle.std.specs.Prelude.{◌≡◌, ℕ, List, min, true, false, None, IfOk, OnOk, Err};
 ghost use Rattle.mega_handler.specs.Named.{Meanings};
 ghost use Rattle.mega_node_laws.specs.Acted.{acted_on};

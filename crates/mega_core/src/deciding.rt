@@ -1,5 +1,4 @@
-//! The decision of a step: what a message tells or an operation settles, kept where it is new.
-ghost use Rattle.std.specs.Prelude.{◌≡◌, ◌<◌, ◌++◌, ◌∷◌, ℕ, List, map, is_none, is_some, None, Some, true, false, IfOk, OnOk};
+ghost use Rattle.std.specs.Prelude.{◌≡◌, ◌<◌, ◌++◌, ◌∷◌, ℕ, List, map, is_none, is_some, None, Some, false, IfOk, OnOk};
 ghost use Rattle.mega_base.specs.declared.names.GroupId.{GroupId as Group};
 ghost use Rattle.mega_node_laws.specs.Acted.{or_settled};
 ghost use Rattle.mega_rules.specs.Logs.{decided, log_of};

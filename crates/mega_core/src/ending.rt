@@ -1,4 +1,3 @@
-//! A step ends: its notes and messages in their order, and what is sent told to the voter.
 ghost use Rattle.std.specs.Prelude.{◌≡◌, ◌++◌, ◌∷◌, List, map, flat_map, IfOk, OnOk};
 ghost use Rattle.mega_handler.specs.Named.{Meanings};
 ghost use Rattle.mega_rules.specs.Met.{Met, Sends};

@@ -1,4 +1,3 @@
-//! A node of a cluster: its start, and its three steps.
 ghost use Rattle.std.specs.Prelude.{◌≡◌, ◌≢◌, ◌⊎◌, ℕ, List, [], map, None, true, false, IfOk, OnOk, OnErr, Err};
 ghost use Rattle.mega_handler.specs.Named.{Meanings};
 ghost use Rattle.mega_node_laws.specs.Acted.{acted_on, decision_in};
@@ -22,6 +21,7 @@ ghost use Rattle.mega_core.specs.Served.{IsServed};
 
 use crate::applying::watched;
 use crate::fault::StepFault;
+use crate::kinds::has_rows;
 use crate::starting::{leases_of, members_of, voter_of};
 use crate::step::Step;
 use crate::taking::{Taken, acts, takes};
@@ -109,7 +109,14 @@ impl<R: Records, V: Versions> Node<R, V> {
         ensures fares { Fares V.Versions (failed_by result) self.old.replica.rows.rows self.new.replica.rows.rows }
     {
         let groups = touched(alloc, &message.body, self.open.as_slice())?;
-        let before = watched(alloc, &self.replica, groups)?;
+        let keeps = has_rows(self.replica.members.cluster(), self.replica.me);
+        let before = watched(
+            alloc,
+            &self.replica.voter,
+            &self.replica.rows,
+            keeps,
+            groups,
+        )?;
         let opened = mem::replace(&mut self.open, Items::new(alloc));
         let taken = takes(alloc, &mut self.replica, opened, message)?;
         let Taken {
@@ -144,7 +151,14 @@ impl<R: Records, V: Versions> Node<R, V> {
         ensures fares { Fares V.Versions (failed_by result) self.old.replica.rows.rows self.new.replica.rows.rows }
     {
         let groups = asked_groups(alloc, &request)?;
-        let before = watched(alloc, &self.replica, groups)?;
+        let keeps = has_rows(self.replica.members.cluster(), self.replica.me);
+        let before = watched(
+            alloc,
+            &self.replica.voter,
+            &self.replica.rows,
+            keeps,
+            groups,
+        )?;
         let work = self.begins(alloc, request)?;
         let none = Items::new(alloc);
         let step = self.ends(
@@ -181,7 +195,14 @@ impl<R: Records, V: Versions> Node<R, V> {
     {
         let found = self.replica.voter.groups(alloc)?;
         let groups = Items::from_vec(found);
-        let before = watched(alloc, &self.replica, groups)?;
+        let keeps = has_rows(self.replica.members.cluster(), self.replica.me);
+        let before = watched(
+            alloc,
+            &self.replica.voter,
+            &self.replica.rows,
+            keeps,
+            groups,
+        )?;
         let made = ticks(alloc, &mut self.replica, now)?;
         let Ticked {
             notes,

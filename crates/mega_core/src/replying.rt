@@ -1,4 +1,3 @@
-//! The one reply to what a node is asked.
 ghost use Rattle.std.specs.Prelude.{◌≡◌, if◌then◌else◌, List, None, IfOk};
 ghost use Rattle.mega_rules.specs.Met.{Met};
 ghost use Rattle.mega_rules.specs.Replies.{reply_message};

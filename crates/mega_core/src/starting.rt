@@ -1,4 +1,3 @@
-//! The parts of a node at its first start.
 ghost use Rattle.std.specs.Prelude.{◌≡◌, ◌⊎◌, ◌≤◌, ◌∷◌, [], IfOk, OnOk, OnErr, Err};
 ghost use Rattle.mega_leases.specs.Tells.{Tells as TellsLeases};
 ghost use Rattle.mega_rules.specs.Met.{Starts};

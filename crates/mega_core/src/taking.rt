@@ -1,4 +1,3 @@
-//! A message is taken: what is told by it, what is decided, and what the operations do then.
 ghost use Rattle.std.specs.Prelude.{◌≡◌, ◌≢◌, ◌++◌, ℕ, List, All, map, true, false, None, IfOk, OnOk, Err};
 ghost use Rattle.std.specs.List.{range_with_len};
 ghost use Rattle.mega_base.specs.declared.names.GroupId.{GroupId as Group};
@@ -155,14 +154,7 @@ fn decides_by<R: Records, V: Versions>(
     let found = decides(alloc, &mut replica.voter, found)?;
     let keeps = has_rows(replica.members.cluster(), replica.me);
     let most = u64::from(replica.members.cluster().apply);
-    stores(
-        alloc,
-        &replica.voter,
-        &mut replica.rows,
-        keeps,
-        most,
-        &found,
-    )?;
+    stores(alloc, &replica.voter, &mut replica.rows, keeps, most, &found)?;
     Ok(found)
 }
 

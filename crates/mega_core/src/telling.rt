@@ -1,4 +1,3 @@
-//! A message tells the cell and the coordinator, and is replied to.
 ghost use Rattle.std.specs.Prelude.{◌≡◌, ◌≢◌, ◌∷◌, List, map, None, IfOk, OnOk, Err};
 ghost use Rattle.mega_handler.specs.Named.{Meanings};
 ghost use Rattle.mega_leases.specs.Notes.{met_of as leases_met};

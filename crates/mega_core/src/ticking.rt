@@ -1,4 +1,3 @@
-//! A tick: portions are stored, leases tick, and what is missing is fetched.
 ghost use Rattle.std.specs.Prelude.{◌≡◌, ◌++◌, ℕ, List, map, flat_map, fold, true, false, None, IfOk, OnOk, Err, All};
 ghost use Rattle.mega_base.specs.declared.names.GroupId.{GroupId as Group};
 ghost use Rattle.mega_handler.specs.Named.{Meanings};

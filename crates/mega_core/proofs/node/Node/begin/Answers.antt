@@ -1,5 +1,6 @@
 use Rattle.std.proofs.Common.{◌≡◌, ◌∙◌, cond, List, [], map, ap, refl, subst}
 use Rattle.mega_base.specs.declared.names.GroupId.{GroupId}
+use Rattle.mega_cluster.specs.declared.cluster.Cluster.{Cluster}
 use Rattle.mega_rules.specs.Members.{has_rows}
 use Rattle.mega_rules.specs.Met.{Begins}
 use Rattle.mega_rules.specs.Steps.{Step as RuleStep, op_of}
@@ -28,9 +29,10 @@ returns-clause-notes g c = λ told h node represents owned.
     let is = begin_is s node request text t c.new.result c.new-2.result t_is c.new.ensures c.new-2.ensures in
     let keeps = represents_keeps s old.voter.logs.kept old.leases (g.V.Versions.version old.rows.rows) (progress_at old.rows.progress) c.args.self.now.open c.args.self.now.begun node represents in
     let acted = c.in_ok-work.ensures.acted told h node text represents owned in
+    let rows = c.has_rows-keeps.ensures ∙ ap (λ (one : Cluster). has_rows one old.me) c.cluster.ensures in
     let groups = asked_groups request in
-    let before = c.in_ok-before.ensures node.met node.stored keeps ∙ ap (λ (some : List GroupId). cond (has_rows old.members old.me) (map (before_at node.met node.stored) some) []) c.in_ok-groups.ensures in
-    let noted = watched_noted s t node groups c.in_ok-before.before (has_begun s node request text) t_is before (begin_noted s node request text (map (before_at node.met node.stored) groups) (c.in_ok-work.ensures.built h node represents) acted.acted refl) in
+    let before = c.in_ok-before.ensures node.met node.stored keeps ∙ ap (λ (some : List GroupId). cond c.has_rows-keeps.result (map (before_at node.met node.stored) some) []) c.in_ok-groups.ensures in
+    let noted = watched_noted s t node groups c.in_ok-before.before (has_begun s node request text) c.has_rows-keeps.result t_is rows before (begin_noted s node request text (map (before_at node.met node.stored) groups) (c.in_ok-work.ensures.built h node represents) acted.acted refl) in
     let first : map met_of c.new-none.result ≡ [] = ap (λ (notes : List Note). map met_of notes) c.new-none.ensures in
     let made = c.in_ok-step.ensures.made h node (Begins (op_of s node.met) text) [] [] (has_begun s node request text) noted acted first (begin_may s node request text _ is) in
     made.notes ∙ ap (λ (step : RuleStep). step.notes) is
@@ -47,9 +49,10 @@ returns-clause-sends g c = λ told h node represents owned.
     let is = begin_is s node request text t c.new.result c.new-2.result t_is c.new.ensures c.new-2.ensures in
     let keeps = represents_keeps s old.voter.logs.kept old.leases (g.V.Versions.version old.rows.rows) (progress_at old.rows.progress) c.args.self.now.open c.args.self.now.begun node represents in
     let acted = c.in_ok-work.ensures.acted told h node text represents owned in
+    let rows = c.has_rows-keeps.ensures ∙ ap (λ (one : Cluster). has_rows one old.me) c.cluster.ensures in
     let groups = asked_groups request in
-    let before = c.in_ok-before.ensures node.met node.stored keeps ∙ ap (λ (some : List GroupId). cond (has_rows old.members old.me) (map (before_at node.met node.stored) some) []) c.in_ok-groups.ensures in
-    let noted = watched_noted s t node groups c.in_ok-before.before (has_begun s node request text) t_is before (begin_noted s node request text (map (before_at node.met node.stored) groups) (c.in_ok-work.ensures.built h node represents) acted.acted refl) in
+    let before = c.in_ok-before.ensures node.met node.stored keeps ∙ ap (λ (some : List GroupId). cond c.has_rows-keeps.result (map (before_at node.met node.stored) some) []) c.in_ok-groups.ensures in
+    let noted = watched_noted s t node groups c.in_ok-before.before (has_begun s node request text) c.has_rows-keeps.result t_is rows before (begin_noted s node request text (map (before_at node.met node.stored) groups) (c.in_ok-work.ensures.built h node represents) acted.acted refl) in
     let first : map met_of c.new-none.result ≡ [] = ap (λ (notes : List Note). map met_of notes) c.new-none.ensures in
     let made = c.in_ok-step.ensures.made h node (Begins (op_of s node.met) text) [] [] (has_begun s node request text) noted acted first (begin_may s node request text _ is) in
     made.sends ∙ ap (λ (step : RuleStep). step.sends) is
@@ -66,9 +69,10 @@ returns-clause-state g c = λ told h node represents owned.
     let is = begin_is s node request text t c.new.result c.new-2.result t_is c.new.ensures c.new-2.ensures in
     let keeps = represents_keeps s old.voter.logs.kept old.leases (g.V.Versions.version old.rows.rows) (progress_at old.rows.progress) c.args.self.now.open c.args.self.now.begun node represents in
     let acted = c.in_ok-work.ensures.acted told h node text represents owned in
+    let rows = c.has_rows-keeps.ensures ∙ ap (λ (one : Cluster). has_rows one old.me) c.cluster.ensures in
     let groups = asked_groups request in
-    let before = c.in_ok-before.ensures node.met node.stored keeps ∙ ap (λ (some : List GroupId). cond (has_rows old.members old.me) (map (before_at node.met node.stored) some) []) c.in_ok-groups.ensures in
-    let noted = watched_noted s t node groups c.in_ok-before.before (has_begun s node request text) t_is before (begin_noted s node request text (map (before_at node.met node.stored) groups) (c.in_ok-work.ensures.built h node represents) acted.acted refl) in
+    let before = c.in_ok-before.ensures node.met node.stored keeps ∙ ap (λ (some : List GroupId). cond c.has_rows-keeps.result (map (before_at node.met node.stored) some) []) c.in_ok-groups.ensures in
+    let noted = watched_noted s t node groups c.in_ok-before.before (has_begun s node request text) c.has_rows-keeps.result t_is rows before (begin_noted s node request text (map (before_at node.met node.stored) groups) (c.in_ok-work.ensures.built h node represents) acted.acted refl) in
     let first : map met_of c.new-none.result ≡ [] = ap (λ (notes : List Note). map met_of notes) c.new-none.ensures in
     let made = c.in_ok-step.ensures.made h node (Begins (op_of s node.met) text) [] [] (has_begun s node request text) noted acted first (begin_may s node request text _ is) in
     let new = c.ends.new.self in

@@ -7,16 +7,8 @@ use Rattle.mega_leases.specs.Tells.{Tells}
 use Rattle.mega_replica.specs.Following.{progress_at}
 use Rattle.mega_actions.specs.Stands.{setting}
 use Rattle.mega_core.specs.Represents.{Represents}
-use Rattle.mega_core.specs.Served.{IsServed}
 use Rattle.mega_core.proofs.Opened.{started}
-use Rattle.mega_core.proofs.Roles.{member_least}
 use Rattle.mega_core.proofs.node.Node.start.Goals as goal
-
-pub leases_of-leases-requires-clause-served : goal.leases_of-leases-requires-clause-served
-leases_of-leases-requires-clause-served g c = subst IsServed (sym (c.cluster.ensures ∙ c.in_ok-members.ensures.ok)) c.requires.served
-
-pub leases_of-leases-requires-clause-least : goal.leases_of-leases-requires-clause-least
-leases_of-leases-requires-clause-least g c = member_least c.args.cluster c.args.me c.requires.member
 
 pub returns-clause-state : goal.returns-clause-state
 returns-clause-state g c = λ h holds none.

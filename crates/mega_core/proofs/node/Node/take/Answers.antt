@@ -1,6 +1,7 @@
 use Rattle.std.proofs.Common.{◌≡◌, ◌∙◌, cond, List, [], ap, map, refl, subst, sym, rules}
 use Rattle.std.specs.List.{All}
 use Rattle.mega_base.specs.declared.names.GroupId.{GroupId}
+use Rattle.mega_cluster.specs.declared.cluster.Cluster.{Cluster}
 use Rattle.mega_rules.specs.Members.{has_rows}
 use Rattle.mega_rules.specs.Met.{Takes}
 use Rattle.mega_rules.specs.Operations.{Operation}
@@ -57,10 +58,11 @@ returns-clause-notes g c = λ told h node represents owned placed.
     (c.in_ok-work.ensures.state told h base stored about taken.stands) (c.in_ok-work.ensures.work told h base stored about taken.stands) in
     let is = take_is s node m t2 c.in_ok-taken.taken.sends c.new-2.result (t2_is ∙ t1_is) taken.sends c.new-2.ensures in
     let keeps = represents_keeps s r0.voter.logs.kept r0.leases version progress own_open begun node represents in
+    let rows = c.has_rows-keeps.ensures ∙ ap (λ (one : Cluster). has_rows one r0.me) c.cluster.ensures in
     let groups = touched m.body node.open_operations in
     let groups_are : c.in_ok-groups.groups ≡ groups = c.in_ok-groups.ensures ∙ ap (touched m.body) (c.as_slice.ensures ∙ sym represents.opened) in
-    let before = c.in_ok-before.ensures node.met node.stored keeps ∙ ap (λ (some : List GroupId). cond (has_rows r0.members r0.me) (map (before_at node.met node.stored) some) []) groups_are in
-    let noted = watched_noted s t2 node groups c.in_ok-before.before (has_taken s node m) (t2_is ∙ t1_is) before (take_noted s node m (map (before_at node.met node.stored) groups) (subst (All IsBuilt) (sym represents.opened) represents.built) acted.acted refl) in
+    let before = c.in_ok-before.ensures node.met node.stored keeps ∙ ap (λ (some : List GroupId). cond c.has_rows-keeps.result (map (before_at node.met node.stored) some) []) groups_are in
+    let noted = watched_noted s t2 node groups c.in_ok-before.before (has_taken s node m) c.has_rows-keeps.result (t2_is ∙ t1_is) rows before (take_noted s node m (map (before_at node.met node.stored) groups) (subst (All IsBuilt) (sym represents.opened) represents.built) acted.acted refl) in
     let made = c.in_ok-step.ensures.made h node (Takes m) (told_notes s node.met m.from m.body) (decision_note (decision_in s node m)) (has_taken s node m) noted acted taken.notes (take_may s node m _ is) in
     made.notes ∙ ap (λ (step : RuleStep). step.notes) is
 
@@ -90,10 +92,11 @@ returns-clause-sends g c = λ told h node represents owned placed.
     (c.in_ok-work.ensures.state told h base stored about taken.stands) (c.in_ok-work.ensures.work told h base stored about taken.stands) in
     let is = take_is s node m t2 c.in_ok-taken.taken.sends c.new-2.result (t2_is ∙ t1_is) taken.sends c.new-2.ensures in
     let keeps = represents_keeps s r0.voter.logs.kept r0.leases version progress own_open begun node represents in
+    let rows = c.has_rows-keeps.ensures ∙ ap (λ (one : Cluster). has_rows one r0.me) c.cluster.ensures in
     let groups = touched m.body node.open_operations in
     let groups_are : c.in_ok-groups.groups ≡ groups = c.in_ok-groups.ensures ∙ ap (touched m.body) (c.as_slice.ensures ∙ sym represents.opened) in
-    let before = c.in_ok-before.ensures node.met node.stored keeps ∙ ap (λ (some : List GroupId). cond (has_rows r0.members r0.me) (map (before_at node.met node.stored) some) []) groups_are in
-    let noted = watched_noted s t2 node groups c.in_ok-before.before (has_taken s node m) (t2_is ∙ t1_is) before (take_noted s node m (map (before_at node.met node.stored) groups) (subst (All IsBuilt) (sym represents.opened) represents.built) acted.acted refl) in
+    let before = c.in_ok-before.ensures node.met node.stored keeps ∙ ap (λ (some : List GroupId). cond c.has_rows-keeps.result (map (before_at node.met node.stored) some) []) groups_are in
+    let noted = watched_noted s t2 node groups c.in_ok-before.before (has_taken s node m) c.has_rows-keeps.result (t2_is ∙ t1_is) rows before (take_noted s node m (map (before_at node.met node.stored) groups) (subst (All IsBuilt) (sym represents.opened) represents.built) acted.acted refl) in
     let made = c.in_ok-step.ensures.made h node (Takes m) (told_notes s node.met m.from m.body) (decision_note (decision_in s node m)) (has_taken s node m) noted acted taken.notes (take_may s node m _ is) in
     made.sends ∙ ap (λ (step : RuleStep). step.sends) is
 
@@ -123,10 +126,11 @@ returns-clause-state g c = λ told h node represents owned placed.
     (c.in_ok-work.ensures.state told h base stored about taken.stands) (c.in_ok-work.ensures.work told h base stored about taken.stands) in
     let is = take_is s node m t2 c.in_ok-taken.taken.sends c.new-2.result (t2_is ∙ t1_is) taken.sends c.new-2.ensures in
     let keeps = represents_keeps s r0.voter.logs.kept r0.leases version progress own_open begun node represents in
+    let rows = c.has_rows-keeps.ensures ∙ ap (λ (one : Cluster). has_rows one r0.me) c.cluster.ensures in
     let groups = touched m.body node.open_operations in
     let groups_are : c.in_ok-groups.groups ≡ groups = c.in_ok-groups.ensures ∙ ap (touched m.body) (c.as_slice.ensures ∙ sym represents.opened) in
-    let before = c.in_ok-before.ensures node.met node.stored keeps ∙ ap (λ (some : List GroupId). cond (has_rows r0.members r0.me) (map (before_at node.met node.stored) some) []) groups_are in
-    let noted = watched_noted s t2 node groups c.in_ok-before.before (has_taken s node m) (t2_is ∙ t1_is) before (take_noted s node m (map (before_at node.met node.stored) groups) (subst (All IsBuilt) (sym represents.opened) represents.built) acted.acted refl) in
+    let before = c.in_ok-before.ensures node.met node.stored keeps ∙ ap (λ (some : List GroupId). cond c.has_rows-keeps.result (map (before_at node.met node.stored) some) []) groups_are in
+    let noted = watched_noted s t2 node groups c.in_ok-before.before (has_taken s node m) c.has_rows-keeps.result (t2_is ∙ t1_is) rows before (take_noted s node m (map (before_at node.met node.stored) groups) (subst (All IsBuilt) (sym represents.opened) represents.built) acted.acted refl) in
     let made = c.in_ok-step.ensures.made h node (Takes m) (told_notes s node.met m.from m.body) (decision_note (decision_in s node m)) (has_taken s node m) noted acted taken.notes (take_may s node m _ is) in
     let new = c.ends.new.self in
     subst (λ (step : RuleStep). Represents (setting new.replica.members new.replica.me h) new.replica.voter.logs.kept new.replica.leases (g.V.Versions.version new.replica.rows.rows) (progress_at new.replica.rows.progress) new.open new.begun step.node) is made.state

@@ -2,6 +2,7 @@ use Rattle.std.proofs.Common.{◌≡◌, ◌∙◌, cond, List, [], ap, map, ref
 use Rattle.std.specs.List.{All}
 use Rattle.mega_rules.specs.Logs.{groups_of}
 use Rattle.mega_base.specs.declared.names.GroupId.{GroupId}
+use Rattle.mega_cluster.specs.declared.cluster.Cluster.{Cluster}
 use Rattle.mega_rules.specs.Members.{has_rows}
 use Rattle.mega_rules.specs.Met.{Ticks}
 use Rattle.mega_rules.specs.Steps.{Step as RuleStep, Tick, lapse_notes, lease_notes, portion_of}
@@ -49,10 +50,11 @@ returns-clause-notes g c = λ told h node represents owned.
     (c.in_ok-work.ensures.state told h base stored about made1.stands) (c.in_ok-work.ensures.work told h base stored about made1.stands) in
     let is = tick_is s node now t2 c.in_ok-made.made.opening c.in_ok-made.made.closing (t2_is ∙ t1_is) made1.opening made1.closing in
     let keeps = represents_keeps s r0.voter.logs.kept r0.leases version progress own_open begun node represents in
+    let rows = c.has_rows-keeps.ensures ∙ ap (λ (one : Cluster). has_rows one r0.me) c.cluster.ensures in
     let groups = groups_of node.met in
     let groups_are : c.from_vec-groups.result ≡ groups = c.from_vec-groups.ensures ∙ c.in_ok-found.ensures node.met represents.tells in
-    let before = c.in_ok-before.ensures node.met node.stored keeps ∙ ap (λ (some : List GroupId). cond (has_rows r0.members r0.me) (map (before_at node.met node.stored) some) []) groups_are in
-    let noted = watched_noted s t2 node groups c.in_ok-before.before (has_ticked s node now) (t2_is ∙ t1_is) before (tick_noted s node now (map (before_at node.met node.stored) groups) made1.groups acted.acted refl) in
+    let before = c.in_ok-before.ensures node.met node.stored keeps ∙ ap (λ (some : List GroupId). cond c.has_rows-keeps.result (map (before_at node.met node.stored) some) []) groups_are in
+    let noted = watched_noted s t2 node groups c.in_ok-before.before (has_ticked s node now) c.has_rows-keeps.result (t2_is ∙ t1_is) rows before (tick_noted s node now (map (before_at node.met node.stored) groups) made1.groups acted.acted refl) in
     let made = c.in_ok-step.ensures.made h node (Ticks now) (lease_notes s node.met now) (lapse_notes s node.met now) (has_ticked s node now) noted acted made1.notes (tick_may s node now _ is) in
     made.notes ∙ ap (λ (step : RuleStep). step.notes) is
 
@@ -81,10 +83,11 @@ returns-clause-sends g c = λ told h node represents owned.
     (c.in_ok-work.ensures.state told h base stored about made1.stands) (c.in_ok-work.ensures.work told h base stored about made1.stands) in
     let is = tick_is s node now t2 c.in_ok-made.made.opening c.in_ok-made.made.closing (t2_is ∙ t1_is) made1.opening made1.closing in
     let keeps = represents_keeps s r0.voter.logs.kept r0.leases version progress own_open begun node represents in
+    let rows = c.has_rows-keeps.ensures ∙ ap (λ (one : Cluster). has_rows one r0.me) c.cluster.ensures in
     let groups = groups_of node.met in
     let groups_are : c.from_vec-groups.result ≡ groups = c.from_vec-groups.ensures ∙ c.in_ok-found.ensures node.met represents.tells in
-    let before = c.in_ok-before.ensures node.met node.stored keeps ∙ ap (λ (some : List GroupId). cond (has_rows r0.members r0.me) (map (before_at node.met node.stored) some) []) groups_are in
-    let noted = watched_noted s t2 node groups c.in_ok-before.before (has_ticked s node now) (t2_is ∙ t1_is) before (tick_noted s node now (map (before_at node.met node.stored) groups) made1.groups acted.acted refl) in
+    let before = c.in_ok-before.ensures node.met node.stored keeps ∙ ap (λ (some : List GroupId). cond c.has_rows-keeps.result (map (before_at node.met node.stored) some) []) groups_are in
+    let noted = watched_noted s t2 node groups c.in_ok-before.before (has_ticked s node now) c.has_rows-keeps.result (t2_is ∙ t1_is) rows before (tick_noted s node now (map (before_at node.met node.stored) groups) made1.groups acted.acted refl) in
     let made = c.in_ok-step.ensures.made h node (Ticks now) (lease_notes s node.met now) (lapse_notes s node.met now) (has_ticked s node now) noted acted made1.notes (tick_may s node now _ is) in
     made.sends ∙ ap (λ (step : RuleStep). step.sends) is
 
@@ -113,10 +116,11 @@ returns-clause-state g c = λ told h node represents owned.
     (c.in_ok-work.ensures.state told h base stored about made1.stands) (c.in_ok-work.ensures.work told h base stored about made1.stands) in
     let is = tick_is s node now t2 c.in_ok-made.made.opening c.in_ok-made.made.closing (t2_is ∙ t1_is) made1.opening made1.closing in
     let keeps = represents_keeps s r0.voter.logs.kept r0.leases version progress own_open begun node represents in
+    let rows = c.has_rows-keeps.ensures ∙ ap (λ (one : Cluster). has_rows one r0.me) c.cluster.ensures in
     let groups = groups_of node.met in
     let groups_are : c.from_vec-groups.result ≡ groups = c.from_vec-groups.ensures ∙ c.in_ok-found.ensures node.met represents.tells in
-    let before = c.in_ok-before.ensures node.met node.stored keeps ∙ ap (λ (some : List GroupId). cond (has_rows r0.members r0.me) (map (before_at node.met node.stored) some) []) groups_are in
-    let noted = watched_noted s t2 node groups c.in_ok-before.before (has_ticked s node now) (t2_is ∙ t1_is) before (tick_noted s node now (map (before_at node.met node.stored) groups) made1.groups acted.acted refl) in
+    let before = c.in_ok-before.ensures node.met node.stored keeps ∙ ap (λ (some : List GroupId). cond c.has_rows-keeps.result (map (before_at node.met node.stored) some) []) groups_are in
+    let noted = watched_noted s t2 node groups c.in_ok-before.before (has_ticked s node now) c.has_rows-keeps.result (t2_is ∙ t1_is) rows before (tick_noted s node now (map (before_at node.met node.stored) groups) made1.groups acted.acted refl) in
     let made = c.in_ok-step.ensures.made h node (Ticks now) (lease_notes s node.met now) (lapse_notes s node.met now) (has_ticked s node now) noted acted made1.notes (tick_may s node now _ is) in
     let new = c.ends.new.self in
     subst (λ (step : RuleStep). Represents (setting new.replica.members new.replica.me h) new.replica.voter.logs.kept new.replica.leases (g.V.Versions.version new.replica.rows.rows) (progress_at new.replica.rows.progress) new.open new.begun step.node) is made.state
