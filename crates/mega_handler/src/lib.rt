@@ -10,3 +10,6 @@ pub use copy::Copy;
 pub use credit::Credit;
 pub use handler::Handler;
 pub use handlers::{HandlerFault, Handlers};
+
+#[cfg(test)]
+mod tests;

@@ -34,3 +34,6 @@ pub use laws::local_writes_turn_entries;
 pub use long::{has_place, long_key, row_fits};
 pub use same::values_are;
 pub use writes::{index_writes, local_writes};
+
+#[cfg(test)]
+mod tests;

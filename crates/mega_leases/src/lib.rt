@@ -1,7 +1,6 @@
 //! The clock, the lock cell and the coordinator of a node, said over what the node met.
 #![tactic(auto)]
 
-mod counting;
 mod fault;
 pub mod laws;
 mod leases;
@@ -9,6 +8,8 @@ mod note;
 mod noting;
 mod numbers;
 mod taking;
+#[cfg(test)]
+mod tests;
 mod ticking;
 
 pub use fault::TakeFault;

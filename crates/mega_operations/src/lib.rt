@@ -9,6 +9,8 @@ mod operation;
 mod patience;
 mod phase;
 mod settling;
+#[cfg(test)]
+mod tests;
 
 pub use kept::Kept;
 pub use members::{Members, MembersFault};

@@ -5,3 +5,4 @@ pub mod Items
 pub mod Grown
 pub mod GrownChanges
 pub mod Group
+pub mod Accounts

@@ -33,3 +33,6 @@ pub use laws::{outcomes_look_at_their_group, outcomes_stay_under_more_properties
 pub use outcomes::run;
 pub use request::{FindRequest, Mode, ReadRequest, Request};
 pub use transaction::{Change, Check, RowRef, Transaction};
+
+#[cfg(test)]
+mod tests;

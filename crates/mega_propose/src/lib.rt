@@ -12,6 +12,8 @@ mod round;
 mod same;
 mod sending;
 mod taking;
+#[cfg(test)]
+mod tests;
 mod votes;
 
 pub use due::is_due;

@@ -9,6 +9,8 @@ mod hearing;
 mod kept;
 mod reading;
 mod sending;
+#[cfg(test)]
+mod tests;
 
 pub use beginning::{first_reading, local_read};
 pub use reading::{Move, Reader, Reading, Search, Stage};

@@ -32,3 +32,6 @@ pub use item::{Item, Note, Tape};
 pub use laws::text_tells_tape;
 pub use lines::text;
 pub use parsing::parse;
+
+#[cfg(test)]
+mod tests;

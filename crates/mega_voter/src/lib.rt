@@ -5,6 +5,8 @@
 mod answers;
 pub mod laws;
 mod readers;
+#[cfg(test)]
+mod tests;
 mod voter;
 
 pub use voter::Voter;

@@ -1,4 +1,3 @@
-//! The logs of a voter, which tell what its node met: each call notes it and stages its item.
 ghost use Rattle.std.specs.Prelude.{◌≡◌, ◌+◌, ◌<◌, ◌++◌, ◌∷◌, [], List, IfOk, OnOk, OnErr, Err, if◌then◌else◌, is_none};
 ghost use Rattle.mega_wal.specs.declared.item.JournalItem.{JournalItem as Item};
 ghost use Rattle.mega_wal.specs.declared.item.JournalItem.TheVariants.{Decide, Grant, Lapse, Start};

@@ -1,0 +1,58 @@
+-- The arrows of a tape: one for each message that is sent, and a thin one for each time that it is taken again.
+use Rattle.std.specs.Prelude.{ℕ, ◌+◌, ◌-◌, ◌/◌, ◌==◌, nat_lt, Bool, true, false, if◌then◌else◌, List, [], ◌∷◌, ◌++◌, codes, decimal, Option, Some, None}
+use Rattle.mega_wire.specs.declared.message.Message.{Message}
+use Rattle.mega_transcript.specs.declared.item.Item.{Item}
+use Rattle.mega_transcript.specs.declared.item.Item.TheVariants as items
+use Rattle.mega_picture.specs.declared.told.Told.{Told}
+use Rattle.mega_picture.specs.declared.journeys.Way.TheVariants.{Sent, Taken, Dropped}
+use Rattle.mega_picture.specs.declared.arrows.End.{End}
+use Rattle.mega_picture.specs.declared.arrows.End.TheVariants as ends
+use Rattle.mega_picture.specs.declared.arrows.Arrow.{Arrow}
+use Rattle.mega_picture.specs.Kinds.{kind_of, position_of}
+use Rattle.mega_picture.specs.Ways.{first_row, message_at}
+
+-- an arrow ends where its message is first taken; else in a cross where it is dropped; else it fades out
+abbrev pub end_by : Option ℕ → Option ℕ → End
+end_by (Some row) dropped = ends.Taken row
+end_by None (Some row) = ends.Dropped row
+end_by None None = ends.Fades
+
+abbrev pub end_of : List Told → ℕ → End
+end_of told number = end_by (first_row Taken number told) (first_row Dropped number told)
+
+abbrev pub arrow_with : ℕ → Message → ℕ → End → Arrow
+arrow_with number message row end =
+    record { number = number; kind = kind_of message.body; position = position_of message.body; from = message.from; to = message.to; row = row; end = end }
+
+-- the thin arrow of a message that was sent in a row and is taken again in another
+abbrev pub again_with : ℕ → ℕ → Option ℕ → Option Message → Option Arrow
+again_with number row (Some sent) (Some message) = Some (arrow_with number message sent (ends.Again row))
+again_with number row _ _ = None
+
+-- whether this row is the one
+abbrev pub is_row : Option ℕ → ℕ → Bool
+is_row None row = false
+is_row (Some first) row = first == row
+
+abbrev pub again_of : List Told → ℕ → ℕ → Option Arrow
+again_of told row number =
+    if is_row (first_row Taken number told) row then None
+    else again_with number row (first_row Sent number told) (message_at told (first_row Sent number told))
+
+-- the arrow that an item in a row has
+abbrev pub arrow_of : List Told → ℕ → Item → Option Arrow
+arrow_of told row (items.Sent number message) = Some (arrow_with number message row (end_of told number))
+arrow_of told row (items.Taken number) = again_of told row number
+arrow_of told row _ = None
+
+abbrev pub before : Option Arrow → List Arrow → List Arrow
+before None arrows = arrows
+before (Some arrow) arrows = arrow ∷ arrows
+
+-- the arrows of the lines from a row on
+abbrev pub arrows_from : List Told → ℕ → List Told → List Arrow
+arrows_from told row [] = []
+arrows_from told row (one ∷ rest) = before (arrow_of told row one.item) (arrows_from told (row + 1) rest)
+
+abbrev pub arrows_of : List Told → List Arrow
+arrows_of told = arrows_from told 0 told

@@ -1,0 +1,14 @@
+pub mod ArrowTexts
+pub mod Arrows
+pub mod Bands
+pub mod Escape
+pub mod Flaws
+pub mod Groups
+pub mod Kinds
+pub mod Labels
+pub mod MarkTexts
+pub mod Marks
+pub mod Rows
+pub mod Sheets
+pub mod Validity
+pub mod Ways

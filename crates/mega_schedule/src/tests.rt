@@ -1,0 +1,103 @@
+mod begins;
+mod edges;
+mod lines;
+mod numbers;
+mod requests;
+mod world;
+
+use super::*;
+use mega_base::Text;
+use mega_schema::{Schema, parse};
+use std::alloc::Global;
+use std::process::Abort;
+use std::test::Fail;
+
+const SCHEMA: &str = "CREATE SCHEMA S;
+CREATE TABLE A {
+  required int32 id;
+  optional int64 n;
+  optional bytes raw;
+  optional bool b;
+  optional string s;
+  repeated int32 many;
+} PRIMARY KEY(id), ENTITY GROUP ROOT;
+CREATE TABLE B {
+  required int32 id;
+  required bytes raw;
+} PRIMARY KEY(id, raw), ENTITY GROUP KEY(id) REFERENCES A;
+CREATE LOCAL INDEX Own ON A(n, raw);
+CREATE GLOBAL INDEX All ON A(s);
+";
+
+fn schema(alloc: Global) -> Result<Schema, Fail> {
+    let text = Text::from_str(alloc, SCHEMA)?;
+    Ok(parse(alloc, &text)?)
+}
+
+/// The reason of a refusal; 0 for an event, 255 where memory ran out.
+fn reason(answer: Result<WorldEvent, LineFault>) -> u8 {
+    match answer {
+        Ok(_event) => 0,
+        Err(LineFault::Refused { reason }) => reason,
+        Err(LineFault::NoMemory) => 255,
+    }
+}
+
+/// Asserts for which reason a line is refused.
+fn tells(
+    rt: &impl Abort,
+    alloc: Global,
+    schema: &Schema,
+    wanted: &str,
+    line: &str,
+) -> Result<(), Fail> {
+    let told = reason(event(alloc, line.as_bytes(), 1, schema));
+    let told = format!(in alloc; "{told}")?;
+    assert_eq!(rt; told.as_str(), wanted, "{line}");
+    Ok(())
+}
+
+/// Each row is a reason and a line.
+fn check(rt: &impl Abort, alloc: Global, rows: &str) -> Result<(), Fail> {
+    let schema = schema(alloc)?;
+    for row in rows.lines() {
+        let (wanted, line) = row.split_once(' ').ok_or("no reason")?;
+        tells(rt, alloc, &schema, wanted, line)?;
+    }
+    Ok(())
+}
+
+#[test]
+fn words_are_told(rt: HostRuntime) -> Result<(), Fail> {
+    check(&rt, rt.alloc(), lines::WORDS)
+}
+
+#[test]
+fn lines_of_the_world_are_told(rt: HostRuntime) -> Result<(), Fail> {
+    check(&rt, rt.alloc(), lines::WORLD)
+}
+
+#[test]
+fn transactions_are_told(rt: HostRuntime) -> Result<(), Fail> {
+    check(&rt, rt.alloc(), lines::TRANSACTIONS)
+}
+
+#[test]
+fn requests_are_told(rt: HostRuntime) -> Result<(), Fail> {
+    check(&rt, rt.alloc(), lines::REQUESTS)
+}
+
+#[test]
+fn the_first_of_two_faults_is_told(rt: HostRuntime) -> Result<(), Fail> {
+    check(&rt, rt.alloc(), lines::TWO)
+}
+
+#[test]
+fn texts_are_those_of_json(rt: HostRuntime) -> Result<(), Fail> {
+    check(&rt, rt.alloc(), lines::TEXTS)
+}
+
+#[test]
+fn of_equal_names_the_last_counts(rt: HostRuntime) -> Result<(), Fail> {
+    check(&rt, rt.alloc(), lines::TWICE)
+}
