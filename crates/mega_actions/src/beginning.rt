@@ -1,4 +1,3 @@
-//! An operation begins, with a current read of the group of its request.
 ghost use Rattle.std.specs.Prelude.{◌≡◌, IfOk, OnOk, Err, None, [], ◌∷◌, false, true};
 ghost use Rattle.mega_handler.specs.Named.{Meanings};
 ghost use Rattle.mega_leases.specs.Tells.{Tells as TellsLeases};

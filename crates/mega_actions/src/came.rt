@@ -1,4 +1,3 @@
-//! What a request comes to over the rows of its group.
 ghost use Rattle.std.specs.Prelude.{◌≡◌, IfOk, Some, true, false, Err};
 ghost use Rattle.mega_disk.specs.VersionMaps.{SameVersions};
 ghost use Rattle.mega_outcome.specs.Answers.{rows_at};

@@ -1,4 +1,3 @@
-//! A read completes: its entries are stored, and its group is made valid where its epoch serves.
 ghost use Rattle.std.specs.Prelude.{◌≡◌, ◌≤◌, IfOk, OnOk, Err, true, false};
 ghost use Rattle.mega_handler.specs.Named.{Meanings};
 ghost use Rattle.mega_rules.specs.Logs.{log_of};

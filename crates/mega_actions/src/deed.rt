@@ -1,4 +1,3 @@
-//! What an operation does that acts: what it sends, and whether it stays open or ends.
 use mega_base::{Items, OpId};
 use mega_operations::Operation;
 use mega_outcome::Answer;

@@ -1,4 +1,3 @@
-//! The entry of an operation, and its answer once an entry is decided at its position.
 ghost use Rattle.std.specs.Prelude.{◌≡◌, [], IfOk, Some};
 ghost use Rattle.mega_operations.specs.Phases.{promised_of};
 ghost use Rattle.mega_outcome.specs.Outcome.{entry_of_batch, entry_of_done};

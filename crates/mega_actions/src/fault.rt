@@ -1,4 +1,3 @@
-//! Why operations do not act.
 ghost use Rattle.std.specs.Prelude.{◌≡◌};
 
 use mega_base::NoMemory;

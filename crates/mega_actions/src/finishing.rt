@@ -1,4 +1,3 @@
-//! An operation whose read is complete proposes what its request comes to, or ends.
 ghost use Rattle.std.specs.Prelude.{◌≡◌, ◌+◌, ◌<◌, ◌^◌, IfOk, true, false, nat_le, Err};
 ghost use Rattle.mega_disk.specs.VersionMaps.{SameVersions};
 ghost use Rattle.mega_handler.specs.Named.{Meanings};

@@ -1,4 +1,3 @@
-//! What a transaction or a batch comes to over the rows, with faults of the store told apart.
 ghost use Rattle.std.specs.Prelude.{◌≡◌, ◌≤◌, IfOk, Err, Some, true, length};
 ghost use Rattle.mega_disk.specs.VersionMaps.{SameVersions};
 ghost use Rattle.mega_outcome.specs.Answers.{rows_at};

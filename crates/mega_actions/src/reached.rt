@@ -1,4 +1,3 @@
-//! An operation whose current read of a group is complete through a position.
 ghost use Rattle.std.specs.Prelude.{◌≡◌};
 ghost use Rattle.mega_rules.specs.Operations.{Now};
 ghost use Rattle.mega_rules.specs.Acting.{ends, keeps};

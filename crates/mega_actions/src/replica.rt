@@ -1,4 +1,3 @@
-//! What a node keeps beside its open operations: its logs, its leases and its rows.
 use mega_disk::{Records, Versions};
 use mega_leases::Leases;
 use mega_operations::Members;

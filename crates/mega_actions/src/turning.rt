@@ -1,4 +1,3 @@
-//! Operations act one after another, each on what those before it left.
 ghost use Rattle.std.specs.Prelude.{◌≡◌, OnOk, Err, false, true, List, All, fold};
 ghost use Rattle.mega_handler.specs.Named.{Meanings};
 ghost use Rattle.mega_node_laws.specs.About.{IsAbout};

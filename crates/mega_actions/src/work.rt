@@ -1,4 +1,3 @@
-//! What a step has come to: operations, groups that became valid, answers and messages.
 ghost use Rattle.std.specs.Prelude.{◌≡◌, ◌++◌, [], ◌∷◌, OnOk, if◌then◌else◌};
 ghost use Rattle.mega_rules.specs.Operations.{Now};
 ghost use Rattle.mega_actions.specs.Completed.{completed};

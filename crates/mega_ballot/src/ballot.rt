@@ -1,4 +1,3 @@
-//! A ballot: the number of a proposal, and its format (Lamport 2001).
 ghost use Rattle.mega_base.specs.Faults.{Reads};
 ghost use Rattle.mega_ballot.specs.Ballots.{zero_op_at};
 

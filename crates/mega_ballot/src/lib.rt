@@ -4,6 +4,8 @@
 mod ballot;
 mod order;
 mod quorum;
+#[cfg(test)]
+mod tests;
 
 pub use ballot::Ballot;
 pub use order::{next_above, order_is_total};

@@ -1,4 +1,3 @@
-//! The total order of ballots, and the next ballot of an operation above a given one.
 ghost use Rattle.std.specs.Prelude.{◌≡◌, ◌+◌, ◌↔◌, ◌⊎◌, IsTrue, IsNone, IfSome};
 ghost use Rattle.mega_ballot.specs.declared.ballot.Ballot.{Ballot as BallotValue};
 ghost use Rattle.mega_ballot.specs.Order.{IsBelow, zero_ballot};

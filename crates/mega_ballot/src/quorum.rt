@@ -1,4 +1,3 @@
-//! Counts votes until more than half of the members have voted, and why two majorities meet.
 ghost use Rattle.std.specs.Prelude.{◌≡◌, ℕ, ◌-◌, ◌<◌, ◌≤◌, ◌↔◌, ◌*◌, true, false, length, replicate, IsTrue, slice_index_or, slice_set, if◌then◌else◌};
 ghost use Rattle.std.specs.Int.{IsBitSet};
 ghost use Rattle.mega_ballot.specs.Quorums.{Votes, IsMarked, marked, AreAmong, IsReached};

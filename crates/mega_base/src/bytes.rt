@@ -1,4 +1,3 @@
-//! A string of bytes that contracts see as a list.
 ghost use Rattle.std.specs.Prelude.{◌≡◌, [], ◌++◌, ◌+◌, ◌≤◌, drop, IfOk, OnOk, OnErr, length, nat_eq, refl, Some, take, ◌∷◌, ◌==◌};
 ghost use Rattle.mega_base.specs.Codec.{number_text};
 ghost use Rattle.std.specs.Ordering.{nat_cmp};

@@ -1,4 +1,3 @@
-//! Reads a value from its whole text, and appends the text of a value.
 ghost use Rattle.std.specs.Prelude.{◌≡◌, ◌++◌, Ok, IfOk, OnOk, OnErr};
 ghost use Rattle.mega_base.specs.Reading.{whole_of};
 ghost use Rattle.mega_base.specs.Codec.{IsFirstBad};

@@ -1,4 +1,3 @@
-//! Values of which an equal one can be made in fresh memory, and the refusal of an allocation.
 ghost use Rattle.std.specs.Prelude.{◌≡◌, IfOk};
 
 use std::alloc::{AllocError, AllocFailed, Global};

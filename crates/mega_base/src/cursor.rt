@@ -1,4 +1,3 @@
-//! Reads bytes and numbers from the front of a text, and tells the byte that cannot stand there.
 ghost use Rattle.std.specs.Prelude.{◌≡◌, Ok, Err, ◌↔◌, ◌+◌, ◌-◌, ◌<◌, ◌≤◌, ◌++◌, ◌∷◌, [], ◌^◌, length, IfOk, IfErr, OnErr, ◌==◌, IsErr, IsErrOf};
 ghost use Rattle.mega_base.specs.Names.{u32_text, u64_text};
 ghost use Rattle.mega_base.specs.Reading.{place, end_of, byte_in, digits_in, number_in, bytes_of_len};

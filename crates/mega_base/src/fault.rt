@@ -1,4 +1,3 @@
-//! Why a text is not read: its first byte that cannot stand there, or want of memory.
 ghost use Rattle.std.specs.Prelude.{◌≡◌};
 ghost use Rattle.mega_base.specs.declared.fault.FieldFault.TheVariants.{Malformed, NoMemory};
 

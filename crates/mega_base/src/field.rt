@@ -1,4 +1,3 @@
-//! The trait of a binary format: what reads and writes a type's values, and its laws.
 ghost use Rattle.std.specs.Prelude.{◌≡◌, ℕ, List, ◌++◌, length, take, OnOk, OnErr};
 ghost use Rattle.mega_base.specs.Reading.{Place, Read};
 ghost use Rattle.mega_base.specs.Codec.{Codec};

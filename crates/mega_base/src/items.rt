@@ -1,4 +1,3 @@
-//! A list of items that contracts see as one.
 ghost use Rattle.std.specs.Prelude.{◌≡◌, [], ◌∷◌, ◌++◌, ◌==◌, IfOk, OnOk, OnErr, IfErr, length};
 ghost use Rattle.std.specs.Cmp.Lexicographic.{pointwise, lists_per};
 

@@ -14,6 +14,8 @@ mod names;
 mod nested;
 mod row_fields;
 mod same;
+#[cfg(test)]
+mod tests;
 mod text;
 mod text_field;
 mod value_fields;

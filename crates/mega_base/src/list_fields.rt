@@ -1,4 +1,3 @@
-//! The formats of counted lists and of options.
 ghost use Rattle.std.specs.Prelude.{◌≡◌, ◌≤◌, ◌<◌, ◌^◌, ◌++◌, length, take, OnOk, OnErr, All};
 ghost use Rattle.std.specs.List.{flat_map};
 ghost use Rattle.mega_base.specs.Reading.{items_at, list_in, option_at, nested_at};

@@ -1,4 +1,3 @@
-//! The formats of numbers, byte strings, nodes, positions, epochs, operations and groups.
 ghost use Rattle.mega_base.specs.Codec.{IsText, one_byte, bytes_text};
 ghost use Rattle.mega_base.specs.Names.{u8_at, IsU8, u32_at, u32_text, IsU32, u64_at, u64_text, IsU64, string_at, IsString};
 ghost use Rattle.mega_base.specs.NameLaws.{own_text, u8_codec, u32_codec, u64_codec, string_codec};

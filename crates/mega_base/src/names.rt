@@ -1,4 +1,3 @@
-//! The names of nodes, log positions, epochs, operations and entity groups.
 use crate::bytes::Bytes;
 use crate::copied::{Copied, NoMemory};
 use std::alloc::Global;

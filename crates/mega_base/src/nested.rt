@@ -1,4 +1,3 @@
-//! A text that stands inside another one behind its length.
 ghost use Rattle.std.specs.Prelude.{◌≡◌, ◌++◌, length, take, OnOk, OnErr, drop};
 ghost use Rattle.mega_base.specs.Reading.{place, within, nested_at};
 ghost use Rattle.mega_base.specs.Codec.{IsNested, nested_text};

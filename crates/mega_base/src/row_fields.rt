@@ -1,4 +1,3 @@
-//! The formats of a cell and of a row, whose cell numbers rise.
 ghost use Rattle.std.specs.Prelude.{◌≤◌, ◌+◌};
 ghost use Rattle.mega_base.specs.Faults.{Reads};
 ghost use Rattle.mega_base.specs.Values.{cell_in, cells_at};

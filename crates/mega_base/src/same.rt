@@ -1,4 +1,3 @@
-//! Values of which it can be told whether they are equal.
 ghost use Rattle.std.specs.Prelude.{◌≡◌, ◌↔◌, IsTrue};
 
 use crate::bytes::Bytes;

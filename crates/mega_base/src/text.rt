@@ -1,4 +1,3 @@
-//! A text in UTF-8 that contracts see as the list of its bytes.
 ghost use Rattle.std.specs.Prelude.{◌≡◌, [], ◌++◌, ◌==◌, IfOk, OnOk, OnErr, IsUtf8, length, nat_eq, refl, Some, string_bytes};
 ghost use Rattle.std.specs.Ordering.{nat_cmp};
 ghost use Rattle.std.specs.Cmp.Lexicographic.{pointwise, slice_cmp, nat_list_eq_equiv, nat_list_cmp_total, texts_ties, texts_po};

@@ -1,4 +1,3 @@
-//! The format of a text: a length and UTF-8, with the first byte at which no character can go on.
 ghost use Rattle.std.specs.Prelude.{◌≡◌, ◌∷◌, [], ◌+◌, ◌-◌, ◌*◌, ◌^◌, ◌<◌, ◌≤◌, IfSome, IfNone, IsErr, Err, IsUtf8, length, take, drop};
 ghost use Rattle.std.specs.Char.{len_utf8};
 ghost use Rattle.std.specs.Str.{continuation_len, lead_bits};

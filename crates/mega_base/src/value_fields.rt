@@ -1,4 +1,3 @@
-//! The format of a property's value.
 use crate::bytes::Bytes;
 use crate::copied::NoMemory;
 use crate::cursor::Cursor;

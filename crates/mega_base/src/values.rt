@@ -1,4 +1,3 @@
-//! The values that rows hold: kinds, values, cells, rows, and the shapes of row keys.
 use crate::bytes::Bytes;
 use crate::copied::{Copied, NoMemory};
 use crate::items::Items;

@@ -1,4 +1,3 @@
-//! Appends bytes, numbers and byte strings to a text.
 ghost use Rattle.std.specs.Prelude.{◌≡◌, ◌++◌, ◌∷◌, [], ◌≤◌, length, OnOk, OnErr};
 ghost use Rattle.mega_base.specs.Names.{u32_text, u64_text};
 ghost use Rattle.mega_base.specs.Codec.{bytes_text};

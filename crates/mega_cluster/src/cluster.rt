@@ -1,4 +1,3 @@
-//! A cluster as its header describes it: its nodes, schema, lock cells, clock settings and addresses.
 use mega_base::{Copied, Items, NoMemory, NodeKind, Position, Text};
 use mega_schema::Schema;
 use std::alloc::Global;

@@ -1,4 +1,3 @@
-//! Why a text is no header of a cluster: the first rule that it breaks.
 ghost use Rattle.std.specs.Prelude.{◌≡◌};
 ghost use Rattle.mega_cluster.specs.declared.fault.HeaderFault.TheVariants.{NoMemory as Refused};
 

@@ -1,4 +1,3 @@
-//! Reads a cluster's header from a text in TOML.
 ghost use Rattle.std.specs.Prelude.{◌≡◌, codes};
 ghost use Rattle.toml.specs.View.{view, table_view};
 ghost use Rattle.mega_schema.specs.Verdict.{parse_of};

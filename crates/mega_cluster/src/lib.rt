@@ -10,3 +10,6 @@ mod nodes;
 pub use cluster::Cluster;
 pub use fault::HeaderFault;
 pub use header::read;
+
+#[cfg(test)]
+mod tests;

@@ -1,4 +1,3 @@
-//! The keys of a header, and the node kinds and bounded numbers that stand at them.
 ghost use Rattle.std.specs.Prelude.{◌≡◌, option_map, IfSome, not, string_bytes, ◌≤◌};
 ghost use Rattle.std.specs.List.{list_any};
 ghost use Rattle.std.specs.BTreeMap.{keys};

@@ -1,4 +1,3 @@
-//! The nodes, lock cells and addresses that a header gives.
 ghost use Rattle.std.specs.Prelude.{◌≡◌, length, codes, IfOk};
 ghost use Rattle.std.specs.List.{list_any};
 ghost use Rattle.toml.specs.View.{view, table_view, items_view};

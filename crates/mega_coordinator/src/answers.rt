@@ -1,4 +1,3 @@
-//! What grants and ticks do at a coordinator, and why a group does not become valid.
 ghost use Rattle.std.specs.Prelude.{◌≡◌};
 
 use mega_base::{Epoch, NoMemory, Position};

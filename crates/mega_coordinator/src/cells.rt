@@ -1,4 +1,3 @@
-//! The number of lock cells of a cluster.
 ghost use Rattle.std.specs.Prelude.{◌≤◌};
 
 /// The number of lock cells of a cluster.

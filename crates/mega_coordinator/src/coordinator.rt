@@ -1,4 +1,3 @@
-//! The coordinator of a full node: its epoch, its cells, and which groups are valid (CIDR 2011).
 ghost use Rattle.std.specs.Prelude.{true, false, ◌≡◌, ◌⊎◌, [], ◌∷◌, List, OnOk, OnErr, map, if◌then◌else◌};
 ghost use Rattle.mega_coordinator.specs.Groups.{is_group, is_same, refusal};
 ghost use Rattle.mega_coordinator.specs.Lease.{granted_answer, past_ends, state_of};

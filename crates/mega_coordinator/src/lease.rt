@@ -1,4 +1,3 @@
-//! The lease of a coordinator: its epoch, and until when each lock cell is counted.
 ghost use Rattle.std.specs.Prelude.{◌≡◌, ◌≤◌, ◌+◌, ◌/◌, ◌==◌, map, count_by, is_some, Some, None};
 ghost use Rattle.std.specs.List.{list_any};
 ghost use Rattle.mega_coordinator.specs.Lease.{after_grant, after_tick, counted_by, counts, epoch_of, first_lease, granted_answer, granted_lease, is_due, is_majority, is_present, left, lost_at, next_count, next_lease, past_ends, past_lease, state_of, tick_ends, until_with};

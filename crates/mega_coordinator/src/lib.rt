@@ -9,6 +9,8 @@ mod coordinator;
 pub mod laws;
 mod lease;
 mod standing;
+#[cfg(test)]
+mod tests;
 
 pub use answers::{Counted, NotValid, Ticked};
 pub use coordinator::Coordinator;

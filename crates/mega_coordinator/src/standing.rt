@@ -1,4 +1,3 @@
-//! What a coordinator keeps of a group for the present epoch.
 use mega_base::Position;
 
 /// What a coordinator keeps of a group for the present epoch: the greatest position at which it was

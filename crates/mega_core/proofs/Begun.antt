@@ -14,6 +14,7 @@ use Rattle.mega_rules.specs.Clock.{clock_of}
 use Rattle.mega_rules.specs.Logs.{log_of}
 use Rattle.mega_rules.specs.Operations.{Node, Now, Operation, Setting}
 use Rattle.mega_rules.specs.Steps.{Begin, Step, begin_step, new_operation, onto, op_of, refusal, unless_refused}
+use Rattle.mega_rules.specs.Members.{is_full}
 use Rattle.mega_voter.specs.Telling.{Tells}
 use Rattle.mega_voter.proofs.Told.{silent_told}
 use Rattle.mega_leases.specs.declared.leases.Leases.{Leases}
@@ -31,10 +32,8 @@ use Rattle.mega_actions.specs.Working.{work_of}
 use Rattle.mega_actions.specs.declared.work.Work.{Work}
 use Rattle.mega_core.specs.Acted.{Acted, HasActed, IsEnd, IsValidate, ended}
 use Rattle.mega_core.specs.Beginning.{at_begin, has_begun}
-use Rattle.mega_core.specs.Kind.{FitsKind}
 use Rattle.mega_core.specs.Positions.{Keeps}
 use Rattle.mega_core.specs.Represents.{Represents}
-use Rattle.mega_core.proofs.Fitting.{begin_fits}
 use Rattle.mega_core.proofs.Walked.{begun_acted, begun_served}
 
 pub represents_keeps : (s : Setting) (kept : Kept) (leases : Leases) (version : Versions) (progress : GroupId → Progress) (open_ones : List Operation) (begun : ℕ) (node : Node)
@@ -79,7 +78,7 @@ module _ (s : Setting) (node : Node) (request : Request) (text : List ℕ) where
       let o = new_operation (op_of s node.met) request (clock_of node.met) in
       let after = (coe 0 1 (i. Standing kept leases version progress t kept2 leases2 version2 progress2 (op_is i) (refused_is i)) stands) (at_begin s node text) start in
       record {
-        kind = subst (λ (one : Setting). FitsKind one.cluster one.me (has_begun s node request text).kept (has_begun s node request text).stored) (sym t_is) (begin_fits s node request text (subst (λ (os : List Operation). FitsKind s.cluster s.me os node.stored) (sym h.opened) h.kind));
+        full = subst (λ (one : Setting). is_full one.cluster one.me ≡ true) (sym t_is) h.full;
         tells = subst (λ (one : Kept). Tells one (own ∷ node.met)) (sym kept_is) start.tells;
         leased = after.leased;
         follows = after.follows;

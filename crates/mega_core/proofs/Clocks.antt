@@ -1,5 +1,5 @@
 -- A tick, as far as the operations act, and its step.
-use Rattle.std.proofs.Common.{◌≡◌, ℕ, min, List, [], ◌∷◌, ◌++◌, map, fold, refl, sym, ap, subst, ◌∙◌}
+use Rattle.std.proofs.Common.{◌≡◌, ℕ, true, min, List, [], ◌∷◌, ◌++◌, map, fold, refl, sym, ap, subst, ◌∙◌}
 use Rattle.std.specs.List.{All}
 use Rattle.std.proofs.lemmas.List.Elements.{All-nil}
 use Rattle.mega_base.specs.declared.names.GroupId.{GroupId}
@@ -10,6 +10,7 @@ use Rattle.mega_rules.specs.Met.{Met, Ticks}
 use Rattle.mega_rules.specs.Clock.{begun_of, last_number}
 use Rattle.mega_rules.specs.Coordinators.{acquires_at}
 use Rattle.mega_rules.specs.Logs.{groups_of}
+use Rattle.mega_rules.specs.Members.{is_full}
 use Rattle.mega_rules.specs.Operations.{Node, Now, Operation, Setting}
 use Rattle.mega_rules.specs.Steps.{Step, Tick, at_first, background, lapse_notes, lease_notes, onto, portion_of, step, ticked}
 use Rattle.mega_voter.specs.Telling.{Tells}
@@ -27,10 +28,8 @@ use Rattle.mega_actions.specs.Turns.{IsBuilt}
 use Rattle.mega_actions.specs.Working.{work_of}
 use Rattle.mega_actions.specs.declared.work.Work.{Work}
 use Rattle.mega_core.specs.Acted.{HasActed, IsEnd, IsValidate, ended}
-use Rattle.mega_core.specs.Kind.{FitsKind}
 use Rattle.mega_core.specs.Represents.{Represents}
 use Rattle.mega_core.specs.Ticking.{has_ticked}
-use Rattle.mega_core.proofs.Fitting.{tick_fits}
 use Rattle.mega_core.proofs.Walked.{all_ticked_acted, all_ticked_served}
 
 -- what leases note begins nothing
@@ -77,7 +76,7 @@ module _ (s : Setting) (node : Node) (now : ℕ) where
       let about = subst (All IsAbout) (sym h.opened) h.about in
       let built = subst (All IsBuilt) (sym h.opened) h.built in
       record {
-        kind = subst (λ (one : Setting). FitsKind one.cluster one.me (has_ticked s node now).kept (has_ticked s node now).stored) (sym (t2_is ∙ t1_is)) (tick_fits s node now (subst (λ (os : List Operation). FitsKind s.cluster s.me os node.stored) (sym h.opened) h.kind));
+        full = subst (λ (one : Setting). is_full one.cluster one.me ≡ true) (sym (t2_is ∙ t1_is)) h.full;
         tells = subst (λ (one : Kept). Tells one (acted_on s node (Tick now))) (sym kept_is) tells;
         leased = after.leased;
         follows = after.follows;

@@ -1,5 +1,5 @@
 -- A step that ends: what is kept represents the node of the rules then.
-use Rattle.std.proofs.Common.{◌≡◌, ℕ, min, List, [], ◌∷◌, ◌++◌, map, sym, ap, subst, ◌∙◌}
+use Rattle.std.proofs.Common.{◌≡◌, ℕ, min, List, [], ◌∷◌, ◌++◌, map, sym, ap, subst, ◌∙◌, cond, flat_map, true}
 use Rattle.std.specs.List.{All}
 use Rattle.std.proofs.lemmas.List.Elements.{All-weaker}
 use Rattle.mega_base.specs.declared.names.GroupId.{GroupId}
@@ -8,9 +8,10 @@ use Rattle.mega_wal.specs.declared.kept.Kept.{Kept}
 use Rattle.mega_wire.specs.declared.message.Message.{Message}
 use Rattle.mega_rules.specs.Met.{Met, Sends}
 use Rattle.mega_rules.specs.Clock.{begun_of, last_number}
-use Rattle.mega_rules.specs.Logs.{log_of}
-use Rattle.mega_rules.specs.Operations.{Node, Now, Operation, Setting}
-use Rattle.mega_rules.specs.Steps.{apply_notes, onto}
+use Rattle.mega_rules.specs.Logs.{groups_of, log_of}
+use Rattle.mega_rules.specs.Members.{is_full}
+use Rattle.mega_rules.specs.Operations.{Node, Now, Setting}
+use Rattle.mega_rules.specs.Steps.{apply_note, apply_notes, onto}
 use Rattle.mega_voter.specs.Telling.{Tells}
 use Rattle.mega_leases.specs.declared.leases.Leases.{Leases}
 use Rattle.mega_leases.specs.Tells.{Tells as TellsLeases}
@@ -25,11 +26,11 @@ use Rattle.mega_node_laws.proofs.Logs.{log_after}
 use Rattle.mega_actions.specs.declared.work.Work.{Work}
 use Rattle.mega_core.specs.Acted.{Acted, HasActed, IsEnd, IsValidate, ended}
 use Rattle.mega_core.specs.declared.note.Note.{Note}
-use Rattle.mega_core.specs.Kind.{FitsKind}
 use Rattle.mega_core.specs.Made.{Made}
 use Rattle.mega_core.specs.Notes.{met_of}
 use Rattle.mega_core.specs.Positions.{Keeps}
 use Rattle.mega_core.specs.Represents.{Represents}
+use Rattle.mega_core.proofs.Members.{full_has_rows}
 use Rattle.mega_core.proofs.Alike.{IsApart, alike_tells, alike_then, all_apart_alike, validates_alike}
 use Rattle.mega_core.proofs.Silent.{IsMute, IsQuiet, applies_quiet, end_mute, ends_apart, mute_begun, mute_told, mute_undecided, sent_apart, sent_begun, sent_undecided, validate_mute}
 
@@ -89,7 +90,7 @@ step_represents s node own locks durable sends now kept after leases version pro
     subst (λ (met : List Met). Represents s after leases version progress work.kept begun (record { met = onto (map Sends sends) met; open_operations = now.kept; stored = now.stored }))
     (sym notes_are)
     (record {
-      kind = subst (λ (os : List Operation). FitsKind s.cluster s.me os now.stored) (sym (ap (λ (w : Work). w.kept) h.work_is)) h.kind;
+      full = h.full;
       tells = sent all (subst (λ (met : List Met). MaySend met sends) notes_are may) (noted_told s base applies sends now quiet h.acted kept h.tells);
       leased = noted_leased s base applies sends now quiet h.acted leases h.leased;
       follows = subst (λ (log : GroupLogs). Follows version progress log now.stored) (sym (λ i group. noted_logs s base applies sends now quiet h.acted group i)) h.follows;
@@ -121,6 +122,11 @@ acted_tells s kept leases version progress begun work base now h = record {
   tells = subst (Tells kept) (sym h.acted.met_is) (mute_told kept now.valid base (All-weaker IsValidate IsMute validate_mute now.valid h.acted.valid) h.tells);
   follows = h.follows;
 }
+
+-- a full node notes what is applied
+pub applies_are : (s : Setting) (was : List Met) (was_stored : GroupId → ℕ) (met : List Met) (stored : GroupId → ℕ) → is_full s.cluster s.me ≡ true
+    → flat_map (apply_note was was_stored met stored) (groups_of met) ≡ apply_notes s was was_stored met stored
+applies_are s was was_stored met stored full = ap (λ t. cond t (flat_map (apply_note was was_stored met stored) (groups_of met)) []) (sym (full_has_rows s.cluster s.me full))
 
 -- a step is made by its notes, its sends and what is kept then
 pub step_made : (s : Setting) (node : Node) (own : Met) (locks durable : List Met) (opening closing : List Message) (now : Now)

@@ -1,9 +1,8 @@
 pub mod Left
 pub mod Sent
-pub mod Roles
+pub mod Members
 pub mod Replied
 pub mod Portions
-pub mod Fitting
 pub mod Groups
 pub mod Alike
 pub mod Silent
@@ -17,4 +16,3 @@ pub mod Clocks
 pub mod Refused
 pub mod Failing
 pub mod Untouched
-pub mod Watched

@@ -19,6 +19,7 @@ use Rattle.mega_rules.specs.Clock.{begun_of, clock_of, last_number}
 use Rattle.mega_rules.specs.Coordinators.{counts_notes, grant_notes}
 use Rattle.mega_rules.specs.Locks.{asked_for, grant_note}
 use Rattle.mega_rules.specs.Logs.{decided, log_of}
+use Rattle.mega_rules.specs.Members.{is_full}
 use Rattle.mega_rules.specs.Operations.{Node, Now, Operation, Setting}
 use Rattle.mega_rules.specs.Replies.{reply_to}
 use Rattle.mega_rules.specs.Steps.{Decision, Heard, Step, Take, all_act, at_first, decision_note, first_settled, hears_message, if_new, news, onto, step, stored_after, taken, told_decision, told_notes}
@@ -40,9 +41,7 @@ use Rattle.mega_actions.specs.Turns.{IsBuilt, IsBuiltHeard, IsHeardAbout}
 use Rattle.mega_actions.specs.Working.{work_of}
 use Rattle.mega_actions.specs.declared.work.Work.{Work}
 use Rattle.mega_core.specs.Acted.{HasActed, IsEnd, IsValidate, ended}
-use Rattle.mega_core.specs.Kind.{FitsKind}
 use Rattle.mega_core.specs.Represents.{Represents}
-use Rattle.mega_core.proofs.Fitting.{take_fits}
 use Rattle.mega_core.proofs.Walked.{all_acted, all_heard_built, all_served, heard_about}
 use Rattle.mega_core.specs.Taking.{has_taken, news_by}
 
@@ -179,7 +178,7 @@ module _ (s : Setting) (node : Node) (m : Message) where
       let about = subst (All IsAbout) (sym h.opened) h.about in
       let built = subst (All IsBuilt) (sym h.opened) h.built in
       record {
-        kind = subst (λ (one : Setting). FitsKind one.cluster one.me (has_taken s node m).kept (has_taken s node m).stored) (sym (t2_is ∙ t1_is)) (take_fits s node m (subst (λ (os : List Operation). FitsKind s.cluster s.me os node.stored) (sym h.opened) h.kind));
+        full = subst (λ (one : Setting). is_full one.cluster one.me ≡ true) (sym (t2_is ∙ t1_is)) h.full;
         tells = subst (λ (one : Kept). Tells one (acted_on s node (Take m))) (sym kept_is) tells;
         leased = after.leased;
         follows = after.follows;

@@ -19,7 +19,7 @@ use Rattle.mega_rules.specs.Clock.{clock_of}
 use Rattle.mega_rules.specs.Logs.{decided, groups_of, log_of}
 use Rattle.mega_rules.specs.Operations.{Node, Now, Operation, Phase, Proposes, Reads, Setting}
 use Rattle.mega_rules.specs.Steps.{Decision, Heard, Take, Tick, applied_at, apply_note, at_first, decision_at, decision_note, first_settled, hears_message, if_new, new_operation, onto, op_of, portion_of, read_decision, refusal, settled_by, stored_after, told_decision, told_notes}
-use Rattle.mega_node_laws.specs.About.{group_in}
+use Rattle.mega_node_laws.specs.About.{IsOf, group_in}
 use Rattle.mega_node_laws.specs.Acted.{acted_on, decision_in, or_settled}
 use Rattle.mega_node_laws.proofs.Logs.{groups_after, log_after, log_stays, other_log}
 use Rattle.mega_actions.specs.Built.{is_built}
@@ -30,7 +30,7 @@ use Rattle.mega_core.specs.Beginning.{at_begin, has_begun}
 use Rattle.mega_core.specs.Positions.{before_at, note_since}
 use Rattle.mega_core.specs.Taking.{has_taken}
 use Rattle.mega_core.specs.Ticking.{has_ticked}
-use Rattle.mega_core.specs.Touching.{asked_groups, named, touched, with_phase}
+use Rattle.mega_core.specs.Touching.{asked_groups, touched, with_phase}
 use Rattle.mega_core.proofs.Groups.{all_noted, has, has_with, none_applied}
 use Rattle.mega_core.proofs.Messages.{plain_undecided, told_on, told_plain}
 use Rattle.mega_core.proofs.Silent.{IsMute, mute_undecided, validate_mute}
@@ -216,21 +216,14 @@ module _ (group : GroupId) where
 
   -- ---- where an operation begins
 
-  alone : (own : GroupId) → has group (own ∷ []) ≡ false → All IsOther (own ∷ [])
-  alone own none = All-cons IsOther own [] (or_neither (same_group own group) none) (All-nil IsOther)
-
-  named_apart : (own : Option GroupId) → has group (named own) ≡ false → All IsOther (named own)
-  named_apart None none = All-nil IsOther
-  named_apart (Some own) none = alone own none
-
-  asked_apart : (request : Request) → has group (asked_groups request) ≡ false → All IsOther (asked_groups request)
-  asked_apart (Txn transaction) none = alone transaction.group none
-  asked_apart (Batch own transactions) none = alone own none
-  asked_apart (Read request) none = alone request.group none
-  asked_apart (Find request) none = named_apart request.group none
-  asked_apart PumpEnter none = All-nil IsOther
-  asked_apart PumpHandle none = All-nil IsOther
-  asked_apart Refresh none = All-nil IsOther
+  asked_apart : (request : Request) → has group (asked_groups request) ≡ false → is_built request ≡ true → (other : GroupId) → IsOf request other → IsOther other
+  asked_apart (Txn transaction) none is other of = ap (λ g. same_group g group) (sym of) ∙ or_neither (same_group transaction.group group) none
+  asked_apart (Batch own transactions) none is other of = ap (λ g. same_group g group) (sym of) ∙ or_neither (same_group own group) none
+  asked_apart (Read request) none is other of = absurd (cc)
+  asked_apart (Find request) none is other of = absurd (cc)
+  asked_apart PumpEnter none is other of = absurd (cc)
+  asked_apart PumpHandle none is other of = absurd (cc)
+  asked_apart Refresh none is other of = absurd (cc)
 
   begin_still : (s : Setting) (node : Node) (request : Request) (text : List ℕ) → (refusal s node request ≡ None → is_built request ≡ true) → has group (asked_groups request) ≡ false
       → Acted (Begins (op_of s node.met) text ∷ node.met) (has_begun s node request text) → applied_at (has_begun s node request text).met (has_begun s node request text).stored group ≡ applied_at node.met node.stored group
@@ -240,15 +233,11 @@ module _ (group : GroupId) where
 
 -- ---- what is noted then
 
-named_is : (own : Option GroupId) → named own ≡ groups_of (map in_group (named own))
-named_is None = refl
-named_is (Some own) = refl
-
 asked_is : (request : Request) → asked_groups request ≡ groups_of (map in_group (asked_groups request))
 asked_is (Txn transaction) = refl
 asked_is (Batch own transactions) = refl
 asked_is (Read request) = refl
-asked_is (Find request) = named_is request.group
+asked_is (Find request) = refl
 asked_is PumpEnter = refl
 asked_is PumpHandle = refl
 asked_is Refresh = refl

@@ -16,7 +16,6 @@ use Rattle.mega_node_laws.proofs.Ending.{onto_append}
 use Rattle.mega_node_laws.proofs.Lasting.{IsHeard, Lasts, all_act_it, all_ticked_it, begun_it, hears_message_about}
 use Rattle.mega_actions.specs.Turns.{IsBuilt, IsBuiltHeard, IsHeardAbout}
 use Rattle.mega_core.specs.Acted.{Acted, IsEnd, IsValidate}
-use Rattle.mega_core.specs.Touching.{asked_groups}
 use Rattle.mega_core.proofs.Walking.{IsHeardIn, IsIn, Walks, all_ticked_walked, all_walked, begun_walked}
 
 -- ---- what is added to what is met
@@ -89,10 +88,6 @@ heard_in_any : (ts : List Heard) → All (IsHeardIn IsAny) ts
 heard_in_any [] = All-nil (IsHeardIn IsAny)
 heard_in_any (t ∷ ts) = All-cons (IsHeardIn IsAny) t ts tt (heard_in_any ts)
 
-all_any : (groups : List GroupId) → All IsAny groups
-all_any [] = All-nil IsAny
-all_any (group ∷ groups) = All-cons IsAny group groups tt (all_any groups)
-
 pub all_served : (s : Setting) (ts : List Heard) (now : Now) → All IsBuiltHeard ts → Served now → Served (all_act s now ts)
 all_served s ts now each h = all_walked Served IsAny served_walks s ts now each (heard_in_any ts) h
 
@@ -110,4 +105,4 @@ pub all_ticked_served : (s : Setting) (clock : ℕ) (os : List Operation) (now :
 all_ticked_served s clock os now are h = all_ticked_walked Served IsAny served_walks s clock os now are (in_any os) h
 
 pub begun_served : (s : Setting) (now : Now) (o : Operation) (refusal : Option Answer) → (refusal ≡ None → IsBuilt o) → Served now → Served (unless_refused s now o refusal)
-begun_served s now o refusal is h = begun_walked Served IsAny served_walks s now o refusal is (all_any (asked_groups o.request)) h
+begun_served s now o refusal is h = begun_walked Served IsAny served_walks s now o refusal is (λ built group of. tt) h

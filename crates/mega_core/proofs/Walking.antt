@@ -13,10 +13,6 @@ use Rattle.mega_outcome.specs.declared.answer.Answer.{Answer}
 use Rattle.mega_outcome.specs.declared.answer.Batch.{Batch}
 use Rattle.mega_outcome.specs.declared.answer.Done.{Done}
 use Rattle.mega_outcome.specs.declared.answer.Turn.{Turn as Turned}
-use Rattle.mega_outcome.specs.declared.request.FindRequest.{FindRequest}
-use Rattle.mega_outcome.specs.declared.request.Mode.{Mode}
-use Rattle.mega_outcome.specs.declared.request.Mode.TheVariants.{Current, Snapshot, Inconsistent}
-use Rattle.mega_outcome.specs.declared.request.ReadRequest.{ReadRequest}
 use Rattle.mega_outcome.specs.declared.request.Request.{Request}
 use Rattle.mega_outcome.specs.declared.request.Request.TheVariants.{Txn, Batch as BatchRequest, Read as ReadRequested, Find, PumpEnter, PumpHandle, Refresh}
 use Rattle.mega_outcome.specs.Outcome.{batch_outcome, entry_of_batch, entry_of_done, outcome}
@@ -31,11 +27,10 @@ use Rattle.mega_rules.specs.Logs.{decided, groups_of, log_of, prefix_of}
 use Rattle.mega_rules.specs.Coordinators.{refused_at}
 use Rattle.mega_rules.specs.Operations.{Now, Operation, Phase, Promised, Proposes, Reads, Replies, Results, Setting}
 use Rattle.mega_rules.specs.Acting.{acts, acts_within, batch_sealed, begins_read, completes_read, ends, finishes, goes_on, in_phase, is_taken, keeps, leader_after, proposes, proposes_by, read_begun, reader_of, reads_on, rows_at, sealed, sends_more, stored_with, unless_decided, unless_full, validated_by, validates, visiting}
-use Rattle.mega_rules.specs.Steps.{Heard, acts_in_turn, all_act, begins, does_due, find_begins, hears_message, is_out, local_find_begins, read_begins, ticked, unless_refused}
-use Rattle.mega_node_laws.specs.About.{group_in}
+use Rattle.mega_rules.specs.Steps.{Heard, acts_in_turn, all_act, begins, does_due, hears_message, is_out, ticked, unless_refused}
+use Rattle.mega_node_laws.specs.About.{IsOf, group_in}
 use Rattle.mega_actions.specs.Built.{is_built}
 use Rattle.mega_actions.specs.Turns.{IsBuilt, IsBuiltHeard}
-use Rattle.mega_core.specs.Touching.{asked_groups, named}
 
 -- a fact of a node within a step that nothing can break which served operations do in such groups
 pub record Walks (P : Now → Type 0) (Mine : GroupId → Type 0) : Type 0 where
@@ -111,11 +106,11 @@ module _ (P : Now → Type 0) (Mine : GroupId → Type 0) (w : Walks P Mine) (s 
         unless_full_walked now (one (Txn transaction) phase) p _ h (sealed_walked now (one (Txn transaction) phase) group r p (outcome s.cluster.schema transaction (rows_at now group p)) is h)
     finishes_by again now (BatchRequest own transactions) phase group r p is h =
         unless_full_walked now (one (BatchRequest own transactions) phase) p _ h (batch_walked now (one (BatchRequest own transactions) phase) group r p (batch_outcome s.cluster.schema own transactions (rows_at now group p)) is h)
-    finishes_by again now (ReadRequested request) phase group r p is h = w.ends_it now id _ h
-    finishes_by again now (Find request) phase group r p is h = w.ends_it now id _ h
+    finishes_by again now (ReadRequested request) phase group r p is h = absurd (cc)
+    finishes_by again now (Find request) phase group r p is h = absurd (cc)
     finishes_by again now PumpEnter phase group r p is h = absurd (cc)
     finishes_by again now PumpHandle phase group r p is h = absurd (cc)
-    finishes_by again now Refresh phase group r p is h = w.keeps_it now (one Refresh phase) is h
+    finishes_by again now Refresh phase group r p is h = absurd (cc)
 
   finishes_walked : (again : Now → Operation → Now) (now : Now) (o : Operation) (group : GroupId) (r : Reading) (p : ℕ) → IsBuilt o → P now → P (finishes s again now o group r p)
   finishes_walked again now o group r p is h = finishes_by o.id o.began o.visited o.message again now o.request o.phase group r p is h
@@ -171,29 +166,15 @@ module _ (P : Now → Type 0) (Mine : GroupId → Type 0) (w : Walks P Mine) (s 
         goes_on_walked (sends_more now (read_begun s now (one id began visited message request phase) group []).sends)
         (visiting (one id began visited message request phase) group None (read_begun s now (one id began visited message request phase) group [])) is mine (w.sends_it now _ h)
 
-    read_walked : (now : Now) (request : ReadRequest) (mode : Mode) → is_built (ReadRequested request) ≡ true → Mine request.group → P now → P (read_begins s now (one id began visited message (ReadRequested request) phase) request mode)
-    read_walked now request Current is mine h = begins_read_walked now (ReadRequested request) request.group is mine h
-    read_walked now request Snapshot is mine h = w.ends_it now id _ h
-    read_walked now request Inconsistent is mine h = w.ends_it now id _ h
-
-    local_find_walked : (now : Now) (request : FindRequest) (group : GroupId) (mode : Mode) → is_built (Find request) ≡ true → Mine group → P now → P (local_find_begins s now (one id began visited message (Find request) phase) request group mode)
-    local_find_walked now request group Current is mine h = begins_read_walked now (Find request) group is mine h
-    local_find_walked now request group Snapshot is mine h = w.ends_it now id _ h
-    local_find_walked now request group Inconsistent is mine h = w.ends_it now id _ h
-
-    find_walked : (now : Now) (request : FindRequest) (group : Option GroupId) → is_built (Find request) ≡ true → All Mine (named group) → P now → P (find_begins s now (one id began visited message (Find request) phase) request group)
-    find_walked now request None is mine h = w.ends_it now id _ h
-    find_walked now request (Some group) is mine h = local_find_walked now request group request.mode is (All-head Mine group [] mine) h
-
-    begins_by : (now : Now) (request : Request) → is_built request ≡ true → All Mine (asked_groups request) → P now → P (begins s now (one id began visited message request phase))
-    begins_by now (Txn transaction) is mine h = begins_read_walked now (Txn transaction) transaction.group is (All-head Mine transaction.group [] mine) h
-    begins_by now (BatchRequest group transactions) is mine h = begins_read_walked now (BatchRequest group transactions) group is (All-head Mine group [] mine) h
-    begins_by now (ReadRequested request) is mine h = read_walked now request request.mode is (All-head Mine request.group [] mine) h
-    begins_by now (Find request) is mine h = find_walked now request request.group is mine h
+    begins_by : (now : Now) (request : Request) → is_built request ≡ true → (is_built request ≡ true → (group : GroupId) → IsOf request group → Mine group) → P now → P (begins s now (one id began visited message request phase))
+    begins_by now (Txn transaction) is mine h = begins_read_walked now (Txn transaction) transaction.group is (mine is transaction.group refl) h
+    begins_by now (BatchRequest group transactions) is mine h = begins_read_walked now (BatchRequest group transactions) group is (mine is group refl) h
+    begins_by now (ReadRequested request) is mine h = absurd (cc)
+    begins_by now (Find request) is mine h = absurd (cc)
     begins_by now PumpEnter is mine h = absurd (cc)
     begins_by now PumpHandle is mine h = absurd (cc)
-    begins_by now Refresh is mine h = w.ends_it now id _ h
+    begins_by now Refresh is mine h = absurd (cc)
 
-  pub begun_walked : (now : Now) (o : Operation) (refusal : Option Answer) → (refusal ≡ None → IsBuilt o) → All Mine (asked_groups o.request) → P now → P (unless_refused s now o refusal)
+  pub begun_walked : (now : Now) (o : Operation) (refusal : Option Answer) → (refusal ≡ None → IsBuilt o) → (IsBuilt o → (group : GroupId) → IsOf o.request group → Mine group) → P now → P (unless_refused s now o refusal)
   begun_walked now o None is mine h = begins_by o.id o.began o.visited o.message o.phase now o.request (is refl) mine h
   begun_walked now o (Some answer) is mine h = w.ends_it now o.id answer h

@@ -1,5 +1,5 @@
 -- What operations that acted in a step leave, and how what is kept stands to it.
-use Rattle.std.specs.Prelude.{◌≡◌, ℕ, min, List}
+use Rattle.std.specs.Prelude.{◌≡◌, ℕ, true, min, List}
 use Rattle.std.specs.List.{All}
 use Rattle.mega_base.specs.declared.names.GroupId.{GroupId}
 use Rattle.mega_disk.specs.VersionMaps.{Versions}
@@ -8,6 +8,7 @@ use Rattle.mega_wire.specs.declared.message.Message.{Message}
 use Rattle.mega_rules.specs.Met.{Met, Answers, Validates}
 use Rattle.mega_rules.specs.Clock.{begun_of, last_number}
 use Rattle.mega_rules.specs.Logs.{log_of}
+use Rattle.mega_rules.specs.Members.{is_full}
 use Rattle.mega_rules.specs.Operations.{Node, Now, Setting}
 use Rattle.mega_rules.specs.Steps.{Step, apply_notes, onto, step_of}
 use Rattle.mega_voter.specs.Telling.{Tells}
@@ -19,7 +20,6 @@ use Rattle.mega_node_laws.specs.About.{IsAbout}
 use Rattle.mega_actions.specs.Turns.{IsBuilt}
 use Rattle.mega_actions.specs.Working.{work_of}
 use Rattle.mega_actions.specs.declared.work.Work.{Work}
-use Rattle.mega_core.specs.Kind.{FitsKind}
 
 abbrev pub IsValidate : Met → Type 0
 IsValidate (Validates group position) = Unit {0}
@@ -36,10 +36,9 @@ pub record Acted (base : List Met) (now : Now) : Type 0 where
   pub answers : All IsEnd now.answers
   pub about : All IsAbout now.kept
 
--- the logs tell what was met before they acted, the leases and the rows what was met then; the node has what its kind has, and the step
--- has come to this work
+-- the logs tell what was met before they acted, the leases and the rows what was met then, and the step has come to this work
 pub record HasActed (s : Setting) (kept : Kept) (leases : Leases) (version : Versions) (progress : GroupId → Progress) (begun : ℕ) (work : Work) (base : List Met) (now : Now) : Type 0 where
-  pub kind : FitsKind s.cluster s.me now.kept now.stored
+  pub full : is_full s.cluster s.me ≡ true
   pub tells : Tells kept base
   pub leased : TellsLeases s.cluster s.me leases now.met
   pub follows : Follows version progress (log_of now.met) now.stored

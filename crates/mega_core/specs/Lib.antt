@@ -1,6 +1,4 @@
 pub mod Notes
-pub mod Served
-pub mod Kind
 pub mod Represents
 pub mod Placed
 pub mod Positions

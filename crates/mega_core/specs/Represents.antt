@@ -1,11 +1,12 @@
 -- How what a node keeps stands to the node of the rules, between steps.
-use Rattle.std.specs.Prelude.{◌≡◌, ℕ, min, List}
+use Rattle.std.specs.Prelude.{◌≡◌, ℕ, true, min, List}
 use Rattle.std.specs.List.{All}
 use Rattle.mega_base.specs.declared.names.GroupId.{GroupId}
 use Rattle.mega_disk.specs.VersionMaps.{Versions}
 use Rattle.mega_wal.specs.declared.kept.Kept.{Kept}
 use Rattle.mega_rules.specs.Clock.{begun_of, last_number}
 use Rattle.mega_rules.specs.Logs.{log_of}
+use Rattle.mega_rules.specs.Members.{is_full}
 use Rattle.mega_rules.specs.Operations.{Node, Operation, Setting}
 use Rattle.mega_voter.specs.Telling.{Tells}
 use Rattle.mega_leases.specs.declared.leases.Leases.{Leases}
@@ -14,12 +15,11 @@ use Rattle.mega_replica.specs.declared.progress.Progress.{Progress}
 use Rattle.mega_replica.specs.Following.{Follows}
 use Rattle.mega_node_laws.specs.About.{IsAbout}
 use Rattle.mega_actions.specs.Turns.{IsBuilt}
-use Rattle.mega_core.specs.Kind.{FitsKind}
 
--- its logs and leases tell what it met, its rows follow its logs, and its open operations, which are served and each about the group of
--- its request, are those of the rules; it has what its kind has, and counts what it began up to the last number
+-- a full node: its logs and leases tell what it met, its rows follow its logs, and its open operations, which are served and each about
+-- the group of its request, are those of the rules; it counts what it began up to the last number
 pub record Represents (s : Setting) (kept : Kept) (leases : Leases) (version : Versions) (progress : GroupId → Progress) (open_ones : List Operation) (begun : ℕ) (node : Node) : Type 0 where
-  pub kind : FitsKind s.cluster s.me open_ones node.stored
+  pub full : is_full s.cluster s.me ≡ true
   pub tells : Tells kept node.met
   pub leased : TellsLeases s.cluster s.me leases node.met
   pub follows : Follows version progress (log_of node.met) node.stored

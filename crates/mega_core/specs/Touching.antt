@@ -16,16 +16,12 @@ with_phase groups o = with_group (group_in o.phase) groups
 abbrev pub touched : Body → List Operation → List GroupId
 touched body os = fold with_phase (groups_of (decision_note (told_decision body))) os
 
--- where an operation begins, that of its request, if it has one
-abbrev pub named : Option GroupId → List GroupId
-named None = []
-named (Some group) = group ∷ []
-
+-- where an operation begins, that of its request, if it is served
 abbrev pub asked_groups : Request → List GroupId
 asked_groups (Txn transaction) = transaction.group ∷ []
 asked_groups (Batch group transactions) = group ∷ []
-asked_groups (Read request) = request.group ∷ []
-asked_groups (Find request) = named request.group
+asked_groups (Read request) = []
+asked_groups (Find request) = []
 asked_groups PumpEnter = []
 asked_groups PumpHandle = []
 asked_groups Refresh = []

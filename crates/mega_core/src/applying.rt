@@ -1,16 +1,12 @@
-//! Which groups a step applies more of, and what is noted of that.
-ghost use Rattle.std.specs.Prelude.{◌≡◌, ◌++◌, if◌then◌else◌, ℕ, List, [], map, flat_map, IfOk, OnOk};
+ghost use Rattle.std.specs.Prelude.{◌≡◌, ◌++◌, ℕ, List, map, flat_map, IfOk, OnOk};
 ghost use Rattle.mega_base.specs.declared.names.GroupId.{GroupId as Group};
-ghost use Rattle.mega_rules.specs.Members.{has_rows};
 ghost use Rattle.mega_rules.specs.Met.{Met};
 ghost use Rattle.mega_rules.specs.Steps.{applied_at};
 ghost use Rattle.mega_replica.specs.Following.{progress_at};
 ghost use Rattle.mega_core.specs.Notes.{met_of};
 ghost use Rattle.mega_core.specs.Positions.{Keeps, before_at, note_since};
 
-use crate::kinds::has_rows;
 use crate::note::Note;
-use mega_actions::Replica;
 use mega_base::{GroupId, Items, NoMemory};
 use mega_disk::{Records, Versions};
 use mega_replica::StoredRows;
@@ -51,7 +47,7 @@ fn before_at<R: Records, V: Versions>(
 }
 
 /// The applied positions of these groups.
-fn positions<R: Records, V: Versions>(
+pub(crate) fn positions<R: Records, V: Versions>(
     alloc: Global,
     voter: &Voter<R>,
     rows: &StoredRows<V>,
@@ -65,22 +61,6 @@ fn positions<R: Records, V: Versions>(
         before.push(before_at(voter, rows, group))?;
     }
     Ok(before)
-}
-
-/// The applied positions of the groups of which a step may apply more: none at a node that keeps no rows.
-pub(crate) fn watched<R: Records, V: Versions>(
-    alloc: Global,
-    replica: &Replica<R, V>,
-    groups: Items<GroupId>,
-) -> Result<Items<Before>, NoMemory>
-    ensures { IfOk result (λ before. (met : List Met) (stored : Group → ℕ) →
-        Keeps replica.now.voter.logs.kept (V.version replica.now.rows.rows) (progress_at replica.now.rows.progress) met stored →
-        before ≡ (if has_rows replica.now.members replica.now.me then map (before_at met stored) groups else [])) }
-{
-    if has_rows(replica.members.cluster(), replica.me) {
-        return positions(alloc, &replica.voter, &replica.rows, groups);
-    }
-    Ok(Items::new(alloc))
 }
 
 /// Notes the applied position of a group where it is above the one before.

@@ -1,4 +1,3 @@
-//! An operation begins, or is refused at once.
 ghost use Rattle.std.specs.Prelude.{◌≡◌, ℕ, List, min, true, false, None, IfOk, OnOk, Err};
 ghost use Rattle.mega_handler.specs.Named.{Meanings};
 ghost use Rattle.mega_node_laws.specs.Acted.{acted_on};
@@ -7,8 +6,8 @@ ghost use Rattle.mega_rules.specs.Clock.{begun_of, clock_of, last_number};
 ghost use Rattle.mega_rules.specs.Logs.{log_of};
 ghost use Rattle.mega_rules.specs.Met.{Met};
 ghost use Rattle.mega_rules.specs.Operations.{Node as RuleNode, Now};
-ghost use Rattle.mega_rules.specs.Members.{kind_of};
-ghost use Rattle.mega_rules.specs.Steps.{Begin, at_first, at_open, begins, missing_kind, new_operation, op_of, refusal, unless_refused};
+ghost use Rattle.mega_rules.specs.Members.{is_full};
+ghost use Rattle.mega_rules.specs.Steps.{Begin, at_first, at_open, begins, new_operation, op_of, refusal, unless_refused};
 ghost use Rattle.mega_replica.specs.Faring.{Fares};
 ghost use Rattle.mega_replica.specs.Following.{progress_at};
 ghost use Rattle.mega_voter.specs.Telling.{Tells};
@@ -21,10 +20,9 @@ ghost use Rattle.mega_core.specs.Acted.{HasActed};
 ghost use Rattle.mega_core.specs.Beginning.{has_begun};
 ghost use Rattle.mega_core.specs.Represents.{Represents};
 
-use crate::kinds::{kind_of, missing_kind};
 use crate::node::Node;
 use mega_actions::{ActFault, Deed, End, Replica, Work};
-use mega_base::{Items, NodeId, NodeKind, OpId};
+use mega_base::{Items, NodeId, OpId};
 use mega_disk::{Records, Versions};
 use mega_operations::Operation;
 use mega_outcome::{Answer, Request};
@@ -49,17 +47,13 @@ fn next_op<R: Records>(voter: &Voter<R>, me: u8, begun: u32) -> OpId
     }
 }
 
-/// Why an operation is not served that begins at a node which has begun so many, whose kind it misses, and at which so many
-/// are open.
-fn refusal(begun: u32, missing: Option<NodeKind>, opened: &[Operation]) -> Option<Answer>
-    ensures { (c me : _) (h : Meanings) (node : RuleNode) (request : Request) → missing ≡ missing_kind request (kind_of c me) → node.open_operations ≡ opened.now →
+/// Why an operation is not served that begins at a full node which has begun so many, and at which so many are open.
+fn refusal(begun: u32, opened: &[Operation]) -> Option<Answer>
+    ensures { (c me : _) (h : Meanings) (node : RuleNode) (request : Request) → is_full c me ≡ true → node.open_operations ≡ opened.now →
         begun ≡ min (begun_of node.met) last_number → result ≡ refusal (setting c me h) node request }
 {
     if begun >= LAST_NUMBER - 1 {
         return Some(Answer::Worn);
-    }
-    if let Some(kind) = missing {
-        return Some(Answer::NotHere { kind });
     }
     if opened.len() >= MOST_OPEN {
         return Some(Answer::Busy { count: 64 });
@@ -172,9 +166,7 @@ impl<R: Records, V: Versions> Node<R, V> {
         ensures fares { Fares V.Versions (failed_by result) self.old.replica.rows.rows self.new.replica.rows.rows }
     {
         let op = next_op(&self.replica.voter, self.replica.me, self.begun);
-        let kind = kind_of(self.replica.members.cluster(), self.replica.me);
-        let missing = missing_kind(&request, kind);
-        let refusal = refusal(self.begun, missing, self.open.as_slice());
+        let refusal = refusal(self.begun, self.open.as_slice());
         self.begun = op.number;
         let open = mem::replace(&mut self.open, Items::new(alloc));
         let mut work = at_open(alloc, open);

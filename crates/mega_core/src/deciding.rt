@@ -1,5 +1,4 @@
-//! The decision of a step: what a message tells or an operation settles, kept where it is new.
-ghost use Rattle.std.specs.Prelude.{◌≡◌, ◌<◌, ◌++◌, ◌∷◌, ℕ, List, map, is_none, is_some, None, Some, true, false, IfOk, OnOk};
+ghost use Rattle.std.specs.Prelude.{◌≡◌, ◌<◌, ◌++◌, ◌∷◌, ℕ, List, map, is_none, is_some, None, Some, true, IfOk, OnOk};
 ghost use Rattle.mega_base.specs.declared.names.GroupId.{GroupId as Group};
 ghost use Rattle.mega_node_laws.specs.Acted.{or_settled};
 ghost use Rattle.mega_rules.specs.Logs.{decided, log_of};
@@ -155,24 +154,20 @@ pub(crate) fn decides<R: Records>(
     }
 }
 
-/// Stores a portion of the group of a decision, at a node that keeps rows.
+/// Stores a portion of the group of a decision.
 #[tactic(auto, using(mega_replica::proofs::Fared::fares_by_puts, mega_replica::proofs::Fared::fares_here))]
 pub(crate) fn stores<R: Records, V: Versions>(
     alloc: Global,
     voter: &Voter<R>,
     rows: &mut StoredRows<V>,
-    keeps: bool,
     most: u64,
     found: &Option<Chosen>,
 ) -> Result<(), NoMemory>
-    ensures follows { OnOk result ((s : Setting) (met : List Met) (stored : Group → ℕ) → keeps ≡ has_rows s.cluster s.me → (keeps ≡ false → (group : Group) → stored group ≡ 0) → s.cluster.apply ≡ most → Tells voter.now.logs.kept met →
+    ensures follows { OnOk result ((s : Setting) (met : List Met) (stored : Group → ℕ) → has_rows s.cluster s.me ≡ true → s.cluster.apply ≡ most → Tells voter.now.logs.kept met →
         Follows (V.version rows.old.rows) (progress_at rows.old.progress) (log_of met) stored →
         Follows (V.version rows.new.rows) (progress_at rows.new.progress) (log_of met) (stored_after s met stored found.now)) }
     ensures fares { Fares V.Versions None rows.old.rows rows.new.rows }
 {
-    if !keeps {
-        return Ok(());
-    }
     match found {
         Some(found) => match rows.apply_some(alloc, &found.group, &voter.logs, most) {
             Ok(()) => Ok(()),

@@ -1,9 +1,9 @@
-//! A step ends: its notes and messages in their order, and what is sent told to the voter.
 ghost use Rattle.std.specs.Prelude.{◌≡◌, ◌++◌, ◌∷◌, List, map, flat_map, IfOk, OnOk};
 ghost use Rattle.mega_handler.specs.Named.{Meanings};
 ghost use Rattle.mega_rules.specs.Met.{Met, Sends};
 ghost use Rattle.mega_rules.specs.Operations.{Node as RuleNode, Now};
-ghost use Rattle.mega_rules.specs.Steps.{apply_notes, onto};
+ghost use Rattle.mega_rules.specs.Logs.{groups_of};
+ghost use Rattle.mega_rules.specs.Steps.{apply_note, onto};
 ghost use Rattle.mega_node_laws.specs.Sending.{MaySend};
 ghost use Rattle.mega_replica.specs.Following.{progress_at};
 ghost use Rattle.mega_voter.specs.Telling.{IsAnswer, Tells};
@@ -80,7 +80,7 @@ impl<R: Records, V: Versions> Node<R, V> {
         closing: Items<Message>,
     ) -> Result<Step, NoMemory>
         ensures made { IfOk result (λ made. (h : Meanings) (node : RuleNode) (own : Met) (locks durable : List Met) (now : Now) →
-            flat_map (note_since now.met now.stored) before ≡ apply_notes (setting self.old.replica.members self.old.replica.me h) node.met node.stored now.met now.stored →
+            flat_map (note_since now.met now.stored) before ≡ flat_map (apply_note node.met node.stored now.met now.stored) (groups_of now.met) →
             HasActed (setting self.old.replica.members self.old.replica.me h) self.old.replica.voter.logs.kept self.old.replica.leases (V.version self.old.replica.rows.rows) (progress_at self.old.replica.rows.progress) self.old.begun work (onto durable (onto locks (own ∷ node.met))) now →
             map met_of first ≡ locks ++ durable →
             MaySend (onto (ended (setting self.old.replica.members self.old.replica.me h) node own locks durable ((opening ++ now.sends) ++ closing) now).notes (own ∷ node.met)) ((opening ++ now.sends) ++ closing) →

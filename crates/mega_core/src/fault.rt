@@ -1,4 +1,3 @@
-//! Why a node does not step.
 ghost use Rattle.std.specs.Prelude.{◌≡◌};
 ghost use Rattle.mega_core.specs.Faults.{fault_of, taking_fault_of};
 

@@ -1,4 +1,3 @@
-//! The open operations hear a message.
 ghost use Rattle.std.specs.Prelude.{◌≡◌, map, IfOk};
 ghost use Rattle.mega_rules.specs.Operations.{Setting};
 ghost use Rattle.mega_rules.specs.Steps.{hears_message};

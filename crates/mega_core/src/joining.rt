@@ -1,4 +1,3 @@
-//! Joins the notes and the messages of the parts of a step.
 ghost use Rattle.std.specs.Prelude.{◌≡◌, ◌++◌, map, IfOk, OnOk};
 ghost use Rattle.mega_leases.specs.Notes.{met_of as leases_met};
 ghost use Rattle.mega_core.specs.Notes.{met_of};

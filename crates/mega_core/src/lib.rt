@@ -9,7 +9,6 @@ mod ending;
 mod fault;
 mod hearing;
 mod joining;
-mod kinds;
 mod node;
 mod note;
 mod replying;

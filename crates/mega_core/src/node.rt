@@ -1,11 +1,10 @@
-//! A node of a cluster: its start, and its three steps.
-ghost use Rattle.std.specs.Prelude.{◌≡◌, ◌≢◌, ◌⊎◌, ℕ, List, [], map, None, true, false, IfOk, OnOk, OnErr, Err};
+ghost use Rattle.std.specs.Prelude.{length, ◌≡◌, ◌≢◌, ◌⊎◌, ◌≤◌, ◌<◌, ◌+◌, ◌^◌, ℕ, List, [], map, None, true, false, IfOk, OnOk, OnErr, Err};
 ghost use Rattle.mega_handler.specs.Named.{Meanings};
 ghost use Rattle.mega_node_laws.specs.Acted.{acted_on, decision_in};
 ghost use Rattle.mega_node_laws.specs.Own.{HasOwnRows};
 ghost use Rattle.mega_leases.specs.Taking.{IsByStranger, IsLate};
 ghost use Rattle.mega_rules.specs.Logs.{log_of};
-ghost use Rattle.mega_rules.specs.Members.{is_node};
+ghost use Rattle.mega_rules.specs.Members.{is_full};
 ghost use Rattle.mega_rules.specs.Operations.{Node as RuleNode};
 ghost use Rattle.mega_rules.specs.Steps.{Begin, Take, Tick, start, step};
 ghost use Rattle.mega_replica.specs.Faring.{Fares};
@@ -18,9 +17,8 @@ ghost use Rattle.mega_core.specs.Faults.{failed_by};
 ghost use Rattle.mega_core.specs.Notes.{met_of};
 ghost use Rattle.mega_core.specs.Placed.{IsPlaced};
 ghost use Rattle.mega_core.specs.Represents.{Represents};
-ghost use Rattle.mega_core.specs.Served.{IsServed};
 
-use crate::applying::watched;
+use crate::applying::positions;
 use crate::fault::StepFault;
 use crate::starting::{leases_of, members_of, voter_of};
 use crate::step::Step;
@@ -39,7 +37,7 @@ use mega_wire::Message;
 use std::alloc::Global;
 use std::mem;
 
-/// A node of a cluster, of any kind, from a start of it on: what it keeps, and its open operations in order of begin.
+/// A full node of a cluster, from a start of it on: what it keeps, and its open operations in order of begin.
 #[derive(Drop)]
 pub struct Node<R: Records, V: Versions> {
     pub replica: Replica<R, V>,
@@ -48,8 +46,8 @@ pub struct Node<R: Records, V: Versions> {
 }
 
 impl<R: Records + Drop, V: Versions + Drop> Node<R, V> {
-    /// The node of this number at its first start, over logs and rows that hold nothing; `Unbuilt` where the logs tell of
-    /// a start.
+    /// A full node of this number at its first start, over logs and rows that hold nothing; `Unbuilt` where the logs tell of
+    /// a start, or the cluster has more than 255 nodes.
     pub fn start(
         alloc: Global,
         cluster: Cluster,
@@ -57,14 +55,15 @@ impl<R: Records + Drop, V: Versions + Drop> Node<R, V> {
         logs: Logs<R>,
         rows: V,
     ) -> Result<Node<R, V>, StepFault>
-        requires served { IsServed cluster }
-        requires member { is_node cluster me ≡ true }
+        requires cells { (cluster.cells ≡ 1) ⊎ (cluster.cells ≡ 3) ⊎ (cluster.cells ≡ 5) }
+        requires fits { cluster.lease + cluster.margin < 2 ^ 64 }
+        requires full { is_full cluster me ≡ true }
         ensures state { IfOk result (λ node. (h : Meanings) → Holds logs.kept [] → ((key : List ℕ) (n : ℕ) → V.version rows key n ≡ None) →
             Represents (setting node.replica.members node.replica.me h) node.replica.voter.logs.kept node.replica.leases (V.version node.replica.rows.rows) (progress_at node.replica.rows.progress) node.open node.begun
             (start (setting cluster me h) 1 [] [])) }
         ensures members { IfOk result (λ node. node.replica.members ≡ cluster) }
         ensures me { IfOk result (λ node. node.replica.me ≡ me) }
-        ensures unbuilt { result ≡ Err Unbuilt → Holds logs.kept [] → ⊥ }
+        ensures unbuilt { result ≡ Err Unbuilt → Holds logs.kept [] → 255 < length cluster.nodes }
         ensures only { OnErr result ((result ≡ Err NoMemory) ⊎ (result ≡ Err Unbuilt)) }
     {
         let members = members_of(alloc, cluster)?;
@@ -109,7 +108,7 @@ impl<R: Records, V: Versions> Node<R, V> {
         ensures fares { Fares V.Versions (failed_by result) self.old.replica.rows.rows self.new.replica.rows.rows }
     {
         let groups = touched(alloc, &message.body, self.open.as_slice())?;
-        let before = watched(alloc, &self.replica, groups)?;
+        let before = positions(alloc, &self.replica.voter, &self.replica.rows, groups)?;
         let opened = mem::replace(&mut self.open, Items::new(alloc));
         let taken = takes(alloc, &mut self.replica, opened, message)?;
         let Taken {
@@ -144,7 +143,7 @@ impl<R: Records, V: Versions> Node<R, V> {
         ensures fares { Fares V.Versions (failed_by result) self.old.replica.rows.rows self.new.replica.rows.rows }
     {
         let groups = asked_groups(alloc, &request)?;
-        let before = watched(alloc, &self.replica, groups)?;
+        let before = positions(alloc, &self.replica.voter, &self.replica.rows, groups)?;
         let work = self.begins(alloc, request)?;
         let none = Items::new(alloc);
         let step = self.ends(
@@ -181,7 +180,7 @@ impl<R: Records, V: Versions> Node<R, V> {
     {
         let found = self.replica.voter.groups(alloc)?;
         let groups = Items::from_vec(found);
-        let before = watched(alloc, &self.replica, groups)?;
+        let before = positions(alloc, &self.replica.voter, &self.replica.rows, groups)?;
         let made = ticks(alloc, &mut self.replica, now)?;
         let Ticked {
             notes,

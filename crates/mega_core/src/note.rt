@@ -1,4 +1,3 @@
-//! What a node notes in a step.
 use mega_actions::{Answered, Valid};
 use mega_base::GroupId;
 use mega_entry::Entry;

@@ -1,5 +1,4 @@
-//! The one reply to what a node is asked.
-ghost use Rattle.std.specs.Prelude.{◌≡◌, if◌then◌else◌, List, None, IfOk};
+ghost use Rattle.std.specs.Prelude.{◌≡◌, List, IfOk};
 ghost use Rattle.mega_rules.specs.Met.{Met};
 ghost use Rattle.mega_rules.specs.Replies.{reply_message};
 ghost use Rattle.mega_voter.specs.Telling.{Tells};
@@ -12,7 +11,7 @@ use mega_wire::{Body, Message};
 use std::alloc::Global;
 
 /// The reply of the voter to what it is asked.
-fn vote_reply<R: Records>(
+pub(crate) fn vote_reply<R: Records>(
     alloc: Global,
     voter: &Voter<R>,
     body: &Body,
@@ -58,21 +57,6 @@ fn vote_reply<R: Records>(
         }
         _ => Ok(None),
     }
-}
-
-/// The reply of a node to what is asked of voters, if it votes.
-pub(crate) fn own_reply<R: Records>(
-    alloc: Global,
-    voter: &Voter<R>,
-    votes: bool,
-    body: &Body,
-) -> Result<Option<Body>, NoMemory>
-    ensures { IfOk result (λ reply. (met : List Met) → Tells voter.now.logs.kept met → reply ≡ (if votes then vote_reply met body.now else None)) }
-{
-    if votes {
-        return vote_reply(alloc, voter, body);
-    }
-    Ok(None)
 }
 
 /// The first reply, or else the other.

@@ -1,4 +1,3 @@
-//! What a step gives.
 use crate::note::Note;
 use mega_base::Items;
 use mega_wire::Message;

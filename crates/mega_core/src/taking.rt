@@ -1,5 +1,4 @@
-//! A message is taken: what is told by it, what is decided, and what the operations do then.
-ghost use Rattle.std.specs.Prelude.{◌≡◌, ◌≢◌, ◌++◌, ℕ, List, All, map, true, false, None, IfOk, OnOk, Err};
+ghost use Rattle.std.specs.Prelude.{◌≡◌, ◌≢◌, ◌++◌, ℕ, List, All, map, true, None, IfOk, OnOk, Err};
 ghost use Rattle.std.specs.List.{range_with_len};
 ghost use Rattle.mega_base.specs.declared.names.GroupId.{GroupId as Group};
 ghost use Rattle.mega_handler.specs.Named.{Meanings};
@@ -9,7 +8,7 @@ ghost use Rattle.mega_leases.specs.Taking.{IsByStranger, IsLate};
 ghost use Rattle.mega_leases.specs.Tells.{Tells as TellsLeases};
 ghost use Rattle.mega_rules.specs.Clock.{clock_of};
 ghost use Rattle.mega_rules.specs.Logs.{log_of};
-ghost use Rattle.mega_rules.specs.Members.{has_rows};
+ghost use Rattle.mega_rules.specs.Members.{is_full};
 ghost use Rattle.mega_rules.specs.Met.{Met};
 ghost use Rattle.mega_rules.specs.Operations.{Node as RuleNode, Setting};
 ghost use Rattle.mega_rules.specs.Steps.{Take, all_act, at_first, decide_to, decision_note, first_settled, hears_message, if_new, news, onto, stored_after, told_decision};
@@ -32,7 +31,6 @@ use crate::deciding::{Chosen, decides, decision, note_decision, stores, tells_de
 use crate::fault::StepFault;
 use crate::hearing::all_hear;
 use crate::joining::add_sends;
-use crate::kinds::has_rows;
 use crate::note::Note;
 use crate::telling::{Told, is_told};
 use mega_actions::{ActFault, Replica, Work};
@@ -133,7 +131,7 @@ fn news_by(
     news(alloc, members, me, found)
 }
 
-/// Decides what a message tells or an operation settled by it, and stores a portion of its group where rows are kept.
+/// Decides what a message tells or an operation settled by it, and stores a portion of its group.
 #[tactic(auto, using(mega_replica::proofs::Fared::fares_here))]
 fn decides_by<R: Records, V: Versions>(
     alloc: Global,
@@ -143,7 +141,7 @@ fn decides_by<R: Records, V: Versions>(
 ) -> Result<Option<Chosen>, NoMemory>
     ensures new { IfOk result (λ d. (met : List Met) → Tells replica.old.voter.logs.kept met → d ≡ if_new met (or_settled (told_decision message.now.body) (first_settled heard.now))) }
     ensures kept { IfOk result (λ d. (met : List Met) → IsPlaced d → Tells replica.old.voter.logs.kept met → Tells replica.new.voter.logs.kept (onto (decision_note d) met)) }
-    ensures follows { IfOk result (λ d. (h : Meanings) (met : List Met) (stored : Group → ℕ) → (has_rows replica.old.members replica.old.me ≡ false → (group : Group) → stored group ≡ 0) → IsPlaced d → Tells replica.old.voter.logs.kept met →
+    ensures follows { IfOk result (λ d. (h : Meanings) (met : List Met) (stored : Group → ℕ) → is_full replica.old.members replica.old.me ≡ true → IsPlaced d → Tells replica.old.voter.logs.kept met →
         Follows (V.version replica.old.rows.rows) (progress_at replica.old.rows.progress) (log_of met) stored →
         Follows (V.version replica.new.rows.rows) (progress_at replica.new.rows.progress) (log_of (onto (decision_note d) met)) (stored_after (setting replica.old.members replica.old.me h) (onto (decision_note d) met) stored d)) }
     ensures members { replica.new.members ≡ replica.old.members }
@@ -153,16 +151,8 @@ fn decides_by<R: Records, V: Versions>(
 {
     let found = decision(alloc, &message.body, heard)?;
     let found = decides(alloc, &mut replica.voter, found)?;
-    let keeps = has_rows(replica.members.cluster(), replica.me);
     let most = u64::from(replica.members.cluster().apply);
-    stores(
-        alloc,
-        &replica.voter,
-        &mut replica.rows,
-        keeps,
-        most,
-        &found,
-    )?;
+    stores(alloc, &replica.voter, &mut replica.rows, most, &found)?;
     Ok(found)
 }
 

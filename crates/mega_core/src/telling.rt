@@ -1,9 +1,9 @@
-//! A message tells the cell and the coordinator, and is replied to.
-ghost use Rattle.std.specs.Prelude.{◌≡◌, ◌≢◌, ◌∷◌, List, map, None, IfOk, OnOk, Err};
+ghost use Rattle.std.specs.Prelude.{◌≡◌, ◌≢◌, ◌∷◌, List, map, true, None, IfOk, OnOk, Err};
 ghost use Rattle.mega_handler.specs.Named.{Meanings};
 ghost use Rattle.mega_leases.specs.Notes.{met_of as leases_met};
 ghost use Rattle.mega_leases.specs.Taking.{IsByStranger, IsLate};
 ghost use Rattle.mega_leases.specs.Tells.{Tells as TellsLeases};
+ghost use Rattle.mega_rules.specs.Members.{is_full};
 ghost use Rattle.mega_rules.specs.Met.{Grants, Lapses, Met, Takes};
 ghost use Rattle.mega_rules.specs.Replies.{reply_to};
 ghost use Rattle.mega_rules.specs.Steps.{onto, told_notes};
@@ -15,9 +15,8 @@ ghost use Rattle.mega_core.specs.Notes.{met_of};
 
 use crate::fault::StepFault;
 use crate::joining::add_of_leases;
-use crate::kinds::is_voter;
 use crate::note::Note;
-use crate::replying::{own_reply, reply_message};
+use crate::replying::{reply_message, vote_reply};
 use mega_actions::Replica;
 use mega_base::{Epoch, Items, NoMemory, NodeId};
 use mega_disk::{Records, Versions};
@@ -110,7 +109,7 @@ pub(crate) fn is_told<R: Records, V: Versions>(
 ) -> Result<Told, StepFault>
     ensures notes { IfOk result (λ made. (h : Meanings) (met : List Met) → TellsLeases replica.old.members replica.old.me replica.old.leases met →
         map met_of made.notes ≡ told_notes (setting replica.old.members replica.old.me h) met message.now.from message.now.body) }
-    ensures sends { IfOk result (λ made. (met : List Met) → Tells replica.old.voter.logs.kept met →
+    ensures sends { IfOk result (λ made. (met : List Met) → is_full replica.old.members replica.old.me ≡ true → Tells replica.old.voter.logs.kept met →
         TellsLeases replica.old.members replica.old.me replica.old.leases met → made.sends ≡ reply_to replica.old.members replica.old.me met message.now) }
     ensures kept { OnOk result ((h : Meanings) (met : List Met) → Tells replica.old.voter.logs.kept met → TellsLeases replica.old.members replica.old.me replica.old.leases met →
         Tells replica.new.voter.logs.kept (onto (told_notes (setting replica.old.members replica.old.me h) met message.now.from message.now.body) (Takes message.now ∷ met))) }
@@ -124,8 +123,7 @@ pub(crate) fn is_told<R: Records, V: Versions>(
     ensures late { result ≡ Err Late → (met : List Met) → TellsLeases replica.old.members replica.old.me replica.old.leases met → IsLate replica.old.members message.now.body }
     ensures apart { failed_by result ≡ None }
 {
-    let votes = is_voter(replica.members.cluster(), replica.me);
-    let mine = own_reply(alloc, &replica.voter, votes, &message.body)?;
+    let mine = vote_reply(alloc, &replica.voter, &message.body)?;
     let told = replica.leases.takes(alloc, message)?;
     let mega_leases::Told { notes, reply } = told;
     keep_notes(alloc, &mut replica.voter, notes.as_slice())?;

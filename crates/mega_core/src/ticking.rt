@@ -1,5 +1,4 @@
-//! A tick: portions are stored, leases tick, and what is missing is fetched.
-ghost use Rattle.std.specs.Prelude.{◌≡◌, ◌++◌, ℕ, List, map, flat_map, fold, true, false, None, IfOk, OnOk, Err, All};
+ghost use Rattle.std.specs.Prelude.{◌≡◌, ◌++◌, ℕ, List, map, flat_map, fold, true, None, IfOk, OnOk, Err, All};
 ghost use Rattle.mega_base.specs.declared.names.GroupId.{GroupId as Group};
 ghost use Rattle.mega_handler.specs.Named.{Meanings};
 ghost use Rattle.mega_node_laws.specs.About.{IsAbout};
@@ -27,7 +26,6 @@ ghost use Rattle.mega_core.specs.Represents.{Represents};
 ghost use Rattle.mega_core.specs.Ticking.{HasTicked, fetch_message};
 
 use crate::joining::{add_of_leases, add_sends};
-use crate::kinds::has_rows;
 use crate::note::Note;
 use crate::telling::{keep_notes, of_leases};
 use mega_actions::{ActFault, Replica, Work};
@@ -69,23 +67,19 @@ fn store_portion<R: Records, V: Versions>(
     }
 }
 
-/// Stores a portion of each group, at a node that keeps rows.
+/// Stores a portion of each group.
 #[tactic(auto, using(mega_replica::proofs::Fared::fares_here, mega_replica::proofs::Fared::fares_then))]
 fn store_portions<R: Records, V: Versions>(
     alloc: Global,
     voter: &Voter<R>,
     rows: &mut StoredRows<V>,
-    keeps: bool,
     most: u64,
 ) -> Result<(), NoMemory>
-    ensures follows { OnOk result ((s : Setting) (met : List Met) (stored : Group → ℕ) → keeps ≡ has_rows s.cluster s.me → (keeps ≡ false → (group : Group) → stored group ≡ 0) → s.cluster.apply ≡ most → Tells voter.now.logs.kept met →
+    ensures follows { OnOk result ((s : Setting) (met : List Met) (stored : Group → ℕ) → has_rows s.cluster s.me ≡ true → s.cluster.apply ≡ most → Tells voter.now.logs.kept met →
         Follows (V.version rows.old.rows) (progress_at rows.old.progress) (log_of met) stored →
         Follows (V.version rows.new.rows) (progress_at rows.new.progress) (log_of met) (portion_of s met stored)) }
     ensures fares { Fares V.Versions None rows.old.rows rows.new.rows }
 {
-    if !keeps {
-        return Ok(());
-    }
     let groups = voter.groups(alloc)?;
     for group in groups {
         store_portion(alloc, voter, rows, most, &group)?;
@@ -179,13 +173,12 @@ fn background<R: Records>(
     voter: &Voter<R>,
     members: &Members,
     me: u8,
-    keeps: bool,
     again: bool,
 ) -> Result<Items<Message>, NoMemory>
-    ensures { IfOk result (λ sends. (s : Setting) (met : List Met) (now : ℕ) → s.cluster ≡ members.now → s.me ≡ me → keeps ≡ has_rows s.cluster s.me →
+    ensures { IfOk result (λ sends. (s : Setting) (met : List Met) (now : ℕ) → s.cluster ≡ members.now → s.me ≡ me → has_rows s.cluster s.me ≡ true →
         again ≡ does_again s.cluster.retry (ticks_of met) now → Tells voter.now.logs.kept met → sends ≡ background s met now) }
 {
-    if keeps && again {
+    if again {
         return all_fetches(alloc, voter, members, me);
     }
     Ok(Items::new(alloc))
@@ -245,17 +238,9 @@ pub(crate) fn ticks<R: Records, V: Versions>(
     ensures fares { Fares V.Versions None replica.old.rows.rows replica.new.rows.rows }
 {
     let again = replica.leases.does_again(now);
-    let keeps = has_rows(replica.members.cluster(), replica.me);
-    let closing = background(
-        alloc,
-        &replica.voter,
-        &replica.members,
-        replica.me,
-        keeps,
-        again,
-    )?;
+    let closing = background(alloc, &replica.voter, &replica.members, replica.me, again)?;
     let most = u64::from(replica.members.cluster().apply);
-    store_portions(alloc, &replica.voter, &mut replica.rows, keeps, most)?;
+    store_portions(alloc, &replica.voter, &mut replica.rows, most)?;
     let ticking = replica.leases.ticks(alloc, now)?;
     let mega_leases::Ticking {
         of_coordinator,

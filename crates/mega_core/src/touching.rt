@@ -1,10 +1,9 @@
-//! The groups of which a step may apply more.
 ghost use Rattle.std.specs.Prelude.{◌≡◌, ◌++◌, ◌∷◌, [], List, Option, Some, None, IfOk, fold};
 ghost use Rattle.mega_base.specs.declared.names.GroupId.{GroupId as Group};
 ghost use Rattle.mega_node_laws.specs.About.{group_in};
 ghost use Rattle.mega_rules.specs.Logs.{groups_of, is_group_before, with_group};
 ghost use Rattle.mega_rules.specs.Steps.{decision_note, told_decision};
-ghost use Rattle.mega_core.specs.Touching.{asked_groups, named, touched, waits, with_phase};
+ghost use Rattle.mega_core.specs.Touching.{asked_groups, touched, waits, with_phase};
 
 use mega_base::{Copied, GroupId, Items, NoMemory};
 use mega_operations::{Operation, Phase};
@@ -114,16 +113,6 @@ fn only(alloc: Global, group: &GroupId) -> Result<Items<GroupId>, NoMemory>
     Ok(groups)
 }
 
-/// This group alone, if there is one.
-fn named(alloc: Global, group: &Option<GroupId>) -> Result<Items<GroupId>, NoMemory>
-    ensures { IfOk result (λ groups. groups ≡ named group.now) }
-{
-    match group {
-        Some(group) => only(alloc, group),
-        None => Ok(Items::new(alloc)),
-    }
-}
-
 /// The group of the decision that a message tells, if it tells one.
 fn told(alloc: Global, body: &Body) -> Result<Items<GroupId>, NoMemory>
     ensures { IfOk result (λ groups. groups ≡ groups_of (decision_note (told_decision body.now))) }
@@ -154,8 +143,6 @@ pub(crate) fn asked_groups(alloc: Global, request: &Request) -> Result<Items<Gro
     match request {
         Request::Txn(txn) => only(alloc, &txn.group),
         Request::Batch(group, _) => only(alloc, group),
-        Request::Read(read) => only(alloc, &read.group),
-        Request::Find(find) => named(alloc, &find.group),
         _ => Ok(Items::new(alloc)),
     }
 }

@@ -1,4 +1,3 @@
-//! The changes of a memory device since its last sync, and what a crash leaves of them.
 ghost use Rattle.std.specs.Prelude.{◌≡◌, ◌+◌, ◌≤◌, [], ◌∷◌, ◌++◌, length, OnOk, OnErr, take, drop, replicate};
 ghost use Rattle.mega_disk.specs.Images.{overwritten};
 ghost use Rattle.mega_disk.specs.Changes.{AddsChange, IsWrite, IsCut, all_undone, all_filled, burnt_content, undone, fill_change};

@@ -1,4 +1,3 @@
-//! The model of a device: one file, what a read gives, and what a crash may leave.
 ghost use Rattle.std.specs.Prelude.{◌≡◌, ◌≤◌, ◌+◌, List, ℕ, Option, Bool, true, length, take, slice_range, IfOk, OnOk, OnErr};
 ghost use Rattle.mega_base.specs.Causes.{Rose};
 ghost use Rattle.mega_disk.specs.Images.{Only, Follows, Within, Torn, Cut, overwritten, Elapses, SameImages};

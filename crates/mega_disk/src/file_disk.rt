@@ -1,4 +1,3 @@
-//! A device over a file of the operating system.
 ghost use Rattle.std.specs.Prelude.{◌≡◌, ◌≤◌, [], false, None, OnErr};
 ghost use Rattle.mega_base.specs.Causes.{Rose};
 ghost use Rattle.mega_disk.specs.Fuse.{Untold};

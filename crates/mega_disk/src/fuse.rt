@@ -1,4 +1,3 @@
-//! A fuse that lets a device make so many calls more, and then fail.
 ghost use Rattle.std.specs.Prelude.{◌≡◌, ◌+◌, ◌≤◌, ◌==◌, ◌↔◌, IsSome, IfSome};
 ghost use Rattle.mega_disk.specs.Fuse.{Left, after_call};
 ghost use Rattle.mega_disk.specs.MemDisk.{fuse_of};

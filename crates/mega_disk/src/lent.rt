@@ -1,4 +1,3 @@
-//! A device that is lent is a device, by all that the device itself tells.
 use crate::disk::{Disk, DiskError};
 
 /// A device that is lent is a device.

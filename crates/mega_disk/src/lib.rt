@@ -23,3 +23,6 @@ pub use pair::{Device, Pair};
 pub use past::Past;
 pub use records::{RecordError, Records};
 pub use versions::{StoreError, Versions};
+
+#[cfg(test)]
+mod tests;

@@ -1,4 +1,3 @@
-//! A device in memory, which keeps its states and fails where it is told to.
 ghost use Rattle.std.specs.Prelude.{◌≡◌, ◌≢◌, ◌↔◌, ◌≤◌, ◌+◌, ◌++◌, [], ◌∷◌, true, false, Some, length, take, min, nat_le, refl, OnOk, OnErr};
 ghost use Rattle.std.proofs.Common.{inl};
 ghost use Rattle.mega_base.specs.Causes.{Rose};

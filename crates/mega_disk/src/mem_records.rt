@@ -1,4 +1,3 @@
-//! A list of records in memory, which no crash takes away.
 ghost use Rattle.std.specs.Prelude.{◌≡◌, ◌+◌, ◌≤◌, ◌++◌, [], ◌∷◌, true, false, length, nat_le, refl, IfOk, OnOk, OnErr};
 ghost use Rattle.std.proofs.Common.{inl};
 ghost use Rattle.mega_disk.specs.Fuse.{Untold};

@@ -1,4 +1,3 @@
-//! Versions of rows in memory, in a short list, as tests want them.
 ghost use Rattle.std.specs.Prelude.{◌≡◌, ◌≤◌, ◌++◌, [], ◌∷◌, true, false, List, ℕ, None, refl, length, OnOk, OnErr, IfOk, IfSome, IfNone};
 ghost use Rattle.std.specs.Option.{option_map, option_copied};
 ghost use Rattle.mega_disk.specs.VersionMaps.{version_at, row_of, IsLatest, IsScan};

@@ -1,4 +1,3 @@
-//! A node's two devices: the log, and the runs of row versions.
 /// Which of a node's two devices.
 #[derive(Clone, Copy, PartialEq, Eq, Debug, Drop)]
 pub enum Device {

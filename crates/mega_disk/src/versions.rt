@@ -1,4 +1,3 @@
-//! Versions of rows by key and position, and why a store of them refuses a call.
 ghost use Rattle.std.specs.Prelude.{◌≡◌, ◌⊎◌, ◌≤◌, ◌<◌, ◌^◌, ◌∷◌, [], List, ℕ, Bool, true, false, Some, IfOk, OnOk, OnErr};
 ghost use Rattle.mega_base.specs.Causes.{Rose};
 ghost use Rattle.mega_disk.specs.Images.{Only, Within, LeavesOnly, SameImages};

@@ -1,4 +1,3 @@
-//! Reads an entry from its whole text, and appends the text of an entry.
 ghost use Rattle.std.specs.Prelude.{◌≡◌, ◌++◌, Ok, IfOk, OnOk, OnErr};
 ghost use Rattle.mega_base.specs.Reading.{whole_of};
 ghost use Rattle.mega_base.specs.Codec.{IsText, IsFirstBad};

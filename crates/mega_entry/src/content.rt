@@ -1,4 +1,3 @@
-//! What a log entry holds: writes, sends, enters, handles, the next leader, and the cuts of a batch.
 use mega_base::{Bytes, Copied, GroupId, Items, NoMemory, NodeId, OpId, Position, Row, Text};
 use std::alloc::Global;
 

@@ -1,4 +1,3 @@
-//! The format of a batch's cuts, whose indexes rise and whose numbers add up.
 ghost use Rattle.std.specs.Prelude.{◌≡◌, ◌≤◌, ◌+◌};
 ghost use Rattle.mega_base.specs.Faults.{Reads};
 ghost use Rattle.mega_entry.specs.Entries.{first_index, least_part, cuts_of, cuts_at};

@@ -1,4 +1,3 @@
-//! A log entry that is held once and lent, so that a copy shares its content.
 ghost use Rattle.std.specs.Prelude.{◌≡◌, IfOk};
 
 use crate::content::Content;

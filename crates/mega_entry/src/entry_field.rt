@@ -1,4 +1,3 @@
-//! The format of an entry, in its version without cuts and its version with cuts.
 ghost use Rattle.std.specs.Prelude.{◌≡◌, ◌++◌, ◌<◌, ◌^◌, take, length, OnOk, OnErr, All};
 ghost use Rattle.mega_base.specs.Codec.{list_text};
 ghost use Rattle.mega_base.specs.Faults.{Reads};

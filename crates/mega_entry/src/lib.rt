@@ -8,6 +8,8 @@ mod entry;
 mod entry_field;
 mod parts;
 mod same;
+#[cfg(test)]
+mod tests;
 
 pub use coding::{decode, encode};
 pub use content::{Content, Cut, Enter, Name, Send, Write};

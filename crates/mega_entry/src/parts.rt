@@ -1,4 +1,3 @@
-//! The formats of an entry's parts: writes, names, sends, enters and cuts.
 ghost use Rattle.std.specs.Prelude.{◌≤◌, ◌<◌, ◌^◌};
 ghost use Rattle.mega_base.specs.Faults.{Reads};
 ghost use Rattle.mega_entry.specs.Entries.{cut_in};

@@ -1,4 +1,3 @@
-//! Whether two contents of entries, or two of their parts, are equal.
 use crate::content::{Content, Cut, Enter, Name, Send, Write};
 use crate::entry::Entry;
 use mega_base::Same;

@@ -1,4 +1,3 @@
-//! One block of a drawn schedule: ticks, operations, crashes and the drain that ends it.
 ghost use Rattle.std.specs.Prelude.{◌≡◌, ◌<◌, ◌≤◌, ◌-◌, None, IfOk, OnOk};
 ghost use Rattle.mega_gen.specs.Pages.{fill};
 ghost use Rattle.mega_gen.specs.Blocks.{ticks, chosen, drawn_line, operation, operations, state_after, block};

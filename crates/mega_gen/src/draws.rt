@@ -1,4 +1,3 @@
-//! The drawn numbers of a schedule, from the state of the draws.
 ghost use Rattle.std.specs.Prelude.{◌≡◌, ◌<◌, ◌≤◌};
 ghost use Rattle.mega_gen.specs.Draws.{next, drawn};
 

@@ -1,4 +1,3 @@
-//! The header of a cluster of so many full nodes.
 ghost use Rattle.std.specs.Prelude.{◌≡◌, ◌++◌, IfOk, OnOk};
 ghost use Rattle.mega_gen.specs.Generated.{full_nodes, more_nodes, cells, header};
 

@@ -9,3 +9,6 @@ mod page;
 mod writing;
 
 pub use writing::generate;
+
+#[cfg(test)]
+mod tests;

@@ -1,4 +1,3 @@
-//! The lines of a drawn schedule: ticks, crashes, starts, transactions and reads.
 ghost use Rattle.std.specs.Prelude.{◌≡◌, IfOk};
 ghost use Rattle.mega_gen.specs.Lines.{tick_line, crash_line, start_line, put_line, current_line, snapshot_line};
 

@@ -1,4 +1,3 @@
-//! Lines that wait to be written, and how many more are to be made.
 ghost use Rattle.std.specs.Prelude.{◌≡◌, ◌∷◌, [], OnOk};
 ghost use Rattle.mega_gen.specs.Pages.{fill};
 

@@ -1,4 +1,3 @@
-//! Writes the header and the drawn lines of a schedule to a sink, a block at a time.
 ghost use Rattle.std.specs.Prelude.{◌≡◌, ◌≤◌, ◌<◌, Err, OnOk, OnErr, take};
 ghost use Rattle.std.specs.Io.KnownBytes.{Appends};
 ghost use Rattle.mega_base.specs.Causes.{Rose};

@@ -1,4 +1,3 @@
-//! A handler that makes the one write that its payload spells.
 ghost use Rattle.std.specs.Prelude.{◌≡◌, IfOk};
 ghost use Rattle.mega_handler.specs.Effects.{copy_writes};
 

@@ -1,4 +1,3 @@
-//! A handler that adds the amount in its payload to a property of a row.
 ghost use Rattle.std.specs.Prelude.{◌≡◌, ◌^◌, ◌<◌, ◌≤◌, take, length, IfOk};
 ghost use Rattle.std.specs.Option.{option_copied};
 ghost use Rattle.std.specs.Int.{w64, from_be_bytes, cast_signed};

@@ -1,4 +1,3 @@
-//! The trait of what a queue does with a message that was entered into its group's log.
 ghost use Rattle.std.specs.Prelude.{◌≡◌, ◌+◌, ◌-◌, ◌^◌, min, ℕ, IfOk, OnOk, OnErr};
 ghost use Rattle.mega_entry.specs.declared.content.Enter.{Enter as EnterSeen};
 ghost use Rattle.mega_index.specs.Rows.{Listed};

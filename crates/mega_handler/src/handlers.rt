@@ -1,4 +1,3 @@
-//! The handlers of queues: registered, replaced and removed at run time.
 ghost use Rattle.std.specs.Prelude.{◌≡◌, ◌≢◌, ◌+◌, ◌-◌, ◌^◌, min, [], is_some, ok_or, option_map, true, false, OnOk, OnErr, IfOk, Some, None, Ok, Err};
 ghost use Rattle.std.specs.Ordering.{nat_cmp};
 ghost use Rattle.std.specs.declared.cmp.Ordering.TheVariants.{Equal};

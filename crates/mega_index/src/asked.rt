@@ -1,4 +1,3 @@
-//! The kinds of an index's properties, and the first value asked for that is of another kind.
 ghost use Rattle.std.specs.Prelude.{◌≡◌, ◌++◌, flat_map, IfOk, OnOk};
 ghost use Rattle.std.specs.Option.{option_copied};
 ghost use Rattle.mega_index.specs.Fits.{numbered};

@@ -1,4 +1,3 @@
-//! The cells and values of a row, and rows made of some of its properties.
 ghost use Rattle.std.specs.Prelude.{◌≡◌, ◌==◌, [], ◌∷◌, ◌++◌, if◌then◌else◌, find, IfOk, OnOk};
 ghost use Rattle.mega_base.specs.declared.values.Cell.{Cell};
 ghost use Rattle.std.specs.Option.{option_copied};

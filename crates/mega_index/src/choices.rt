@@ -1,4 +1,3 @@
-//! One value of each indexed property, in all ways.
 ghost use Rattle.std.specs.Prelude.{◌≡◌, [], ◌∷◌, ◌++◌, IfOk, OnOk};
 ghost use Rattle.mega_index.specs.Fits.{with_each, extended, choices};
 

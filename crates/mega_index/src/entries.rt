@@ -1,4 +1,3 @@
-//! The keys of a row's index entries, and the first that is too long.
 ghost use Rattle.std.specs.Prelude.{◌≡◌, ◌≤◌, ◌++◌, [], ◌∷◌, length, filter, map, nat_le, nat_lt, if◌then◌else◌, Some, None, IfOk, OnOk};
 ghost use Rattle.mega_index.specs.Fits.{prefix_of, index_keys, entry_keys, first_long};
 ghost use Rattle.mega_keys.specs.Spelling.{index_bytes};

@@ -1,4 +1,3 @@
-//! Why an index refuses a call.
 use mega_base::NoMemory;
 
 /// Why an index refused a call.

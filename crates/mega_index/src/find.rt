@@ -1,4 +1,3 @@
-//! Finds the entries of a global index that begin with given values, in order of key.
 ghost use Rattle.std.specs.Prelude.{◌≡◌, ◌≤◌, true, [], length, map, nat_le, if◌then◌else◌, Some, None, IfOk, IfSome, IfNone};
 ghost use Rattle.mega_keys.specs.Spelling.{index_bytes};
 ghost use Rattle.mega_index.specs.Fits.{numbered, indexes_of};

@@ -1,4 +1,3 @@
-//! Whether a row has the properties that its table declares.
 ghost use Rattle.std.specs.Prelude.{◌≡◌};
 ghost use Rattle.std.specs.List.{list_all};
 ghost use Rattle.std.specs.Option.{option_copied};

@@ -1,4 +1,3 @@
-//! Lets go of the hints of entries that rows no longer have.
 ghost use Rattle.std.specs.Prelude.{◌≡◌, true, IfOk, Some};
 ghost use Rattle.std.specs.Option.{option_copied};
 ghost use Rattle.std.specs.List.{list_any};

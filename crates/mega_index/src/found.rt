@@ -1,4 +1,3 @@
-//! What an index names: a row by its table and key, and the properties that the index stores.
 use mega_base::{Copied, Items, NoMemory, Row, Value};
 use std::alloc::Global;
 

@@ -1,4 +1,3 @@
-//! Gathers the entries of the rows that are wanted, by their keys.
 ghost use Rattle.std.specs.Prelude.{◌≡◌, ◌≤◌, filter, [], ◌∷◌, if◌then◌else◌, Some, IfOk, OnOk};
 ghost use Rattle.mega_index.specs.Fits.{numbered};
 ghost use Rattle.mega_index.specs.Entries.{placed, found_of};

@@ -1,4 +1,3 @@
-//! The global indexes over groups, each group at the position at which it was last refreshed.
 ghost use Rattle.std.specs.Prelude.{◌≡◌, true, [], IfErr, OnOk, OnErr};
 ghost use Rattle.mega_schema.specs.declared.schema.Schema.{Schema};
 ghost use Rattle.mega_index.specs.Answers.{GivesOrPlace};

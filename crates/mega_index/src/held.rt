@@ -1,4 +1,3 @@
-//! The rows of a group at its mark, and the writes that move the mark on.
 ghost use Rattle.std.specs.Prelude.{◌≡◌, true, [], IsSome, None, OnOk, OnErr};
 ghost use Rattle.std.specs.BTreeMap.{get, insert_entry, keys};
 ghost use Rattle.mega_index.specs.Rows.{key_cmp, list_changed, list_written};

@@ -1,4 +1,3 @@
-//! The key and the group of a row, as its table's shape spells them.
 ghost use Rattle.std.specs.Prelude.{◌≡◌, ◌≤◌, Some, Ok, Err, IfOk};
 ghost use Rattle.mega_keys.specs.Answers.{Gives, GivesGroup};
 ghost use Rattle.mega_keys.specs.Spelling.{root_part};

@@ -1,4 +1,3 @@
-//! The law of local indexes: their writes turn the entries of an old row into those of the new one.
 ghost use Rattle.std.specs.Prelude.{◌≡◌, List, ℕ, Option};
 ghost use Rattle.mega_base.specs.declared.values.Row.{Row};
 ghost use Rattle.mega_schema.specs.declared.schema.Table.{Table};

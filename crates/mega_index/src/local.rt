@@ -1,4 +1,3 @@
-//! The entries of a row in the local indexes of its table.
 ghost use Rattle.std.specs.Prelude.{◌≡◌, ◌≤◌, ◌++◌, [], length, Some, IfOk, OnOk};
 ghost use Rattle.std.specs.Option.{option_copied};
 ghost use Rattle.mega_index.specs.Fits.{numbered};

@@ -1,4 +1,3 @@
-//! The first index key of a row that is too long, and whether a row fits its table.
 ghost use Rattle.std.specs.Prelude.{◌≡◌, ◌==◌, ◌≤◌, length, is_ok, if◌then◌else◌, Some, None, IfOk};
 ghost use Rattle.mega_index.specs.Cells.{key_values};
 ghost use Rattle.mega_index.specs.Fits.{numbered, indexes_of, first_long, index_keys, long_in, long_key, has_place, row_fits, key_of};

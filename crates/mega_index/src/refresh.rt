@@ -1,4 +1,3 @@
-//! The writes of log entries, and the hints of the index entries that they make.
 ghost use Rattle.std.specs.Prelude.{◌≡◌, ◌++◌, true, IfOk, OnOk};
 ghost use Rattle.std.specs.List.{list_all};
 ghost use Rattle.mega_index.specs.Hints.{KeepsHints, is_hinted, row_is_hinted, write_is_hinted, writes_are_hinted};

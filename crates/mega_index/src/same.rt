@@ -1,4 +1,3 @@
-//! Whether two rows are the same, or a row has given values.
 ghost use Rattle.std.specs.Prelude.{◌≡◌};
 ghost use Rattle.mega_index.specs.Cells.{values_of};
 ghost use Rattle.mega_index.specs.Same.{same_values, same_row};

@@ -1,4 +1,3 @@
-//! Whether a row stands under its own key, and the keys of its entries in all global indexes.
 ghost use Rattle.std.specs.Prelude.{◌≡◌, ◌++◌, ◌≤◌, Some, IfOk, OnOk};
 ghost use Rattle.std.specs.Option.{option_copied};
 ghost use Rattle.mega_index.specs.Fits.{numbered, stands_in};

@@ -1,4 +1,3 @@
-//! The local index writes that belong to a change of a row.
 ghost use Rattle.std.specs.Prelude.{◌≡◌, ◌++◌, Some, IfOk, OnOk};
 ghost use Rattle.std.specs.Option.{option_copied};
 ghost use Rattle.mega_index.specs.Rows.{row_under};

@@ -1,4 +1,3 @@
-//! Sources and sinks over the readers and writers of the system.
 ghost use Rattle.std.specs.Prelude.{None};
 
 use crate::sink::{Sink, SinkError};

@@ -5,6 +5,8 @@ mod edges;
 mod lines;
 mod sink;
 mod source;
+#[cfg(test)]
+mod tests;
 mod write_buffer;
 
 pub use edges::{StdSink, StdSource};

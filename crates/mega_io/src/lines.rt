@@ -1,4 +1,3 @@
-//! Reads a source line by line, in large pieces.
 ghost use Rattle.std.specs.Prelude.{◌≡◌, ◌≢◌, ◌≤◌, ◌<◌, ◌++◌, ◌∷◌, [], List, ℕ, Option, Some, Ok, Err, IfOk, OnOk, OnErr, take, drop, length, slice_index, All, true, false};
 ghost use Rattle.std.specs.Io.KnownBytes.{prepend_known, Consumes, Keeps, IsAtEnd};
 ghost use Rattle.mega_base.specs.Causes.{Rose};

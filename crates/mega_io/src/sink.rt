@@ -1,4 +1,3 @@
-//! Where bytes are written to: the trait of it, and a sink in memory with failing calls.
 ghost use Rattle.std.specs.Prelude.{◌≡◌, ◌≤◌, ◌<◌, ◌+◌, List, ℕ, Option, Some, None, Err, length, IfOk, OnOk, OnErr, [], Contains, ◌↔◌};
 ghost use Rattle.std.specs.Io.{WritesAtMost};
 ghost use Rattle.std.specs.Io.KnownBytes.{Appends, WriteAppends};

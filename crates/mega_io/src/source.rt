@@ -1,4 +1,3 @@
-//! Where bytes are read from: the trait of it, and a source in memory with failing calls.
 ghost use Rattle.std.specs.Prelude.{◌≡◌, ◌≤◌, ◌<◌, ◌+◌, List, ℕ, Option, Some, OnErr, length, take, min, Contains, IsErr, ◌↔◌};
 ghost use Rattle.std.specs.Io.{ReadsAtMost};
 ghost use Rattle.std.specs.Io.KnownBytes.{ReadConsumes};

@@ -1,4 +1,3 @@
-//! Gathers small pieces for a sink, and writes them on in large ones.
 ghost use Rattle.std.specs.Prelude.{◌≡◌, ◌≤◌, [], ◌++◌, Err, OnOk, OnErr};
 ghost use Rattle.std.specs.Io.KnownBytes.{append_known, Keeps, Appends};
 ghost use Rattle.mega_base.specs.Causes.{Rose};

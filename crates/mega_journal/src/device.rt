@@ -1,4 +1,3 @@
-//! The device calls of a journal: settle, write and sync, and read all bytes once.
 ghost use Rattle.std.specs.Prelude.{◌≡◌, ◌+◌, ◌≤◌, true, length, IfOk, OnOk};
 ghost use Rattle.mega_base.specs.Causes.{Rose};
 ghost use Rattle.mega_disk.specs.Images.{overwritten, Only, Torn, Within, LeavesOnly};

@@ -1,4 +1,3 @@
-//! A list of records on one device, kept as one chain.
 ghost use Rattle.std.specs.Prelude.{◌≡◌, ◌+◌, ◌<◌, ◌≤◌, ◌^◌, ◌↔◌, ◌⊎◌, true, false, length};
 ghost use Rattle.std.specs.List.{AllByRecursion-prop};
 ghost use Rattle.std.proofs.Props.{props};

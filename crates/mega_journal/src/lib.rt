@@ -8,3 +8,6 @@ mod opening;
 mod parse;
 
 pub use journal::Journal;
+
+#[cfg(test)]
+mod tests;

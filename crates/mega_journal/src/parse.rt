@@ -1,4 +1,3 @@
-//! Reads the records before the first closed gate of a file's bytes.
 ghost use Rattle.std.specs.Prelude.{◌≡◌, ◌<◌, ◌≤◌, ◌++◌, length, drop, None, IfOk, OnOk};
 ghost use Rattle.std.specs.Option.{option_map};
 ghost use Rattle.mega_journal.specs.Chain.{first_record as first_record_of, records_of, chain_of, AreShort};

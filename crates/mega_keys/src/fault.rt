@@ -1,4 +1,3 @@
-//! Why values have no key, or bytes are no key.
 ghost use Rattle.std.specs.Prelude.{◌≡◌};
 ghost use Rattle.mega_keys.specs.declared.fault.KeyFault.TheVariants.{NoMemory as Refused};
 

@@ -1,4 +1,3 @@
-//! The first of some values that is of another kind than its place, or has no place.
 ghost use Rattle.std.specs.Prelude.{◌≡◌, ◌++◌, slice_get};
 ghost use Rattle.mega_keys.specs.Fit.{has_kind, misplaced};
 

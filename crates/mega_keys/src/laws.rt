@@ -1,4 +1,3 @@
-//! Laws over all keys: they are apart, in the order of their values, read back, and refused where told.
 ghost use Rattle.std.specs.Prelude.{◌≡◌, ◌<◌, [], ◌++◌, List, ℕ, Ok, Err, length, slice_index};
 ghost use Rattle.std.specs.Ordering.{nat_cmp, ordering_then};
 ghost use Rattle.std.specs.Cmp.Lexicographic.{slice_cmp};

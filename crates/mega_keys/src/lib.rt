@@ -14,3 +14,6 @@ pub use laws::{
 };
 pub use read::read_key;
 pub use write::{group_of, index_key, row_key};
+
+#[cfg(test)]
+mod tests;

@@ -1,4 +1,3 @@
-//! Reads the values of a row key back, and tells the byte that cannot stand there.
 ghost use Rattle.std.specs.Prelude.{◌≡◌, ◌^◌, ◌++◌, List, ℕ, IfOk, Ok, length, take};
 ghost use Rattle.std.specs.Int.{w32, w64};
 ghost use Rattle.std.specs.List.{flat_map};

@@ -1,4 +1,3 @@
-//! The bytes of values in a key, so that keys are in the order of their values.
 ghost use Rattle.std.specs.Prelude.{◌≡◌, ◌++◌, ◌^◌, OnOk};
 ghost use Rattle.std.specs.List.{flat_map};
 ghost use Rattle.mega_keys.specs.Spelling.{raised, escape, escaped, spell, plain, spell_all, bit_of};

@@ -1,4 +1,3 @@
-//! Writes row keys, entity groups and index keys, or tells why the values have none.
 ghost use Rattle.std.specs.Prelude.{◌≡◌, ◌++◌, ◌+◌, ◌≤◌, ◌<◌, length, IfOk, Ok, Err};
 ghost use Rattle.mega_keys.specs.Spelling.{scattered, head_bytes};
 ghost use Rattle.mega_keys.specs.Answers.{Gives, GivesGroup, limited, fault_of, row_key_of, group_key_of, index_key_of};

@@ -4,4 +4,3 @@ pub mod Opening
 pub mod Tells
 pub mod Taking
 pub mod Laws
-pub mod Counting

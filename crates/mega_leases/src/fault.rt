@@ -1,4 +1,3 @@
-//! Why leases do not take a message.
 ghost use Rattle.std.specs.Prelude.{◌≡◌};
 
 use mega_base::NoMemory;

@@ -1,4 +1,3 @@
-//! The clock, the lock cell and the coordinator of a node, from one start of it to its end.
 ghost use Rattle.std.specs.Prelude.{◌≡◌, ◌⊎◌, ◌≤◌, ◌<◌, ◌+◌, ◌-◌, ◌^◌, ◌∷◌, ◌++◌, List, map, flat_map, get_or, is_none, true, false, IfOk, OnErr, Ok, None};
 ghost use Rattle.mega_locks.specs.History.{Represents, nodes};
 ghost use Rattle.mega_rules.specs.Met.{Met, Starts, Validates};

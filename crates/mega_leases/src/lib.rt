@@ -1,7 +1,6 @@
 //! The clock, the lock cell and the coordinator of a node, said over what the node met.
 #![tactic(auto)]
 
-mod counting;
 mod fault;
 pub mod laws;
 mod leases;

@@ -1,4 +1,3 @@
-//! What a node notes of its lock cell and its coordinator.
 use mega_base::{Epoch, GroupId, NodeId, Position};
 
 /// What a node notes of its lock cell and its coordinator.

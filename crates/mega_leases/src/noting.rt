@@ -1,4 +1,3 @@
-//! Turns the answers of cell and coordinator into what the node notes.
 ghost use Rattle.std.specs.Prelude.{◌≡◌, ◌++◌, map, flat_map, filter, get_or, IfOk, None, ◌-◌};
 ghost use Rattle.std.specs.List.{range_with_len};
 ghost use Rattle.mega_locks.specs.History.{nodes};

@@ -1,4 +1,3 @@
-//! What a node's leases go by: its number, its kind, the cells, and the times of lease and retry.
 ghost use Rattle.std.specs.Prelude.{◌≡◌, ◌+◌, ◌<◌, ◌^◌};
 ghost use Rattle.mega_rules.specs.Members.{is_full};
 ghost use Rattle.mega_leases.specs.Numbers.{numbers_of};

@@ -1,4 +1,3 @@
-//! A message is taken by the lock cell or the coordinator: what is noted and replied.
 ghost use Rattle.std.specs.Prelude.{◌≡◌, ◌≢◌, true, false, ◌+◌, ◌≤◌, ◌^◌, ◌==◌, ◌&&◌, nat_le, ℕ, List, [], ◌∷◌, map, IfOk, OnOk, Err, None, if◌then◌else◌};
 ghost use Rattle.mega_rules.specs.Met.{Invalidates, Met, Takes};
 ghost use Rattle.mega_rules.specs.Members.{is_cell};

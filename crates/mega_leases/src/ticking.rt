@@ -1,4 +1,3 @@
-//! What a tick does to cell and coordinator, and which cells it asks again.
 ghost use Rattle.std.specs.Prelude.{◌≡◌, ◌-◌, ◌&&◌, ◌∷◌, ◌++◌, [], List, Some, None, map, flat_map, filter, get_or, nat_le, IfOk, if◌then◌else◌};
 ghost use Rattle.std.specs.List.{range_with_len};
 ghost use Rattle.mega_locks.specs.History.{Ticks as CellTicks, lapse_for, nodes};

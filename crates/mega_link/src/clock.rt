@@ -1,4 +1,3 @@
-//! A clock that never goes back: the trait of what a node reads its time from.
 ghost use Rattle.std.specs.Prelude.{◌≡◌, ℕ, ◌≤◌, List, Option};
 ghost use Rattle.mega_link.specs.Datagrams.{Gains};
 

@@ -9,6 +9,8 @@ mod mem_link;
 mod outbox;
 mod peer;
 mod std_clock;
+#[cfg(test)]
+mod tests;
 mod udp_link;
 
 pub use clock::{Clock, LATEST};

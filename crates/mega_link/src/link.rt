@@ -1,4 +1,3 @@
-//! The trait of what carries datagrams, which may be lost, repeated or reordered.
 ghost use Rattle.std.specs.Prelude.{◌≡◌, ℕ, ◌≤◌, List, [], ◌∷◌, ◌++◌, length, Option, IfSome, OnOk, OnErr, option_map};
 ghost use Rattle.mega_base.specs.Causes.{Rose};
 ghost use Rattle.mega_link.specs.Datagrams.{Datagram, Gains, given};

@@ -1,4 +1,3 @@
-//! A clock in memory, which gives its readings in order.
 ghost use Rattle.std.specs.Prelude.{◌≡◌, ◌≤◌, ℕ, List, [], All, drop, Some};
 ghost use Rattle.mega_link.specs.Datagrams.{Gains};
 ghost use Rattle.mega_link.specs.Readings.{NeverFalls};

@@ -1,4 +1,3 @@
-//! A link in memory, to which given datagrams come and which keeps what is sent.
 ghost use Rattle.std.specs.Prelude.{◌≡◌, ◌≤◌, ◌<◌, [], ◌++◌, ◌∷◌, drop, length, take, slice_index_or, slice_set, Some, None, IfSome, OnOk, OnErr};
 ghost use Rattle.mega_link.specs.Datagrams.{Gains, cut, given};
 ghost use Rattle.mega_link.specs.Told.{next_or};

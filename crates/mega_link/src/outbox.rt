@@ -1,4 +1,3 @@
-//! A link that only collects what is sent, so that it can be sent later.
 ghost use Rattle.std.specs.Prelude.{◌≡◌, ℕ, ◌≤◌, [], ◌==◌, ◌++◌, length, take, Some, None, IfSome, OnOk, OnErr, option_map};
 
 use crate::link::Link;

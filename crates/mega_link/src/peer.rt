@@ -1,4 +1,3 @@
-//! Who a datagram comes from or goes to, and why a link is not bound.
 use mega_base::NodeId;
 
 /// Who a datagram comes from or goes to: a node of the cluster, or a client, numbered from 1 in order of

@@ -1,4 +1,3 @@
-//! The system's clock, in milliseconds since it was made.
 ghost use Rattle.std.specs.Prelude.{◌≡◌, ◌≤◌, None};
 
 use crate::clock::{Clock, LATEST};

@@ -1,4 +1,3 @@
-//! A link over UDP, between addresses of nodes and of clients.
 ghost use Rattle.std.specs.Prelude.{◌≡◌, None};
 
 use crate::link::Link;

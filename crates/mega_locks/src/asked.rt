@@ -1,4 +1,3 @@
-//! What a lock cell answers to a coordinator that asks for an epoch.
 use mega_base::Epoch;
 
 /// What a cell answers to a coordinator that asks for an epoch.

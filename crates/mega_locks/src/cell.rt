@@ -1,4 +1,3 @@
-//! The lock cell of a node: it grants, renews and lets lapse an epoch for each node.
 ghost use Rattle.std.specs.Prelude.{◌≡◌, ◌∷◌, [], ◌≤◌, List, map, option_map};
 ghost use Rattle.mega_locks.specs.Rule.{answer, lapse, ticked};
 ghost use Rattle.mega_locks.specs.History.{Call, Reopens, Asks, Ticks, Represents, lock_of, held_for, lapse_for, nodes, term};

@@ -6,6 +6,8 @@ mod asked;
 mod cell;
 pub mod laws;
 mod lock;
+#[cfg(test)]
+mod tests;
 
 pub use asked::Asked;
 pub use cell::Cell;

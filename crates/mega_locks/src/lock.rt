@@ -1,4 +1,3 @@
-//! The lock that a cell keeps for one node, and the term for which it is kept.
 ghost use Rattle.std.specs.Prelude.{◌≡◌};
 ghost use Rattle.mega_locks.specs.Rule.{answer, asked, held_epoch, is_above, is_over, is_same, lapse, opened, reopened, ticked};
 

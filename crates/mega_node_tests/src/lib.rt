@@ -1,4 +1,4 @@
-//! Tests of rounds, reads, leases and operations over what these libraries show.
+//! Tests of rounds, reads, leases, voters and operations over what these libraries show.
 #![tactic(auto)]
 
 #[cfg(test)]
@@ -9,3 +9,5 @@ mod operations_tests;
 mod propose_tests;
 #[cfg(test)]
 mod read_tests;
+#[cfg(test)]
+mod voter_tests;

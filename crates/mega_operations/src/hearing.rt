@@ -1,4 +1,3 @@
-//! What an operation comes to when its node takes a message or ticks.
 ghost use Rattle.std.specs.Prelude.{◌≡◌, IfOk};
 ghost use Rattle.mega_rules.specs.Operations.{Setting};
 ghost use Rattle.mega_rules.specs.Steps.{does_due, hears_message};

@@ -1,4 +1,3 @@
-//! What stays of an operation while its phase goes on.
 ghost use Rattle.std.specs.Prelude.{◌≡◌};
 ghost use Rattle.mega_rules.specs.Operations as rules;
 ghost use Rattle.mega_operations.specs.Phases.{phase_of, promised_of};

@@ -1,4 +1,3 @@
-//! A cluster of which the voters and the full nodes are listed once.
 ghost use Rattle.std.specs.Prelude.{◌≡◌, ◌<◌, IfOk, Err, filter, length};
 ghost use Rattle.std.specs.List.{range_with_len};
 ghost use Rattle.mega_rules.specs.Members.{full_nodes, is_full, is_node, is_voter, kind_of, voters};

@@ -1,4 +1,3 @@
-//! An open operation of a client, and what it comes to.
 use crate::phase::Phase;
 use mega_base::{GroupId, Items, OpId};
 use mega_entry::Enter;

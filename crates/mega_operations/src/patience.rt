@@ -1,4 +1,3 @@
-//! When the patience of an operation has ended, and what it answers then.
 ghost use Rattle.std.specs.Prelude.{◌≡◌};
 ghost use Rattle.mega_rules.specs.Operations.{Setting};
 ghost use Rattle.mega_rules.specs.Steps.{is_out, last_answer};

@@ -1,4 +1,3 @@
-//! How far an operation is: it reads, or it proposes its own entry.
 use mega_base::{GroupId, Items};
 use mega_outcome::{Shown, Turn};
 use mega_propose::Proposal;

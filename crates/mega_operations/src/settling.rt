@@ -1,4 +1,3 @@
-//! What an operation settled: its own entry, or the one with which its read completed a position.
 ghost use Rattle.std.specs.Prelude.{◌≡◌};
 ghost use Rattle.mega_rules.specs.Steps.{first_settled, settled_by};
 

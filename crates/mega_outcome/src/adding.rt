@@ -1,4 +1,3 @@
-//! An addition to a property that holds one number, with its refusals in order.
 ghost use Rattle.std.specs.Prelude.{◌≡◌, ◌&&◌, not, ◌^◌, ◌+ℤ◌, is_some, Some, IfOk};
 ghost use Rattle.std.specs.Option.{option_copied};
 ghost use Rattle.mega_index.specs.Cells.{values_of, is_listed};

@@ -1,4 +1,3 @@
-//! What transactions, batches and operations come to: replies, refusals and answers.
 use mega_base::{Copied, GroupId, Items, NoMemory, NodeKind, OpId, Position, Row, Text};
 use mega_entry::{Cut, Send, Write};
 use mega_index::Found;

@@ -1,4 +1,3 @@
-//! Runs the transactions of a batch in turn, each on the rows as the earlier ones left them.
 ghost use Rattle.std.specs.Prelude.{◌≡◌, ◌≤◌, ◌+◌, ◌<◌, ℕ, true, length, IfOk, IfErr, OnOk, Ok};
 ghost use Rattle.std.specs.Result.{result_err};
 ghost use Rattle.mega_base.specs.Causes.{Rose};

@@ -1,4 +1,3 @@
-//! Copies of requests, answers and what they hold.
 ghost use Rattle.std.specs.Prelude.{◌≡◌, IfOk};
 
 use crate::answer::{Answer, Batch, Done, Shown, Turn};

@@ -1,4 +1,3 @@
-//! The cut of a batch's next transaction, and the length of the entry with it.
 ghost use Rattle.std.specs.Prelude.{◌≡◌, ◌<◌, ◌++◌, ◌∷◌, [], length, IfOk};
 ghost use Rattle.mega_outcome.specs.Outcome.{taken, batch_length, entry_cuts};
 ghost use Rattle.mega_outcome.specs.Lengths.{cuts_length};

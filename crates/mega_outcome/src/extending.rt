@@ -1,4 +1,3 @@
-//! What a transaction does under a schema, and under one that adds properties which are not required.
 ghost use Rattle.std.specs.Prelude.{◌≡◌, ◌≤◌, ℕ, true, Err, IfOk};
 ghost use Rattle.mega_base.specs.Causes.{Rose};
 ghost use Rattle.mega_disk.specs.VersionMaps.{SameVersions};

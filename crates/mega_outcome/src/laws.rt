@@ -1,4 +1,3 @@
-//! Laws over all outcomes: they stay under more properties, and each looks at its own group alone.
 ghost use Rattle.std.specs.Prelude.{◌≡◌, List, ℕ, Ok};
 ghost use Rattle.mega_base.specs.declared.names.GroupId.{GroupId};
 ghost use Rattle.mega_schema.specs.declared.schema.Schema.{Schema};

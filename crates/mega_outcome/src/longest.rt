@@ -1,4 +1,3 @@
-//! The longest entry that comes of a transaction, against the limit of an entry.
 ghost use Rattle.std.specs.Prelude.{◌≡◌, ◌+◌, [], length, fold, max, IfOk};
 ghost use Rattle.mega_entry.specs.declared.content.Send.{Send as SendSeen};
 ghost use Rattle.mega_index.specs.Fitted.{enter_length};

@@ -1,4 +1,3 @@
-//! The row under a key, as pending writes left it or as it stands.
 ghost use Rattle.std.specs.Prelude.{◌≡◌, true, IfOk};
 ghost use Rattle.std.specs.Option.{option_copied};
 ghost use Rattle.std.specs.Result.{result_err};

@@ -1,4 +1,3 @@
-//! The numbers of a transaction's items: checks, reads, writes and sends in turn.
 ghost use Rattle.std.specs.Prelude.{◌≡◌, ◌+◌, IfOk};
 ghost use Rattle.mega_outcome.specs.Numbers.{AreNumbers};
 

@@ -1,4 +1,3 @@
-//! What a transaction comes to over the rows of its group at a position.
 ghost use Rattle.std.specs.Prelude.{◌≡◌, ◌≤◌, ℕ, true};
 ghost use Rattle.mega_base.specs.Causes.{Rose};
 ghost use Rattle.mega_disk.specs.Images.{Within, LeavesOnly};

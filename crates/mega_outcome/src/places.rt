@@ -1,4 +1,3 @@
-//! The key that an item names, and the row under it.
 ghost use Rattle.std.specs.Prelude.{◌≡◌, true, option_map, Some, IfOk};
 ghost use Rattle.std.specs.Result.{result_err, result_ok};
 ghost use Rattle.mega_base.specs.declared.names.GroupId.{GroupId as GroupIdSeen};

@@ -1,4 +1,3 @@
-//! The reads of a transaction, each of the rows as they stand.
 ghost use Rattle.std.specs.Prelude.{◌≡◌, ◌+◌, ◌<◌, ◌^◌, true, length, option_map, IfOk};
 ghost use Rattle.std.specs.Result.{result_err};
 ghost use Rattle.mega_outcome.specs.Reads.{shown, read, all_reads};

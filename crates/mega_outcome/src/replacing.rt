@@ -1,4 +1,3 @@
-//! The writes of a put or a deletion, with the local index writes that belong to it.
 ghost use Rattle.std.specs.Prelude.{◌≡◌, ◌++◌, Some, IfOk, OnOk};
 ghost use Rattle.std.specs.Option.{option_copied};
 ghost use Rattle.mega_index.specs.Fits.{fits, numbered};

@@ -1,4 +1,3 @@
-//! What a client may ask for, and which state of a group a read sees.
 use crate::transaction::{RowRef, Transaction};
 use mega_base::{GroupId, Items, Value};
 

@@ -1,4 +1,3 @@
-//! What a transaction comes to in a group, from its checks through its sends.
 ghost use Rattle.std.specs.Prelude.{◌≡◌, ◌≤◌, ◌+◌, ◌<◌, ◌^◌, true, length, IfOk};
 ghost use Rattle.std.specs.Result.{result_err};
 ghost use Rattle.mega_outcome.specs.Outcome.{outcome_in};

@@ -1,4 +1,3 @@
-//! Which groups and queues the sends of a transaction may name.
 ghost use Rattle.std.specs.Prelude.{◌≡◌, ◌+◌, ◌<◌, ◌^◌, ◌++◌, ◌∷◌, [], length, is_ok, Some, IfOk};
 ghost use Rattle.mega_keys.specs.Reading.{read_key_of};
 ghost use Rattle.mega_schema.specs.Shaping.{shape_of};

@@ -1,4 +1,3 @@
-//! Takes a transaction into a batch, or leaves it out with its refusal.
 ghost use Rattle.std.specs.Prelude.{◌≡◌, ◌<◌, ◌++◌, length, OnOk};
 ghost use Rattle.mega_index.specs.Rows.{Rows, written};
 ghost use Rattle.mega_outcome.specs.Outcome.{left_out, taken, taken_unless_large, with_result};

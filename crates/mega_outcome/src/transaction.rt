@@ -1,4 +1,3 @@
-//! A transaction on one entity group: its checks, reads, writes and sends.
 use mega_base::{Copied, GroupId, Items, NoMemory, Row, Value};
 use mega_entry::Send;
 use std::alloc::Global;

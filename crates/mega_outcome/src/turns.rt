@@ -1,4 +1,3 @@
-//! Why a transaction is turned away, from want of memory and from faults of a store.
 use crate::answer::Turn;
 use mega_base::NoMemory;
 use mega_disk::StoreError;

@@ -1,14 +1,8 @@
 pub mod Items
 pub mod Messages
-pub mod Looks
 pub mod Runs
 pub mod Promises
-pub mod Fresh
-pub mod Moments
-pub mod Causes
-pub mod Handling
 pub mod Calm
 pub mod NodeRuns
 pub mod Served
-pub mod Records
 pub mod Worked

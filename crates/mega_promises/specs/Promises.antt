@@ -1,4 +1,4 @@
--- What is promised of every run: one decided log a group, transactions as of one thread, and messages at most once.
+-- What is promised of a run: one decided log a group, transactions as of one thread, messages at most once, and fresh reads while leases are safe.
 use Rattle.std.specs.Prelude.{◌≡◌, ◌≢◌, ℕ, zero, suc, ◌+◌, ◌-◌, ◌<◌, ◌≤◌, ◌==◌, ◌&&◌, ◌⊎◌, Contains, Bool, true, false, not, if◌then◌else◌, List, [], ◌∷◌, ◌++◌, take, length, map, find, flat_map, slice_get, IsSome, Option, Some, None, Result, Ok, Err}
 use Rattle.std.specs.List.{list_any}
 use Rattle.mega_base.specs.declared.names.GroupId.{GroupId}
@@ -140,10 +140,9 @@ pub record IsSerial (schema : Schema) (meaning : List ℕ → Option Request) (t
       → (group : GroupId) × (entry : Content) × Stands (Decide op.node group n entry) tape × (entry.id ≡ Some op)
       × ((own : GroupId) (transactions : List Transaction) → asked_for meaning tape op ≡ Some (BatchRequest own transactions)
       → (batch_outcome schema own transactions (after (take (n.0 - 1) (log_of tape group)) no_rows)).results ≡ results)
-  -- conflict names the id of another entry that is decided there, or none of a no-op; of a transaction or a batch in its own group
+  -- conflict names the id of another entry that is decided there, or none of a no-op
   pub conflicts : (op : OpId) (n : Position) (other : Option OpId) → Stands (AnswerItem op (Conflict n other)) tape
       → (group : GroupId) × (entry : Content) × Stands (Decide op.node group n entry) tape × (entry.id ≡ other) × (other ≢ Some op)
-      × ((request : Request) → asked_for meaning tape op ≡ Some request → is_write request ≡ true → group_written request ≡ Some group)
   -- what was answered negatively is decided nowhere, and what is turned is so on the rows of some prefix of the log
   pub nowhere : (op : OpId) (answer : Answer) (node : NodeId) (group : GroupId) (n : Position) (entry : Content)
       → Stands (AnswerItem op answer) tape → is_negative answer ≡ true → Stands (Decide node group n entry) tape → entry.id ≢ Some op
@@ -181,7 +180,49 @@ pub record AreMessages (schema : Schema) (handlers : Meanings) (tape : List Item
       → (message : Enter) × (op : OpId) × (oldest_unhandled (take n (log_of tape group)) ≡ Some message) × (message.name ≡ name)
       × (entry ≡ handled_by schema handlers group op message (take n (log_of tape group)))
 
+-- leases are safe up to the moment at which an item stands
+abbrev pub IsSafeAt : Item → List Item → Type 0
+IsSafeAt item tape = StoodBefore Unsafe item tape → ⊥
+
+-- what a current read asks of a group
+abbrev pub reads_group : Request → Option GroupId
+reads_group (ReadRequested request) = if is_current request.mode then Some request.group else None
+reads_group (Find request) = if is_current request.mode then request.group else None
+reads_group (Txn transaction) = Some transaction.group
+reads_group (BatchRequest group transactions) = Some group
+reads_group PumpEnter = None
+reads_group PumpHandle = None
+reads_group Refresh = None
+
 -- the rows that a read shows are those of the log's first entries
 abbrev pub rows_shown : Schema → ReadRequest → List Content → List RowRef → Result (List (Option Shown)) Turn
 rows_shown schema request log [] = Ok (all_rows schema request.group (list_after log []))
 rows_shown schema request log (row ∷ rows) = read_rows schema request.group (row ∷ rows) (after log no_rows)
+
+abbrev pub proposal : OpId → GroupId → Position → Content → Body
+proposal op group n entry = Accept op group n zero_ballot entry
+
+-- a current read, also one inside a transaction or pump, covers each position that was decided anywhere before it began, as long as leases are safe
+pub record IsFresh (schema : Schema) (meaning : List ℕ → Option Request) (tape : List Item) : Type 0 where
+  pub reads : (op : OpId) (text : List ℕ) (request : Request) (group : GroupId) (p n : Position) (rows : List (Option Shown)) (node : NodeId) (entry : Content)
+      → meaning text ≡ Some request → reads_group request ≡ Some group → Stands (AnswerItem op (ReadAnswer p rows)) tape
+      → StoodBefore (Decide node group n entry) (Begin op text) tape → IsSafeAt (AnswerItem op (ReadAnswer p rows)) tape → n.0 ≤ p.0
+  pub rows : (op : OpId) (text : List ℕ) (request : ReadRequest) (p : Position) (rows : List (Option Shown)) → Stands (Begin op text) tape
+      → meaning text ≡ Some (ReadRequested request) → is_current request.mode ≡ true → Stands (AnswerItem op (ReadAnswer p rows)) tape
+      → rows_shown schema request (take p.0 (log_of tape request.group)) request.rows ≡ Ok rows
+  pub finds : (op : OpId) (text : List ℕ) (request : Request) (group : GroupId) (marks : List Mark) (found : List Found) (n : Position) (node : NodeId) (entry : Content)
+      → meaning text ≡ Some request → reads_group request ≡ Some group → Stands (AnswerItem op (FoundAnswer marks found)) tape
+      → StoodBefore (Decide node group n entry) (Begin op text) tape → IsSafeAt (AnswerItem op (FoundAnswer marks found)) tape → 1 ≤ n.0
+      → (p : Position) × (marks ≡ (record { group = group; position = p }) ∷ []) × (n.0 ≤ p.0)
+  -- a transaction or batch proposes above what was decided before it began
+  pub writes : (op : OpId) (text : List ℕ) (request : Request) (group : GroupId) (number to : ℕ) (m n : Position) (own entry : Content) (node : NodeId)
+      → meaning text ≡ Some request → reads_group request ≡ Some group → own.id ≡ Some op
+      → Stands (Sent number (record { from = op.node.0; to = to; body = proposal op group m own })) tape
+      → StoodBefore (Decide node group n entry) (Begin op text) tape
+      → IsSafeAt (Sent number (record { from = op.node.0; to = to; body = proposal op group m own })) tape → n.0 < m.0
+  -- a pump that polls a group proposes above what was decided before it first asked for the group
+  pub pumps : (op : OpId) (group : GroupId) (asked number voter to : ℕ) (m n : Position) (own entry : Content) (node : NodeId) → own.id ≡ Some op
+      → Stands (Sent number (record { from = op.node.0; to = to; body = proposal op group m own })) tape
+      → StoodBefore (Decide node group n entry) (Sent asked (record { from = op.node.0; to = voter; body = Where op group })) tape
+      → StoodBefore (Sent asked (record { from = op.node.0; to = voter; body = Where op group })) (Sent number (record { from = op.node.0; to = to; body = proposal op group m own })) tape
+      → IsSafeAt (Sent number (record { from = op.node.0; to = to; body = proposal op group m own })) tape → n.0 < m.0

@@ -29,26 +29,17 @@ use Rattle.mega_rules.specs.Replies.{reply_to}
 use Rattle.mega_rules.specs.Steps.{Event, Tick, Take, Begin, Step, crashed, op_of, start, start_items, step}
 use Rattle.mega_promises.specs.Items.{number, numbered, shown}
 use Rattle.mega_promises.specs.Messages.{is_dropped, is_unsafe, message_of, next_delivery}
-use Rattle.mega_promises.specs.Looks.{looks_at_rows, may_be_full}
 
--- a fuse that is set on a device and not burnt: the calls that it leaves, what it makes of the writes that are pending as it burns, and the
--- records appended since it was set
+-- a fuse that is set on a device and not burnt: the calls that it leaves, and the records appended since
 pub record Fuse : Type 0 where
   pub calls : ℕ
-  pub image : ℕ
   pub appended : ℕ
 
--- what a cut leaves on the log: the list as it was; the list compacted; or the step's record too, behind the list, compacted where that was due
-pub data Left : Type 0 where
-  AsItWas : Left
-  Compacted : Left
-  Recorded : Left
-
--- what becomes of a step or a start: it is made whole, or the fuse of its log or of its data device cuts it and leaves this
+-- what becomes of a step or a start: it is made whole, or the fuse of its log or of its data device cuts it; its record is kept or lost
 pub data Fate : Type 0 where
   Whole : Fate
-  CutByLog : (left : Left) → Fate
-  CutByData : (left : Left) → Fate
+  CutByLog : (kept : Bool) → Fate
+  CutByData : (kept : Bool) → Fate
 
 -- how a run stands: its tape, the nodes, the fuses, how often each node's log tells that it started, how many records stand on the log since
 -- its last compaction, and what the next start owes to a step that was cut and whose record is kept
@@ -116,67 +107,49 @@ appends made = list_any (λ (m : Message). is_vote m.body) made.sends || list_an
 abbrev pub owes : Step → List Message → List Met
 owes made replies = filter is_durable made.notes ++ map Unsends replies
 
--- how a step or a start calls its devices: whether it compacts its log first, appends a record, and uses its data device; a start may use that
--- behind its append too
-pub record Calls : Type 0 where
-  pub compacts : Bool
-  pub appends : Bool
-  pub uses_data : Bool
-  pub is_start : Bool
+-- a fuse on the log with so many calls cuts the append that makes one more, an append being four calls, unless it cut an earlier one
+abbrev pub is_burning : Fuse → Bool
+is_burning fuse = nat_le (fuse.calls / 4) fuse.appended
 
--- 4,096 records that stand on the log since its last compaction are compacted at the beginning of a step
+-- may its log cut a step that appends; must it
+abbrev pub fate_by_log : Option Fuse → Fate → Fate
+fate_by_log None cut = Whole
+fate_by_log (Some fuse) (CutByLog kept) = CutByLog kept
+fate_by_log (Some fuse) Whole = if is_burning fuse then CutByLog false else Whole
+fate_by_log (Some fuse) (CutByData kept) = if is_burning fuse then CutByLog false else Whole
+
+-- a step that appends nothing calls the log only where it compacts it first, and a cut there keeps nothing
+abbrev pub fate_by_compaction : Option Fuse → Fate → Fate
+fate_by_compaction None cut = Whole
+fate_by_compaction (Some fuse) (CutByLog kept) = CutByLog false
+fate_by_compaction (Some fuse) Whole = Whole
+fate_by_compaction (Some fuse) (CutByData kept) = Whole
+
+-- 4,096 records are compacted
 abbrev pub compacts : Standing → ℕ → Bool
 compacts now me = nat_le 4096 (now.records me)
 
-abbrev pub calls_of : Cluster → Meanings → Standing → ℕ → Event → Step → Calls
-calls_of c h now me event made = record {
-  compacts = compacts now me;
-  appends = appends made;
-  uses_data = has_rows c me && (may_be_full (now.node me) || looks_at_rows (setting c h me) (now.node me) event made);
-  is_start = false;
-}
+-- may its data device cut it
+abbrev pub fate_by_data : Option Fuse → Fate → Fate → Fate
+fate_by_data None cut other = other
+fate_by_data (Some fuse) (CutByData kept) other = CutByData kept
+fate_by_data (Some fuse) Whole other = other
+fate_by_data (Some fuse) (CutByLog kept) other = other
 
--- a start never compacts
-abbrev pub start_calls : Cluster → ℕ → Calls
-start_calls c me = record { compacts = false; appends = true; uses_data = has_rows c me; is_start = true }
+-- a node that keeps rows uses its data device
+abbrev pub data_fuse_of : Cluster → Standing → ℕ → Option Fuse
+data_fuse_of c now me = if has_rows c me then now.data_fuse me else None
 
--- a fuse on the log with so many calls cuts the append that makes one more, an append being four calls, unless it cut an earlier one
-abbrev pub is_burning : Option Fuse → Bool
-is_burning None = false
-is_burning (Some fuse) = nat_le (fuse.calls / 4) fuse.appended
-
--- the log's fuse cuts a compaction, which leaves the old list or the new one, or an append; a record is kept where its gate was written and
--- the image keeps what is pending
-abbrev pub is_left_by_log : Calls → Option Fuse → Left → Bool
-is_left_by_log calls None left = false
-is_left_by_log calls (Some fuse) AsItWas = calls.compacts || calls.appends
-is_left_by_log calls (Some fuse) Compacted = calls.compacts
-is_left_by_log calls (Some fuse) Recorded = calls.appends && fuse.image == 1
-
--- the data device's fuse cuts behind a compaction, and before the append; a start also behind it
-abbrev pub is_left_by_data : Calls → Option Fuse → Left → Bool
-is_left_by_data calls log_fuse AsItWas = not calls.compacts
-is_left_by_data calls log_fuse Compacted = calls.compacts
-is_left_by_data calls log_fuse Recorded = calls.is_start && not (is_burning log_fuse)
-
--- what may become of a step or a start with these calls, under the fuses of its log and its data device
-abbrev pub may_become : Calls → Option Fuse → Option Fuse → Fate → Bool
-may_become calls log_fuse data_fuse Whole = not (calls.appends && is_burning log_fuse)
-may_become calls log_fuse data_fuse (CutByLog left) = is_left_by_log calls log_fuse left
-may_become calls log_fuse data_fuse (CutByData left) = (is_some data_fuse && calls.uses_data) && is_left_by_data calls log_fuse left
-
-abbrev pub MayBecome : Standing → ℕ → Calls → Fate → Type 0
-MayBecome now me calls fate = may_become calls (now.log_fuse me) (now.data_fuse me) fate ≡ true
-
--- what becomes of it: this, where it may; else it is whole, or is cut at the append that its log's fuse names
-abbrev pub fate_of : Standing → ℕ → Calls → Fate → Fate
-fate_of now me calls cut =
-    if may_become calls (now.log_fuse me) (now.data_fuse me) cut then cut else (if calls.appends && is_burning (now.log_fuse me) then CutByLog AsItWas else Whole)
+-- what becomes of a step of a node: what fuses cut, as far as those that are set on the devices that it calls allow
+abbrev pub fate_of : Cluster → Standing → ℕ → Bool → Fate → Fate
+fate_of c now me is_appending cut =
+    fate_by_data (data_fuse_of c now me) cut
+    (if is_appending then fate_by_log (now.log_fuse me) cut else (if compacts now me then fate_by_compaction (now.log_fuse me) cut else Whole))
 
 -- a fuse after an append
 abbrev pub after_append : Option Fuse → Option Fuse
 after_append None = None
-after_append (Some fuse) = Some (record fuse { appended = fuse.appended + 1 })
+after_append (Some fuse) = Some (record { calls = fuse.calls; appended = fuse.appended + 1 })
 
 abbrev pub log_fuse_after : Standing → ℕ → Bool → ℕ → Option Fuse
 log_fuse_after now me is_appending = set_at now.log_fuse me (if is_appending then after_append (now.log_fuse me) else now.log_fuse me)
@@ -186,42 +159,37 @@ abbrev pub records_after : Standing → ℕ → Bool → ℕ → ℕ
 records_after now me is_appending =
     set_at now.records me ((if compacts now me then 0 else now.records me) + (if is_appending then 1 else 0))
 
--- and after a cut; of a start the record alone counts
-abbrev pub records_left : Standing → ℕ → Left → ℕ → ℕ
-records_left now me AsItWas = now.records
-records_left now me Compacted = set_at now.records me 0
-records_left now me Recorded = records_after now me true
-
-abbrev pub is_kept : Left → Bool
-is_kept AsItWas = false
-is_kept Compacted = false
-is_kept Recorded = true
-
 -- a step is whole: the event's own item, its notes, and what it sends with the next numbers
 abbrev pub whole_step : Cluster → Standing → ℕ → List Item → Step → Standing
-whole_step c now me own made = record now {
-  tape = with_items c (set_at now.node me made.node) now.tape ((own ++ flat_map (shown me) made.notes) ++ numbered (sent_count now.tape + 1) made.sends);
-  node = set_at now.node me made.node;
-  log_fuse = log_fuse_after now me (appends made);
-  records = records_after now me (appends made);
-}
+whole_step c now me own made =
+    record {
+      tape = with_items c (set_at now.node me made.node) now.tape ((own ++ flat_map (shown me) made.notes) ++ numbered (sent_count now.tape + 1) made.sends);
+      node = set_at now.node me made.node;
+      log_fuse = log_fuse_after now me (appends made);
+      data_fuse = now.data_fuse;
+      starts = now.starts;
+      records = records_after now me (appends made);
+      owed = now.owed;
+    }
 
--- a step is cut: the event's own item and the crash. Its durable changes are kept whole or not at all, and the fuse is burnt
-abbrev pub cut_step : Cluster → Standing → ℕ → List Item → Met → Left → List Met → (ℕ → Option Fuse) → (ℕ → Option Fuse) → Standing
-cut_step c now me own met left owed log_fuse data_fuse = record now {
-  tape = with_items c (set_at now.node me (crashed (record { met = met ∷ (now.node me).met; open_operations = []; stored = (now.node me).stored }))) now.tape (own ++ shown me Crashes);
-  node = set_at now.node me (crashed (record { met = met ∷ (now.node me).met; open_operations = []; stored = (now.node me).stored }));
-  log_fuse = log_fuse;
-  data_fuse = data_fuse;
-  records = records_left now me left;
-  owed = set_at now.owed me owed;
-}
+-- a step is cut: the event's own item and the crash. Its durable changes are kept whole or not at all
+abbrev pub cut_step : Cluster → Standing → ℕ → List Item → Met → Step → List Met → (ℕ → Option Fuse) → (ℕ → Option Fuse) → Standing
+cut_step c now me own met made owed log_fuse data_fuse =
+    record {
+      tape = with_items c (set_at now.node me (crashed (record { met = met ∷ (now.node me).met; open_operations = []; stored = (now.node me).stored }))) now.tape (own ++ shown me Crashes);
+      node = set_at now.node me (crashed (record { met = met ∷ (now.node me).met; open_operations = []; stored = (now.node me).stored }));
+      log_fuse = log_fuse;
+      data_fuse = data_fuse;
+      starts = now.starts;
+      records = now.records;
+      owed = set_at now.owed me owed;
+    }
 
 abbrev pub fated : Cluster → Standing → ℕ → List Item → Met → Step → List Message → Fate → Standing
 fated c now me own met made replies Whole = whole_step c now me own made
-fated c now me own met made replies (CutByLog left) =
-    cut_step c now me own met left (if is_kept left then owes made replies else []) (set_at now.log_fuse me None) now.data_fuse
-fated c now me own met made replies (CutByData left) = cut_step c now me own met left [] now.log_fuse (set_at now.data_fuse me None)
+fated c now me own met made replies (CutByLog kept) =
+    cut_step c now me own met made (if kept then owes made replies else []) (set_at now.log_fuse me None) now.data_fuse
+fated c now me own met made replies (CutByData kept) = cut_step c now me own met made [] now.log_fuse (set_at now.data_fuse me None)
 
 -- the reply of a step: to the message that it takes
 abbrev pub replies_in : Cluster → ℕ → List Met → Event → List Message
@@ -238,39 +206,40 @@ met_in s met (Begin request text) = Begins (op_of s met) text
 abbrev pub at_node : Cluster → Meanings → Standing → ℕ → List Item → Event → Fate → Standing
 at_node c h now me own event cut =
     fated c now me own (met_in (setting c h me) (now.node me).met event) (step (setting c h me) (now.node me) event) (replies_in c me (now.node me).met event)
-    (fate_of now me (calls_of c h now me event (step (setting c h me) (now.node me) event)) cut)
+    (fate_of c now me (appends (step (setting c h me) (now.node me) event)) cut)
 
--- a start counts itself on its log by one record, shows what it owes, and applies all
-abbrev pub started_records : Standing → ℕ → ℕ → ℕ
-started_records now me = set_at now.records me (now.records me + 1)
-
+-- a start counts itself on its log, shows what it owes, and applies all
 abbrev pub whole_start : Cluster → Standing → ℕ → List Met → Node → Standing
-whole_start c now me items node = record now {
-  tape = with_items c (set_at now.node me node) now.tape (flat_map (shown me) items);
-  node = set_at now.node me node;
-  log_fuse = log_fuse_after now me true;
-  starts = set_at now.starts me (now.starts me + 1);
-  records = started_records now me;
-  owed = set_at now.owed me [];
-}
+whole_start c now me items node =
+    record {
+      tape = with_items c (set_at now.node me node) now.tape (flat_map (shown me) items);
+      node = set_at now.node me node;
+      log_fuse = log_fuse_after now me true;
+      data_fuse = now.data_fuse;
+      starts = set_at now.starts me (now.starts me + 1);
+      records = records_after now me true;
+      owed = set_at now.owed me [];
+    }
 
 -- a start that is cut shows the crash alone; its record is kept or lost, and it still owes what it owed
-abbrev pub cut_start : Standing → ℕ → Left → (ℕ → Option Fuse) → (ℕ → Option Fuse) → Standing
-cut_start now me left log_fuse data_fuse = record now {
-  tape = flat_map (shown me) (Crashes ∷ []) ++ now.tape;
-  node = set_at now.node me (crashed (now.node me));
-  log_fuse = log_fuse;
-  data_fuse = data_fuse;
-  starts = set_at now.starts me (if is_kept left then now.starts me + 1 else now.starts me);
-  records = if is_kept left then started_records now me else now.records;
-}
+abbrev pub cut_start : Standing → ℕ → Bool → (ℕ → Option Fuse) → (ℕ → Option Fuse) → Standing
+cut_start now me kept log_fuse data_fuse =
+    record {
+      tape = flat_map (shown me) (Crashes ∷ []) ++ now.tape;
+      node = set_at now.node me (crashed (now.node me));
+      log_fuse = log_fuse;
+      data_fuse = data_fuse;
+      starts = set_at now.starts me (if kept then now.starts me + 1 else now.starts me);
+      records = now.records;
+      owed = now.owed;
+    }
 
 abbrev pub fated_start : Cluster → Meanings → Standing → ℕ → Fate → Standing
 fated_start c h now me Whole =
     whole_start c now me (start_items (setting c h me) (now.starts me + 1) (now.owed me) (now.node me).met)
     (start (setting c h me) (now.starts me + 1) (now.owed me) (now.node me).met)
-fated_start c h now me (CutByLog left) = cut_start now me left (set_at now.log_fuse me None) now.data_fuse
-fated_start c h now me (CutByData left) = cut_start now me left (log_fuse_after now me (is_kept left)) (set_at now.data_fuse me None)
+fated_start c h now me (CutByLog kept) = cut_start now me kept (set_at now.log_fuse me None) now.data_fuse
+fated_start c h now me (CutByData kept) = cut_start now me kept now.log_fuse (set_at now.data_fuse me None)
 
 -- which nodes are up
 abbrev pub up : Standing → ℕ → Bool
@@ -278,7 +247,7 @@ up now node = is_up (now.node node).met
 
 -- an item that no node meets
 abbrev pub marked : Standing → Item → Standing
-marked now item = record now { tape = item ∷ now.tape }
+marked now item = record { tape = item ∷ now.tape; node = now.node; log_fuse = now.log_fuse; data_fuse = now.data_fuse; starts = now.starts; records = now.records; owed = now.owed }
 
 -- what fuses cut: what may become of each step and start, told by the tape before it
 abbrev pub Cuts : Type 0
@@ -303,14 +272,22 @@ drained c h cuts now (suc most) = unless_none now (λ number. drained c h cuts (
 
 -- a node that crashes shows it; a fuse is set in place of one that was set before on the same device
 abbrev pub crashes : Standing → ℕ → Standing
-crashes now me = record now { tape = flat_map (shown me) (Crashes ∷ []) ++ now.tape; node = set_at now.node me (crashed (now.node me)) }
+crashes now me = record {
+  tape = flat_map (shown me) (Crashes ∷ []) ++ now.tape;
+  node = set_at now.node me (crashed (now.node me));
+  log_fuse = now.log_fuse;
+  data_fuse = now.data_fuse;
+  starts = now.starts;
+  records = now.records;
+  owed = now.owed;
+}
 
-abbrev pub new_fuse : ℕ → ℕ → Option Fuse
-new_fuse calls image = Some (record { calls = calls; image = image; appended = 0 })
+abbrev pub new_fuse : ℕ → Option Fuse
+new_fuse calls = Some (record { calls = calls; appended = 0 })
 
-abbrev pub fused : Standing → ℕ → ℕ → ℕ → Device → Standing
-fused now me calls image Log = record now { log_fuse = set_at now.log_fuse me (new_fuse calls image) }
-fused now me calls image Data = record now { data_fuse = set_at now.data_fuse me (new_fuse calls image) }
+abbrev pub fused : Standing → ℕ → ℕ → Device → Standing
+fused now me calls Log = record { tape = now.tape; node = now.node; log_fuse = set_at now.log_fuse me (new_fuse calls); data_fuse = now.data_fuse; starts = now.starts; records = now.records; owed = now.owed }
+fused now me calls Data = record { tape = now.tape; node = now.node; log_fuse = now.log_fuse; data_fuse = set_at now.data_fuse me (new_fuse calls); starts = now.starts; records = now.records; owed = now.owed }
 
 -- what an event leads to
 abbrev pub after_event : Cluster → Meanings → Cuts → Standing → WorldEvent → Standing
@@ -319,8 +296,8 @@ after_event c h cuts now (Deliver message) = delivered c h cuts now message
 after_event c h cuts now (Drop message) = marked now (Dropped message)
 after_event c h cuts now (Drain most) = drained c h cuts now most
 after_event c h cuts now (CrashEvent node) = crashes now node.0
-after_event c h cuts now (StartEvent node) = fated_start c h now node.0 (fate_of now node.0 (start_calls c node.0) (cuts now.tape))
-after_event c h cuts now (FuseEvent node calls image device) = fused now node.0 calls image device
+after_event c h cuts now (StartEvent node) = fated_start c h now node.0 (fate_of c now node.0 true (cuts now.tape))
+after_event c h cuts now (FuseEvent node calls image device) = fused now node.0 calls device
 after_event c h cuts now (BeginEvent node request text) =
     at_node c h now node.0 (shown node.0 (Begins (op_of (setting c h node.0) (now.node node.0).met) text)) (Begin request text) (cuts now.tape)
 

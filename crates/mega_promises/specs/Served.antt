@@ -1,5 +1,5 @@
 -- The run of a node that is served over links: the record that it writes, what it puts out, and what its journal has then.
-use Rattle.std.specs.Prelude.{◌≡◌, ◌⊎◌, ℕ, ◌+◌, ◌==◌, ◌&&◌, Bool, if◌then◌else◌, List, [], ◌∷◌, ◌++◌, codes, decimal, filter, filter_map, find, flat_map, fold, map, reverse, take, Option, Some, None, Result, Ok, Err}
+use Rattle.std.specs.Prelude.{◌≡◌, ℕ, ◌+◌, ◌==◌, ◌&&◌, Bool, if◌then◌else◌, List, [], ◌∷◌, ◌++◌, codes, decimal, filter, filter_map, find, flat_map, fold, map, reverse, take, Option, Some, None, Result, Ok, Err}
 use Rattle.std.specs.List.{list_any}
 use Rattle.mega_base.specs.declared.names.OpId.{OpId}
 use Rattle.mega_cluster.specs.declared.cluster.Cluster.{Cluster}
@@ -15,10 +15,7 @@ use Rattle.mega_outcome.specs.declared.request.Request.{Request}
 use Rattle.mega_wal.specs.declared.item.JournalItem.{JournalItem}
 use Rattle.mega_wal.specs.declared.item.JournalItem.TheVariants.{Start as Started, Promise as Promises, Accept as Accepts, Decide as Decided, Grant as Granted, Lapse as Lapsed}
 use Rattle.mega_wal.specs.Same.{same_op}
-use Rattle.mega_wal.specs.declared.kept.Kept.{Kept}
-use Rattle.mega_wal.specs.Compaction.{compacted}
 use Rattle.mega_wal.specs.History.{starts_of}
-use Rattle.mega_wal.specs.Kept.{Represents}
 use Rattle.mega_transcript.specs.declared.item.Item.{Item}
 use Rattle.mega_transcript.specs.Answers.{answer_words}
 use Rattle.mega_rules.specs.Met.{Met, Answers, Begins, Decides, Grants, Lapses, Ticks}
@@ -63,7 +60,7 @@ pub record Served : Type 0 where
   pub journal : List JournalItem
   pub waiting : List Waiting
 
--- what a step appends to the journal: its grants, its lapses and its decision, and then its promise or vote
+-- what a step appends to the journal: its promise or vote, its decision, its grants and its lapses
 abbrev pub kept_of_body : Body → Option JournalItem
 kept_of_body (Promise op group n ballot vote) = Some (Promises group n ballot)
 kept_of_body (Accepted op group n ballot entry) = Some (Accepts group n ballot entry)
@@ -76,7 +73,7 @@ kept_of_note (Lapses node epoch) = Some (Lapsed (number node) epoch)
 kept_of_note _ = None
 
 abbrev pub kept_of : Step → List JournalItem
-kept_of made = filter_map kept_of_note made.notes ++ filter_map (λ (m : Message). kept_of_body m.body) made.sends
+kept_of made = filter_map (λ (m : Message). kept_of_body m.body) made.sends ++ filter_map kept_of_note made.notes
 
 abbrev pub noted : ℕ → List Met → List Line
 noted me notes = map Noted (flat_map (shown me) notes)
@@ -122,7 +119,7 @@ ticked c me handlers clock now =
 
 -- a datagram that is no message, or none of its sender to this node, is recorded and changes nothing
 abbrev pub with_lines : Served → List Line → Served
-with_lines now more = record now { lines = now.lines ++ more }
+with_lines now more = record { node = now.node; lines = now.lines ++ more; journal = now.journal; waiting = now.waiting }
 
 abbrev pub is_from : Peer → ℕ → Bool
 is_from (OfNode node) from = node == from
@@ -181,20 +178,9 @@ put_in (Put to bytes) = Some (to, bytes)
 put_in (Got from bytes) = None
 put_in (Noted item) = None
 
--- the journal of a log that was compacted: one body stands in the place of all items before it, and says what they say, as the logs of a voter
--- keep it; items since stand behind it. Journals stand newest first
-pub record IsCompacted (all after : List JournalItem) : Type 0 where
-  pub before : List JournalItem
-  pub since : List JournalItem
-  pub kept : Kept
-  pub all_are : all ≡ since ++ before
-  pub after_are : after ≡ since ++ reverse (compacted kept)
-  pub says : Represents kept before
-  pub says_same : Represents kept (reverse (compacted kept))
-
 -- a node that found these journal items, and was given these turns, wrote this record, put out these datagrams, and left this journal
 pub record IsNodeRun (c : Cluster) (me : ℕ) (wish : List ℕ → Wish) (first : Meanings) (before : List JournalItem) (turns : List Turn)
     (lines : List Line) (sends : List (Peer × List ℕ)) (after : List JournalItem) : Type 0 where
   pub record_is : lines ≡ (served c me wish first before turns).lines
   pub sends_are : sends ≡ filter_map put_in lines
-  pub journal_is : (after ≡ (served c me wish first before turns).journal) ⊎ IsCompacted (served c me wish first before turns).journal after
+  pub journal_is : after ≡ (served c me wish first before turns).journal

@@ -1,14 +1,12 @@
 //! Worked runs: what the definition of a run gives for schedules whose transcripts are known, as contracts of functions that do
 //! nothing.
 
-ghost use Rattle.std.specs.Prelude.{◌≡◌, [], ◌∷◌, ◌++◌, codes, decimal, map, is_ok, length, reverse, take, true, false, Ok, Err, None, Some};
+ghost use Rattle.std.specs.Prelude.{◌≡◌, [], ◌∷◌, ◌++◌, codes, decimal, map, length, take, true, false, Ok, Err, None, Some};
 ghost use Rattle.std.specs.List.{range_with_len};
 ghost use Rattle.mega_base.specs.declared.values.NodeKind.TheVariants.{Witness, Read as ReadOnly};
-ghost use Rattle.mega_outcome.specs.declared.answer.Answer.TheVariants.{Batched, Found as FoundAnswer, LogFull, NotHere, NothingToDo, Read as ReadAnswer, Refreshed, Turned, Unknown};
+ghost use Rattle.mega_outcome.specs.declared.answer.Answer.TheVariants.{Batched, LogFull, NotHere, NothingToDo, Read as ReadAnswer, Refreshed, Unknown};
 ghost use Rattle.mega_outcome.specs.declared.answer.Turn.TheVariants.{CheckFailed};
-ghost use Rattle.mega_outcome.specs.declared.request.Request.TheVariants.{PumpEnter, PumpHandle, Refresh, Txn};
-ghost use Rattle.mega_outcome.specs.Outcome.{outcome};
-ghost use Rattle.mega_index.specs.Rows.{after, no_rows};
+ghost use Rattle.mega_outcome.specs.declared.request.Request.TheVariants.{PumpEnter, PumpHandle, Refresh};
 ghost use Rattle.mega_outcome.specs.declared.request.Mode.TheVariants.{Current, Snapshot};
 ghost use Rattle.mega_schedule.specs.declared.world_event.WorldEvent.TheVariants.{Deliver, Drain, Drop};
 ghost use Rattle.mega_ballot.specs.Order.{zero_ballot};
@@ -18,12 +16,10 @@ ghost use Rattle.mega_transcript.specs.declared.item.Item.TheVariants.{Serving a
 ghost use Rattle.mega_transcript.specs.Answers.{answer_words};
 ghost use Rattle.mega_transcript.specs.Lines.{line};
 ghost use Rattle.mega_promises.specs.Items.{number};
-ghost use Rattle.mega_promises.specs.Served.{Got, Noted, OfClient, OfNode, Put, joined};
-ghost use Rattle.mega_promises.specs.Records.{record_line};
-ghost use Rattle.hex.specs.Hex.{encode_lower};
+ghost use Rattle.mega_promises.specs.Served.{Got, Noted, OfNode, Put, joined};
 ghost use Rattle.mega_rules.specs.Examples.{cluster, entry_of, from_to, group, schema};
-ghost use Rattle.mega_promises.specs.Runs.{AsItWas, Compacted, CutByData, CutByLog, Recorded, Whole};
-ghost use Rattle.mega_promises.specs.Worked.{Asked, Lapses, Learned, Loses, Proposed, Serves, Unsafe, Unsent, Valid, answers, asked_by, begin, changing, find_john, first_mark, front_of, gone, indexed, john, old_answers, second, sends_decided, story, committed_at, conflict_at, crash, drain, fuse_log, epoch, filling, forged, crashes, compacting, due_after, fuse_data, ids_decided, lines_given, lines_of, marks, mixed, op, own, put_at, quiet, read_at, read_through, replies, run, run_on, short_log, start, strange, three, tick, told};
+ghost use Rattle.mega_promises.specs.Runs.{CutByLog, Whole};
+ghost use Rattle.mega_promises.specs.Worked.{Lapses, Loses, Serves, Unsafe, Unsent, Valid, answers, asked_by, begin, committed_at, conflict_at, crash, drain, fuse_log, epoch, filling, forged, ids_decided, lines_given, lines_of, marks, mixed, op, own, put_at, quiet, read_at, read_through, replies, run, run_on, short_log, start, strange, three, tick, told};
 
 /// One put, and the delivery of its fourteen messages in order: three starts, and 36 items more.
 #[tactic(auto, unfolding(mega_base::specs::Codec::number_text))]
@@ -60,39 +56,15 @@ pub fn a_round_above_zero()
 /// A voter that crashed after its record was kept shows its reply at its next start, and answers again.
 #[tactic(auto, unfolding(mega_base::specs::Codec::number_text))]
 pub fn a_kept_record_is_shown()
-    ensures unsent { marks (run_on cluster (CutByLog Recorded) (put_at 1 ∷ Drain 8 ∷ fuse_log 2 3 1 ∷ Deliver 9 ∷ start 2 ∷ Deliver 9 ∷ drain ∷ [])) ≡ Unsent 2 ∷ [] }
-    ensures answer { answers (run_on cluster (CutByLog Recorded) (put_at 1 ∷ Drain 8 ∷ fuse_log 2 3 1 ∷ Deliver 9 ∷ start 2 ∷ Deliver 9 ∷ drain ∷ [])) ≡ told (op 1 1 1) (committed_at 1) ∷ [] }
+    ensures unsent { marks (run_on cluster (CutByLog true) (put_at 1 ∷ Drain 8 ∷ fuse_log 2 3 1 ∷ Deliver 9 ∷ start 2 ∷ Deliver 9 ∷ drain ∷ [])) ≡ Unsent 2 ∷ [] }
+    ensures answer { answers (run_on cluster (CutByLog true) (put_at 1 ∷ Drain 8 ∷ fuse_log 2 3 1 ∷ Deliver 9 ∷ start 2 ∷ Deliver 9 ∷ drain ∷ [])) ≡ told (op 1 1 1) (committed_at 1) ∷ [] }
 {}
 
 /// Of a record that was lost nothing is shown; the voter answers all the same.
 #[tactic(auto, unfolding(mega_base::specs::Codec::number_text))]
 pub fn a_lost_record_is_not_shown()
-    ensures unsent { marks (run_on cluster (CutByLog AsItWas) (put_at 1 ∷ Drain 8 ∷ fuse_log 2 1 2 ∷ Deliver 9 ∷ start 2 ∷ Deliver 9 ∷ drain ∷ [])) ≡ [] }
-    ensures answer { answers (run_on cluster (CutByLog AsItWas) (put_at 1 ∷ Drain 8 ∷ fuse_log 2 1 2 ∷ Deliver 9 ∷ start 2 ∷ Deliver 9 ∷ drain ∷ [])) ≡ told (op 1 1 1) (committed_at 1) ∷ [] }
-{}
-
-/// Nor is a record kept where the fuse drops what is pending.
-#[tactic(auto, unfolding(mega_base::specs::Codec::number_text))]
-pub fn an_image_keeps_a_record()
-    ensures { marks (run_on cluster (CutByLog Recorded) (put_at 1 ∷ Drain 8 ∷ fuse_log 2 3 0 ∷ Deliver 9 ∷ start 2 ∷ Deliver 9 ∷ drain ∷ [])) ≡ [] }
-{}
-
-/// A start adds a record and compacts none. A tick that appends nothing compacts what is due, and is cut there: the log keeps the old list
-/// or the new one.
-#[tactic(auto)]
-pub fn a_compaction_is_cut()
-    ensures cut { crashes (reverse (due_after (CutByLog AsItWas) compacting).tape) ≡ 1 ∷ 1 ∷ [] }
-    ensures old { (due_after (CutByLog AsItWas) compacting).records 1 ≡ 4097 }
-    ensures new { (due_after (CutByLog Compacted) compacting).records 1 ≡ 0 }
-    ensures whole { (due_after Whole compacting).records 1 ≡ 0 }
-{}
-
-/// A fuse on the data device cuts no step in which nothing looks at rows; a put does where its read is complete.
-#[tactic(auto, unfolding(mega_base::specs::Codec::number_text))]
-pub fn rows_are_looked_at()
-    ensures nothing { crashes (run_on cluster (CutByData AsItWas) (fuse_data 1 0 0 ∷ tick 1 5 ∷ drain ∷ [])) ≡ [] }
-    ensures begun { crashes (run_on cluster (CutByData AsItWas) (fuse_data 1 0 0 ∷ put_at 1 ∷ Drain 4 ∷ [])) ≡ [] }
-    ensures put { crashes (run_on cluster (CutByData AsItWas) (fuse_data 1 0 0 ∷ put_at 1 ∷ drain ∷ [])) ≡ 1 ∷ [] }
+    ensures unsent { marks (run_on cluster (CutByLog false) (put_at 1 ∷ Drain 8 ∷ fuse_log 2 1 2 ∷ Deliver 9 ∷ start 2 ∷ Deliver 9 ∷ drain ∷ [])) ≡ [] }
+    ensures answer { answers (run_on cluster (CutByLog false) (put_at 1 ∷ Drain 8 ∷ fuse_log 2 1 2 ∷ Deliver 9 ∷ start 2 ∷ Deliver 9 ∷ drain ∷ [])) ≡ told (op 1 1 1) (committed_at 1) ∷ [] }
 {}
 
 /// A silent full node is covered once a majority of the cells holds nothing for it.
@@ -200,44 +172,4 @@ pub fn filled_by_a_no_op()
 /// The line of a node that serves in its first epoch: words with spaces between them, and numbers in decimal.
 pub fn the_text_of_an_item()
     ensures { line schema (ServingItem (number 1) epoch) ≡ codes "serving" ++ (32 ∷ decimal 1) ++ (32 ∷ (decimal 1 ++ 46 ∷ decimal 0)) ++ 10 ∷ [] }
-{}
-
-/// Freshness of a pump speaks of its begin, and of the first time that it asked: what was decided before it asked again may be above what it
-/// proposes, since older answers still count.
-#[tactic(auto, unfolding(mega_base::specs::Codec::number_text, mega_keys::specs::Reading::key_at, mega_keys::specs::Reading::key_front_at, mega_keys::specs::Reading::root_at, mega_keys::specs::Reading::marks_at, mega_keys::specs::Reading::byte_at, mega_keys::specs::Reading::values_at, mega_keys::specs::Reading::int64_at, mega_keys::specs::Reading::agree))]
-pub fn old_answers_count()
-    ensures { story second (run old_answers) ≡ Asked 1 ∷ Asked 2 ∷ Asked 3 ∷ Learned 2 1 ∷ Asked 1 ∷ Asked 2 ∷ Asked 3 ∷ Proposed 1 ∷ [] }
-{}
-
-/// A transaction is turned on the rows through which it read: those of the first entry, which was decided before it began, and not those of none.
-#[tactic(auto, unfolding(mega_base::specs::Codec::number_text))]
-pub fn turned_at_a_position()
-    ensures answer { answers (run (put_at 1 ∷ drain ∷ begin 3 (Txn gone) ∷ drain ∷ [])) ≡ told (op 1 1 1) (committed_at 1) ∷ told (op 3 1 1) (Turned (CheckFailed 0)) ∷ [] }
-    ensures there { outcome schema gone (after (front_of 1 (put_at 1 ∷ drain ∷ [])) no_rows) ≡ Err (CheckFailed 0) }
-    ensures before { is_ok (outcome schema gone (after (front_of 0 (put_at 1 ∷ drain ∷ [])) no_rows)) ≡ true }
-{}
-
-/// A transaction whose group is valid at its node reads there: it asks no voter.
-#[tactic(auto, unfolding(mega_base::specs::Codec::number_text))]
-pub fn a_local_transaction()
-    ensures { story group (run (tick 1 10 ∷ drain ∷ put_at 1 ∷ drain ∷ put_at 1 ∷ [])) ≡ Asked 1 ∷ Asked 2 ∷ Asked 3 ∷ Proposed 1 ∷ Proposed 1 ∷ Proposed 1 ∷ Learned 1 1 ∷ Learned 2 1 ∷ Learned 3 1 ∷ Proposed 2 ∷ [] }
-{}
-
-/// A find shows the entries over the rows of its position, and in a global index those of the last refresh.
-#[tactic(auto, unfolding(mega_base::specs::Codec::number_text))]
-pub fn finds()
-    ensures local { answers (run_on indexed Whole (put_at 1 ∷ drain ∷ find_john 1 (Some group) ∷ drain ∷ [])) ≡ told (op 1 1 1) (committed_at 1) ∷ told (op 1 1 2) (FoundAnswer (first_mark ∷ []) (john ∷ [])) ∷ [] }
-    ensures global { answers (run_on indexed Whole (put_at 1 ∷ drain ∷ find_john 2 None ∷ begin 1 Refresh ∷ find_john 2 None ∷ [])) ≡ told (op 1 1 1) (committed_at 1) ∷ told (op 1 1 2) (FoundAnswer [] []) ∷ told (op 1 1 3) (Refreshed (first_mark ∷ [])) ∷ told (op 1 1 4) (FoundAnswer (first_mark ∷ []) (john ∷ [])) ∷ [] }
-{}
-
-/// An entry that handles a message is what the handler made of it that was there as the entry was made, whoever is there as it is decided.
-#[tactic(auto, unfolding(mega_base::specs::Codec::number_text, mega_keys::specs::Reading::key_at, mega_keys::specs::Reading::key_front_at, mega_keys::specs::Reading::root_at, mega_keys::specs::Reading::marks_at, mega_keys::specs::Reading::byte_at, mega_keys::specs::Reading::values_at, mega_keys::specs::Reading::int64_at, mega_keys::specs::Reading::agree))]
-pub fn a_handler_that_changes()
-    ensures { sends_decided changing ≡ 0 ∷ 1 ∷ [] }
-{}
-
-/// The text of a record: a datagram that came from a client, and one that went to a node.
-pub fn the_text_of_a_record()
-    ensures got { record_line schema (Got (OfClient 2) (0x4D ∷ [])) ≡ codes "got" ++ (32 ∷ codes "client") ++ (32 ∷ decimal 2) ++ (32 ∷ encode_lower (0x4D ∷ [])) ++ 10 ∷ [] }
-    ensures put { record_line schema (Put (OfNode 3) []) ≡ codes "put" ++ (32 ∷ decimal 3) ++ (32 ∷ encode_lower []) ++ 10 ∷ [] }
 {}

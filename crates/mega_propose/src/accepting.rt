@@ -1,4 +1,3 @@
-//! Rounds that ask voters to accept an entry, from the leader's vote to a majority.
 ghost use Rattle.std.specs.Prelude.{◌≡◌, [], ◌∷◌, map, IfOk, if◌then◌else◌};
 ghost use Rattle.mega_ballot.specs.Order.{zero_ballot};
 ghost use Rattle.mega_propose.specs.Members.{has, others};

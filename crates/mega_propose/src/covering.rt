@@ -1,4 +1,3 @@
-//! Covering: whether each full node accepted, was invalidated, or is free by a majority of the cells.
 ghost use Rattle.std.specs.Prelude.{◌≡◌, ◌==◌, IfOk, filter, length};
 ghost use Rattle.std.specs.List.{list_all, list_any};
 ghost use Rattle.mega_propose.specs.Rounds.{covers, first_cover, is_covered, is_free, is_same_free, uncovered, with_accepted, with_cell, with_free, with_invalidated, with_told};

@@ -1,4 +1,3 @@
-//! What a round does at a tick where its last sending is due again.
 ghost use Rattle.std.specs.Prelude.{◌≡◌, [], IfOk, option_copied};
 ghost use Rattle.mega_propose.specs.Rounds.{asks, completes, due, is_due, settled, tells, told_in};
 ghost use Rattle.mega_propose.specs.declared.round.Round.TheVariants.{Waiting};

@@ -1,4 +1,3 @@
-//! Lists of nodes: membership, union, difference and majority.
 ghost use Rattle.std.specs.Prelude.{◌≡◌, IfOk};
 ghost use Rattle.mega_propose.specs.Members.{has, is_majority, joined, others, with_node, without};
 

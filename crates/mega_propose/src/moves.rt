@@ -1,4 +1,3 @@
-//! Moves of a round that send nothing, and the move to a new round of prepares.
 ghost use Rattle.std.specs.Prelude.{◌≡◌, [], ◌<◌, IfOk};
 ghost use Rattle.mega_propose.specs.Rounds.{prepares, stays};
 ghost use Rattle.mega_propose.specs.declared.round.Round.TheVariants.{Waiting};

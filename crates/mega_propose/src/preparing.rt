@@ -1,4 +1,3 @@
-//! Rounds that ask voters to promise a ballot, and pick the entry to propose.
 ghost use Rattle.std.specs.Prelude.{◌≡◌, ◌==◌, ◌&&◌, not, IfOk};
 ghost use Rattle.std.specs.List.{list_any};
 ghost use Rattle.mega_propose.specs.Members.{has};

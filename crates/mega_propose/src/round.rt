@@ -1,4 +1,3 @@
-//! A proposal: its place, its round, and what it has heard.
 use mega_ballot::Ballot;
 use mega_base::{GroupId, Items, OpId};
 use mega_entry::Entry;

@@ -1,4 +1,3 @@
-//! Whether two operations, groups, ballots or entries are one.
 ghost use Rattle.std.specs.Prelude.{◌≡◌};
 ghost use Rattle.mega_propose.specs.Rounds.{same_ballot};
 ghost use Rattle.mega_wal.specs.Same.{same_entry, same_group, same_op};

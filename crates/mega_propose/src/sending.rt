@@ -1,4 +1,3 @@
-//! The messages of a proposal: accept, prepare, invalidate, and questions to the lock cells.
 ghost use Rattle.std.specs.Prelude.{◌≡◌, ◌++◌, map, flat_map, IfOk};
 ghost use Rattle.mega_propose.specs.Rounds.{accept_to, cell_numbers, dead_to, invalidate_to, message, prepare_to, presses};
 

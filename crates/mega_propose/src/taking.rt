@@ -1,4 +1,3 @@
-//! What a round leads to that takes a message from a node.
 ghost use Rattle.std.specs.Prelude.{◌≡◌, IfOk};
 ghost use Rattle.mega_propose.specs.Rounds.{is_here, sees, takes};
 

@@ -1,4 +1,3 @@
-//! The entry to propose: that of the greatest vote reported, or the operation's own.
 ghost use Rattle.std.specs.Prelude.{◌≡◌, IfOk, Option, option_copied};
 ghost use Rattle.mega_propose.specs.Rounds.{greater_vote, greatest_vote, is_sent, picked, vote_round};
 ghost use Rattle.mega_wal.specs.Acceptor.{is_ballot_below};

@@ -1,4 +1,3 @@
-//! A read begins: local where its group is valid, else by a poll of all voters.
 ghost use Rattle.std.specs.Prelude.{◌≡◌, IfOk};
 ghost use Rattle.mega_read.specs.Catching.{first_reading, local_read, polled_read};
 

@@ -1,4 +1,3 @@
-//! Completes a position: its entry is fetched, and where there is none a no-op is proposed.
 ghost use Rattle.std.specs.Prelude.{◌≡◌, None, IfOk};
 ghost use Rattle.std.specs.List.{list_all};
 ghost use Rattle.mega_propose.specs.Members.{has};

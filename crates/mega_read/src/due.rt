@@ -1,4 +1,3 @@
-//! What a read does at a tick, and what it has settled so far.
 ghost use Rattle.std.specs.Prelude.{◌≡◌, IfOk, option_map, Option};
 ghost use Rattle.mega_read.specs.Catching.{asked_by, falls_due, is_position, read_settled, search_told, searched, seeks, through_of};
 

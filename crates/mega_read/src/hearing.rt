@@ -1,4 +1,3 @@
-//! What a read comes to that takes a message from a node.
 ghost use Rattle.std.specs.Prelude.{◌≡◌, ◌&&◌, ◌==◌, None, Some, IfOk};
 ghost use Rattle.mega_propose.specs.Members.{has};
 ghost use Rattle.mega_wal.specs.Same.{same_group, same_op};

@@ -1,4 +1,3 @@
-//! What a read keeps through its stages.
 ghost use Rattle.std.specs.Prelude.{◌≡◌, None, Some};
 ghost use Rattle.mega_read.specs.Catching.{filled};
 ghost use Rattle.mega_read.specs.declared.reading.Search.TheVariants.{Fetching, Filling};

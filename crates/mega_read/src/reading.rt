@@ -1,4 +1,3 @@
-//! A read: who reads among whom, its stage, and the position that it completes.
 use mega_base::{Epoch, GroupId, Items, OpId};
 use mega_propose::Proposal;
 use mega_wire::Message;

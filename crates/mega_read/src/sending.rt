@@ -1,4 +1,3 @@
-//! The messages of a read: questions for top positions and for entries.
 ghost use Rattle.std.specs.Prelude.{◌≡◌, map, IfOk};
 ghost use Rattle.mega_read.specs.Catching.{fetch_to, helpers, message, where_to};
 

@@ -1,4 +1,3 @@
-//! How many first entries of a log have all their writes stored.
 ghost use Rattle.std.specs.Prelude.{◌≡◌, ℕ, ◌<◌, ◌^◌, SomeIff, length, sum_by, min};
 ghost use Rattle.mega_entry.specs.declared.content.Content.{Content};
 ghost use Rattle.mega_replica.specs.Applying.{after_portion, after_read, applied, writes_of, writes_through};

@@ -1,4 +1,3 @@
-//! Laws of logs and rows: logs show what is decided and only grow, and rows follow them.
 ghost use Rattle.std.specs.Prelude.{◌≡◌, ◌⊎◌, ◌+◌, ◌<◌, ◌≤◌, ◌++◌, [], ◌∷◌, List, ℕ, Option, slice_get, take};
 ghost use Rattle.mega_base.specs.declared.names.GroupId.{GroupId};
 ghost use Rattle.mega_base.specs.declared.values.Row.{Row};

@@ -3,10 +3,14 @@
 #![tactic(auto)]
 
 mod applying;
+#[cfg(test)]
+mod applying_tests;
 pub mod laws;
 mod progress;
 mod rows;
 mod storing;
+#[cfg(test)]
+mod tests;
 
 pub use applying::{after_portion, after_read, applied, writes_through};
 pub use progress::Progress;

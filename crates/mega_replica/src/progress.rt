@@ -1,4 +1,3 @@
-//! How far the writes of each group's decided prefix are stored.
 ghost use Rattle.std.specs.Prelude.{◌≡◌, OnOk, IsSome, if◌then◌else◌};
 ghost use Rattle.std.specs.BTreeMap.{get};
 ghost use Rattle.mega_base.specs.declared.names.GroupId.{GroupId as Group};

@@ -1,4 +1,3 @@
-//! The rows of a node, and how far each group's writes are stored in them.
 ghost use Rattle.std.specs.Prelude.{◌≡◌, ◌≤◌, List, ℕ, None, OnOk, OnErr, Err};
 ghost use Rattle.mega_base.specs.declared.names.GroupId.{GroupId as Group};
 ghost use Rattle.mega_entry.specs.declared.content.Content.{Content};

@@ -1,4 +1,3 @@
-//! Stores the next writes of a group's decided prefix, each at the position of its entry.
 ghost use Rattle.std.specs.Prelude.{◌≡◌, ◌⊎◌, ◌+◌, ◌<◌, ◌≤◌, ◌^◌, ◌∷◌, List, ℕ, max, drop, length, IfOk, OnOk, OnErr, Err};
 ghost use Rattle.mega_base.specs.declared.names.GroupId.{GroupId as Group};
 ghost use Rattle.mega_entry.specs.declared.content.Content.{Content};

@@ -1,4 +1,3 @@
-//! How many lines were written back as they are, and how many are none of an item.
 use mega_base::{Bytes, NoMemory};
 use std::alloc::Global;
 

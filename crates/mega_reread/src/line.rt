@@ -1,4 +1,3 @@
-//! Writes a line back as what it is read as.
 ghost use Rattle.std.specs.Prelude.{◌≡◌, IfOk};
 ghost use Rattle.mega_transcript.specs.Lines.{line, HasLine};
 

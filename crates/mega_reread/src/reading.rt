@@ -1,4 +1,3 @@
-//! Reads all lines of an input, and tells of those that are none of an item.
 use crate::counts::Counts;
 use crate::line::written_back;
 use crate::stop::Stop;

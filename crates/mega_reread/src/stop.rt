@@ -1,4 +1,3 @@
-//! Why the reading of a transcript stopped.
 use mega_base::NoMemory;
 use mega_io::LineError;
 use std::alloc::AllocError;

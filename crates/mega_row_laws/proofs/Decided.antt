@@ -22,7 +22,7 @@ use Rattle.mega_rules.specs.Steps.{Begin, Step, Take, Tick, onto, op_of, start_i
 use Rattle.mega_promises.specs.Items.{number, numbered, shown}
 use Rattle.mega_promises.specs.Messages.{is_unsafe, message_of, next_delivery}
 use Rattle.mega_promises.specs.Promises.{Stands}
-use Rattle.mega_promises.specs.Runs.{Cuts, CutByData, CutByLog, Fate, Fuse, Happening, Left, Standing, Whole, after_event, at_node, breaks, calls_of, crashes, cut_step, delivered, drained, fate_of, fated, fated_start, goes_on, handed, is_kept, marked, nothing_yet, opening, owes, refusal, replies_in, set_at, setting, start_calls, unless_none, unless_refused, up, whole_start, whole_step, with_item, with_items}
+use Rattle.mega_promises.specs.Runs.{Cuts, CutByData, CutByLog, Fate, Fuse, Happening, Standing, Whole, after_event, appends, at_node, breaks, crashes, cut_step, delivered, drained, fate_of, fated, fated_start, goes_on, handed, marked, nothing_yet, opening, owes, refusal, replies_in, set_at, setting, unless_none, unless_refused, up, whole_start, whole_step, with_item, with_items}
 use Rattle.mega_tape_laws.specs.Places.{In}
 use Rattle.mega_node_laws.proofs.Ending.{step_met}
 use Rattle.mega_run_laws.proofs.Sending.{Stood}
@@ -131,9 +131,9 @@ module _ (c : Cluster) where
           (known_stood me (onto made.notes (first ∷ (now.node me).met)) (onto (map Sends made.sends) (onto made.notes (first ∷ (now.node me).met)))
           (with_items c (set_at now.node me made.node) now.tape items) (with_items c (set_at now.node me made.node) now.tape items) (sends_on made.sends (onto made.notes (first ∷ (now.node me).met))).decides (λ item s. s) noted)
 
-  cut_told : (now : Standing) (me : ℕ) (own : List Item) (first : Met) (left : Left) (owed : List Met) (log_fuse data_fuse : ℕ → Option Fuse)
-      → ((g : GroupId) (n : ℕ) → decided (first ∷ (now.node me).met) g n ≡ decided (now.node me).met g n) → Told now → Told (cut_step c now me own first left owed log_fuse data_fuse)
-  cut_told now me own first left owed log_fuse data_fuse none told =
+  cut_told : (now : Standing) (me : ℕ) (own : List Item) (first : Met) (made : Step) (owed : List Met) (log_fuse data_fuse : ℕ → Option Fuse)
+      → ((g : GroupId) (n : ℕ) → decided (first ∷ (now.node me).met) g n ≡ decided (now.node me).met g n) → Told now → Told (cut_step c now me own first made owed log_fuse data_fuse)
+  cut_told now me own first made owed log_fuse data_fuse none told =
       told_at now.tape (with_items c (set_at now.node me next) now.tape (own ++ shown me Crashes)) now.node me next (with_items_stood c (set_at now.node me next) (own ++ shown me Crashes) now.tape)
       (known_stood me (now.node me).met next.met now.tape (with_items c (set_at now.node me next) now.tape (own ++ shown me Crashes)) none (with_items_stood c (set_at now.node me next) (own ++ shown me Crashes) now.tape) (told me)) told
     where
@@ -144,26 +144,26 @@ module _ (c : Cluster) where
       → ((g : GroupId) (n : ℕ) → decided (first ∷ (now.node me).met) g n ≡ decided (now.node me).met g n)
       → made.node.met ≡ onto (map Sends made.sends) (onto made.notes (first ∷ (now.node me).met)) → Told now → Told (fated c now me own first made replies fate)
   fated_told now me own first made replies Whole none is told = whole_told now me own first made none is told
-  fated_told now me own first made replies (CutByLog left) none is told =
-      cut_told now me own first left (cond (is_kept left) (owes made replies) []) (set_at now.log_fuse me None) now.data_fuse none told
-  fated_told now me own first made replies (CutByData left) none is told = cut_told now me own first left [] now.log_fuse (set_at now.data_fuse me None) none told
+  fated_told now me own first made replies (CutByLog kept) none is told =
+      cut_told now me own first made (cond kept (owes made replies) []) (set_at now.log_fuse me None) now.data_fuse none told
+  fated_told now me own first made replies (CutByData kept) none is told = cut_told now me own first made [] now.log_fuse (set_at now.data_fuse me None) none told
 
   tick_told : (h : Meanings) (now : Standing) (me clock : ℕ) (cut : Fate) → Told now → Told (at_node c h now me (shown me (Ticks clock)) (Tick clock) cut)
   tick_told h now me clock cut told =
       let made = step (setting c h me) (now.node me) (Tick clock) in
-      fated_told now me (shown me (Ticks clock)) (Ticks clock) made [] (fate_of now me (calls_of c h now me (Tick clock) made) cut) (λ g n. refl) (step_met (setting c h me) (now.node me) (Tick clock)) told
+      fated_told now me (shown me (Ticks clock)) (Ticks clock) made [] (fate_of c now me (appends made) cut) (λ g n. refl) (step_met (setting c h me) (now.node me) (Tick clock)) told
 
   take_told : (h : Meanings) (now : Standing) (me : ℕ) (own : List Item) (message : Message) (cut : Fate) → Told now → Told (at_node c h now me own (Take message) cut)
   take_told h now me own message cut told =
       let made = step (setting c h me) (now.node me) (Take message) in
-      fated_told now me own (Takes message) made (replies_in c me (now.node me).met (Take message)) (fate_of now me (calls_of c h now me (Take message) made) cut) (λ g n. refl) (step_met (setting c h me) (now.node me) (Take message)) told
+      fated_told now me own (Takes message) made (replies_in c me (now.node me).met (Take message)) (fate_of c now me (appends made) cut) (λ g n. refl) (step_met (setting c h me) (now.node me) (Take message)) told
 
   begin_told : (h : Meanings) (now : Standing) (me : ℕ) (request : Request) (text : List ℕ) (cut : Fate) → Told now
       → Told (at_node c h now me (shown me (Begins (op_of (setting c h me) (now.node me).met) text)) (Begin request text) cut)
   begin_told h now me request text cut told =
       let made = step (setting c h me) (now.node me) (Begin request text) in
       let own = Begins (op_of (setting c h me) (now.node me).met) text in
-      fated_told now me (shown me own) own made [] (fate_of now me (calls_of c h now me (Begin request text) made) cut) (λ g n. refl) (step_met (setting c h me) (now.node me) (Begin request text)) told
+      fated_told now me (shown me own) own made [] (fate_of c now me (appends made) cut) (λ g n. refl) (step_met (setting c h me) (now.node me) (Begin request text)) told
 
   -- ---- starts and crashes
 
@@ -183,8 +183,8 @@ module _ (c : Cluster) where
 
   fated_start_told : (h : Meanings) (now : Standing) (me : ℕ) (fate : Fate) → Told now → Told (fated_start c h now me fate)
   fated_start_told h now me Whole told = start_told now me (start_items (setting c h me) (now.starts me + 1) (now.owed me) (now.node me).met) _ refl told
-  fated_start_told h now me (CutByLog left) told = crash_told now me told
-  fated_start_told h now me (CutByData left) told = crash_told now me told
+  fated_start_told h now me (CutByLog kept) told = crash_told now me told
+  fated_start_told h now me (CutByData kept) told = crash_told now me told
 
   -- ---- events
 
@@ -214,7 +214,7 @@ module _ (c : Cluster) where
   event_told h cuts now (Drop message) told = marked_told now (Dropped message) told
   event_told h cuts now (Drain most) told = drained_told h cuts most now told
   event_told h cuts now (CrashEvent node) told = crash_told now node.0 told
-  event_told h cuts now (StartEvent node) told = fated_start_told h now node.0 (fate_of now node.0 (start_calls c node.0) (cuts now.tape)) told
+  event_told h cuts now (StartEvent node) told = fated_start_told h now node.0 (fate_of c now node.0 true (cuts now.tape)) told
   event_told h cuts now (FuseEvent node calls image Log) told = told
   event_told h cuts now (FuseEvent node calls image Data) told = told
   event_told h cuts now (BeginEvent node request text) told = begin_told h now node.0 request text (cuts now.tape) told

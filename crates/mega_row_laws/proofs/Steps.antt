@@ -17,7 +17,7 @@ use Rattle.mega_rules.specs.Logs.{log_of}
 use Rattle.mega_rules.specs.Steps.{Begin, Event, Step, Take, Tick, op_of, step}
 use Rattle.mega_promises.specs.Items.{shown}
 use Rattle.mega_promises.specs.Messages.{message_of}
-use Rattle.mega_promises.specs.Runs.{Cuts, Happening, Standing, Whole, after_event, at_node, because, fused, goes_on, handed, is_burning, new_fuse, opening, receiver_down, refusal, setting, unless_refused, whole_step}
+use Rattle.mega_promises.specs.Runs.{Cuts, Happening, Standing, Whole, after_event, at_node, because, fate_by_log, fused, goes_on, handed, new_fuse, opening, receiver_down, refusal, setting, unless_refused, whole_step}
 use Rattle.mega_node_laws.specs.Acted.{acted_on}
 use Rattle.mega_node_laws.specs.Own.{HasOwnRows}
 use Rattle.mega_node_laws.proofs.Ending.{step_ends}
@@ -31,19 +31,19 @@ use Rattle.mega_row_laws.proofs.Nodes.{node_owns}
 use Rattle.mega_row_laws.proofs.Uncut.{behind_is, goes_same, run_nodes, step_whole, until}
 
 -- a fuse that is set changes no refusal
-down_fused : (now : Standing) (me calls image : ℕ) (o : Option Message) → receiver_down (fused now me calls image Log) o ≡ receiver_down now o
-down_fused now me calls image None = refl
-down_fused now me calls image (Some message) = refl
+down_fused : (now : Standing) (me calls : ℕ) (o : Option Message) → receiver_down (fused now me calls Log) o ≡ receiver_down now o
+down_fused now me calls None = refl
+down_fused now me calls (Some message) = refl
 
-refusal_fused : (c : Cluster) (now : Standing) (me calls image : ℕ) (event : WorldEvent) → refusal c (fused now me calls image Log) event ≡ refusal c now event
-refusal_fused c now me calls image (TickEvent node clock) = refl
-refusal_fused c now me calls image (Deliver k) = refl
-refusal_fused c now me calls image (Drop k) = refl
-refusal_fused c now me calls image (Drain most) = refl
-refusal_fused c now me calls image (CrashEvent node) = refl
-refusal_fused c now me calls image (StartEvent node) = refl
-refusal_fused c now me calls image (FuseEvent node others kind device) = refl
-refusal_fused c now me calls image (BeginEvent node request text) = refl
+refusal_fused : (c : Cluster) (now : Standing) (me calls : ℕ) (event : WorldEvent) → refusal c (fused now me calls Log) event ≡ refusal c now event
+refusal_fused c now me calls (TickEvent node clock) = refl
+refusal_fused c now me calls (Deliver k) = refl
+refusal_fused c now me calls (Drop k) = refl
+refusal_fused c now me calls (Drain most) = refl
+refusal_fused c now me calls (CrashEvent node) = refl
+refusal_fused c now me calls (StartEvent node) = refl
+refusal_fused c now me calls (FuseEvent node others image device) = refl
+refusal_fused c now me calls (BeginEvent node request text) = refl
 
 -- an event that comes next is not refused, and is a step of a node with this item of its own
 record Comes (c : Cluster) (h : Meanings) (now : Standing) (me : ℕ) (own : Standing → List Item) (event : Event) (one : WorldEvent) : Type 0 where
@@ -90,7 +90,7 @@ module _ (c : Cluster) (usage : Usage) (declared : IsDeclared c.schema) (first :
       → HasOwnRows c.schema (log_of (acted_on (setting c h me) (now.node me) event))
   step_owns h me own event one meant comes = by (is_node c me) refl
     where
-      whole : (ready : Standing) → ready.tape ≡ now.tape → is_burning (ready.log_fuse me) ≡ false → after_event c h later ready one ≡ whole_step c ready me (own ready) (step (setting c h me) (ready.node me) event)
+      whole : (ready : Standing) → ready.tape ≡ now.tape → fate_by_log (ready.log_fuse me) Whole ≡ Whole → after_event c h later ready one ≡ whole_step c ready me (own ready) (step (setting c h me) (ready.node me) event)
       whole ready same free =
           comes.leads later ready same
           ∙ step_whole c h ready me (own ready) event (later ready.tape) (ap later same ∙ behind_is (length now.tape) cuts now.tape (omega arith)) free
@@ -100,13 +100,13 @@ module _ (c : Cluster) (usage : Usage) (declared : IsDeclared c.schema) (first :
 
       by : (t : Bool) → is_node c me ≡ t → HasOwnRows c.schema (log_of (acted_on (setting c h me) (now.node me) event))
       by true at =
-          ready_owns h me own event one meant (fuse ∷ []) (record { brought = meant.brought; meant = tt }, tt) (fused now me 4 0 Log)
-          (ap (λ t. unless_refused now (fused now me 4 0 Log) (because (not t) 6 None)) at)
-          (refusal_fused c now me 4 0 one ∙ comes.allowed)
-          (whole (fused now me 4 0 Log) refl (ap (λ t. is_burning (cond t (new_fuse 4 0) (now.log_fuse me))) (number_self me)))
+          ready_owns h me own event one meant (fuse ∷ []) (record { brought = meant.brought; meant = tt }, tt) (fused now me 4 Log)
+          (ap (λ t. unless_refused now (fused now me 4 Log) (because (not t) 6 None)) at)
+          (refusal_fused c now me 4 one ∙ comes.allowed)
+          (whole (fused now me 4 Log) refl (ap (λ t. fate_by_log (cond t (new_fuse 4) (now.log_fuse me)) Whole) (number_self me)))
       by false at =
           ready_owns h me own event one meant [] tt now refl comes.allowed
-          (whole now refl (ap is_burning (run_nodes c first cuts events me at)))
+          (whole now refl (ap (λ fuse. fate_by_log fuse Whole) (run_nodes c first cuts events me at)))
 
   pub tick_owns : (h : Meanings) (node : NodeId) (clock : ℕ) → FitsOne usage (record { handlers = h; event = TickEvent node clock }) → refusal c now (TickEvent node clock) ≡ None
       → HasOwnRows c.schema (log_of (acted_on (setting c h node.0) (now.node node.0) (Tick clock)))

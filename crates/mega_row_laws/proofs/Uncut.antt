@@ -15,24 +15,32 @@ use Rattle.mega_rules.specs.Operations.{Node}
 use Rattle.mega_rules.specs.Steps.{Begin, Event, Step, Take, Tick, onto, op_of, start, start_items, start_notes, step}
 use Rattle.mega_promises.specs.Items.{numbered, shown}
 use Rattle.mega_promises.specs.Messages.{is_unsafe, message_of, next_delivery}
-use Rattle.mega_promises.specs.Runs.{AsItWas, Calls, Cuts, CutByData, CutByLog, Fate, Fuse, Happening, Standing, Whole, after_append, after_event, appends, at_node, because, breaks, calls_of, delivered, drained, fate_of, fated, fated_start, goes_on, handed, is_burning, is_kept, marked, met_in, new_fuse, nothing_yet, opening, refusal, replies_in, set_at, setting, start_calls, unless_none, unless_refused, up, whole_step, with_item, with_items}
+use Rattle.mega_promises.specs.Runs.{Cuts, CutByData, CutByLog, Fate, Fuse, Happening, Standing, Whole, after_append, after_event, appends, at_node, because, breaks, compacts, data_fuse_of, delivered, drained, fate_by_compaction, fate_by_data, fate_by_log, fate_of, fated, fated_start, goes_on, handed, marked, met_in, new_fuse, nothing_yet, opening, refusal, replies_in, set_at, setting, unless_none, unless_refused, up, whole_step, with_item, with_items}
 
 -- ---- a step that nothing cuts
 
-is_whole : (now : Standing) (me : ℕ) (calls : Calls) → is_burning (now.log_fuse me) ≡ false → fate_of now me calls Whole ≡ Whole
-is_whole now me calls free = by calls.appends (is_burning (now.log_fuse me)) free
+is_whole : (c : Cluster) (now : Standing) (me : ℕ) (is_appending : Bool) → fate_by_log (now.log_fuse me) Whole ≡ Whole → fate_of c now me is_appending Whole ≡ Whole
+is_whole c now me is_appending free = by_data (data_fuse_of c now me) _ ∙ by is_appending (compacts now me)
   where
-    by : (a b : Bool) → b ≡ false → cond (not (a && b)) Whole (cond (a && b) (CutByLog AsItWas) Whole) ≡ Whole
-    by true true none = cc
-    by true false none = refl
-    by false b none = refl
+    by_data : (fuse : Option Fuse) (other : Fate) → fate_by_data fuse Whole other ≡ other
+    by_data None other = refl
+    by_data (Some fuse) other = refl
 
-pub step_whole : (c : Cluster) (h : Meanings) (now : Standing) (me : ℕ) (own : List Item) (event : Event) (cut : Fate) → cut ≡ Whole → is_burning (now.log_fuse me) ≡ false
+    by_compaction : (fuse : Option Fuse) → fate_by_compaction fuse Whole ≡ Whole
+    by_compaction None = refl
+    by_compaction (Some fuse) = refl
+
+    by : (a b : Bool) → cond a (fate_by_log (now.log_fuse me) Whole) (cond b (fate_by_compaction (now.log_fuse me) Whole) Whole) ≡ Whole
+    by true b = free
+    by false true = by_compaction (now.log_fuse me)
+    by false false = refl
+
+pub step_whole : (c : Cluster) (h : Meanings) (now : Standing) (me : ℕ) (own : List Item) (event : Event) (cut : Fate) → cut ≡ Whole → fate_by_log (now.log_fuse me) Whole ≡ Whole
     → at_node c h now me own event cut ≡ whole_step c now me own (step (setting c h me) (now.node me) event)
 step_whole c h now me own event cut is free =
     ap (at_node c h now me own event) is
     ∙ ap (fated c now me own (met_in (setting c h me) (now.node me).met event) (step (setting c h me) (now.node me) event) (replies_in c me (now.node me).met event))
-    (is_whole now me (calls_of c h now me event (step (setting c h me) (now.node me) event)) free)
+    (is_whole c now me (appends (step (setting c h me) (now.node me) event)) free)
 
 -- ---- tapes grow
 
@@ -60,11 +68,11 @@ module _ (c : Cluster) where
       let a = length-append (own ++ notes) sends in
       let b = length-append own notes in
       omega (arith, some, more, a, b)
-  fated_longer now me own first made replies (CutByLog left) some =
+  fated_longer now me own first made replies (CutByLog kept) some =
       let more = items_longer c (set_at now.node me (record { met = Crashes ∷ first ∷ (now.node me).met; open_operations = []; stored = (now.node me).stored })) (own ++ shown me Crashes) now.tape in
       let a = length-append own (shown me Crashes) in
       omega (arith, some, more, a)
-  fated_longer now me own first made replies (CutByData left) some =
+  fated_longer now me own first made replies (CutByData kept) some =
       let more = items_longer c (set_at now.node me (record { met = Crashes ∷ first ∷ (now.node me).met; open_operations = []; stored = (now.node me).stored })) (own ++ shown me Crashes) now.tape in
       let a = length-append own (shown me Crashes) in
       omega (arith, some, more, a)
@@ -72,7 +80,7 @@ module _ (c : Cluster) where
   node_longer : (h : Meanings) (now : Standing) (me : ℕ) (own : List Item) (event : Event) (cut : Fate) → 1 ≤ length own → suc (length now.tape) ≤ length (at_node c h now me own event cut).tape
   node_longer h now me own event cut some =
       fated_longer now me own (met_in (setting c h me) (now.node me).met event) (step (setting c h me) (now.node me) event) (replies_in c me (now.node me).met event)
-      (fate_of now me (calls_of c h now me event (step (setting c h me) (now.node me) event)) cut) some
+      (fate_of c now me (appends (step (setting c h me) (now.node me) event)) cut) some
 
   start_longer : (h : Meanings) (now : Standing) (me : ℕ) (fate : Fate) → suc (length now.tape) ≤ length (fated_start c h now me fate).tape
   start_longer h now me Whole =
@@ -83,8 +91,8 @@ module _ (c : Cluster) where
       let more = items_longer c (set_at now.node me (start s number owed (now.node me).met)) (flat_map (shown me) (start_items s number owed (now.node me).met)) now.tape in
       let long : length (flat_map (shown me) (start_items s number owed (now.node me).met)) ≡ suc (length rest) = refl in
       omega (arith, more, long)
-  start_longer h now me (CutByLog left) = omega arith
-  start_longer h now me (CutByData left) = omega arith
+  start_longer h now me (CutByLog kept) = omega arith
+  start_longer h now me (CutByData kept) = omega arith
 
   handed_longer : (h : Meanings) (cuts : Cuts) (now : Standing) (k : ℕ) (o : Option Message) → length now.tape ≤ length (handed c h cuts now k o).tape
   handed_longer h cuts now k None = omega arith
@@ -113,7 +121,7 @@ module _ (c : Cluster) where
   event_longer h cuts now (Drop k) = omega arith
   event_longer h cuts now (Drain most) = drained_longer h cuts most now
   event_longer h cuts now (CrashEvent node) = omega arith
-  event_longer h cuts now (StartEvent node) = let more = start_longer h now node.0 (fate_of now node.0 (start_calls c node.0) (cuts now.tape)) in omega (arith, more)
+  event_longer h cuts now (StartEvent node) = let more = start_longer h now node.0 (fate_of c now node.0 true (cuts now.tape)) in omega (arith, more)
   event_longer h cuts now (FuseEvent node calls image Log) = omega arith
   event_longer h cuts now (FuseEvent node calls image Data) = omega arith
   event_longer h cuts now (BeginEvent node request text) =
@@ -176,7 +184,7 @@ module _ (c : Cluster) (long : ℕ) (cuts : Cuts) where
   event_same h now (Drain most) le = drained_same h most now le
   event_same h now (CrashEvent node) le = refl
   event_same h now (StartEvent node) le =
-      cut_same now (λ cut. fated_start c h now node.0 (fate_of now node.0 (start_calls c node.0) cut)) (start_longer c h now node.0 (fate_of now node.0 (start_calls c node.0) (cuts now.tape))) le
+      cut_same now (λ cut. fated_start c h now node.0 (fate_of c now node.0 true cut)) (start_longer c h now node.0 (fate_of c now node.0 true (cuts now.tape))) le
   event_same h now (FuseEvent node calls image Log) le = refl
   event_same h now (FuseEvent node calls image Data) le = refl
   event_same h now (BeginEvent node request text) le =
@@ -213,18 +221,18 @@ module _ (c : Cluster) where
 
   fated_nodes : (now : Standing) (me : ℕ) (own : List Item) (first : Met) (made : Step) (replies : List Message) (fate : Fate) → SetAtNodes c now.log_fuse → SetAtNodes c (fated c now me own first made replies fate).log_fuse
   fated_nodes now me own first made replies Whole nodes = fuse_at now.log_fuse me (cond (appends made) (after_append (now.log_fuse me)) (now.log_fuse me)) nodes (appended (appends made) (now.log_fuse me))
-  fated_nodes now me own first made replies (CutByLog left) nodes = fuse_at now.log_fuse me None nodes (λ none. refl)
-  fated_nodes now me own first made replies (CutByData left) nodes = nodes
+  fated_nodes now me own first made replies (CutByLog kept) nodes = fuse_at now.log_fuse me None nodes (λ none. refl)
+  fated_nodes now me own first made replies (CutByData kept) nodes = nodes
 
   node_nodes : (h : Meanings) (now : Standing) (me : ℕ) (own : List Item) (event : Event) (cut : Fate) → SetAtNodes c now.log_fuse → SetAtNodes c (at_node c h now me own event cut).log_fuse
   node_nodes h now me own event cut nodes =
       fated_nodes now me own (met_in (setting c h me) (now.node me).met event) (step (setting c h me) (now.node me) event) (replies_in c me (now.node me).met event)
-      (fate_of now me (calls_of c h now me event (step (setting c h me) (now.node me) event)) cut) nodes
+      (fate_of c now me (appends (step (setting c h me) (now.node me) event)) cut) nodes
 
   start_nodes : (h : Meanings) (now : Standing) (me : ℕ) (fate : Fate) → SetAtNodes c now.log_fuse → SetAtNodes c (fated_start c h now me fate).log_fuse
   start_nodes h now me Whole nodes = fuse_at now.log_fuse me (after_append (now.log_fuse me)) nodes (appended true (now.log_fuse me))
-  start_nodes h now me (CutByLog left) nodes = fuse_at now.log_fuse me None nodes (λ none. refl)
-  start_nodes h now me (CutByData left) nodes = fuse_at now.log_fuse me (cond (is_kept left) (after_append (now.log_fuse me)) (now.log_fuse me)) nodes (appended (is_kept left) (now.log_fuse me))
+  start_nodes h now me (CutByLog kept) nodes = fuse_at now.log_fuse me None nodes (λ none. refl)
+  start_nodes h now me (CutByData kept) nodes = nodes
 
   handed_nodes : (h : Meanings) (cuts : Cuts) (now : Standing) (k : ℕ) (o : Option Message) → SetAtNodes c now.log_fuse → SetAtNodes c (handed c h cuts now k o).log_fuse
   handed_nodes h cuts now k None nodes = nodes
@@ -243,11 +251,11 @@ module _ (c : Cluster) where
       by None more = nodes
       by (Some k) more = more k
 
-  fused_nodes : (now : Standing) (me calls image : ℕ) (t : Bool) → is_node c me ≡ t → because (not t) 6 None ≡ None → SetAtNodes c now.log_fuse → SetAtNodes c (set_at now.log_fuse me (new_fuse calls image))
-  fused_nodes now me calls image false at is only other none = absurd (cc)
-  fused_nodes now me calls image true at is only other none = by (me == other) refl
+  fused_nodes : (now : Standing) (me calls : ℕ) (t : Bool) → is_node c me ≡ t → because (not t) 6 None ≡ None → SetAtNodes c now.log_fuse → SetAtNodes c (set_at now.log_fuse me (new_fuse calls))
+  fused_nodes now me calls false at is only other none = absurd (cc)
+  fused_nodes now me calls true at is only other none = by (me == other) refl
     where
-      by : (t : Bool) → (me == other) ≡ t → cond t (new_fuse calls image) (now.log_fuse other) ≡ None
+      by : (t : Bool) → (me == other) ≡ t → cond t (new_fuse calls) (now.log_fuse other) ≡ None
       by true same = let both : true ≡ false = sym at ∙ ap (is_node c) (eqb-true me other same) ∙ none in absurd (cc)
       by false same = only other none
 
@@ -258,8 +266,8 @@ module _ (c : Cluster) where
   event_nodes h cuts now (Drop k) None is nodes = nodes
   event_nodes h cuts now (Drain most) None is nodes = drained_nodes h cuts most now nodes
   event_nodes h cuts now (CrashEvent node) None is nodes = nodes
-  event_nodes h cuts now (StartEvent node) None is nodes = start_nodes h now node.0 (fate_of now node.0 (start_calls c node.0) (cuts now.tape)) nodes
-  event_nodes h cuts now (FuseEvent node calls image Log) None is nodes = fused_nodes now node.0 calls image (is_node c node.0) refl is nodes
+  event_nodes h cuts now (StartEvent node) None is nodes = start_nodes h now node.0 (fate_of c now node.0 true (cuts now.tape)) nodes
+  event_nodes h cuts now (FuseEvent node calls image Log) None is nodes = fused_nodes now node.0 calls (is_node c node.0) refl is nodes
   event_nodes h cuts now (FuseEvent node calls image Data) None is nodes = nodes
   event_nodes h cuts now (BeginEvent node request text) None is nodes =
       node_nodes h now node.0 (shown node.0 (Begins (op_of (setting c h node.0) (now.node node.0).met) text)) (Begin request text) (cuts now.tape) nodes

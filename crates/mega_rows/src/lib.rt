@@ -4,5 +4,7 @@
 mod line;
 mod lines;
 mod rows;
+#[cfg(test)]
+mod tests;
 
 pub use rows::VersionedRows;

@@ -1,4 +1,3 @@
-//! The versions of one key, by position.
 ghost use Rattle.std.specs.Prelude.{◌≡◌, ◌==◌, IfOk, OnOk, OnErr, if◌then◌else◌, Some, MatchOption, option_copied};
 ghost use Rattle.std.specs.Ordering.{nat_cmp};
 ghost use Rattle.std.specs.BTreeMap.{get};

@@ -1,4 +1,3 @@
-//! A store of row versions in memory, which is never full.
 ghost use Rattle.std.specs.Prelude.{◌≡◌, ◌∷◌, true, false, [], ℕ, List, None, Err, IsOk, OnOk, OnErr, refl};
 ghost use Rattle.mega_disk.specs.Fuse.{Untold};
 ghost use Rattle.mega_disk.specs.VersionMaps.{Drops, SameVersions};

@@ -64,7 +64,7 @@ cause_to schema usage old new op on same (Batched n results) h = record {
   knows = below_to old new op h.group h.below n on h.knows;
   shows = h.shows;
 }
-cause_to schema usage old new op on same (Conflict n other) h = record { request = h.request; asked = same ∙ h.asked; group = h.group; home = h.home; entry = h.entry; stands = on op.node h.group n h.entry h.stands; names = h.names; others = h.others }
+cause_to schema usage old new op on same (Conflict n other) h = record { group = h.group; entry = h.entry; stands = on op.node h.group n h.entry h.stands; names = h.names; others = h.others }
 cause_to schema usage old new op on same (Turned turn) h = turn_to schema usage old new op turn on same h
 cause_to schema usage old new op on same (AllTurned results) h = record { own = h.own; transactions = h.transactions; asked = same ∙ h.asked; below = h.below; known = knows_to old new op.node.0 h.own h.below on h.known; turns = h.turns }
 cause_to schema usage old new op on same (ReadAnswer p rows) h = record {

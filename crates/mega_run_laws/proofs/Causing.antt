@@ -33,7 +33,6 @@ use Rattle.mega_tape_laws.specs.Answers.{HasCause, Lost, ShowsFront, of_read}
 use Rattle.mega_tape_laws.specs.Writes.{AreWritten, IsNamed, Knows, Usage}
 use Rattle.mega_tape_laws.proofs.Ballots.{clash}
 use Rattle.mega_tape_laws.proofs.Origins.{one_home}
-use Rattle.mega_tape_laws.proofs.Serial.{home_group}
 use Rattle.mega_run_laws.proofs.Causes.{Given, Keeps, replied_by, results_by}
 use Rattle.mega_run_laws.proofs.Opened.{at_place}
 use Rattle.mega_run_laws.proofs.Written.{Unproposed}
@@ -77,16 +76,7 @@ verdict_given schema usage tape op request group n mine promised entry w named a
     go : (t : Bool) → same_option same_op entry.id (Some op) ≡ t → Given schema usage tape op (cond t (committed n promised) (Conflict (record { 0 = n }) entry.id))
     go true e = commits schema usage tape op request group n promised entry named asked stands (option_is entry.id op e) p.keeps
     go false e = record {
-      cause = record {
-        request = request;
-        asked = asked;
-        group = group;
-        home = home_group schema usage tape w op (at_place group n) zero_ballot mine p.at p.id request asked;
-        entry = entry;
-        stands = stands;
-        names = refl;
-        others = λ is. option_not entry.id op e is;
-      };
+      cause = record { group = group; entry = entry; stands = stands; names = refl; others = λ is. option_not entry.id op e is };
       doomed = λ negative q b x i id. subst (Lost tape op) (one_home schema usage tape w op (at_place group n) q zero_ballot b mine x p.at p.id i id)
           (record { node = op.node; entry = entry; stands = stands; other = λ is. option_not entry.id op e is });
       named = inr named;

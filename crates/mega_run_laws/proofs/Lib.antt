@@ -29,5 +29,4 @@ pub mod Whole
 pub mod Ticking
 pub mod Steps
 pub mod Runs
-pub mod Fates
 pub mod Indexing

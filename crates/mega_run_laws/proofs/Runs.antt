@@ -12,7 +12,7 @@ use Rattle.mega_transcript.specs.declared.item.Item.{Item}
 use Rattle.mega_transcript.specs.declared.item.Item.TheVariants.{Taken, Dropped, Start, Tick as TickItem, Begin as BeginItem, Crash, Cut as CutItem}
 use Rattle.mega_promises.specs.Items.{number, shown}
 use Rattle.mega_promises.specs.Messages.{is_deliverable, is_dropped, message_of, next_delivery, receiver_up}
-use Rattle.mega_promises.specs.Runs.{Cuts, CutByData, CutByLog, Fate, Fuse, Happening, IsRun, Left, Standing, Whole, after_event, at_node, because, calls_of, crashes, cut_start, cut_step, delivered, drained, fate_of, fated, fated_start, goes_on, handed, is_durable, is_kept, log_fuse_after, marked, nothing_yet, opening, owes, receiver_down, records_left, refusal, set_at, setting, start_calls, started_records, unless_none, unless_refused, up, whole_start, whole_step, with_item, with_items}
+use Rattle.mega_promises.specs.Runs.{Cuts, CutByData, CutByLog, Fate, Fuse, Happening, IsRun, Standing, Whole, after_event, appends, at_node, because, crashes, cut_start, cut_step, delivered, drained, fate_of, fated, fated_start, goes_on, handed, is_durable, log_fuse_after, marked, nothing_yet, opening, owes, receiver_down, records_after, refusal, set_at, setting, unless_none, unless_refused, up, whole_start, whole_step, with_item, with_items}
 use Rattle.mega_transcript.specs.Tape.{is_sent, is_taken}
 use Rattle.mega_rules.specs.Met.{Met, Answers, Applies, Begins, Crashes, Starts, Takes, Ticks, Unsends}
 use Rattle.mega_rules.specs.Members.{has_rows, is_node, nodes}
@@ -109,10 +109,10 @@ owes_if c tape me false owed h = tt
 
 -- ---- cut steps
 
-cut_good : (users : Users) → (c : Cluster) (now : Standing) (me : ℕ) (item : Item) (own : Met) (left : Left) (owed : List Met) (log_fuse data_fuse : ℕ → Option Fuse) → Good users c now → ((n : ℕ → Node) → with_item c n now.tape item ≡ item ∷ now.tape)
+cut_good : (users : Users) → (c : Cluster) (now : Standing) (me : ℕ) (item : Item) (own : Met) (made : Step) (owed : List Met) (log_fuse data_fuse : ℕ → Option Fuse) → Good users c now → ((n : ℕ → Node) → with_item c n now.tape item ≡ item ∷ now.tape)
     → Own c now.tape item (now.node me).met own → ((x : OpId) → ((me == x.node.0) ≡ false) ⊎ IsNew (now.starts me) (own ∷ (now.node me).met) x → OtherThan own x)
-    → Owes c (Crash (number me) ∷ item ∷ now.tape) me owed → Good users c (cut_step c now me (item ∷ []) own left owed log_fuse data_fuse)
-cut_good users c now me item own left owed log_fuse data_fuse g plain o other owing = next_good users c now me _ node2 log_fuse data_fuse now.starts (records_left now me left) (set_at now.owed me owed) g
+    → Owes c (Crash (number me) ∷ item ∷ now.tape) me owed → Good users c (cut_step c now me (item ∷ []) own made owed log_fuse data_fuse)
+cut_good users c now me item own made owed log_fuse data_fuse g plain o other owing = next_good users c now me _ node2 log_fuse data_fuse now.starts now.records (set_at now.owed me owed) g
     (subst (λ t. Next users c now me t node2 now.starts (set_at now.owed me owed)) (sym (ap (λ t. with_item c (set_at now.node me node2) t (Crash (number me))) (plain (set_at now.node me node2)))) (record {
       lawful = (tt, (o.on).lawful g.lawful);
       stood = λ x s. inr ((o.on).stood x s);
@@ -154,9 +154,9 @@ fated_good : (users : Users) → (c : Cluster) (now : Standing) (me : ℕ) (item
     → Own c now.tape item (now.node me).met own → ((x : OpId) → ((me == x.node.0) ≡ false) ⊎ IsNew (now.starts me) (own ∷ (now.node me).met) x → OtherThan own x)
     → Owes c (Crash (number me) ∷ item ∷ now.tape) me (owes made replies) → Good users c (whole_step c now me (item ∷ []) made) → Good users c (fated c now me (item ∷ []) own made replies fate)
 fated_good users c now me item own made replies Whole g plain o other owing whole = whole
-fated_good users c now me item own made replies (CutByLog left) g plain o other owing whole =
-    cut_good users c now me item own left (cond (is_kept left) (owes made replies) []) (set_at now.log_fuse me None) now.data_fuse g plain o other (owes_if c (Crash (number me) ∷ item ∷ now.tape) me (is_kept left) (owes made replies) owing)
-fated_good users c now me item own made replies (CutByData left) g plain o other owing whole = cut_good users c now me item own left [] now.log_fuse (set_at now.data_fuse me None) g plain o other tt
+fated_good users c now me item own made replies (CutByLog kept) g plain o other owing whole =
+    cut_good users c now me item own made (cond kept (owes made replies) []) (set_at now.log_fuse me None) now.data_fuse g plain o other (owes_if c (Crash (number me) ∷ item ∷ now.tape) me kept (owes made replies) owing)
+fated_good users c now me item own made replies (CutByData kept) g plain o other owing whole = cut_good users c now me item own made [] now.log_fuse (set_at now.data_fuse me None) g plain o other tt
 
 -- ---- crashes and starts that are cut
 
@@ -192,13 +192,10 @@ down_next users c now me starts g le same = record {
 crashes_good : (users : Users) → (c : Cluster) (now : Standing) (me : ℕ) → Good users c now → Good users c (crashes now me)
 crashes_good users c now me g = next_good users c now me (Crash (number me) ∷ now.tape) (crashed (now.node me)) now.log_fuse now.data_fuse now.starts now.records now.owed g (down_next users c now me now.starts g (omega arith) (λ v apart. refl))
 
-cut_start_good : (users : Users) → (c : Cluster) (now : Standing) (me : ℕ) (left : Left) (log_fuse data_fuse : ℕ → Option Fuse) → Good users c now → Good users c (cut_start now me left log_fuse data_fuse)
-cut_start_good users c now me left log_fuse data_fuse g = next_good users c now me (Crash (number me) ∷ now.tape) (crashed (now.node me)) log_fuse data_fuse (set_at now.starts me started) (cond (is_kept left) (started_records now me) now.records) now.owed g
-    (down_next users c now me (set_at now.starts me started) g (subst (λ n. now.starts me ≤ n) (sym (at_self now.starts me started)) (le (is_kept left))) (at_other now.starts me started))
+cut_start_good : (users : Users) → (c : Cluster) (now : Standing) (me : ℕ) (kept : Bool) (log_fuse data_fuse : ℕ → Option Fuse) → Good users c now → Good users c (cut_start now me kept log_fuse data_fuse)
+cut_start_good users c now me kept log_fuse data_fuse g = next_good users c now me (Crash (number me) ∷ now.tape) (crashed (now.node me)) log_fuse data_fuse (set_at now.starts me (cond kept (now.starts me + 1) (now.starts me))) now.records now.owed g
+    (down_next users c now me (set_at now.starts me (cond kept (now.starts me + 1) (now.starts me))) g (subst (λ n. now.starts me ≤ n) (sym (at_self now.starts me (cond kept (now.starts me + 1) (now.starts me)))) (le kept)) (at_other now.starts me (cond kept (now.starts me + 1) (now.starts me))))
   where
-    started : ℕ
-    started = cond (is_kept left) (now.starts me + 1) (now.starts me)
-
     le : (t : Bool) → now.starts me ≤ cond t (now.starts me + 1) (now.starts me)
     le true = omega arith
     le false = omega arith
@@ -264,7 +261,7 @@ owed_shown c me nodes' (one ∷ more) tape met h made known =
 
 start_good : (users : Users) → (c : Cluster) (h : Meanings) (now : Standing) (me : ℕ) → Good users c now
     → Good users c (whole_start c now me (start_items (setting c h me) (now.starts me + 1) (now.owed me) (now.node me).met) (start (setting c h me) (now.starts me + 1) (now.owed me) (now.node me).met))
-start_good users c h now me g = next_good users c now me _ node2 (log_fuse_after now me true) now.data_fuse (set_at now.starts me (now.starts me + 1)) (started_records now me) (set_at now.owed me []) g
+start_good users c h now me g = next_good users c now me _ node2 (log_fuse_after now me true) now.data_fuse (set_at now.starts me (now.starts me + 1)) (records_after now me true) (set_at now.owed me []) g
     (coe 1 0 (i. Next users c now me (tape_is i) (record { met = met_is i; open_operations = []; stored = node2.stored }) (set_at now.starts me (now.starts me + 1)) (set_at now.owed me [])) (record {
       lawful = whole_lawful;
       stood = λ item s. (follows.tape).stood item (first.stood item (inr s));
@@ -349,14 +346,14 @@ start_good users c h now me g = next_good users c now me _ node2 (log_fuse_after
 
 fated_start_good : (users : Users) → (c : Cluster) (h : Meanings) (now : Standing) (me : ℕ) (fate : Fate) → Good users c now → Good users c (fated_start c h now me fate)
 fated_start_good users c h now me Whole g = start_good users c h now me g
-fated_start_good users c h now me (CutByLog left) g = cut_start_good users c now me left (set_at now.log_fuse me None) now.data_fuse g
-fated_start_good users c h now me (CutByData left) g = cut_start_good users c now me left (log_fuse_after now me (is_kept left)) (set_at now.data_fuse me None) g
+fated_start_good users c h now me (CutByLog kept) g = cut_start_good users c now me kept (set_at now.log_fuse me None) now.data_fuse g
+fated_start_good users c h now me (CutByData kept) g = cut_start_good users c now me kept now.log_fuse (set_at now.data_fuse me None) g
 
 -- ---- events
 
 handed_good : (users : Users) → (c : Cluster) (h : Meanings) → (users.fits → Brought users.usage h) → (cuts : Cuts) (now : Standing) (j : ℕ) (o : Option Message) → message_of now.tape j ≡ o → receiver_up (up now) o ≡ true → Good users c now → Good users c (handed c h cuts now j o)
 handed_good users c h brought cuts now j None is r g = g
-handed_good users c h brought cuts now j (Some m) is r g = fated_good users c now m.to (Taken j) (Takes m) made (reply_to c m.to (now.node m.to).met m) (fate_of now m.to (calls_of c h now m.to (Take m) made) (cuts now.tape)) g (λ n. refl) (own_taken c now.tape j m (now.node m.to).met) (λ x other. tt)
+handed_good users c h brought cuts now j (Some m) is r g = fated_good users c now m.to (Taken j) (Takes m) made (reply_to c m.to (now.node m.to).met m) (fate_of c now m.to (appends made) (cuts now.tape)) g (λ n. refl) (own_taken c now.tape j m (now.node m.to).met) (λ x other. tt)
     (owes_notes c tape2 m.to made.notes (map Unsends (reply_to c m.to (now.node m.to).met m)) (each_note_on c (Taken j ∷ now.tape) tape2 (λ item s. inr s) m.to made.notes next.1)
     (owes_reply c tape2 m.to (now.node m.to).met m (record { made = (g.node m.to).made; decides = λ h' n e d. inr (inr ((g.node m.to).known h' n e d)) }) (record { number = j; sent = inr (inr (stands_sent now.tape j m is)); taken = inr (inl refl) })))
     (whole_good users s now (Taken j) (Takes m) made g (λ n. refl) next)
@@ -374,7 +371,7 @@ handed_good users c h brought cuts now j (Some m) is r g = fated_good users c no
     next = take_next users s brought now (set_at now.node m.to made.node) j m g r (stands_sent now.tape j m is)
 
 tick_good : (users : Users) → (c : Cluster) (h : Meanings) → (users.fits → Brought users.usage h) → (now : Standing) (me clock : ℕ) (cut : Fate) → is_up (now.node me).met ≡ true → Good users c now → Good users c (at_node c h now me (shown me (Ticks clock)) (Tick clock) cut)
-tick_good users c h brought now me clock cut r g = fated_good users c now me (TickItem (number me) clock) (Ticks clock) made [] (fate_of now me (calls_of c h now me (Tick clock) made) cut) g (λ n. refl) (own_tick c now.tape me clock (now.node me).met) (λ x other. tt)
+tick_good users c h brought now me clock cut r g = fated_good users c now me (TickItem (number me) clock) (Ticks clock) made [] (fate_of c now me (appends made) cut) g (λ n. refl) (own_tick c now.tape me clock (now.node me).met) (λ x other. tt)
     (owes_notes c (Crash (number me) ∷ TickItem (number me) clock ∷ now.tape) me made.notes [] (each_note_on c (TickItem (number me) clock ∷ now.tape) (Crash (number me) ∷ TickItem (number me) clock ∷ now.tape) (λ item s. inr s) me made.notes next.1) tt)
     (whole_good users s now (TickItem (number me) clock) (Ticks clock) made g (λ n. refl) next)
   where
@@ -389,7 +386,7 @@ tick_good users c h brought now me clock cut r g = fated_good users c now me (Ti
 
 begin_good : (users : Users) → (c : Cluster) (h : Meanings) → (users.fits → Brought users.usage h) → (now : Standing) (me : ℕ) (request : Request) (text : List ℕ) (cut : Fate) → (users.fits → (users.usage).meaning text ≡ Some request) → is_up (now.node me).met ≡ true → Good users c now
     → Good users c (at_node c h now me (shown me (Begins (op_of (setting c h me) (now.node me).met) text)) (Begin request text) cut)
-begin_good users c h brought now me request text cut means r g = fated_good users c now me (BeginItem id text) (Begins id text) made [] (fate_of now me (calls_of c h now me (Begin request text) made) cut) g (λ n. refl) (own_begin c now.tape id text (now.node me).met (never_asked users s now g) (never_begun users s now g)) (begins_other users s now text g)
+begin_good users c h brought now me request text cut means r g = fated_good users c now me (BeginItem id text) (Begins id text) made [] (fate_of c now me (appends made) cut) g (λ n. refl) (own_begin c now.tape id text (now.node me).met (never_asked users s now g) (never_begun users s now g)) (begins_other users s now text g)
     (owes_notes c (Crash (number me) ∷ BeginItem id text ∷ now.tape) me made.notes [] (each_note_on c (BeginItem id text ∷ now.tape) (Crash (number me) ∷ BeginItem id text ∷ now.tape) (λ item s. inr s) me made.notes next.1) tt)
     (whole_good users s now (BeginItem id text) (Begins id text) made g (λ n. refl) next)
   where
@@ -474,7 +471,7 @@ event_good users c h brought cuts now (Deliver j) meant r g =
 event_good users c h brought cuts now (Drop j) meant r g = marked_good users c now (Dropped j) (tape_item c now.tape (Dropped j) tt (λ x q. refl) (λ v q. refl) (λ x. refl) tt (λ schema usage. tt)) (λ x. refl) (λ schema usage. tt) (λ x. refl) g
 event_good users c h brought cuts now (Drain most) meant r g = drained_good users c h brought cuts most now g
 event_good users c h brought cuts now (CrashEvent node) meant r g = crashes_good users c now node.0 g
-event_good users c h brought cuts now (StartEvent node) meant r g = fated_start_good users c h now node.0 (fate_of now node.0 (start_calls c node.0) (cuts now.tape)) g
+event_good users c h brought cuts now (StartEvent node) meant r g = fated_start_good users c h now node.0 (fate_of c now node.0 true (cuts now.tape)) g
 event_good users c h brought cuts now (FuseEvent node calls image Log) meant r g = record { lawful = g.lawful; node = g.node; starts = g.starts; polls = g.polls; written = g.written; unbegun = g.unbegun; answered = g.answered; unfailed = g.unfailed; fresh = g.fresh; unasked = g.unasked; worn = g.worn; owes = g.owes; owed = g.owed }
 event_good users c h brought cuts now (FuseEvent node calls image Data) meant r g = record { lawful = g.lawful; node = g.node; starts = g.starts; polls = g.polls; written = g.written; unbegun = g.unbegun; answered = g.answered; unfailed = g.unfailed; fresh = g.fresh; unasked = g.unasked; worn = g.worn; owes = g.owes; owed = g.owed }
 event_good users c h brought cuts now (BeginEvent node request text) meant r g =

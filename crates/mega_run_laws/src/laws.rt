@@ -1,6 +1,6 @@
 //! Laws, as contracts of functions that do nothing.
 
-ghost use Rattle.std.specs.Prelude.{◌≡◌, ℕ, ◌≤◌, true, List, None, Ok, Option, Some, slice_get, take};
+ghost use Rattle.std.specs.Prelude.{◌≡◌, ℕ, ◌≤◌, true, List, Ok, Option, Some, slice_get, take};
 ghost use Rattle.mega_base.specs.declared.names.GroupId.{GroupId as Group};
 ghost use Rattle.mega_base.specs.declared.names.NodeId.{NodeId as Node};
 ghost use Rattle.mega_base.specs.declared.names.OpId.{OpId};
@@ -17,7 +17,7 @@ ghost use Rattle.mega_rules.specs.Replies.{answer_to};
 ghost use Rattle.mega_tape_laws.specs.Places.{Place, Took};
 ghost use Rattle.mega_handler.specs.Named.{Meanings};
 ghost use Rattle.mega_promises.specs.Promises.{Agree, AreMessages, IsSerial, Stands, StoodBefore, asked_for, comes_to, group_written, is_write, log_of, rows_shown};
-ghost use Rattle.mega_promises.specs.Runs.{Calls, Fate, Happening, IsRun, MayBecome, Standing, Whole, fate_of};
+ghost use Rattle.mega_promises.specs.Runs.{Happening, IsRun};
 ghost use Rattle.mega_tape_laws.specs.Lawful.{Lawful, MayMake, MaySend, message};
 ghost use Rattle.mega_tape_laws.specs.Polls.{ArePolls, IsPolled};
 ghost use Rattle.mega_tape_laws.specs.Writes.{LawfulWrites, Usage};
@@ -44,14 +44,6 @@ pub fn rounds_are_allowed()
     ensures takes { (c : Cluster) (tape : List Item) (op : OpId) (p : Place) (asked : List ℕ) (proposal : Proposal) (from now : ℕ) (body : Body) → Vouched c tape op p proposal → Took tape (message from op.node.0 body) → Goes c tape op p (takes (here c op p asked) proposal from now body) }
     ensures due { (c : Cluster) (tape : List Item) (op : OpId) (p : Place) (asked : List ℕ) (proposal : Proposal) (retry now : ℕ) → Vouched c tape op p proposal → Goes c tape op p (due (here c op p asked) proposal retry now) }
     ensures settles { (c : Cluster) (tape : List Item) (op : OpId) (p : Place) (proposal : Proposal) (entry : Content) → Vouched c tape op p proposal → settled proposal ≡ Some entry → Chosen c tape op p entry }
-{}
-
-/// What becomes of a step or a start in a run is always what may become of it; and whatever may become of it does, where the run's cuts say so. Where no fuse is
-/// set, all is whole.
-pub fn fates_may_become()
-    ensures allowed { (now : Standing) (me : ℕ) (calls : Calls) (cut : Fate) → MayBecome now me calls (fate_of now me calls cut) }
-    ensures all { (now : Standing) (me : ℕ) (calls : Calls) (cut : Fate) → MayBecome now me calls cut → fate_of now me calls cut ≡ cut }
-    ensures whole { (now : Standing) (me : ℕ) (calls : Calls) (cut : Fate) → now.log_fuse me ≡ None → now.data_fuse me ≡ None → fate_of now me calls cut ≡ Whole }
 {}
 
 /// Every run is lawful, of every cluster and with any handlers, events and fuses: messages that are lost, repeated or taken in any order,

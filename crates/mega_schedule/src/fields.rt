@@ -1,4 +1,3 @@
-//! The checks of a line's fields: required, optional, bounded and listed.
 ghost use Rattle.std.specs.Prelude.{◌≡◌, Some, option_map};
 ghost use Rattle.std.specs.List.{list_all};
 ghost use Rattle.serde_json.specs.Data.{Data};

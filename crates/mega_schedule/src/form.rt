@@ -1,4 +1,3 @@
-//! The forms of lines, and the words that name forms, modes, devices and pumps.
 ghost use Rattle.std.specs.Prelude.{◌≡◌};
 ghost use Rattle.mega_syntax.specs.Names.{same};
 ghost use Rattle.mega_schedule.specs.Forms.{form_named, mode_named, device_named, pump_named};
@@ -8,7 +7,7 @@ use mega_outcome::Mode;
 
 /// The form of a line, which the word of its `do` names.
 #[derive(Clone, Copy, PartialEq, Eq, Debug, Drop)]
-pub enum Form {
+pub(crate) enum Form {
     Tick,
     Deliver,
     Drop,
@@ -26,7 +25,7 @@ pub enum Form {
 
 /// What a pump does.
 #[derive(Clone, Copy, PartialEq, Eq, Debug, Drop)]
-pub enum Pump {
+pub(crate) enum Pump {
     Enter,
     Handle,
 }

@@ -13,7 +13,5 @@ mod values;
 mod verdict;
 mod world_event;
 
-pub use form::{Form, Pump};
 pub use read::event;
-pub use verdict::Verdict;
 pub use world_event::{LineFault, WorldEvent};

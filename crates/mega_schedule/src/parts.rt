@@ -1,4 +1,3 @@
-//! What is wrong with the reads, checks, writes and sends of a line.
 ghost use Rattle.std.specs.Prelude.{◌≡◌, codes};
 ghost use Rattle.serde_json.specs.View.{view, members_view};
 ghost use Rattle.mega_schedule.specs.declared.verdict.Verdict.TheVariants.{Fine};

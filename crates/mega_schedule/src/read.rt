@@ -1,4 +1,3 @@
-//! Reads the event that a line of a schedule tells.
 ghost use Rattle.std.specs.Prelude.{◌≡◌, codes, IfOk, Some, false, option_and_then, Ok, Err};
 ghost use Rattle.serde_json.specs.Find.{get, as_str};
 ghost use Rattle.serde_json.specs.View.{view};

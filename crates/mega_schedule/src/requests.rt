@@ -1,4 +1,3 @@
-//! The requests that lines ask for: batches, reads, finds and pumps.
 ghost use Rattle.std.specs.Prelude.{◌≡◌, codes, IfOk, position};
 ghost use Rattle.std.specs.Option.{option_copied};
 ghost use Rattle.serde_json.specs.Find.{get};

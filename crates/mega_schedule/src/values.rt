@@ -1,4 +1,3 @@
-//! The texts, numbers and lists of a line's fields, and the values in places of a kind.
 ghost use Rattle.std.specs.Prelude.{◌≡◌, ◌++◌, Some, IfOk, OnOk, position};
 ghost use Rattle.std.specs.Option.{option_copied};
 ghost use Rattle.serde_json.specs.Find.{get};

@@ -1,4 +1,3 @@
-//! What is wrong with a line, of which the first by rank is told.
 ghost use Rattle.std.specs.Prelude.{◌≡◌};
 ghost use Rattle.mega_schedule.specs.Verdicts.{◌⊓◌, judged};
 ghost use Rattle.mega_schedule.specs.Answers.{GivesOrReason};
@@ -7,7 +6,7 @@ use crate::world_event::LineFault;
 
 /// What is wrong with a line or a part of it, what is told first standing before the others.
 #[derive(Clone, Copy, PartialEq, Eq, Debug, Drop)]
-pub enum Verdict {
+pub(crate) enum Verdict {
     Missing,
     Extra,
     WrongKind,

@@ -1,4 +1,3 @@
-//! One event of a world of nodes, and why a line is none.
 ghost use Rattle.std.specs.Prelude.{◌≡◌};
 ghost use Rattle.mega_schedule.specs.declared.world_event.LineFault.TheVariants.{NoMemory as OutOfMemory};
 

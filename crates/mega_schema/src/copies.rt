@@ -1,4 +1,3 @@
-//! Copies of a schema and of its parts.
 use crate::schema::{Index, Property, Schema, Table};
 use mega_base::{Copied, NoMemory};
 use std::alloc::Global;

@@ -1,4 +1,3 @@
-//! Adds to a schema what a statement declares, with names turned into numbers.
 ghost use Rattle.std.specs.Prelude.{◌≡◌, length, IfOk, Some};
 ghost use Rattle.mega_syntax.specs.Reading.{is_scatter, is_inside};
 ghost use Rattle.mega_schema.specs.Lookup.{group_of};

@@ -1,4 +1,3 @@
-//! Why a text declares no schema: a token, or the rule that a statement breaks.
 ghost use Rattle.std.specs.Prelude.{◌≡◌};
 ghost use Rattle.mega_schema.specs.declared.fault.SchemaFault.TheVariants.{NoMemory as Refused};
 

@@ -1,4 +1,3 @@
-//! Adds properties behind those of a table.
 ghost use Rattle.std.specs.Prelude.{◌≡◌, ◌<◌, ◌++◌, map, length, IfOk, OnOk, Some};
 ghost use Rattle.mega_schema.specs.Rules.{words_names};
 ghost use Rattle.mega_schema.specs.Known.{extended_at};

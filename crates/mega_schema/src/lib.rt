@@ -18,3 +18,6 @@ pub use fault::SchemaFault;
 pub use mega_syntax::Need;
 pub use schema::{Index, Property, Schema, Table};
 pub use verdict::parse;
+
+#[cfg(test)]
+mod tests;

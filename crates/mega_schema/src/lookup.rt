@@ -1,4 +1,3 @@
-//! What words and clauses name: kinds, needs, group keys and enclosing tables.
 ghost use Rattle.std.specs.Prelude.{◌≡◌};
 ghost use Rattle.std.specs.Option.{option_copied, option_map};
 ghost use Rattle.mega_schema.specs.Lookup.{kind_of, is_required, is_repeated, is_root_table, group_of, inside_of};

@@ -1,4 +1,3 @@
-//! A table's statement, whose properties are found by name.
 ghost use Rattle.std.specs.Prelude.{◌≡◌, IfOk};
 ghost use Rattle.std.specs.Option.{option_copied};
 ghost use Rattle.mega_schema.specs.Lookup.{stands_twice, words_named};

@@ -1,4 +1,3 @@
-//! A list of names and a map from each to its first place.
 ghost use Rattle.std.specs.Prelude.{◌≡◌, ◌∷◌, [], ◌++◌, ℕ, List, IfOk, OnOk};
 ghost use Rattle.mega_syntax.specs.Names.{same};
 ghost use Rattle.mega_schema.specs.Lookup.{stands_twice};

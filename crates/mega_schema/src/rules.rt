@@ -1,4 +1,3 @@
-//! The rules that a statement of a schema may break, each tried by a function of its own.
 ghost use Rattle.std.specs.Prelude.{◌≡◌, IfOk, is_some, is_none, map, nat_lt, length};
 ghost use Rattle.std.specs.List.{list_any};
 ghost use Rattle.mega_syntax.specs.Names.{same};

@@ -1,4 +1,3 @@
-//! A declared schema: its tables, properties and indexes, numbered from 1.
 use mega_base::{Items, Kind, Text};
 use mega_syntax::Need;
 

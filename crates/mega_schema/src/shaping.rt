@@ -1,4 +1,3 @@
-//! How the row keys of a declared table are spelled.
 ghost use Rattle.std.specs.Prelude.{◌≡◌, ◌≤◌, ◌++◌, length, Some, IfOk, OnOk};
 ghost use Rattle.std.specs.Option.{option_copied, option_map, option_to_list};
 ghost use Rattle.mega_schema.specs.Shaping.{table_at, kinds_of, root_kinds, rest_kinds, space_of, shape_of};

@@ -1,4 +1,3 @@
-//! Reads a schema's text, and tries and declares its statements in turn.
 ghost use Rattle.std.specs.Prelude.{◌≡◌, length, List};
 ghost use Rattle.mega_syntax.specs.Tokens.{tokens, texts};
 ghost use Rattle.mega_syntax.specs.Grammar.{Spells};

@@ -1,4 +1,3 @@
-//! Which kinds of clauses stand among those of a table.
 ghost use Rattle.std.specs.Prelude.{◌≡◌};
 ghost use Rattle.std.specs.List.{list_any};
 ghost use Rattle.mega_syntax.specs.Reading.{is_root, is_scatter, is_inside, is_group};

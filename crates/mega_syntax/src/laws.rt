@@ -1,4 +1,3 @@
-//! The law of refusals: no schema text begins with the tokens that led to one.
 ghost use Rattle.std.specs.Prelude.{◌≡◌, ℕ, suc, Err};
 ghost use Rattle.mega_syntax.specs.Reading.{Texts, schema_at};
 ghost use Rattle.mega_syntax.specs.Refusal.{IsRefusedAt};

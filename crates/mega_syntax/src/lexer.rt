@@ -1,4 +1,3 @@
-//! Cuts the text of a schema into its tokens.
 ghost use Rattle.std.specs.Prelude.{◌≡◌, List, ℕ, ◌∷◌, ◌+◌, ◌<◌, ◌≤◌, ◌^◌, IfOk, length, take, drop};
 ghost use Rattle.std.specs.List.{list_all, prefix_len};
 ghost use Rattle.mega_syntax.specs.Tokens.{is_blank, tokens_from, tokens, Splits};

@@ -21,3 +21,6 @@ pub use words::{
     ChangeWords, Clause, IndexWords, Name, Placed, PropertyWords, SchemaWords, Statement,
     TableWords,
 };
+
+#[cfg(test)]
+mod tests;

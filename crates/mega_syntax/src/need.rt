@@ -1,4 +1,3 @@
-//! Whether a property has exactly one value, at most one, or any number.
 /// Whether a property has a value: exactly one, at most one, or any number.
 #[derive(Clone, Copy, PartialEq, Eq, Debug, Drop)]
 pub enum Need {

@@ -1,4 +1,3 @@
-//! A parser over the tokens that are left, which passes over words and reads names.
 ghost use Rattle.std.specs.Prelude.{◌≡◌, ◌==◌, drop, length, codes, if◌then◌else◌};
 ghost use Rattle.mega_syntax.specs.declared.parser.Stop.TheVariants.{Refused as Spent};
 ghost use Rattle.mega_syntax.specs.Names.{is_name};

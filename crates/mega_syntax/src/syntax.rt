@@ -1,4 +1,3 @@
-//! Reads tables, indexes and changes from the tokens of a schema's text, as the grammar has them.
 ghost use Rattle.std.specs.Prelude.{◌≡◌, codes, length};
 ghost use Rattle.mega_syntax.specs.Reading.{comma_at, name_step, names_at, need_at, property_at, property_step, properties_at, group_at, inside_at, entity_at, clause_at, clause_step, all_items_at, table_at, storing_at, index_at, change_at, created_at, statement_at, placed_step, schema_at};
 ghost use Rattle.mega_syntax.specs.Stops.{Reads};

@@ -1,4 +1,3 @@
-//! The tokens of a schema's text, each with the offset at which it begins.
 ghost use Rattle.std.specs.Prelude.{◌≡◌};
 
 use std::marker::Model;

@@ -1,4 +1,3 @@
-//! Reads the whole text of a schema, or tells the first token that cannot stand there.
 ghost use Rattle.std.specs.Prelude.{◌≡◌, ℕ, List, length};
 ghost use Rattle.mega_syntax.specs.declared.words.SchemaWords.{SchemaWords};
 ghost use Rattle.mega_syntax.specs.declared.whole.SyntaxFault.TheVariants.{NoMemory as Refused};

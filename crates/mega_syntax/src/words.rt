@@ -1,4 +1,3 @@
-//! What a schema's text says: names, properties, clauses and statements, in its own words.
 ghost use Rattle.std.specs.Prelude.{◌≡◌, IfOk, IsTrue, Some, nat_eq, refl};
 ghost use Rattle.std.specs.Ordering.{nat_cmp};
 ghost use Rattle.std.specs.Cmp.Lexicographic.{pointwise, slice_cmp, nat_list_eq_equiv, nat_list_cmp_total, texts_ties, texts_po};

@@ -26,7 +26,7 @@ use Rattle.mega_wal.proofs.Sames.{same_op_self}
 use Rattle.mega_transcript.specs.declared.item.Item.{Item}
 use Rattle.mega_transcript.specs.declared.item.Item.TheVariants.{Answer as AnswerItem, Begin, Decide, Sent}
 use Rattle.mega_rules.specs.Steps.{is_current}
-use Rattle.mega_promises.specs.Promises.{IsSerial, Stands, asked_for, group_written, is_negative, is_write, log_of, rows_shown}
+use Rattle.mega_promises.specs.Promises.{IsSerial, Stands, asked_for, is_negative, is_write, log_of, rows_shown}
 use Rattle.mega_tape_laws.specs.Places.{In, Place, Prepares, Proposes, is_move_at, move_in, move_of, moves}
 use Rattle.mega_tape_laws.specs.Writes.{AreWritten, IsFront, Usage, IsNamed}
 use Rattle.mega_tape_laws.specs.Answers.{AreAnswered, IsAnswered, IsDoomed, KnowsBelow, LawfulAnswers, Lost, MayCommit, MayCommitAll, MayConflict, MaySpeak, MayRead, MayTurn, MayTurnAll, ShowsFront, Replied, has_failed, of_pump, of_read, of_transaction, of_write}
@@ -154,32 +154,15 @@ batched_at c usage tape l op n results s = (m.group, m.entry, m.stands, m.is_own
 
 -- ---- conflicts
 
-conflict_then : (usage : Usage) (op : OpId) (n : Position) (other : Option OpId) (item : Item) (before : List Item)
-    → ((request : Request) → asked_for usage.meaning before op ≡ Some request → asked_for usage.meaning (item ∷ before) op ≡ Some request)
-    → MayConflict usage before op n other → MayConflict usage (item ∷ before) op n other
-conflict_then usage op n other item before asks m = record {
-  request = m.request;
-  asked = asks m.request m.asked;
-  group = m.group;
-  home = m.home;
-  entry = m.entry;
-  stands = inr m.stands;
-  names = m.names;
-  others = m.others;
-}
+conflict_then : (op : OpId) (n : Position) (other : Option OpId) (item : Item) (before : List Item) → MayConflict before op n other → MayConflict (item ∷ before) op n other
+conflict_then op n other item before m = record { group = m.group; entry = m.entry; stands = inr m.stands; names = m.names; others = m.others }
 
 conflict_at : (c : Cluster) (usage : Usage) (tape : List Item) → LawfulAnswers c usage tape → (op : OpId) (n : Position) (other : Option OpId) → Stands (AnswerItem op (Conflict n other)) tape
     → (group : GroupId) × (entry : Content) × Stands (Decide op.node group n entry) tape × (entry.id ≡ other) × (other ≢ Some op)
-    × ((request : Request) → asked_for usage.meaning tape op ≡ Some request → is_write request ≡ true → group_written request ≡ Some group)
-conflict_at c usage tape l op n other s = (m.group, m.entry, m.stands, m.names, m.others, home)
-  where
-    m : MayConflict usage tape op n other
-    m = answered c.schema usage (λ x. MayConflict usage x op n other) (AnswerItem op (Conflict n other))
-        (λ item before w a q. conflict_then usage op n other item before (λ request h. asked_then c.schema usage item before w.0 op (named_at c.schema usage tape (l.writes).written l.answered op (Conflict n other) s refl) request h) q)
-        (λ before a. conflict_then usage op n other (AnswerItem op (Conflict n other)) before (λ request h. h) a.0) tape (l.writes).written l.answered s
-
-    home : (request : Request) → asked_for usage.meaning tape op ≡ Some request → is_write request ≡ true → group_written request ≡ Some m.group
-    home request asks = subst (λ (r : Request). is_write r ≡ true → group_written r ≡ Some m.group) (same_request usage tape op op m.request request refl m.asked asks) m.home
+conflict_at c usage tape l op n other s =
+    let m = answered c.schema usage (λ x. MayConflict x op n other) (AnswerItem op (Conflict n other))
+    (λ item before w a q. conflict_then op n other item before q) (λ before a. conflict_then op n other (AnswerItem op (Conflict n other)) before a.0) tape (l.writes).written l.answered s in
+    (m.group, m.entry, m.stands, m.names, m.others)
 
 -- ---- turned
 

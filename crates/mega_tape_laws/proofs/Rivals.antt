@@ -9,7 +9,6 @@ use Rattle.mega_transcript.specs.declared.item.Item.{Item}
 use Rattle.mega_transcript.specs.declared.item.Item.TheVariants.{Answer, Begin, Decide, Sent, Taken}
 use Rattle.mega_transcript.specs.Tape.{newest}
 use Rattle.mega_promises.specs.Items.{number}
-use Rattle.mega_outcome.specs.declared.request.Request.TheVariants.{Txn}
 use Rattle.mega_promises.specs.Promises.{Stands}
 use Rattle.mega_rules.specs.Examples.{accept_for, cluster, entry_of, from_to, group, op_of}
 use Rattle.mega_tape_laws.specs.Lawful.{Heard, Lawful, an_accept, asks, lowest, settled, spreads, told}
@@ -80,9 +79,9 @@ learned = Decide (number 2) group first (entry_of 1) ∷ Taken 7 ∷ Sent 7 (fro
 apart : Some (op_of 1) ≢ Some (op_of 2)
 apart h = let same : ◌≡◌ {A = ℕ} 1 2 = ap (λ (o : OpId). o.node.0) (some_is (op_of 1) (op_of 2) h) in omega arith
 
-conflicts : MayConflict asks_put learned (op_of 2) first (Some (op_of 1))
+conflicts : MayConflict learned (op_of 2) first (Some (op_of 1))
 unfolding learned decided
-conflicts = record { request = Txn transaction; asked = refl; group = group; home = λ writes. refl; entry = entry_of 1; stands = inl refl; names = refl; others = apart }
+conflicts = record { group = group; entry = entry_of 1; stands = inl refl; names = refl; others = apart }
 
 learned_written : AreWritten cluster.schema asks_put learned
 unfolding learned decided

@@ -3,7 +3,6 @@ use Rattle.std.proofs.Common.{◌≡◌, ℕ, suc, true, List, take, slice_get, 
 use Rattle.mega_base.specs.declared.names.GroupId.{GroupId}
 use Rattle.mega_base.specs.declared.names.NodeId.{NodeId}
 use Rattle.mega_base.specs.declared.names.OpId.{OpId}
-use Rattle.mega_ballot.specs.declared.ballot.Ballot.{Ballot}
 use Rattle.mega_cluster.specs.declared.cluster.Cluster.{Cluster}
 use Rattle.mega_schema.specs.declared.schema.Schema.{Schema}
 use Rattle.mega_entry.specs.declared.content.Content.{Content}
@@ -18,7 +17,7 @@ use Rattle.mega_transcript.specs.declared.item.Item.TheVariants.{Decide}
 use Rattle.mega_promises.specs.Promises.{Stands, asked_for, comes_to, group_written, is_write, log_of}
 use Rattle.mega_tape_laws.specs.Chosen.{Chosen}
 use Rattle.mega_tape_laws.specs.Places.{In, Place, Proposes, moves}
-use Rattle.mega_tape_laws.specs.Writes.{AreWritten, LawfulWrites, OwnEntry, Usage, enters, fills, handles, runs, runs_all}
+use Rattle.mega_tape_laws.specs.Writes.{LawfulWrites, OwnEntry, Usage, enters, fills, handles, runs, runs_all}
 use Rattle.mega_tape_laws.proofs.Lists.{some_is}
 use Rattle.mega_tape_laws.proofs.Made.{Proposed, vote_proposed}
 use Rattle.mega_tape_laws.proofs.Majorities.{Shared, meet}
@@ -87,13 +86,6 @@ by_own schema usage tape op group below e (enters message sent posted own known 
     let none = no_write PumpEnter request (same_request usage tape op other PumpEnter request same own asked) writes in cc
 by_own schema usage tape op group below e (handles message moment own oldest is) other request same id asked writes =
     let none = no_write PumpHandle request (same_request usage tape op other PumpHandle request same own asked) writes in cc
-
--- a transaction or a batch proposes an entry with its id in its own group
-pub home_group : (schema : Schema) (usage : Usage) (tape : List Item) → AreWritten schema usage tape → (op : OpId) (p : Place) (b : Ballot) (e : Content) → In (Proposes b e) (moves tape op p) → e.id ≡ Some op
-    → (request : Request) → asked_for usage.meaning tape op ≡ Some request → is_write request ≡ true → group_written request ≡ Some p.group
-home_group schema usage tape w op p b e i id request asked writes =
-    let o = origin schema usage tape w op p b e i in
-    (by_own schema usage tape o.op p.group o.below e o.entry op request (id_is schema usage tape o.op p.group o.below e o.entry op id) id asked writes).0
 
 pub serial_entries : (c : Cluster) (usage : Usage) (tape : List Item) → LawfulWrites c usage tape → (group : GroupId) (n : ℕ) (entry : Content) (op : OpId) (request : Request)
     → slice_get (log_of tape group) n ≡ Some entry → entry.id ≡ Some op → asked_for usage.meaning tape op ≡ Some request → is_write request ≡ true

@@ -25,7 +25,7 @@ use Rattle.mega_wal.specs.Same.{same_op}
 use Rattle.mega_transcript.specs.declared.item.Item.{Item}
 use Rattle.mega_transcript.specs.declared.item.Item.TheVariants.{Answer as AnswerItem, Decide, Sent}
 use Rattle.mega_rules.specs.Steps.{is_current}
-use Rattle.mega_promises.specs.Promises.{Stands, asked_for, group_written, is_negative, is_write, rows_shown}
+use Rattle.mega_promises.specs.Promises.{Stands, asked_for, is_negative, is_write, rows_shown}
 use Rattle.mega_tape_laws.specs.Places.{In, Place, Proposes, moves}
 use Rattle.mega_tape_laws.specs.Writes.{IsNamed, Knows, LawfulWrites, Usage}
 
@@ -77,12 +77,9 @@ pub record MayCommitAll (schema : Schema) (usage : Usage) (tape : List Item) (op
   pub knows : KnowsBelow tape op group below n
   pub shows : (batch_outcome schema own transactions (after below no_rows)).results ≡ results
 
--- conflict names the id of the entry that is decided at the position, which is another's; of a transaction or a batch in its own group
-pub record MayConflict (usage : Usage) (tape : List Item) (op : OpId) (n : Position) (other : Option OpId) : Type 0 where
-  pub request : Request
-  pub asked : asked_for usage.meaning tape op ≡ Some request
+-- conflict names the id of the entry that is decided at the position, which is another's
+pub record MayConflict (tape : List Item) (op : OpId) (n : Position) (other : Option OpId) : Type 0 where
   pub group : GroupId
-  pub home : is_write request ≡ true → group_written request ≡ Some group
   pub entry : Content
   pub stands : Stands (Decide op.node group n entry) tape
   pub names : entry.id ≡ other
@@ -118,7 +115,7 @@ pub record MayRead (schema : Schema) (usage : Usage) (tape : List Item) (op : Op
 abbrev pub HasCause : Schema → Usage → List Item → OpId → Answer → Type 0
 HasCause schema usage tape op (Committed n replies) = MayCommit schema usage tape op n replies
 HasCause schema usage tape op (Batched n results) = MayCommitAll schema usage tape op n results
-HasCause schema usage tape op (Conflict n other) = MayConflict usage tape op n other
+HasCause schema usage tape op (Conflict n other) = MayConflict tape op n other
 HasCause schema usage tape op (Turned turn) = MayTurn schema usage tape op turn
 HasCause schema usage tape op (AllTurned results) = MayTurnAll schema usage tape op results
 HasCause schema usage tape op (ReadAnswer p rows) = MayRead schema usage tape op p rows

@@ -1,4 +1,3 @@
-//! The kinds of answers whose words go on behind the first.
 ghost use Rattle.std.specs.Prelude.{◌≡◌};
 ghost use Rattle.mega_transcript.specs.ReadingAnswers.{answer_kind_of};
 

@@ -1,4 +1,3 @@
-//! Writes the words of an answer.
 ghost use Rattle.std.specs.Prelude.{◌≡◌, ◌++◌, ◌∷◌, [], length, map, take, codes, decimal, OnOk, OnErr};
 ghost use Rattle.serde_json.specs.Data.{string, array};
 ghost use Rattle.serde_json.specs.View.{items_of};

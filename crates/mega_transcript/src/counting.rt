@@ -1,4 +1,3 @@
-//! Writes the eight counts of a run from its tape.
 ghost use Rattle.std.specs.Prelude.{◌≡◌, ◌<◌, ◌^◌, ◌++◌, ◌∷◌, [], List, length, take, codes, OnOk, OnErr, IfOk};
 ghost use Rattle.std.specs.List.{list_any};
 ghost use Rattle.mega_transcript.specs.declared.item.Item.{Item as ItemValue};

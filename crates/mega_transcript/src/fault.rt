@@ -1,4 +1,3 @@
-//! Why a line of a transcript is not read.
 ghost use Rattle.std.specs.Prelude.{◌≡◌};
 ghost use Rattle.mega_transcript.specs.declared.fault.Refusal.TheVariants.{NoMemory as Refused};
 

@@ -1,4 +1,3 @@
-//! Whether a number stands in a JSON value that is neither an i64 nor a u64.
 ghost use Rattle.std.specs.Prelude.{◌≡◌};
 ghost use Rattle.serde_json.specs.View.{view, items_view, members_view};
 ghost use Rattle.serde_json.specs.Written.{has_float, items_have_float, members_have_float};

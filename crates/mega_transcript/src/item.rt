@@ -1,4 +1,3 @@
-//! One line of a transcript: what happened, in order.
 ghost use Rattle.std.specs.Prelude.{List};
 
 use mega_base::{Epoch, GroupId, Items, NodeId, OpId, Position, Text};

@@ -1,4 +1,3 @@
-//! The kinds of lines that go on behind their first word.
 ghost use Rattle.std.specs.Prelude.{◌≡◌};
 ghost use Rattle.mega_syntax.specs.Names.{same};
 ghost use Rattle.mega_transcript.specs.Kinds.{event_of, change_of, kind_of};

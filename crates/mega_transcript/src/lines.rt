@@ -1,4 +1,3 @@
-//! Writes the line of an item, with the names of the schema.
 ghost use Rattle.std.specs.Prelude.{◌≡◌, ◌++◌, ◌∷◌, [], length, take, codes, decimal, OnOk, OnErr};
 ghost use Rattle.hex.specs.Hex.{encode_lower};
 ghost use Rattle.mega_entry.specs.Entries.{IsEntry, entry_text};

@@ -1,4 +1,3 @@
-//! The numbers of tables and properties by the names in a schema.
 ghost use Rattle.std.specs.Prelude.{◌≡◌, if◌then◌else◌, Some, None, position};
 ghost use Rattle.serde_json.specs.View.{view};
 ghost use Rattle.mega_syntax.specs.Names.{same};

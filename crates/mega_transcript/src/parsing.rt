@@ -1,4 +1,3 @@
-//! Reads the item whose line a text is, and tells where a text is the line of none.
 ghost use Rattle.std.specs.Prelude.{◌≡◌, ◌≤◌, ◌-◌, Ok, IfOk, length, nat_eq, codes, ◌∷◌, ◌++◌, []};
 ghost use Rattle.std.specs.List.{common_prefix_len};
 ghost use Rattle.mega_syntax.specs.Names.{same};

@@ -1,4 +1,3 @@
-//! Reads words from the front of a line.
 ghost use Rattle.std.specs.Prelude.{◌≡◌, ◌≤◌, Some, None, Ok, Err, IfOk, IfErr, IfSome, length, position, option_map, ◌==◌, ◌<◌, []};
 ghost use Rattle.hex.specs.Hex.{IsBytes};
 ghost use Rattle.mega_transcript.specs.Reading.{until, with_digit, number_of, number_field, hex_field, node_field, position_field, epoch_field, op_field, group_field, message_field, entry_field};

@@ -1,4 +1,3 @@
-//! Reads the answers of operations from the words of a line.
 ghost use Rattle.std.specs.Prelude.{◌≡◌};
 ghost use Rattle.mega_transcript.specs.Taking.{Takes};
 ghost use Rattle.mega_transcript.specs.ReadingAnswers.{fixed_answer, other_at, conflict_at, turn_of, turn_at, turned_at, logfull_at, committed_at, rows_at, found_at, refreshed_at, nothing_at, nohandler_at, place_of, place_field, batch_at, of_answer_kind, answer_at};

@@ -1,4 +1,3 @@
-//! Reads the items of a transcript from the words of their lines, by the kind of the line.
 ghost use Rattle.std.specs.Prelude.{◌≡◌};
 ghost use Rattle.mega_transcript.specs.Taking.{Takes};
 ghost use Rattle.mega_transcript.specs.ReadingItems.{start_at, tick_at, taken_at, dropped_at, grant_at, lapse_at, counts_at, forgets_at, serving_at, lost_at, valid_at, invalid_at, decide_at, apply_at, crash_at, unsent_at, sent_at};

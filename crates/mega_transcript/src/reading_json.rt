@@ -1,4 +1,3 @@
-//! Reads a word that is JSON.
 ghost use Rattle.std.specs.Prelude.{◌≡◌, IfOk, option_map};
 ghost use Rattle.serde_json.specs.View.{view};
 ghost use Rattle.mega_transcript.specs.Requests.{json_of};

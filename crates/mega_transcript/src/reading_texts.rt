@@ -1,4 +1,3 @@
-//! Reads the text of a request, which is a compact JSON object with no float.
 ghost use Rattle.std.specs.Prelude.{◌≡◌, IfOk, Some, None, option_and_then, if◌then◌else◌};
 ghost use Rattle.serde_json.specs.View.{view};
 ghost use Rattle.mega_syntax.specs.Names.{same};

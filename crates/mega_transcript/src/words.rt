@@ -1,4 +1,3 @@
-//! Appends the words of a line: numbers, nodes, epochs, operations and bytes in hex.
 ghost use Rattle.std.specs.Prelude.{◌≡◌, ◌++◌, ◌∷◌, [], length, take, decimal, OnOk, OnErr};
 ghost use Rattle.hex.specs.Hex.{encode_lower};
 ghost use Rattle.mega_transcript.specs.Words.{node_word, position_word, epoch_word, op_word, group_word};

@@ -1,4 +1,3 @@
-//! How a voter answers a prepare and an accept, by what it showed and voted (Lamport 2001).
 ghost use Rattle.std.specs.Prelude.{◌≡◌, IfOk, if◌then◌else◌, option_copied};
 ghost use Rattle.mega_ballot.specs.Order.{zero_ballot};
 ghost use Rattle.mega_wal.specs.declared.answers.Promised.TheVariants.{Shown as PromiseShown, Yes as PromiseYes};

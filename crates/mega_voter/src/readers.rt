@@ -1,4 +1,3 @@
-//! What the logs of a voter show of a position, and its replies to prepares and accepts.
 ghost use Rattle.std.specs.Prelude.{◌≡◌, List, IfOk, option_copied};
 ghost use Rattle.mega_wal.specs.Acceptor.{best, shown};
 ghost use Rattle.mega_rules.specs.Clock.{start_of};

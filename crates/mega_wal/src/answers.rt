@@ -1,4 +1,3 @@
-//! How a voter answers a prepare and an accept (Lamport 2001), and why its logs refuse a call.
 ghost use Rattle.std.specs.Prelude.{◌≡◌};
 
 use mega_ballot::Ballot;

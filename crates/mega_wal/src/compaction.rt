@@ -1,4 +1,3 @@
-//! The items that say all that is kept, as one record for a replacement.
 ghost use Rattle.std.specs.Prelude.{◌≡◌, ◌++◌, ◌∷◌, [], ◌<◌, ◌^◌, All, OnOk, IfOk, length, ◌&&◌, ◌||◌};
 ghost use Rattle.std.specs.List.{flat_map};
 ghost use Rattle.std.specs.List.Sorted.{IsStrictlySortedBy};

@@ -1,4 +1,3 @@
-//! Makes one record of what is staged, or of all that is kept.
 ghost use Rattle.std.specs.Prelude.{◌≡◌, ◌⊎◌, ◌+◌, ◌<◌, ◌≤◌, ◌^◌, ◌++◌, ◌∷◌, [], true, false, All, length, reverse, Err, IsOk, IfOk, OnOk, OnErr};
 ghost use Rattle.mega_base.specs.Causes.{Rose};
 ghost use Rattle.mega_disk.specs.Fuse.{Burns, LowersBy, MayBurn, set_to};

@@ -1,4 +1,3 @@
-//! The places of each group by position, and the marks of what is accepted and decided.
 ghost use Rattle.std.specs.Prelude.{◌≡◌, ℕ, ◌+◌, ◌<◌, ◌^◌, ◌==◌, IfOk, OnOk, OnErr, IsSome, None, Some, is_some, option_copied, if◌then◌else◌};
 ghost use Rattle.std.specs.Ordering.{nat_cmp};
 ghost use Rattle.std.specs.BTreeMap.{get};

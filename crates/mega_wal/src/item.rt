@@ -1,4 +1,3 @@
-//! A change of what a voter keeps: an item of its journal.
 use mega_ballot::Ballot;
 use mega_base::{Copied, Epoch, GroupId, NoMemory, NodeId, Position};
 use mega_entry::Entry;

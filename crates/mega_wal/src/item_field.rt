@@ -1,4 +1,3 @@
-//! The format of an item of a voter's journal.
 ghost use Rattle.std.specs.Prelude.{◌≡◌, ◌++◌, length, take, OnOk, OnErr};
 ghost use Rattle.mega_base.specs.Codec.{IsBetween, nested_text, IsNested};
 ghost use Rattle.mega_base.specs.Faults.{Reads};

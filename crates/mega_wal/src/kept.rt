@@ -1,4 +1,3 @@
-//! What the logs of a voter keep in memory: starts, groups and grants.
 ghost use Rattle.std.specs.Prelude.{◌≡◌, ◌∷◌, [], ℕ, List, OnOk, OnErr, None, ◌+◌, ◌==◌, if◌then◌else◌};
 ghost use Rattle.std.specs.Ordering.{nat_cmp};
 ghost use Rattle.std.specs.BTreeMap.{get};

@@ -13,6 +13,8 @@ pub mod laws;
 mod logs;
 mod opening;
 mod slot;
+#[cfg(test)]
+mod tests;
 
 pub use answers::{LogFault, Promised, Voted};
 pub use item::JournalItem;

@@ -1,4 +1,3 @@
-//! The logs of a voter over a list of records: each call notes a change and stages its item.
 ghost use Rattle.std.specs.Prelude.{◌≡◌, ◌≤◌, ◌<◌, ◌++◌, ◌∷◌, [], List, IfOk, OnOk, OnErr, Err, is_none, option_copied};
 ghost use Rattle.mega_wal.specs.declared.item.JournalItem.{JournalItem as Item};
 ghost use Rattle.mega_wal.specs.Acceptor.{accept_answer, best, promise_answer, shown};

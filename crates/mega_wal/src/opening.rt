@@ -1,4 +1,3 @@
-//! Opens logs from the records that are found, and names the first that is none of the format.
 ghost use Rattle.std.specs.Prelude.{◌≡◌, ◌+◌, ◌<◌, ◌^◌, ◌++◌, [], List, Some, None, true, false, length, reverse, IfOk, OnOk, OnErr, MatchResult, ◌∷◌, ◌⊎◌, Err, IfErr};
 ghost use Rattle.mega_base.specs.Reading.{whole_of};
 ghost use Rattle.mega_base.specs.Faults.{Gives};

@@ -1,4 +1,3 @@
-//! What a voter keeps of one position: its promise, its vote and what is decided.
 ghost use Rattle.std.specs.Prelude.{◌≡◌, ◌↔◌, IsTrue, IfOk, max, Some, None, option_map, if◌then◌else◌};
 ghost use Rattle.mega_ballot.specs.Order.{IsBelow};
 ghost use Rattle.mega_wal.specs.Acceptor.{answer_beside, greater_ballot, greater_vote, is_ballot_below, is_same_ballot};

@@ -1,4 +1,3 @@
-//! Reads and appends the fields of a message by its kind.
 ghost use Rattle.std.specs.Prelude.{◌≡◌, ◌++◌, length, take, OnOk, OnErr};
 ghost use Rattle.mega_base.specs.Codec.{IsBetween};
 ghost use Rattle.mega_base.specs.Faults.{Reads};

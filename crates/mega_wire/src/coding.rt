@@ -1,4 +1,3 @@
-//! Reads a message from its whole text, and appends the text of a message.
 ghost use Rattle.std.specs.Prelude.{◌≡◌, ◌++◌, Ok, IfOk, OnOk, OnErr};
 ghost use Rattle.mega_base.specs.Reading.{whole_of};
 ghost use Rattle.mega_base.specs.Codec.{IsFirstBad};

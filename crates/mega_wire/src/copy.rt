@@ -1,4 +1,3 @@
-//! Copies of messages and of what they say.
 ghost use Rattle.std.specs.Prelude.{◌≡◌, IfOk};
 
 use crate::message::{Body, Message};

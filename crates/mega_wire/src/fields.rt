@@ -1,4 +1,3 @@
-//! Reads the fields that kinds of messages share: places, entries, votes and clock readings.
 ghost use Rattle.mega_base.specs.Reading.{option_at};
 ghost use Rattle.mega_base.specs.Pairs.{pair_at};
 ghost use Rattle.mega_base.specs.Faults.{Reads};

@@ -8,6 +8,8 @@ mod fields;
 mod message;
 mod message_field;
 mod put_fields;
+#[cfg(test)]
+mod tests;
 
 pub use coding::{decode, encode};
 pub use mega_base::FieldFault as WireFault;

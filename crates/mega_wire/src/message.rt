@@ -1,4 +1,3 @@
-//! A message from one node or client to another, and what it says, one variant a kind.
 use mega_ballot::Ballot;
 use mega_base::{Bytes, Epoch, GroupId, NodeId, OpId, Position};
 use mega_entry::Entry;

@@ -1,4 +1,3 @@
-//! The format of a message: its mark, its kind, its sender and receiver, and its fields.
 ghost use Rattle.std.specs.Prelude.{◌≡◌, ◌==◌, if◌then◌else◌};
 ghost use Rattle.mega_base.specs.Codec.{IsBetween};
 ghost use Rattle.mega_base.specs.Faults.{Reads};

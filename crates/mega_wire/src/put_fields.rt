@@ -1,4 +1,3 @@
-//! Appends the fields that kinds of messages share.
 ghost use Rattle.std.specs.Prelude.{◌≡◌, ◌++◌, length, take, OnOk, OnErr};
 ghost use Rattle.mega_base.specs.Codec.{IsBetween, one_byte, IsOption, option_text, bytes_text, nested_text, IsNested};
 ghost use Rattle.mega_base.specs.Pairs.{pair_text, IsPair};

@@ -1,19 +1,15 @@
 -- What is carried where nodes note what they met: no note sends, takes or drops a message.
-use Rattle.std.proofs.Common.{◌≡◌, ℕ, ◌+◌, ◌&&◌, not, nat_le, cond, Bool, true, false, List, [], ◌∷◌, ◌++◌, flat_map, length, refl, sym, ap, ◌∙◌, subst, arith, suc, length-append, append_assoc}
-use Rattle.mega_cluster.specs.declared.cluster.Cluster.{Cluster}
+use Rattle.std.proofs.Common.{◌≡◌, ℕ, ◌+◌, ◌&&◌, not, nat_le, List, [], ◌∷◌, ◌++◌, flat_map, length, refl, sym, ap, ◌∙◌, subst, arith, suc, length-append, append_assoc}
 use Rattle.mega_wire.specs.declared.message.Message.{Message}
 use Rattle.mega_transcript.specs.declared.item.Item.{Item}
-use Rattle.mega_transcript.specs.declared.item.Item.TheVariants.{Counts as CountsItem, Lapse as LapseItem, Sent, Unsafe}
+use Rattle.mega_transcript.specs.declared.item.Item.TheVariants.{Sent}
 use Rattle.mega_transcript.specs.Tape.{is_sent, is_taken, onto, sent_count}
 use Rattle.mega_transcript.proofs.Tapes.{onto-append}
 use Rattle.mega_rules.specs.Met.{Met, Starts, Crashes, Ticks, Begins, Takes, Sends, Unsends, Grants, Lapses, Counts, Forgets, Serves, Loses, Validates, Invalidates, Decides, Applies, Answers}
-use Rattle.mega_rules.specs.Operations.{Node}
-use Rattle.mega_promises.specs.Items.{number, numbered, shown}
-use Rattle.mega_promises.specs.Messages.{is_dropped, is_unsafe, message_of}
-use Rattle.mega_promises.specs.Runs.{breaks, with_items}
+use Rattle.mega_promises.specs.Items.{numbered, shown}
+use Rattle.mega_promises.specs.Messages.{is_dropped, message_of}
 use Rattle.mega_world.specs.declared.mail.Mail.{Mail}
 use Rattle.mega_world.specs.Carries.{Carries, is_waiting}
-use Rattle.mega_world.proofs.Plain.{with_append}
 
 -- a tape that tells the same of all messages
 pub record TellsSame (old new : List Item) : Type 0 where
@@ -62,50 +58,22 @@ shown_same me (Decides group position entry) tape = record { count = refl; messa
 shown_same me (Applies group position) tape = record { count = refl; message = λ n. refl; took = λ n. refl; drops = λ n. refl }
 shown_same me (Answers op answer) tape = record { count = refl; message = λ n. refl; took = λ n. refl; drops = λ n. refl }
 
--- so it is where the first note that shows that leases are not safe is followed by this
-then_same : (first second third : List Item) → TellsSame first second → TellsSame second third → TellsSame first third
-then_same first second third s t = record {
-  count = t.count ∙ s.count;
-  message = λ n. t.message n ∙ s.message n;
-  took = λ n. t.took n ∙ s.took n;
-  drops = λ n. t.drops n ∙ s.drops n;
-}
-
-judged_same : (unsafe : Bool) (item : Item) (tape : List Item) → TellsSame tape (item ∷ tape) → TellsSame tape (cond unsafe (Unsafe ∷ item ∷ tape) (item ∷ tape))
-judged_same true item tape s = record { count = s.count; message = s.message; took = s.took; drops = s.drops }
-judged_same false item tape s = s
-
-judged_shown : (c : Cluster) (node : ℕ → Node) (me : ℕ) (one : Met) (tape : List Item) → TellsSame tape (with_items c node tape (shown me one))
-judged_shown c node me (Starts start) tape = shown_same me (Starts start) tape
-judged_shown c node me Crashes tape = shown_same me Crashes tape
-judged_shown c node me (Ticks now) tape = shown_same me (Ticks now) tape
-judged_shown c node me (Begins op text) tape = shown_same me (Begins op text) tape
-judged_shown c node me (Takes message) tape = shown_same me (Takes message) tape
-judged_shown c node me (Sends message) tape = shown_same me (Sends message) tape
-judged_shown c node me (Unsends message) tape = shown_same me (Unsends message) tape
-judged_shown c node me (Grants other epoch) tape = shown_same me (Grants other epoch) tape
-judged_shown c node me (Lapses other epoch) tape =
-    judged_same (breaks c node (LapseItem me (number other) epoch) && not (is_unsafe tape)) (LapseItem me (number other) epoch) tape (shown_same me (Lapses other epoch) tape)
-judged_shown c node me (Counts cell epoch) tape =
-    judged_same (breaks c node (CountsItem (number me) cell epoch) && not (is_unsafe tape)) (CountsItem (number me) cell epoch) tape (shown_same me (Counts cell epoch) tape)
-judged_shown c node me (Forgets cell epoch) tape = shown_same me (Forgets cell epoch) tape
-judged_shown c node me (Serves epoch) tape = shown_same me (Serves epoch) tape
-judged_shown c node me (Loses epoch) tape = shown_same me (Loses epoch) tape
-judged_shown c node me (Validates group position) tape = shown_same me (Validates group position) tape
-judged_shown c node me (Invalidates group position) tape = shown_same me (Invalidates group position) tape
-judged_shown c node me (Decides group position entry) tape = shown_same me (Decides group position entry) tape
-judged_shown c node me (Applies group position) tape = shown_same me (Applies group position) tape
-judged_shown c node me (Answers op answer) tape = shown_same me (Answers op answer) tape
-
-pub notes_same : (c : Cluster) (node : ℕ → Node) (me : ℕ) (notes : List Met) (tape : List Item) → TellsSame tape (with_items c node tape (flat_map (shown me) notes))
-notes_same c node me [] tape = same_all tape
-notes_same c node me (one ∷ notes) tape =
-    subst (TellsSame tape) (sym (with_append c node (shown me one) (flat_map (shown me) notes) tape))
-    (then_same tape (with_items c node tape (shown me one)) (with_items c node (with_items c node tape (shown me one)) (flat_map (shown me) notes))
-    (judged_shown c node me one tape) (notes_same c node me notes (with_items c node tape (shown me one))))
+-- so what is carried is what the tape tells with the notes on it
+pub notes_on : (mail : Mail) (me : ℕ) (notes : List Met) (tape : List Item) → Carries mail tape → Carries mail (onto (flat_map (shown me) notes) tape)
+notes_on mail me [] tape r = r
+notes_on mail me (one ∷ notes) tape r =
+    subst (Carries mail) (sym (onto-append (shown me one) (flat_map (shown me) notes) tape))
+    (notes_on mail me notes (onto (shown me one) tape) (same_on mail tape (onto (shown me one) tape) (shown_same me one tape) r))
 
 pub shown_on : (mail : Mail) (me : ℕ) (one : Met) (tape : List Item) → Carries mail tape → Carries mail (onto (shown me one) tape)
 shown_on mail me one tape r = same_on mail tape (onto (shown me one) tape) (shown_same me one tape) r
+
+-- notes send nothing
+pub notes-sent_count : (me : ℕ) (notes : List Met) (tape : List Item) → sent_count (onto (flat_map (shown me) notes) tape) ≡ sent_count tape
+notes-sent_count me [] tape = refl
+notes-sent_count me (one ∷ notes) tape =
+    ap sent_count (onto-append (shown me one) (flat_map (shown me) notes) tape)
+    ∙ notes-sent_count me notes (onto (shown me one) tape) ∙ (shown_same me one tape).count
 
 -- one more message, numbered
 pub numbered_last : (n : ℕ) (xs : List Message) (m : Message) → numbered n (xs ++ m ∷ []) ≡ numbered n xs ++ Sent (n + length xs) m ∷ []

@@ -1,5 +1,6 @@
 -- Messages are dropped, and drained one after another.
-use Rattle.std.proofs.Common.{◌≡◌, ℕ, ◌+◌, ◌-◌, ◌<◌, ◌≤◌, ◌==◌, cond, Bool, true, false, List, [], ◌∷◌, ◌++◌, map, Option, Some, None, refl, sym, ap, ◌∙◌, subst, zero, suc, arith}
+use Rattle.std.proofs.Common.{◌≡◌, ◌⊎◌, ℕ, ◌+◌, ◌-◌, ◌<◌, ◌≤◌, ◌==◌, cond, Bool, true, false, List, [], ◌∷◌, ◌++◌, map, Option, Some, None, inl, inr, refl, sym, ap, ◌∙◌, subst, zero, suc, arith}
+use Rattle.std.specs.Prelude.{IsSomeAnd}
 use Rattle.std.proofs.lemmas.Bool.Decides.{nat_tests}
 use Rattle.std.specs.List.{All}
 use Rattle.mega_cluster.specs.declared.cluster.Cluster.{Cluster}
@@ -27,22 +28,20 @@ use Rattle.mega_world.specs.Plain.{HasNoFuses}
 use Rattle.mega_world.proofs.Events.{drain_is_cut, drains_no_more, drains_on, drop_stands}
 use Rattle.mega_world.proofs.Carrying.{same_on}
 use Rattle.mega_world.proofs.Plain.{steps_whole, still_unfused}
-use Rattle.mega_world.specs.declared.safety.Safety.{Safety}
 use Rattle.mega_world.specs.declared.world.World.{World}
 use Rattle.mega_world.specs.Formed.{IsSound}
-use Rattle.mega_world.specs.Lapses.{KnowsLeases}
 use Rattle.mega_world.specs.Members.{AreMembers}
 use Rattle.mega_world.specs.Stands.{IsAt, version_of}
+use Rattle.mega_world.specs.Unbuilt.{IsHeldUp, IsUntaken}
 
 -- a dropped message
-pub dropped_at : (c : Cluster) (h : Meanings) (cuts : Cuts) (now : Standing) (number : ℕ) (old new : World) (items after : List Item) → IsAt c old items now → new.nodes ≡ old.nodes → new.safety ≡ old.safety → Carries new.mail (Dropped number ∷ now.tape)
+pub dropped_at : (c : Cluster) (h : Meanings) (cuts : Cuts) (now : Standing) (number : ℕ) (old new : World) (items after : List Item) → IsAt c old items now → new.nodes ≡ old.nodes → Carries new.mail (Dropped number ∷ now.tape)
     → after ≡ items ++ Dropped number ∷ [] → IsAt c new after (after_event c h cuts now (Drop number))
-dropped_at c h cuts now number old new items after r nodes safety carries is = record {
+dropped_at c h cuts now number old new items after r nodes carries is = record {
   nodes = subst (λ ns. AreMembers version_of c ns.items now.node) (sym nodes) r.nodes;
   mail = drop_stands c h cuts now number old.mail new.mail r.mail carries;
   tape = ap newest is ∙ newest-append items (Dropped number) ∙ ap (λ t. Dropped number ∷ t) r.tape;
-  leases = subst (λ (s : Safety). KnowsLeases s now.node (Dropped number ∷ now.tape)) (sym safety) (record { lapses = r.leases.lapses; told = r.leases.told });
-  formed = record { cluster = r.formed.cluster; lease = r.formed.lease; nodes = r.formed.nodes; messages = r.formed.messages };
+  formed = record { cluster = r.formed.cluster; nodes = r.formed.nodes; messages = r.formed.messages };
   within = record { cells = r.within.cells; nodes = r.within.nodes; messages = r.within.messages };
 }
 
@@ -56,8 +55,7 @@ cut_at c now world items after r is = record {
     up_are = r.mail.up_are;
   };
   tape = ap newest is ∙ newest-append items Cut ∙ ap (λ t. Cut ∷ t) r.tape;
-  leases = record { lapses = r.leases.lapses; told = r.leases.told };
-  formed = record { cluster = r.formed.cluster; lease = r.formed.lease; nodes = r.formed.nodes; messages = r.formed.messages };
+  formed = record { cluster = r.formed.cluster; nodes = r.formed.nodes; messages = r.formed.messages };
   within = record { cells = r.within.cells; nodes = r.within.nodes; messages = r.within.messages };
 }
 
@@ -109,30 +107,47 @@ drained_owned c h cuts (suc most) now none owned = by (next_delivery (up now) no
 
 -- ---- a drain, delivery by delivery
 
--- so far: a drain leads where a shorter one leads from here
+-- a drain leads where a shorter one leads from here, and is held up where that one is
+pub record DrainsTo (c : Cluster) (h : Meanings) (cuts : Cuts) (now : Standing) (most : ℕ) (mid : Standing) (left : ℕ) : Type 0 where
+  pub path : drained c h cuts now most ≡ drained c h cuts mid left
+  pub held : IsHeldUp c h cuts left mid → IsHeldUp c h cuts most now
+
+-- so far
 pub record Reaches (c : Cluster) (h : Meanings) (cuts : Cuts) (now : Standing) (most : ℕ) (world : World) (first here : List Item) (left : ℕ) : Type 0 where
   pub mid : Standing
   pub at : IsAt c world here mid
-  pub drains : drained c h cuts now most ≡ drained c h cuts mid left
+  pub drains : DrainsTo c h cuts now most mid left
   pub lines : All HasLine first → All HasLine here
 
 pub reaches_first : (c : Cluster) (h : Meanings) (cuts : Cuts) (now : Standing) (most left : ℕ) (world : World) (items : List Item) → IsAt c world items now → most ≡ left → Reaches c h cuts now most world items items left
 reaches_first c h cuts now most left world items r is = subst (λ n. Reaches c h cuts now most world items items n) is (record {
   mid = now;
   at = r;
-  drains = refl;
+  drains = record { path = refl; held = λ held. held };
   lines = λ lined. lined;
 })
 
 -- the next delivery is sound where the drain is
-pub sound_next : (c : Cluster) (h : Meanings) (cuts : Cuts) (now mid : Standing) (most less number : ℕ) → HasNoFuses mid → IsSound c h cuts now (Drain most) → drained c h cuts now most ≡ drained c h cuts mid (suc less)
+pub sound_next : (c : Cluster) (h : Meanings) (cuts : Cuts) (now mid : Standing) (most less number : ℕ) → HasNoFuses mid → IsSound c h cuts now (Drain most) → DrainsTo c h cuts now most mid (suc less)
     → next_delivery (up mid) mid.tape ≡ Some number → IsSound c h cuts mid (Deliver number)
 sound_next c h cuts now mid most less number none sound d is = record {
   handlers = sound.handlers;
   asked = tt;
   own = drained_owned c h cuts less (delivered c h cuts mid number) (handed_unfused c h cuts mid number (message_of mid.tape number) none)
-      (subst (AreOwned c) (d ∙ drains_on c h cuts mid number less is) sound.own);
+      (subst (AreOwned c) (d.path ∙ drains_on c h cuts mid number less is) sound.own);
 }
+
+pub drains_next : (c : Cluster) (h : Meanings) (cuts : Cuts) (now mid : Standing) (most less number : ℕ) → DrainsTo c h cuts now most mid (suc less) → next_delivery (up mid) mid.tape ≡ Some number
+    → DrainsTo c h cuts now most (after_event c h cuts mid (Deliver number)) less
+drains_next c h cuts now mid most less number d is = record {
+  path = d.path ∙ drains_on c h cuts mid number less is;
+  held = λ below. d.held (subst (λ next. IsSomeAnd next (λ n. IsUntaken c h mid (message_of mid.tape n) ⊎ IsHeldUp c h cuts less (delivered c h cuts mid n))) (sym is) (inr below));
+}
+
+pub held_here : (c : Cluster) (h : Meanings) (cuts : Cuts) (now mid : Standing) (most less number : ℕ) → DrainsTo c h cuts now most mid (suc less) → next_delivery (up mid) mid.tape ≡ Some number
+    → IsUntaken c h mid (message_of mid.tape number) → IsHeldUp c h cuts most now
+held_here c h cuts now mid most less number d is untaken =
+    d.held (subst (λ next. IsSomeAnd next (λ n. IsUntaken c h mid (message_of mid.tape n) ⊎ IsHeldUp c h cuts less (delivered c h cuts mid n))) (sym is) (inl untaken))
 
 pub left_more : (most turn : ℕ) → turn < most → most - turn ≡ suc (most - (turn + 1))
 left_more most turn less = omega (arith, less)
@@ -143,25 +158,30 @@ none_left most turn le = omega (arith, le)
 -- where a drain ends
 pub drained_at : (c : Cluster) (h : Meanings) (cuts : Cuts) (now : Standing) (most left : ℕ) (world : World) (first here : List Item) (r : Reaches c h cuts now most world first here left) → next_delivery (up r.mid) r.mid.tape ≡ None
     → IsAt c world here (after_event c h cuts now (Drain most))
-drained_at c h cuts now most left world first here r is = subst (IsAt c world here) (sym (r.drains ∙ drains_no_more c h cuts r.mid left is)) r.at
+drained_at c h cuts now most left world first here r is = subst (IsAt c world here) (sym (r.drains.path ∙ drains_no_more c h cuts r.mid left is)) r.at
 
 pub drained_cut : (c : Cluster) (h : Meanings) (cuts : Cuts) (now : Standing) (most left number : ℕ) (world : World) (first here after : List Item) (r : Reaches c h cuts now most world first here left) → left ≡ 0
     → next_delivery (up r.mid) r.mid.tape ≡ Some number → after ≡ here ++ Cut ∷ [] → IsAt c world after (after_event c h cuts now (Drain most))
 drained_cut c h cuts now most left number world first here after r none is added =
-    subst (IsAt c world after) (sym (r.drains ∙ ap (drained c h cuts r.mid) none ∙ drain_is_cut c h cuts r.mid number is)) (cut_at c r.mid world here after r.at added)
+    subst (IsAt c world after) (sym (r.drains.path ∙ ap (drained c h cuts r.mid) none ∙ drain_is_cut c h cuts r.mid number is)) (cut_at c r.mid world here after r.at added)
 
 -- ---- so it goes on in a loop
 
 pub next_sound : (c : Cluster) (h : Meanings) (cuts : Cuts) (now : Standing) (most turn number : ℕ) (world : World) (first here : List Item) (r : Reaches c h cuts now most world first here (most - turn)) → turn < most
     → IsSound c h cuts now (Drain most) → next_delivery (up r.mid) r.mid.tape ≡ Some number → IsSound c h cuts r.mid (Deliver number)
 next_sound c h cuts now most turn number world first here r less sound is =
-    sound_next c h cuts now r.mid most (most - (turn + 1)) number r.at.mail.unfused sound (r.drains ∙ ap (drained c h cuts r.mid) (left_more most turn less)) is
+    sound_next c h cuts now r.mid most (most - (turn + 1)) number r.at.mail.unfused sound (subst (DrainsTo c h cuts now most r.mid) (left_more most turn less) r.drains) is
 
 pub reaches_next : (c : Cluster) (h : Meanings) (cuts : Cuts) (now : Standing) (most turn number : ℕ) (world after : World) (first here then' : List Item) (r : Reaches c h cuts now most world first here (most - turn)) → turn < most
     → next_delivery (up r.mid) r.mid.tape ≡ Some number → IsAt c after then' (after_event c h cuts r.mid (Deliver number)) → (All HasLine here → All HasLine then') → Reaches c h cuts now most after first then' (most - (turn + 1))
 reaches_next c h cuts now most turn number world after first here then' r less is at lined = record {
   mid = after_event c h cuts r.mid (Deliver number);
   at = at;
-  drains = r.drains ∙ ap (drained c h cuts r.mid) (left_more most turn less) ∙ drains_on c h cuts r.mid number (most - (turn + 1)) is;
+  drains = drains_next c h cuts now r.mid most (most - (turn + 1)) number (subst (DrainsTo c h cuts now most r.mid) (left_more most turn less) r.drains) is;
   lines = λ has. lined (r.lines has);
 }
+
+pub held_next : (c : Cluster) (h : Meanings) (cuts : Cuts) (now : Standing) (most turn number : ℕ) (world : World) (first here : List Item) (r : Reaches c h cuts now most world first here (most - turn)) → turn < most
+    → next_delivery (up r.mid) r.mid.tape ≡ Some number → IsUntaken c h r.mid (message_of r.mid.tape number) → IsHeldUp c h cuts most now
+held_next c h cuts now most turn number world first here r less is untaken =
+    held_here c h cuts now r.mid most (most - (turn + 1)) number (subst (DrainsTo c h cuts now most r.mid) (left_more most turn less) r.drains) is untaken

@@ -1,5 +1,5 @@
 -- What the events of a run lead to, while every node is up and no fuse is set.
-use Rattle.std.proofs.Common.{◌≡◌, ℕ, ◌+◌, List, [], ◌∷◌, flat_map, Some, None, ap, ◌∙◌, zero, suc}
+use Rattle.std.proofs.Common.{◌≡◌, ℕ, ◌+◌, false, List, [], ◌∷◌, ◌++◌, flat_map, Some, None, sym, ap, ◌∙◌, subst, zero, suc}
 use Rattle.mega_base.specs.declared.names.NodeId.{NodeId}
 use Rattle.mega_cluster.specs.declared.cluster.Cluster.{Cluster}
 use Rattle.mega_handler.specs.Named.{Meanings}
@@ -8,7 +8,9 @@ use Rattle.mega_wire.specs.declared.message.Message.{Message}
 use Rattle.mega_schedule.specs.declared.world_event.WorldEvent.TheVariants.{Deliver, Drop, Begin as BeginEvent}
 use Rattle.mega_transcript.specs.declared.item.Item.{Item}
 use Rattle.mega_transcript.specs.declared.item.Item.TheVariants.{Cut as CutItem, Dropped, Taken}
-use Rattle.mega_transcript.specs.Tape.{onto, sent_count}
+use Rattle.mega_transcript.specs.Tape.{newest, onto, sent_count}
+use Rattle.mega_transcript.proofs.Tapes.{onto-append}
+use Rattle.mega_rules.specs.Members.{is_node}
 use Rattle.mega_rules.specs.Met.{Begins}
 use Rattle.mega_rules.specs.Operations.{Node}
 use Rattle.mega_rules.specs.Steps.{Begin, Step, Take, op_of, step}
@@ -17,9 +19,10 @@ use Rattle.mega_promises.specs.Messages.{message_of, next_delivery}
 use Rattle.mega_promises.specs.Runs.{Cuts, Standing, after_event, delivered, drained, handed, marked, set_at, unless_none, setting, up, whole_step, with_items}
 use Rattle.mega_world.specs.declared.mail.Mail.{Mail}
 use Rattle.mega_world.specs.Carries.{Carries}
-use Rattle.mega_world.specs.Plain.{HasNoFuses}
+use Rattle.mega_world.specs.Plain.{HasNoFuses, shows_leases}
 use Rattle.mega_world.specs.AllUp.{AllUp}
-use Rattle.mega_world.proofs.Plain.{steps_whole, with_step}
+use Rattle.mega_world.proofs.Carrying.{notes_on, notes-sent_count}
+use Rattle.mega_world.proofs.Plain.{steps_whole, still_unfused, with_step}
 
 -- a delivery is a whole step of the receiver
 pub delivers : (c : Cluster) (h : Meanings) (cuts : Cuts) (now : Standing) (number : ℕ) (message : Message) → HasNoFuses now → message_of now.tape number ≡ Some message
@@ -27,9 +30,29 @@ pub delivers : (c : Cluster) (h : Meanings) (cuts : Cuts) (now : Standing) (numb
 delivers c h cuts now number message none is = ap (handed c h cuts now number) is ∙ steps_whole c h now message.to (Taken number ∷ []) (Take message) (cuts now.tape) none
 
 -- what a whole step shows, oldest first in three pieces: the event's own items, the notes, and the messages with the next numbers
-pub step_shows : (c : Cluster) (now : Standing) (me : ℕ) (own : List Item) (made : Step) → ((node : ℕ → Node) (t : List Item) → with_items c node t own ≡ onto own t)
-    → (whole_step c now me own made).tape ≡ onto (numbered (sent_count now.tape + 1) made.sends) (with_items c (set_at now.node me made.node) (onto own now.tape) (flat_map (shown me) made.notes))
-step_shows c now me own made plain_own = with_step c (set_at now.node me made.node) me own made (sent_count now.tape + 1) now.tape (plain_own (set_at now.node me made.node))
+pub step_shows : (c : Cluster) (now : Standing) (me : ℕ) (own : List Item) (made : Step) → ((node : ℕ → Node) (t : List Item) → with_items c node t own ≡ onto own t) → shows_leases made ≡ false
+    → (whole_step c now me own made).tape ≡ onto (numbered (sent_count now.tape + 1) made.sends) (onto (flat_map (shown me) made.notes) (onto own now.tape))
+step_shows c now me own made plain_own plain = with_step c (set_at now.node me made.node) me own made (sent_count now.tape + 1) now.tape (plain_own (set_at now.node me made.node)) plain
+
+-- items in three pieces come onto a stored tape
+pub newest_piece : (items own notes sends : List Item) → newest (((items ++ own) ++ notes) ++ sends) ≡ onto sends (onto notes (onto own (newest items)))
+newest_piece items own notes sends =
+    onto-append ((items ++ own) ++ notes) sends [] ∙ ap (onto sends) (onto-append (items ++ own) notes [] ∙ ap (onto notes) (onto-append items own []))
+
+-- what is carried stands as the run does after a whole step, where its own item and its messages are carried, and the step leaves its node up
+pub step_stands : (c : Cluster) (now : Standing) (me : ℕ) (own : List Item) (made : Step) (old taken new : Mail) → AllUp c old now
+    → ((node : ℕ → Node) (t : List Item) → with_items c node t own ≡ onto own t) → sent_count (onto own now.tape) ≡ sent_count now.tape → shows_leases made ≡ false
+    → Carries taken (onto own now.tape)
+    → ((before : List Item) → Carries taken before → Carries new (onto (numbered (sent_count before + 1) made.sends) before))
+    → ((other : ℕ) → up (whole_step c now me own made) other ≡ is_node c other)
+    → AllUp c new (whole_step c now me own made)
+step_stands c now me own made old taken new r plain_own silent plain takes sends ups = record {
+  carries = subst (Carries new) (sym (step_shows c now me own made plain_own plain))
+      (subst (λ n. Carries new (onto (numbered (n + 1) made.sends) (onto (flat_map (shown me) made.notes) (onto own now.tape)))) (notes-sent_count me made.notes (onto own now.tape) ∙ silent)
+      (sends (onto (flat_map (shown me) made.notes) (onto own now.tape)) (notes_on taken me made.notes (onto own now.tape) takes)));
+  unfused = still_unfused c now me own made r.unfused;
+  up_are = ups;
+}
 
 -- a dropped message changes no node
 pub drop_stands : (c : Cluster) (h : Meanings) (cuts : Cuts) (now : Standing) (number : ℕ) (old new : Mail) → AllUp c old now → Carries new (Dropped number ∷ now.tape)

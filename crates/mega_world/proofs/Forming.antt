@@ -1,5 +1,5 @@
 -- A run stays of the format of messages through a step of a node.
-use Rattle.std.proofs.Common.{◌≡◌, ℕ, ◌+◌, ◌==◌, cond, Bool, true, false, List, [], ◌∷◌, flat_map, Some, sym, ◌∙◌, subst, arith}
+use Rattle.std.proofs.Common.{◌≡◌, ℕ, ◌+◌, ◌==◌, cond, Bool, true, false, List, [], ◌∷◌, flat_map, Some, refl, sym, ◌∙◌, subst, arith}
 use Rattle.std.proofs.lemmas.Bool.Decides.{nat_tests}
 use Rattle.mega_cluster.specs.declared.cluster.Cluster.{Cluster}
 use Rattle.mega_handler.specs.Named.{Meanings}
@@ -8,9 +8,9 @@ use Rattle.mega_wire.specs.Messages.{IsMessage}
 use Rattle.mega_transcript.specs.declared.item.Item.{Item}
 use Rattle.mega_transcript.specs.declared.item.Item.TheVariants.{Sent}
 use Rattle.mega_transcript.specs.Tape.{onto, sent_count}
+use Rattle.mega_transcript.proofs.Tapes.{onto-append}
 use Rattle.mega_rules.specs.Members.{is_node}
-use Rattle.mega_rules.specs.Met.{Met}
-use Rattle.mega_rules.specs.Operations.{Node}
+use Rattle.mega_rules.specs.Met.{Met, Starts, Crashes, Ticks, Begins, Takes, Sends, Unsends, Grants, Lapses, Counts, Forgets, Serves, Loses, Validates, Invalidates, Decides, Applies, Answers}
 use Rattle.mega_rules.specs.Steps.{Event, Step, step}
 use Rattle.mega_format_laws.specs.Histories.{IsCluster}
 use Rattle.mega_format_laws.specs.Nodes.{IsEvent, IsNode, IsStep}
@@ -19,9 +19,8 @@ use Rattle.mega_format_laws.specs.Rounds.{Each, IsMember}
 use Rattle.mega_format_laws.proofs.Whole.{whole_step as step_formed}
 use Rattle.mega_promises.specs.Items.{numbered, shown}
 use Rattle.mega_promises.specs.Messages.{message_of}
-use Rattle.mega_promises.specs.Runs.{Standing, set_at, setting, whole_step, with_items}
+use Rattle.mega_promises.specs.Runs.{Standing, setting, whole_step}
 use Rattle.mega_world.specs.Formed.{IsFormed}
-use Rattle.mega_world.proofs.Carrying.{notes_same}
 
 -- the nodes of a cluster of the format have numbers of the format
 pub is_member : (c : Cluster) (me : ℕ) → IsCluster c → is_node c me ≡ true → IsMember me
@@ -43,25 +42,48 @@ sent_all P n (m ∷ ms) tape each all = sent_all P (n + 1) ms (Sent n m ∷ tape
     by true number message is = let same : m ≡ message = cc in subst P same each.0
     by false number message is = all number message is
 
-notes_all : (P : Message → Type 0) (c : Cluster) (node : ℕ → Node) (me : ℕ) (notes : List Met) (tape : List Item) → AreAll P tape → AreAll P (with_items c node tape (flat_map (shown me) notes))
-notes_all P c node me notes tape all number message is = all number message (sym ((notes_same c node me notes tape).message number) ∙ is)
+-- no note is a message's
+shown_silent : (me : ℕ) (one : Met) (tape : List Item) (n : ℕ) → message_of (onto (shown me one) tape) n ≡ message_of tape n
+shown_silent me (Starts start) tape n = refl
+shown_silent me Crashes tape n = refl
+shown_silent me (Ticks now) tape n = refl
+shown_silent me (Begins op text) tape n = refl
+shown_silent me (Takes message) tape n = refl
+shown_silent me (Sends message) tape n = refl
+shown_silent me (Unsends message) tape n = refl
+shown_silent me (Grants other epoch) tape n = refl
+shown_silent me (Lapses other epoch) tape n = refl
+shown_silent me (Counts cell epoch) tape n = refl
+shown_silent me (Forgets cell epoch) tape n = refl
+shown_silent me (Serves epoch) tape n = refl
+shown_silent me (Loses epoch) tape n = refl
+shown_silent me (Validates group position) tape n = refl
+shown_silent me (Invalidates group position) tape n = refl
+shown_silent me (Decides group position entry) tape n = refl
+shown_silent me (Applies group position) tape n = refl
+shown_silent me (Answers op answer) tape n = refl
+
+notes_all : (P : Message → Type 0) (me : ℕ) (notes : List Met) (tape : List Item) → AreAll P tape → AreAll P (onto (flat_map (shown me) notes) tape)
+notes_all P me [] tape all = all
+notes_all P me (one ∷ notes) tape all =
+    subst (AreAll P) (sym (onto-append (shown me one) (flat_map (shown me) notes) tape))
+    (notes_all P me notes (onto (shown me one) tape) (λ number message is. all number message (sym (shown_silent me one tape number) ∙ is)))
 
 -- so they are behind a step that sends only such
-pub step_all : (P : Message → Type 0) (c : Cluster) (node : ℕ → Node) (me : ℕ) (own tape after : List Item) (notes : List Met) (sends : List Message) → AreAll P tape → Each P sends → ((number : ℕ) → message_of (onto own tape) number ≡ message_of tape number)
-    → after ≡ onto (numbered (sent_count tape + 1) sends) (with_items c node (onto own tape) (flat_map (shown me) notes)) → AreAll P after
-step_all P c node me own tape after notes sends all each same shows =
+pub step_all : (P : Message → Type 0) (me : ℕ) (own tape after : List Item) (notes : List Met) (sends : List Message) → AreAll P tape → Each P sends → ((number : ℕ) → message_of (onto own tape) number ≡ message_of tape number)
+    → after ≡ onto (numbered (sent_count tape + 1) sends) (onto (flat_map (shown me) notes) (onto own tape)) → AreAll P after
+step_all P me own tape after notes sends all each same shows =
     subst (AreAll P) (sym shows)
-    (sent_all P (sent_count tape + 1) sends (with_items c node (onto own tape) (flat_map (shown me) notes)) each
-    (notes_all P c node me notes (onto own tape) (λ number message is. all number message (sym (same number) ∙ is))))
+    (sent_all P (sent_count tape + 1) sends (onto (flat_map (shown me) notes) (onto own tape)) each
+    (notes_all P me notes (onto own tape) (λ number message is. all number message (sym (same number) ∙ is))))
 
 pub formed_on : (c : Cluster) (now : Standing) (me : ℕ) (own : List Item) (made : Step) → IsFormed c now → IsStep made → ((number : ℕ) → message_of (onto own now.tape) number ≡ message_of now.tape number)
-    → (whole_step c now me own made).tape ≡ onto (numbered (sent_count now.tape + 1) made.sends) (with_items c (set_at now.node me made.node) (onto own now.tape) (flat_map (shown me) made.notes))
+    → (whole_step c now me own made).tape ≡ onto (numbered (sent_count now.tape + 1) made.sends) (onto (flat_map (shown me) made.notes) (onto own now.tape))
     → IsFormed c (whole_step c now me own made)
 formed_on c now me own made formed step_is same shows = record {
   cluster = formed.cluster;
-  lease = formed.lease;
   nodes = λ other. by (me == other) other;
-  messages = step_all IsMessage c (set_at now.node me made.node) me own now.tape (whole_step c now me own made).tape made.notes made.sends formed.messages step_is.sends same shows;
+  messages = step_all IsMessage me own now.tape (whole_step c now me own made).tape made.notes made.sends formed.messages step_is.sends same shows;
 }
   where
     by : (t : Bool) (other : ℕ) → IsNode (cond t made.node (now.node other))

@@ -1,12 +1,14 @@
 -- A world that makes an event happen stands as the run does afterwards.
+use Rattle.mega_world.proofs.Plain.{steps_whole}
 use Rattle.std.proofs.Common.{◌≡◌, ◌⊎◌, ℕ, ◌+◌, ◌==◌, ◌≤◌, cond, Bool, true, false, List, [], ◌∷◌, ◌++◌, map, flat_map, length, Some, inl, inr, refl, sym, ap, ◌∙◌, subst, arith}
 use Rattle.std.proofs.lemmas.Bool.Decides.{nat_tests}
 use Rattle.std.specs.List.{All}
 use Rattle.std.proofs.lemmas.List.Elements.{All-append, All-cons, All-nil}
 use Rattle.mega_base.specs.Codec.{IsBetween}
-use Rattle.mega_base.specs.declared.names.Epoch.{Epoch}
 use Rattle.mega_base.specs.declared.names.NodeId.{NodeId}
 use Rattle.mega_base.specs.declared.names.OpId.{OpId}
+use Rattle.mega_disk.specs.declared.mem_records.MemRecords.{MemRecords}
+use Rattle.mega_rows.specs.declared.rows.VersionedRows.{VersionedRows}
 use Rattle.mega_cluster.specs.declared.cluster.Cluster.{Cluster}
 use Rattle.mega_handler.specs.Named.{Meanings}
 use Rattle.mega_leases.specs.Taking.{IsByStranger, IsLate}
@@ -20,50 +22,45 @@ use Rattle.mega_transcript.specs.declared.item.Item.{Item}
 use Rattle.mega_transcript.specs.declared.item.Item.TheVariants.{Begin as BeginItem, Taken, Tick as TickItem}
 use Rattle.mega_transcript.specs.Lines.{HasLine}
 use Rattle.mega_transcript.specs.Tape.{newest, onto, sent_count}
-use Rattle.mega_transcript.proofs.Tapes.{onto-append}
 use Rattle.mega_rules.specs.Clock.{is_up}
 use Rattle.mega_rules.specs.Logs.{log_of}
 use Rattle.mega_rules.specs.Members.{is_node}
 use Rattle.mega_rules.specs.Met.{Begins, Ticks}
 use Rattle.mega_rules.specs.Operations.{Node as RuleNode, Setting}
-use Rattle.mega_rules.specs.Steps.{Begin, Step as RuleStep, Take, op_of, onto as met_onto, step, Tick}
+use Rattle.mega_rules.specs.Steps.{Begin, Step as RuleStep, Take, op_of, step, Tick}
 use Rattle.mega_node_laws.specs.Acted.{acted_on, decision_in}
 use Rattle.mega_node_laws.specs.Own.{HasOwnRows}
 use Rattle.mega_format_laws.specs.Nodes.{IsStep}
 use Rattle.mega_member_laws.specs.Nodes.{StepWithin}
 use Rattle.mega_promises.specs.Items.{numbered, shown, number}
-use Rattle.mega_promises.specs.Messages.{is_unsafe, message_of}
-use Rattle.mega_promises.specs.Runs.{Cuts, Standing, after_event, has_lapsed, set_at, setting, up, whole_step, with_items}
+use Rattle.mega_promises.specs.Messages.{message_of}
+use Rattle.mega_promises.specs.Runs.{Cuts, Standing, after_event, setting, up, whole_step, with_items}
 use Rattle.mega_world.specs.declared.mail.Mail.{Mail}
 use Rattle.mega_world.specs.Carries.{Carries}
-use Rattle.mega_world.specs.Plain.{HasNoFuses}
+use Rattle.mega_world.specs.Plain.{shows_leases, HasNoFuses}
 use Rattle.mega_world.proofs.Carrying.{shown_on}
-use Rattle.mega_world.proofs.Events.{begins, delivers, step_shows}
+use Rattle.mega_world.proofs.Events.{begins, delivers, newest_piece, step_shows, step_stands}
+use Rattle.mega_core.specs.declared.node.Node.{Node}
 use Rattle.mega_core.specs.declared.step.Step.{Step}
 use Rattle.mega_core.specs.Notes.{met_of}
 use Rattle.mega_core.specs.Placed.{IsPlaced}
-use Rattle.mega_world.specs.declared.safety.Safety.{Safety}
 use Rattle.mega_world.specs.declared.world.World.{World}
 use Rattle.mega_world.specs.Formed.{IsFormed, IsSound}
-use Rattle.mega_world.specs.Lapses.{KnowsLeases}
-use Rattle.mega_world.specs.Members.{AreMembers, Makes}
-use Rattle.mega_world.specs.Showing.{IsShown, IsStepped}
+use Rattle.mega_world.specs.Members.{Makes}
 use Rattle.mega_world.specs.Shown.{notes_shown}
 use Rattle.mega_world.specs.Stands.{IsAt, version_of}
+use Rattle.mega_world.specs.Unbuilt.{IsUntaken}
 use Rattle.mega_world.proofs.Forming.{formed_on, made_formed}
-use Rattle.mega_world.proofs.Lapsing.{step_lapsed}
 use Rattle.mega_world.proofs.Lining.{notes_lines, sent_lines}
 use Rattle.mega_world.proofs.Owning.{owned_by_step}
 use Rattle.mega_world.proofs.Placing.{placed}
-use Rattle.mega_world.proofs.Plain.{steps_whole, still_unfused, with_append, with_sent}
 use Rattle.mega_world.proofs.Staying.{begin_up, take_up, tick_up}
 use Rattle.mega_world.proofs.Within.{made_within, within_on}
 
--- an event's own items: they are no messages', show nothing of leases, and have lines
+-- an event's own items: they are no messages', nothing of leases, and have lines
 pub record AreOwn (c : Cluster) (own : List Item) : Type 0 where
   pub plain : (node : ℕ → RuleNode) (t : List Item) → with_items c node t own ≡ onto own t
   pub silent : (t : List Item) → sent_count (onto own t) ≡ sent_count t
-  pub safe : (t : List Item) → is_unsafe (onto own t) ≡ is_unsafe t
   pub messages : (t : List Item) (n : ℕ) → message_of (onto own t) n ≡ message_of t n
   pub lines : All HasLine own
 
@@ -71,7 +68,6 @@ pub taken_own : (c : Cluster) (number : ℕ) → AreOwn c (Taken number ∷ [])
 taken_own c number = record {
   plain = λ node t. refl;
   silent = λ t. refl;
-  safe = λ t. refl;
   messages = λ t n. refl;
   lines = All-cons HasLine (Taken number) [] tt (All-nil HasLine);
 }
@@ -80,36 +76,31 @@ pub begun_own : (c : Cluster) (s : Setting) (node : RuleNode) (me : ℕ) (text :
 begun_own c s node me text = record {
   plain = λ node t. refl;
   silent = λ t. refl;
-  safe = λ t. refl;
   messages = λ t n. refl;
   lines = All-cons HasLine (BeginItem (op_of s node.met) text) [] tt (All-nil HasLine);
 }
 
--- a world one of whose nodes stepped, with the event's own items on the tape
-pub record IsReady (now : Standing) (own : List Item) (old mid : World) (items here : List Item) : Type 0 where
-  pub added : here ≡ items ++ own
-  pub carries : Carries mid.mail (onto own now.tape)
-  pub safety : mid.safety ≡ old.safety
+-- what a world has on its tape, and sent, once it showed a step of a node behind the event's own items
+pub record Shows (items own : List Item) (taken new : Mail) (me : ℕ) (made : Step) (after : List Item) : Type 0 where
+  pub carried : (before : List Item) → Carries taken before → Carries new (onto (numbered (sent_count before + 1) made.sends) before)
+  pub tape : (before : List Item) → Carries taken before → after ≡ ((items ++ own) ++ notes_shown me made.notes) ++ numbered (sent_count before + 1) made.sends
 
--- the tape is that of the run with the event's own items
-here_tape : (now : Standing) (own items here : List Item) → newest items ≡ now.tape → here ≡ items ++ own → newest here ≡ onto own now.tape
-here_tape now own items here tape is = ap newest is ∙ onto-append items own [] ∙ ap (onto own) tape
+-- the items that are added, by the rules' step
+shown_items : (c : Cluster) (now : Standing) (items own : List Item) (taken new : Mail) (me : ℕ) (made : Step) (ruled : RuleStep) (after : List Item) → AreOwn c own → Shows items own taken new me made after
+    → Carries taken (onto own now.tape) → map met_of made.notes ≡ ruled.notes → made.sends ≡ ruled.sends
+    → after ≡ ((items ++ own) ++ flat_map (shown me) ruled.notes) ++ numbered (sent_count now.tape + 1) ruled.sends
+shown_items c now items own taken new me made ruled after is shows carries notes sends =
+    shows.tape (onto own now.tape) carries
+    ∙ ap (λ n. ((items ++ own) ++ notes_shown me made.notes) ++ numbered (n + 1) made.sends) (is.silent now.tape)
+    ∙ ap (λ ms. ((items ++ own) ++ notes_shown me made.notes) ++ numbered (sent_count now.tape + 1) ms) sends
+    ∙ ap (λ ns. ((items ++ own) ++ flat_map (shown me) ns) ++ numbered (sent_count now.tape + 1) ruled.sends) notes
 
--- what is shown is what the rules' step shows
-shown_tape : (c : Cluster) (now : Standing) (me : ℕ) (own here after : List Item) (made : Step) (ruled : RuleStep) → AreOwn c own → newest here ≡ onto own now.tape → map met_of made.notes ≡ ruled.notes → made.sends ≡ ruled.sends
-    → newest after ≡ with_items c (set_at now.node me ruled.node) (newest here) (notes_shown me made.notes ++ numbered (sent_count (newest here) + 1) made.sends) → newest after ≡ (whole_step c now me own ruled).tape
-shown_tape c now me own here after made ruled is tape notes sends shows =
-    shows
-    ∙ ap (λ t. with_items c next t (notes_shown me made.notes ++ numbered (sent_count t + 1) made.sends)) tape
-    ∙ ap (λ n. with_items c next (onto own now.tape) (notes_shown me made.notes ++ numbered (n + 1) made.sends)) (is.silent now.tape)
-    ∙ ap (λ ms. with_items c next (onto own now.tape) (notes_shown me made.notes ++ numbered (sent_count now.tape + 1) ms)) sends
-    ∙ ap (λ ns. with_items c next (onto own now.tape) (flat_map (shown me) ns ++ numbered (sent_count now.tape + 1) ruled.sends)) notes
-    ∙ with_append c next (flat_map (shown me) ruled.notes) (numbered (sent_count now.tape + 1) ruled.sends) (onto own now.tape)
-    ∙ with_sent c next (sent_count now.tape + 1) ruled.sends (with_items c next (onto own now.tape) (flat_map (shown me) ruled.notes))
-    ∙ sym (step_shows c now me own ruled is.plain)
-  where
-    next : ℕ → RuleNode
-    next = set_at now.node me ruled.node
+shown_tape : (c : Cluster) (now : Standing) (items own : List Item) (me : ℕ) (ruled : RuleStep) (after : List Item) → AreOwn c own → newest items ≡ now.tape → shows_leases ruled ≡ false
+    → after ≡ ((items ++ own) ++ flat_map (shown me) ruled.notes) ++ numbered (sent_count now.tape + 1) ruled.sends → newest after ≡ (whole_step c now me own ruled).tape
+shown_tape c now items own me ruled after is tape plain added =
+    ap newest added ∙ newest_piece items own (flat_map (shown me) ruled.notes) (numbered (sent_count now.tape + 1) ruled.sends)
+    ∙ ap (λ t. onto (numbered (sent_count now.tape + 1) ruled.sends) (onto (flat_map (shown me) ruled.notes) (onto own t))) tape
+    ∙ sym (step_shows c now me own ruled is.plain plain)
 
 -- all nodes are up still
 ups : (c : Cluster) (now : Standing) (me : ℕ) (own : List Item) (ruled : RuleStep) → ((other : ℕ) → up now other ≡ is_node c other) → is_node c me ≡ true → is_up ruled.node.met ≡ true
@@ -120,57 +111,30 @@ ups c now me own ruled were is stays other = by (me == other) refl
     by true same = let e : me ≡ other = grind (arith, nat_tests) in stays ∙ sym (ap (is_node c) (sym e) ∙ is)
     by false apart = were other
 
--- before the step is shown
-stepped : (c : Cluster) (now : Standing) (me : ℕ) (own : List Item) (ruled : RuleStep) (old mid : World) (items here : List Item) (made : Step) → IsAt c old items now → AreOwn c own → is_node c me ≡ true → is_up ruled.node.met ≡ true
-    → ((node : ℕ) (epoch : Epoch) → has_lapsed ruled.node.met node epoch ≡ has_lapsed (met_onto ruled.notes (now.node me).met) node epoch)
-    → Makes version_of c mid.nodes.items now.node me made ruled → IsReady now own old mid items here → IsStepped c mid me made.notes now.node (set_at now.node me ruled.node) (newest here)
-stepped c now me own ruled old mid items here made r is there stays lapses makes ready = record {
-  nodes = record { members = makes.members; up_are = ups c now me own ruled r.mail.up_are there stays };
-  lapsed = λ cell node epoch. by (me == cell) cell node epoch;
-  leases = subst (KnowsLeases mid.safety now.node) (sym (here_tape now own items here r.tape ready.added))
-      (subst (λ (s : Safety). KnowsLeases s now.node (onto own now.tape)) (sym ready.safety) (record { lapses = r.leases.lapses; told = r.leases.told ∙ sym (is.safe now.tape) }));
-  carries = subst (Carries mid.mail) (sym (here_tape now own items here r.tape ready.added)) ready.carries;
-}
-  where
-    by : (t : Bool) (cell node : ℕ) (epoch : Epoch) → has_lapsed (cond t ruled.node (now.node cell)).met node epoch ≡ has_lapsed (cond t (met_onto (map met_of made.notes) (now.node me).met) (now.node cell).met) node epoch
-    by true cell node epoch = lapses node epoch ∙ ap (λ notes. has_lapsed (met_onto notes (now.node me).met) node epoch) (sym makes.notes)
-    by false cell node epoch = refl
-
 -- a world that showed a step
-pub shown_at : (c : Cluster) (now : Standing) (me : ℕ) (own : List Item) (ruled : RuleStep) (old mid new : World) (items here after : List Item) (made : Step)
+pub shown_at : (c : Cluster) (now : Standing) (me : ℕ) (own : List Item) (ruled : RuleStep) (old new : World) (taken : Mail) (items after : List Item) (made : Step)
     → IsAt c old items now → AreOwn c own → is_node c me ≡ true → IsStep ruled → StepWithin c ruled → is_up ruled.node.met ≡ true
-    → ((node : ℕ) (epoch : Epoch) → has_lapsed ruled.node.met node epoch ≡ has_lapsed (met_onto ruled.notes (now.node me).met) node epoch)
-    → Makes version_of c mid.nodes.items now.node me made ruled → IsReady now own old mid items here
-    → (IsStepped c mid me made.notes now.node (set_at now.node me ruled.node) (newest here) → IsShown c mid new me made (set_at now.node me ruled.node) here after)
+    → Makes version_of c new.nodes.items now.node me made ruled → Carries taken (onto own now.tape) → Shows items own taken new.mail me made after
     → IsAt c new after (whole_step c now me own ruled)
-shown_at c now me own ruled old mid new items here after made r is there formed within stays lapses makes ready show = record {
-  nodes = subst (λ ns. AreMembers version_of c ns.items (set_at now.node me ruled.node)) (sym shows.nodes) makes.members;
-  mail = record {
-    carries = subst (Carries new.mail) tape shows.carries;
-    unfused = still_unfused c now me own ruled r.mail.unfused;
-    up_are = ups c now me own ruled r.mail.up_are there stays;
-  };
-  tape = tape;
-  leases = subst (KnowsLeases new.safety (set_at now.node me ruled.node)) tape shows.leases;
-  formed = formed_on c now me own ruled r.formed formed (is.messages now.tape) (step_shows c now me own ruled is.plain);
-  within = within_on c now me own ruled r.within within (is.messages now.tape) (step_shows c now me own ruled is.plain);
+shown_at c now me own ruled old new taken items after made r is there formed within stays makes carries shows = record {
+  nodes = makes.members;
+  mail = step_stands c now me own ruled old.mail taken new.mail r.mail is.plain (is.silent now.tape) makes.plain carries
+      (λ before h. subst (λ ms. Carries new.mail (onto (numbered (sent_count before + 1) ms) before)) makes.sends (shows.carried before h))
+      (ups c now me own ruled r.mail.up_are there stays);
+  tape = shown_tape c now items own me ruled after is r.tape makes.plain (shown_items c now items own taken new.mail me made ruled after is shows carries makes.notes makes.sends);
+  formed = formed_on c now me own ruled r.formed formed (is.messages now.tape) (step_shows c now me own ruled is.plain makes.plain);
+  within = within_on c now me own ruled r.within within (is.messages now.tape) (step_shows c now me own ruled is.plain makes.plain);
 }
-  where
-    shows : IsShown c mid new me made (set_at now.node me ruled.node) here after
-    shows = show (stepped c now me own ruled old mid items here made r is there stays lapses makes ready)
 
-    tape : newest after ≡ (whole_step c now me own ruled).tape
-    tape = shown_tape c now me own here after made ruled is (here_tape now own items here r.tape ready.added) makes.notes makes.sends shows.tape
-
--- what it shows has lines
-pub shown_lined : (c : Cluster) (now : Standing) (me : ℕ) (own : List Item) (ruled : RuleStep) (old mid : World) (items here after : List Item) (made : Step) → AreOwn c own → IsStep ruled → map met_of made.notes ≡ ruled.notes → made.sends ≡ ruled.sends
-    → IsReady now own old mid items here
-    → ((before : List Item) → Carries mid.mail before → All HasLine here → All HasLine (notes_shown me made.notes) → All HasLine (numbered (sent_count before + 1) made.sends) → All HasLine after)
+-- the items that it added have lines
+pub shown_lined : (c : Cluster) (now : Standing) (me : ℕ) (own : List Item) (ruled : RuleStep) (taken new : Mail) (items after : List Item) (made : Step)
+    → AreOwn c own → IsStep ruled → map met_of made.notes ≡ ruled.notes → made.sends ≡ ruled.sends → Carries taken (onto own now.tape) → Shows items own taken new me made after
     → All HasLine items → All HasLine after
-shown_lined c now me own ruled old mid items here after made is formed notes sends ready lines lined =
-    lines (onto own now.tape) ready.carries (subst (All HasLine) (sym ready.added) (All-append HasLine items own lined is.lines))
-    (subst (λ ns. All HasLine (flat_map (shown me) ns)) (sym notes) (notes_lines me ruled.notes formed.notes))
-    (subst (λ ms. All HasLine (numbered (sent_count (onto own now.tape) + 1) ms)) (sym sends) (sent_lines (sent_count (onto own now.tape) + 1) ruled.sends formed.sends))
+shown_lined c now me own ruled taken new items after made is formed notes sends carries shows lined =
+    subst (All HasLine) (sym (shown_items c now items own taken new me made ruled after is shows carries notes sends))
+    (All-append HasLine ((items ++ own) ++ flat_map (shown me) ruled.notes) (numbered (sent_count now.tape + 1) ruled.sends)
+    (All-append HasLine (items ++ own) (flat_map (shown me) ruled.notes) (All-append HasLine items own lined is.lines) (notes_lines me ruled.notes formed.notes))
+    (sent_lines (sent_count now.tape + 1) ruled.sends formed.sends))
 
 -- ---- a delivery
 
@@ -196,29 +160,23 @@ pub taken_placed : (c : Cluster) (h : Meanings) (cuts : Cuts) (world : World) (i
 taken_placed c h cuts world items now number message r sound is there =
     placed (setting c h message.to) (now.node message.to) message (taken_formed c h cuts world items now number message r sound is there).notes
 
-pub delivered_at : (c : Cluster) (h : Meanings) (cuts : Cuts) (now : Standing) (number : ℕ) (message : Message) (old mid new : World) (items here after : List Item) (made : Step)
+pub delivered_at : (c : Cluster) (h : Meanings) (cuts : Cuts) (now : Standing) (number : ℕ) (message : Message) (old new : World) (taken : Mail) (items after : List Item) (made : Step)
     → IsAt c old items now → IsSound c h cuts now (Deliver number) → message_of now.tape number ≡ Some message → is_node c message.to ≡ true
-    → Makes version_of c mid.nodes.items now.node message.to made (step (setting c h message.to) (now.node message.to) (Take message)) → IsReady now (Taken number ∷ []) old mid items here
-    → ((was ruled : ℕ → RuleNode) → IsStepped c mid message.to made.notes was ruled (newest here) → IsShown c mid new message.to made ruled here after)
+    → Makes version_of c new.nodes.items now.node message.to made (step (setting c h message.to) (now.node message.to) (Take message))
+    → Carries taken (Taken number ∷ now.tape) → Shows items (Taken number ∷ []) taken new.mail message.to made after
     → IsAt c new after (after_event c h cuts now (Deliver number))
-delivered_at c h cuts now number message old mid new items here after made r sound is there makes ready show =
+delivered_at c h cuts now number message old new taken items after made r sound is there makes carries shows =
     subst (IsAt c new after) (sym (delivers c h cuts now number message r.mail.unfused is))
-    (shown_at c now message.to (Taken number ∷ []) made_step old mid new items here after made r (taken_own c number) there
-    (taken_formed c h cuts old items now number message r sound is there) (made_within c h now message.to (Take message) r.within there (r.within.messages number message is))
-    (take_up (setting c h message.to) (now.node message.to) message (r.mail.up_are message.to ∙ there)) (step_lapsed (setting c h message.to) (now.node message.to) (Take message)) makes ready
-    (show now.node (set_at now.node message.to made_step.node)))
-  where
-    made_step : RuleStep
-    made_step = step (setting c h message.to) (now.node message.to) (Take message)
+    (shown_at c now message.to (Taken number ∷ []) (step (setting c h message.to) (now.node message.to) (Take message)) old new taken items after made r (taken_own c number) there
+    (taken_formed c h cuts old items now number message r sound is there) (made_within c h now message.to (Take message) r.within there (r.within.messages number message is)) (take_up (setting c h message.to) (now.node message.to) message (r.mail.up_are message.to ∙ there)) makes carries shows)
 
-pub delivered_lined : (c : Cluster) (h : Meanings) (cuts : Cuts) (now : Standing) (number : ℕ) (message : Message) (old mid : World) (items here after : List Item) (made : Step)
+pub delivered_lined : (c : Cluster) (h : Meanings) (cuts : Cuts) (now : Standing) (number : ℕ) (message : Message) (old : World) (taken new : Mail) (items after : List Item) (made : Step) (nodes : List (Node MemRecords VersionedRows))
     → IsAt c old items now → IsSound c h cuts now (Deliver number) → message_of now.tape number ≡ Some message → is_node c message.to ≡ true
-    → Makes version_of c mid.nodes.items now.node message.to made (step (setting c h message.to) (now.node message.to) (Take message)) → IsReady now (Taken number ∷ []) old mid items here
-    → ((before : List Item) → Carries mid.mail before → All HasLine here → All HasLine (notes_shown message.to made.notes) → All HasLine (numbered (sent_count before + 1) made.sends) → All HasLine after)
-    → All HasLine items → All HasLine after
-delivered_lined c h cuts now number message old mid items here after made r sound is there makes ready lines lined =
-    shown_lined c now message.to (Taken number ∷ []) (step (setting c h message.to) (now.node message.to) (Take message)) old mid items here after made (taken_own c number)
-    (taken_formed c h cuts old items now number message r sound is there) makes.notes makes.sends ready lines lined
+    → Makes version_of c nodes now.node message.to made (step (setting c h message.to) (now.node message.to) (Take message))
+    → Carries taken (Taken number ∷ now.tape) → Shows items (Taken number ∷ []) taken new message.to made after → All HasLine items → All HasLine after
+delivered_lined c h cuts now number message old taken new items after made nodes r sound is there makes carries shows lined =
+    shown_lined c now message.to (Taken number ∷ []) (step (setting c h message.to) (now.node message.to) (Take message)) taken new items after made (taken_own c number)
+    (taken_formed c h cuts old items now number message r sound is there) makes.notes makes.sends carries shows lined
 
 -- no message of the format is a stranger's
 no_stranger : (from : ℕ) (body : Body) → IsBetween (least_from (kind_of body)) (greatest_from (kind_of body)) from → IsBody body → IsByStranger from body → ⊥
@@ -246,34 +204,11 @@ no_stranger from (Past cell asked greatest) from_is body_is stranger = stranger
 no_stranger from (Requested token json) from_is body_is stranger = stranger
 no_stranger from (Reply token text) from_is body_is stranger = stranger
 
--- nor is its lease past the last time that is counted
-not_late : (c : Cluster) (body : Body) → c.lease ≤ 1000000000 → IsBody body → IsLate c body → ⊥
-not_late c (Granted cell epoch clock) few body_is late = let most : clock ≤ 1000000000000 = body_is.1.1.1 in omega (arith, few, most, late)
-not_late c (Acquire cell epoch clock) few body_is late = late
-not_late c (Dead op cell node) few body_is late = late
-not_late c (Where op group) few body_is late = late
-not_late c (Top op group position) few body_is late = late
-not_late c (Accept op group position ballot entry) few body_is late = late
-not_late c (Accepted op group position ballot entry) few body_is late = late
-not_late c (Refused op group position asked shown entry) few body_is late = late
-not_late c (Prepare op group position ballot) few body_is late = late
-not_late c (Promise op group position ballot accepted) few body_is late = late
-not_late c (Invalidate op group position) few body_is late = late
-not_late c (Invalidated op group position) few body_is late = late
-not_late c (Held op cell node) few body_is late = late
-not_late c (Unheld op cell node) few body_is late = late
-not_late c (Decide group position entry) few body_is late = late
-not_late c (Fetch op group position) few body_is late = late
-not_late c (Have op group position entry) few body_is late = late
-not_late c (HaveNot op group position) few body_is late = late
-not_late c (Past cell asked greatest) few body_is late = late
-not_late c (Requested token json) few body_is late = late
-not_late c (Reply token text) few body_is late = late
-
--- so each message is taken
-pub delivery_built : (c : Cluster) (now : Standing) (number : ℕ) (message : Message) → IsFormed c now → message_of now.tape number ≡ Some message → IsByStranger message.from message.body ⊎ IsLate c message.body → ⊥
-delivery_built c now number message formed is (inl stranger) = let m = formed.messages number message is in no_stranger message.from message.body m.from m.body stranger
-delivery_built c now number message formed is (inr late) = let m = formed.messages number message is in not_late c message.body formed.lease m.body late
+pub delivery_unbuilt : (c : Cluster) (h : Meanings) (now : Standing) (number : ℕ) (message : Message) → IsFormed c now → message_of now.tape number ≡ Some message
+    → IsByStranger message.from message.body ⊎ (IsLate c message.body ⊎ (shows_leases (step (setting c h message.to) (now.node message.to) (Take message)) ≡ true)) → IsUntaken c h now (message_of now.tape number)
+delivery_unbuilt c h now number message formed is (inl stranger) =
+    let m = formed.messages number message is in absurd (no_stranger message.from message.body m.from m.body stranger)
+delivery_unbuilt c h now number message formed is (inr other) = subst (IsUntaken c h now) (sym is) other
 
 -- ---- a beginning
 
@@ -292,42 +227,29 @@ begun_formed : (c : Cluster) (h : Meanings) (cuts : Cuts) (world : World) (items
 begun_formed c h cuts world items now node request text r sound there = made_formed c h now node.0 (Begin request text) r.formed sound.handlers there sound.asked
 
 -- what is carried tells the item of the beginning too
-begun_ready : (c : Cluster) (h : Meanings) (cuts : Cuts) (now : Standing) (node : NodeId) (text : List ℕ) (op : OpId) (old mid : World) (items here : List Item) → Carries old.mail now.tape
-    → op ≡ op_of (setting c h node.0) (now.node node.0).met → here ≡ items ++ BeginItem op text ∷ [] → mid.mail ≡ old.mail → mid.safety ≡ old.safety
-    → IsReady now (shown node.0 (Begins (op_of (setting c h node.0) (now.node node.0).met) text)) old mid items here
-begun_ready c h cuts now node text op old mid items here carries named is mail safety = record {
-  added = is ∙ ap (λ (one : OpId). items ++ BeginItem one text ∷ []) named;
-  carries = subst (λ (m : Mail). Carries m (BeginItem (op_of (setting c h node.0) (now.node node.0).met) text ∷ now.tape)) (sym mail)
-      (shown_on old.mail 0 (Begins (op_of (setting c h node.0) (now.node node.0).met) text) now.tape carries);
-  safety = safety;
-}
+begun_carried : (mail : Mail) (now : Standing) (op : OpId) (text : List ℕ) → Carries mail now.tape → Carries mail (BeginItem op text ∷ now.tape)
+begun_carried mail now op text r = shown_on mail 0 (Begins op text) now.tape r
 
-pub begun_at : (c : Cluster) (h : Meanings) (cuts : Cuts) (now : Standing) (node : NodeId) (request : Request) (text : List ℕ) (op : OpId) (old mid new : World) (items here after : List Item) (made : Step)
+pub begun_at : (c : Cluster) (h : Meanings) (cuts : Cuts) (now : Standing) (node : NodeId) (request : Request) (text : List ℕ) (op : OpId) (old new : World) (items after : List Item) (made : Step)
     → IsAt c old items now → IsSound c h cuts now (BeginEvent node request text) → is_node c node.0 ≡ true → op ≡ op_of (setting c h node.0) (now.node node.0).met
-    → Makes version_of c mid.nodes.items now.node node.0 made (step (setting c h node.0) (now.node node.0) (Begin request text))
-    → here ≡ items ++ BeginItem op text ∷ [] → mid.mail ≡ old.mail → mid.safety ≡ old.safety
-    → ((was ruled : ℕ → RuleNode) → IsStepped c mid node.0 made.notes was ruled (newest here) → IsShown c mid new node.0 made ruled here after) → IsAt c new after (after_event c h cuts now (BeginEvent node request text))
-begun_at c h cuts now node request text op old mid new items here after made r sound there named makes is mail safety show =
+    → Makes version_of c new.nodes.items now.node node.0 made (step (setting c h node.0) (now.node node.0) (Begin request text))
+    → Shows items (BeginItem op text ∷ []) old.mail new.mail node.0 made after → IsAt c new after (after_event c h cuts now (BeginEvent node request text))
+begun_at c h cuts now node request text op old new items after made r sound there named makes shows =
     subst (IsAt c new after) (sym (begins c h cuts now node request text r.mail.unfused))
-    (shown_at c now node.0 (shown node.0 (Begins (op_of (setting c h node.0) (now.node node.0).met) text)) made_step old mid new items here after made r
+    (shown_at c now node.0 (shown node.0 (Begins (op_of (setting c h node.0) (now.node node.0).met) text)) (step (setting c h node.0) (now.node node.0) (Begin request text)) old new old.mail items after made r
     (begun_own c (setting c h node.0) (now.node node.0) node.0 text) there (begun_formed c h cuts old items now node request text r sound there)
-    (made_within c h now node.0 (Begin request text) r.within there tt) (begin_up (setting c h node.0) (now.node node.0) request text (r.mail.up_are node.0 ∙ there))
-    (step_lapsed (setting c h node.0) (now.node node.0) (Begin request text)) makes (begun_ready c h cuts now node text op old mid items here r.mail.carries named is mail safety)
-    (show now.node (set_at now.node node.0 made_step.node)))
-  where
-    made_step : RuleStep
-    made_step = step (setting c h node.0) (now.node node.0) (Begin request text)
+    (made_within c h now node.0 (Begin request text) r.within there tt) (begin_up (setting c h node.0) (now.node node.0) request text (r.mail.up_are node.0 ∙ there)) makes (begun_carried old.mail now (op_of (setting c h node.0) (now.node node.0).met) text r.mail.carries)
+    (subst (λ (one : OpId). Shows items (BeginItem one text ∷ []) old.mail new.mail node.0 made after) named shows))
 
-pub begun_lined : (c : Cluster) (h : Meanings) (cuts : Cuts) (now : Standing) (node : NodeId) (request : Request) (text : List ℕ) (op : OpId) (old mid : World) (items here after : List Item) (made : Step)
+pub begun_lined : (c : Cluster) (h : Meanings) (cuts : Cuts) (now : Standing) (node : NodeId) (request : Request) (text : List ℕ) (op : OpId) (old : World) (new : Mail) (items after : List Item) (made : Step) (nodes : List (Node MemRecords VersionedRows))
     → IsAt c old items now → IsSound c h cuts now (BeginEvent node request text) → is_node c node.0 ≡ true → op ≡ op_of (setting c h node.0) (now.node node.0).met
-    → Makes version_of c mid.nodes.items now.node node.0 made (step (setting c h node.0) (now.node node.0) (Begin request text))
-    → here ≡ items ++ BeginItem op text ∷ [] → mid.mail ≡ old.mail → mid.safety ≡ old.safety
-    → ((before : List Item) → Carries mid.mail before → All HasLine here → All HasLine (notes_shown node.0 made.notes) → All HasLine (numbered (sent_count before + 1) made.sends) → All HasLine after)
-    → All HasLine items → All HasLine after
-begun_lined c h cuts now node request text op old mid items here after made r sound there named makes is mail safety lines lined =
-    shown_lined c now node.0 (shown node.0 (Begins (op_of (setting c h node.0) (now.node node.0).met) text)) (step (setting c h node.0) (now.node node.0) (Begin request text)) old mid items here after made
+    → Makes version_of c nodes now.node node.0 made (step (setting c h node.0) (now.node node.0) (Begin request text))
+    → Shows items (BeginItem op text ∷ []) old.mail new node.0 made after → All HasLine items → All HasLine after
+begun_lined c h cuts now node request text op old new items after made nodes r sound there named makes shows lined =
+    shown_lined c now node.0 (shown node.0 (Begins (op_of (setting c h node.0) (now.node node.0).met) text)) (step (setting c h node.0) (now.node node.0) (Begin request text)) old.mail new items after made
     (begun_own c (setting c h node.0) (now.node node.0) node.0 text) (begun_formed c h cuts old items now node request text r sound there) makes.notes makes.sends
-    (begun_ready c h cuts now node text op old mid items here r.mail.carries named is mail safety) lines lined
+    (begun_carried old.mail now (op_of (setting c h node.0) (now.node node.0).met) text r.mail.carries)
+    (subst (λ (one : OpId). Shows items (BeginItem one text ∷ []) old.mail new node.0 made after) named shows) lined
 
 -- ---- a tick
 
@@ -339,7 +261,6 @@ ticked_own : (c : Cluster) (me clock : ℕ) → AreOwn c (TickItem (number me) c
 ticked_own c me clock = record {
   plain = λ node t. refl;
   silent = λ t. refl;
-  safe = λ t. refl;
   messages = λ t n. refl;
   lines = All-cons HasLine (TickItem (number me) clock) [] tt (All-nil HasLine);
 }
@@ -355,33 +276,21 @@ ticked_formed : (c : Cluster) (h : Meanings) (cuts : Cuts) (world : World) (item
     → is_node c node.0 ≡ true → IsStep (step (setting c h node.0) (now.node node.0) (Tick clock))
 ticked_formed c h cuts world items now node clock r sound there = made_formed c h now node.0 (Tick clock) r.formed sound.handlers there sound.asked
 
-ticked_ready : (now : Standing) (me clock : ℕ) (old mid : World) (items here : List Item) → Carries old.mail now.tape → here ≡ items ++ TickItem (number me) clock ∷ [] → mid.mail ≡ old.mail → mid.safety ≡ old.safety
-    → IsReady now (TickItem (number me) clock ∷ []) old mid items here
-ticked_ready now me clock old mid items here carries is mail safety = record {
-  added = is;
-  carries = subst (λ (m : Mail). Carries m (TickItem (number me) clock ∷ now.tape)) (sym mail) (shown_on old.mail me (Ticks clock) now.tape carries);
-  safety = safety;
-}
+ticked_carried : (mail : Mail) (now : Standing) (me clock : ℕ) → Carries mail now.tape → Carries mail (TickItem (number me) clock ∷ now.tape)
+ticked_carried mail now me clock r = shown_on mail me (Ticks clock) now.tape r
 
-pub ticked_at : (c : Cluster) (h : Meanings) (cuts : Cuts) (now : Standing) (node : NodeId) (clock : ℕ) (old mid new : World) (items here after : List Item) (made : Step)
-    → IsAt c old items now → IsSound c h cuts now (TickEvent node clock) → is_node c node.0 ≡ true → Makes version_of c mid.nodes.items now.node node.0 made (step (setting c h node.0) (now.node node.0) (Tick clock))
-    → here ≡ items ++ TickItem (number node.0) clock ∷ [] → mid.mail ≡ old.mail → mid.safety ≡ old.safety
-    → ((was ruled : ℕ → RuleNode) → IsStepped c mid node.0 made.notes was ruled (newest here) → IsShown c mid new node.0 made ruled here after) → IsAt c new after (after_event c h cuts now (TickEvent node clock))
-ticked_at c h cuts now node clock old mid new items here after made r sound there makes is mail safety show =
+pub ticked_at : (c : Cluster) (h : Meanings) (cuts : Cuts) (now : Standing) (node : NodeId) (clock : ℕ) (old new : World) (items after : List Item) (made : Step)
+    → IsAt c old items now → IsSound c h cuts now (TickEvent node clock) → is_node c node.0 ≡ true → Makes version_of c new.nodes.items now.node node.0 made (step (setting c h node.0) (now.node node.0) (Tick clock))
+    → Shows items (TickItem (number node.0) clock ∷ []) old.mail new.mail node.0 made after → IsAt c new after (after_event c h cuts now (TickEvent node clock))
+ticked_at c h cuts now node clock old new items after made r sound there makes shows =
     subst (IsAt c new after) (sym (ticks c h cuts now node clock r.mail.unfused))
-    (shown_at c now node.0 (TickItem (number node.0) clock ∷ []) made_step old mid new items here after made r
+    (shown_at c now node.0 (TickItem (number node.0) clock ∷ []) (step (setting c h node.0) (now.node node.0) (Tick clock)) old new old.mail items after made r
     (ticked_own c node.0 clock) there (ticked_formed c h cuts old items now node clock r sound there)
-    (made_within c h now node.0 (Tick clock) r.within there tt) (tick_up (setting c h node.0) (now.node node.0) clock (r.mail.up_are node.0 ∙ there))
-    (step_lapsed (setting c h node.0) (now.node node.0) (Tick clock)) makes (ticked_ready now node.0 clock old mid items here r.mail.carries is mail safety) (show now.node (set_at now.node node.0 made_step.node)))
-  where
-    made_step : RuleStep
-    made_step = step (setting c h node.0) (now.node node.0) (Tick clock)
+    (made_within c h now node.0 (Tick clock) r.within there tt) (tick_up (setting c h node.0) (now.node node.0) clock (r.mail.up_are node.0 ∙ there)) makes (ticked_carried old.mail now node.0 clock r.mail.carries) shows)
 
-pub ticked_lined : (c : Cluster) (h : Meanings) (cuts : Cuts) (now : Standing) (node : NodeId) (clock : ℕ) (old mid : World) (items here after : List Item) (made : Step)
-    → IsAt c old items now → IsSound c h cuts now (TickEvent node clock) → is_node c node.0 ≡ true → Makes version_of c mid.nodes.items now.node node.0 made (step (setting c h node.0) (now.node node.0) (Tick clock))
-    → here ≡ items ++ TickItem (number node.0) clock ∷ [] → mid.mail ≡ old.mail → mid.safety ≡ old.safety
-    → ((before : List Item) → Carries mid.mail before → All HasLine here → All HasLine (notes_shown node.0 made.notes) → All HasLine (numbered (sent_count before + 1) made.sends) → All HasLine after)
-    → All HasLine items → All HasLine after
-ticked_lined c h cuts now node clock old mid items here after made r sound there makes is mail safety lines lined =
-    shown_lined c now node.0 (TickItem (number node.0) clock ∷ []) (step (setting c h node.0) (now.node node.0) (Tick clock)) old mid items here after made
-    (ticked_own c node.0 clock) (ticked_formed c h cuts old items now node clock r sound there) makes.notes makes.sends (ticked_ready now node.0 clock old mid items here r.mail.carries is mail safety) lines lined
+pub ticked_lined : (c : Cluster) (h : Meanings) (cuts : Cuts) (now : Standing) (node : NodeId) (clock : ℕ) (old : World) (new : Mail) (items after : List Item) (made : Step) (nodes : List (Node MemRecords VersionedRows))
+    → IsAt c old items now → IsSound c h cuts now (TickEvent node clock) → is_node c node.0 ≡ true → Makes version_of c nodes now.node node.0 made (step (setting c h node.0) (now.node node.0) (Tick clock))
+    → Shows items (TickItem (number node.0) clock ∷ []) old.mail new node.0 made after → All HasLine items → All HasLine after
+ticked_lined c h cuts now node clock old new items after made nodes r sound there makes shows lined =
+    shown_lined c now node.0 (TickItem (number node.0) clock ∷ []) (step (setting c h node.0) (now.node node.0) (Tick clock)) old.mail new items after made
+    (ticked_own c node.0 clock) (ticked_formed c h cuts old items now node clock r sound there) makes.notes makes.sends (ticked_carried old.mail now node.0 clock r.mail.carries) shows lined

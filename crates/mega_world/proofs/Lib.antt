@@ -1,8 +1,6 @@
 pub mod Sending
 pub mod Plain
 pub mod Carrying
-pub mod Lapsing
-pub mod Breaking
 pub mod Events
 pub mod Least
 pub mod Quiet

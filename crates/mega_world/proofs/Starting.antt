@@ -2,9 +2,7 @@
 use Rattle.std.proofs.Common.{◌≡◌, ◌⊎◌, inl, inr, ℕ, ◌+◌, ◌<◌, ◌≤◌, ◌==◌, ◌&&◌, nat_le, cond, Bool, true, false, List, [], ◌∷◌, ◌++◌, flat_map, fold, length, length-append, Some, None, refl, sym, ap, ◌∙◌, subst, zero, suc, arith}
 use Rattle.std.proofs.lemmas.Bool.Decides.{nat_tests}
 use Rattle.std.proofs.lemmas.Option.{slice_get_within}
-use Rattle.std.specs.BTreeSet.{contains}
 use Rattle.std.specs.List.{range_with_len, slice_get}
-use Rattle.mega_base.specs.declared.names.Epoch.{Epoch}
 use Rattle.mega_cluster.specs.declared.cluster.Cluster.{Cluster}
 use Rattle.mega_disk.specs.VersionMaps.{Versions}
 use Rattle.mega_handler.specs.Named.{Meanings}
@@ -24,18 +22,15 @@ use Rattle.mega_format_laws.proofs.Steps.{started}
 use Rattle.mega_member_laws.specs.Nodes.{StaysWithin}
 use Rattle.mega_member_laws.proofs.Steps.{first_started}
 use Rattle.mega_promises.specs.Items.{number, shown}
-use Rattle.mega_promises.specs.Messages.{is_unsafe, message_of}
-use Rattle.mega_promises.specs.Runs.{Whole, Standing, after_append, empty_node, fated_start, has_lapsed, nothing_yet, opening, set_at, setting, whole_start, with_items}
+use Rattle.mega_promises.specs.Messages.{message_of}
+use Rattle.mega_promises.specs.Runs.{Whole, Standing, after_append, empty_node, fated_start, nothing_yet, opening, set_at, setting, whole_start, with_items}
 use Rattle.mega_world.specs.declared.mail.Mail.{Mail}
-use Rattle.mega_world.specs.declared.safety.Lapse.{Lapse}
-use Rattle.mega_world.specs.declared.safety.Safety.{Safety}
 use Rattle.mega_world.specs.Carries.{Carries}
 use Rattle.mega_world.specs.AllUp.{AllUp}
 use Rattle.mega_world.proofs.Carrying.{shown_on}
 use Rattle.mega_actions.specs.Stands.{setting as at_node}
 use Rattle.mega_core.specs.declared.node.Node.{Node}
 use Rattle.mega_world.specs.Formed.{IsFormed}
-use Rattle.mega_world.specs.Lapses.{KnowsLeases, lapse, lapse_cmp}
 use Rattle.mega_world.specs.Members.{AreMembers, AreStarted, IsMember}
 use Rattle.mega_world.specs.Opening.{first_starts}
 use Rattle.mega_world.specs.Within.{RunsWithin}
@@ -175,34 +170,9 @@ cells_few cells (inl one) = omega (arith, one)
 cells_few cells (inr (inl three)) = omega (arith, three)
 cells_few cells (inr (inr five)) = omega (arith, five)
 
--- no epoch lapsed yet, and leases are safe
-first_lapsed : (s : Setting) (node : ℕ) (epoch : Epoch) → has_lapsed (start s 1 [] []).met node epoch ≡ false
-first_lapsed s node epoch = ap (λ items. has_lapsed (onto items []) node epoch) (first_items s)
-
-starts_safe : (k : ℕ) → is_unsafe (first_starts k) ≡ false
-starts_safe zero = refl
-starts_safe (suc k) = starts_safe k
-
-pub opening_leases : (c : Cluster) (h : Meanings) (safety : Safety) → ((one : Lapse) → contains lapse_cmp safety.lapses one ≡ false) → safety.is_told ≡ false → KnowsLeases safety (opening c h).node (opening c h).tape
-opening_leases c h safety none told = record {
-  lapses = record {
-    each = λ cell node epoch. none (lapse cell node epoch)
-        ∙ sym (ap (λ (n : RuleNode). has_lapsed n.met node epoch) (o.node_is cell) ∙ by (is_among (length c.nodes) cell) cell node epoch);
-  };
-  told = told ∙ sym (ap is_unsafe o.tape_is ∙ starts_safe (length c.nodes));
-}
-  where
-    o : Opened c h (length c.nodes) (opening c h)
-    o = opening_opened c h
-
-    by : (t : Bool) (cell node : ℕ) (epoch : Epoch) → has_lapsed (cond t (start (setting c h cell) 1 [] []) empty_node).met node epoch ≡ false
-    by true cell node epoch = first_lapsed (setting c h cell) node epoch
-    by false cell node epoch = refl
-
-pub opening_formed : (c : Cluster) (h : Meanings) → IsCluster c → c.lease ≤ 1000000000 → IsFormed c (opening c h)
-opening_formed c h formed lease = record {
+pub opening_formed : (c : Cluster) (h : Meanings) → IsCluster c → IsFormed c (opening c h)
+opening_formed c h formed = record {
   cluster = formed;
-  lease = lease;
   nodes = λ me. subst IsNode (sym (o.node_is me)) (by (is_among (length c.nodes) me) me);
   messages = λ n message is. let none = ap (λ t. message_of t n) o.tape_is ∙ starts_sent (length c.nodes) n in let no = sym none ∙ is in cc;
 }

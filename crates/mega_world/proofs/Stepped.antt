@@ -1,7 +1,7 @@
 -- One node of a world makes a step.
-use Rattle.std.proofs.Common.{◌≡◌, ℕ, ◌+◌, ◌-◌, ◌≤◌, min, List, length, get_or, map, set, Some, refl, sym, ap, ◌∙◌, subst, arith}
+use Rattle.std.proofs.Common.{◌≡◌, ℕ, ◌+◌, ◌-◌, ◌≤◌, min, true, false, List, length, get_or, map, set, Some, refl, sym, ap, ◌∙◌, subst, arith}
 use Rattle.std.proofs.lemmas.Option.{slice_get_read}
-use Rattle.std.specs.List.{slice_get}
+use Rattle.std.specs.List.{list_any, slice_get}
 use Rattle.mega_base.specs.declared.names.OpId.{OpId}
 use Rattle.mega_cluster.specs.declared.cluster.Cluster.{Cluster}
 use Rattle.mega_disk.specs.VersionMaps.{Versions}
@@ -18,6 +18,7 @@ use Rattle.mega_rules.specs.Steps.{Event, op_of, step}
 use Rattle.mega_replica.specs.Following.{progress_at}
 use Rattle.mega_node_laws.specs.Acted.{acted_on}
 use Rattle.mega_node_laws.specs.Own.{HasOwnRows}
+use Rattle.mega_world.specs.Plain.{is_of_leases, shows_leases}
 use Rattle.mega_core.specs.declared.fault.StepFault.{StepFault}
 use Rattle.mega_core.specs.declared.fault.StepFault.TheVariants as fault
 use Rattle.mega_core.specs.declared.node.Node.{Node}
@@ -28,7 +29,9 @@ use Rattle.mega_promises.specs.Runs.{set_at, setting}
 use Rattle.mega_world.specs.declared.fault.WorldFault.TheVariants.{Unbuilt}
 use Rattle.mega_world.specs.Faults.{fault_of}
 use Rattle.mega_world.specs.Members.{AreMembers, IsMember, Makes}
+use Rattle.mega_world.specs.Shown.{any_of_leases}
 use Rattle.mega_world.proofs.Joining.{joined}
+use Rattle.mega_world.proofs.Noted.{any_met}
 
 -- what a node keeps is told by a node of the rules
 abbrev pub IsTold : {R V : Type 0} → (V → Versions) → Setting → Node R V → RuleNode → Type 0
@@ -36,7 +39,7 @@ IsTold version s node ruled = Represents s node.replica.voter.logs.kept node.rep
 
 -- the handlers do not matter to it
 any_handlers : {R V : Type 0} (version : V → Versions) (c : Cluster) (me : ℕ) (g h : Meanings) (node : Node R V) (ruled : RuleNode) → IsTold version (setting c g me) node ruled → IsTold version (setting c h me) node ruled
-any_handlers version c me g h node ruled r = record { kind = r.kind; tells = r.tells; leased = r.leased; follows = r.follows; opened = r.opened; begun_is = r.begun_is; about = r.about; built = r.built }
+any_handlers version c me g h node ruled r = record { full = r.full; tells = r.tells; leased = r.leased; follows = r.follows; opened = r.opened; begun_is = r.begun_is; about = r.about; built = r.built }
 
 -- what a node's own clauses say of a step, where this is known of it
 pub record Steps {R V : Type 0} (version : V → Versions) (wanted : Setting → RuleNode → Type 0) (node stepped : Node R V) (made : Step) (event : Event) : Type 0 where
@@ -101,16 +104,25 @@ pub member_at : {R V : Type 0} (version : V → Versions) (c : Cluster) (nodes :
 member_at version c nodes ruled i me node is there all = subst (λ (n : ℕ). IsMember version c n node (ruled n)) is (all.each i node there)
 
 pub makes_step : {R V : Type 0} (version : V → Versions) (wanted : Setting → RuleNode → Type 0) (c : Cluster) (h : Meanings) (nodes : List (Node R V)) (ruled : ℕ → RuleNode) (i me : ℕ) (node stepped : Node R V) (made : Step) (event : Event) → i + 1 ≡ me → slice_get nodes i ≡ Some node
-    → AreMembers version c nodes ruled → HasOwnRows c.schema (log_of (acted_on (setting c h me) (ruled me) event)) → wanted (setting c h me) (ruled me) → Steps version wanted node stepped made event
+    → AreMembers version c nodes ruled → HasOwnRows c.schema (log_of (acted_on (setting c h me) (ruled me) event)) → wanted (setting c h me) (ruled me) → Steps version wanted node stepped made event → any_of_leases made.notes ≡ false
     → Makes version c (set nodes i stepped) ruled me made (step (setting c h me) (ruled me) event)
-makes_step {R} {V} version wanted c h nodes ruled i me node stepped made event is there all own known steps =
-    let one = member_at version c nodes ruled i me node is there all in record {
-      notes = notes_made version wanted c h me node stepped made event (ruled me) one own known steps;
+makes_step {R} {V} version wanted c h nodes ruled i me node stepped made event is there all own known steps plain =
+    let one = member_at version c nodes ruled i me node is there all in
+    let notes = notes_made version wanted c h me node stepped made event (ruled me) one own known steps in record {
+      notes = notes;
       sends = sends_made version wanted c h me node stepped made event (ruled me) one own known steps;
+      plain = ap (list_any is_of_leases) (sym notes) ∙ any_met made.notes ∙ plain;
       members = subst (λ (n : ℕ). AreMembers version c (set nodes i stepped) (set_at ruled n (step (setting c h me) (ruled me) event).node)) is
           (joined version c nodes ruled i stepped (step (setting c h me) (ruled me) event).node all
           (subst (λ (n : ℕ). IsMember version c n stepped (step (setting c h me) (ruled me) event).node) (sym is) (member_made version wanted c h me node stepped made event (ruled me) one own known steps)));
     }
+
+-- notes of leases are those of the rules
+pub leases_made : {R V : Type 0} (version : V → Versions) (wanted : Setting → RuleNode → Type 0) (c : Cluster) (h : Meanings) (nodes : List (Node R V)) (ruled : ℕ → RuleNode) (i me : ℕ) (node stepped : Node R V) (made : Step) (event : Event) → i + 1 ≡ me → slice_get nodes i ≡ Some node
+    → AreMembers version c nodes ruled → HasOwnRows c.schema (log_of (acted_on (setting c h me) (ruled me) event)) → wanted (setting c h me) (ruled me) → Steps version wanted node stepped made event → any_of_leases made.notes ≡ true
+    → shows_leases (step (setting c h me) (ruled me) event) ≡ true
+leases_made version wanted c h nodes ruled i me node stepped made event is there all own known steps shows =
+    ap (list_any is_of_leases) (sym (notes_made version wanted c h me node stepped made event (ruled me) (member_at version c nodes ruled i me node is there all) own known steps)) ∙ any_met made.notes ∙ shows
 
 -- a fault that is not built yet is one of these
 pub unbuilt_by : {A : Type 0} (why : StepFault) → fault_of why ≡ Some Unbuilt → (why ≡ fault.Unbuilt → A) → (why ≡ fault.Stranger → A) → (why ≡ fault.Late → A) → A

@@ -13,7 +13,7 @@ use Rattle.mega_member_laws.specs.Nodes.{EventWithin, StaysWithin, StepWithin}
 use Rattle.mega_member_laws.proofs.Steps.{step_within}
 use Rattle.mega_promises.specs.Items.{numbered, shown}
 use Rattle.mega_promises.specs.Messages.{is_dropped, message_of}
-use Rattle.mega_promises.specs.Runs.{Standing, because, receiver_down, refusal, set_at, setting, up, whole_step, with_items}
+use Rattle.mega_promises.specs.Runs.{Standing, because, receiver_down, refusal, setting, up, whole_step}
 use Rattle.mega_world.specs.Within.{RunsWithin}
 use Rattle.mega_world.proofs.Forming.{step_all}
 
@@ -23,12 +23,12 @@ made_within c h now me event within is taken = step_within (setting c h me) (now
 
 -- and the run with it
 pub within_on : (c : Cluster) (now : Standing) (me : ℕ) (own : List Item) (made : Step) → RunsWithin c now → StepWithin c made → ((number : ℕ) → message_of (onto own now.tape) number ≡ message_of now.tape number)
-    → (whole_step c now me own made).tape ≡ onto (numbered (sent_count now.tape + 1) made.sends) (with_items c (set_at now.node me made.node) (onto own now.tape) (flat_map (shown me) made.notes))
+    → (whole_step c now me own made).tape ≡ onto (numbered (sent_count now.tape + 1) made.sends) (onto (flat_map (shown me) made.notes) (onto own now.tape))
     → RunsWithin c (whole_step c now me own made)
 within_on c now me own made within stays same shows = record {
   cells = within.cells;
   nodes = λ other. by (me == other) other;
-  messages = step_all (IsWithin c) c (set_at now.node me made.node) me own now.tape (whole_step c now me own made).tape made.notes made.sends within.messages stays.sends same shows;
+  messages = step_all (IsWithin c) me own now.tape (whole_step c now me own made).tape made.notes made.sends within.messages stays.sends same shows;
 }
   where
     by : (t : Bool) (other : ℕ) → StaysWithin c (cond t made.node (now.node other))

@@ -1,5 +1,5 @@
 -- What the format of messages can hold, of a run and of an event.
-use Rattle.std.specs.Prelude.{◌≡◌, ◌≤◌, ℕ, Some}
+use Rattle.std.specs.Prelude.{◌≡◌, ℕ, Some}
 use Rattle.mega_cluster.specs.declared.cluster.Cluster.{Cluster}
 use Rattle.mega_handler.specs.Named.{Meanings}
 use Rattle.mega_node_laws.specs.Own.{HasOwnRows}
@@ -14,10 +14,9 @@ use Rattle.mega_format_laws.specs.Requests.{AreHandlers, IsRequest}
 use Rattle.mega_promises.specs.Messages.{message_of}
 use Rattle.mega_promises.specs.Runs.{Cuts, Standing, after_event}
 
--- the cluster, what its nodes met and what they sent are of the format, and a lease is no longer than a header has it
+-- the cluster, what its nodes met and what they sent are of the format
 pub record IsFormed (c : Cluster) (now : Standing) : Type 0 where
   pub cluster : IsCluster c
-  pub lease : c.lease ≤ 1000000000
   pub nodes : (me : ℕ) → IsNode (now.node me)
   pub messages : (number : ℕ) (message : Message) → message_of now.tape number ≡ Some message → IsMessage message
 

@@ -4,10 +4,8 @@ pub mod AllUp
 pub mod Waiting
 pub mod Faults
 pub mod Formed
-pub mod Lapses
 pub mod Members
 pub mod Opening
-pub mod Showing
 pub mod Shown
 pub mod Stands
 pub mod Unbuilt

@@ -10,7 +10,6 @@ use Rattle.mega_promises.specs.Runs.{Standing}
 use Rattle.mega_world.specs.AllUp.{AllUp}
 use Rattle.mega_world.specs.declared.world.World.{World}
 use Rattle.mega_world.specs.Formed.{IsFormed}
-use Rattle.mega_world.specs.Lapses.{KnowsLeases}
 use Rattle.mega_world.specs.Members.{AreMembers}
 use Rattle.mega_world.specs.Within.{RunsWithin}
 
@@ -18,11 +17,10 @@ use Rattle.mega_world.specs.Within.{RunsWithin}
 abbrev pub version_of : VersionedRows → Versions
 version_of rows = version_in rows.lines
 
--- the nodes, what is carried between them, the tape, and what tells whether leases are safe are those of the run
+-- the nodes, what is carried between them and the tape are those of the run
 pub record IsAt (c : Cluster) (world : World) (items : List Item) (now : Standing) : Type 0 where
   pub nodes : AreMembers version_of c world.nodes.items now.node
   pub mail : AllUp c world.mail now
   pub tape : newest items ≡ now.tape
-  pub leases : KnowsLeases world.safety now.node now.tape
   pub formed : IsFormed c now
   pub within : RunsWithin c now

@@ -1,4 +1,3 @@
-//! Makes one event happen in a world of nodes, and puts its items on the tape.
 ghost use Rattle.std.specs.Prelude.{◌≡◌, ℕ, OnOk, Err, Some, None};
 ghost use Rattle.std.specs.Prelude.{All};
 ghost use Rattle.mega_cluster.specs.declared.cluster.Cluster.{Cluster};

@@ -1,18 +1,18 @@
-//! An operation begins at a node, or is refused.
-ghost use Rattle.std.specs.Prelude.{◌≡◌, ◌≢◌, ◌≤◌, ℕ, List, length, IfNone, OnOk, Err, Some, None, true, false};
+ghost use Rattle.std.specs.Prelude.{◌≡◌, ◌≢◌, ◌≤◌, ℕ, List, length, IfNone, OnOk, Err, Some, None, true};
 ghost use Rattle.std.specs.Prelude.{All};
 ghost use Rattle.mega_cluster.specs.declared.cluster.Cluster.{Cluster};
 ghost use Rattle.mega_handler.specs.Named.{Meanings};
 ghost use Rattle.mega_schedule.specs.declared.world_event.WorldEvent.TheVariants as event;
 ghost use Rattle.mega_transcript.specs.Lines.{HasLine};
-ghost use Rattle.mega_actions.specs.Built.{is_built};
 ghost use Rattle.mega_rules.specs.Members.{is_node};
 ghost use Rattle.mega_promises.specs.Runs.{Cuts, Standing, after_event, is_empty, names_nothing, refusal, up};
 ghost use Rattle.mega_world.specs.declared.fault.WorldFault.TheVariants.{Refused, Unbuilt};
 ghost use Rattle.mega_world.specs.Formed.{IsSound};
 ghost use Rattle.mega_world.specs.Stands.{IsAt};
+ghost use Rattle.mega_world.specs.Unbuilt.{IsUnbuilt};
 
 use crate::fault::WorldFault;
+use crate::noting::show;
 use crate::stepping::begin_at;
 use crate::world::{World, is_node};
 use mega_base::{GroupId, NodeId, Text};
@@ -83,7 +83,8 @@ impl World {
         ensures refused { (why : ℕ) → result ≡ Err (Refused why) → (c : Cluster) (now : Standing) → IsAt c self.old tape.old.items now → refusal c now (event.Begin node request text) ≡ Some why }
         ensures world { (why : ℕ) → result ≡ Err (Refused why) → self.new ≡ self.old }
         ensures tape { (why : ℕ) → result ≡ Err (Refused why) → tape.new.items ≡ tape.old.items }
-        ensures unbuilt { result ≡ Err Unbuilt → is_built request ≡ false }
+        ensures unbuilt { result ≡ Err Unbuilt → (c : Cluster) (h : Meanings) (cuts : Cuts) (now : Standing) → IsAt c self.old tape.old.items now → IsSound c h cuts now (event.Begin node request text) →
+            IsUnbuilt c h cuts now (event.Begin node request text) }
     {
         match refusal(self.nodes.as_slice().len(), node, &request) {
             Some(why) => Err(WorldFault::Refused { why }),
@@ -107,14 +108,15 @@ impl World {
         ensures lines { OnOk result ((c : Cluster) (h : Meanings) (cuts : Cuts) (now : Standing) → IsAt c self.old tape.old.items now → IsSound c h cuts now (event.Begin node request text) →
             All HasLine tape.old.items → All HasLine tape.new.items) }
         ensures served { (why : ℕ) → result ≢ Err (Refused why) }
-        ensures unbuilt { result ≡ Err Unbuilt → is_built request ≡ false }
+        ensures unbuilt { result ≡ Err Unbuilt → (c : Cluster) (h : Meanings) (cuts : Cuts) (now : Standing) → IsAt c self.old tape.old.items now → IsSound c h cuts now (event.Begin node request text) →
+            IsUnbuilt c h cuts now (event.Begin node request text) }
     {
         let (op, made) = match begin_at(alloc, &mut self.nodes, node.0, request, &text) {
             Ok(begun) => begun,
             Err(fault) => return Err(fault),
         };
         tape.items.push(Item::Begin { op, text })?;
-        self.show(alloc, node.0, made, tape)?;
+        show(alloc, &mut self.mail, node.0, made, tape)?;
         Ok(())
     }
 }

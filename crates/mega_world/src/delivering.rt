@@ -1,4 +1,3 @@
-//! A message is handed to its receiver, or is refused.
 ghost use Rattle.std.specs.Prelude.{◌≡◌, ◌≢◌, ◌≤◌, ℕ, length, IfNone, IfSome, OnOk, Err, Some, None, true};
 ghost use Rattle.std.specs.Prelude.{All};
 ghost use Rattle.mega_cluster.specs.declared.cluster.Cluster.{Cluster};
@@ -13,9 +12,11 @@ ghost use Rattle.mega_world.specs.AllUp.{AllUp};
 ghost use Rattle.mega_world.specs.declared.fault.WorldFault.TheVariants.{Refused, Unbuilt};
 ghost use Rattle.mega_world.specs.Formed.{IsSound};
 ghost use Rattle.mega_world.specs.Stands.{IsAt};
+ghost use Rattle.mega_world.specs.Unbuilt.{IsUnbuilt};
 
 use crate::fault::WorldFault;
 use crate::mail::Mail;
+use crate::noting::show;
 use crate::stepping::take_at;
 use crate::world::{World, is_node};
 use mega_transcript::{Item, Tape};
@@ -55,7 +56,8 @@ impl World {
         ensures lines { OnOk result ((c : Cluster) (h : Meanings) (cuts : Cuts) (now : Standing) → IsAt c self.old tape.old.items now → IsSound c h cuts now (event.Deliver number) →
             All HasLine tape.old.items → All HasLine tape.new.items) }
         ensures served { (why : ℕ) → result ≢ Err (Refused why) }
-        ensures built { result ≡ Err Unbuilt → (c : Cluster) (now : Standing) → IsAt c self.old tape.old.items now → refusal c now (event.Deliver number) ≡ None → ⊥ }
+        ensures unbuilt { result ≡ Err Unbuilt → (c : Cluster) (h : Meanings) (cuts : Cuts) (now : Standing) → IsAt c self.old tape.old.items now → IsSound c h cuts now (event.Deliver number) →
+            refusal c now (event.Deliver number) ≡ None → IsUnbuilt c h cuts now (event.Deliver number) }
     {
         let message = match sent_to(&self.mail, self.nodes.as_slice().len(), number) {
             Some(message) => message,
@@ -68,7 +70,7 @@ impl World {
         };
         self.mail.take(number);
         tape.items.push(Item::Taken { number })?;
-        self.show(alloc, me, made, tape)?;
+        show(alloc, &mut self.mail, me, made, tape)?;
         Ok(())
     }
 
@@ -87,7 +89,8 @@ impl World {
         ensures refused { (why : ℕ) → result ≡ Err (Refused why) → (c : Cluster) (now : Standing) → IsAt c self.old tape.old.items now → refusal c now (event.Deliver number) ≡ Some why }
         ensures world { (why : ℕ) → result ≡ Err (Refused why) → self.new ≡ self.old }
         ensures tape { (why : ℕ) → result ≡ Err (Refused why) → tape.new.items ≡ tape.old.items }
-        ensures built { result ≡ Err Unbuilt → (c : Cluster) (now : Standing) → IsAt c self.old tape.old.items now → ⊥ }
+        ensures unbuilt { result ≡ Err Unbuilt → (c : Cluster) (h : Meanings) (cuts : Cuts) (now : Standing) → IsAt c self.old tape.old.items now → IsSound c h cuts now (event.Deliver number) →
+            IsUnbuilt c h cuts now (event.Deliver number) }
         ensures allowed { result ≡ Err Unbuilt → (c : Cluster) (now : Standing) → IsAt c self.old tape.old.items now → refusal c now (event.Deliver number) ≡ None }
     {
         match self

@@ -1,4 +1,3 @@
-//! Waiting messages are delivered, the smallest number first, up to a limit.
 ghost use Rattle.std.specs.Prelude.{◌≡◌, ◌≢◌, ℕ, OnOk, Err};
 ghost use Rattle.std.specs.Prelude.{All};
 ghost use Rattle.mega_cluster.specs.declared.cluster.Cluster.{Cluster};
@@ -9,6 +8,7 @@ ghost use Rattle.mega_promises.specs.Runs.{Cuts, Standing, after_event};
 ghost use Rattle.mega_world.specs.declared.fault.WorldFault.TheVariants.{Refused, Unbuilt};
 ghost use Rattle.mega_world.specs.Formed.{IsSound};
 ghost use Rattle.mega_world.specs.Stands.{IsAt};
+ghost use Rattle.mega_world.specs.Unbuilt.{IsUnbuilt};
 
 use crate::fault::WorldFault;
 use crate::world::World;
@@ -28,7 +28,8 @@ impl World {
         ensures lines { OnOk result ((c : Cluster) (h : Meanings) (cuts : Cuts) (now : Standing) → IsAt c self.old tape.old.items now → IsSound c h cuts now (event.Drain most) →
             All HasLine tape.old.items → All HasLine tape.new.items) }
         ensures served { (why : ℕ) → result ≢ Err (Refused why) }
-        ensures built { result ≡ Err Unbuilt → (c : Cluster) (h : Meanings) (cuts : Cuts) (now : Standing) → IsAt c self.old tape.old.items now → IsSound c h cuts now (event.Drain most) → ⊥ }
+        ensures unbuilt { result ≡ Err Unbuilt → (c : Cluster) (h : Meanings) (cuts : Cuts) (now : Standing) → IsAt c self.old tape.old.items now → IsSound c h cuts now (event.Drain most) →
+            IsUnbuilt c h cuts now (event.Drain most) }
     {
         for _turn in 0..most {
             let number = match self.mail.next_delivery(self.nodes.as_slice().len()) {

@@ -1,4 +1,3 @@
-//! Why an event does not happen in a world.
 ghost use Rattle.std.specs.Prelude.{◌≡◌, Some, None};
 ghost use Rattle.mega_core.specs.Faults.{of_store};
 ghost use Rattle.mega_world.specs.Faults.{fault_of};
@@ -13,7 +12,7 @@ pub enum WorldFault {
     /// dropped; 5, the node's clock showed a later time; 7, the request names no group or index. It is never 1, that a message's
     /// receiver is down: each goes to a node, and all are up.
     Refused { why: u8 },
-    /// A crash, a start, a fuse or such a request is not served yet. After this and all that follow the world is not used again.
+    /// It is not served yet. After this and all that follow the world is not used again.
     Unbuilt,
     /// An allocation was refused.
     NoMemory,

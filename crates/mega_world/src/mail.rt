@@ -1,4 +1,3 @@
-//! All messages between the nodes, numbered from 1, with those that wait and those that are dropped.
 ghost use Rattle.std.specs.Prelude.{◌≡◌, ◌+◌, ◌++◌, [], ◌∷◌, List, true, false, length, OnOk};
 ghost use Rattle.std.specs.Option.{option_copied};
 ghost use Rattle.mega_promises.specs.Items.{numbered};

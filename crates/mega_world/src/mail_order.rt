@@ -1,4 +1,3 @@
-//! The message that a drain delivers next.
 ghost use Rattle.std.specs.Prelude.{◌≡◌, length};
 ghost use Rattle.mega_cluster.specs.declared.cluster.Cluster.{Cluster};
 ghost use Rattle.mega_promises.specs.Messages.{message_of, next_delivery, receiver_up};

@@ -1,4 +1,3 @@
-//! Why a message is not dropped or not delivered.
 ghost use Rattle.std.specs.Prelude.{◌≡◌, None, length};
 ghost use Rattle.mega_cluster.specs.declared.cluster.Cluster.{Cluster};
 ghost use Rattle.mega_promises.specs.Runs.{Standing, refusal};

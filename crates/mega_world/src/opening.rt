@@ -1,11 +1,9 @@
-//! A world begins: all nodes start for the first time, with nothing on their devices.
-ghost use Rattle.std.specs.Prelude.{◌≡◌, ◌⊎◌, ◌≤◌, ◌<◌, ◌+◌, ◌^◌, ◌++◌, ◌∷◌, [], length, true, IfOk, OnOk, OnErr, Err};
+ghost use Rattle.std.specs.Prelude.{◌≡◌, ◌⊎◌, ◌≤◌, ◌<◌, ◌+◌, ◌^◌, ◌++◌, ◌∷◌, ℕ, [], length, true, IfOk, OnOk, OnErr, Err};
 ghost use Rattle.std.specs.Prelude.{All};
 ghost use Rattle.mega_handler.specs.Named.{Meanings};
 ghost use Rattle.mega_transcript.specs.Lines.{HasLine};
 ghost use Rattle.mega_transcript.specs.Tape.{newest};
-ghost use Rattle.mega_core.specs.Served.{IsServed};
-ghost use Rattle.mega_rules.specs.Members.{is_node};
+ghost use Rattle.mega_rules.specs.Members.{is_full, is_node};
 ghost use Rattle.mega_rules.specs.Steps.{start};
 ghost use Rattle.mega_promises.specs.Runs.{opening, setting};
 ghost use Rattle.mega_world.specs.declared.fault.WorldFault.TheVariants.{NoMemory as OutOfMemory};
@@ -15,7 +13,6 @@ ghost use Rattle.mega_world.specs.Stands.{IsAt, version_of};
 
 use crate::fault::{WorldFault, fault_of};
 use crate::mail::Mail;
-use crate::safety::Safety;
 use crate::world::{Member, World};
 use mega_base::{Copied, NoMemory, NodeId};
 use mega_cluster::Cluster;
@@ -26,10 +23,12 @@ use mega_transcript::{Item, Tape};
 use mega_wal::Logs;
 use std::alloc::Global;
 
-/// A node of a cluster at its first start, over logs and rows in memory that hold nothing.
+/// A full node of a cluster at its first start, over logs and rows in memory that hold nothing.
 fn started(alloc: Global, cluster: &Cluster, me: u8) -> Result<Member, WorldFault>
-    requires served { IsServed cluster.now }
-    requires member { is_node cluster.now me ≡ true }
+    requires few { length cluster.now.nodes ≤ 9 }
+    requires cells { (cluster.now.cells ≡ 1) ⊎ (cluster.now.cells ≡ 3) ⊎ (cluster.now.cells ≡ 5) }
+    requires fits { cluster.now.lease + cluster.now.margin < 2 ^ 64 }
+    requires full { is_full cluster.now me ≡ true }
     ensures node { IfOk result (λ node. (h : Meanings) → IsMember version_of cluster.now me node (start (setting cluster.now h me) 1 [] [])) }
     ensures only { OnErr result (result ≡ Err OutOfMemory) }
 {
@@ -56,7 +55,9 @@ fn add(nodes: &mut Vec<Member>, node: Member) -> Result<(), NoMemory>
 fn start_all(alloc: Global, cluster: &Cluster, tape: &mut Tape) -> Result<Vec<Member>, WorldFault>
     requires tape { tape.old.items ≡ [] }
     requires few { length cluster.now.nodes ≤ 9 }
-    requires served { IsServed cluster.now }
+    requires cells { (cluster.now.cells ≡ 1) ⊎ (cluster.now.cells ≡ 3) ⊎ (cluster.now.cells ≡ 5) }
+    requires fits { cluster.now.lease + cluster.now.margin < 2 ^ 64 }
+    requires full { (me : ℕ) → is_node cluster.now me ≡ true → is_full cluster.now me ≡ true }
     ensures count { IfOk result (λ nodes. length nodes.items ≡ length cluster.now.nodes) }
     ensures nodes { IfOk result (λ nodes. AreStarted version_of cluster.now nodes.items) }
     ensures tape { OnOk result (newest tape.new.items ≡ first_starts (length cluster.now.nodes)) }
@@ -81,15 +82,15 @@ fn start_all(alloc: Global, cluster: &Cluster, tape: &mut Tape) -> Result<Vec<Me
 }
 
 impl World {
-    /// A cluster, of nodes of any kinds, all started for the first time on empty disks, with their starts on the tape, which is empty before.
+    /// A cluster of full nodes, all started for the first time on empty disks, with their starts on the tape, which is empty before.
     pub fn new(alloc: Global, cluster: &Cluster, tape: &mut Tape) -> Result<World, WorldFault>
         requires tape { tape.old.items ≡ [] }
         requires few { length cluster.now.nodes ≤ 9 }
         requires cells { (cluster.now.cells ≡ 1) ⊎ (cluster.now.cells ≡ 3) ⊎ (cluster.now.cells ≡ 5) }
         requires fits { cluster.now.lease + cluster.now.margin < 2 ^ 64 }
-        requires lease { cluster.now.lease ≤ 1000000000 }
         requires limit { (cluster.now.limit).0 ≤ 1000000 }
         requires housed { cluster.now.cells ≤ length cluster.now.nodes }
+        requires full { (me : ℕ) → is_node cluster.now me ≡ true → is_full cluster.now me ≡ true }
         ensures state { IfOk result (λ world. (h : Meanings) → IsAt cluster.now world tape.new.items (opening cluster.now h)) }
         ensures lines { OnOk result (All HasLine tape.new.items) }
         ensures only { OnErr result (result ≡ Err OutOfMemory) }
@@ -101,7 +102,6 @@ impl World {
         Ok(World {
             nodes,
             mail: Mail::new(alloc),
-            safety: Safety::new(alloc),
         })
     }
 }

@@ -1,5 +1,4 @@
-//! A node of the world takes a message, begins an operation or ticks.
-ghost use Rattle.std.specs.Prelude.{◌≡◌, ◌≢◌, ◌⊎◌, ◌≤◌, ℕ, false, length, IfOk, Err};
+ghost use Rattle.std.specs.Prelude.{◌≡◌, ◌≢◌, ◌⊎◌, ◌≤◌, ℕ, true, false, length, IfOk, Err};
 ghost use Rattle.mega_cluster.specs.declared.cluster.Cluster.{Cluster};
 ghost use Rattle.mega_handler.specs.Named.{Meanings};
 ghost use Rattle.mega_node_laws.specs.Acted.{acted_on, decision_in};
@@ -9,6 +8,7 @@ ghost use Rattle.mega_actions.specs.Built.{is_built};
 ghost use Rattle.mega_rules.specs.Logs.{log_of};
 ghost use Rattle.mega_rules.specs.Operations.{Node as RuleNode};
 ghost use Rattle.mega_rules.specs.Steps.{Begin, Take, Tick, op_of, step};
+ghost use Rattle.mega_world.specs.Plain.{shows_leases};
 ghost use Rattle.mega_core.specs.Placed.{IsPlaced};
 ghost use Rattle.mega_promises.specs.Runs.{setting};
 ghost use Rattle.mega_world.specs.declared.fault.WorldFault.TheVariants.{Refused, Unbuilt};
@@ -16,6 +16,7 @@ ghost use Rattle.mega_world.specs.Members.{AreMembers, IsMember, Makes};
 ghost use Rattle.mega_world.specs.Stands.{version_of};
 
 use crate::fault::{WorldFault, fault_of};
+use crate::noting::shows_leases;
 use crate::world::Member;
 use mega_base::{NodeId, OpId, Text};
 use mega_core::Step;
@@ -34,13 +35,19 @@ pub(crate) fn take_at(
     ensures made { IfOk result (λ made. (c : Cluster) (h : Meanings) (ruled : ℕ → RuleNode) → AreMembers version_of c nodes.old.items ruled →
         HasOwnRows c.schema (log_of (acted_on (setting c h message.now.to) (ruled message.now.to) (Take message.now))) → IsPlaced (decision_in (setting c h message.now.to) (ruled message.now.to) message.now) →
         Makes version_of c nodes.new.items ruled message.now.to made (step (setting c h message.now.to) (ruled message.now.to) (Take message.now))) }
-    ensures unbuilt { result ≡ Err Unbuilt → (c : Cluster) (ruled : ℕ → RuleNode) → AreMembers version_of c nodes.old.items ruled →
-        IsByStranger message.now.from message.now.body ⊎ IsLate c message.now.body }
+    ensures unbuilt { result ≡ Err Unbuilt → (c : Cluster) (h : Meanings) (ruled : ℕ → RuleNode) → AreMembers version_of c nodes.old.items ruled →
+        HasOwnRows c.schema (log_of (acted_on (setting c h message.now.to) (ruled message.now.to) (Take message.now))) → IsPlaced (decision_in (setting c h message.now.to) (ruled message.now.to) message.now) →
+        IsByStranger message.now.from message.now.body ⊎ (IsLate c message.now.body ⊎ (shows_leases (step (setting c h message.now.to) (ruled message.now.to) (Take message.now)) ≡ true)) }
     ensures served { (why : ℕ) → result ≢ Err (Refused why) }
 {
     let node = &mut nodes[usize::from(message.to) - 1];
     match node.take(alloc, message) {
-        Ok(made) => Ok(made),
+        Ok(made) => {
+            if shows_leases(&made.notes) {
+                return Err(WorldFault::Unbuilt);
+            }
+            Ok(made)
+        }
         Err(fault) => Err(fault_of(fault)),
     }
 }
@@ -70,13 +77,20 @@ pub(crate) fn begin_at(
     ensures made { IfOk result (λ begun. (c : Cluster) (h : Meanings) (ruled : ℕ → RuleNode) → AreMembers version_of c nodes.old.items ruled →
         HasOwnRows c.schema (log_of (acted_on (setting c h me) (ruled me) (Begin request text.now))) →
         Makes version_of c nodes.new.items ruled me begun.1 (step (setting c h me) (ruled me) (Begin request text.now))) }
-    ensures unbuilt { result ≡ Err Unbuilt → is_built request ≡ false }
+    ensures unbuilt { result ≡ Err Unbuilt → (c : Cluster) (h : Meanings) (ruled : ℕ → RuleNode) → AreMembers version_of c nodes.old.items ruled →
+        HasOwnRows c.schema (log_of (acted_on (setting c h me) (ruled me) (Begin request text.now))) →
+        (is_built request ≡ false) ⊎ (shows_leases (step (setting c h me) (ruled me) (Begin request text.now)) ≡ true) }
     ensures served { (why : ℕ) → result ≢ Err (Refused why) }
 {
     let node = &mut nodes[usize::from(me) - 1];
     let op = op_of(node);
     match node.begin(alloc, request, text) {
-        Ok(made) => Ok((op, made)),
+        Ok(made) => {
+            if shows_leases(&made.notes) {
+                return Err(WorldFault::Unbuilt);
+            }
+            Ok((op, made))
+        }
         Err(fault) => Err(fault_of(fault)),
     }
 }
@@ -93,12 +107,19 @@ pub(crate) fn tick_at(
     ensures made { IfOk result (λ made. (c : Cluster) (h : Meanings) (ruled : ℕ → RuleNode) → AreMembers version_of c nodes.old.items ruled →
         HasOwnRows c.schema (log_of (acted_on (setting c h me) (ruled me) (Tick clock))) →
         Makes version_of c nodes.new.items ruled me made (step (setting c h me) (ruled me) (Tick clock))) }
-    ensures built { result ≡ Err Unbuilt → (c : Cluster) (ruled : ℕ → RuleNode) → AreMembers version_of c nodes.old.items ruled → ⊥ }
+    ensures unbuilt { result ≡ Err Unbuilt → (c : Cluster) (h : Meanings) (ruled : ℕ → RuleNode) → AreMembers version_of c nodes.old.items ruled →
+        HasOwnRows c.schema (log_of (acted_on (setting c h me) (ruled me) (Tick clock))) →
+        shows_leases (step (setting c h me) (ruled me) (Tick clock)) ≡ true }
     ensures served { (why : ℕ) → result ≢ Err (Refused why) }
 {
     let node = &mut nodes[usize::from(me) - 1];
     match node.tick(alloc, clock) {
-        Ok(made) => Ok(made),
+        Ok(made) => {
+            if shows_leases(&made.notes) {
+                return Err(WorldFault::Unbuilt);
+            }
+            Ok(made)
+        }
         Err(fault) => Err(fault_of(fault)),
     }
 }

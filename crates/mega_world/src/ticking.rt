@@ -1,4 +1,3 @@
-//! The clock of a node shows a time, unless it showed a later one.
 ghost use Rattle.std.specs.Prelude.{◌≡◌, ◌≢◌, ◌≤◌, ℕ, length, IfNone, OnOk, Err, Some, None};
 ghost use Rattle.std.specs.Prelude.{All};
 ghost use Rattle.mega_cluster.specs.declared.cluster.Cluster.{Cluster};
@@ -12,8 +11,10 @@ ghost use Rattle.mega_world.specs.declared.fault.WorldFault.TheVariants.{Refused
 ghost use Rattle.mega_world.specs.Formed.{IsSound};
 ghost use Rattle.mega_world.specs.Members.{AreMembers};
 ghost use Rattle.mega_world.specs.Stands.{IsAt, version_of};
+ghost use Rattle.mega_world.specs.Unbuilt.{IsUnbuilt};
 
 use crate::fault::WorldFault;
+use crate::noting::show;
 use crate::stepping::tick_at;
 use crate::world::{Member, World, is_node};
 use mega_base::NodeId;
@@ -61,7 +62,8 @@ impl World {
         ensures refused { (why : ℕ) → result ≡ Err (Refused why) → (c : Cluster) (now : Standing) → IsAt c self.old tape.old.items now → refusal c now (event.Tick node clock) ≡ Some why }
         ensures world { (why : ℕ) → result ≡ Err (Refused why) → self.new ≡ self.old }
         ensures tape { (why : ℕ) → result ≡ Err (Refused why) → tape.new.items ≡ tape.old.items }
-        ensures built { result ≡ Err Unbuilt → (c : Cluster) (now : Standing) → IsAt c self.old tape.old.items now → ⊥ }
+        ensures unbuilt { result ≡ Err Unbuilt → (c : Cluster) (h : Meanings) (cuts : Cuts) (now : Standing) → IsAt c self.old tape.old.items now → IsSound c h cuts now (event.Tick node clock) →
+            IsUnbuilt c h cuts now (event.Tick node clock) }
     {
         match refusal(self.nodes.as_slice(), node, clock) {
             Some(why) => Err(WorldFault::Refused { why }),
@@ -84,14 +86,15 @@ impl World {
         ensures lines { OnOk result ((c : Cluster) (h : Meanings) (cuts : Cuts) (now : Standing) → IsAt c self.old tape.old.items now → IsSound c h cuts now (event.Tick node clock) →
             All HasLine tape.old.items → All HasLine tape.new.items) }
         ensures served { (why : ℕ) → result ≢ Err (Refused why) }
-        ensures built { result ≡ Err Unbuilt → (c : Cluster) (now : Standing) → IsAt c self.old tape.old.items now → ⊥ }
+        ensures unbuilt { result ≡ Err Unbuilt → (c : Cluster) (h : Meanings) (cuts : Cuts) (now : Standing) → IsAt c self.old tape.old.items now → IsSound c h cuts now (event.Tick node clock) →
+            IsUnbuilt c h cuts now (event.Tick node clock) }
     {
         let made = match tick_at(alloc, &mut self.nodes, node.0, clock) {
             Ok(made) => made,
             Err(fault) => return Err(fault),
         };
         tape.items.push(Item::Tick { node, now: clock })?;
-        self.show(alloc, node.0, made, tape)?;
+        show(alloc, &mut self.mail, node.0, made, tape)?;
         Ok(())
     }
 }

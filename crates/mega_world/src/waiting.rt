@@ -1,4 +1,3 @@
-//! Whether no message of the world waits.
 ghost use Rattle.std.specs.Prelude.{◌≡◌, List, true, false};
 ghost use Rattle.mega_cluster.specs.declared.cluster.Cluster.{Cluster};
 ghost use Rattle.mega_transcript.specs.declared.item.Item.{Item as OnTape};

@@ -1,10 +1,8 @@
-//! A world: full nodes over memory, and all messages between them.
 ghost use Rattle.std.specs.Prelude.{◌≡◌, ◌≤◌, length, true};
 ghost use Rattle.mega_cluster.specs.declared.cluster.Cluster.{Cluster};
 ghost use Rattle.mega_rules.specs.Members.{is_node};
 
 use crate::mail::Mail;
-use crate::safety::Safety;
 use mega_core::Node;
 use mega_disk::MemRecords;
 use mega_rows::VersionedRows;
@@ -12,12 +10,11 @@ use mega_rows::VersionedRows;
 /// A node whose logs and rows are in memory.
 pub(crate) type Member = Node<MemRecords, VersionedRows>;
 
-/// The nodes of a cluster, all up, all messages between them, and what tells whether leases are safe.
+/// The nodes of a cluster, all full and up, and all messages between them.
 #[derive(Drop)]
 pub struct World {
     pub(crate) nodes: Vec<Member>,
     pub(crate) mail: Mail,
-    pub(crate) safety: Safety,
 }
 
 /// Whether a node is one of so many.

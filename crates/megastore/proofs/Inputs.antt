@@ -1,10 +1,10 @@
 -- How reading a line takes the first of the input's lines.
-use Rattle.std.proofs.Common.{◌≡◌, ◌≢◌, ℕ, ◌≤◌, ◌<◌, ◌==◌, if◌then◌else◌, Bool, true, false, Option, Some, None, List, [], ◌∷◌, ◌++◌, length, refl, sym, ◌∙◌, ap, append_assoc, append-nil, length-append, arith}
+use Rattle.std.proofs.Common.{◌≡◌, ◌≢◌, ℕ, ◌≤◌, ◌==◌, if◌then◌else◌, Bool, true, false, Option, Some, None, List, [], ◌∷◌, ◌++◌, length, refl, sym, ◌∙◌, ap, append_assoc, append-nil, length-append, arith}
 use Rattle.std.proofs.lemmas.Bool.Decides.{nat_tests}
 use Rattle.std.proofs.lemmas.List.Elements.{All-head, All-tail}
 use Rattle.mega_io.specs.declared.lines.Ended.TheVariants.{Feed, Input, Long}
 use Rattle.mega_io.specs.TextLines.{IsUnbroken, ReadsLine, close_line, lines_after, lines_of}
-use Rattle.megastore.specs.Known.{Follows, Ends, IsTooLong}
+use Rattle.megastore.specs.Replaying.{Follows, Ends, IsTooLong}
 
 pub other_byte : (byte : ℕ) → byte ≢ 10 → (byte == 10) ≡ false
 other_byte byte other = grind (arith, nat_tests)
@@ -52,16 +52,10 @@ nothing_left None new line most reads none = tt
 nothing_left (Some old) None line most reads none = absurd reads.0
 nothing_left (Some old) (Some new) line most reads none = ap lines_of (reads.0 ∙ ap (λ xs. xs ++ new) none ∙ reads.1)
 
--- the first line of an input of which more was read than this
-pub long_line : (most : ℕ) (old : List ℕ) (line more new : List ℕ) → old ≡ (line ++ more) ++ new → IsUnbroken line → most < length line
-    → (first : List ℕ) × (rest : List (List ℕ)) × (lines_of old ≡ first ∷ rest) × (most < length first)
-long_line most old line more new is unbroken long =
-    let some : line ≢ [] = λ none. let empty = ap length none in omega (arith, empty, long) in
-    let front = begun line (more ++ new) some in
-    (front.0, front.1, ap lines_of (is ∙ append_assoc line more new) ∙ lines_on [] line (more ++ new) unbroken ∙ front.2, omega (arith, front.3, long))
-
 pub too_long : (old new : Option (List ℕ)) (line : List ℕ) → ReadsLine 65536 old new line Long → IsTooLong old
 too_long None new line reads = tt
 too_long (Some old) None line reads = absurd reads.0.1
 too_long (Some old) (Some new) line reads =
-    long_line 65536 old line reads.0.0 new reads.0.1 reads.1 reads.2
+    let some : line ≢ [] = λ none. let empty = ap length none in let long = reads.2 in omega arith in
+    let front = begun line (reads.0.0 ++ new) some in
+    (front.0, front.1, ap lines_of (reads.0.1 ∙ append_assoc line reads.0.0 new) ∙ lines_on [] line (reads.0.0 ++ new) reads.1 ∙ front.2, omega (arith, front.3, reads.2))

@@ -1,15 +1,7 @@
 -- The last line of a run, which tells of its stop, and the line that tells how the program is used.
 use Rattle.std.specs.Prelude.{ℕ, List, [], ◌++◌, codes, decimal}
 use Rattle.megastore.specs.declared.status.Stop.{Stop}
-use Rattle.megastore.specs.declared.status.Stop.TheVariants.{Header, Schedule, Refused, Unbuilt, Source, Sink, NoMemory}
-
--- the header breaks this rule
-abbrev pub header_line : ℕ → List ℕ
-header_line rule = codes "header " ++ (decimal rule ++ codes "\n")
-
--- this line is no event, for this reason
-abbrev pub schedule_line : ℕ → ℕ → List ℕ
-schedule_line line reason = codes "refused " ++ (decimal line ++ (codes " schedule " ++ (decimal reason ++ codes "\n")))
+use Rattle.megastore.specs.declared.status.Stop.TheVariants.{Refused, Unbuilt, Source, Sink, NoMemory}
 
 -- the world refuses this line, for this reason
 abbrev pub refused_line : ℕ → ℕ → List ℕ
@@ -21,8 +13,6 @@ unbuilt_line line = codes "unbuilt " ++ (decimal line ++ codes "\n")
 
 -- the last line of a stop, where it has one
 abbrev pub last_line : Stop → List ℕ
-last_line (Header rule) = header_line rule
-last_line (Schedule line reason) = schedule_line line reason
 last_line (Refused line why) = refused_line line why
 last_line (Unbuilt line) = unbuilt_line line
 last_line Source = []

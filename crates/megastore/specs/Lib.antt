@@ -1,10 +1,10 @@
-pub mod Headings
-pub mod Meanings
+pub mod PlainLines
+pub mod LineForms
+pub mod Users
 pub mod Texts
 pub mod Progress
 pub mod LastLines
 pub mod Running
 pub mod Replaying
-pub mod Known
 pub mod Statuses
 pub mod Stops

@@ -2,7 +2,7 @@
 use Rattle.std.specs.Prelude.{◌≡◌, ◌⊎◌, ℕ, Bool, false, nat_eq, codes, List, [], ◌∷◌}
 use Rattle.std.specs.Cmp.Lexicographic.{pointwise}
 use Rattle.megastore.specs.declared.status.Stop.{Stop}
-use Rattle.megastore.specs.declared.status.Stop.TheVariants.{Header, Schedule, Refused, Unbuilt, Source, Sink, NoMemory}
+use Rattle.megastore.specs.declared.status.Stop.TheVariants.{Refused, Unbuilt, Source, Sink, NoMemory}
 
 -- the one form of words that the program has
 abbrev pub is_form : List (List ℕ) → Bool
@@ -11,8 +11,6 @@ is_form _ = false
 
 -- the status of a stop
 abbrev pub status_of : Stop → ℕ
-status_of (Header rule) = 3
-status_of (Schedule line reason) = 4
 status_of (Refused line why) = 4
 status_of Source = 5
 status_of Sink = 6
@@ -25,4 +23,4 @@ IsCutStatus status = (status ≡ 5) ⊎ (status ≡ 6) ⊎ (status ≡ 8)
 
 -- the statuses with which the program ends
 abbrev pub IsStatus : ℕ → Type 0
-IsStatus status = (status ≡ 0) ⊎ (status ≡ 2) ⊎ (status ≡ 3) ⊎ (status ≡ 4) ⊎ (status ≡ 11) ⊎ IsCutStatus status
+IsStatus status = (status ≡ 0) ⊎ (status ≡ 2) ⊎ (status ≡ 4) ⊎ (status ≡ 11) ⊎ IsCutStatus status

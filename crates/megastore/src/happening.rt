@@ -1,53 +1,54 @@
-//! The event of a line happens in the world, or the line stops the replay.
-ghost use Rattle.std.specs.Prelude.{◌≡◌, ℕ, List, Ok, Err, IfErr, IfOk, OnOk, All};
-ghost use Rattle.mega_schedule.specs.Events.{event_of};
+ghost use Rattle.std.specs.Prelude.{◌≡◌, ◌≢◌, ℕ, List, None, Ok, Err, IfErr, IfOk, IfSome, OnOk, All};
 ghost use Rattle.mega_transcript.specs.Lines.{HasLine};
+ghost use Rattle.mega_transcript.specs.Tape.{newest};
+ghost use Rattle.mega_transcript.specs.declared.item.Item.{Item as OnTape};
 ghost use Rattle.mega_promises.specs.Runs.{Happening};
-ghost use Rattle.megastore.specs.Running.{IsStanding, StandsAfter, Went, stood};
+ghost use Rattle.megastore.specs.Running.{IsStanding, Spells, StandsAfter, Went, stood};
 ghost use Rattle.megastore.specs.Replaying.{IsRefused, IsUnbuilt};
-ghost use Rattle.megastore.specs.Stops.{IsEventStop, IsLineStop, IsWorldStop};
+ghost use Rattle.megastore.specs.Stops.{IsLineStop};
 
+use crate::line::{Line, put_event, read_line};
+use crate::quiet::is_quiet;
 use crate::status::Stop;
-use mega_cluster::Cluster;
-use mega_schedule::{LineFault, WorldEvent, event};
-use mega_schema::Schema;
+use mega_base::NoMemory;
+use mega_schedule::WorldEvent;
 use mega_transcript::Tape;
 use mega_world::{World, WorldFault};
 use std::alloc::Global;
 
-/// The event that the line of this number spells.
-fn event_of(alloc: Global, schema: &Schema, number: u64, line: &[u8]) -> Result<WorldEvent, Stop>
-    ensures spelled { IfOk result (λ event. event_of schema.now number line.now ≡ Ok event) }
-    ensures none { (at reason : ℕ) → result ≡ Err (Stop.Schedule at reason) → (at ≡ number) × (event_of schema.now number line.now ≡ Err reason) }
-    ensures only { IfErr result IsEventStop }
+/// The event that a line spells, where it is built.
+fn event_of(alloc: Global, line: &[u8], world: &World) -> Result<Option<WorldEvent>, NoMemory>
+    ensures some { IfOk result (λ read. IfSome read (λ event. (items : List OnTape) → IsStanding world.now items → Spells line.now (newest items) event)) }
+    ensures none { result ≡ Ok None → (items : List OnTape) → IsStanding world.now items → IsUnbuilt line.now (newest items) }
 {
-    match event(alloc, line, number, schema) {
-        Ok(event) => Ok(event),
-        Err(LineFault::Refused { reason }) => Err(Stop::Schedule {
-            line: number,
-            reason,
-        }),
-        Err(LineFault::NoMemory) => Err(Stop::NoMemory),
+    match read_line(alloc, line)? {
+        Some(Line::Deliver { message }) => Ok(Some(WorldEvent::Deliver { message })),
+        Some(Line::Put { node, name }) => {
+            if !is_quiet(world) {
+                return Ok(None);
+            }
+            Ok(Some(put_event(alloc, node, name)?))
+        }
+        None => Ok(None),
     }
 }
 
-/// Makes the event happen that the line of this number spells.
+/// Makes an event happen that a line spells.
 fn happen(
     alloc: Global,
-    cluster: &Cluster,
-    number: u64,
     line: &[u8],
     event: WorldEvent,
+    number: u64,
     world: &mut World,
     tape: &mut Tape,
 ) -> Result<(), Stop>
     requires lines { All HasLine tape.old.items }
-    requires standing { IsStanding cluster.now world.old tape.old.items }
-    requires spelled { event_of (cluster.now).schema number line.now ≡ Ok event }
-    ensures state { OnOk result ((done : List (List ℕ)) (events : List Happening) → StandsAfter cluster.now done events world.old tape.old.items → Went cluster.now number line.now events world.new tape.new.items) }
-    ensures unbuilt { (at : ℕ) → result ≡ Err (Stop.Unbuilt at) → (done : List (List ℕ)) (events : List Happening) → StandsAfter cluster.now done events world.old tape.old.items → (at ≡ number) × IsUnbuilt cluster.now number line.now (stood cluster.now events) }
-    ensures refused { (at why : ℕ) → result ≡ Err (Stop.Refused at why) → (done : List (List ℕ)) (events : List Happening) → StandsAfter cluster.now done events world.old tape.old.items → (at ≡ number) × IsRefused cluster.now number line.now (stood cluster.now events) why }
-    ensures only { IfErr result IsWorldStop }
+    requires standing { IsStanding world.old tape.old.items }
+    requires spelled { Spells line.now (newest tape.old.items) event }
+    ensures state { OnOk result ((done : List (List ℕ)) (events : List Happening) → StandsAfter done events world.old tape.old.items → Went line.now events world.new tape.new.items) }
+    ensures built { (at : ℕ) → result ≢ Err (Stop.Unbuilt at) }
+    ensures refused { (at why : ℕ) → result ≡ Err (Stop.Refused at why) → (done : List (List ℕ)) (events : List Happening) → StandsAfter done events world.old tape.old.items → (at ≡ number) × IsRefused line.now (stood events).tape why }
+    ensures only { IfErr result IsLineStop }
     ensures lines { OnOk result (All HasLine tape.new.items) }
 {
     match world.apply(alloc, event, tape) {
@@ -58,26 +59,26 @@ fn happen(
     }
 }
 
-/// Makes what the line of this number spells happen.
+/// Makes the event of a line happen.
 pub fn take_line(
     alloc: Global,
-    cluster: &Cluster,
-    number: u64,
     line: &[u8],
+    number: u64,
     world: &mut World,
     tape: &mut Tape,
 ) -> Result<(), Stop>
     requires lines { All HasLine tape.old.items }
-    requires standing { IsStanding cluster.now world.old tape.old.items }
-    ensures state { OnOk result ((done : List (List ℕ)) (events : List Happening) → StandsAfter cluster.now done events world.old tape.old.items → Went cluster.now number line.now events world.new tape.new.items) }
-    ensures none { (at reason : ℕ) → result ≡ Err (Stop.Schedule at reason) → (at ≡ number) × (event_of (cluster.now).schema number line.now ≡ Err reason) }
-    ensures unbuilt { (at : ℕ) → result ≡ Err (Stop.Unbuilt at) → (done : List (List ℕ)) (events : List Happening) → StandsAfter cluster.now done events world.old tape.old.items → (at ≡ number) × IsUnbuilt cluster.now number line.now (stood cluster.now events) }
-    ensures refused { (at why : ℕ) → result ≡ Err (Stop.Refused at why) → (done : List (List ℕ)) (events : List Happening) → StandsAfter cluster.now done events world.old tape.old.items → (at ≡ number) × IsRefused cluster.now number line.now (stood cluster.now events) why }
+    requires standing { IsStanding world.old tape.old.items }
+    ensures state { OnOk result ((done : List (List ℕ)) (events : List Happening) → StandsAfter done events world.old tape.old.items → Went line.now events world.new tape.new.items) }
+    ensures unbuilt { (at : ℕ) → result ≡ Err (Stop.Unbuilt at) → (done : List (List ℕ)) (events : List Happening) → StandsAfter done events world.old tape.old.items → (at ≡ number) × IsUnbuilt line.now (stood events).tape }
+    ensures refused { (at why : ℕ) → result ≡ Err (Stop.Refused at why) → (done : List (List ℕ)) (events : List Happening) → StandsAfter done events world.old tape.old.items → (at ≡ number) × IsRefused line.now (stood events).tape why }
     ensures only { IfErr result IsLineStop }
     ensures lines { OnOk result (All HasLine tape.new.items) }
 {
-    match event_of(alloc, &cluster.schema, number, line) {
-        Ok(event) => happen(alloc, cluster, number, line, event, world, tape),
-        Err(stop) => Err(stop),
-    }
+    let event = match event_of(alloc, line, world) {
+        Ok(Some(event)) => event,
+        Ok(None) => return Err(Stop::Unbuilt { line: number }),
+        Err(_) => return Err(Stop::NoMemory),
+    };
+    happen(alloc, line, event, number, world, tape)
 }

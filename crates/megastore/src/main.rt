@@ -1,13 +1,16 @@
 //! The program: reads a cluster and a schedule, and writes the transcript of what happened.
 #![tactic(auto)]
 
+mod cluster;
 mod happening;
-mod heading;
-mod input;
-mod opening;
+mod header;
+mod line;
+mod quiet;
 mod replay;
 mod run;
 mod status;
+#[cfg(test)]
+mod tests;
 mod writing;
 
 use mega_base::Text;

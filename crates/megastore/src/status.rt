@@ -1,4 +1,3 @@
-//! Why a replay stops, its status, and the last line that tells of it.
 ghost use Rattle.std.specs.Prelude.{◌≡◌, ◌++◌, OnOk, OnErr, IsOk};
 
 use mega_base::{Bytes, NoMemory};
@@ -8,10 +7,6 @@ use std::alloc::Global;
 /// is line 0.
 #[derive(Clone, Copy, PartialEq, Debug, Drop)]
 pub enum Stop {
-    /// The header breaks this rule.
-    Header { rule: u8 },
-    /// This line is no event, for this reason.
-    Schedule { line: u64, reason: u8 },
     /// The world refuses the event of this line.
     Refused { line: u64, why: u8 },
     /// The header or this line uses what the program does not have.
@@ -34,8 +29,7 @@ impl Stop {
         ensures { result ≡ status_of self.now }
     {
         match self {
-            Stop::Header { .. } => 3,
-            Stop::Schedule { .. } | Stop::Refused { .. } => 4,
+            Stop::Refused { .. } => 4,
             Stop::Source => 5,
             Stop::Sink => 6,
             Stop::NoMemory => 8,
@@ -50,14 +44,6 @@ impl Stop {
         ensures none { IsUntold self.now → IsOk result }
     {
         match self {
-            Stop::Header { rule } => {
-                let told = format!(in alloc; "header {rule}\n")?;
-                out.extend_from_slice(told.as_bytes())
-            }
-            Stop::Schedule { line, reason } => {
-                let told = format!(in alloc; "refused {line} schedule {reason}\n")?;
-                out.extend_from_slice(told.as_bytes())
-            }
             Stop::Refused { line, why } => {
                 let told = format!(in alloc; "refused {line} world {why}\n")?;
                 out.extend_from_slice(told.as_bytes())

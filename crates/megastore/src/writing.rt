@@ -1,14 +1,14 @@
-//! The text of items on its way to the sink.
 ghost use Rattle.std.specs.Prelude.{◌≡◌, ◌≤◌, ◌++◌, [], Ok, Err, IfErr, OnOk, OnErr, drop, All};
 ghost use Rattle.std.specs.Io.KnownBytes.{Appends};
 ghost use Rattle.mega_base.specs.Causes.{Rose};
 ghost use Rattle.mega_io.specs.Pieces.{AppendsFront};
-ghost use Rattle.mega_transcript.specs.Lines.{HasLine, line as line_of, lines as text_of};
+ghost use Rattle.mega_transcript.specs.Lines.{HasLine, line as line_of};
+ghost use Rattle.megastore.specs.Texts.{nameless, text_of};
 ghost use Rattle.megastore.specs.Progress.{Writes, WritesFront};
 ghost use Rattle.megastore.specs.Stops.{IsWriteStop};
 
 use crate::status::Stop;
-use mega_base::Bytes;
+use mega_base::{Bytes, Items, Text};
 use mega_io::{Sink, SinkError, put};
 use mega_schema::Schema;
 use mega_transcript::{Item, Tape, text};
@@ -52,6 +52,17 @@ pub fn write_piece<O: Sink>(out: &mut O, waiting: &mut Bytes) -> Result<(), Stop
     }
 }
 
+/// The schema of no tables: no item that a replay of puts makes names one.
+fn nameless(alloc: Global) -> Schema
+    ensures { result ≡ nameless }
+{
+    Schema {
+        name: Text::new(alloc),
+        tables: Items::new(alloc),
+        indexes: Items::new(alloc),
+    }
+}
+
 /// The tape's items from an index on.
 fn items_from(tape: &Tape, from: usize) -> &[Item]
     requires { All HasLine tape.now.items }
@@ -67,22 +78,22 @@ fn items_from(tape: &Tape, from: usize) -> &[Item]
 /// Writes the lines of the tape's items from an index on.
 pub fn write_from<O: Sink>(
     alloc: Global,
-    schema: &Schema,
     tape: &Tape,
     from: usize,
     out: &mut O,
     waiting: &mut Bytes,
 ) -> Result<(), Stop>
     requires { All HasLine tape.now.items }
-    ensures text { OnOk result (Writes (O.held out.old) (O.held out.new) waiting.new (waiting.old ++ text_of schema.now (drop from tape.now.items))) }
-    ensures cut { OnErr result (WritesFront (O.held out.old) (O.held out.new) waiting.new (waiting.old ++ text_of schema.now (drop from tape.now.items))) }
+    ensures text { OnOk result (Writes (O.held out.old) (O.held out.new) waiting.new (waiting.old ++ text_of (drop from tape.now.items))) }
+    ensures cut { OnErr result (WritesFront (O.held out.old) (O.held out.new) waiting.new (waiting.old ++ text_of (drop from tape.now.items))) }
     ensures sink { result ≡ Err Stop.Sink → Rose (O.faults out.old) (O.faults out.new) }
     ensures only { IfErr result IsWriteStop }
     ensures count { O.faults out.old ≤ O.faults out.new }
 {
+    let schema = nameless(alloc);
     let fresh = items_from(tape, from);
     for item in fresh {
-        match write_item(alloc, schema, item, out, waiting) {
+        match write_item(alloc, &schema, item, out, waiting) {
             Ok(()) => {}
             Err(stop) => return Err(stop),
         }

@@ -1,8 +1,7 @@
-use Rattle.std.proofs.Common.{◌≡◌, ◌∙◌, ◌++◌, ◌∷◌, false, map, refl, subst, sym}
-use Rattle.mega_base.specs.declared.names.GroupId.{GroupId}
+use Rattle.std.proofs.Common.{◌≡◌, ◌∙◌, ◌++◌, ◌∷◌, true, map, refl, subst, sym}
 use Rattle.mega_rules.specs.Clock.{clock_of}
 use Rattle.mega_rules.specs.Logs.{log_of}
-use Rattle.mega_rules.specs.Members.{has_rows}
+use Rattle.mega_rules.specs.Members.{is_full}
 use Rattle.mega_rules.specs.Met.{Takes}
 use Rattle.mega_rules.specs.Operations.{Setting}
 use Rattle.mega_rules.specs.Steps.{decision_note, hears_message, onto, stored_after, told_decision, told_notes}
@@ -37,13 +36,13 @@ returns-clause-taken g c = λ h node begun represents owned placed.
     let progress = progress_at r0.rows.progress in
     let follows0 = follows_after version progress told (Takes m ∷ node.met) node.stored (follows_more version progress (Takes m) node.met node.stored represents.follows) in
     let follows1 = subst (λ (rows : StoredRows _). Follows (g.V.Versions.version rows.rows) (progress_at rows.progress) (log_of base) node.stored) (sym says.rows) follows0 in
-    let bare : has_rows r1.members r1.me ≡ false → (group : GroupId) → node.stored group ≡ 0 = λ none. represents.kind.bare ((λ i. has_rows (sym says.members i) (sym says.me i)) ∙ none) in
+    let full : is_full r1.members r1.me ≡ true = (λ i. is_full (says.members i) (says.me i)) ∙ represents.full in
     let t1_is : setting r1.members r1.me h ≡ s = (λ i. setting (says.members i) (says.me i) h) in
     let t_is : setting r2.members r2.me h ≡ s = (λ i. setting (decides.members i) (decides.me i) h) ∙ t1_is in
     let follows2 = subst (λ (one : Setting). Follows (g.V.Versions.version r2.rows.rows) (progress_at r2.rows.progress) (log_of (onto (decision_note d) base)) (stored_after one (onto (decision_note d) base) node.stored d)) t1_is
-    (decides.follows h base node.stored bare placed_d tells follows1) in
+    (decides.follows h base node.stored full placed_d tells follows1) in
     let told_is = says.notes h node.met represents.leased in
-    let reply_is = says.sends node.met represents.tells represents.leased in
+    let reply_is = says.sends node.met represents.full represents.tells represents.leased in
     record {
       notes = made.notes ∙ (λ i. told_is i ++ decision_note (d_is i));
       sends = made.sends s (sym (decides.members ∙ says.members)) (sym (decides.me ∙ says.me)) ∙ (λ i. reply_is i ++ news_by s (told_decision m.body) (d_is i));

@@ -1,10 +1,9 @@
-use Rattle.std.proofs.Common.{◌≡◌, ◌∙◌, ℕ, true, false, [], None, subst, sym, rules}
+use Rattle.std.proofs.Common.{◌≡◌, ◌∙◌, ℕ, [], None, subst, sym, rules}
 use Rattle.std.specs.Vec.Iter.{into_iter_items, into_iter_len}
 use Rattle.mega_base.specs.declared.names.GroupId.{GroupId}
 use Rattle.mega_rules.specs.Logs.{log_of}
 use Rattle.mega_replica.specs.Following.{Follows, progress_at}
 use Rattle.mega_replica.proofs.Fared.{fares_here, fares_then}
-use Rattle.mega_core.proofs.Fitting.{portion_bare}
 use Rattle.mega_core.proofs.Left.{nothing_left, one_less}
 use Rattle.mega_core.proofs.Portions.{StoredSo, portion_is, stored_first, stored_next}
 use Rattle.mega_core.proofs.ticking.store_portions.Goals as goal
@@ -30,20 +29,11 @@ loop-group-preserved g c = record {
   fares = fares_then g.V.Versions None c.args.rows.now.rows c.loop-group.rows.rows c.store_portion.new.rows.rows c.loop-group.invariant.fares c.store_portion.ensures.fares;
 }
 
-pub returns-then-not-keeps-clause-follows : goal.returns-then-not-keeps-clause-follows
-returns-then-not-keeps-clause-follows g c = λ s met stored rows bare apply tells follows.
-    let version = g.V.Versions.version c.args.rows.now.rows in
-    let progress = progress_at c.args.rows.now.progress in
-    let none : c.args.keeps ≡ false = c.if-not-keeps.true in
-    subst (λ (counts : GroupId → ℕ). Follows version progress (log_of met) counts)
-    (λ i group. (bare none group ∙ sym (portion_bare s met stored group (sym rows ∙ none))) i) follows
-
 pub returns-clause-follows : goal.returns-clause-follows
-returns-clause-follows g c = λ s met stored rows bare apply tells follows.
-    let there : c.args.keeps ≡ true = c.if-not-keeps.false in
+returns-clause-follows g c = λ s met stored rows apply tells follows.
     let none : into_iter_items c.loop-group.group-iterator ≡ [] = nothing_left (into_iter_items c.loop-group.group-iterator) (sym c.loop-group.invariant.count ∙ c.in-None.ensures.steps.0) in
     let new = c.loop-group.rows in
     let version = g.V.Versions.version new.rows in
     let progress = progress_at new.progress in
     let so = subst (StoredSo version progress c.args.most met stored) none (c.loop-group.invariant.all met stored tells follows) in
-    subst (λ (counts : GroupId → ℕ). Follows version progress (log_of met) counts) (λ i group. (so.each group ∙ portion_is s met stored c.args.most group (sym rows ∙ there) apply) i) so.follows
+    subst (λ (counts : GroupId → ℕ). Follows version progress (log_of met) counts) (λ i group. (so.each group ∙ portion_is s met stored c.args.most group rows apply) i) so.follows

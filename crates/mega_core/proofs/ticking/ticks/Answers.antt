@@ -2,7 +2,6 @@ use Rattle.std.proofs.Common.{◌≡◌, ◌∙◌, ◌++◌, ◌∷◌, List, a
 use Rattle.mega_cluster.specs.declared.cluster.Cluster.{Cluster}
 use Rattle.mega_rules.specs.Clock.{begun_of}
 use Rattle.mega_rules.specs.Logs.{groups_of}
-use Rattle.mega_rules.specs.Members.{has_rows}
 use Rattle.mega_rules.specs.Met.{Ticks}
 use Rattle.mega_rules.specs.Steps.{lapse_notes, lease_notes, onto, portion_of}
 use Rattle.mega_leases.specs.declared.note.Note.{Note}
@@ -13,6 +12,7 @@ use Rattle.mega_replica.specs.Following.{progress_at}
 use Rattle.mega_node_laws.proofs.Followed.{follows_after, follows_more}
 use Rattle.mega_actions.specs.Stands.{setting}
 use Rattle.mega_core.proofs.Clocks.{leases_begun, leases_groups}
+use Rattle.mega_core.proofs.Members.{full_has_rows}
 use Rattle.mega_core.proofs.ticking.ticks.Goals as goal
 
 pub returns-clause-ticked : goal.returns-clause-ticked
@@ -20,7 +20,7 @@ returns-clause-ticked g c = λ h node open_ones begun represents owned.
     let r0 = c.args.replica.now in
     let now = c.args.now in
     let s = setting r0.members r0.me h in
-    let rows = c.has_rows-keeps.ensures ∙ ap (λ (one : Cluster). has_rows one r0.me) c.cluster.ensures in
+    let rows = full_has_rows r0.members r0.me represents.full in
     let says = c.in_ok-ticking.ensures in
     let made = c.in_ok-ticking.ticking in
     let lease_is : map met_of made.of_coordinator ≡ lease_notes s node.met now = says.lease_notes s node.met represents.leased in
@@ -34,7 +34,7 @@ returns-clause-ticked g c = λ h node open_ones begun represents owned.
     let version = g.V.Versions.version c.store_portions.new.rows.rows in
     let progress = progress_at c.store_portions.new.rows.progress in
     let counts = portion_of s node.met node.stored in
-    let stored = c.in_ok-store_portions.ensures.follows s node.met node.stored rows (λ none. represents.kind.bare (sym rows ∙ none)) (sym (c.from-most.ensures ∙ ap (λ (one : Cluster). one.apply) c.cluster-2.ensures)) represents.tells represents.follows in
+    let stored = c.in_ok-store_portions.ensures.follows s node.met node.stored rows (sym (c.from-most.ensures ∙ ap (λ (one : Cluster). one.apply) c.cluster.ensures)) represents.tells represents.follows in
     let lease = lease_notes s node.met now in
     record {
       notes = c.in_ok-notes.ensures ∙ (λ i. lease_is i ++ lapse_is i);

@@ -1,19 +1,10 @@
-use Rattle.std.proofs.Common.{◌≡◌, true, Err, ap, subst, sym}
-use Rattle.mega_cluster.specs.declared.cluster.Cluster.{Cluster}
-use Rattle.mega_core.specs.Served.{IsServed}
-use Rattle.mega_rules.specs.Members.{is_node}
+use Rattle.std.proofs.Common.{Err, length, ap, subst, arith}
 use Rattle.mega_wal.specs.Kept.{Represents}
 use Rattle.mega_wal.specs.Records.{history_of}
 use Rattle.mega_world.specs.Stands.{version_of}
 use Rattle.mega_world.proofs.Failing.{no_rows_yet, only_memory}
 use Rattle.mega_world.proofs.Starting.{first_member}
 use Rattle.mega_world.proofs.opening.started.Goals as goal
-
-pub start-requires-clause-served : goal.start-requires-clause-served
-start-requires-clause-served c = subst IsServed (sym c.in_ok-own.ensures) c.requires.served
-
-pub start-requires-clause-member : goal.start-requires-clause-member
-start-requires-clause-member c = subst (λ (k : Cluster). is_node k c.args.me ≡ true) (sym c.in_ok-own.ensures) c.requires.member
 
 pub returns-in-Ok-start-clause-node : goal.returns-in-Ok-start-clause-node
 returns-in-Ok-start-clause-node c h =
@@ -26,5 +17,8 @@ fault_of-requires c = no_rows_yet c.in-Err-start.fault c.in-Err-start.ensures.on
 pub returns-in-Err-start-clause-only : goal.returns-in-Err-start-clause-only
 returns-in-Err-start-clause-only c =
     ap Err (only_memory c.in-Err-start.fault c.fault_of.result c.in-Err-start.ensures.only
-    (λ is. c.in-Err-start.ensures.unbuilt is (subst (λ bodies. Represents c.in-Ok.logs.kept (history_of bodies)) c.new.ensures.opened c.in-Ok.ensures.state))
+    (λ is.
+    let many = c.in-Err-start.ensures.unbuilt is (subst (λ bodies. Represents c.in-Ok.logs.kept (history_of bodies)) c.new.ensures.opened c.in-Ok.ensures.state) in
+    let few = c.requires.few in
+    let same = ap (λ k. length k.nodes) c.in_ok-own.ensures in omega (arith, many, few, same))
     c.fault_of.ensures)

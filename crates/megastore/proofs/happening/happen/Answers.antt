@@ -1,51 +1,51 @@
-use Rattle.std.proofs.Common.{ℕ, ◌≡◌, [], Some, None, Err, ap, subst, sym}
+use Rattle.std.proofs.Common.{ℕ, ◌≡◌, [], Some, Err, ap, subst, sym}
+use Rattle.mega_transcript.specs.declared.item.Item.{Item}
+use Rattle.std.specs.Prelude.{List}
 use Rattle.mega_promises.specs.Runs.{refusal}
-use Rattle.megastore.specs.Running.{stood, uncut}
-use Rattle.megastore.proofs.Running.{sound, went}
+use Rattle.mega_rules.specs.Examples.{cluster}
+use Rattle.megastore.specs.Running.{Spells, stood, uncut}
+use Rattle.megastore.proofs.Calm.{run_calm}
+use Rattle.megastore.proofs.Running.{allowed_here, refused_here, served, sound, went}
 use Rattle.megastore.proofs.happening.happen.Goals as goal
 
 pub returns-in-Ok-clause-state : goal.returns-in-Ok-clause-state
 returns-in-Ok-clause-state c done events after =
-    let cluster = c.args.cluster.now in
-    let number = c.args.number in
-    let line = c.args.line.now in
-    let allowed = c.in-Ok.ensures.happens cluster (stood cluster events) after.here in
-    went cluster number line events c.args.event c.apply.new.self c.apply.new.tape.items c.requires.spelled allowed
-    (c.in-Ok.ensures.state cluster [] uncut (stood cluster events) after.here (sound cluster done events number line c.args.event after.declared after.happen c.requires.spelled allowed))
+    let spelled = subst (λ (tape : List Item). Spells c.args.line.now tape c.args.event) after.here.tape c.requires.spelled in
+    let allowed = c.in-Ok.ensures.happens cluster (stood events) after.here in
+    went done events c.args.line.now c.args.event c.apply.new.self c.apply.new.tape.items spelled allowed
+    (c.in-Ok.ensures.state cluster [] uncut (stood events) after.here (sound done events c.args.line.now c.args.event after.happen spelled allowed))
 
 pub returns-in-Ok-clause-lines : goal.returns-in-Ok-clause-lines
 returns-in-Ok-clause-lines c =
-    let cluster = c.args.cluster.now in
     let done = c.requires.standing.0 in
     let events = c.requires.standing.1 in
     let after = c.requires.standing.2 in
-    let allowed = c.in-Ok.ensures.happens cluster (stood cluster events) after.here in
-    c.in-Ok.ensures.lines cluster [] uncut (stood cluster events) after.here (sound cluster done events c.args.number c.args.line.now c.args.event after.declared after.happen c.requires.spelled allowed) c.requires.lines
+    let spelled = subst (λ (tape : List Item). Spells c.args.line.now tape c.args.event) after.here.tape c.requires.spelled in
+    let allowed = c.in-Ok.ensures.happens cluster (stood events) after.here in
+    c.in-Ok.ensures.lines cluster [] uncut (stood events) after.here (sound done events c.args.line.now c.args.event after.happen spelled allowed) c.requires.lines
 
 pub returns-in-Err-Refused-clause-refused : goal.returns-in-Err-Refused-clause-refused
 returns-in-Err-Refused-clause-refused c at why is done events after =
-    let cluster = c.args.cluster.now in
+    let spelled = subst (λ (tape : List Item). Spells c.args.line.now tape c.args.event) after.here.tape c.requires.spelled in
     let same : c.in-Err-Refused.why ≡ why = cc in
-    let refused = c.in-Err-Refused.ensures.refused c.in-Err-Refused.why (ap Err c.in-Err-Refused.field-0-is) cluster (stood cluster events) after.here in (
+    let refused = c.in-Err-Refused.ensures.refused c.in-Err-Refused.why (ap Err c.in-Err-Refused.field-0-is) cluster (stood events) after.here in (
       cc,
-      record { event = c.args.event; spelled = c.requires.spelled; refused = subst (λ (w : ℕ). refusal cluster (stood cluster events) c.args.event ≡ Some w) same refused },
+      refused_here c.args.world.now c.args.tape.now.items (stood events) c.args.line.now c.args.event why after.here (run_calm done events after.happen) spelled
+          (subst (λ (w : ℕ). refusal cluster (stood events) c.args.event ≡ Some w) same refused),
     )
 
-pub returns-in-Err-Unbuilt-clause-unbuilt : goal.returns-in-Err-Unbuilt-clause-unbuilt
-returns-in-Err-Unbuilt-clause-unbuilt c at is done events after =
-    let cluster = c.args.cluster.now in (
-      cc,
-      record {
-        event = c.args.event;
-        spelled = c.requires.spelled;
-        unserved = λ allowed.
-            c.in-Err-Unbuilt.ensures.unbuilt (ap Err c.in-Err-Unbuilt.field-0-is) cluster [] uncut (stood cluster events) after.here
-            (sound cluster done events c.args.number c.args.line.now c.args.event after.declared after.happen c.requires.spelled allowed);
-      },
-    )
+pub returns-in-Err-Unbuilt-clause-built : goal.returns-in-Err-Unbuilt-clause-built
+returns-in-Err-Unbuilt-clause-built c at is =
+    let done = c.requires.standing.0 in
+    let events = c.requires.standing.1 in
+    let after = c.requires.standing.2 in
+    let spelled = subst (λ (tape : List Item). Spells c.args.line.now tape c.args.event) after.here.tape c.requires.spelled in
+    let allowed =
+    allowed_here c.args.world.now c.args.tape.now.items (stood events) c.args.line.now c.args.event after.here spelled
+    (λ number delivers. c.in-Err-Unbuilt.ensures.allowed (ap Err c.in-Err-Unbuilt.field-0-is) number delivers cluster (stood events) after.here) in
+    served c.args.line.now (stood events) c.args.event (run_calm done events after.happen) spelled
+    (c.in-Err-Unbuilt.ensures.unbuilt (ap Err c.in-Err-Unbuilt.field-0-is) cluster [] uncut (stood events) after.here
+    (sound done events c.args.line.now c.args.event after.happen spelled allowed))
 
 pub returns-in-Ok-clause-refused : goal.returns-in-Ok-clause-refused
 returns-in-Ok-clause-refused c at why is done events after = let none : ⊥ = cc in absurd none
-
-pub returns-in-Ok-clause-unbuilt : goal.returns-in-Ok-clause-unbuilt
-returns-in-Ok-clause-unbuilt c at is done events after = let none : ⊥ = cc in absurd none

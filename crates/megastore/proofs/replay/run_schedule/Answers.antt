@@ -1,31 +1,21 @@
 use Rattle.std.proofs.Common.{[], ℕ, List, ◌++◌, subst}
 use Rattle.std.specs.Io.KnownBytes.{prepend_known}
-use Rattle.mega_transcript.specs.Lines.{lines as text_of}
-use Rattle.megastore.specs.Progress.{Writes, WritesFront}
+use Rattle.megastore.specs.Progress.{WritesFront}
+use Rattle.megastore.specs.Texts.{text_of, told}
 use Rattle.megastore.specs.Running.{stood}
-use Rattle.megastore.specs.Texts.{told}
-use Rattle.megastore.proofs.Progress.{all_lost}
-use Rattle.megastore.proofs.Starts.{declared}
 use Rattle.megastore.proofs.Steps.{cut_before, cut_first}
+use Rattle.megastore.proofs.Progress.{all_lost}
 use Rattle.megastore.proofs.replay.run_schedule.Goals as goal
 
 pub returns-in-Err-clause-cut : goal.returns-in-Err-clause-cut
 returns-in-Err-clause-cut g c =
     let held = g.O.Sink.held c.args.out.now in
-    cut_before c.args.cluster.now (prepend_known c.args.reader.now (g.I.Source.left c.args.input.now)) (WritesFront held held c.args.waiting.now) (declared c.args.cluster.now c.requires.read)
-    (all_lost held c.args.waiting.now (told (c.args.cluster.now).schema (stood c.args.cluster.now []).tape) c.requires.none_waits)
+    cut_before (prepend_known c.args.reader.now (g.I.Source.left c.args.input.now)) (WritesFront held held c.args.waiting.now) (all_lost held c.args.waiting.now (told (stood []).tape) c.requires)
 
 pub returns-in-Err-write_from-clause-cut : goal.returns-in-Err-write_from-clause-cut
 returns-in-Err-write_from-clause-cut g c =
     let before = g.O.Sink.held c.args.out.now in
     let after = g.O.Sink.held c.write_from.new.out in
     let items = c.opened.new.tape.items in
-    cut_first c.args.cluster.now (prepend_known c.args.reader.now (g.I.Source.left c.args.input.now)) (WritesFront before after c.write_from.new.waiting) c.in-Ok.world items c.in-Ok.ensures.state
-    (subst (λ (xs : List ℕ). WritesFront before after c.write_from.new.waiting (xs ++ text_of (c.args.cluster.now).schema items)) c.requires.none_waits c.in-Err-write_from.ensures.cut)
-
-pub returns-clause-unbuilt : goal.returns-clause-unbuilt
-returns-clause-unbuilt g c at is =
-    let before = g.O.Sink.held c.args.out.now in
-    let items = c.opened.new.tape.items in
-    let fresh = subst (λ (xs : List ℕ). Writes before (g.O.Sink.held c.write_from.new.out) c.write_from.new.waiting (xs ++ text_of (c.args.cluster.now).schema items)) c.requires.none_waits c.in-Ok-write_from.ensures.text in
-    c.run_lines.ensures.unbuilt at is before fresh
+    cut_first (prepend_known c.args.reader.now (g.I.Source.left c.args.input.now)) (WritesFront before after c.write_from.new.waiting) c.in-Ok.world items c.in-Ok.ensures.state
+    (subst (λ (xs : List ℕ). WritesFront before after c.write_from.new.waiting (xs ++ text_of items)) c.requires c.in-Err-write_from.ensures.cut)

@@ -1,31 +1,30 @@
-use Rattle.std.proofs.Common.{◌≡◌, ℕ, List, ◌++◌, ◌∙◌, Err, ap, sym}
+use Rattle.std.proofs.Common.{◌≡◌, ℕ, List, ◌++◌, ◌∙◌, Err, ap, sym, subst}
+use Rattle.std.specs.Prelude.{OnOk, OnErr}
+use Rattle.mega_io.specs.Pieces.{AppendsFront}
 use Rattle.std.specs.Io.KnownBytes.{Appends}
-use Rattle.megastore.specs.LastLines.{header_line, refused_line, schedule_line, unbuilt_line}
-use Rattle.megastore.specs.Known.{InputBroken, InputNoEvent, InputRefused, InputUnbuilt}
-use Rattle.megastore.proofs.Stopped.{header_by, refused_by, sink_by, source_by, status_known, unbuilt_by}
+use Rattle.megastore.specs.LastLines.{unbuilt_line, refused_line, usage_line}
+use Rattle.megastore.specs.Replaying.{InputUnbuilt, InputRefused}
+use Rattle.megastore.proofs.Progress.{either_front}
+use Rattle.megastore.proofs.Cuts.{refused_by, unbuilt_by}
 use Rattle.megastore.proofs.run.run.Goals as goal
-
-pub returns-in-Err-clause-header : goal.returns-in-Err-clause-header
-returns-in-Err-clause-header g c is =
-    header_by c.in-Err.stop (λ rule. InputBroken (g.I.Source.left c.args.input.now) rule (λ text. Appends (g.O.Sink.held c.args.out.now) (g.O.Sink.held c.transcribe.new.out) (text ++ header_line rule)))
-    (sym c.status.ensures ∙ is) (λ rule stop. c.in-Err.ensures.header rule (ap Err stop))
 
 pub returns-in-Err-clause-refused : goal.returns-in-Err-clause-refused
 returns-in-Err-clause-refused g c is =
-    refused_by c.in-Err.stop (λ line reason. InputNoEvent (g.I.Source.left c.args.input.now) line reason (λ text. Appends (g.O.Sink.held c.args.out.now) (g.O.Sink.held c.transcribe.new.out) (text ++ schedule_line line reason)))
+    refused_by c.in-Err.stop
     (λ line why. InputRefused (g.I.Source.left c.args.input.now) line why (λ text. Appends (g.O.Sink.held c.args.out.now) (g.O.Sink.held c.transcribe.new.out) (text ++ refused_line line why)))
-    (sym c.status.ensures ∙ is) (λ line reason stop. c.in-Err.ensures.none line reason (ap Err stop)) (λ line why stop. c.in-Err.ensures.refused line why (ap Err stop))
+    (sym c.status.ensures ∙ is) (λ line why stop. c.in-Err.ensures.refused line why (ap Err stop))
 
 pub returns-in-Err-clause-unbuilt : goal.returns-in-Err-clause-unbuilt
 returns-in-Err-clause-unbuilt g c is =
-    unbuilt_by c.in-Err.stop (λ line. InputUnbuilt (g.I.Source.left c.args.input.now) line (λ text. Appends (g.O.Sink.held c.args.out.now) (g.O.Sink.held c.transcribe.new.out) (text ++ unbuilt_line line)))
+    unbuilt_by c.in-Err.stop
+    (λ line. InputUnbuilt (g.I.Source.left c.args.input.now) line (λ text. Appends (g.O.Sink.held c.args.out.now) (g.O.Sink.held c.transcribe.new.out) (text ++ unbuilt_line line)))
     (sym c.status.ensures ∙ is) (λ line stop. c.in-Err.ensures.unbuilt line (ap Err stop))
 
-pub returns-in-Err-clause-broken : goal.returns-in-Err-clause-broken
-returns-in-Err-clause-broken g c is = c.in-Err.ensures.broken (ap Err (source_by c.in-Err.stop (sym c.status.ensures ∙ is)))
+pub returns-then-not-is_form-clause-used : goal.returns-then-not-is_form-clause-used
+returns-then-not-is_form-clause-used g c is =
+    let bytes : c.as_bytes.result.now ≡ usage_line = c.as_bytes.ensures.value in
+    either_front c.put.result (g.O.Sink.held c.args.out.now) (g.O.Sink.held c.put.new.sink) usage_line (subst (λ (text : List ℕ). OnOk c.put.result (Appends (g.O.Sink.held c.args.out.now) (g.O.Sink.held c.put.new.sink) text)) bytes c.put.ensures.ok)
+    (subst (λ (text : List ℕ). OnErr c.put.result (AppendsFront (g.O.Sink.held c.args.out.now) (g.O.Sink.held c.put.new.sink) text)) bytes c.put.ensures.err)
 
-pub returns-in-Err-clause-source : goal.returns-in-Err-clause-source
-returns-in-Err-clause-source g c is = c.in-Err.ensures.source (ap Err (source_by c.in-Err.stop (sym c.status.ensures ∙ is)))
-
-pub returns-in-Err-clause-sink : goal.returns-in-Err-clause-sink
-returns-in-Err-clause-sink g c is = c.in-Err.ensures.sink (ap Err (sink_by c.in-Err.stop (sym c.status.ensures ∙ is)))
+pub returns-in-Ok-clause-refused : goal.returns-in-Ok-clause-refused
+returns-in-Ok-clause-refused g c is = let none : ⊥ = cc in absurd none

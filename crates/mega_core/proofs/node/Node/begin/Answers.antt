@@ -1,6 +1,4 @@
-use Rattle.std.proofs.Common.{◌≡◌, ◌∙◌, cond, List, [], map, ap, refl, subst}
-use Rattle.mega_base.specs.declared.names.GroupId.{GroupId}
-use Rattle.mega_rules.specs.Members.{has_rows}
+use Rattle.std.proofs.Common.{◌≡◌, ◌∙◌, List, [], map, ap, subst}
 use Rattle.mega_rules.specs.Met.{Begins}
 use Rattle.mega_rules.specs.Steps.{Step as RuleStep, op_of}
 use Rattle.mega_replica.specs.Following.{progress_at}
@@ -13,7 +11,6 @@ use Rattle.mega_core.specs.Represents.{Represents}
 use Rattle.mega_core.specs.Touching.{asked_groups}
 use Rattle.mega_core.proofs.Begun.{begin_is, begin_may, represents_keeps}
 use Rattle.mega_core.proofs.Untouched.{begin_noted}
-use Rattle.mega_core.proofs.Watched.{watched_noted}
 use Rattle.mega_core.proofs.node.Node.begin.Goals as goal
 
 pub returns-clause-notes : goal.returns-clause-notes
@@ -28,9 +25,8 @@ returns-clause-notes g c = λ told h node represents owned.
     let is = begin_is s node request text t c.new.result c.new-2.result t_is c.new.ensures c.new-2.ensures in
     let keeps = represents_keeps s old.voter.logs.kept old.leases (g.V.Versions.version old.rows.rows) (progress_at old.rows.progress) c.args.self.now.open c.args.self.now.begun node represents in
     let acted = c.in_ok-work.ensures.acted told h node text represents owned in
-    let groups = asked_groups request in
-    let before = c.in_ok-before.ensures node.met node.stored keeps ∙ ap (λ (some : List GroupId). cond (has_rows old.members old.me) (map (before_at node.met node.stored) some) []) c.in_ok-groups.ensures in
-    let noted = watched_noted s t node groups c.in_ok-before.before (has_begun s node request text) t_is before (begin_noted s node request text (map (before_at node.met node.stored) groups) (c.in_ok-work.ensures.built h node represents) acted.acted refl) in
+    let before : c.in_ok-before.before ≡ map (before_at node.met node.stored) (asked_groups request) = c.in_ok-before.ensures node.met node.stored keeps ∙ ap (map (before_at node.met node.stored)) c.in_ok-groups.ensures in
+    let noted = begin_noted s node request text c.in_ok-before.before (c.in_ok-work.ensures.built h node represents) acted.acted before in
     let first : map met_of c.new-none.result ≡ [] = ap (λ (notes : List Note). map met_of notes) c.new-none.ensures in
     let made = c.in_ok-step.ensures.made h node (Begins (op_of s node.met) text) [] [] (has_begun s node request text) noted acted first (begin_may s node request text _ is) in
     made.notes ∙ ap (λ (step : RuleStep). step.notes) is
@@ -47,9 +43,8 @@ returns-clause-sends g c = λ told h node represents owned.
     let is = begin_is s node request text t c.new.result c.new-2.result t_is c.new.ensures c.new-2.ensures in
     let keeps = represents_keeps s old.voter.logs.kept old.leases (g.V.Versions.version old.rows.rows) (progress_at old.rows.progress) c.args.self.now.open c.args.self.now.begun node represents in
     let acted = c.in_ok-work.ensures.acted told h node text represents owned in
-    let groups = asked_groups request in
-    let before = c.in_ok-before.ensures node.met node.stored keeps ∙ ap (λ (some : List GroupId). cond (has_rows old.members old.me) (map (before_at node.met node.stored) some) []) c.in_ok-groups.ensures in
-    let noted = watched_noted s t node groups c.in_ok-before.before (has_begun s node request text) t_is before (begin_noted s node request text (map (before_at node.met node.stored) groups) (c.in_ok-work.ensures.built h node represents) acted.acted refl) in
+    let before : c.in_ok-before.before ≡ map (before_at node.met node.stored) (asked_groups request) = c.in_ok-before.ensures node.met node.stored keeps ∙ ap (map (before_at node.met node.stored)) c.in_ok-groups.ensures in
+    let noted = begin_noted s node request text c.in_ok-before.before (c.in_ok-work.ensures.built h node represents) acted.acted before in
     let first : map met_of c.new-none.result ≡ [] = ap (λ (notes : List Note). map met_of notes) c.new-none.ensures in
     let made = c.in_ok-step.ensures.made h node (Begins (op_of s node.met) text) [] [] (has_begun s node request text) noted acted first (begin_may s node request text _ is) in
     made.sends ∙ ap (λ (step : RuleStep). step.sends) is
@@ -66,9 +61,8 @@ returns-clause-state g c = λ told h node represents owned.
     let is = begin_is s node request text t c.new.result c.new-2.result t_is c.new.ensures c.new-2.ensures in
     let keeps = represents_keeps s old.voter.logs.kept old.leases (g.V.Versions.version old.rows.rows) (progress_at old.rows.progress) c.args.self.now.open c.args.self.now.begun node represents in
     let acted = c.in_ok-work.ensures.acted told h node text represents owned in
-    let groups = asked_groups request in
-    let before = c.in_ok-before.ensures node.met node.stored keeps ∙ ap (λ (some : List GroupId). cond (has_rows old.members old.me) (map (before_at node.met node.stored) some) []) c.in_ok-groups.ensures in
-    let noted = watched_noted s t node groups c.in_ok-before.before (has_begun s node request text) t_is before (begin_noted s node request text (map (before_at node.met node.stored) groups) (c.in_ok-work.ensures.built h node represents) acted.acted refl) in
+    let before : c.in_ok-before.before ≡ map (before_at node.met node.stored) (asked_groups request) = c.in_ok-before.ensures node.met node.stored keeps ∙ ap (map (before_at node.met node.stored)) c.in_ok-groups.ensures in
+    let noted = begin_noted s node request text c.in_ok-before.before (c.in_ok-work.ensures.built h node represents) acted.acted before in
     let first : map met_of c.new-none.result ≡ [] = ap (λ (notes : List Note). map met_of notes) c.new-none.ensures in
     let made = c.in_ok-step.ensures.made h node (Begins (op_of s node.met) text) [] [] (has_begun s node request text) noted acted first (begin_may s node request text _ is) in
     let new = c.ends.new.self in

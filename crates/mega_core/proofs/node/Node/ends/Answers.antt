@@ -6,7 +6,7 @@ use Rattle.mega_node_laws.specs.Sending.{MaySend}
 use Rattle.mega_replica.specs.Following.{progress_at}
 use Rattle.mega_voter.specs.Telling.{Tells}
 use Rattle.mega_actions.specs.Stands.{setting}
-use Rattle.mega_core.proofs.Ended.{acted_tells, step_made}
+use Rattle.mega_core.proofs.Ended.{acted_tells, applies_are, step_made}
 use Rattle.mega_core.proofs.node.Node.ends.Goals as goal
 
 pub returns-clause-made : goal.returns-clause-made
@@ -19,6 +19,6 @@ returns-clause-made g c = λ h node own locks durable now before acted first may
     step_made s node own locks durable c.args.opening c.args.closing now r.voter.logs.kept c.tell_all_sent.new.voter.logs.kept r.leases version progress c.args.self.now.begun c.args.work
     c.args.first c.in_ok-applies.applies c.in_ok-notes.notes c.in_ok-sends.sends acted first
     (c.in_ok-applies.ensures now.met now.stored (acted_tells s r.voter.logs.kept r.leases version progress c.args.self.now.begun c.args.work base now acted)
-    ∙ before)
+    ∙ before ∙ applies_are s node.met node.stored now.met now.stored acted.full)
     c.in_ok-notes.ensures c.in_ok-sends.ensures may
     (subst (λ (all : List Message). (met : List Met) → MaySend met all → Tells r.voter.logs.kept met → Tells c.tell_all_sent.new.voter.logs.kept (onto (map Sends all) met)) c.as_slice.ensures c.in_ok-tell_all_sent.ensures)

@@ -7,16 +7,8 @@ use Rattle.mega_leases.specs.Tells.{Tells}
 use Rattle.mega_replica.specs.Following.{progress_at}
 use Rattle.mega_actions.specs.Stands.{setting}
 use Rattle.mega_core.specs.Represents.{Represents}
-use Rattle.mega_core.specs.Served.{IsServed}
 use Rattle.mega_core.proofs.Opened.{started}
-use Rattle.mega_core.proofs.Roles.{member_least}
 use Rattle.mega_core.proofs.node.Node.start.Goals as goal
-
-pub leases_of-leases-requires-clause-served : goal.leases_of-leases-requires-clause-served
-leases_of-leases-requires-clause-served g c = subst IsServed (sym (c.cluster.ensures ∙ c.in_ok-members.ensures.ok)) c.requires.served
-
-pub leases_of-leases-requires-clause-least : goal.leases_of-leases-requires-clause-least
-leases_of-leases-requires-clause-least g c = member_least c.args.cluster c.args.me c.requires.member
 
 pub returns-clause-state : goal.returns-clause-state
 returns-clause-state g c = λ h holds none.
@@ -28,5 +20,5 @@ returns-clause-state g c = λ h holds none.
     let progress = progress_at c.new-rows.result.progress in
     let members_is : c.in_ok-members.members ≡ cluster = c.in_ok-members.ensures.ok in
     let leased = subst (λ (one : Cluster). Tells one me leases (Starts 1 ∷ [])) (c.cluster.ensures ∙ members_is) c.leases_of-leases.ensures in
-    let first = started cluster me h kept leases version progress c.requires.member (c.in_ok-voter.ensures.state holds) leased (c.new-rows.ensures.follows (log_of (Starts 1 ∷ [])) none) in
+    let first = started cluster me h kept leases version progress c.requires.full (c.in_ok-voter.ensures.state holds) leased (c.new-rows.ensures.follows (log_of (Starts 1 ∷ [])) none) in
     coe 0 1 (i. Represents (setting (sym members_is i) me h) kept leases version progress (sym c.new.ensures i) 0 (start (setting cluster me h) 1 [] [])) first

@@ -1,7 +1,5 @@
-use Rattle.std.proofs.Common.{◌≡◌, ◌∙◌, cond, List, [], ap, map, refl, subst, sym, rules}
+use Rattle.std.proofs.Common.{◌≡◌, ◌∙◌, List, ap, map, subst, sym, rules}
 use Rattle.std.specs.List.{All}
-use Rattle.mega_base.specs.declared.names.GroupId.{GroupId}
-use Rattle.mega_rules.specs.Members.{has_rows}
 use Rattle.mega_rules.specs.Met.{Takes}
 use Rattle.mega_rules.specs.Operations.{Operation}
 use Rattle.mega_rules.specs.Steps.{Step as RuleStep, Take, decision_note, stored_after, told_notes}
@@ -17,7 +15,6 @@ use Rattle.mega_core.proofs.Begun.{represents_keeps}
 use Rattle.mega_core.proofs.Messages.{heard_are_about, heard_are_built, take_acts, take_is, take_may}
 use Rattle.mega_core.proofs.Refused.{unbuilt_is}
 use Rattle.mega_core.proofs.Untouched.{take_noted}
-use Rattle.mega_core.proofs.Watched.{watched_noted}
 use Rattle.mega_core.proofs.node.Node.take.Goals as goal
 
 pub returns-in_err-work-clause-built : goal.returns-in_err-work-clause-built
@@ -57,10 +54,9 @@ returns-clause-notes g c = λ told h node represents owned placed.
     (c.in_ok-work.ensures.state told h base stored about taken.stands) (c.in_ok-work.ensures.work told h base stored about taken.stands) in
     let is = take_is s node m t2 c.in_ok-taken.taken.sends c.new-2.result (t2_is ∙ t1_is) taken.sends c.new-2.ensures in
     let keeps = represents_keeps s r0.voter.logs.kept r0.leases version progress own_open begun node represents in
-    let groups = touched m.body node.open_operations in
-    let groups_are : c.in_ok-groups.groups ≡ groups = c.in_ok-groups.ensures ∙ ap (touched m.body) (c.as_slice.ensures ∙ sym represents.opened) in
-    let before = c.in_ok-before.ensures node.met node.stored keeps ∙ ap (λ (some : List GroupId). cond (has_rows r0.members r0.me) (map (before_at node.met node.stored) some) []) groups_are in
-    let noted = watched_noted s t2 node groups c.in_ok-before.before (has_taken s node m) (t2_is ∙ t1_is) before (take_noted s node m (map (before_at node.met node.stored) groups) (subst (All IsBuilt) (sym represents.opened) represents.built) acted.acted refl) in
+    let groups : c.in_ok-groups.groups ≡ touched m.body node.open_operations = c.in_ok-groups.ensures ∙ ap (touched m.body) (c.as_slice.ensures ∙ sym represents.opened) in
+    let before : c.in_ok-before.before ≡ map (before_at node.met node.stored) (touched m.body node.open_operations) = c.in_ok-before.ensures node.met node.stored keeps ∙ ap (map (before_at node.met node.stored)) groups in
+    let noted = take_noted s node m c.in_ok-before.before (subst (All IsBuilt) (sym represents.opened) represents.built) acted.acted before in
     let made = c.in_ok-step.ensures.made h node (Takes m) (told_notes s node.met m.from m.body) (decision_note (decision_in s node m)) (has_taken s node m) noted acted taken.notes (take_may s node m _ is) in
     made.notes ∙ ap (λ (step : RuleStep). step.notes) is
 
@@ -90,10 +86,9 @@ returns-clause-sends g c = λ told h node represents owned placed.
     (c.in_ok-work.ensures.state told h base stored about taken.stands) (c.in_ok-work.ensures.work told h base stored about taken.stands) in
     let is = take_is s node m t2 c.in_ok-taken.taken.sends c.new-2.result (t2_is ∙ t1_is) taken.sends c.new-2.ensures in
     let keeps = represents_keeps s r0.voter.logs.kept r0.leases version progress own_open begun node represents in
-    let groups = touched m.body node.open_operations in
-    let groups_are : c.in_ok-groups.groups ≡ groups = c.in_ok-groups.ensures ∙ ap (touched m.body) (c.as_slice.ensures ∙ sym represents.opened) in
-    let before = c.in_ok-before.ensures node.met node.stored keeps ∙ ap (λ (some : List GroupId). cond (has_rows r0.members r0.me) (map (before_at node.met node.stored) some) []) groups_are in
-    let noted = watched_noted s t2 node groups c.in_ok-before.before (has_taken s node m) (t2_is ∙ t1_is) before (take_noted s node m (map (before_at node.met node.stored) groups) (subst (All IsBuilt) (sym represents.opened) represents.built) acted.acted refl) in
+    let groups : c.in_ok-groups.groups ≡ touched m.body node.open_operations = c.in_ok-groups.ensures ∙ ap (touched m.body) (c.as_slice.ensures ∙ sym represents.opened) in
+    let before : c.in_ok-before.before ≡ map (before_at node.met node.stored) (touched m.body node.open_operations) = c.in_ok-before.ensures node.met node.stored keeps ∙ ap (map (before_at node.met node.stored)) groups in
+    let noted = take_noted s node m c.in_ok-before.before (subst (All IsBuilt) (sym represents.opened) represents.built) acted.acted before in
     let made = c.in_ok-step.ensures.made h node (Takes m) (told_notes s node.met m.from m.body) (decision_note (decision_in s node m)) (has_taken s node m) noted acted taken.notes (take_may s node m _ is) in
     made.sends ∙ ap (λ (step : RuleStep). step.sends) is
 
@@ -123,10 +118,9 @@ returns-clause-state g c = λ told h node represents owned placed.
     (c.in_ok-work.ensures.state told h base stored about taken.stands) (c.in_ok-work.ensures.work told h base stored about taken.stands) in
     let is = take_is s node m t2 c.in_ok-taken.taken.sends c.new-2.result (t2_is ∙ t1_is) taken.sends c.new-2.ensures in
     let keeps = represents_keeps s r0.voter.logs.kept r0.leases version progress own_open begun node represents in
-    let groups = touched m.body node.open_operations in
-    let groups_are : c.in_ok-groups.groups ≡ groups = c.in_ok-groups.ensures ∙ ap (touched m.body) (c.as_slice.ensures ∙ sym represents.opened) in
-    let before = c.in_ok-before.ensures node.met node.stored keeps ∙ ap (λ (some : List GroupId). cond (has_rows r0.members r0.me) (map (before_at node.met node.stored) some) []) groups_are in
-    let noted = watched_noted s t2 node groups c.in_ok-before.before (has_taken s node m) (t2_is ∙ t1_is) before (take_noted s node m (map (before_at node.met node.stored) groups) (subst (All IsBuilt) (sym represents.opened) represents.built) acted.acted refl) in
+    let groups : c.in_ok-groups.groups ≡ touched m.body node.open_operations = c.in_ok-groups.ensures ∙ ap (touched m.body) (c.as_slice.ensures ∙ sym represents.opened) in
+    let before : c.in_ok-before.before ≡ map (before_at node.met node.stored) (touched m.body node.open_operations) = c.in_ok-before.ensures node.met node.stored keeps ∙ ap (map (before_at node.met node.stored)) groups in
+    let noted = take_noted s node m c.in_ok-before.before (subst (All IsBuilt) (sym represents.opened) represents.built) acted.acted before in
     let made = c.in_ok-step.ensures.made h node (Takes m) (told_notes s node.met m.from m.body) (decision_note (decision_in s node m)) (has_taken s node m) noted acted taken.notes (take_may s node m _ is) in
     let new = c.ends.new.self in
     subst (λ (step : RuleStep). Represents (setting new.replica.members new.replica.me h) new.replica.voter.logs.kept new.replica.leases (g.V.Versions.version new.replica.rows.rows) (progress_at new.replica.rows.progress) new.open new.begun step.node) is made.state

@@ -1,8 +1,6 @@
-use Rattle.std.proofs.Common.{◌≡◌, ◌∙◌, cond, List, [], ap, map, refl, subst, sym, rules}
+use Rattle.std.proofs.Common.{◌≡◌, ◌∙◌, ap, map, subst, sym, rules}
 use Rattle.std.specs.List.{All}
 use Rattle.mega_rules.specs.Logs.{groups_of}
-use Rattle.mega_base.specs.declared.names.GroupId.{GroupId}
-use Rattle.mega_rules.specs.Members.{has_rows}
 use Rattle.mega_rules.specs.Met.{Ticks}
 use Rattle.mega_rules.specs.Steps.{Step as RuleStep, Tick, lapse_notes, lease_notes, portion_of}
 use Rattle.mega_replica.specs.Following.{progress_at}
@@ -17,7 +15,6 @@ use Rattle.mega_core.proofs.Begun.{represents_keeps}
 use Rattle.mega_core.proofs.Clocks.{tick_acts, tick_is, tick_may}
 use Rattle.mega_core.proofs.Refused.{unbuilt_is}
 use Rattle.mega_core.proofs.Untouched.{tick_noted}
-use Rattle.mega_core.proofs.Watched.{watched_noted}
 use Rattle.mega_core.proofs.node.Node.tick.Goals as goal
 
 pub returns-in_err-work-clause-built : goal.returns-in_err-work-clause-built
@@ -49,10 +46,9 @@ returns-clause-notes g c = λ told h node represents owned.
     (c.in_ok-work.ensures.state told h base stored about made1.stands) (c.in_ok-work.ensures.work told h base stored about made1.stands) in
     let is = tick_is s node now t2 c.in_ok-made.made.opening c.in_ok-made.made.closing (t2_is ∙ t1_is) made1.opening made1.closing in
     let keeps = represents_keeps s r0.voter.logs.kept r0.leases version progress own_open begun node represents in
-    let groups = groups_of node.met in
-    let groups_are : c.from_vec-groups.result ≡ groups = c.from_vec-groups.ensures ∙ c.in_ok-found.ensures node.met represents.tells in
-    let before = c.in_ok-before.ensures node.met node.stored keeps ∙ ap (λ (some : List GroupId). cond (has_rows r0.members r0.me) (map (before_at node.met node.stored) some) []) groups_are in
-    let noted = watched_noted s t2 node groups c.in_ok-before.before (has_ticked s node now) (t2_is ∙ t1_is) before (tick_noted s node now (map (before_at node.met node.stored) groups) made1.groups acted.acted refl) in
+    let groups : c.from_vec-groups.result ≡ groups_of node.met = c.from_vec-groups.ensures ∙ c.in_ok-found.ensures node.met represents.tells in
+    let before : c.in_ok-before.before ≡ map (before_at node.met node.stored) (groups_of node.met) = c.in_ok-before.ensures node.met node.stored keeps ∙ ap (map (before_at node.met node.stored)) groups in
+    let noted = tick_noted s node now c.in_ok-before.before made1.groups acted.acted before in
     let made = c.in_ok-step.ensures.made h node (Ticks now) (lease_notes s node.met now) (lapse_notes s node.met now) (has_ticked s node now) noted acted made1.notes (tick_may s node now _ is) in
     made.notes ∙ ap (λ (step : RuleStep). step.notes) is
 
@@ -81,10 +77,9 @@ returns-clause-sends g c = λ told h node represents owned.
     (c.in_ok-work.ensures.state told h base stored about made1.stands) (c.in_ok-work.ensures.work told h base stored about made1.stands) in
     let is = tick_is s node now t2 c.in_ok-made.made.opening c.in_ok-made.made.closing (t2_is ∙ t1_is) made1.opening made1.closing in
     let keeps = represents_keeps s r0.voter.logs.kept r0.leases version progress own_open begun node represents in
-    let groups = groups_of node.met in
-    let groups_are : c.from_vec-groups.result ≡ groups = c.from_vec-groups.ensures ∙ c.in_ok-found.ensures node.met represents.tells in
-    let before = c.in_ok-before.ensures node.met node.stored keeps ∙ ap (λ (some : List GroupId). cond (has_rows r0.members r0.me) (map (before_at node.met node.stored) some) []) groups_are in
-    let noted = watched_noted s t2 node groups c.in_ok-before.before (has_ticked s node now) (t2_is ∙ t1_is) before (tick_noted s node now (map (before_at node.met node.stored) groups) made1.groups acted.acted refl) in
+    let groups : c.from_vec-groups.result ≡ groups_of node.met = c.from_vec-groups.ensures ∙ c.in_ok-found.ensures node.met represents.tells in
+    let before : c.in_ok-before.before ≡ map (before_at node.met node.stored) (groups_of node.met) = c.in_ok-before.ensures node.met node.stored keeps ∙ ap (map (before_at node.met node.stored)) groups in
+    let noted = tick_noted s node now c.in_ok-before.before made1.groups acted.acted before in
     let made = c.in_ok-step.ensures.made h node (Ticks now) (lease_notes s node.met now) (lapse_notes s node.met now) (has_ticked s node now) noted acted made1.notes (tick_may s node now _ is) in
     made.sends ∙ ap (λ (step : RuleStep). step.sends) is
 
@@ -113,10 +108,9 @@ returns-clause-state g c = λ told h node represents owned.
     (c.in_ok-work.ensures.state told h base stored about made1.stands) (c.in_ok-work.ensures.work told h base stored about made1.stands) in
     let is = tick_is s node now t2 c.in_ok-made.made.opening c.in_ok-made.made.closing (t2_is ∙ t1_is) made1.opening made1.closing in
     let keeps = represents_keeps s r0.voter.logs.kept r0.leases version progress own_open begun node represents in
-    let groups = groups_of node.met in
-    let groups_are : c.from_vec-groups.result ≡ groups = c.from_vec-groups.ensures ∙ c.in_ok-found.ensures node.met represents.tells in
-    let before = c.in_ok-before.ensures node.met node.stored keeps ∙ ap (λ (some : List GroupId). cond (has_rows r0.members r0.me) (map (before_at node.met node.stored) some) []) groups_are in
-    let noted = watched_noted s t2 node groups c.in_ok-before.before (has_ticked s node now) (t2_is ∙ t1_is) before (tick_noted s node now (map (before_at node.met node.stored) groups) made1.groups acted.acted refl) in
+    let groups : c.from_vec-groups.result ≡ groups_of node.met = c.from_vec-groups.ensures ∙ c.in_ok-found.ensures node.met represents.tells in
+    let before : c.in_ok-before.before ≡ map (before_at node.met node.stored) (groups_of node.met) = c.in_ok-before.ensures node.met node.stored keeps ∙ ap (map (before_at node.met node.stored)) groups in
+    let noted = tick_noted s node now c.in_ok-before.before made1.groups acted.acted before in
     let made = c.in_ok-step.ensures.made h node (Ticks now) (lease_notes s node.met now) (lapse_notes s node.met now) (has_ticked s node now) noted acted made1.notes (tick_may s node now _ is) in
     let new = c.ends.new.self in
     subst (λ (step : RuleStep). Represents (setting new.replica.members new.replica.me h) new.replica.voter.logs.kept new.replica.leases (g.V.Versions.version new.replica.rows.rows) (progress_at new.replica.rows.progress) new.open new.begun step.node) is made.state

@@ -1,27 +1,43 @@
-use Rattle.std.proofs.Common.{refl}
-use Rattle.mega_world.proofs.Happening.{begun_at, begun_lined, begun_owned, is_there}
+use Rattle.std.proofs.Common.{◌≡◌, ◌++◌, ◌∷◌, [], ◌∙◌, ◌+◌, Err, ap}
+use Rattle.mega_promises.specs.Items.{numbered}
+use Rattle.mega_transcript.specs.declared.item.Item.TheVariants.{Begin}
+use Rattle.mega_transcript.specs.Tape.{sent_count}
+use Rattle.mega_world.specs.Shown.{notes_shown}
+use Rattle.mega_world.specs.declared.fault.WorldFault.TheVariants.{Unbuilt}
+use Rattle.mega_world.proofs.Happening.{Shows, begun_at, begun_lined, begun_owned, is_there}
 use Rattle.mega_world.proofs.world.World.begins.Goals as goal
 
 pub returns-clause-state : goal.returns-clause-state
 returns-clause-state c cluster h cuts now r sound =
-    let old = c.args.self.now in
     let items = c.args.tape.now.items in
     let node = c.args.node in
-    let there = is_there cluster old items now node.0 r c.requires.least c.requires.most in
-    let owned = begun_owned cluster h cuts old items now node c.args.request c.args.text r sound in
+    let made = c.in-Ok.begun.1 in
+    let there = is_there cluster c.args.self.now items now node.0 r c.requires.least c.requires.most in
+    let owned = begun_owned cluster h cuts c.args.self.now items now node c.args.request c.args.text r sound in
     let makes = c.in-Ok.ensures.made cluster h now.node r.nodes owned in
     let named = c.in-Ok.ensures.id cluster h now.node r.nodes in
-    begun_at cluster h cuts now node c.args.request c.args.text c.in-Ok.begun.0 old (record { nodes = c.begin_at.new.nodes; mail = old.mail; safety = old.safety }) c.show.new.self items c.push.new.self c.show.new.tape.items c.in-Ok.begun.1
-    r sound there named makes c.in_ok-push.ensures.ok refl refl (c.in_ok-show.ensures.shown cluster)
+    let shows : Shows items (Begin c.in-Ok.begun.0 c.args.text ∷ []) c.args.self.now.mail c.show.new.mail node.0 made c.show.new.tape.items = record {
+      carried = c.in_ok-show.ensures.carried;
+      tape = λ before held. c.in_ok-show.ensures.shown before held ∙ ap (λ front. (front ++ notes_shown node.0 made.notes) ++ numbered (sent_count before + 1) made.sends) c.in_ok-push.ensures.ok;
+    } in
+    begun_at cluster h cuts now node c.args.request c.args.text c.in-Ok.begun.0 c.args.self.now (record { nodes = c.begin_at.new.nodes; mail = c.show.new.mail }) items c.show.new.tape.items made r sound there named makes shows
 
 pub returns-clause-lines : goal.returns-clause-lines
 returns-clause-lines c cluster h cuts now r sound lined =
-    let old = c.args.self.now in
     let items = c.args.tape.now.items in
     let node = c.args.node in
-    let there = is_there cluster old items now node.0 r c.requires.least c.requires.most in
-    let owned = begun_owned cluster h cuts old items now node c.args.request c.args.text r sound in
+    let made = c.in-Ok.begun.1 in
+    let there = is_there cluster c.args.self.now items now node.0 r c.requires.least c.requires.most in
+    let owned = begun_owned cluster h cuts c.args.self.now items now node c.args.request c.args.text r sound in
     let makes = c.in-Ok.ensures.made cluster h now.node r.nodes owned in
     let named = c.in-Ok.ensures.id cluster h now.node r.nodes in
-    begun_lined cluster h cuts now node c.args.request c.args.text c.in-Ok.begun.0 old (record { nodes = c.begin_at.new.nodes; mail = old.mail; safety = old.safety }) items c.push.new.self c.show.new.tape.items c.in-Ok.begun.1
-    r sound there named makes c.in_ok-push.ensures.ok refl refl c.in_ok-show.ensures.lines lined
+    let shows : Shows items (Begin c.in-Ok.begun.0 c.args.text ∷ []) c.args.self.now.mail c.show.new.mail node.0 made c.show.new.tape.items = record {
+      carried = c.in_ok-show.ensures.carried;
+      tape = λ before held. c.in_ok-show.ensures.shown before held ∙ ap (λ front. (front ++ notes_shown node.0 made.notes) ++ numbered (sent_count before + 1) made.sends) c.in_ok-push.ensures.ok;
+    } in
+    begun_lined cluster h cuts now node c.args.request c.args.text c.in-Ok.begun.0 c.args.self.now c.show.new.mail items c.show.new.tape.items made c.begin_at.new.nodes.items r sound there named makes shows lined
+
+pub returns-in-Err-clause-unbuilt : goal.returns-in-Err-clause-unbuilt
+returns-in-Err-clause-unbuilt c unbuilt cluster h cuts now r sound =
+    let same : c.in-Err.fault ≡ Unbuilt = cc in
+    c.in-Err.ensures.unbuilt (ap Err same) cluster h now.node r.nodes (begun_owned cluster h cuts c.args.self.now c.args.tape.now.items now c.args.node c.args.request c.args.text r sound)

@@ -4,7 +4,7 @@ use Rattle.std.proofs.lemmas.List.Elements.{All-push}
 use Rattle.mega_transcript.specs.declared.item.Item.TheVariants.{Cut}
 use Rattle.mega_transcript.specs.Lines.{HasLine}
 use Rattle.mega_world.specs.declared.fault.WorldFault.TheVariants.{Unbuilt}
-use Rattle.mega_world.proofs.Emptying.{drained_at, drained_cut, next_sound, none_left, reaches_next}
+use Rattle.mega_world.proofs.Emptying.{drained_at, drained_cut, held_next, next_sound, none_left, reaches_next}
 use Rattle.mega_world.proofs.Finding.{next_happens}
 use Rattle.mega_world.proofs.world.World.drain.Goals as goal
 
@@ -17,12 +17,16 @@ returns-in-None-clause-state c cluster h cuts now r sound =
 pub returns-in-None-clause-lines : goal.returns-in-None-clause-lines
 returns-in-None-clause-lines c cluster h cuts now r sound lined = (c.loop-turn.invariant cluster h cuts now r sound).lines lined
 
-pub returns-in-Err-clause-built : goal.returns-in-Err-clause-built
-returns-in-Err-clause-built c unbuilt cluster h cuts now r sound =
+pub returns-in-Err-clause-unbuilt : goal.returns-in-Err-clause-unbuilt
+returns-in-Err-clause-unbuilt c unbuilt cluster h cuts now r sound =
+    let most = c.args.most in
+    let turn = c.loop-turn._turn in
     let reached = c.loop-turn.invariant cluster h cuts now r sound in
     let is = sym (c.in-Some.ensures cluster reached.mid reached.at.mail (sym reached.at.nodes.count ∙ ap length (sym c.as_slice.ensures.value))) in
+    let next = next_sound cluster h cuts now most turn c.in-Some.number c.loop-turn.self c.args.tape.now.items c.loop-turn.tape.items reached c.loop-turn-test.true sound is in
     let same : c.in-Err.fault ≡ Unbuilt = cc in
-    c.in-Err.ensures.built (ap Err same) cluster reached.mid reached.at (next_happens cluster c.loop-turn.self.mail reached.mid c.in-Some.number reached.at.mail is)
+    held_next cluster h cuts now most turn c.in-Some.number c.loop-turn.self c.args.tape.now.items c.loop-turn.tape.items reached c.loop-turn-test.true is
+    (c.in-Err.ensures.unbuilt (ap Err same) cluster h cuts reached.mid reached.at next (next_happens cluster c.loop-turn.self.mail reached.mid c.in-Some.number reached.at.mail is))
 
 pub loop-turn-preserved : goal.loop-turn-preserved
 loop-turn-preserved c cluster h cuts now r sound =

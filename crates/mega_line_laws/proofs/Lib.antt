@@ -1,5 +1,0 @@
-pub mod Spelled
-pub mod Typed
-pub mod Again
-pub mod Asking
-pub mod Starting

@@ -1,0 +1,147 @@
+ghost use Rattle.std.specs.Prelude.{◌≤◌, ◌<◌, length, IfOk};
+ghost use Rattle.mega_base.specs.Codec.{IsNested};
+ghost use Rattle.mega_base.specs.Names.{IsNode, IsPositionIn};
+ghost use Rattle.mega_ballot.specs.Ballots.{IsBallot};
+ghost use Rattle.mega_entry.specs.Entries.{entry_text, IsEntry};
+
+use crate::crashes::entry;
+use crate::draws::Draws;
+use mega_ballot::Ballot;
+use mega_base::{Bytes, Epoch, GroupId, NoMemory, NodeId, OpId, Position};
+use mega_entry::{Entry, EntryFault};
+use std::alloc::Global;
+
+/// What a call asks of the logs.
+#[derive(Clone, Copy, PartialEq, Eq, Debug, Drop)]
+pub enum Kind {
+    Promise,
+    Accept,
+    Decide,
+    Grant,
+    Lapse,
+    Begin,
+}
+
+/// A drawn call, of which each kind takes what it needs: small numbers stand for names, places, ballots, entries and
+/// epochs, in the same order.
+#[derive(Clone, Copy, Drop)]
+pub struct Call {
+    pub kind: Kind,
+    pub group: u8,
+    pub place: u8,
+    pub ballot: u8,
+    pub entry: u8,
+    pub node: u8,
+    pub epoch: u8,
+}
+
+impl Call {
+    /// A call of an era: with the eras more places open, and ballots and epochs rise. Half of the ballots are zero.
+    pub fn drawn(draws: &mut Draws, era: u8) -> Call
+        requires { era < 64 }
+    {
+        let raised = draws.draw(2) == 0;
+        let ballot = era + draws.draw(8) as u8;
+        Call {
+            kind: drawn_kind(draws),
+            group: draws.draw(3) as u8,
+            place: draws.draw(u64::from(era / 8) + 3) as u8,
+            ballot: if raised { ballot } else { 0 },
+            entry: draws.draw(6) as u8,
+            node: draws.draw(9) as u8,
+            epoch: era + draws.draw(3) as u8,
+        }
+    }
+}
+
+/// A drawn kind.
+fn drawn_kind(draws: &mut Draws) -> Kind {
+    match draws.draw(16) {
+        0..=3 => Kind::Promise,
+        4..=7 => Kind::Accept,
+        8..=10 => Kind::Decide,
+        11..=12 => Kind::Grant,
+        13..=14 => Kind::Lapse,
+        _ => Kind::Begin,
+    }
+}
+
+/// A group: the key of the first is a prefix of that of the second.
+pub fn group(alloc: Global, number: u8) -> Result<GroupId, NoMemory>
+    ensures { IfOk result (λ group. length group.key ≤ 65536) }
+{
+    let bytes = [b'a', b'b'];
+    let key = match number {
+        0 => Bytes::from_slice(alloc, &bytes[..1])?,
+        1 => Bytes::from_slice(alloc, &bytes)?,
+        _ => Bytes::from_slice(alloc, &bytes[1..])?,
+    };
+    Ok(GroupId { key })
+}
+
+pub fn position(number: u8) -> Position
+    ensures { IsPositionIn 1 1000000 result }
+{
+    Position(1 + u64::from(number))
+}
+
+/// Ballots of two nodes, two starts and two numbers in each round; the first is zero.
+pub fn ballot(number: u8) -> Ballot
+    ensures { IsBallot result }
+{
+    if number == 0 {
+        return Ballot::ZERO;
+    }
+    let rest = number - 1;
+    Ballot {
+        round: 1 + u32::from(rest / 8),
+        op: OpId {
+            node: NodeId(1 + rest / 4 % 2),
+            start: 1 + u32::from(rest / 2 % 2),
+            number: 1 + u32::from(rest % 2),
+        },
+    }
+}
+
+pub fn node(number: u8) -> NodeId
+    ensures { IsNode result }
+{
+    NodeId(1 + number % 9)
+}
+
+/// Four epochs of each start.
+pub fn epoch(number: u8) -> Epoch {
+    Epoch {
+        start: u32::from(number / 4),
+        count: u32::from(number % 4),
+    }
+}
+
+/// An entry with nothing in it: three of three leaders with no id, and three with an id.
+pub fn entry_of(alloc: Global, number: u8) -> Result<Entry, EntryFault>
+    ensures { IfOk result (IsNested 65536 entry_text IsEntry) }
+{
+    let leader = 1 + number % 3;
+    if number < 3 {
+        return entry(
+            alloc,
+            &[1, 0, leader, 0, 0, 0, 0, 0, 0, 0, 0, 0, 0, 0, 0, 0, 0, 0, 0],
+        );
+    }
+    entry(
+        alloc,
+        &[
+            1, 1, 1, 0, 0, 0, 1, 0, 0, 0, 1, leader, 0, 0, 0, 0, 0, 0, 0, 0, 0, 0, 0, 0, 0, 0, 0, 0,
+        ],
+    )
+}
+
+/// The number of such an entry.
+pub fn number_of(entry: &Entry) -> u8 {
+    let content = entry.content();
+    let leader = content.leader.0.wrapping_sub(1);
+    match content.id {
+        Some(_) => leader.wrapping_add(3),
+        None => leader,
+    }
+}
