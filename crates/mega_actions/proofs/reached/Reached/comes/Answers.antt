@@ -4,7 +4,7 @@ use Rattle.mega_outcome.specs.Answers.{rows_at}
 use Rattle.mega_actions.specs.Coming.{comes}
 use Rattle.mega_actions.specs.Stands.{setting}
 use Rattle.mega_actions.proofs.Going.{goes_by, sees_comes}
-use Rattle.mega_actions.proofs.reached.Reached.finishes.Goals as goal
+use Rattle.mega_actions.proofs.reached.Reached.comes.Goals as goal
 
 pub returns-in_ok-deed-in-Ok-clause-deed : goal.returns-in_ok-deed-in-Ok-clause-deed
 returns-in_ok-deed-in-Ok-clause-deed g c told me h now again tells clock sees of =
