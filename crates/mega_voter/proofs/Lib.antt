@@ -6,3 +6,6 @@ pub mod Answered
 pub mod Told
 pub mod Replied
 pub mod Opened
+pub mod Holding
+pub mod Begun
+pub mod Held

@@ -17,28 +17,28 @@ use Rattle.mega_voter.specs.Journal.{item_in, journal_of, without_starts}
 use Rattle.mega_voter.specs.Telling.{AreHonest, Tells}
 
 -- ---- starts say nothing of places and nodes
-acts_without : (items : List JournalItem) (group : GroupId) (n : ℕ) → acts_of items group n ≡ acts_of (without_starts items) group n
+pub acts_without : (items : List JournalItem) (group : GroupId) (n : ℕ) → acts_of items group n ≡ acts_of (without_starts items) group n
 acts_without [] group n = refl
 acts_without (Promise other position ballot ∷ items) group n = ap (λ (made : List Act). cond (is_place other position group n) (Promised ballot (best made) ∷ made) made) (acts_without items group n)
 acts_without (Accept other position ballot entry ∷ items) group n = ap (λ (made : List Act). cond (is_place other position group n) (Voted ballot entry ∷ made) made) (acts_without items group n)
 acts_without (_ ∷ items) group n = acts_without items group n
 
-decided_without : (items : List JournalItem) (group : GroupId) (n : ℕ) → decided_of items group n ≡ decided_of (without_starts items) group n
+pub decided_without : (items : List JournalItem) (group : GroupId) (n : ℕ) → decided_of items group n ≡ decided_of (without_starts items) group n
 decided_without [] group n = refl
 decided_without (Decide other position entry ∷ items) group n = ap (λ o. cond (is_place other position group n) (first_of o entry) o) (decided_without items group n)
 decided_without (_ ∷ items) group n = decided_without items group n
 
-granted_without : (items : List JournalItem) (node : ℕ) → granted_of items node ≡ granted_of (without_starts items) node
+pub granted_without : (items : List JournalItem) (node : ℕ) → granted_of items node ≡ granted_of (without_starts items) node
 granted_without [] node = refl
 granted_without (Grant other epoch ∷ items) node = ap (λ o. cond (other.0 == node) (after_grant o epoch) o) (granted_without items node)
 granted_without (Lapse other epoch ∷ items) node = ap (λ o. cond (other.0 == node) (after_lapse o epoch) o) (granted_without items node)
 granted_without (_ ∷ items) node = granted_without items node
 
-slots_without : (items : List JournalItem) (group : GroupId) (n : ℕ) → slot_of items group n ≡ slot_of (without_starts items) group n
+pub slots_without : (items : List JournalItem) (group : GroupId) (n : ℕ) → slot_of items group n ≡ slot_of (without_starts items) group n
 slots_without items group n = λ i. record { promised = shown (acts_without items group n i); accepted = best (acts_without items group n i); decided = decided_without items group n i }
 
 -- ---- starts are counted
-starts_most : (items : List JournalItem) → starts_of items ≤ 4294967295
+pub starts_most : (items : List JournalItem) → starts_of items ≤ 4294967295
 starts_most [] = omega arith
 starts_most (Start ∷ items) = omega arith
 starts_most (Counted starts ∷ items) = omega arith
@@ -49,7 +49,7 @@ no_start (PromiseBody op group position ballot report) items = refl
 no_start (Accepted op group position ballot entry) items = refl
 no_start _ items = refl
 
-starts_is : (met : List Met) → AreHonest met → starts_of (journal_of met) ≡ min (start_of met) 4294967295
+pub starts_is : (met : List Met) → AreHonest met → starts_of (journal_of met) ≡ min (start_of met) 4294967295
 starts_is [] honest = omega arith
 starts_is (Starts start ∷ met) honest = counted (starts_of (journal_of met)) (start_of met) start honest.0 (starts_is met honest.1)
   where

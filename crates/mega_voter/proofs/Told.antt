@@ -157,18 +157,18 @@ silent_honest : (met : List Met) (body : Body) → item_in body ≡ None → IsH
 silent_honest met (PromiseBody op group position ballot report) none = absurd (cc)
 silent_honest met _ none = tt
 
-silent_follows : (met : List Met) (one : Met) → item_of met one ≡ None → MayFollow met one
+pub silent_follows : (met : List Met) (one : Met) → item_of met one ≡ None → MayFollow met one
 silent_follows met (Starts start) none = absurd (cc)
 silent_follows met (Sends message) none = silent_honest met message.body none
 silent_follows met (Unsends message) none = silent_honest met message.body none
 silent_follows met (Decides group position entry) none = absurd (cc)
 silent_follows met _ none = tt
 
-silent_start : (met : List Met) (one : Met) → item_of met one ≡ None → start_of (one ∷ met) ≡ start_of met
+pub silent_start : (met : List Met) (one : Met) → item_of met one ≡ None → start_of (one ∷ met) ≡ start_of met
 silent_start met (Starts start) none = absurd (cc)
 silent_start met _ none = refl
 
-silent_journal : (met : List Met) (one : Met) → item_of met one ≡ None → journal_of (one ∷ met) ≡ journal_of met
+pub silent_journal : (met : List Met) (one : Met) → item_of met one ≡ None → journal_of (one ∷ met) ≡ journal_of met
 silent_journal met one none = ap (λ item. cons_option item (journal_of met)) none
 
 pub silent_told : (kept : Kept) (met : List Met) (one : Met) → item_of met one ≡ None → Tells kept met ↔ Tells kept (one ∷ met)

@@ -1,2 +1,4 @@
 pub mod Journal
 pub mod Telling
+pub mod Holding
+pub mod Faring

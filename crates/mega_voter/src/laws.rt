@@ -1,6 +1,7 @@
 //! What follows from the definitions, as contracts of functions that do nothing.
 
-ghost use Rattle.std.specs.Prelude.{◌≡◌, ◌↔◌, ◌<◌, ◌≤◌, ◌-◌, ◌∷◌, [], ℕ, None, List, All, slice_get};
+ghost use Rattle.std.specs.Prelude.{◌≡◌, ◌↔◌, ◌+◌, ◌<◌, ◌≤◌, ◌-◌, ◌∷◌, [], ℕ, None, true, List, All, slice_get};
+ghost use Rattle.std.specs.List.{list_all};
 ghost use Rattle.mega_base.specs.declared.names.GroupId.{GroupId};
 ghost use Rattle.mega_base.specs.declared.names.OpId.{OpId};
 ghost use Rattle.mega_base.specs.declared.names.Position.{Position};
@@ -10,13 +11,16 @@ ghost use Rattle.mega_wire.specs.declared.message.Body.{Body};
 ghost use Rattle.mega_wire.specs.declared.message.Message.{Message};
 ghost use Rattle.mega_wire.specs.Messages.{IsBody};
 ghost use Rattle.mega_wal.specs.declared.item.JournalItem.{JournalItem as Item};
+ghost use Rattle.mega_wal.specs.declared.item.JournalItem.TheVariants.{Start};
 ghost use Rattle.mega_wal.specs.declared.kept.Kept.{Kept};
 ghost use Rattle.mega_wal.specs.Items.{IsItem};
 ghost use Rattle.mega_wal.specs.Kept.{Represents};
 ghost use Rattle.mega_rules.specs.Clock.{start_of};
 ghost use Rattle.mega_rules.specs.Logs.{decided, log_of, prefix_of};
-ghost use Rattle.mega_rules.specs.Met.{Met, Sends, Unsends};
+ghost use Rattle.mega_rules.specs.Met.{Met, Sends, Starts, Unsends};
+ghost use Rattle.mega_rules.specs.Steps.{onto};
 ghost use Rattle.mega_rules.specs.Voting.{acts, prepared, voted};
+ghost use Rattle.mega_voter.specs.Holding.{GoesOn, HoldsMet, Recalls, is_no_start};
 ghost use Rattle.mega_voter.specs.Journal.{item_of, items_in, journal_of, without_starts};
 ghost use Rattle.mega_voter.specs.Telling.{AreHonest, IsAnswer, IsHonest, Tells};
 
@@ -69,4 +73,35 @@ pub fn sent_items_fit()
 #[tactic(auto, using(crate::proofs::Prefixes::entry_is))]
 pub fn the_prefix_holds_what_is_decided()
     ensures { (met : List Met) (group : GroupId) (n : ℕ) → 0 < n → n ≤ prefix_of met group → slice_get (log_of met group) (n - 1) ≡ decided met group n }
+{}
+
+/// Records that hold nothing hold what was met by a node that never started.
+#[tactic(auto, using(crate::proofs::Held::nothing_held))]
+pub fn nothing_is_held_first()
+    ensures { HoldsMet [] 0 [] }
+{}
+
+/// What records hold stays so with a thing that is of no journal kind, as a tick, a crash or an answer.
+#[tactic(auto, using(crate::proofs::Held::silent_held))]
+pub fn other_things_leave_what_is_held()
+    ensures { (records : List (List ℕ)) (starts : ℕ) (met : List Met) (one : Met) → item_of met one ≡ None → HoldsMet records starts met ↔ HoldsMet records starts (one ∷ met) }
+{}
+
+/// Records hold a message that a crash left unsent as they hold one that was sent.
+#[tactic(auto, using(crate::proofs::Held::unsent_held))]
+pub fn unsent_is_held_as_sent()
+    ensures { (records : List (List ℕ)) (starts : ℕ) (met : List Met) (message : Message) → HoldsMet records starts (Sends message ∷ met) ↔ HoldsMet records starts (Unsends message ∷ met) }
+{}
+
+/// Logs recall what they tell, and where the last start has the number of those that are counted, they tell what they
+/// recall.
+#[tactic(auto, using(crate::proofs::Holding::told_recalled, crate::proofs::Holding::recalled_told))]
+pub fn logs_tell_what_they_recall()
+    ensures tells { (kept : Kept) (met : List Met) → Tells kept met ↔ Recalls kept (start_of met) met }
+{}
+
+/// The record of a start goes on to what the start shows, and where it is cut off, to what was met before.
+pub fn a_start_goes_on()
+    ensures { (starts : ℕ) (met owed : List Met) → list_all is_no_start owed ≡ true → starts < 4294967295 → start_of (onto owed met) ≤ starts → AreHonest (onto owed met) →
+        GoesOn (Start ∷ []) starts (onto owed met) (onto owed (Starts (starts + 1) ∷ met)) × GoesOn (Start ∷ []) starts (onto owed met) (onto owed met) }
 {}

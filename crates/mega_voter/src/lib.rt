@@ -3,6 +3,7 @@
 #![tactic(auto)]
 
 mod answers;
+mod keeping;
 pub mod laws;
 mod readers;
 mod voter;

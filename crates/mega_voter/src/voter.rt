@@ -1,5 +1,6 @@
 //! The logs of a voter, which tell what its node met: each call notes it and stages its item.
-ghost use Rattle.std.specs.Prelude.{◌≡◌, ◌+◌, ◌<◌, ◌++◌, ◌∷◌, [], List, IfOk, OnOk, OnErr, Err, if◌then◌else◌, is_none};
+ghost use Rattle.std.specs.Prelude.{◌≡◌, ◌+◌, ◌<◌, ◌++◌, ◌∷◌, [], ℕ, List, true, IfOk, OnOk, OnErr, Err, if◌then◌else◌, is_none};
+ghost use Rattle.std.specs.List.{list_all};
 ghost use Rattle.mega_wal.specs.declared.item.JournalItem.{JournalItem as Item};
 ghost use Rattle.mega_wal.specs.declared.item.JournalItem.TheVariants.{Decide, Grant, Lapse, Start};
 ghost use Rattle.mega_wal.specs.Compaction.{IsOfFormat};
@@ -9,6 +10,8 @@ ghost use Rattle.mega_wire.specs.Messages.{IsBody};
 ghost use Rattle.mega_rules.specs.Clock.{start_of};
 ghost use Rattle.mega_rules.specs.Logs.{decided};
 ghost use Rattle.mega_rules.specs.Met.{Met, Decides, Grants, Lapses, Sends, Starts};
+ghost use Rattle.mega_rules.specs.Steps.{onto};
+ghost use Rattle.mega_voter.specs.Holding.{Recalls, is_no_start};
 ghost use Rattle.mega_voter.specs.Journal.{items_in};
 ghost use Rattle.mega_voter.specs.Telling.{IsAnswer, Tells};
 
@@ -42,11 +45,13 @@ impl<R: Records> Voter<R> {
         logs
     }
 
-    /// Notes that the node starts once more, with the next number.
+    /// Notes that the node starts once more, with the number behind the count of starts, and shows what it owes to a step that
+    /// was cut off (`counted`).
     #[tactic(auto, using(crate::proofs::Told::begun_told, crate::proofs::Told::still_told))]
     pub fn begins(&mut self, alloc: Global) -> Result<(), LogFault>
         requires { self.old.logs.kept.starts < 4294967295 }
         ensures state { OnOk result ((met : List Met) → Tells self.old.logs.kept met → Tells self.new.logs.kept (Starts (start_of met + 1) ∷ met)) }
+        ensures counted { OnOk result ((starts : ℕ) (met owed : List Met) → list_all is_no_start owed ≡ true → Recalls self.old.logs.kept starts (onto owed met) → Tells self.new.logs.kept (onto owed (Starts (starts + 1) ∷ met))) }
         ensures staged { OnOk result (self.new.logs.staged.items ≡ self.old.logs.staged.items ++ Start ∷ []) }
         ensures memory { OnErr result (result ≡ Err LogFault.NoMemory) }
         ensures err { OnErr result ((met : List Met) → Tells self.old.logs.kept met → Tells self.new.logs.kept met) }
