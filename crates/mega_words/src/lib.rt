@@ -1,0 +1,8 @@
+//! The words of the program: a command, and then each of its options once.
+#![tactic(auto)]
+
+mod command;
+mod number;
+mod option;
+
+pub use command::{Command, command_of};
