@@ -4,5 +4,6 @@
 mod command;
 mod number;
 mod option;
+pub mod worked;
 
 pub use command::{Command, command_of};
