@@ -3,7 +3,7 @@ use Rattle.std.specs.Io.KnownBytes.{Appends}
 use Rattle.megastore.specs.LastLines.{header_line, refused_line, schedule_line, unbuilt_line}
 use Rattle.megastore.specs.Known.{InputBroken, InputNoEvent, InputRefused, InputUnbuilt}
 use Rattle.megastore.proofs.Stopped.{header_by, refused_by, sink_by, source_by, status_known, unbuilt_by}
-use Rattle.megastore.proofs.run.run.Goals as goal
+use Rattle.megastore.proofs.run.replay_all.Goals as goal
 
 pub returns-in-Err-clause-header : goal.returns-in-Err-clause-header
 returns-in-Err-clause-header g c is =
