@@ -1,17 +1,9 @@
-//! The program: reads a cluster and a schedule, and writes the transcript of what happened.
+//! The program: its words, standard input and standard output, handed to the call that does all.
 #![tactic(auto)]
-
-mod happening;
-mod heading;
-mod input;
-mod opening;
-mod replay;
-mod run;
-mod status;
-mod writing;
 
 use mega_base::Text;
 use mega_io::{StdSink, StdSource};
+use mega_replay::run;
 use std::process::ExitCode;
 use std::{env, io};
 
@@ -31,5 +23,5 @@ fn main(rt: HostRuntime) -> ExitCode {
         Ok(words) => words,
         Err(_) => Vec::new(rt.alloc()),
     };
-    ExitCode::from(run::run(rt.alloc(), words.as_slice(), &mut input, &mut out))
+    ExitCode::from(run(rt.alloc(), words.as_slice(), &mut input, &mut out))
 }

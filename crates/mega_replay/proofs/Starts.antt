@@ -1,0 +1,13 @@
+-- What is known of a cluster that was read from a header.
+use Rattle.mega_cluster.specs.declared.cluster.Cluster.{Cluster}
+use Rattle.mega_tape_laws.specs.Indexed.{IsDeclared}
+use Rattle.mega_tape_laws.proofs.Declared.{parsed_declared}
+use Rattle.mega_line_laws.specs.Clusters.{CanStart}
+use Rattle.mega_line_laws.proofs.Starting.{can_start}
+use Rattle.mega_replay.specs.Known.{IsRead}
+
+pub starts : (c : Cluster) → IsRead c → CanStart c
+starts c read = can_start 1 read.0 c read.1
+
+pub declared : (c : Cluster) → IsRead c → IsDeclared c.schema
+declared c read = parsed_declared (starts c read).schema_text c.schema (starts c read).schema_read

@@ -1,0 +1,51 @@
+use Rattle.std.proofs.Common.{ℕ, ◌≡◌, [], Some, None, Err, ap, subst, sym}
+use Rattle.mega_promises.specs.Runs.{refusal}
+use Rattle.mega_replay.specs.Running.{stood, uncut}
+use Rattle.mega_replay.proofs.Running.{sound, went}
+use Rattle.mega_replay.proofs.happening.happen.Goals as goal
+
+pub returns-in-Ok-clause-state : goal.returns-in-Ok-clause-state
+returns-in-Ok-clause-state c done events after =
+    let cluster = c.args.cluster.now in
+    let number = c.args.number in
+    let line = c.args.line.now in
+    let allowed = c.in-Ok.ensures.happens cluster (stood cluster events) after.here in
+    went cluster number line events c.args.event c.apply.new.self c.apply.new.tape.items c.requires.spelled allowed
+    (c.in-Ok.ensures.state cluster [] uncut (stood cluster events) after.here (sound cluster done events number line c.args.event after.declared after.happen c.requires.spelled allowed))
+
+pub returns-in-Ok-clause-lines : goal.returns-in-Ok-clause-lines
+returns-in-Ok-clause-lines c =
+    let cluster = c.args.cluster.now in
+    let done = c.requires.standing.0 in
+    let events = c.requires.standing.1 in
+    let after = c.requires.standing.2 in
+    let allowed = c.in-Ok.ensures.happens cluster (stood cluster events) after.here in
+    c.in-Ok.ensures.lines cluster [] uncut (stood cluster events) after.here (sound cluster done events c.args.number c.args.line.now c.args.event after.declared after.happen c.requires.spelled allowed) c.requires.lines
+
+pub returns-in-Err-Refused-clause-refused : goal.returns-in-Err-Refused-clause-refused
+returns-in-Err-Refused-clause-refused c at why is done events after =
+    let cluster = c.args.cluster.now in
+    let same : c.in-Err-Refused.why ≡ why = cc in
+    let refused = c.in-Err-Refused.ensures.refused c.in-Err-Refused.why (ap Err c.in-Err-Refused.field-0-is) cluster (stood cluster events) after.here in (
+      cc,
+      record { event = c.args.event; spelled = c.requires.spelled; refused = subst (λ (w : ℕ). refusal cluster (stood cluster events) c.args.event ≡ Some w) same refused },
+    )
+
+pub returns-in-Err-Unbuilt-clause-unbuilt : goal.returns-in-Err-Unbuilt-clause-unbuilt
+returns-in-Err-Unbuilt-clause-unbuilt c at is done events after =
+    let cluster = c.args.cluster.now in (
+      cc,
+      record {
+        event = c.args.event;
+        spelled = c.requires.spelled;
+        unserved = λ allowed.
+            c.in-Err-Unbuilt.ensures.unbuilt (ap Err c.in-Err-Unbuilt.field-0-is) cluster [] uncut (stood cluster events) after.here
+            (sound cluster done events c.args.number c.args.line.now c.args.event after.declared after.happen c.requires.spelled allowed);
+      },
+    )
+
+pub returns-in-Ok-clause-refused : goal.returns-in-Ok-clause-refused
+returns-in-Ok-clause-refused c at why is done events after = let none : ⊥ = cc in absurd none
+
+pub returns-in-Ok-clause-unbuilt : goal.returns-in-Ok-clause-unbuilt
+returns-in-Ok-clause-unbuilt c at is done events after = let none : ⊥ = cc in absurd none

@@ -1,0 +1,24 @@
+use Rattle.std.proofs.Common.{[]}
+use Rattle.mega_replay.proofs.Starts.{declared, starts}
+use Rattle.mega_replay.proofs.opening.opened.Goals as goal
+
+pub new-requires-clause-few : goal.new-requires-clause-few
+new-requires-clause-few c = (starts c.args.cluster.now c.requires.read).few
+
+pub new-requires-clause-cells : goal.new-requires-clause-cells
+new-requires-clause-cells c = (starts c.args.cluster.now c.requires.read).cells
+
+pub new-requires-clause-fits : goal.new-requires-clause-fits
+new-requires-clause-fits c = (starts c.args.cluster.now c.requires.read).fits
+
+pub new-requires-clause-lease : goal.new-requires-clause-lease
+new-requires-clause-lease c = (starts c.args.cluster.now c.requires.read).lease
+
+pub new-requires-clause-limit : goal.new-requires-clause-limit
+new-requires-clause-limit c = (starts c.args.cluster.now c.requires.read).limit
+
+pub new-requires-clause-housed : goal.new-requires-clause-housed
+new-requires-clause-housed c = (starts c.args.cluster.now c.requires.read).housed
+
+pub returns-in-Ok-clause-state : goal.returns-in-Ok-clause-state
+returns-in-Ok-clause-state c = record { declared = declared c.args.cluster.now c.requires.read; happen = tt; here = c.in-Ok.ensures.state [] }

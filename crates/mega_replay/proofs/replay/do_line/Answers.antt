@@ -1,0 +1,40 @@
+use Rattle.std.proofs.Common.{◌≡◌, ℕ, Ok, Err, ap, inl}
+use Rattle.mega_schedule.specs.Events.{event_of}
+use Rattle.mega_replay.specs.declared.status.Stop.TheVariants.{Refused, Schedule, Unbuilt}
+use Rattle.mega_replay.specs.Replaying.{IsRefused, IsUnbuilt}
+use Rattle.mega_replay.specs.Running.{stood}
+use Rattle.mega_replay.proofs.Progress.{waits_front}
+use Rattle.mega_replay.proofs.Steps.{long_stops, stops_next}
+use Rattle.mega_replay.proofs.replay.do_line.Goals as goal
+
+pub returns-in-Ok-Long-clause-none : goal.returns-in-Ok-Long-clause-none
+returns-in-Ok-Long-clause-none g c at reason is =
+    let same : ◌≡◌ {A = ℕ} 7 reason = cc in
+    (cc, rw (← same) (long_stops _ (c.args.cluster.now).schema c.args.number (c.in-Ok-Long.ensures.long (ap Ok c.in-Ok-Long.field-0-is))))
+
+pub returns-in-Err-take_line-clause-none : goal.returns-in-Err-take_line-clause-none
+returns-in-Err-take_line-clause-none g c at reason is =
+    let stop_is : c.in-Err-take_line.stop ≡ Schedule at reason = cc in
+    let none = c.in-Err-take_line.ensures.none at reason (ap Err stop_is) in
+    (none.0, stops_next _ _ (λ line. event_of (c.args.cluster.now).schema c.args.number line ≡ Err reason) _ (c.in-Ok-Line.ensures.line (ap Ok c.in-Ok-Line.field-0-is)) (rw c.as_slice.ensures at none.1))
+
+pub returns-in-Err-take_line-clause-refused : goal.returns-in-Err-take_line-clause-refused
+returns-in-Err-take_line-clause-refused g c at why is done events after =
+    let stop_is : c.in-Err-take_line.stop ≡ Refused at why = cc in
+    let refused = c.in-Err-take_line.ensures.refused at why (ap Err stop_is) done events after in
+    (refused.0, stops_next _ _ (λ line. IsRefused c.args.cluster.now c.args.number line (stood c.args.cluster.now events) why) _ (c.in-Ok-Line.ensures.line (ap Ok c.in-Ok-Line.field-0-is)) (rw c.as_slice.ensures at refused.1))
+
+pub returns-in-Err-take_line-clause-unbuilt : goal.returns-in-Err-take_line-clause-unbuilt
+returns-in-Err-take_line-clause-unbuilt g c at is done events after =
+    let stop_is : c.in-Err-take_line.stop ≡ Unbuilt at = cc in
+    let unbuilt = c.in-Err-take_line.ensures.unbuilt at (ap Err stop_is) done events after in
+    (unbuilt.0, stops_next _ _ (λ line. IsUnbuilt c.args.cluster.now c.args.number line (stood c.args.cluster.now events)) _ (c.in-Ok-Line.ensures.line (ap Ok c.in-Ok-Line.field-0-is)) (rw c.as_slice.ensures at unbuilt.1))
+
+pub returns-in-Ok-Long-clause-cut : goal.returns-in-Ok-Long-clause-cut
+returns-in-Ok-Long-clause-cut g c done events after = inl (waits_front _ _)
+
+pub returns-in-Err-clause-cut : goal.returns-in-Err-clause-cut
+returns-in-Err-clause-cut g c done events after = inl (waits_front _ _)
+
+pub returns-in-Err-take_line-clause-cut : goal.returns-in-Err-take_line-clause-cut
+returns-in-Err-take_line-clause-cut g c done events after = inl (waits_front _ _)

@@ -1,0 +1,33 @@
+-- The last line of a run, which tells of its stop, and the line that tells how the program is used.
+use Rattle.std.specs.Prelude.{ℕ, List, [], ◌++◌, codes, decimal}
+use Rattle.mega_replay.specs.declared.status.Stop.{Stop}
+use Rattle.mega_replay.specs.declared.status.Stop.TheVariants.{Header, Schedule, Refused, Unbuilt, Source, Sink, NoMemory}
+
+-- the header breaks this rule
+abbrev pub header_line : ℕ → List ℕ
+header_line rule = codes "header " ++ (decimal rule ++ codes "\n")
+
+-- this line is no event, for this reason
+abbrev pub schedule_line : ℕ → ℕ → List ℕ
+schedule_line line reason = codes "refused " ++ (decimal line ++ (codes " schedule " ++ (decimal reason ++ codes "\n")))
+
+-- the world refuses this line, for this reason
+abbrev pub refused_line : ℕ → ℕ → List ℕ
+refused_line line why = codes "refused " ++ (decimal line ++ (codes " world " ++ (decimal why ++ codes "\n")))
+
+-- this line, or the header as line 0, is not built
+abbrev pub unbuilt_line : ℕ → List ℕ
+unbuilt_line line = codes "unbuilt " ++ (decimal line ++ codes "\n")
+
+-- the last line of a stop, where it has one
+abbrev pub last_line : Stop → List ℕ
+last_line (Header rule) = header_line rule
+last_line (Schedule line reason) = schedule_line line reason
+last_line (Refused line why) = refused_line line why
+last_line (Unbuilt line) = unbuilt_line line
+last_line Source = []
+last_line Sink = []
+last_line NoMemory = []
+
+abbrev pub usage_line : List ℕ
+usage_line = codes "usage: megastore replay [--summary] | gen --seed S --count N --nodes K | node --number K --turns T\n"

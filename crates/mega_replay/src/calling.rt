@@ -1,0 +1,172 @@
+//! The top call: its words, the transcript that it writes, and its status.
+ghost use Rattle.std.specs.Prelude.{◌≡◌, ◌≤◌, ◌⊎◌, ◌++◌, ℕ, List, Some, None, Ok, Err, OnOk, OnErr};
+ghost use Rattle.std.specs.Io.KnownBytes.{Appends, IsAtEnd};
+ghost use Rattle.mega_base.specs.Causes.{Rose};
+ghost use Rattle.mega_io.specs.Pieces.{AppendsFront};
+ghost use Rattle.mega_replay.specs.LastLines.{header_line, schedule_line, refused_line, unbuilt_line, last_line, usage_line};
+ghost use Rattle.mega_replay.specs.Known.{InputDone, InputBegun, InputBroken, InputNoEvent, InputRefused, InputUnbuilt, InputCut};
+ghost use Rattle.mega_replay.specs.Statuses.{IsCutStatus, IsDrawn, IsReplayStatus, IsStatus};
+ghost use Rattle.mega_gen.specs.Generated.{generated};
+ghost use Rattle.mega_words.specs.Commands.{command_of};
+ghost use Rattle.mega_words.specs.declared.command.Command.TheVariants.{Gen, Replay};
+ghost use Rattle.mega_replay.specs.Stops.{IsTold, IsWriteStop};
+
+use crate::replay::replay;
+use crate::status::Stop;
+use crate::writing::write_on;
+use mega_base::{Bytes, Text};
+use mega_gen::generate;
+use mega_io::{Sink, SinkError, Source, put};
+use mega_words::{Command, command_of};
+use std::alloc::Global;
+
+/// What the program says where its words are no form.
+const USAGE: &str =
+    "usage: megastore replay [--summary] | gen --seed S --count N --nodes K | node --number K --turns T\n";
+
+/// Runs the program on its words, and gives the status with which it ends: 0 where the input was read
+/// to its end and every line was an event that happened, or where all lines were drawn; 2 where the words are no form; 3 where the
+/// header breaks a rule; 4 where a line is no event, or its event is refused; 5 and 6 where the source
+/// or the sink failed; 8 for want of memory; 11 where a line is not served yet. With 0 the
+/// text of all lines was written; with 3, 4 and 11 that of what came before, and then the last line;
+/// with 5 that of the lines that were done, where the sink took it; with 6 and 8 a front of such a text.
+pub fn run<I: Source, O: Sink>(alloc: Global, words: &[Text], input: &mut I, out: &mut O) -> u8
+    ensures unformed { result ≡ 2 → command_of words.now ≡ None }
+    ensures no_form { command_of words.now ≡ None → (result ≡ 2) ⊎ (result ≡ 8) }
+    ensures used { result ≡ 2 → Appends (O.held out.old) (O.held out.new) usage_line ⊎ Rose (O.faults out.old) (O.faults out.new) }
+    ensures usage { command_of words.now ≡ None → AppendsFront (O.held out.old) (O.held out.new) usage_line }
+    ensures drawn { (seed count nodes : ℕ) → command_of words.now ≡ Some (Gen seed count nodes) → result ≡ 0 → Appends (O.held out.old) (O.held out.new) (generated seed count nodes) }
+    ensures drawing { (seed count nodes : ℕ) → command_of words.now ≡ Some (Gen seed count nodes) → IsDrawn result × AppendsFront (O.held out.old) (O.held out.new) (generated seed count nodes) }
+    ensures unread { (seed count nodes : ℕ) → command_of words.now ≡ Some (Gen seed count nodes) → input.new ≡ input.old }
+    ensures done { command_of words.now ≡ Some Replay → result ≡ 0 → InputDone (I.left input.old) (Appends (O.held out.old) (O.held out.new)) }
+    ensures end { command_of words.now ≡ Some Replay → result ≡ 0 → IsAtEnd (I.left input.new) }
+    ensures header { result ≡ 3 → (rule : ℕ) × InputBroken (I.left input.old) rule (λ text. Appends (O.held out.old) (O.held out.new) (text ++ header_line rule)) }
+    ensures refused { result ≡ 4 → ((line : ℕ) × (reason : ℕ) × InputNoEvent (I.left input.old) line reason (λ text. Appends (O.held out.old) (O.held out.new) (text ++ schedule_line line reason))) ⊎ ((line : ℕ) × (why : ℕ) × InputRefused (I.left input.old) line why (λ text. Appends (O.held out.old) (O.held out.new) (text ++ refused_line line why))) }
+    ensures unbuilt { result ≡ 11 → (line : ℕ) × InputUnbuilt (I.left input.old) line (λ text. Appends (O.held out.old) (O.held out.new) (text ++ unbuilt_line line)) }
+    ensures broken { result ≡ 5 → InputBegun (I.left input.old) (Appends (O.held out.old) (O.held out.new)) ⊎ Rose (O.faults out.old) (O.faults out.new) }
+    ensures cut { command_of words.now ≡ Some Replay → IsCutStatus result → InputCut (I.left input.old) (AppendsFront (O.held out.old) (O.held out.new)) }
+    ensures source { result ≡ 5 → Rose (I.faults input.old) (I.faults input.new) }
+    ensures sink { result ≡ 6 → Rose (O.faults out.old) (O.faults out.new) }
+    ensures only { IsStatus result }
+    ensures inputs { I.faults input.old ≤ I.faults input.new }
+    ensures outs { O.faults out.old ≤ O.faults out.new }
+{
+    match command_of(words) {
+        None => tell_usage(out),
+        Some(Command::Gen { seed, count, nodes }) => draw(alloc, seed, count, nodes, out),
+        Some(Command::Replay) => replay_all(alloc, input, out),
+    }
+}
+
+/// Writes the schedule that is drawn from a seed, and gives the status with which the program then ends.
+fn draw<O: Sink>(alloc: Global, seed: u64, count: u64, nodes: u8, out: &mut O) -> u8
+    requires first { 1 ≤ nodes }
+    requires last { nodes ≤ 9 }
+    ensures whole { result ≡ 0 → Appends (O.held out.old) (O.held out.new) (generated seed count nodes) }
+    ensures front { AppendsFront (O.held out.old) (O.held out.new) (generated seed count nodes) }
+    ensures only { IsDrawn result }
+    ensures sink { result ≡ 6 → Rose (O.faults out.old) (O.faults out.new) }
+    ensures count { O.faults out.old ≤ O.faults out.new }
+{
+    match generate(alloc, seed, count, nodes, out) {
+        Ok(()) => 0,
+        Err(SinkError::Failed) => 6,
+        Err(SinkError::NoMemory) => 8,
+    }
+}
+
+/// Replays the input, and gives the status with which the program then ends.
+fn replay_all<I: Source, O: Sink>(alloc: Global, input: &mut I, out: &mut O) -> u8
+    ensures done { result ≡ 0 → InputDone (I.left input.old) (Appends (O.held out.old) (O.held out.new)) }
+    ensures end { result ≡ 0 → IsAtEnd (I.left input.new) }
+    ensures header { result ≡ 3 → (rule : ℕ) × InputBroken (I.left input.old) rule (λ text. Appends (O.held out.old) (O.held out.new) (text ++ header_line rule)) }
+    ensures refused { result ≡ 4 → ((line : ℕ) × (reason : ℕ) × InputNoEvent (I.left input.old) line reason (λ text. Appends (O.held out.old) (O.held out.new) (text ++ schedule_line line reason))) ⊎ ((line : ℕ) × (why : ℕ) × InputRefused (I.left input.old) line why (λ text. Appends (O.held out.old) (O.held out.new) (text ++ refused_line line why))) }
+    ensures unbuilt { result ≡ 11 → (line : ℕ) × InputUnbuilt (I.left input.old) line (λ text. Appends (O.held out.old) (O.held out.new) (text ++ unbuilt_line line)) }
+    ensures broken { result ≡ 5 → InputBegun (I.left input.old) (Appends (O.held out.old) (O.held out.new)) ⊎ Rose (O.faults out.old) (O.faults out.new) }
+    ensures cut { IsCutStatus result → InputCut (I.left input.old) (AppendsFront (O.held out.old) (O.held out.new)) }
+    ensures source { result ≡ 5 → Rose (I.faults input.old) (I.faults input.new) }
+    ensures sink { result ≡ 6 → Rose (O.faults out.old) (O.faults out.new) }
+    ensures only { IsReplayStatus result }
+    ensures inputs { I.faults input.old ≤ I.faults input.new }
+    ensures outs { O.faults out.old ≤ O.faults out.new }
+{
+    match transcribe(alloc, input, out) {
+        Ok(()) => 0,
+        Err(stop) => stop.status(),
+    }
+}
+
+/// Writes how the program is used, and gives the status with which it then ends.
+fn tell_usage<O: Sink>(out: &mut O) -> u8
+    ensures status { (result ≡ 2) ⊎ (result ≡ 8) }
+    ensures used { result ≡ 2 → Appends (O.held out.old) (O.held out.new) usage_line ⊎ Rose (O.faults out.old) (O.faults out.new) }
+    ensures usage { AppendsFront (O.held out.old) (O.held out.new) usage_line }
+    ensures count { O.faults out.old ≤ O.faults out.new }
+{
+    match put(out, USAGE.as_bytes()) {
+        Ok(()) => 2,
+        Err(SinkError::Failed) => 2,
+        Err(SinkError::NoMemory) => 8,
+    }
+}
+
+/// Writes the transcript of the input, to its last byte or with the last line that tells of the stop.
+fn transcribe<I: Source, O: Sink>(alloc: Global, input: &mut I, out: &mut O) -> Result<(), Stop>
+    ensures done { OnOk result (InputDone (I.left input.old) (Appends (O.held out.old) (O.held out.new))) }
+    ensures end { OnOk result (IsAtEnd (I.left input.new)) }
+    ensures header { (rule : ℕ) → result ≡ Err (Stop.Header rule) → InputBroken (I.left input.old) rule (λ text. Appends (O.held out.old) (O.held out.new) (text ++ header_line rule)) }
+    ensures none { (at reason : ℕ) → result ≡ Err (Stop.Schedule at reason) → InputNoEvent (I.left input.old) at reason (λ text. Appends (O.held out.old) (O.held out.new) (text ++ schedule_line at reason)) }
+    ensures refused { (at why : ℕ) → result ≡ Err (Stop.Refused at why) → InputRefused (I.left input.old) at why (λ text. Appends (O.held out.old) (O.held out.new) (text ++ refused_line at why)) }
+    ensures unbuilt { (at : ℕ) → result ≡ Err (Stop.Unbuilt at) → InputUnbuilt (I.left input.old) at (λ text. Appends (O.held out.old) (O.held out.new) (text ++ unbuilt_line at)) }
+    ensures broken { result ≡ Err Stop.Source → InputBegun (I.left input.old) (Appends (O.held out.old) (O.held out.new)) ⊎ Rose (O.faults out.old) (O.faults out.new) }
+    ensures cut { OnErr result (InputCut (I.left input.old) (AppendsFront (O.held out.old) (O.held out.new))) }
+    ensures source { result ≡ Err Stop.Source → Rose (I.faults input.old) (I.faults input.new) }
+    ensures sink { result ≡ Err Stop.Sink → Rose (O.faults out.old) (O.faults out.new) }
+    ensures inputs { I.faults input.old ≤ I.faults input.new }
+    ensures outs { O.faults out.old ≤ O.faults out.new }
+{
+    let mut waiting = Bytes::new(alloc);
+    match replay(alloc, input, out, &mut waiting) {
+        Ok(()) => match write_on(out, &mut waiting) {
+            Ok(()) => Ok(()),
+            Err(stop) => Err(stop),
+        },
+        Err(stop) => Err(write_stop(alloc, stop, out, &mut waiting)),
+    }
+}
+
+/// Writes what waits and the last line of the stop, and gives the stop that was met first. A stop that
+/// has a last line is met once that is written; want of memory is told of before a fault of the source.
+fn write_stop<O: Sink>(alloc: Global, stop: Stop, out: &mut O, waiting: &mut Bytes) -> Stop
+    ensures told { IsTold result → (result ≡ stop) × Appends (O.held out.old) (O.held out.new) (waiting.old ++ last_line stop) }
+    ensures front { AppendsFront (O.held out.old) (O.held out.new) (waiting.old ++ last_line stop) }
+    ensures broken { result ≡ Stop.Source → (stop ≡ Stop.Source) × (Appends (O.held out.old) (O.held out.new) waiting.old ⊎ Rose (O.faults out.old) (O.faults out.new)) }
+    ensures sink { result ≡ Stop.Sink → (stop ≡ Stop.Sink) ⊎ Rose (O.faults out.old) (O.faults out.new) }
+    ensures count { O.faults out.old ≤ O.faults out.new }
+{
+    match stop.tell(alloc, waiting) {
+        Ok(()) => {}
+        Err(_) => {
+            let _ = write_on(out, waiting);
+            return Stop::NoMemory;
+        }
+    }
+    match write_on(out, waiting) {
+        Ok(()) => stop,
+        Err(fault) => first_met(stop, fault),
+    }
+}
+
+/// Of a stop and a later fault of writing, the one that was met first.
+fn first_met(stop: Stop, fault: Stop) -> Stop
+    requires { IsWriteStop fault }
+    ensures untold { IsTold result → ⊥ }
+    ensures source { result ≡ Stop.Source → (stop ≡ Stop.Source) × (fault ≡ Stop.Sink) }
+    ensures sink { result ≡ Stop.Sink → (stop ≡ Stop.Sink) ⊎ (fault ≡ Stop.Sink) }
+{
+    match (stop, fault) {
+        (Stop::Source, Stop::Sink) => stop,
+        (Stop::Sink, _) => stop,
+        _ => fault,
+    }
+}

@@ -1,0 +1,216 @@
+//! A replay: the header, then the lines of the schedule, one after another.
+ghost use Rattle.std.specs.Prelude.{◌≡◌, ◌≤◌, ◌++◌, ◌+◌, ◌⊎◌, [], ℕ, List, Option, Ok, Err, IfErr, OnOk, OnErr, length, drop, true, false, All};
+ghost use Rattle.std.specs.Io.KnownBytes.{prepend_known, IsAtEnd};
+ghost use Rattle.mega_base.specs.Causes.{Rose};
+ghost use Rattle.mega_transcript.specs.Lines.{HasLine, lines as text_of};
+ghost use Rattle.mega_schedule.specs.Events.{event_of};
+ghost use Rattle.mega_promises.specs.Runs.{Happening};
+ghost use Rattle.mega_replay.specs.Progress.{Writes, WritesFront};
+ghost use Rattle.mega_replay.specs.Running.{StandsAfter, IsStanding, Went, stood};
+ghost use Rattle.mega_replay.specs.Replaying.{IsRefused, IsUnbuilt};
+ghost use Rattle.mega_replay.specs.Known.{Follows, Ends, StopsNext, LeftIsDone, LeftIsBegun, LeftStops, CutsLine, IsRead, InputDone, InputBegun, InputBroken, InputNoEvent, InputRefused, InputUnbuilt};
+ghost use Rattle.mega_replay.specs.Stops.{IsBeforeWriting, IsScheduleStop};
+
+use crate::happening::take_line;
+use crate::heading::read_header;
+use crate::input::{Next, next_line};
+use crate::opening::opened;
+use crate::status::Stop;
+use crate::writing::write_from;
+use mega_base::{Bytes, Items};
+use mega_cluster::Cluster;
+use mega_io::{LineReader, Sink, Source};
+use mega_transcript::Tape;
+use mega_world::World;
+use std::alloc::Global;
+
+/// How many lines a schedule may have.
+const LINES: u64 = 1_000_000;
+
+/// Does the next line of the schedule and writes what happened, or tells that there is none.
+fn do_line<I: Source, O: Sink>(
+    alloc: Global,
+    cluster: &Cluster,
+    reader: &mut LineReader,
+    input: &mut I,
+    line: &mut Bytes,
+    number: u64,
+    world: &mut World,
+    tape: &mut Tape,
+    out: &mut O,
+    waiting: &mut Bytes,
+) -> Result<bool, Stop>
+    requires lines { All HasLine tape.old.items }
+    requires standing { IsStanding cluster.now world.old tape.old.items }
+    ensures step { result ≡ Ok true → (done : List (List ℕ)) (events : List Happening) → StandsAfter cluster.now done events world.old tape.old.items → Went cluster.now number line.new events world.new tape.new.items }
+    ensures line { result ≡ Ok true → Follows (prepend_known reader.old (I.left input.old)) (prepend_known reader.new (I.left input.new)) line.new }
+    ensures text { result ≡ Ok true → Writes (O.held out.old) (O.held out.new) waiting.new (waiting.old ++ text_of (cluster.now).schema (drop (length tape.old.items) tape.new.items)) }
+    ensures still { result ≡ Ok false → (tape.new.items ≡ tape.old.items) × (O.held out.new ≡ O.held out.old) × (waiting.new ≡ waiting.old) }
+    ensures end { result ≡ Ok false → Ends (prepend_known reader.old (I.left input.old)) × IsAtEnd (I.left input.new) }
+    ensures none { (at reason : ℕ) → result ≡ Err (Stop.Schedule at reason) → (at ≡ number) × StopsNext (prepend_known reader.old (I.left input.old)) (λ line. event_of (cluster.now).schema number line ≡ Err reason) }
+    ensures unbuilt { (at : ℕ) → result ≡ Err (Stop.Unbuilt at) → (done : List (List ℕ)) (events : List Happening) → StandsAfter cluster.now done events world.old tape.old.items → (at ≡ number) × StopsNext (prepend_known reader.old (I.left input.old)) (λ line. IsUnbuilt cluster.now number line (stood cluster.now events)) }
+    ensures refused { (at why : ℕ) → result ≡ Err (Stop.Refused at why) → (done : List (List ℕ)) (events : List Happening) → StandsAfter cluster.now done events world.old tape.old.items → (at ≡ number) × StopsNext (prepend_known reader.old (I.left input.old)) (λ line. IsRefused cluster.now number line (stood cluster.now events) why) }
+    ensures kept { IfErr result (λ stop. IsBeforeWriting stop → (O.held out.new ≡ O.held out.old) × (waiting.new ≡ waiting.old)) }
+    ensures cut { OnErr result ((done : List (List ℕ)) (events : List Happening) → StandsAfter cluster.now done events world.old tape.old.items → CutsLine cluster.now number (prepend_known reader.old (I.left input.old)) (prepend_known reader.new (I.left input.new)) line.new events world.new tape.old.items tape.new.items (WritesFront (O.held out.old) (O.held out.new) waiting.new) waiting.old) }
+    ensures source { result ≡ Err Stop.Source → Rose (I.faults input.old) (I.faults input.new) }
+    ensures sink { result ≡ Err Stop.Sink → Rose (O.faults out.old) (O.faults out.new) }
+    ensures only { IfErr result IsScheduleStop }
+    ensures inputs { I.faults input.old ≤ I.faults input.new }
+    ensures outs { O.faults out.old ≤ O.faults out.new }
+    ensures lines { result ≡ Ok true → All HasLine tape.new.items }
+{
+    match next_line(reader, input, line) {
+        Ok(Next::Line) => {}
+        Ok(Next::End) => return Ok(false),
+        Ok(Next::Long) => return Err(Stop::Schedule {
+            line: number,
+            reason: 7,
+        }),
+        Err(stop) => return Err(stop),
+    }
+    let written = tape.items.len();
+    match take_line(alloc, cluster, number, line.as_slice(), world, tape) {
+        Ok(()) => {}
+        Err(stop) => return Err(stop),
+    }
+    match write_from(alloc, &cluster.schema, tape, written, out, waiting) {
+        Ok(()) => Ok(true),
+        Err(stop) => Err(stop),
+    }
+}
+
+/// Does the lines of the schedule, to the input's end.
+fn run_lines<I: Source, O: Sink>(
+    alloc: Global,
+    cluster: &Cluster,
+    reader: &mut LineReader,
+    input: &mut I,
+    line: &mut Bytes,
+    world: &mut World,
+    tape: &mut Tape,
+    out: &mut O,
+    waiting: &mut Bytes,
+) -> Result<(), Stop>
+    requires standing { StandsAfter cluster.now [] [] world.old tape.old.items }
+    requires lines { All HasLine tape.old.items }
+    ensures done { OnOk result ((first : Option (List ℕ)) → Writes first (O.held out.old) waiting.old (text_of (cluster.now).schema tape.old.items) → LeftIsDone cluster.now (prepend_known reader.old (I.left input.old)) (Writes first (O.held out.new) waiting.new)) }
+    ensures end { OnOk result (IsAtEnd (I.left input.new)) }
+    ensures none { (at reason : ℕ) → result ≡ Err (Stop.Schedule at reason) → (first : Option (List ℕ)) → Writes first (O.held out.old) waiting.old (text_of (cluster.now).schema tape.old.items) → LeftStops cluster.now (prepend_known reader.old (I.left input.old)) at (λ line now. event_of (cluster.now).schema at line ≡ Err reason) (Writes first (O.held out.new) waiting.new) }
+    ensures unbuilt { (at : ℕ) → result ≡ Err (Stop.Unbuilt at) → (first : Option (List ℕ)) → Writes first (O.held out.old) waiting.old (text_of (cluster.now).schema tape.old.items) → LeftStops cluster.now (prepend_known reader.old (I.left input.old)) at (λ line now. IsUnbuilt cluster.now at line now) (Writes first (O.held out.new) waiting.new) }
+    ensures refused { (at why : ℕ) → result ≡ Err (Stop.Refused at why) → (first : Option (List ℕ)) → Writes first (O.held out.old) waiting.old (text_of (cluster.now).schema tape.old.items) → LeftStops cluster.now (prepend_known reader.old (I.left input.old)) at (λ line now. IsRefused cluster.now at line now why) (Writes first (O.held out.new) waiting.new) }
+    ensures broken { result ≡ Err Stop.Source → (first : Option (List ℕ)) → Writes first (O.held out.old) waiting.old (text_of (cluster.now).schema tape.old.items) → LeftIsBegun cluster.now (prepend_known reader.old (I.left input.old)) (Writes first (O.held out.new) waiting.new) }
+    ensures cut { OnErr result ((first : Option (List ℕ)) → Writes first (O.held out.old) waiting.old (text_of (cluster.now).schema tape.old.items) → LeftIsBegun cluster.now (prepend_known reader.old (I.left input.old)) (WritesFront first (O.held out.new) waiting.new)) }
+    ensures source { result ≡ Err Stop.Source → Rose (I.faults input.old) (I.faults input.new) }
+    ensures sink { result ≡ Err Stop.Sink → Rose (O.faults out.old) (O.faults out.new) }
+    ensures only { IfErr result IsScheduleStop }
+    ensures inputs { I.faults input.old ≤ I.faults input.new }
+    ensures outs { O.faults out.old ≤ O.faults out.new }
+{
+    for count in 0..LINES {
+        match do_line(
+            alloc,
+            cluster,
+            reader,
+            input,
+            line,
+            count + 1,
+            world,
+            tape,
+            out,
+            waiting,
+        ) {
+            Ok(true) => {}
+            Ok(false) => return Ok(()),
+            Err(stop) => return Err(stop),
+        }
+    }
+    match next_line(reader, input, line) {
+        Ok(Next::End) => Ok(()),
+        Ok(Next::Line) => Err(Stop::Schedule {
+            line: LINES + 1,
+            reason: 8,
+        }),
+        Ok(Next::Long) => Err(Stop::Schedule {
+            line: LINES + 1,
+            reason: 7,
+        }),
+        Err(stop) => Err(stop),
+    }
+}
+
+/// Starts the nodes, writes that, and does the lines of the schedule.
+fn run_schedule<I: Source, O: Sink>(
+    alloc: Global,
+    cluster: &Cluster,
+    reader: &mut LineReader,
+    input: &mut I,
+    line: &mut Bytes,
+    out: &mut O,
+    waiting: &mut Bytes,
+) -> Result<(), Stop>
+    requires read { IsRead cluster.now }
+    requires none_waits { waiting.old ≡ [] }
+    ensures done { OnOk result (LeftIsDone cluster.now (prepend_known reader.old (I.left input.old)) (Writes (O.held out.old) (O.held out.new) waiting.new)) }
+    ensures end { OnOk result (IsAtEnd (I.left input.new)) }
+    ensures none { (at reason : ℕ) → result ≡ Err (Stop.Schedule at reason) → LeftStops cluster.now (prepend_known reader.old (I.left input.old)) at (λ line now. event_of (cluster.now).schema at line ≡ Err reason) (Writes (O.held out.old) (O.held out.new) waiting.new) }
+    ensures unbuilt { (at : ℕ) → result ≡ Err (Stop.Unbuilt at) → LeftStops cluster.now (prepend_known reader.old (I.left input.old)) at (λ line now. IsUnbuilt cluster.now at line now) (Writes (O.held out.old) (O.held out.new) waiting.new) }
+    ensures refused { (at why : ℕ) → result ≡ Err (Stop.Refused at why) → LeftStops cluster.now (prepend_known reader.old (I.left input.old)) at (λ line now. IsRefused cluster.now at line now why) (Writes (O.held out.old) (O.held out.new) waiting.new) }
+    ensures broken { result ≡ Err Stop.Source → LeftIsBegun cluster.now (prepend_known reader.old (I.left input.old)) (Writes (O.held out.old) (O.held out.new) waiting.new) }
+    ensures cut { OnErr result (LeftIsBegun cluster.now (prepend_known reader.old (I.left input.old)) (WritesFront (O.held out.old) (O.held out.new) waiting.new)) }
+    ensures source { result ≡ Err Stop.Source → Rose (I.faults input.old) (I.faults input.new) }
+    ensures sink { result ≡ Err Stop.Sink → Rose (O.faults out.old) (O.faults out.new) }
+    ensures only { IfErr result IsScheduleStop }
+    ensures inputs { I.faults input.old ≤ I.faults input.new }
+    ensures outs { O.faults out.old ≤ O.faults out.new }
+{
+    let mut tape = Tape {
+        items: Items::new(alloc),
+    };
+    let mut world = match opened(alloc, cluster, &mut tape) {
+        Ok(world) => world,
+        Err(stop) => return Err(stop),
+    };
+    match write_from(alloc, &cluster.schema, &tape, 0, out, waiting) {
+        Ok(()) => {}
+        Err(stop) => return Err(stop),
+    }
+    run_lines(
+        alloc, cluster, reader, input, line, &mut world, &mut tape, out, waiting,
+    )
+}
+
+/// Reads a header and a schedule, and writes the transcript of what happens; its last bytes may wait.
+/// It is done exactly where the header reads as a cluster and every line is an event that happens; it
+/// stops at a header that breaks a rule, and else at the first line that is no event, is refused or is
+/// not served.
+pub fn replay<I: Source, O: Sink>(
+    alloc: Global,
+    input: &mut I,
+    out: &mut O,
+    waiting: &mut Bytes,
+) -> Result<(), Stop>
+    requires { waiting.old ≡ [] }
+    ensures done { OnOk result (InputDone (I.left input.old) (Writes (O.held out.old) (O.held out.new) waiting.new)) }
+    ensures end { OnOk result (IsAtEnd (I.left input.new)) }
+    ensures header { (rule : ℕ) → result ≡ Err (Stop.Header rule) → InputBroken (I.left input.old) rule (Writes (O.held out.old) (O.held out.new) waiting.new) }
+    ensures none { (at reason : ℕ) → result ≡ Err (Stop.Schedule at reason) → InputNoEvent (I.left input.old) at reason (Writes (O.held out.old) (O.held out.new) waiting.new) }
+    ensures unbuilt { (at : ℕ) → result ≡ Err (Stop.Unbuilt at) → InputUnbuilt (I.left input.old) at (Writes (O.held out.old) (O.held out.new) waiting.new) }
+    ensures refused { (at why : ℕ) → result ≡ Err (Stop.Refused at why) → InputRefused (I.left input.old) at why (Writes (O.held out.old) (O.held out.new) waiting.new) }
+    ensures broken { result ≡ Err Stop.Source → InputBegun (I.left input.old) (Writes (O.held out.old) (O.held out.new) waiting.new) }
+    ensures cut { OnErr result (InputBegun (I.left input.old) (WritesFront (O.held out.old) (O.held out.new) waiting.new)) }
+    ensures source { result ≡ Err Stop.Source → Rose (I.faults input.old) (I.faults input.new) }
+    ensures sink { result ≡ Err Stop.Sink → Rose (O.faults out.old) (O.faults out.new) }
+    ensures inputs { I.faults input.old ≤ I.faults input.new }
+    ensures outs { O.faults out.old ≤ O.faults out.new }
+{
+    let mut reader = match LineReader::new(alloc) {
+        Ok(reader) => reader,
+        Err(_) => return Err(Stop::NoMemory),
+    };
+    let mut line = Bytes::new(alloc);
+    let cluster = match read_header(alloc, &mut reader, input, &mut line) {
+        Ok(cluster) => cluster,
+        Err(stop) => return Err(stop),
+    };
+    run_schedule(alloc, &cluster, &mut reader, input, &mut line, out, waiting)
+}
