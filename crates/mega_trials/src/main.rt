@@ -7,6 +7,7 @@ use mega_replay::run;
 use std::{fs, io};
 
 /// What a trial came to.
+#[derive(Drop)]
 struct Trial {
     status: u8,
     is_same: bool,
