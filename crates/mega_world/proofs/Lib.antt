@@ -1,11 +1,12 @@
 pub mod Sending
+pub mod Awaiting
 pub mod Plain
 pub mod Carrying
 pub mod Lapsing
 pub mod Breaking
 pub mod Events
 pub mod Least
-pub mod Quiet
+pub mod Falling
 pub mod Staying
 pub mod Owning
 pub mod Forming
