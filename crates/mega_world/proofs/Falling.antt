@@ -13,9 +13,8 @@ use Rattle.mega_transcript.proofs.Tapes.{newest-append}
 use Rattle.mega_format_laws.specs.Nodes.{IsNode}
 use Rattle.mega_member_laws.specs.Nodes.{StaysWithin}
 use Rattle.mega_rules.specs.Met.{Crashes}
-use Rattle.mega_rules.specs.Operations.{Node as RuleNode}
 use Rattle.mega_rules.specs.Steps.{crashed}
-use Rattle.mega_promises.specs.Runs.{Cuts, Standing, after_event, because, crashes, has_lapsed, set_at}
+use Rattle.mega_promises.specs.Runs.{Cuts, Standing, after_event, because, has_lapsed, set_at}
 use Rattle.mega_world.specs.declared.place.Place.TheVariants.{Down}
 use Rattle.mega_world.specs.declared.world.World.{World}
 use Rattle.mega_world.specs.Carries.{Carries}

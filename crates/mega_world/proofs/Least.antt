@@ -2,9 +2,8 @@
 use Rattle.std.proofs.Common.{◌≡◌, ◌≤◌, ◌<◌, ℕ, ◌+◌, ◌-◌, ◌==◌, ◌&&◌, ◌||◌, cond, not, Bool, true, false, nat_le, List, length, Option, Some, None, is_some, find, refl, sym, ap, ◌∙◌, subst, zero, suc, arith}
 use Rattle.std.proofs.lemmas.Bool.Decides.{nat_tests}
 use Rattle.std.proofs.lemmas.Option.{slice_get_past}
-use Rattle.std.specs.BTreeSet.{BTreeSet, contains}
-use Rattle.std.specs.List.{range_with_len, slice_get}
-use Rattle.std.specs.Ordering.{is_gt, nat_cmp}
+use Rattle.std.specs.BTreeSet.{BTreeSet}
+use Rattle.std.specs.List.{range_with_len}
 use Rattle.mega_wire.specs.declared.message.Message.{Message}
 use Rattle.mega_transcript.specs.declared.item.Item.{Item}
 use Rattle.mega_transcript.specs.Tape.{is_sent, is_taken, sent_count}
@@ -55,45 +54,11 @@ and3 true true c is = (refl, refl, is)
 and3 true false c is = cc
 and3 false b c is = cc
 
--- ---- the least of two, and of all
+-- ---- the least of a test that is the same
 
 pub least_same : (p q : ℕ → Bool) (least : Option ℕ) → ((n : ℕ) → p n ≡ q n) → IsLeast p least → IsLeast q least
 least_same p q None same is = λ n. sym (same n) ∙ is n
 least_same p q (Some k) same is = (sym (same k) ∙ is.0, λ n less. sym (same n) ∙ is.1 n less)
-
-either_first : (a b : Bool) → a ≡ true → (a || b) ≡ true
-either_first a b is = ap (λ t. t || b) is
-
-either_second : (a b : Bool) → a ≡ false → (a || b) ≡ b
-either_second a b is = ap (λ t. t || b) is
-
-pub least_none : (p q : ℕ → Bool) (other : Option ℕ) → IsLeast p None → IsLeast q other → IsLeast (λ n. p n || q n) other
-least_none p q other none is = least_same q (λ n. p n || q n) other (λ n. sym (either_second (p n) (q n) (none n))) is
-
-pub least_one : (p q : ℕ → Bool) (one : Option ℕ) → IsLeast p one → IsLeast q None → IsLeast (λ n. p n || q n) one
-least_one p q one is none = least_same p (λ n. p n || q n) one (λ n. sym (by (p n) (q n) (none n))) is
-  where
-    by : (a b : Bool) → b ≡ false → (a || b) ≡ a
-    by true b none = refl
-    by false b none = none
-
-pub least_later : (p q : ℕ → Bool) (a b : ℕ) → IsLeast p (Some a) → IsLeast q (Some b) → b < a → IsLeast (λ n. p n || q n) (Some b)
-least_later p q a b first second less =
-    (either_second (p b) (q b) (first.1 b less) ∙ second.0,
-     λ n below. let under : n < a = omega (arith, less, below) in either_second (p n) (q n) (first.1 n under) ∙ second.1 n below)
-
-pub least_sooner : (p q : ℕ → Bool) (a b : ℕ) → IsLeast p (Some a) → IsLeast q (Some b) → a ≤ b → IsLeast (λ n. p n || q n) (Some a)
-least_sooner p q a b first second le =
-    (either_first (p a) (q a) first.0,
-     λ n below. let under : n < b = omega (arith, le, below) in either_second (p n) (q n) (first.1 n below) ∙ second.1 n under)
-
--- the first of an ordered set
-pub least_first : (numbers : BTreeSet ℕ) (k : ℕ) → contains nat_cmp numbers k ≡ true → ((q : ℕ) → contains nat_cmp numbers q ≡ true → is_gt (nat_cmp k q) ≡ false) → IsLeast (contains nat_cmp numbers) (Some k)
-least_first numbers k has least = (has, λ n less. by n less (contains nat_cmp numbers n) refl)
-  where
-    by : (n : ℕ) → n < k → (t : Bool) → contains nat_cmp numbers n ≡ t → t ≡ false
-    by n less true is = let no : is_gt (nat_cmp k n) ≡ false = least n is in grind (arith, nat_tests)
-    by n less false is = refl
 
 -- ---- what waits for the nodes that are up
 

@@ -1,5 +1,4 @@
 pub mod Sending
-pub mod Awaiting
 pub mod Plain
 pub mod Carrying
 pub mod Lapsing

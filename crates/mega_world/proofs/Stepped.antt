@@ -1,5 +1,5 @@
 -- One node of a world makes a step.
-use Rattle.std.proofs.Common.{◌≡◌, ℕ, ◌+◌, ◌-◌, ◌≤◌, min, List, length, map, set, Some, true, refl, sym, ap, ◌∙◌, subst, arith}
+use Rattle.std.proofs.Common.{◌≡◌, ℕ, ◌+◌, ◌-◌, ◌≤◌, min, List, get_or, length, map, set, Some, true, refl, sym, ap, ◌∙◌, subst, arith}
 use Rattle.std.proofs.lemmas.Option.{slice_get_read}
 use Rattle.std.specs.List.{slice_get}
 use Rattle.mega_base.specs.declared.names.OpId.{OpId}
@@ -22,7 +22,7 @@ use Rattle.mega_core.specs.declared.fault.StepFault.TheVariants as fault
 use Rattle.mega_core.specs.declared.step.Step.{Step}
 use Rattle.mega_core.specs.Notes.{met_of}
 use Rattle.mega_core.specs.Represents.{Represents}
-use Rattle.mega_promises.specs.Runs.{set_at, setting}
+use Rattle.mega_promises.specs.Runs.{setting}
 use Rattle.mega_world.specs.declared.fault.WorldFault.TheVariants.{Unbuilt}
 use Rattle.mega_world.specs.Faults.{fault_of}
 use Rattle.mega_world.specs.declared.place.Place.{Place}

@@ -92,10 +92,7 @@ impl World {
         ensures built { result ≡ Err Unbuilt → (c : Cluster) (now : Standing) → IsAt c self.old tape.old.items now → ⊥ }
         ensures allowed { result ≡ Err Unbuilt → (c : Cluster) (now : Standing) → IsAt c self.old tape.old.items now → refusal c now (event.Deliver number) ≡ None }
     {
-        match self
-            .mail
-            .delivery_refusal(self.places.as_slice(), number)
-        {
+        match self.mail.delivery_refusal(self.places.as_slice(), number) {
             Some(why) => Err(WorldFault::Refused { why }),
             None => self.hand(alloc, number, tape),
         }

@@ -175,7 +175,12 @@ fn a_drain_passes_by_a_node_that_is_down(rt: HostRuntime) -> Result<(), Fail> {
     let (mut world, mut tape) = after(alloc, FALLEN)?;
     let length = tape.items.len();
     assert!(rt; last_sent_to(&tape, 3) > 0);
-    happens(alloc, &mut world, &mut tape, r#"{"do":"drain","most":1000}"#)?;
+    happens(
+        alloc,
+        &mut world,
+        &mut tape,
+        r#"{"do":"drain","most":1000}"#,
+    )?;
     assert_eq!(rt; tape.items.len(), length);
     Ok(())
 }

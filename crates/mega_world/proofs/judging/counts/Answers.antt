@@ -1,4 +1,4 @@
-use Rattle.std.proofs.Common.{◌≡◌, ◌∙◌, [], Some, ap, is_some, sym}
+use Rattle.std.proofs.Common.{◌∙◌, [], ap, is_some, sym}
 use Rattle.mega_world.specs.Members.{is_up_at, member_of}
 use Rattle.mega_world.proofs.Breaking.{counts_down, counts_up}
 use Rattle.mega_world.proofs.judging.counts.Goals as goal

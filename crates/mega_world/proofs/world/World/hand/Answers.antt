@@ -2,6 +2,7 @@ use Rattle.std.proofs.Common.{◌≡◌, ◌∷◌, [], ◌∙◌, ◌≤◌, Er
 use Rattle.mega_transcript.specs.declared.item.Item.TheVariants.{Taken}
 use Rattle.mega_world.specs.declared.fault.WorldFault.TheVariants.{Unbuilt}
 use Rattle.mega_world.specs.declared.place.Place.{Place}
+use Rattle.mega_world.specs.Members.{is_up_at}
 use Rattle.mega_world.proofs.Happening.{IsReady, delivered_at, delivered_lined, delivery_built, is_there, taken_owned, taken_placed}
 use Rattle.mega_world.proofs.world.World.hand.Goals as goal
 
@@ -49,3 +50,7 @@ returns-in-Err-clause-built c unbuilt cluster now r happens =
     let is = c.in-Some.ensures.found now r.mail in
     let same : c.in-Err.fault ≡ Unbuilt = cc in
     delivery_built cluster now c.args.number message r.formed is (c.in-Err.ensures.unbuilt (ap Err same) cluster now.node r.nodes)
+
+pub returns-in-None-clause-built : goal.returns-in-None-clause-built
+returns-in-None-clause-built c unbuilt cluster now r happens =
+    c.in-None.ensures.none cluster now r.mail (λ me. r.nodes.up_are me ∙ ap (λ (ps : List Place). is_up_at ps me) (sym c.as_slice.ensures.value)) happens
