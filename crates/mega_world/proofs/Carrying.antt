@@ -13,6 +13,7 @@ use Rattle.mega_promises.specs.Messages.{is_dropped, is_unsafe, message_of}
 use Rattle.mega_promises.specs.Runs.{breaks, with_items}
 use Rattle.mega_world.specs.declared.mail.Mail.{Mail}
 use Rattle.mega_world.specs.Carries.{Carries, is_waiting}
+use Rattle.mega_world.specs.Waits.{goes_to}
 use Rattle.mega_world.proofs.Plain.{with_append}
 
 -- a tape that tells the same of all messages
@@ -26,7 +27,7 @@ pub same_on : (mail : Mail) (old new : List Item) → TellsSame old new → Carr
 same_on mail old new s r = record {
   sent = s.count ∙ r.sent;
   messages = λ n. s.message n ∙ r.messages n;
-  waiting = λ n. r.waiting n ∙ sym (waits n);
+  waiting = λ to n. r.waiting to n ∙ sym (ap (λ b. b && goes_to (message_of new n) to) (waits n) ∙ ap (λ m. is_waiting old n && goes_to m to) (s.message n));
   dropped = λ n. r.dropped n ∙ sym (s.drops n);
   taken_sent = λ n took. is_sent_too n ∙ r.taken_sent n (sym (s.took n) ∙ took);
   dropped_sent = λ n drops. is_sent_too n ∙ r.dropped_sent n (sym (s.drops n) ∙ drops);

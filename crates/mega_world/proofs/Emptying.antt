@@ -24,7 +24,7 @@ use Rattle.mega_promises.specs.Messages.{message_of, next_delivery}
 use Rattle.mega_promises.specs.Runs.{Cuts, Standing, after_event, delivered, drained, handed, marked, setting, unless_none, up, whole_step}
 use Rattle.mega_world.specs.Carries.{Carries}
 use Rattle.mega_world.specs.Plain.{HasNoFuses}
-use Rattle.mega_world.proofs.Events.{drain_is_cut, drains_no_more, drains_on, drop_stands}
+use Rattle.mega_world.proofs.Events.{drain_is_cut, drains_no_more, drains_on}
 use Rattle.mega_world.proofs.Carrying.{same_on}
 use Rattle.mega_world.proofs.Plain.{steps_whole, still_unfused}
 use Rattle.mega_world.specs.declared.safety.Safety.{Safety}
@@ -32,14 +32,15 @@ use Rattle.mega_world.specs.declared.world.World.{World}
 use Rattle.mega_world.specs.Formed.{IsSound}
 use Rattle.mega_world.specs.Lapses.{KnowsLeases}
 use Rattle.mega_world.specs.Members.{AreMembers}
-use Rattle.mega_world.specs.Stands.{IsAt, version_of}
+use Rattle.mega_world.specs.Stands.{IsAt}
 
 -- a dropped message
-pub dropped_at : (c : Cluster) (h : Meanings) (cuts : Cuts) (now : Standing) (number : ℕ) (old new : World) (items after : List Item) → IsAt c old items now → new.nodes ≡ old.nodes → new.safety ≡ old.safety → Carries new.mail (Dropped number ∷ now.tape)
+pub dropped_at : (c : Cluster) (h : Meanings) (cuts : Cuts) (now : Standing) (number : ℕ) (old new : World) (items after : List Item) → IsAt c old items now → new.places ≡ old.places → new.safety ≡ old.safety → Carries new.mail (Dropped number ∷ now.tape)
     → after ≡ items ++ Dropped number ∷ [] → IsAt c new after (after_event c h cuts now (Drop number))
-dropped_at c h cuts now number old new items after r nodes safety carries is = record {
-  nodes = subst (λ ns. AreMembers version_of c ns.items now.node) (sym nodes) r.nodes;
-  mail = drop_stands c h cuts now number old.mail new.mail r.mail carries;
+dropped_at c h cuts now number old new items after r places safety carries is = record {
+  nodes = subst (λ ps. AreMembers c ps.items now.node) (sym places) r.nodes;
+  mail = carries;
+  unfused = record { of_log = r.unfused.of_log; of_data = r.unfused.of_data };
   tape = ap newest is ∙ newest-append items (Dropped number) ∙ ap (λ t. Dropped number ∷ t) r.tape;
   leases = subst (λ (s : Safety). KnowsLeases s now.node (Dropped number ∷ now.tape)) (sym safety) (record { lapses = r.leases.lapses; told = r.leases.told });
   formed = record { cluster = r.formed.cluster; lease = r.formed.lease; nodes = r.formed.nodes; messages = r.formed.messages };
@@ -49,12 +50,9 @@ dropped_at c h cuts now number old new items after r nodes safety carries is = r
 -- a drain that is cut
 pub cut_at : (c : Cluster) (now : Standing) (world : World) (items after : List Item) → IsAt c world items now → after ≡ items ++ Cut ∷ [] → IsAt c world after (marked now Cut)
 cut_at c now world items after r is = record {
-  nodes = record { count = r.nodes.count; each = r.nodes.each };
-  mail = record {
-    carries = same_on world.mail now.tape (Cut ∷ now.tape) (record { count = refl; message = λ n. refl; took = λ n. refl; drops = λ n. refl }) r.mail.carries;
-    unfused = record { of_log = r.mail.unfused.of_log; of_data = r.mail.unfused.of_data };
-    up_are = r.mail.up_are;
-  };
+  nodes = record { count = r.nodes.count; each = r.nodes.each; up_are = r.nodes.up_are };
+  mail = same_on world.mail now.tape (Cut ∷ now.tape) (record { count = refl; message = λ n. refl; took = λ n. refl; drops = λ n. refl }) r.mail;
+  unfused = record { of_log = r.unfused.of_log; of_data = r.unfused.of_data };
   tape = ap newest is ∙ newest-append items Cut ∙ ap (λ t. Cut ∷ t) r.tape;
   leases = record { lapses = r.leases.lapses; told = r.leases.told };
   formed = record { cluster = r.formed.cluster; lease = r.formed.lease; nodes = r.formed.nodes; messages = r.formed.messages };
@@ -155,7 +153,7 @@ drained_cut c h cuts now most left number world first here after r none is added
 pub next_sound : (c : Cluster) (h : Meanings) (cuts : Cuts) (now : Standing) (most turn number : ℕ) (world : World) (first here : List Item) (r : Reaches c h cuts now most world first here (most - turn)) → turn < most
     → IsSound c h cuts now (Drain most) → next_delivery (up r.mid) r.mid.tape ≡ Some number → IsSound c h cuts r.mid (Deliver number)
 next_sound c h cuts now most turn number world first here r less sound is =
-    sound_next c h cuts now r.mid most (most - (turn + 1)) number r.at.mail.unfused sound (r.drains ∙ ap (drained c h cuts r.mid) (left_more most turn less)) is
+    sound_next c h cuts now r.mid most (most - (turn + 1)) number r.at.unfused sound (r.drains ∙ ap (drained c h cuts r.mid) (left_more most turn less)) is
 
 pub reaches_next : (c : Cluster) (h : Meanings) (cuts : Cuts) (now : Standing) (most turn number : ℕ) (world after : World) (first here then' : List Item) (r : Reaches c h cuts now most world first here (most - turn)) → turn < most
     → next_delivery (up r.mid) r.mid.tape ≡ Some number → IsAt c after then' (after_event c h cuts r.mid (Deliver number)) → (All HasLine here → All HasLine then') → Reaches c h cuts now most after first then' (most - (turn + 1))

@@ -1,13 +1,13 @@
--- What the events of a run lead to, while every node is up and no fuse is set.
+-- What the events of a run lead to, while no fuse is set.
 use Rattle.std.proofs.Common.{◌≡◌, ℕ, ◌+◌, List, [], ◌∷◌, flat_map, Some, None, ap, ◌∙◌, zero, suc}
 use Rattle.mega_base.specs.declared.names.NodeId.{NodeId}
 use Rattle.mega_cluster.specs.declared.cluster.Cluster.{Cluster}
 use Rattle.mega_handler.specs.Named.{Meanings}
 use Rattle.mega_outcome.specs.declared.request.Request.{Request}
 use Rattle.mega_wire.specs.declared.message.Message.{Message}
-use Rattle.mega_schedule.specs.declared.world_event.WorldEvent.TheVariants.{Deliver, Drop, Begin as BeginEvent}
+use Rattle.mega_schedule.specs.declared.world_event.WorldEvent.TheVariants.{Deliver, Begin as BeginEvent}
 use Rattle.mega_transcript.specs.declared.item.Item.{Item}
-use Rattle.mega_transcript.specs.declared.item.Item.TheVariants.{Cut as CutItem, Dropped, Taken}
+use Rattle.mega_transcript.specs.declared.item.Item.TheVariants.{Cut as CutItem, Taken}
 use Rattle.mega_transcript.specs.Tape.{onto, sent_count}
 use Rattle.mega_rules.specs.Met.{Begins}
 use Rattle.mega_rules.specs.Operations.{Node}
@@ -15,10 +15,7 @@ use Rattle.mega_rules.specs.Steps.{Begin, Step, Take, op_of, step}
 use Rattle.mega_promises.specs.Items.{numbered, shown}
 use Rattle.mega_promises.specs.Messages.{message_of, next_delivery}
 use Rattle.mega_promises.specs.Runs.{Cuts, Standing, after_event, delivered, drained, handed, marked, set_at, unless_none, setting, up, whole_step, with_items}
-use Rattle.mega_world.specs.declared.mail.Mail.{Mail}
-use Rattle.mega_world.specs.Carries.{Carries}
 use Rattle.mega_world.specs.Plain.{HasNoFuses}
-use Rattle.mega_world.specs.AllUp.{AllUp}
 use Rattle.mega_world.proofs.Plain.{steps_whole, with_step}
 
 -- a delivery is a whole step of the receiver
@@ -30,15 +27,6 @@ delivers c h cuts now number message none is = ap (handed c h cuts now number) i
 pub step_shows : (c : Cluster) (now : Standing) (me : ℕ) (own : List Item) (made : Step) → ((node : ℕ → Node) (t : List Item) → with_items c node t own ≡ onto own t)
     → (whole_step c now me own made).tape ≡ onto (numbered (sent_count now.tape + 1) made.sends) (with_items c (set_at now.node me made.node) (onto own now.tape) (flat_map (shown me) made.notes))
 step_shows c now me own made plain_own = with_step c (set_at now.node me made.node) me own made (sent_count now.tape + 1) now.tape (plain_own (set_at now.node me made.node))
-
--- a dropped message changes no node
-pub drop_stands : (c : Cluster) (h : Meanings) (cuts : Cuts) (now : Standing) (number : ℕ) (old new : Mail) → AllUp c old now → Carries new (Dropped number ∷ now.tape)
-    → AllUp c new (after_event c h cuts now (Drop number))
-drop_stands c h cuts now number old new r carries = record {
-  carries = carries;
-  unfused = record { of_log = r.unfused.of_log; of_data = r.unfused.of_data };
-  up_are = r.up_are;
-}
 
 -- so is the beginning of an operation, a step of its node
 pub begins : (c : Cluster) (h : Meanings) (cuts : Cuts) (now : Standing) (node : NodeId) (request : Request) (text : List ℕ) → HasNoFuses now

@@ -5,12 +5,12 @@ use Rattle.std.specs.List.{range_with_len, slice_get}
 use Rattle.mega_cluster.specs.declared.cluster.Cluster.{Cluster}
 use Rattle.mega_wire.specs.declared.message.Message.{Message}
 use Rattle.mega_schedule.specs.declared.world_event.WorldEvent.TheVariants.{Deliver, Drop}
+use Rattle.mega_transcript.specs.declared.item.Item.{Item}
 use Rattle.mega_transcript.specs.Tape.{is_sent, is_taken, sent_count}
 use Rattle.mega_promises.specs.Messages.{is_deliverable, is_dropped, message_of, next_delivery, receiver_up}
 use Rattle.mega_promises.specs.Runs.{Standing, because, receiver_down, refusal, up}
 use Rattle.mega_world.specs.declared.mail.Mail.{Mail}
 use Rattle.mega_world.specs.Carries.{Carries, message_at}
-use Rattle.mega_world.specs.AllUp.{AllUp}
 
 found_within : (ms : List Message) (i : ℕ) → is_some (slice_get ms i) ≡ nat_lt i (length ms)
 found_within [] i = grind (arith, nat_tests)
@@ -22,8 +22,8 @@ found_at : (ms : List Message) (n : ℕ) → is_some (message_at ms n) ≡ (nat_
 found_at ms zero = grind (arith, nat_tests)
 found_at ms (suc i) = let e : suc i - 1 ≡ i = omega arith in let found = found_within ms i in grind (arith, nat_tests)
 
-pub found_sent : (mail : Mail) (now : Standing) (n : ℕ) → Carries mail now.tape → is_some (message_of now.tape n) ≡ is_sent now.tape n
-found_sent mail now n r = ap is_some (r.messages n) ∙ found_at mail.messages n ∙ ap (λ k. nat_le 1 n && nat_le n k) (sym r.sent)
+pub found_sent : (mail : Mail) (tape : List Item) (n : ℕ) → Carries mail tape → is_some (message_of tape n) ≡ is_sent tape n
+found_sent mail tape n r = ap is_some (r.messages n) ∙ found_at mail.messages n ∙ ap (λ k. nat_le 1 n && nat_le n k) (sym r.sent)
 
 -- the message that a drain delivers next can be delivered
 passes : (p : ℕ → Bool) (xs : List ℕ) (x : ℕ) → find p xs ≡ Some x → p x ≡ true
@@ -53,9 +53,9 @@ next_of c now n (Some message) sent is can =
     by false true u can = cc
     by false false u can = cc
 
-pub next_happens : (c : Cluster) (mail : Mail) (now : Standing) (n : ℕ) → AllUp c mail now → next_delivery (up now) now.tape ≡ Some n → refusal c now (Deliver n) ≡ None
+pub next_happens : (c : Cluster) (mail : Mail) (now : Standing) (n : ℕ) → Carries mail now.tape → next_delivery (up now) now.tape ≡ Some n → refusal c now (Deliver n) ≡ None
 next_happens c mail now n r is =
-    next_of c now n (message_of now.tape n) (found_sent mail now n r.carries) refl (passes (is_deliverable (up now) now.tape) (range_with_len 1 (sent_count now.tape)) n is)
+    next_of c now n (message_of now.tape n) (found_sent mail now.tape n r) refl (passes (is_deliverable (up now) now.tape) (range_with_len 1 (sent_count now.tape)) n is)
 
 -- a message that may be dropped was sent
 pub drop_sent : (c : Cluster) (now : Standing) (n : ℕ) → refusal c now (Drop n) ≡ None → is_sent now.tape n ≡ true
@@ -64,3 +64,20 @@ drop_sent c now n none = by (is_sent now.tape n) none
     by : (t : Bool) → because (not t) 3 (because (is_dropped now.tape n) 4 None) ≡ None → t ≡ true
     by true none = refl
     by false none = cc
+
+-- no message is handed over that was not sent, or whose receiver is down
+pub none_refused : (c : Cluster) (mail : Mail) (now : Standing) (n : ℕ) → Carries mail now.tape → message_of now.tape n ≡ None → refusal c now (Deliver n) ≡ None → ⊥
+none_refused c mail now n r is none = by (is_sent now.tape n) (sym (found_sent mail now.tape n r) ∙ ap is_some is) none
+  where
+    by : (t : Bool) → t ≡ false → because (not t) 3 (because (is_dropped now.tape n) 4 (because (receiver_down now (message_of now.tape n)) 1 None)) ≡ None → ⊥
+    by true sent none = cc
+    by false sent none = cc
+
+pub down_refused : (c : Cluster) (now : Standing) (n : ℕ) (message : Message) → message_of now.tape n ≡ Some message → up now message.to ≡ false → refusal c now (Deliver n) ≡ None → ⊥
+down_refused c now n message is down none = by (is_sent now.tape n) (is_dropped now.tape n) (receiver_down now (message_of now.tape n)) (ap (receiver_down now) is ∙ ap not down) none
+  where
+    by : (s d t : Bool) → t ≡ true → because (not s) 3 (because d 4 (because t 1 None)) ≡ None → ⊥
+    by false d t down none = cc
+    by true true t down none = cc
+    by true false true down none = cc
+    by true false false down none = cc

@@ -21,7 +21,6 @@ use Rattle.mega_transcript.specs.declared.item.Item.TheVariants.{Begin as BeginI
 use Rattle.mega_transcript.specs.Lines.{HasLine}
 use Rattle.mega_transcript.specs.Tape.{newest, onto, sent_count}
 use Rattle.mega_transcript.proofs.Tapes.{onto-append}
-use Rattle.mega_rules.specs.Clock.{is_up}
 use Rattle.mega_rules.specs.Logs.{log_of}
 use Rattle.mega_rules.specs.Members.{is_node}
 use Rattle.mega_rules.specs.Met.{Begins, Ticks}
@@ -33,7 +32,7 @@ use Rattle.mega_format_laws.specs.Nodes.{IsStep}
 use Rattle.mega_member_laws.specs.Nodes.{StepWithin}
 use Rattle.mega_promises.specs.Items.{numbered, shown, number}
 use Rattle.mega_promises.specs.Messages.{is_unsafe, message_of}
-use Rattle.mega_promises.specs.Runs.{Cuts, Standing, after_event, has_lapsed, set_at, setting, up, whole_step, with_items}
+use Rattle.mega_promises.specs.Runs.{Cuts, Standing, after_event, has_lapsed, set_at, setting, whole_step, with_items}
 use Rattle.mega_world.specs.declared.mail.Mail.{Mail}
 use Rattle.mega_world.specs.Carries.{Carries}
 use Rattle.mega_world.specs.Plain.{HasNoFuses}
@@ -49,14 +48,13 @@ use Rattle.mega_world.specs.Lapses.{KnowsLeases}
 use Rattle.mega_world.specs.Members.{AreMembers, Makes}
 use Rattle.mega_world.specs.Showing.{IsShown, IsStepped}
 use Rattle.mega_world.specs.Shown.{notes_shown}
-use Rattle.mega_world.specs.Stands.{IsAt, version_of}
+use Rattle.mega_world.specs.Stands.{IsAt}
 use Rattle.mega_world.proofs.Forming.{formed_on, made_formed}
 use Rattle.mega_world.proofs.Lapsing.{step_lapsed}
 use Rattle.mega_world.proofs.Lining.{notes_lines, sent_lines}
 use Rattle.mega_world.proofs.Owning.{owned_by_step}
 use Rattle.mega_world.proofs.Placing.{placed}
 use Rattle.mega_world.proofs.Plain.{steps_whole, still_unfused, with_append, with_sent}
-use Rattle.mega_world.proofs.Staying.{begin_up, take_up, tick_up}
 use Rattle.mega_world.proofs.Within.{made_within, within_on}
 
 -- an event's own items: they are no messages', show nothing of leases, and have lines
@@ -111,21 +109,12 @@ shown_tape c now me own here after made ruled is tape notes sends shows =
     next : ℕ → RuleNode
     next = set_at now.node me ruled.node
 
--- all nodes are up still
-ups : (c : Cluster) (now : Standing) (me : ℕ) (own : List Item) (ruled : RuleStep) → ((other : ℕ) → up now other ≡ is_node c other) → is_node c me ≡ true → is_up ruled.node.met ≡ true
-    → (other : ℕ) → up (whole_step c now me own ruled) other ≡ is_node c other
-ups c now me own ruled were is stays other = by (me == other) refl
-  where
-    by : (t : Bool) → (me == other) ≡ t → is_up (cond t ruled.node (now.node other)).met ≡ is_node c other
-    by true same = let e : me ≡ other = grind (arith, nat_tests) in stays ∙ sym (ap (is_node c) (sym e) ∙ is)
-    by false apart = were other
-
 -- before the step is shown
-stepped : (c : Cluster) (now : Standing) (me : ℕ) (own : List Item) (ruled : RuleStep) (old mid : World) (items here : List Item) (made : Step) → IsAt c old items now → AreOwn c own → is_node c me ≡ true → is_up ruled.node.met ≡ true
+stepped : (c : Cluster) (now : Standing) (me : ℕ) (own : List Item) (ruled : RuleStep) (old mid : World) (items here : List Item) (made : Step) → IsAt c old items now → AreOwn c own
     → ((node : ℕ) (epoch : Epoch) → has_lapsed ruled.node.met node epoch ≡ has_lapsed (met_onto ruled.notes (now.node me).met) node epoch)
-    → Makes version_of c mid.nodes.items now.node me made ruled → IsReady now own old mid items here → IsStepped c mid me made.notes now.node (set_at now.node me ruled.node) (newest here)
-stepped c now me own ruled old mid items here made r is there stays lapses makes ready = record {
-  nodes = record { members = makes.members; up_are = ups c now me own ruled r.mail.up_are there stays };
+    → Makes c mid.places.items now.node me made ruled → IsReady now own old mid items here → IsStepped c mid me made.notes now.node (set_at now.node me ruled.node) (newest here)
+stepped c now me own ruled old mid items here made r is lapses makes ready = record {
+  nodes = makes.members;
   lapsed = λ cell node epoch. by (me == cell) cell node epoch;
   leases = subst (KnowsLeases mid.safety now.node) (sym (here_tape now own items here r.tape ready.added))
       (subst (λ (s : Safety). KnowsLeases s now.node (onto own now.tape)) (sym ready.safety) (record { lapses = r.leases.lapses; told = r.leases.told ∙ sym (is.safe now.tape) }));
@@ -138,18 +127,15 @@ stepped c now me own ruled old mid items here made r is there stays lapses makes
 
 -- a world that showed a step
 pub shown_at : (c : Cluster) (now : Standing) (me : ℕ) (own : List Item) (ruled : RuleStep) (old mid new : World) (items here after : List Item) (made : Step)
-    → IsAt c old items now → AreOwn c own → is_node c me ≡ true → IsStep ruled → StepWithin c ruled → is_up ruled.node.met ≡ true
+    → IsAt c old items now → AreOwn c own → IsStep ruled → StepWithin c ruled
     → ((node : ℕ) (epoch : Epoch) → has_lapsed ruled.node.met node epoch ≡ has_lapsed (met_onto ruled.notes (now.node me).met) node epoch)
-    → Makes version_of c mid.nodes.items now.node me made ruled → IsReady now own old mid items here
+    → Makes c mid.places.items now.node me made ruled → IsReady now own old mid items here
     → (IsStepped c mid me made.notes now.node (set_at now.node me ruled.node) (newest here) → IsShown c mid new me made (set_at now.node me ruled.node) here after)
     → IsAt c new after (whole_step c now me own ruled)
-shown_at c now me own ruled old mid new items here after made r is there formed within stays lapses makes ready show = record {
-  nodes = subst (λ ns. AreMembers version_of c ns.items (set_at now.node me ruled.node)) (sym shows.nodes) makes.members;
-  mail = record {
-    carries = subst (Carries new.mail) tape shows.carries;
-    unfused = still_unfused c now me own ruled r.mail.unfused;
-    up_are = ups c now me own ruled r.mail.up_are there stays;
-  };
+shown_at c now me own ruled old mid new items here after made r is formed within lapses makes ready show = record {
+  nodes = subst (λ ps. AreMembers c ps.items (set_at now.node me ruled.node)) (sym shows.places) makes.members;
+  mail = subst (Carries new.mail) tape shows.carries;
+  unfused = still_unfused c now me own ruled r.unfused;
   tape = tape;
   leases = subst (KnowsLeases new.safety (set_at now.node me ruled.node)) tape shows.leases;
   formed = formed_on c now me own ruled r.formed formed (is.messages now.tape) (step_shows c now me own ruled is.plain);
@@ -157,7 +143,7 @@ shown_at c now me own ruled old mid new items here after made r is there formed 
 }
   where
     shows : IsShown c mid new me made (set_at now.node me ruled.node) here after
-    shows = show (stepped c now me own ruled old mid items here made r is there stays lapses makes ready)
+    shows = show (stepped c now me own ruled old mid items here made r is lapses makes ready)
 
     tape : newest after ≡ (whole_step c now me own ruled).tape
     tape = shown_tape c now me own here after made ruled is (here_tape now own items here r.tape ready.added) makes.notes makes.sends shows.tape
@@ -184,7 +170,7 @@ pub taken_owned : (c : Cluster) (h : Meanings) (cuts : Cuts) (world : World) (it
 taken_owned c h cuts world items now number message r sound is =
     owned_by_step c.schema (setting c h message.to) (now.node message.to) (Take message)
     (own_here c now message.to (Taken number ∷ []) (step (setting c h message.to) (now.node message.to) (Take message))
-    (subst (λ (after : Standing). HasOwnRows c.schema (log_of (after.node message.to).met)) (delivers c h cuts now number message r.mail.unfused is) (sound.own message.to)))
+    (subst (λ (after : Standing). HasOwnRows c.schema (log_of (after.node message.to).met)) (delivers c h cuts now number message r.unfused is) (sound.own message.to)))
 
 pub taken_formed : (c : Cluster) (h : Meanings) (cuts : Cuts) (world : World) (items : List Item) (now : Standing) (number : ℕ) (message : Message) → IsAt c world items now → IsSound c h cuts now (Deliver number)
     → message_of now.tape number ≡ Some message → is_node c message.to ≡ true → IsStep (step (setting c h message.to) (now.node message.to) (Take message))
@@ -198,14 +184,14 @@ taken_placed c h cuts world items now number message r sound is there =
 
 pub delivered_at : (c : Cluster) (h : Meanings) (cuts : Cuts) (now : Standing) (number : ℕ) (message : Message) (old mid new : World) (items here after : List Item) (made : Step)
     → IsAt c old items now → IsSound c h cuts now (Deliver number) → message_of now.tape number ≡ Some message → is_node c message.to ≡ true
-    → Makes version_of c mid.nodes.items now.node message.to made (step (setting c h message.to) (now.node message.to) (Take message)) → IsReady now (Taken number ∷ []) old mid items here
+    → Makes c mid.places.items now.node message.to made (step (setting c h message.to) (now.node message.to) (Take message)) → IsReady now (Taken number ∷ []) old mid items here
     → ((was ruled : ℕ → RuleNode) → IsStepped c mid message.to made.notes was ruled (newest here) → IsShown c mid new message.to made ruled here after)
     → IsAt c new after (after_event c h cuts now (Deliver number))
 delivered_at c h cuts now number message old mid new items here after made r sound is there makes ready show =
-    subst (IsAt c new after) (sym (delivers c h cuts now number message r.mail.unfused is))
-    (shown_at c now message.to (Taken number ∷ []) made_step old mid new items here after made r (taken_own c number) there
+    subst (IsAt c new after) (sym (delivers c h cuts now number message r.unfused is))
+    (shown_at c now message.to (Taken number ∷ []) made_step old mid new items here after made r (taken_own c number)
     (taken_formed c h cuts old items now number message r sound is there) (made_within c h now message.to (Take message) r.within there (r.within.messages number message is))
-    (take_up (setting c h message.to) (now.node message.to) message (r.mail.up_are message.to ∙ there)) (step_lapsed (setting c h message.to) (now.node message.to) (Take message)) makes ready
+    (step_lapsed (setting c h message.to) (now.node message.to) (Take message)) makes ready
     (show now.node (set_at now.node message.to made_step.node)))
   where
     made_step : RuleStep
@@ -213,7 +199,7 @@ delivered_at c h cuts now number message old mid new items here after made r sou
 
 pub delivered_lined : (c : Cluster) (h : Meanings) (cuts : Cuts) (now : Standing) (number : ℕ) (message : Message) (old mid : World) (items here after : List Item) (made : Step)
     → IsAt c old items now → IsSound c h cuts now (Deliver number) → message_of now.tape number ≡ Some message → is_node c message.to ≡ true
-    → Makes version_of c mid.nodes.items now.node message.to made (step (setting c h message.to) (now.node message.to) (Take message)) → IsReady now (Taken number ∷ []) old mid items here
+    → Makes c mid.places.items now.node message.to made (step (setting c h message.to) (now.node message.to) (Take message)) → IsReady now (Taken number ∷ []) old mid items here
     → ((before : List Item) → Carries mid.mail before → All HasLine here → All HasLine (notes_shown message.to made.notes) → All HasLine (numbered (sent_count before + 1) made.sends) → All HasLine after)
     → All HasLine items → All HasLine after
 delivered_lined c h cuts now number message old mid items here after made r sound is there makes ready lines lined =
@@ -277,7 +263,7 @@ delivery_built c now number message formed is (inr late) = let m = formed.messag
 
 -- ---- a beginning
 
-pub is_there : (c : Cluster) (world : World) (items : List Item) (now : Standing) (me : ℕ) → IsAt c world items now → 1 ≤ me → me ≤ length world.nodes.items → is_node c me ≡ true
+pub is_there : (c : Cluster) (world : World) (items : List Item) (now : Standing) (me : ℕ) → IsAt c world items now → 1 ≤ me → me ≤ length world.places.items → is_node c me ≡ true
 is_there c world items now me r least most = let count = r.nodes.count in grind (arith, nat_tests)
 
 pub begun_owned : (c : Cluster) (h : Meanings) (cuts : Cuts) (world : World) (items : List Item) (now : Standing) (node : NodeId) (request : Request) (text : List ℕ) → IsAt c world items now
@@ -285,7 +271,7 @@ pub begun_owned : (c : Cluster) (h : Meanings) (cuts : Cuts) (world : World) (it
 begun_owned c h cuts world items now node request text r sound =
     owned_by_step c.schema (setting c h node.0) (now.node node.0) (Begin request text)
     (own_here c now node.0 (shown node.0 (Begins (op_of (setting c h node.0) (now.node node.0).met) text)) (step (setting c h node.0) (now.node node.0) (Begin request text))
-    (subst (λ (after : Standing). HasOwnRows c.schema (log_of (after.node node.0).met)) (begins c h cuts now node request text r.mail.unfused) (sound.own node.0)))
+    (subst (λ (after : Standing). HasOwnRows c.schema (log_of (after.node node.0).met)) (begins c h cuts now node request text r.unfused) (sound.own node.0)))
 
 begun_formed : (c : Cluster) (h : Meanings) (cuts : Cuts) (world : World) (items : List Item) (now : Standing) (node : NodeId) (request : Request) (text : List ℕ) → IsAt c world items now
     → IsSound c h cuts now (BeginEvent node request text) → is_node c node.0 ≡ true → IsStep (step (setting c h node.0) (now.node node.0) (Begin request text))
@@ -304,15 +290,15 @@ begun_ready c h cuts now node text op old mid items here carries named is mail s
 
 pub begun_at : (c : Cluster) (h : Meanings) (cuts : Cuts) (now : Standing) (node : NodeId) (request : Request) (text : List ℕ) (op : OpId) (old mid new : World) (items here after : List Item) (made : Step)
     → IsAt c old items now → IsSound c h cuts now (BeginEvent node request text) → is_node c node.0 ≡ true → op ≡ op_of (setting c h node.0) (now.node node.0).met
-    → Makes version_of c mid.nodes.items now.node node.0 made (step (setting c h node.0) (now.node node.0) (Begin request text))
+    → Makes c mid.places.items now.node node.0 made (step (setting c h node.0) (now.node node.0) (Begin request text))
     → here ≡ items ++ BeginItem op text ∷ [] → mid.mail ≡ old.mail → mid.safety ≡ old.safety
     → ((was ruled : ℕ → RuleNode) → IsStepped c mid node.0 made.notes was ruled (newest here) → IsShown c mid new node.0 made ruled here after) → IsAt c new after (after_event c h cuts now (BeginEvent node request text))
 begun_at c h cuts now node request text op old mid new items here after made r sound there named makes is mail safety show =
-    subst (IsAt c new after) (sym (begins c h cuts now node request text r.mail.unfused))
+    subst (IsAt c new after) (sym (begins c h cuts now node request text r.unfused))
     (shown_at c now node.0 (shown node.0 (Begins (op_of (setting c h node.0) (now.node node.0).met) text)) made_step old mid new items here after made r
-    (begun_own c (setting c h node.0) (now.node node.0) node.0 text) there (begun_formed c h cuts old items now node request text r sound there)
-    (made_within c h now node.0 (Begin request text) r.within there tt) (begin_up (setting c h node.0) (now.node node.0) request text (r.mail.up_are node.0 ∙ there))
-    (step_lapsed (setting c h node.0) (now.node node.0) (Begin request text)) makes (begun_ready c h cuts now node text op old mid items here r.mail.carries named is mail safety)
+    (begun_own c (setting c h node.0) (now.node node.0) node.0 text) (begun_formed c h cuts old items now node request text r sound there)
+    (made_within c h now node.0 (Begin request text) r.within there tt)
+    (step_lapsed (setting c h node.0) (now.node node.0) (Begin request text)) makes (begun_ready c h cuts now node text op old mid items here r.mail named is mail safety)
     (show now.node (set_at now.node node.0 made_step.node)))
   where
     made_step : RuleStep
@@ -320,14 +306,14 @@ begun_at c h cuts now node request text op old mid new items here after made r s
 
 pub begun_lined : (c : Cluster) (h : Meanings) (cuts : Cuts) (now : Standing) (node : NodeId) (request : Request) (text : List ℕ) (op : OpId) (old mid : World) (items here after : List Item) (made : Step)
     → IsAt c old items now → IsSound c h cuts now (BeginEvent node request text) → is_node c node.0 ≡ true → op ≡ op_of (setting c h node.0) (now.node node.0).met
-    → Makes version_of c mid.nodes.items now.node node.0 made (step (setting c h node.0) (now.node node.0) (Begin request text))
+    → Makes c mid.places.items now.node node.0 made (step (setting c h node.0) (now.node node.0) (Begin request text))
     → here ≡ items ++ BeginItem op text ∷ [] → mid.mail ≡ old.mail → mid.safety ≡ old.safety
     → ((before : List Item) → Carries mid.mail before → All HasLine here → All HasLine (notes_shown node.0 made.notes) → All HasLine (numbered (sent_count before + 1) made.sends) → All HasLine after)
     → All HasLine items → All HasLine after
 begun_lined c h cuts now node request text op old mid items here after made r sound there named makes is mail safety lines lined =
     shown_lined c now node.0 (shown node.0 (Begins (op_of (setting c h node.0) (now.node node.0).met) text)) (step (setting c h node.0) (now.node node.0) (Begin request text)) old mid items here after made
     (begun_own c (setting c h node.0) (now.node node.0) node.0 text) (begun_formed c h cuts old items now node request text r sound there) makes.notes makes.sends
-    (begun_ready c h cuts now node text op old mid items here r.mail.carries named is mail safety) lines lined
+    (begun_ready c h cuts now node text op old mid items here r.mail named is mail safety) lines lined
 
 -- ---- a tick
 
@@ -349,7 +335,7 @@ pub ticked_owned : (c : Cluster) (h : Meanings) (cuts : Cuts) (world : World) (i
 ticked_owned c h cuts world items now node clock r sound =
     owned_by_step c.schema (setting c h node.0) (now.node node.0) (Tick clock)
     (own_here c now node.0 (TickItem (number node.0) clock ∷ []) (step (setting c h node.0) (now.node node.0) (Tick clock))
-    (subst (λ (after : Standing). HasOwnRows c.schema (log_of (after.node node.0).met)) (ticks c h cuts now node clock r.mail.unfused) (sound.own node.0)))
+    (subst (λ (after : Standing). HasOwnRows c.schema (log_of (after.node node.0).met)) (ticks c h cuts now node clock r.unfused) (sound.own node.0)))
 
 ticked_formed : (c : Cluster) (h : Meanings) (cuts : Cuts) (world : World) (items : List Item) (now : Standing) (node : NodeId) (clock : ℕ) → IsAt c world items now → IsSound c h cuts now (TickEvent node clock)
     → is_node c node.0 ≡ true → IsStep (step (setting c h node.0) (now.node node.0) (Tick clock))
@@ -364,24 +350,24 @@ ticked_ready now me clock old mid items here carries is mail safety = record {
 }
 
 pub ticked_at : (c : Cluster) (h : Meanings) (cuts : Cuts) (now : Standing) (node : NodeId) (clock : ℕ) (old mid new : World) (items here after : List Item) (made : Step)
-    → IsAt c old items now → IsSound c h cuts now (TickEvent node clock) → is_node c node.0 ≡ true → Makes version_of c mid.nodes.items now.node node.0 made (step (setting c h node.0) (now.node node.0) (Tick clock))
+    → IsAt c old items now → IsSound c h cuts now (TickEvent node clock) → is_node c node.0 ≡ true → Makes c mid.places.items now.node node.0 made (step (setting c h node.0) (now.node node.0) (Tick clock))
     → here ≡ items ++ TickItem (number node.0) clock ∷ [] → mid.mail ≡ old.mail → mid.safety ≡ old.safety
     → ((was ruled : ℕ → RuleNode) → IsStepped c mid node.0 made.notes was ruled (newest here) → IsShown c mid new node.0 made ruled here after) → IsAt c new after (after_event c h cuts now (TickEvent node clock))
 ticked_at c h cuts now node clock old mid new items here after made r sound there makes is mail safety show =
-    subst (IsAt c new after) (sym (ticks c h cuts now node clock r.mail.unfused))
+    subst (IsAt c new after) (sym (ticks c h cuts now node clock r.unfused))
     (shown_at c now node.0 (TickItem (number node.0) clock ∷ []) made_step old mid new items here after made r
-    (ticked_own c node.0 clock) there (ticked_formed c h cuts old items now node clock r sound there)
-    (made_within c h now node.0 (Tick clock) r.within there tt) (tick_up (setting c h node.0) (now.node node.0) clock (r.mail.up_are node.0 ∙ there))
-    (step_lapsed (setting c h node.0) (now.node node.0) (Tick clock)) makes (ticked_ready now node.0 clock old mid items here r.mail.carries is mail safety) (show now.node (set_at now.node node.0 made_step.node)))
+    (ticked_own c node.0 clock) (ticked_formed c h cuts old items now node clock r sound there)
+    (made_within c h now node.0 (Tick clock) r.within there tt)
+    (step_lapsed (setting c h node.0) (now.node node.0) (Tick clock)) makes (ticked_ready now node.0 clock old mid items here r.mail is mail safety) (show now.node (set_at now.node node.0 made_step.node)))
   where
     made_step : RuleStep
     made_step = step (setting c h node.0) (now.node node.0) (Tick clock)
 
 pub ticked_lined : (c : Cluster) (h : Meanings) (cuts : Cuts) (now : Standing) (node : NodeId) (clock : ℕ) (old mid : World) (items here after : List Item) (made : Step)
-    → IsAt c old items now → IsSound c h cuts now (TickEvent node clock) → is_node c node.0 ≡ true → Makes version_of c mid.nodes.items now.node node.0 made (step (setting c h node.0) (now.node node.0) (Tick clock))
+    → IsAt c old items now → IsSound c h cuts now (TickEvent node clock) → is_node c node.0 ≡ true → Makes c mid.places.items now.node node.0 made (step (setting c h node.0) (now.node node.0) (Tick clock))
     → here ≡ items ++ TickItem (number node.0) clock ∷ [] → mid.mail ≡ old.mail → mid.safety ≡ old.safety
     → ((before : List Item) → Carries mid.mail before → All HasLine here → All HasLine (notes_shown node.0 made.notes) → All HasLine (numbered (sent_count before + 1) made.sends) → All HasLine after)
     → All HasLine items → All HasLine after
 ticked_lined c h cuts now node clock old mid items here after made r sound there makes is mail safety lines lined =
     shown_lined c now node.0 (TickItem (number node.0) clock ∷ []) (step (setting c h node.0) (now.node node.0) (Tick clock)) old mid items here after made
-    (ticked_own c node.0 clock) (ticked_formed c h cuts old items now node clock r sound there) makes.notes makes.sends (ticked_ready now node.0 clock old mid items here r.mail.carries is mail safety) lines lined
+    (ticked_own c node.0 clock) (ticked_formed c h cuts old items now node clock r sound there) makes.notes makes.sends (ticked_ready now node.0 clock old mid items here r.mail is mail safety) lines lined

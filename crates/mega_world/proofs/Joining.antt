@@ -1,13 +1,14 @@
--- The nodes of a world once one of them stepped.
-use Rattle.std.proofs.Common.{◌≡◌, ◌⊎◌, ℕ, ◌+◌, ◌==◌, cond, Bool, true, false, List, [], ◌∷◌, length, set, Some, inl, inr, refl, sym, ap, ◌∙◌, subst, zero, suc, arith}
+-- The places of a world once a node stepped or went down.
+use Rattle.std.proofs.Common.{◌≡◌, ℕ, ◌-◌, ◌<◌, ◌≤◌, ◌==◌, cond, Bool, true, false, List, [], ◌∷◌, length, set, Some, None, is_some, refl, sym, ap, ◌∙◌, subst, zero, suc, arith}
 use Rattle.std.proofs.lemmas.Bool.Decides.{nat_tests}
 use Rattle.std.specs.List.{slice_get}
 use Rattle.mega_cluster.specs.declared.cluster.Cluster.{Cluster}
-use Rattle.mega_disk.specs.VersionMaps.{Versions}
+use Rattle.mega_rules.specs.Clock.{is_up}
 use Rattle.mega_rules.specs.Operations.{Node as RuleNode}
-use Rattle.mega_core.specs.declared.node.Node.{Node}
 use Rattle.mega_promises.specs.Runs.{set_at}
-use Rattle.mega_world.specs.Members.{AreMembers, IsMember}
+use Rattle.mega_world.specs.declared.place.Place.{Place}
+use Rattle.mega_world.specs.declared.place.Place.TheVariants.{Up, Down}
+use Rattle.mega_world.specs.Members.{AreMembers, IsMember, Member, is_up_at, member_in, member_of}
 
 length_set : {X : Type 0} (xs : List X) (i : ℕ) (v : X) → length (set xs i v) ≡ length xs
 length_set [] i v = refl
@@ -15,32 +16,80 @@ length_set (x ∷ xs) zero v = refl
 length_set (x ∷ xs) (suc i) v = ap suc (length_set xs i v)
 
 -- what stands in a list of which one place was written
-set_found : {X : Type 0} (xs : List X) (i j : ℕ) (v w : X) → slice_get (set xs i v) j ≡ Some w → ((i == j) ≡ true) × (v ≡ w) ⊎ ((i == j) ≡ false) × (slice_get xs j ≡ Some w)
-set_found [] i j v w is = cc
-set_found (x ∷ xs) zero zero v w is = let same : v ≡ w = cc in inl (refl, same)
-set_found (x ∷ xs) zero (suc j) v w is = let apart : (0 == suc j) ≡ false = grind (arith, nat_tests) in inr (apart, is)
-set_found (x ∷ xs) (suc i) zero v w is = let apart : (suc i == 0) ≡ false = grind (arith, nat_tests) in inr (apart, is)
-set_found (x ∷ xs) (suc i) (suc j) v w is = let e : (suc i == suc j) ≡ (i == j) = grind (arith, nat_tests) in moved (set_found xs i j v w is) e
-  where
-    moved : ((i == j) ≡ true) × (v ≡ w) ⊎ ((i == j) ≡ false) × (slice_get xs j ≡ Some w) → (suc i == suc j) ≡ (i == j)
-        → ((suc i == suc j) ≡ true) × (v ≡ w) ⊎ ((suc i == suc j) ≡ false) × (slice_get xs j ≡ Some w)
-    moved (inl same) e = inl (e ∙ same.0, same.1)
-    moved (inr other) e = inr (e ∙ other.0, other.1)
+pub get_set : {X : Type 0} (xs : List X) (i j : ℕ) (v : X) → i < length xs → slice_get (set xs i v) j ≡ cond (i == j) (Some v) (slice_get xs j)
+get_set [] i j v below = absurd (omega (arith, below))
+get_set (x ∷ xs) zero zero v below = refl
+get_set (x ∷ xs) zero (suc j) v below = let apart : (0 == suc j) ≡ false = grind (arith, nat_tests) in ap (λ t. cond t (Some v) (slice_get xs j)) (sym apart)
+get_set (x ∷ xs) (suc i) zero v below = let apart : (suc i == 0) ≡ false = grind (arith, nat_tests) in ap (λ t. cond t (Some v) (Some x)) (sym apart)
+get_set (x ∷ xs) (suc i) (suc j) v below =
+    let same : (suc i == suc j) ≡ (i == j) = grind (arith, nat_tests) in
+    let less : i < length xs = omega (arith, below) in
+    get_set xs i j v less ∙ ap (λ t. cond t (Some v) (slice_get xs j)) (sym same)
 
--- one node in its place, and the rules' node of its number
-pub joined : {R V : Type 0} (version : V → Versions) (c : Cluster) (nodes : List (Node R V)) (ruled : ℕ → RuleNode) (i : ℕ) (stepped : Node R V) (next : RuleNode) → AreMembers version c nodes ruled
-    → IsMember version c (i + 1) stepped next → AreMembers version c (set nodes i stepped) (set_at ruled (i + 1) next)
-joined {R} {V} version c nodes ruled i stepped next all one = record {
-  count = length_set nodes i stepped ∙ all.count;
-  each = λ j node is. by j node (set_found nodes i j stepped node is);
+-- the node of a number, by its place
+pub member_is : (places : List Place) (me i : ℕ) → i ≡ me - 1 → 1 ≤ me → member_of places me ≡ member_in (slice_get places i)
+member_is places me i is least =
+    let apart : (me == 0) ≡ false = grind (arith, nat_tests) in
+    ap (λ t. cond t None (member_in (slice_get places (me - 1)))) apart ∙ ap (λ k. member_in (slice_get places k)) (sym is)
+
+pub member_up : (places : List Place) (me i : ℕ) (place : Place) (node : Member) → i ≡ me - 1 → 1 ≤ me → slice_get places i ≡ Some place → place ≡ Up node → member_of places me ≡ Some node
+member_up places me i place node is least there up = member_is places me i is least ∙ ap member_in (there ∙ ap Some up)
+
+pub not_down : (places : List Place) (me i : ℕ) (place : Place) → i ≡ me - 1 → 1 ≤ me → slice_get places i ≡ Some place → place ≡ Down → is_up_at places me ≡ true → ⊥
+not_down places me i place is least there down up = let none : is_up_at places me ≡ false = ap is_some (member_is places me i is least ∙ ap member_in (there ∙ ap Some down)) in let no = sym none ∙ up in cc
+
+-- a node that is up has a place
+pub up_within : (places : List Place) (me : ℕ) → is_up_at places me ≡ true → (1 ≤ me) × (me ≤ length places)
+up_within places zero up = let no : false ≡ true = up in cc
+up_within places (suc i) up = (omega arith, by places i (sym (ap is_some (member_is places (suc i) i (omega arith) (omega arith))) ∙ up))
+  where
+    by : (xs : List Place) (j : ℕ) → is_some (member_in (slice_get xs j)) ≡ true → suc j ≤ length xs
+    by [] j up = let no : false ≡ true = up in cc
+    by (x ∷ xs) zero up = omega arith
+    by (x ∷ xs) (suc j) up = let less = by xs j up in omega (arith, less)
+
+-- the nodes once one place was written
+pub member_set : (places : List Place) (me other : ℕ) (place : Place) → 1 ≤ me → me ≤ length places
+    → member_of (set places (me - 1) place) other ≡ cond (me == other) (member_in (Some place)) (member_of places other)
+member_set places me zero place least most = let apart : (me == 0) ≡ false = grind (arith, nat_tests) in ap (λ t. cond t (member_in (Some place)) None) (sym apart)
+member_set places me (suc j) place least most =
+    let same : (me - 1 == j) ≡ (me == suc j) = grind (arith, nat_tests) in
+    let below : me - 1 < length places = omega (arith, least, most) in
+    member_is (set places (me - 1) place) (suc j) j (omega arith) (omega arith)
+    ∙ ap member_in (get_set places (me - 1) j place below)
+    ∙ ap (λ t. member_in (cond t (Some place) (slice_get places j))) same
+    ∙ by (me == suc j)
+    ∙ ap (cond (me == suc j) (member_in (Some place))) (sym (member_is places (suc j) j (omega arith) (omega arith)))
+  where
+    by : (t : Bool) → member_in (cond t (Some place) (slice_get places j)) ≡ cond t (member_in (Some place)) (member_in (slice_get places j))
+    by true = refl
+    by false = refl
+
+-- what is put into a place is up or down as the rules' node is
+abbrev pub IsPlace : Cluster → ℕ → Place → RuleNode → Type 0
+IsPlace c me (Up node) ruled = IsMember c me node ruled × (is_up ruled.met ≡ true)
+IsPlace c me Down ruled = is_up ruled.met ≡ false
+
+member_one : (c : Cluster) (me : ℕ) (place : Place) (next : RuleNode) (node : Member) → IsPlace c me place next → member_in (Some place) ≡ Some node → IsMember c me node next
+member_one c me (Up one) next node is same = let e : one ≡ node = cc in subst (λ (n : Member). IsMember c me n next) e is.0
+member_one c me Down next node is same = cc
+
+up_one : (c : Cluster) (me : ℕ) (place : Place) (next : RuleNode) → IsPlace c me place next → is_up next.met ≡ is_some (member_in (Some place))
+up_one c me (Up one) next is = is.1
+up_one c me Down next is = is
+
+pub joined : (c : Cluster) (places : List Place) (ruled : ℕ → RuleNode) (me : ℕ) (place : Place) (next : RuleNode) → AreMembers c places ruled → 1 ≤ me → me ≤ length places → IsPlace c me place next
+    → AreMembers c (set places (me - 1) place) (set_at ruled me next)
+joined c places ruled me place next all least most one = record {
+  count = length_set places (me - 1) place ∙ all.count;
+  each = λ other node is. each_by other (me == other) refl node (sym (member_set places me other place least most) ∙ is);
+  up_are = λ other. up_by other (me == other) ∙ sym (ap is_some (member_set places me other place least most));
 }
   where
-    by : (j : ℕ) (node : Node R V) → ((i == j) ≡ true) × (stepped ≡ node) ⊎ ((i == j) ≡ false) × (slice_get nodes j ≡ Some node) → IsMember version c (j + 1) node (set_at ruled (i + 1) next (j + 1))
-    by j node (inl same) =
-        let e : i ≡ j = grind (arith, nat_tests) in
-        let t : (i + 1 == j + 1) ≡ true = grind (arith, nat_tests) in
-        subst (λ (b : Bool). IsMember version c (j + 1) node (cond b next (ruled (j + 1)))) (sym t)
-        (subst (λ (k : ℕ). IsMember version c (k + 1) node next) e (subst (λ (n : Node R V). IsMember version c (i + 1) n next) same.1 one))
-    by j node (inr other) =
-        let t : (i + 1 == j + 1) ≡ false = grind (arith, nat_tests) in
-        subst (λ (b : Bool). IsMember version c (j + 1) node (cond b next (ruled (j + 1)))) (sym t) (all.each j node other.1)
+    each_by : (other : ℕ) (t : Bool) → (me == other) ≡ t → (node : Member) → cond t (member_in (Some place)) (member_of places other) ≡ Some node → IsMember c other node (cond t next (ruled other))
+    each_by other true same node is = let e : me ≡ other = grind (arith, nat_tests) in subst (λ (k : ℕ). IsMember c k node next) e (member_one c me place next node one is)
+    each_by other false apart node is = all.each other node is
+
+    up_by : (other : ℕ) (t : Bool) → is_up (cond t next (ruled other)).met ≡ is_some (cond t (member_in (Some place)) (member_of places other))
+    up_by other true = up_one c me place next one
+    up_by other false = all.up_are other

@@ -1,20 +1,22 @@
--- The first number in order that passes a test is the least one, and so what a drain delivers next is the first that waits for a node that is up.
-use Rattle.std.proofs.Common.{◌≡◌, ◌≤◌, ◌<◌, ℕ, ◌+◌, ◌-◌, ◌==◌, ◌&&◌, ◌||◌, cond, not, Bool, true, false, nat_le, List, [], ◌∷◌, length, Some, None, refl, sym, ap, ◌∙◌, zero, suc, arith, Less}
+-- The least number of those that wait for nodes that are up is the message that a drain delivers next.
+use Rattle.std.proofs.Common.{◌≡◌, ◌≤◌, ◌<◌, ℕ, ◌+◌, ◌-◌, ◌==◌, ◌&&◌, ◌||◌, cond, not, Bool, true, false, nat_le, List, length, Option, Some, None, is_some, find, refl, sym, ap, ◌∙◌, subst, zero, suc, arith}
 use Rattle.std.proofs.lemmas.Bool.Decides.{nat_tests}
-use Rattle.std.proofs.lemmas.Map.Keys.{sorted_tail}
 use Rattle.std.proofs.lemmas.Option.{slice_get_past}
-use Rattle.std.specs.List.{AllByRecursion, find, list_any, range_with_len}
-use Rattle.std.specs.List.Sorted.{IsStrictlySortedBy}
-use Rattle.std.specs.Ordering.{nat_cmp, is_eq}
-use Rattle.mega_cluster.specs.declared.cluster.Cluster.{Cluster}
+use Rattle.std.specs.BTreeSet.{BTreeSet}
+use Rattle.std.specs.List.{range_with_len}
 use Rattle.mega_wire.specs.declared.message.Message.{Message}
 use Rattle.mega_transcript.specs.declared.item.Item.{Item}
 use Rattle.mega_transcript.specs.Tape.{is_sent, is_taken, sent_count}
 use Rattle.mega_promises.specs.Messages.{is_deliverable, is_dropped, message_of, next_delivery, receiver_up}
 use Rattle.mega_promises.specs.Runs.{Standing, up}
 use Rattle.mega_world.specs.declared.mail.Mail.{Mail}
-use Rattle.mega_world.specs.Carries.{Carries, message_at}
-use Rattle.mega_world.specs.AllUp.{AllUp}
+use Rattle.mega_world.specs.declared.place.Place.{Place}
+use Rattle.mega_world.specs.Carries.{Carries, is_waiting, message_at}
+use Rattle.mega_world.specs.Least.{IsLeast}
+use Rattle.mega_world.specs.Members.{is_up_at}
+use Rattle.mega_world.specs.Waits.{goes_to, waits_among, waits_for}
+use Rattle.mega_world.proofs.Finding.{found_sent}
+use Rattle.mega_world.proofs.Joining.{up_within}
 
 none_found : (p : ℕ → Bool) (a n : ℕ) → ((q : ℕ) → p q ≡ false) → find p (range_with_len a n) ≡ None
 none_found p a zero none = refl
@@ -31,53 +33,6 @@ least_found p a (suc n) k low high is least =
     go false other rest =
         let below : a < k = grind (arith, nat_tests) in let low2 : (a + 1) ≤ k = omega arith in
         ap (λ b. cond b (Some a) (find p (range_with_len (a + 1) n))) (least a below) ∙ rest low2
-
-firsts : (x : ℕ) (xs : List ℕ) → IsStrictlySortedBy nat_cmp (x ∷ xs) → AllByRecursion (λ y. nat_cmp x y ≡ Less) xs
-unfolding IsStrictlySortedBy
-firsts x xs sorted = sorted.0
-
-after_first : (x q : ℕ) (ks : List ℕ) → AllByRecursion (λ y. nat_cmp x y ≡ Less) ks → list_any (λ k. is_eq (nat_cmp q k)) ks ≡ true → x < q
-after_first x q [] above is = cc
-after_first x q (k ∷ ks) above is = go (is_eq (nat_cmp q k)) refl is (after_first x q ks above.1)
-  where
-    go : (t : Bool) → is_eq (nat_cmp q k) ≡ t → t || list_any (λ k. is_eq (nat_cmp q k)) ks ≡ true → (list_any (λ k. is_eq (nat_cmp q k)) ks ≡ true → x < q) → x < q
-    go true same rest more = let less : nat_cmp x k ≡ Less = above.0 in grind (arith, nat_tests)
-    go false other rest more = more rest
-
-or_right : (a b : Bool) → b ≡ true → a || b ≡ true
-or_right true b is = refl
-or_right false b is = is
-
-first_is_least : (p r : ℕ → Bool) (ks : List ℕ) (a n : ℕ) → IsStrictlySortedBy nat_cmp ks → ((q : ℕ) → p q ≡ true → list_any (λ k. is_eq (nat_cmp q k)) ks ≡ true)
-    → ((q : ℕ) → list_any (λ k. is_eq (nat_cmp q k)) ks ≡ true → r q ≡ p q) → ((q : ℕ) → p q ≡ true → (a ≤ q) × (q < a + n)) → find r ks ≡ find p (range_with_len a n)
-first_is_least p r [] a n sorted member same within = sym (none_found p a n (λ q. go q (p q) refl))
-  where
-    go : (q : ℕ) (t : Bool) → p q ≡ t → p q ≡ false
-    go q true is = let no = member q is in cc
-    go q false is = is
-first_is_least p r (x ∷ xs) a n sorted member same within =
-    go (p x) refl (λ stays. first_is_least p r xs a n (sorted_tail nat_cmp x xs sorted) stays (λ q is. same q (or_right (is_eq (nat_cmp q x)) (list_any (λ k. is_eq (nat_cmp q k)) xs) is)) within)
-  where
-    own : is_eq (nat_cmp x x) ≡ true
-    own = grind (arith, nat_tests)
-
-    r_is : r x ≡ p x
-    r_is = same x (ap (λ b. b || list_any (λ k. is_eq (nat_cmp x k)) xs) own)
-
-    before : p x ≡ true → (q : ℕ) → q < x → (t : Bool) → p q ≡ t → (s : Bool) → is_eq (nat_cmp q x) ≡ s → p q ≡ false
-    before h q less false is s e = is
-    before h q less true is true e = grind (arith, nat_tests)
-    before h q less true is false e =
-        let rest : list_any (λ k. is_eq (nat_cmp q k)) xs ≡ true = sym (ap (λ b. b || list_any (λ k. is_eq (nat_cmp q k)) xs) e) ∙ member q is in
-        let above = after_first x q xs (firsts x xs sorted) rest in absurd (omega arith)
-
-    others : p x ≡ false → (q : ℕ) → p q ≡ true → (s : Bool) → is_eq (nat_cmp q x) ≡ s → list_any (λ k. is_eq (nat_cmp q k)) xs ≡ true
-    others h q is true e = let same_one : q ≡ x = grind (arith, nat_tests) in let no = ap p same_one in cc
-    others h q is false e = sym (ap (λ b. b || list_any (λ k. is_eq (nat_cmp q k)) xs) e) ∙ member q is
-
-    go : (t : Bool) → p x ≡ t → (((q : ℕ) → p q ≡ true → list_any (λ k. is_eq (nat_cmp q k)) xs ≡ true) → find r xs ≡ find p (range_with_len a n)) → cond (r x) (Some x) (find r xs) ≡ find p (range_with_len a n)
-    go true is rest = ap (λ b. cond b (Some x) (find r xs)) (r_is ∙ is) ∙ sym (least_found p a n x (within x is).0 (within x is).1 is (λ q less. before is q less (p q) refl (is_eq (nat_cmp q x)) refl))
-    go false is rest = ap (λ b. cond b (Some x) (find r xs)) (r_is ∙ is) ∙ rest (λ q h. others is q h (is_eq (nat_cmp q x)) refl)
 
 -- no message has a number that was not sent
 unsent_none : (ms : List Message) (q : ℕ) → nat_le 1 q && nat_le q (length ms) ≡ false → message_at ms q ≡ None
@@ -99,38 +54,127 @@ and3 true true c is = (refl, refl, is)
 and3 true false c is = cc
 and3 false b c is = cc
 
--- what a drain delivers next
-pub next_found : (c : Cluster) (mail : Mail) (now : Standing) → AllUp c mail now → IsStrictlySortedBy nat_cmp mail.waiting.keys
-    → find (λ n. receiver_up (up now) (message_of now.tape n)) mail.waiting.keys ≡ next_delivery (up now) now.tape
-next_found c mail now r sorted =
-    first_is_least (is_deliverable (up now) now.tape) (λ n. receiver_up (up now) (message_of now.tape n)) mail.waiting.keys 1 (sent_count now.tape) sorted member same within
+-- ---- the least of a test that is the same
+
+pub least_same : (p q : ℕ → Bool) (least : Option ℕ) → ((n : ℕ) → p n ≡ q n) → IsLeast p least → IsLeast q least
+least_same p q None same is = λ n. sym (same n) ∙ is n
+least_same p q (Some k) same is = (sym (same k) ∙ is.0, λ n less. sym (same n) ∙ is.1 n less)
+
+-- ---- what waits for the nodes that are up
+
+-- the receiver of a message is one of the first nodes, and up
+abbrev is_within : List Place → ℕ → Option Message → Bool
+is_within places count None = false
+is_within places count (Some message) = (nat_le 1 message.to && nat_le message.to count) && is_up_at places message.to
+
+no_one : (w u : Bool) → ((w && false) || (u && (w && false))) ≡ (w && false)
+no_one true true = refl
+no_one true false = refl
+no_one false true = refl
+no_one false false = refl
+
+among : (waiting : List (BTreeSet ℕ)) (places : List Place) (count n : ℕ) (w : Bool) (m : Option Message) → ((to : ℕ) → waits_for waiting to n ≡ (w && goes_to m to)) → waits_among waiting places count n ≡ (w && is_within places count m)
+among waiting places zero n w m waits = by w m
   where
-    parts : (q : ℕ) → is_deliverable (up now) now.tape q ≡ true → (not (is_taken now.tape q) ≡ true) × (not (is_dropped now.tape q) ≡ true) × (receiver_up (up now) (message_of now.tape q) ≡ true)
-    parts q is = and3 (not (is_taken now.tape q)) (not (is_dropped now.tape q)) (receiver_up (up now) (message_of now.tape q)) is
+    none : (w : Bool) → false ≡ (w && false)
+    none true = refl
+    none false = refl
 
+    by : (w : Bool) (m : Option Message) → false ≡ (w && is_within places 0 m)
+    by w None = none w
+    by w (Some message) = let past : (nat_le 1 message.to && nat_le message.to 0) ≡ false = grind (arith, nat_tests) in none w ∙ ap (λ t. w && (t && is_up_at places message.to)) (sym past)
+among waiting places (suc count) n w None waits =
+    ap (λ b. b || (is_up_at places (suc count) && waits_for waiting (suc count) n)) (among waiting places count n w None waits)
+    ∙ ap (λ b. (w && false) || (is_up_at places (suc count) && b)) (waits (suc count)) ∙ no_one w (is_up_at places (suc count))
+among waiting places (suc count) n w (Some message) waits =
+    ap (λ b. b || (is_up_at places (suc count) && waits_for waiting (suc count) n)) (among waiting places count n w (Some message) waits)
+    ∙ ap (λ b. (w && is_within places count (Some message)) || (is_up_at places (suc count) && b)) (waits (suc count))
+    ∙ by (message.to == suc count) refl
+  where
+    last : (w a u : Bool) → a ≡ false → ((w && (a && u)) || (u && (w && true))) ≡ (w && (true && u))
+    last true a true none = ap (λ t. (t && true) || true) none
+    last true a false none = ap (λ t. (t && false) || false) none
+    last false a true none = refl
+    last false a false none = refl
+
+    other : (x u w : Bool) → (x || (u && (w && false))) ≡ x
+    other true u w = refl
+    other false true true = refl
+    other false true false = refl
+    other false false w = refl
+
+    by : (t : Bool) → (message.to == suc count) ≡ t → ((w && ((nat_le 1 message.to && nat_le message.to count) && is_up_at places message.to)) || (is_up_at places (suc count) && (w && t)))
+        ≡ (w && ((nat_le 1 message.to && nat_le message.to (suc count)) && is_up_at places message.to))
+    by true same =
+        let e : message.to ≡ suc count = grind (arith, nat_tests) in
+        let past : (nat_le 1 message.to && nat_le message.to count) ≡ false = grind (arith, nat_tests) in
+        let here : (nat_le 1 message.to && nat_le message.to (suc count)) ≡ true = grind (arith, nat_tests) in
+        ap (λ k. (w && ((nat_le 1 message.to && nat_le message.to count) && is_up_at places message.to)) || (is_up_at places k && (w && true))) (sym e)
+        ∙ last w (nat_le 1 message.to && nat_le message.to count) (is_up_at places message.to) past
+        ∙ ap (λ t. w && (t && is_up_at places message.to)) (sym here)
+    by false apart =
+        let same : (nat_le 1 message.to && nat_le message.to count) ≡ (nat_le 1 message.to && nat_le message.to (suc count)) = grind (arith, nat_tests) in
+        other (w && ((nat_le 1 message.to && nat_le message.to count) && is_up_at places message.to)) (is_up_at places (suc count)) w
+        ∙ ap (λ t. w && (t && is_up_at places message.to)) same
+
+-- those are the messages that can be delivered
+deliverable : (places : List Place) (now : Standing) (n : ℕ) (m : Option Message) → is_some m ≡ is_sent now.tape n → ((me : ℕ) → up now me ≡ is_up_at places me)
+    → (is_waiting now.tape n && is_within places (length places) m) ≡ (not (is_taken now.tape n) && not (is_dropped now.tape n) && receiver_up (up now) m)
+deliverable places now n None sent ups = by (is_waiting now.tape n) (not (is_taken now.tape n)) (not (is_dropped now.tape n))
+  where
+    by : (w a b : Bool) → (w && false) ≡ (a && b && false)
+    by true true true = refl
+    by true true false = refl
+    by true false b = refl
+    by false true true = refl
+    by false true false = refl
+    by false false b = refl
+deliverable places now n (Some message) sent ups =
+    ap (λ t. (t && not (is_taken now.tape n) && not (is_dropped now.tape n)) && is_within places (length places) (Some message)) (sym sent)
+    ∙ ap (λ t. (not (is_taken now.tape n) && not (is_dropped now.tape n)) && t) (here (is_up_at places message.to) refl)
+    ∙ by (not (is_taken now.tape n)) (not (is_dropped now.tape n)) (is_up_at places message.to)
+    ∙ ap (λ t. not (is_taken now.tape n) && not (is_dropped now.tape n) && t) (sym (ups message.to))
+  where
+    here : (t : Bool) → is_up_at places message.to ≡ t → ((nat_le 1 message.to && nat_le message.to (length places)) && t) ≡ t
+    here true is = let within = up_within places message.to is in let least = within.0 in let most = within.1 in grind (arith, nat_tests)
+    here false is = never (nat_le 1 message.to && nat_le message.to (length places))
+      where
+        never : (a : Bool) → (a && false) ≡ false
+        never true = refl
+        never false = refl
+
+    by : (a b u : Bool) → ((a && b) && u) ≡ (a && b && u)
+    by true b u = refl
+    by false b u = refl
+
+pub among_deliverable : (mail : Mail) (places : List Place) (now : Standing) (n : ℕ) → Carries mail now.tape → ((me : ℕ) → up now me ≡ is_up_at places me)
+    → waits_among mail.waiting.items places (length places) n ≡ is_deliverable (up now) now.tape n
+among_deliverable mail places now n r ups =
+    among mail.waiting.items places (length places) n (is_waiting now.tape n) (message_of now.tape n) (λ to. r.waiting to n)
+    ∙ deliverable places now n (message_of now.tape n) (found_sent mail now.tape n r) ups
+
+-- what a drain delivers next
+pub next_found : (mail : Mail) (places : List Place) (now : Standing) (first : Option ℕ) → Carries mail now.tape → ((me : ℕ) → up now me ≡ is_up_at places me)
+    → IsLeast (waits_among mail.waiting.items places (length places)) first → first ≡ next_delivery (up now) now.tape
+next_found mail places now first r ups is =
+    by first (least_same (waits_among mail.waiting.items places (length places)) (is_deliverable (up now) now.tape) first (λ n. among_deliverable mail places now n r ups) is)
+  where
     was_sent : (q : ℕ) → is_deliverable (up now) now.tape q ≡ true → is_sent now.tape q ≡ true
-    was_sent q is = sent_if mail now.tape (up now) q r.carries (parts q is).2
+    was_sent q can = sent_if mail now.tape (up now) q r (and3 (not (is_taken now.tape q)) (not (is_dropped now.tape q)) (receiver_up (up now) (message_of now.tape q)) can).2
 
-    all_three : (a b c : Bool) → a ≡ true → b ≡ true → c ≡ true → a && b && c ≡ true
-    all_three a b c x y z = ap (λ t. t && b && c) x ∙ ap (λ t. t && c) y ∙ z
+    by : (first : Option ℕ) → IsLeast (is_deliverable (up now) now.tape) first → first ≡ find (is_deliverable (up now) now.tape) (range_with_len 1 (sent_count now.tape))
+    by None none = sym (none_found (is_deliverable (up now) now.tape) 1 (sent_count now.tape) none)
+    by (Some k) least =
+        let sent = was_sent k least.0 in
+        let low : 1 ≤ k = grind (arith, nat_tests) in
+        let high : k < 1 + sent_count now.tape = grind (arith, nat_tests) in
+        sym (least_found (is_deliverable (up now) now.tape) 1 (sent_count now.tape) k low high least.0 least.1)
 
-    member : (q : ℕ) → is_deliverable (up now) now.tape q ≡ true → list_any (λ k. is_eq (nat_cmp q k)) mail.waiting.keys ≡ true
-    member q is = r.carries.waiting q ∙ all_three (is_sent now.tape q) (not (is_taken now.tape q)) (not (is_dropped now.tape q)) (was_sent q is) (parts q is).0 (parts q is).1
-
-    same : (q : ℕ) → list_any (λ k. is_eq (nat_cmp q k)) mail.waiting.keys ≡ true → receiver_up (up now) (message_of now.tape q) ≡ is_deliverable (up now) now.tape q
-    same q is =
-        let waits = and3 (is_sent now.tape q) (not (is_taken now.tape q)) (not (is_dropped now.tape q)) (sym (r.carries.waiting q) ∙ is) in
-        sym (ap (λ t. t && not (is_dropped now.tape q) && receiver_up (up now) (message_of now.tape q)) waits.1 ∙ ap (λ t. t && receiver_up (up now) (message_of now.tape q)) waits.2)
-
-    within : (q : ℕ) → is_deliverable (up now) now.tape q ≡ true → (1 ≤ q) × (q < 1 + sent_count now.tape)
-    within q is = let sent = was_sent q is in (grind (arith, nat_tests), grind (arith, nat_tests))
-
--- a search through what is left of a list
-pub found_now : (p : ℕ → Bool) (left keys rest : List ℕ) (x : ℕ) → left ≡ x ∷ rest → p x ≡ true → find p left ≡ find p keys → Some x ≡ find p keys
-found_now p left keys rest x is passes same = sym (ap (λ b. cond b (Some x) (find p rest)) passes) ∙ ap (find p) (sym is) ∙ same
-
-pub found_later : (p : ℕ → Bool) (left keys rest : List ℕ) (x : ℕ) → left ≡ x ∷ rest → p x ≡ false → find p left ≡ find p keys → find p rest ≡ find p keys
-found_later p left keys rest x is fails same = sym (ap (λ b. cond b (Some x) (find p rest)) fails) ∙ ap (find p) (sym is) ∙ same
-
-pub found_none : (p : ℕ → Bool) (left keys : List ℕ) → left ≡ [] → find p left ≡ find p keys → None ≡ find p keys
-found_none p left keys is same = ap (find p) (sym is) ∙ same
+-- one more node
+pub among_more : (waiting : List (BTreeSet ℕ)) (places : List Place) (before : ℕ) (least : Option ℕ) → IsLeast (λ n. waits_among waiting places before n || (is_up_at places (before + 1) && waits_for waiting (before + 1) n)) least
+    → IsLeast (waits_among waiting places (before + 1)) least
+among_more waiting places before least is =
+    let e : suc before ≡ before + 1 = omega arith in
+    subst (λ k. IsLeast (waits_among waiting places k) least) e
+    (least_same (λ n. waits_among waiting places before n || (is_up_at places (before + 1) && waits_for waiting (before + 1) n)) (waits_among waiting places (suc before)) least
+    (λ n. ap (λ k. waits_among waiting places before n || (is_up_at places k && waits_for waiting k n)) (sym e)) is)

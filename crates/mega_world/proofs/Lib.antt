@@ -5,7 +5,7 @@ pub mod Lapsing
 pub mod Breaking
 pub mod Events
 pub mod Least
-pub mod Quiet
+pub mod Falling
 pub mod Staying
 pub mod Owning
 pub mod Forming

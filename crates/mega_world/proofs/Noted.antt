@@ -77,9 +77,9 @@ pub shown_whole : (c : Cluster) (old new : World) (me : ℕ) (made : Step) (was 
     → newest noted ≡ with_items c ruled (newest items) (notes_shown me made.notes) → KnowsLeases safety ruled (newest noted)
     → ((before : List Item) → Carries old.mail before → Carries new.mail (onto (numbered (sent_count before + 1) made.sends) before))
     → ((before : List Item) → Carries old.mail before → after ≡ noted ++ numbered (sent_count before + 1) made.sends)
-    → new.nodes ≡ old.nodes → new.safety ≡ safety → IsShown c old new me made ruled items after
-shown_whole c old new me made was ruled items noted after safety stepped tape leases carried shows nodes same = record {
-  nodes = nodes;
+    → new.places ≡ old.places → new.safety ≡ safety → IsShown c old new me made ruled items after
+shown_whole c old new me made was ruled items noted after safety stepped tape leases carried shows places same = record {
+  places = places;
   tape = whole ∙ ap (onto sent) tape ∙ sym (with_sent c ruled (sent_count (newest items) + 1) made.sends (with_items c ruled (newest items) (notes_shown me made.notes)))
       ∙ sym (with_append c ruled (notes_shown me made.notes) sent (newest items));
   leases = subst (λ (s : Safety). KnowsLeases s ruled (newest after)) (sym same)

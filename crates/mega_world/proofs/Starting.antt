@@ -1,12 +1,11 @@
 -- How a cluster stands once its nodes are started.
-use Rattle.std.proofs.Common.{◌≡◌, ◌⊎◌, inl, inr, ℕ, ◌+◌, ◌<◌, ◌≤◌, ◌==◌, ◌&&◌, nat_le, cond, Bool, true, false, List, [], ◌∷◌, ◌++◌, flat_map, fold, length, length-append, Some, None, refl, sym, ap, ◌∙◌, subst, zero, suc, arith}
+use Rattle.std.proofs.Common.{◌≡◌, ◌⊎◌, inl, inr, ℕ, ◌+◌, ◌<◌, ◌≤◌, ◌==◌, ◌&&◌, nat_le, cond, Bool, true, false, List, [], ◌∷◌, ◌++◌, flat_map, fold, length, length-append, Option, Some, None, is_some, refl, sym, ap, ◌∙◌, subst, zero, suc, arith}
 use Rattle.std.proofs.lemmas.Bool.Decides.{nat_tests}
 use Rattle.std.proofs.lemmas.Option.{slice_get_within}
 use Rattle.std.specs.BTreeSet.{contains}
 use Rattle.std.specs.List.{range_with_len, slice_get}
 use Rattle.mega_base.specs.declared.names.Epoch.{Epoch}
 use Rattle.mega_cluster.specs.declared.cluster.Cluster.{Cluster}
-use Rattle.mega_disk.specs.VersionMaps.{Versions}
 use Rattle.mega_handler.specs.Named.{Meanings}
 use Rattle.mega_transcript.specs.declared.item.Item.{Item}
 use Rattle.mega_transcript.specs.declared.item.Item.TheVariants.{Start}
@@ -30,15 +29,17 @@ use Rattle.mega_world.specs.declared.mail.Mail.{Mail}
 use Rattle.mega_world.specs.declared.safety.Lapse.{Lapse}
 use Rattle.mega_world.specs.declared.safety.Safety.{Safety}
 use Rattle.mega_world.specs.Carries.{Carries}
-use Rattle.mega_world.specs.AllUp.{AllUp}
+use Rattle.mega_world.specs.Plain.{HasNoFuses}
 use Rattle.mega_world.proofs.Carrying.{shown_on}
 use Rattle.mega_actions.specs.Stands.{setting as at_node}
-use Rattle.mega_core.specs.declared.node.Node.{Node}
 use Rattle.mega_world.specs.Formed.{IsFormed}
 use Rattle.mega_world.specs.Lapses.{KnowsLeases, lapse, lapse_cmp}
-use Rattle.mega_world.specs.Members.{AreMembers, AreStarted, IsMember}
+use Rattle.mega_world.specs.declared.place.Place.{Place}
+use Rattle.mega_world.specs.declared.place.Place.TheVariants.{Up, Down}
+use Rattle.mega_world.specs.Members.{AreMembers, AreStarted, IsMember, IsStarted, Member, is_up_at, member_in, member_of}
 use Rattle.mega_world.specs.Opening.{first_starts}
 use Rattle.mega_world.specs.Within.{RunsWithin}
+use Rattle.mega_world.proofs.Joining.{member_is}
 use Rattle.mega_world.proofs.Stepped.{IsTold, same_setting}
 
 -- ---- the first start of a node
@@ -153,19 +154,11 @@ starts_sent : (k n : ℕ) → message_of (first_starts k) n ≡ None
 starts_sent zero n = refl
 starts_sent (suc k) n = starts_sent k n
 
-pub opening_stands : (c : Cluster) (h : Meanings) (mail : Mail) → Carries mail [] → AllUp c mail (opening c h)
-opening_stands c h mail nothing = record {
-  carries = subst (Carries mail) (sym o.tape_is) (starts_carried mail (length c.nodes) nothing);
-  unfused = record { of_log = o.of_log; of_data = o.of_data };
-  up_are = λ me. ap (λ (n : RuleNode). is_up n.met) (o.node_is me) ∙ by (is_among (length c.nodes) me) me;
-}
-  where
-    o : Opened c h (length c.nodes) (opening c h)
-    o = opening_opened c h
+pub opening_mail : (c : Cluster) (h : Meanings) (mail : Mail) → Carries mail [] → Carries mail (opening c h).tape
+opening_mail c h mail nothing = subst (Carries mail) (sym (opening_opened c h).tape_is) (starts_carried mail (length c.nodes) nothing)
 
-    by : (t : Bool) (me : ℕ) → is_up (cond t (start (setting c h me) 1 [] []) empty_node).met ≡ t
-    by true me = first_up (setting c h me)
-    by false me = refl
+pub opening_unfused : (c : Cluster) (h : Meanings) → HasNoFuses (opening c h)
+opening_unfused c h = record { of_log = (opening_opened c h).of_log; of_data = (opening_opened c h).of_data }
 
 pub opening_tape : (c : Cluster) (h : Meanings) (items : List Item) → newest items ≡ first_starts (length c.nodes) → newest items ≡ (opening c h).tape
 opening_tape c h items is = is ∙ sym (opening_opened c h).tape_is
@@ -228,13 +221,52 @@ opening_within c h few = record {
     by true me = first_started (setting c h me) 1
     by false me = record { met = tt; open_operations = tt }
 
-pub opening_members : {R V : Type 0} (version : V → Versions) (c : Cluster) (h : Meanings) (nodes : List (Node R V)) → length nodes ≡ length c.nodes → AreStarted version c nodes → AreMembers version c nodes (opening c h).node
-opening_members version c h nodes count started_are = record {
-  count = count;
-  each = λ i node is. let below = slice_get_within nodes i node is in
-      let among : is_among (length c.nodes) (i + 1) ≡ true = grind (arith, nat_tests) in
-      subst (IsMember version c (i + 1) node) (sym ((opening_opened c h).node_is (i + 1) ∙ ap (λ t. cond t (start (setting c h (i + 1)) 1 [] []) empty_node) among)) (started_are.each h i node is);
-}
+-- a list has nothing behind its end
+slice_get_none : {X : Type 0} (xs : List X) (i : ℕ) → slice_get xs i ≡ None → length xs ≤ i
+slice_get_none [] i is = omega arith
+slice_get_none (x ∷ xs) zero is = cc
+slice_get_none (x ∷ xs) (suc i) is = let le = slice_get_none xs i is in omega (arith, le)
+
+-- each node is in its place
+module _ (c : Cluster) (h : Meanings) (places : List Place) (count : length places ≡ length c.nodes) (started_are : AreStarted c places) where
+  node_there : (i : ℕ) → (opening c h).node (suc i) ≡ node_at c h (length c.nodes) (suc i)
+  node_there i = (opening_opened c h).node_is (suc i)
+
+  member_by : (i : ℕ) (found : Option Place) → slice_get places i ≡ found → (node : Member) → member_in found ≡ Some node → IsMember c (suc i) node ((opening c h).node (suc i))
+  member_by i None at node is = cc
+  member_by i (Some Down) at node is = cc
+  member_by i (Some (Up one)) at node is =
+      let below = slice_get_within places i (Up one) at in
+      let among : is_among (length c.nodes) (suc i) ≡ true = grind (arith, nat_tests) in
+      let e : i + 1 ≡ suc i = omega arith in
+      let same : one ≡ node = cc in
+      subst (λ (n : Member). IsMember c (suc i) n ((opening c h).node (suc i))) same
+      (subst (IsMember c (suc i) one) (sym (node_there i ∙ ap (λ t. cond t (start (setting c h (suc i)) 1 [] []) empty_node) among))
+      (subst (λ (k : ℕ). IsMember c k one (start (setting c h k) 1 [] [])) e (started_are.each i (Up one) at h)))
+
+  up_by : (i : ℕ) (found : Option Place) → slice_get places i ≡ found → is_up ((opening c h).node (suc i)).met ≡ is_some (member_in found)
+  up_by i None at =
+      let past = slice_get_none places i at in
+      let apart : is_among (length c.nodes) (suc i) ≡ false = grind (arith, nat_tests) in
+      ap (λ (n : RuleNode). is_up n.met) (node_there i ∙ ap (λ t. cond t (start (setting c h (suc i)) 1 [] []) empty_node) apart)
+  up_by i (Some Down) at = absurd (started_are.each i Down at)
+  up_by i (Some (Up one)) at =
+      let below = slice_get_within places i (Up one) at in
+      let among : is_among (length c.nodes) (suc i) ≡ true = grind (arith, nat_tests) in
+      ap (λ (n : RuleNode). is_up n.met) (node_there i ∙ ap (λ t. cond t (start (setting c h (suc i)) 1 [] []) empty_node) among) ∙ first_up (setting c h (suc i))
+
+  each_member : (me : ℕ) (node : Member) → member_of places me ≡ Some node → IsMember c me node ((opening c h).node me)
+  each_member zero node is = cc
+  each_member (suc i) node is = member_by i (slice_get places i) refl node (sym (member_is places (suc i) i (omega arith) (omega arith)) ∙ is)
+
+  each_up : (me : ℕ) → is_up ((opening c h).node me).met ≡ is_up_at places me
+  each_up zero =
+      let apart : is_among (length c.nodes) 0 ≡ false = grind (arith, nat_tests) in
+      ap (λ (n : RuleNode). is_up n.met) ((opening_opened c h).node_is 0 ∙ ap (λ t. cond t (start (setting c h 0) 1 [] []) empty_node) apart)
+  each_up (suc i) = up_by i (slice_get places i) refl ∙ sym (ap is_some (member_is places (suc i) i (omega arith) (omega arith)))
+
+  pub opening_members : AreMembers c places (opening c h).node
+  opening_members = record { count = count; each = each_member; up_are = each_up }
 
 -- one more node is started
 pub starts_more : (items : List Item) (k : ℕ) → newest items ≡ first_starts k → newest (items ++ Start (number (k + 1)) 1 ∷ []) ≡ first_starts (k + 1)
@@ -249,24 +281,24 @@ last_found [] x y (suc i) P each last is = cc
 last_found (first ∷ xs) x y zero P each last is = each 0 y is
 last_found (first ∷ xs) x y (suc i) P each last is = last_found xs x y i (λ j z. P (suc j) z) (λ j z found. each (suc j) z found) last is
 
-pub none_started : {R V : Type 0} (version : V → Versions) (c : Cluster) → AreStarted {R = R} version c []
-none_started version c = record { each = λ h i node is. cc }
+pub none_started : (c : Cluster) → AreStarted c []
+none_started c = record { each = λ i place is. cc }
 
-pub started_more : {R V : Type 0} (version : V → Versions) (c : Cluster) (nodes : List (Node R V)) (one : Node R V) (k : ℕ) → length nodes ≡ k → AreStarted version c nodes
-    → ((h : Meanings) → IsMember version c (k + 1) one (start (setting c h (k + 1)) 1 [] [])) → AreStarted version c (nodes ++ one ∷ [])
-started_more {R} {V} version c nodes one k count were last = record {
-  each = λ h i node is. last_found nodes one node i (λ (j : ℕ) (z : Node R V). IsMember version c (j + 1) z (start (setting c h (j + 1)) 1 [] [])) (were.each h)
-      (subst (λ n. IsMember version c (n + 1) one (start (setting c h (n + 1)) 1 [] [])) (sym count) (last h)) is;
+pub started_more : (c : Cluster) (places : List Place) (one : Member) (k : ℕ) → length places ≡ k → AreStarted c places
+    → ((h : Meanings) → IsMember c (k + 1) one (start (setting c h (k + 1)) 1 [] [])) → AreStarted c (places ++ Up one ∷ [])
+started_more c places one k count were last = record {
+  each = λ i place is. last_found places (Up one) place i (λ (j : ℕ) (z : Place). IsStarted c (j + 1) z) were.each
+      (subst (λ n. (h : Meanings) → IsMember c (n + 1) one (start (setting c h (n + 1)) 1 [] [])) (sym count) last) is;
 }
 
 -- a node that was made so is the first of its cluster's run
-pub first_member : {R V : Type 0} (version : V → Versions) (c own : Cluster) (h : Meanings) (me : ℕ) (node : Node R V) → own ≡ c → node.replica.members ≡ own → node.replica.me ≡ me
-    → ((g : Meanings) → IsTold version (at_node node.replica.members node.replica.me g) node (start (at_node own me g) 1 [] [])) → IsMember version c me node (start (setting c h me) 1 [] [])
-first_member version c own h me node same members number told = record {
+pub first_member : (c own : Cluster) (h : Meanings) (me : ℕ) (node : Member) → own ≡ c → node.replica.members ≡ own → node.replica.me ≡ me
+    → ((g : Meanings) → IsTold (at_node node.replica.members node.replica.me g) node (start (at_node own me g) 1 [] [])) → IsMember c me node (start (setting c h me) 1 [] [])
+first_member c own h me node same members number told = record {
   members = members ∙ same;
   number = number;
-  told = λ g. subst (λ (k : Cluster). IsTold version (setting c g me) node (start (setting k g me) 1 [] [])) same
-      (subst (λ (s : Setting). IsTold version s node (start (at_node own me g) 1 [] [])) (same_setting node.replica.members c g node.replica.me me (members ∙ same) number) (told g));
+  told = λ g. subst (λ (k : Cluster). IsTold (setting c g me) node (start (setting k g me) 1 [] [])) same
+      (subst (λ (s : Setting). IsTold s node (start (at_node own me g) 1 [] [])) (same_setting node.replica.members c g node.replica.me me (members ∙ same) number) (told g));
 }
 
 pub length_last : {X : Type 0} (xs : List X) (x : X) (k : ℕ) → length xs ≡ k → length (xs ++ x ∷ []) ≡ k + 1

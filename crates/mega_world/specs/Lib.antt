@@ -1,14 +1,14 @@
 pub mod Carries
 pub mod Plain
-pub mod AllUp
-pub mod Waiting
 pub mod Faults
 pub mod Formed
 pub mod Lapses
+pub mod Least
 pub mod Members
 pub mod Opening
 pub mod Showing
 pub mod Shown
 pub mod Stands
 pub mod Unbuilt
+pub mod Waits
 pub mod Within

@@ -2,15 +2,10 @@
 use Rattle.std.specs.Prelude.{◌≡◌, ℕ, ◌+◌, ◌++◌, List, map}
 use Rattle.mega_base.specs.declared.names.Epoch.{Epoch}
 use Rattle.mega_cluster.specs.declared.cluster.Cluster.{Cluster}
-use Rattle.mega_disk.specs.declared.mem_records.MemRecords.{MemRecords}
-use Rattle.mega_rows.specs.declared.rows.VersionedRows.{VersionedRows}
 use Rattle.mega_transcript.specs.declared.item.Item.{Item}
 use Rattle.mega_transcript.specs.Tape.{newest, sent_count}
-use Rattle.mega_rules.specs.Clock.{is_up}
-use Rattle.mega_rules.specs.Members.{is_node}
 use Rattle.mega_rules.specs.Operations.{Node as RuleNode}
 use Rattle.mega_rules.specs.Steps.{onto}
-use Rattle.mega_core.specs.declared.node.Node.{Node}
 use Rattle.mega_core.specs.declared.note.Note.{Note}
 use Rattle.mega_core.specs.declared.step.Step.{Step}
 use Rattle.mega_core.specs.Notes.{met_of}
@@ -21,23 +16,17 @@ use Rattle.mega_world.specs.Carries.{Carries}
 use Rattle.mega_world.specs.Lapses.{KnowsLeases}
 use Rattle.mega_world.specs.Members.{AreMembers}
 use Rattle.mega_world.specs.Shown.{notes_shown}
-use Rattle.mega_world.specs.Stands.{version_of}
-
--- the nodes of a cluster, all up
-pub record AreUp (c : Cluster) (nodes : List (Node MemRecords VersionedRows)) (ruled : ℕ → RuleNode) : Type 0 where
-  pub members : AreMembers version_of c nodes ruled
-  pub up_are : (me : ℕ) → is_up (ruled me).met ≡ is_node c me
 
 -- this node made a step that notes this, which is not shown yet
 pub record IsStepped (c : Cluster) (world : World) (me : ℕ) (notes : List Note) (was ruled : ℕ → RuleNode) (tape : List Item) : Type 0 where
-  pub nodes : AreUp c world.nodes.items ruled
+  pub nodes : AreMembers c world.places.items ruled
   pub lapsed : (cell node : ℕ) (epoch : Epoch) → has_lapsed (ruled cell).met node epoch ≡ has_lapsed (set_at (λ other. (was other).met) me (onto (map met_of notes) (was me).met) cell) node epoch
   pub leases : KnowsLeases world.safety was tape
   pub carries : Carries world.mail tape
 
 -- the step is shown: its notes, each judged by the nodes as they stand then, and what it sends
 pub record IsShown (c : Cluster) (old new : World) (me : ℕ) (made : Step) (ruled : ℕ → RuleNode) (items after : List Item) : Type 0 where
-  pub nodes : new.nodes ≡ old.nodes
+  pub places : new.places ≡ old.places
   pub tape : newest after ≡ with_items c ruled (newest items) (notes_shown me made.notes ++ numbered (sent_count (newest items) + 1) made.sends)
   pub leases : KnowsLeases new.safety ruled (newest after)
   pub carries : Carries new.mail (newest after)

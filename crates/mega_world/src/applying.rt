@@ -48,9 +48,9 @@ impl World {
             WorldEvent::Drop { message } => self.drop_message(message, tape),
             WorldEvent::Drain { most } => self.drain(alloc, most, tape),
             WorldEvent::Tick { node, now } => self.tick(alloc, node, now, tape),
-            WorldEvent::Crash { .. } | WorldEvent::Start { .. } | WorldEvent::Fuse { .. } => Err(
-                WorldFault::Unbuilt,
-            ),
+            WorldEvent::Crash { node } => self.crash(node, tape),
+            WorldEvent::Start { node } => Err(self.start(node)),
+            WorldEvent::Fuse { node, .. } => Err(self.fuse(node)),
         }
     }
 }

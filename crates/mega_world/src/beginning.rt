@@ -6,15 +6,17 @@ ghost use Rattle.mega_handler.specs.Named.{Meanings};
 ghost use Rattle.mega_schedule.specs.declared.world_event.WorldEvent.TheVariants as event;
 ghost use Rattle.mega_transcript.specs.Lines.{HasLine};
 ghost use Rattle.mega_actions.specs.Built.{is_built};
-ghost use Rattle.mega_rules.specs.Members.{is_node};
-ghost use Rattle.mega_promises.specs.Runs.{Cuts, Standing, after_event, is_empty, names_nothing, refusal, up};
+ghost use Rattle.mega_promises.specs.Runs.{Cuts, Standing, after_event, is_empty, names_nothing, refusal};
 ghost use Rattle.mega_world.specs.declared.fault.WorldFault.TheVariants.{Refused, Unbuilt};
 ghost use Rattle.mega_world.specs.Formed.{IsSound};
+ghost use Rattle.mega_world.specs.Members.{AreMembers, is_up_at};
 ghost use Rattle.mega_world.specs.Stands.{IsAt};
 
 use crate::fault::WorldFault;
+use crate::place::Place;
+use crate::places::{is_node, is_up};
 use crate::stepping::begin_at;
-use crate::world::{World, is_node};
+use crate::world::World;
 use mega_base::{GroupId, NodeId, Text};
 use mega_outcome::Request;
 use mega_transcript::{Item, Tape};
@@ -48,16 +50,18 @@ fn names_nothing(request: &Request) -> bool
     }
 }
 
-/// Why an operation does not begin, in a cluster of so many nodes, all up: 6, there is no such node; 7, its request names no group or
-/// no index.
-fn refusal(nodes: usize, node: NodeId, request: &Request) -> Option<u8>
+/// Why an operation does not begin: 6, there is no such node; 1, it is down; 7, its request names no group or no index.
+fn refusal(places: &[Place], node: NodeId, request: &Request) -> Option<u8>
     ensures least { IfNone result (1 ≤ node.0) }
-    ensures most { IfNone result (node.0 ≤ nodes) }
-    ensures there { IfNone result ((c : Cluster) → length c.nodes ≡ nodes → is_node c node.0 ≡ true) }
-    ensures value { (c : Cluster) (now : Standing) (text : List ℕ) → ((me : ℕ) → up now me ≡ is_node c me) → length c.nodes ≡ nodes → result ≡ refusal c now (event.Begin node request.now text) }
+    ensures most { IfNone result (node.0 ≤ length places.now) }
+    ensures up { IfNone result (is_up_at places.now node.0 ≡ true) }
+    ensures value { (c : Cluster) (now : Standing) (text : List ℕ) → AreMembers c places.now now.node → result ≡ refusal c now (event.Begin node request.now text) }
 {
-    if !is_node(nodes, node.0) {
+    if !is_node(places.len(), node.0) {
         return Some(6);
+    }
+    if !is_up(places, node.0) {
+        return Some(1);
     }
     if names_nothing(request) {
         return Some(7);
@@ -85,13 +89,13 @@ impl World {
         ensures tape { (why : ℕ) → result ≡ Err (Refused why) → tape.new.items ≡ tape.old.items }
         ensures unbuilt { result ≡ Err Unbuilt → is_built request ≡ false }
     {
-        match refusal(self.nodes.as_slice().len(), node, &request) {
+        match refusal(self.places.as_slice(), node, &request) {
             Some(why) => Err(WorldFault::Refused { why }),
             None => self.begins(alloc, node, request, text, tape),
         }
     }
 
-    /// An operation begins at a node that is there.
+    /// An operation begins at a node that is up.
     fn begins(
         &mut self,
         alloc: Global,
@@ -101,7 +105,8 @@ impl World {
         tape: &mut Tape,
     ) -> Result<(), WorldFault>
         requires least { 1 ≤ node.0 }
-        requires most { node.0 ≤ length self.old.nodes.items }
+        requires most { node.0 ≤ length self.old.places.items }
+        requires up { is_up_at self.old.places.items node.0 ≡ true }
         ensures state { OnOk result ((c : Cluster) (h : Meanings) (cuts : Cuts) (now : Standing) → IsAt c self.old tape.old.items now → IsSound c h cuts now (event.Begin node request text) →
             IsAt c self.new tape.new.items (after_event c h cuts now (event.Begin node request text))) }
         ensures lines { OnOk result ((c : Cluster) (h : Meanings) (cuts : Cuts) (now : Standing) → IsAt c self.old tape.old.items now → IsSound c h cuts now (event.Begin node request text) →
@@ -109,7 +114,7 @@ impl World {
         ensures served { (why : ℕ) → result ≢ Err (Refused why) }
         ensures unbuilt { result ≡ Err Unbuilt → is_built request ≡ false }
     {
-        let (op, made) = match begin_at(alloc, &mut self.nodes, node.0, request, &text) {
+        let (op, made) = match begin_at(alloc, &mut self.places, node.0, request, &text) {
             Ok(begun) => begun,
             Err(fault) => return Err(fault),
         };

@@ -6,34 +6,36 @@ ghost use Rattle.mega_handler.specs.Named.{Meanings};
 ghost use Rattle.mega_schedule.specs.declared.world_event.WorldEvent.TheVariants as event;
 ghost use Rattle.mega_transcript.specs.Lines.{HasLine};
 ghost use Rattle.mega_transcript.specs.Tape.{is_sent};
-ghost use Rattle.mega_rules.specs.Members.{is_node};
 ghost use Rattle.mega_promises.specs.Messages.{message_of};
-ghost use Rattle.mega_promises.specs.Runs.{Cuts, Standing, after_event, refusal};
-ghost use Rattle.mega_world.specs.AllUp.{AllUp};
+ghost use Rattle.mega_promises.specs.Runs.{Cuts, Standing, after_event, refusal, up};
+ghost use Rattle.mega_world.specs.Carries.{Carries};
 ghost use Rattle.mega_world.specs.declared.fault.WorldFault.TheVariants.{Refused, Unbuilt};
 ghost use Rattle.mega_world.specs.Formed.{IsSound};
+ghost use Rattle.mega_world.specs.Members.{is_up_at};
 ghost use Rattle.mega_world.specs.Stands.{IsAt};
 
 use crate::fault::WorldFault;
 use crate::mail::Mail;
+use crate::place::Place;
+use crate::places::is_up;
 use crate::stepping::take_at;
-use crate::world::{World, is_node};
+use crate::world::World;
 use mega_transcript::{Item, Tape};
 use mega_wire::Message;
 use std::alloc::Global;
 
-/// The message of a number, where one was sent to one of so many nodes.
-fn sent_to(mail: &Mail, nodes: usize, number: u64) -> Option<&Message>
+/// The message of a number, where one was sent to a node that is up.
+fn sent_to<'a>(mail: &'a Mail, places: &[Place], number: u64) -> Option<&'a Message>
     ensures least { IfSome result (λ message. 1 ≤ message.now.to) }
-    ensures most { IfSome result (λ message. message.now.to ≤ nodes) }
-    ensures found { IfSome result (λ message. (c : Cluster) (now : Standing) → AllUp c mail.now now → message_of now.tape number ≡ Some message.now) }
-    ensures sent { IfSome result (λ message. (c : Cluster) (now : Standing) → AllUp c mail.now now → is_sent now.tape number ≡ true) }
-    ensures there { IfSome result (λ message. (c : Cluster) → length c.nodes ≡ nodes → is_node c message.now.to ≡ true) }
-    ensures none { IfNone result ((c : Cluster) (now : Standing) → AllUp c mail.now now → length c.nodes ≡ nodes → refusal c now (event.Deliver number) ≢ None) }
+    ensures most { IfSome result (λ message. message.now.to ≤ length places.now) }
+    ensures up { IfSome result (λ message. is_up_at places.now message.now.to ≡ true) }
+    ensures found { IfSome result (λ message. (now : Standing) → Carries mail.now now.tape → message_of now.tape number ≡ Some message.now) }
+    ensures sent { IfSome result (λ message. (now : Standing) → Carries mail.now now.tape → is_sent now.tape number ≡ true) }
+    ensures none { IfNone result ((c : Cluster) (now : Standing) → Carries mail.now now.tape → ((me : ℕ) → up now me ≡ is_up_at places.now me) → refusal c now (event.Deliver number) ≢ None) }
 {
     match mail.message(number) {
         Some(message) => {
-            if !is_node(nodes, message.to) {
+            if !is_up(places, message.to) {
                 return None;
             }
             Some(message)
@@ -43,7 +45,7 @@ fn sent_to(mail: &Mail, nodes: usize, number: u64) -> Option<&Message>
 }
 
 impl World {
-    /// The message of a number is handed to its receiver, which is one of the nodes.
+    /// The message of a number is handed to its receiver, which is up.
     pub(crate) fn hand(
         &mut self,
         alloc: Global,
@@ -57,12 +59,12 @@ impl World {
         ensures served { (why : ℕ) → result ≢ Err (Refused why) }
         ensures built { result ≡ Err Unbuilt → (c : Cluster) (now : Standing) → IsAt c self.old tape.old.items now → refusal c now (event.Deliver number) ≡ None → ⊥ }
     {
-        let message = match sent_to(&self.mail, self.nodes.as_slice().len(), number) {
+        let message = match sent_to(&self.mail, self.places.as_slice(), number) {
             Some(message) => message,
             None => return Err(WorldFault::Unbuilt),
         };
         let me = message.to;
-        let made = match take_at(alloc, &mut self.nodes, message) {
+        let made = match take_at(alloc, &mut self.places, message) {
             Ok(made) => made,
             Err(fault) => return Err(fault),
         };
@@ -90,10 +92,7 @@ impl World {
         ensures built { result ≡ Err Unbuilt → (c : Cluster) (now : Standing) → IsAt c self.old tape.old.items now → ⊥ }
         ensures allowed { result ≡ Err Unbuilt → (c : Cluster) (now : Standing) → IsAt c self.old tape.old.items now → refusal c now (event.Deliver number) ≡ None }
     {
-        match self
-            .mail
-            .delivery_refusal(self.nodes.as_slice().len(), number)
-        {
+        match self.mail.delivery_refusal(self.places.as_slice(), number) {
             Some(why) => Err(WorldFault::Refused { why }),
             None => self.hand(alloc, number, tape),
         }

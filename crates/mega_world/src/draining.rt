@@ -31,7 +31,7 @@ impl World {
         ensures built { result ≡ Err Unbuilt → (c : Cluster) (h : Meanings) (cuts : Cuts) (now : Standing) → IsAt c self.old tape.old.items now → IsSound c h cuts now (event.Drain most) → ⊥ }
     {
         for _turn in 0..most {
-            let number = match self.mail.next_delivery(self.nodes.as_slice().len()) {
+            let number = match self.mail.next_delivery(self.places.as_slice()) {
                 Some(number) => number,
                 None => return Ok(()),
             };
@@ -40,7 +40,7 @@ impl World {
                 Err(fault) => return Err(fault),
             }
         }
-        match self.mail.next_delivery(self.nodes.as_slice().len()) {
+        match self.mail.next_delivery(self.places.as_slice()) {
             Some(_number) => {
                 tape.items.push(Item::Cut)?;
                 Ok(())

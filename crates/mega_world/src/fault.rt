@@ -10,10 +10,10 @@ use mega_core::StepFault;
 #[derive(Clone, Copy, PartialEq, Eq, Debug, Drop)]
 pub enum WorldFault {
     /// The run refuses it, and the world is as it was: 6, there is no such node; 3, no message of that number was sent; 4, it was
-    /// dropped; 5, the node's clock showed a later time; 7, the request names no group or index. It is never 1, that a message's
-    /// receiver is down: each goes to a node, and all are up.
+    /// dropped; 1, the node, or the message's receiver, is down; 2, the node to be started is up; 5, its clock showed a later time; 7,
+    /// the request names no group or index.
     Refused { why: u8 },
-    /// A crash, a start, a fuse or such a request is not served yet. After this and all that follow the world is not used again.
+    /// A start, a fuse or such a request is not served yet. After this and all that follow the world is not used again.
     Unbuilt,
     /// An allocation was refused.
     NoMemory,

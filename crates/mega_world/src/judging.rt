@@ -5,32 +5,30 @@ ghost use Rattle.mega_cluster.specs.declared.cluster.Cluster.{Cluster};
 ghost use Rattle.mega_rules.specs.Operations.{Node as RuleNode};
 ghost use Rattle.mega_promises.specs.Runs.{breaks, counts_cell};
 ghost use Rattle.mega_world.specs.Lapses.{AreLapsesOf};
-ghost use Rattle.mega_world.specs.Showing.{AreUp};
+ghost use Rattle.mega_world.specs.Members.{AreMembers};
 
+use crate::place::Place;
+use crate::places::member_of;
 use crate::safety::{Lapse, Safety};
-use crate::world::{Member, is_node};
 use mega_base::Epoch;
 use mega_transcript::Item;
 
-/// Whether there is a node of this number, and its coordinator counts a cell under an epoch.
-fn counts(nodes: &[Member], node: u8, cell: u8, epoch: Epoch) -> bool
-    ensures { (c : Cluster) (ruled : ℕ → RuleNode) → AreUp c nodes.now ruled → result ≡ counts_cell c (ruled node).met cell epoch }
+/// Whether the node of this number is up, and its coordinator counts a cell under an epoch.
+fn counts(places: &[Place], node: u8, cell: u8, epoch: Epoch) -> bool
+    ensures { (c : Cluster) (ruled : ℕ → RuleNode) → AreMembers c places.now ruled → result ≡ counts_cell c (ruled node).met cell epoch }
 {
-    if !is_node(nodes.len(), node) {
-        return false;
+    match member_of(places, usize::from(node)) {
+        Some(node) => node.replica.leases.counts(cell, epoch),
+        None => false,
     }
-    nodes[usize::from(node) - 1]
-        .replica
-        .leases
-        .counts(cell, epoch)
 }
 
 /// Whether an item shows that leases are not safe: a coordinator counts a cell under an epoch that lapsed there.
-fn breaks(nodes: &[Member], safety: &Safety, item: &Item) -> bool
-    ensures { (c : Cluster) (ruled : ℕ → RuleNode) → AreUp c nodes.now ruled → AreLapsesOf safety.now.lapses (λ me. (ruled me).met) → result ≡ breaks c ruled item.now }
+fn breaks(places: &[Place], safety: &Safety, item: &Item) -> bool
+    ensures { (c : Cluster) (ruled : ℕ → RuleNode) → AreMembers c places.now ruled → AreLapsesOf safety.now.lapses (λ me. (ruled me).met) → result ≡ breaks c ruled item.now }
 {
     match item {
-        Item::Lapse { cell, node, epoch } => counts(nodes, node.0, *cell, *epoch),
+        Item::Lapse { cell, node, epoch } => counts(places, node.0, *cell, *epoch),
         Item::Counts { node, cell, epoch } => safety.has_lapsed(Lapse {
             cell: *cell,
             node: *node,
@@ -41,8 +39,8 @@ fn breaks(nodes: &[Member], safety: &Safety, item: &Item) -> bool
 }
 
 /// Whether an item is the first that shows that leases are not safe.
-pub(crate) fn breaks_first(nodes: &[Member], safety: &Safety, item: &Item) -> bool
-    ensures { (c : Cluster) (ruled : ℕ → RuleNode) → AreUp c nodes.now ruled → AreLapsesOf safety.now.lapses (λ me. (ruled me).met) → result ≡ (not safety.now.is_told && breaks c ruled item.now) }
+pub(crate) fn breaks_first(places: &[Place], safety: &Safety, item: &Item) -> bool
+    ensures { (c : Cluster) (ruled : ℕ → RuleNode) → AreMembers c places.now ruled → AreLapsesOf safety.now.lapses (λ me. (ruled me).met) → result ≡ (not safety.now.is_told && breaks c ruled item.now) }
 {
-    !safety.is_told && breaks(nodes, safety, item)
+    !safety.is_told && breaks(places, safety, item)
 }

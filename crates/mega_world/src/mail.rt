@@ -1,14 +1,15 @@
-//! All messages between the nodes, numbered from 1, with those that wait and those that are dropped.
-ghost use Rattle.std.specs.Prelude.{◌≡◌, ◌+◌, ◌++◌, [], ◌∷◌, List, true, false, length, OnOk};
+//! All messages between the nodes, numbered from 1, with those that wait, by receiver, and those that are dropped.
+ghost use Rattle.std.specs.Prelude.{◌≡◌, ◌+◌, ◌++◌, ◌==◌, ◌&&◌, not, [], ◌∷◌, ℕ, List, true, length, OnOk};
 ghost use Rattle.std.specs.Option.{option_copied};
 ghost use Rattle.mega_promises.specs.Items.{numbered};
 ghost use Rattle.mega_promises.specs.Messages.{is_dropped, message_of};
 ghost use Rattle.mega_transcript.specs.declared.item.Item.{Item as OnTape};
 ghost use Rattle.mega_transcript.specs.declared.item.Item.TheVariants as item;
 ghost use Rattle.mega_transcript.specs.Tape.{is_sent, onto, sent_count};
-ghost use Rattle.mega_world.specs.Carries.{Carries, message_at};
-ghost use Rattle.mega_world.specs.Waiting.{NoneWaits, SomeWaits};
+ghost use Rattle.mega_world.specs.Carries.{Carries};
+ghost use Rattle.mega_world.specs.Waits.{waits_for};
 
+use crate::waiting::{forget, keep};
 use mega_base::{Copied, Items, NoMemory};
 use mega_transcript::{Item, Tape};
 use mega_wire::Message;
@@ -16,11 +17,11 @@ use std::alloc::Global;
 use std::collections::BTreeSet;
 
 /// All messages that were sent between the nodes of a cluster, numbered from 1, with the numbers of those that are neither taken
-/// nor dropped, and of those that are dropped.
+/// nor dropped, in order for each receiver, and of those that are dropped.
 #[derive(Drop)]
 pub struct Mail {
     messages: Items<Message>,
-    pub(crate) waiting: BTreeSet<u64>,
+    pub(crate) waiting: Vec<BTreeSet<u64>>,
     dropped: BTreeSet<u64>,
 }
 
@@ -31,7 +32,7 @@ impl Mail {
     {
         Mail {
             messages: Items::new(alloc),
-            waiting: BTreeSet::new(alloc),
+            waiting: Vec::new(alloc),
             dropped: BTreeSet::new(alloc),
         }
     }
@@ -60,38 +61,45 @@ impl Mail {
         self.dropped.contains(&number)
     }
 
-    /// Whether no message waits: each that was sent was taken or dropped.
-    pub fn is_quiet(&self) -> bool
-        ensures quiet { result ≡ true → (tape : List OnTape) → Carries self.now tape → NoneWaits tape }
-        ensures waits { result ≡ false → (tape : List OnTape) → Carries self.now tape → SomeWaits tape }
+    /// A message that was sent waits no more.
+    fn ends_waiting(&mut self, number: u64)
+        ensures sent { self.new.messages ≡ self.old.messages }
+        ensures dropped { self.new.dropped ≡ self.old.dropped }
+        ensures waiting { (tape : List OnTape) → Carries self.old tape → is_sent tape number ≡ true → (to n : ℕ) →
+            waits_for self.new.waiting.items to n ≡ (not (number == n) && waits_for self.old.waiting.items to n) }
     {
-        self.waiting.is_empty()
+        let to = match self.message(number) {
+            Some(message) => message.to,
+            None => return,
+        };
+        forget(&mut self.waiting, to, number);
     }
 
     /// A message that was sent is taken.
     pub fn take(&mut self, number: u64)
         ensures { (tape : List OnTape) → Carries self.old tape → is_sent tape number ≡ true → Carries self.new (item.Taken number ∷ tape) }
     {
-        self.waiting.remove(&number);
+        self.ends_waiting(number);
     }
 
     /// A message that was sent is dropped.
     pub fn drops(&mut self, number: u64) -> Result<(), NoMemory>
         ensures { OnOk result ((tape : List OnTape) → Carries self.old tape → is_sent tape number ≡ true → Carries self.new (item.Dropped number ∷ tape)) }
     {
+        self.ends_waiting(number);
         self.dropped.insert(number)?;
-        self.waiting.remove(&number);
         Ok(())
     }
 
     /// A message is sent, under the next number.
-    fn send(&mut self, message: Message) -> Result<(), NoMemory>
+    fn send(&mut self, alloc: Global, message: Message) -> Result<(), NoMemory>
         ensures carried { OnOk result ((tape : List OnTape) → Carries self.old tape → Carries self.new (item.Sent (length self.old.messages + 1) message ∷ tape)) }
         ensures messages { OnOk result (self.new.messages ≡ self.old.messages ++ message ∷ []) }
     {
         let number = self.messages.as_slice().len() as u64 + 1;
+        let to = message.to;
         self.messages.push(message)?;
-        self.waiting.insert(number)?;
+        keep(&mut self.waiting, alloc, to, number)?;
         Ok(())
     }
 
@@ -108,7 +116,7 @@ impl Mail {
         for message in sends.into_vec() {
             let number = self.messages.as_slice().len() as u64 + 1;
             let kept = message.copy(alloc)?;
-            self.send(kept)?;
+            self.send(alloc, kept)?;
             tape.items.push(Item::Sent { number, message })?;
         }
         Ok(())

@@ -9,14 +9,16 @@ ghost use Rattle.mega_rules.specs.Members.{is_node};
 ghost use Rattle.mega_rules.specs.Steps.{start};
 ghost use Rattle.mega_promises.specs.Runs.{opening, setting};
 ghost use Rattle.mega_world.specs.declared.fault.WorldFault.TheVariants.{NoMemory as OutOfMemory};
+ghost use Rattle.mega_world.specs.declared.place.Place.TheVariants.{Up};
 ghost use Rattle.mega_world.specs.Members.{AreStarted, IsMember};
 ghost use Rattle.mega_world.specs.Opening.{first_starts};
-ghost use Rattle.mega_world.specs.Stands.{IsAt, version_of};
+ghost use Rattle.mega_world.specs.Stands.{IsAt};
 
 use crate::fault::{WorldFault, fault_of};
 use crate::mail::Mail;
+use crate::place::{Member, Place};
 use crate::safety::Safety;
-use crate::world::{Member, World};
+use crate::world::World;
 use mega_base::{Copied, NoMemory, NodeId};
 use mega_cluster::Cluster;
 use mega_core::Node;
@@ -30,7 +32,7 @@ use std::alloc::Global;
 fn started(alloc: Global, cluster: &Cluster, me: u8) -> Result<Member, WorldFault>
     requires served { IsServed cluster.now }
     requires member { is_node cluster.now me ≡ true }
-    ensures node { IfOk result (λ node. (h : Meanings) → IsMember version_of cluster.now me node (start (setting cluster.now h me) 1 [] [])) }
+    ensures node { IfOk result (λ node. (h : Meanings) → IsMember cluster.now me node (start (setting cluster.now h me) 1 [] [])) }
     ensures only { OnErr result (result ≡ Err OutOfMemory) }
 {
     let own = cluster.copy(alloc)?;
@@ -44,26 +46,26 @@ fn started(alloc: Global, cluster: &Cluster, me: u8) -> Result<Member, WorldFaul
     }
 }
 
-/// Adds a node behind these.
-fn add(nodes: &mut Vec<Member>, node: Member) -> Result<(), NoMemory>
-    ensures { OnOk result (nodes.new.items ≡ nodes.old.items ++ node ∷ []) }
+/// A node that is up takes its place behind these.
+fn add(places: &mut Vec<Place>, node: Member) -> Result<(), NoMemory>
+    ensures { OnOk result (places.new.items ≡ places.old.items ++ Up node ∷ []) }
 {
-    nodes.push(node)?;
+    places.push(Place::Up(node))?;
     Ok(())
 }
 
 /// Starts all nodes of a cluster, in order, and puts their starts on the tape.
-fn start_all(alloc: Global, cluster: &Cluster, tape: &mut Tape) -> Result<Vec<Member>, WorldFault>
+fn start_all(alloc: Global, cluster: &Cluster, tape: &mut Tape) -> Result<Vec<Place>, WorldFault>
     requires tape { tape.old.items ≡ [] }
     requires few { length cluster.now.nodes ≤ 9 }
     requires served { IsServed cluster.now }
-    ensures count { IfOk result (λ nodes. length nodes.items ≡ length cluster.now.nodes) }
-    ensures nodes { IfOk result (λ nodes. AreStarted version_of cluster.now nodes.items) }
+    ensures count { IfOk result (λ places. length places.items ≡ length cluster.now.nodes) }
+    ensures nodes { IfOk result (λ places. AreStarted cluster.now places.items) }
     ensures tape { OnOk result (newest tape.new.items ≡ first_starts (length cluster.now.nodes)) }
     ensures lines { OnOk result (All HasLine tape.new.items) }
     ensures only { OnErr result (result ≡ Err OutOfMemory) }
 {
-    let mut nodes = Vec::new(alloc);
+    let mut places = Vec::new(alloc);
     let count = cluster.nodes.len() as u8;
     for before in 0..count {
         let me = before + 1;
@@ -71,13 +73,13 @@ fn start_all(alloc: Global, cluster: &Cluster, tape: &mut Tape) -> Result<Vec<Me
             Ok(node) => node,
             Err(fault) => return Err(fault),
         };
-        add(&mut nodes, node)?;
+        add(&mut places, node)?;
         tape.items.push(Item::Start {
             node: NodeId(me),
             start: 1,
         })?;
     }
-    Ok(nodes)
+    Ok(places)
 }
 
 impl World {
@@ -94,12 +96,12 @@ impl World {
         ensures lines { OnOk result (All HasLine tape.new.items) }
         ensures only { OnErr result (result ≡ Err OutOfMemory) }
     {
-        let nodes = match start_all(alloc, cluster, tape) {
-            Ok(nodes) => nodes,
+        let places = match start_all(alloc, cluster, tape) {
+            Ok(places) => places,
             Err(fault) => return Err(fault),
         };
         Ok(World {
-            nodes,
+            places,
             mail: Mail::new(alloc),
             safety: Safety::new(alloc),
         })

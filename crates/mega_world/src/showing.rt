@@ -13,13 +13,15 @@ ghost use Rattle.mega_promises.specs.Items.{numbered, shown};
 ghost use Rattle.mega_promises.specs.Runs.{with_items};
 ghost use Rattle.mega_world.specs.Carries.{Carries};
 ghost use Rattle.mega_world.specs.Lapses.{KnowsLeases};
-ghost use Rattle.mega_world.specs.Showing.{AreUp, IsShown, IsStepped};
+ghost use Rattle.mega_world.specs.Members.{AreMembers};
+ghost use Rattle.mega_world.specs.Showing.{IsShown, IsStepped};
 ghost use Rattle.mega_world.specs.Shown.{notes_shown};
 
 use crate::judging::breaks_first;
 use crate::noting::item_of;
+use crate::place::Place;
 use crate::safety::{Safety, keep_lapses};
-use crate::world::{Member, World};
+use crate::world::World;
 use mega_base::{Items, NoMemory};
 use mega_core::{Note, Step};
 use mega_transcript::{Item, Tape};
@@ -43,18 +45,18 @@ fn tell(is_first: bool, safety: &mut Safety, tape: &mut Tape) -> Result<(), NoMe
 fn put(
     me: u8,
     note: Note,
-    nodes: &[Member],
+    places: &[Place],
     safety: &mut Safety,
     tape: &mut Tape,
 ) -> Result<(), NoMemory>
-    ensures tape { OnOk result ((c : Cluster) (ruled : ℕ → RuleNode) → AreUp c nodes.now ruled → KnowsLeases safety.old ruled (newest tape.old.items) →
+    ensures tape { OnOk result ((c : Cluster) (ruled : ℕ → RuleNode) → AreMembers c places.now ruled → KnowsLeases safety.old ruled (newest tape.old.items) →
         newest tape.new.items ≡ with_items c ruled (newest tape.old.items) (shown me (met_of note))) }
-    ensures leases { OnOk result ((c : Cluster) (ruled : ℕ → RuleNode) → AreUp c nodes.now ruled → KnowsLeases safety.old ruled (newest tape.old.items) →
+    ensures leases { OnOk result ((c : Cluster) (ruled : ℕ → RuleNode) → AreMembers c places.now ruled → KnowsLeases safety.old ruled (newest tape.old.items) →
         KnowsLeases safety.new ruled (newest tape.new.items)) }
     ensures lines { OnOk result (All HasLine tape.old.items → All HasLine (shown me (met_of note)) → All HasLine tape.new.items) }
 {
     let item = item_of(me, note);
-    let is_first = breaks_first(nodes, safety, &item);
+    let is_first = breaks_first(places, safety, &item);
     tape.items.push(item)?;
     tell(is_first, safety, tape)?;
     Ok(())
@@ -64,18 +66,18 @@ fn put(
 fn put_all(
     me: u8,
     notes: Items<Note>,
-    nodes: &[Member],
+    places: &[Place],
     safety: &mut Safety,
     tape: &mut Tape,
 ) -> Result<(), NoMemory>
-    ensures tape { OnOk result ((c : Cluster) (ruled : ℕ → RuleNode) → AreUp c nodes.now ruled → KnowsLeases safety.old ruled (newest tape.old.items) →
+    ensures tape { OnOk result ((c : Cluster) (ruled : ℕ → RuleNode) → AreMembers c places.now ruled → KnowsLeases safety.old ruled (newest tape.old.items) →
         newest tape.new.items ≡ with_items c ruled (newest tape.old.items) (notes_shown me notes)) }
-    ensures leases { OnOk result ((c : Cluster) (ruled : ℕ → RuleNode) → AreUp c nodes.now ruled → KnowsLeases safety.old ruled (newest tape.old.items) →
+    ensures leases { OnOk result ((c : Cluster) (ruled : ℕ → RuleNode) → AreMembers c places.now ruled → KnowsLeases safety.old ruled (newest tape.old.items) →
         KnowsLeases safety.new ruled (newest tape.new.items)) }
     ensures lines { OnOk result (All HasLine tape.old.items → All HasLine (notes_shown me notes) → All HasLine tape.new.items) }
 {
     for note in notes.into_vec() {
-        put(me, note, nodes, safety, tape)?;
+        put(me, note, places, safety, tape)?;
     }
     Ok(())
 }
@@ -96,7 +98,7 @@ impl World {
     {
         let Step { notes, sends } = made;
         keep_lapses(&mut self.safety.lapses, me, &notes)?;
-        put_all(me, notes, self.nodes.as_slice(), &mut self.safety, tape)?;
+        put_all(me, notes, self.places.as_slice(), &mut self.safety, tape)?;
         self.mail.send_all(alloc, sends, tape)?;
         Ok(())
     }

@@ -1,44 +1,51 @@
 //! The clock of a node shows a time, unless it showed a later one.
-ghost use Rattle.std.specs.Prelude.{◌≡◌, ◌≢◌, ◌≤◌, ℕ, length, IfNone, OnOk, Err, Some, None};
+ghost use Rattle.std.specs.Prelude.{◌≡◌, ◌≢◌, ◌≤◌, ℕ, length, IfNone, OnOk, Err, Some, None, true};
 ghost use Rattle.std.specs.Prelude.{All};
 ghost use Rattle.mega_cluster.specs.declared.cluster.Cluster.{Cluster};
 ghost use Rattle.mega_handler.specs.Named.{Meanings};
 ghost use Rattle.mega_schedule.specs.declared.world_event.WorldEvent.TheVariants as event;
 ghost use Rattle.mega_transcript.specs.Lines.{HasLine};
 ghost use Rattle.mega_rules.specs.Clock.{clock_of};
-ghost use Rattle.mega_rules.specs.Members.{is_node};
-ghost use Rattle.mega_promises.specs.Runs.{Cuts, Standing, after_event, refusal, up};
+ghost use Rattle.mega_rules.specs.Operations.{Node as RuleNode};
+ghost use Rattle.mega_promises.specs.Runs.{Cuts, Standing, after_event, refusal};
 ghost use Rattle.mega_world.specs.declared.fault.WorldFault.TheVariants.{Refused, Unbuilt};
 ghost use Rattle.mega_world.specs.Formed.{IsSound};
-ghost use Rattle.mega_world.specs.Members.{AreMembers};
-ghost use Rattle.mega_world.specs.Stands.{IsAt, version_of};
+ghost use Rattle.mega_world.specs.Members.{AreMembers, is_up_at};
+ghost use Rattle.mega_world.specs.Stands.{IsAt};
 
 use crate::fault::WorldFault;
+use crate::place::Place;
+use crate::places::{is_node, is_up, member_of};
 use crate::stepping::tick_at;
-use crate::world::{Member, World, is_node};
+use crate::world::World;
 use mega_base::NodeId;
 use mega_transcript::{Item, Tape};
 use std::alloc::Global;
 
-/// The last time that the clock of a node showed.
-fn clock_of(nodes: &[Member], me: u8) -> u64
-    requires least { 1 ≤ me }
-    requires most { me ≤ length nodes.now }
-    ensures { (c : Cluster) (now : Standing) → AreMembers version_of c nodes.now now.node → result ≡ clock_of (now.node me).met }
+/// The last time that the clock of a node showed in this start; 0 of a node that is down.
+fn clock_of(places: &[Place], me: u8) -> u64
+    ensures { (c : Cluster) (ruled : ℕ → RuleNode) → AreMembers c places.now ruled → is_up_at places.now me ≡ true → result ≡ clock_of (ruled me).met }
 {
-    nodes[usize::from(me) - 1].replica.leases.now()
+    match member_of(places, usize::from(me)) {
+        Some(node) => node.replica.leases.now(),
+        None => 0,
+    }
 }
 
-/// Why the clock of a node does not show a time, all being up: 6, there is no such node; 5, it showed a later one in this start.
-fn refusal(nodes: &[Member], node: NodeId, clock: u64) -> Option<u8>
+/// Why the clock of a node does not show a time: 6, there is no such node; 1, it is down; 5, it showed a later one in this start.
+fn refusal(places: &[Place], node: NodeId, clock: u64) -> Option<u8>
     ensures least { IfNone result (1 ≤ node.0) }
-    ensures most { IfNone result (node.0 ≤ length nodes.now) }
-    ensures value { (c : Cluster) (now : Standing) → AreMembers version_of c nodes.now now.node → ((me : ℕ) → up now me ≡ is_node c me) → result ≡ refusal c now (event.Tick node clock) }
+    ensures most { IfNone result (node.0 ≤ length places.now) }
+    ensures up { IfNone result (is_up_at places.now node.0 ≡ true) }
+    ensures value { (c : Cluster) (now : Standing) → AreMembers c places.now now.node → result ≡ refusal c now (event.Tick node clock) }
 {
-    if !is_node(nodes.len(), node.0) {
+    if !is_node(places.len(), node.0) {
         return Some(6);
     }
-    if clock < clock_of(nodes, node.0) {
+    if !is_up(places, node.0) {
+        return Some(1);
+    }
+    if clock < clock_of(places, node.0) {
         return Some(5);
     }
     None
@@ -63,13 +70,13 @@ impl World {
         ensures tape { (why : ℕ) → result ≡ Err (Refused why) → tape.new.items ≡ tape.old.items }
         ensures built { result ≡ Err Unbuilt → (c : Cluster) (now : Standing) → IsAt c self.old tape.old.items now → ⊥ }
     {
-        match refusal(self.nodes.as_slice(), node, clock) {
+        match refusal(self.places.as_slice(), node, clock) {
             Some(why) => Err(WorldFault::Refused { why }),
             None => self.ticks(alloc, node, clock, tape),
         }
     }
 
-    /// The clock of a node that is there shows a time.
+    /// The clock of a node that is up shows a time.
     fn ticks(
         &mut self,
         alloc: Global,
@@ -78,7 +85,8 @@ impl World {
         tape: &mut Tape,
     ) -> Result<(), WorldFault>
         requires least { 1 ≤ node.0 }
-        requires most { node.0 ≤ length self.old.nodes.items }
+        requires most { node.0 ≤ length self.old.places.items }
+        requires up { is_up_at self.old.places.items node.0 ≡ true }
         ensures state { OnOk result ((c : Cluster) (h : Meanings) (cuts : Cuts) (now : Standing) → IsAt c self.old tape.old.items now → IsSound c h cuts now (event.Tick node clock) →
             IsAt c self.new tape.new.items (after_event c h cuts now (event.Tick node clock))) }
         ensures lines { OnOk result ((c : Cluster) (h : Meanings) (cuts : Cuts) (now : Standing) → IsAt c self.old tape.old.items now → IsSound c h cuts now (event.Tick node clock) →
@@ -86,7 +94,7 @@ impl World {
         ensures served { (why : ℕ) → result ≢ Err (Refused why) }
         ensures built { result ≡ Err Unbuilt → (c : Cluster) (now : Standing) → IsAt c self.old tape.old.items now → ⊥ }
     {
-        let made = match tick_at(alloc, &mut self.nodes, node.0, clock) {
+        let made = match tick_at(alloc, &mut self.places, node.0, clock) {
             Ok(made) => made,
             Err(fault) => return Err(fault),
         };

@@ -1,30 +1,12 @@
-//! A world: full nodes over memory, and all messages between them.
-ghost use Rattle.std.specs.Prelude.{◌≡◌, ◌≤◌, length, true};
-ghost use Rattle.mega_cluster.specs.declared.cluster.Cluster.{Cluster};
-ghost use Rattle.mega_rules.specs.Members.{is_node};
-
+//! A world: full nodes over memory, up or down, and all messages between them.
 use crate::mail::Mail;
+use crate::place::Place;
 use crate::safety::Safety;
-use mega_core::Node;
-use mega_disk::MemRecords;
-use mega_rows::VersionedRows;
 
-/// A node whose logs and rows are in memory.
-pub(crate) type Member = Node<MemRecords, VersionedRows>;
-
-/// The nodes of a cluster, all up, all messages between them, and what tells whether leases are safe.
+/// The nodes of a cluster, each in its place, all messages between them, and what tells whether leases are safe.
 #[derive(Drop)]
 pub struct World {
-    pub(crate) nodes: Vec<Member>,
+    pub(crate) places: Vec<Place>,
     pub(crate) mail: Mail,
     pub(crate) safety: Safety,
-}
-
-/// Whether a node is one of so many.
-pub(crate) fn is_node(nodes: usize, node: u8) -> bool
-    ensures value { (c : Cluster) → length c.nodes ≡ nodes → result ≡ is_node c node }
-    ensures least { result ≡ true → 1 ≤ node }
-    ensures most { result ≡ true → node ≤ nodes }
-{
-    1 <= node && usize::from(node) <= nodes
 }

@@ -6,18 +6,18 @@ use Rattle.mega_transcript.specs.Lines.{HasLine}
 use Rattle.mega_transcript.specs.Tape.{newest}
 use Rattle.mega_promises.specs.Items.{number}
 use Rattle.mega_world.specs.Members.{AreStarted}
-use Rattle.mega_world.specs.Stands.{version_of}
+use Rattle.mega_world.specs.declared.place.Place.TheVariants.{Up}
 use Rattle.mega_world.proofs.Starting.{length_last, started_more, starts_more}
 use Rattle.mega_world.proofs.opening.start_all.Goals as goal
 
 pub loop-before-preserved : goal.loop-before-preserved
 loop-before-preserved c =
-    let nodes = c.loop-before.nodes.items in
+    let places = c.loop-before.places.items in
     let items = c.loop-before.tape.items in
     let before = c.loop-before.before in
     let were = c.loop-before.invariant in record {
-      count = ap length c.in_ok-add.ensures ∙ length_last nodes c.in-Ok.node before were.count;
-      each = subst (AreStarted version_of c.args.cluster.now) (sym c.in_ok-add.ensures) (started_more version_of c.args.cluster.now nodes c.in-Ok.node before were.count were.each c.in-Ok.ensures.node);
+      count = ap length c.in_ok-add.ensures ∙ length_last places (Up c.in-Ok.node) before were.count;
+      each = subst (AreStarted c.args.cluster.now) (sym c.in_ok-add.ensures) (started_more c.args.cluster.now places c.in-Ok.node before were.count were.each c.in-Ok.ensures.node);
       tape = ap newest c.in_ok-push.ensures.ok ∙ starts_more items before were.tape;
       lines = subst (All HasLine) (sym c.in_ok-push.ensures.ok) (All-push HasLine items (Start (number (before + 1)) 1) were.lines tt);
     }

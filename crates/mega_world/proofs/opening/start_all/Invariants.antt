@@ -4,14 +4,13 @@ use Rattle.mega_transcript.specs.Lines.{HasLine}
 use Rattle.mega_transcript.specs.Tape.{newest}
 use Rattle.mega_world.specs.Members.{AreStarted}
 use Rattle.mega_world.specs.Opening.{first_starts}
-use Rattle.mega_world.specs.Stands.{version_of}
 use Rattle.mega_world.proofs.opening.start_all.Given as goal
 
 abbrev pub invariant-loop-before : goal.invariant-loop-before
 invariant-loop-before l =
     record {
-      count : length l.nodes.items ≡ l.before;
-      each : AreStarted version_of l.cluster l.nodes.items;
+      count : length l.places.items ≡ l.before;
+      each : AreStarted l.cluster l.places.items;
       tape : newest l.tape.items ≡ first_starts l.before;
       lines : All HasLine l.tape.items;
     }

@@ -4,7 +4,6 @@ use Rattle.mega_core.specs.Served.{IsServed}
 use Rattle.mega_rules.specs.Members.{is_node}
 use Rattle.mega_wal.specs.Kept.{Represents}
 use Rattle.mega_wal.specs.Records.{history_of}
-use Rattle.mega_world.specs.Stands.{version_of}
 use Rattle.mega_world.proofs.Failing.{no_rows_yet, only_memory}
 use Rattle.mega_world.proofs.Starting.{first_member}
 use Rattle.mega_world.proofs.opening.started.Goals as goal
@@ -17,7 +16,7 @@ start-requires-clause-member c = subst (λ (k : Cluster). is_node k c.args.me �
 
 pub returns-in-Ok-start-clause-node : goal.returns-in-Ok-start-clause-node
 returns-in-Ok-start-clause-node c h =
-    first_member version_of c.args.cluster.now c.in_ok-own.own h c.args.me c.in-Ok-start.node c.in_ok-own.ensures c.in-Ok-start.ensures.members c.in-Ok-start.ensures.me
+    first_member c.args.cluster.now c.in_ok-own.own h c.args.me c.in-Ok-start.node c.in_ok-own.ensures c.in-Ok-start.ensures.members c.in-Ok-start.ensures.me
     (λ g. c.in-Ok-start.ensures.state g (subst (λ bodies. Represents c.in-Ok.logs.kept (history_of bodies)) c.new.ensures.opened c.in-Ok.ensures.state) c.new-2.ensures.empty)
 
 pub fault_of-requires : goal.fault_of-requires

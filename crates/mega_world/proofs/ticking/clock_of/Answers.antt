@@ -1,19 +1,12 @@
-use Rattle.std.proofs.Common.{◌-◌, [], ap, subst}
-use Rattle.mega_disk.specs.declared.mem_records.MemRecords.{MemRecords}
-use Rattle.mega_rows.specs.declared.rows.VersionedRows.{VersionedRows}
-use Rattle.mega_leases.specs.Tells.{Tells}
-use Rattle.mega_core.specs.declared.node.Node.{Node}
-use Rattle.mega_world.specs.Stands.{version_of}
-use Rattle.mega_world.proofs.Stepped.{counted, found, member_at}
+use Rattle.std.proofs.Common.{◌≡◌, ◌∙◌, [], true, false, ap, is_some, sym}
+use Rattle.mega_world.specs.Members.{is_up_at, member_of}
 use Rattle.mega_world.proofs.ticking.clock_of.Goals as goal
 
-pub returns : goal.returns
-returns c cluster now all =
-    let i = c.from.result - 1 in
+pub returns-in-Some : goal.returns-in-Some
+returns-in-Some c cluster ruled all up =
     let me = c.args.me in
-    let node = c.index-nodes-from.result in
-    let at = ap (λ n. n - 1) c.from.ensures in
-    let there = found c.args.nodes.now i me node at c.requires.least c.requires.most c.index-nodes-from.is in
-    let one = member_at version_of cluster c.args.nodes.now now.node i me node (counted i me at c.requires.least) there all in
-    let told = one.told [] in
-    c.now.ensures cluster me (now.node me).met (subst (λ (n : Node MemRecords VersionedRows). Tells cluster me n.replica.leases (now.node me).met) c.index-nodes-from.is told.leased)
+    let told = (all.each me c.in-Some.node.now (ap (λ k. member_of c.args.places.now k) (sym c.from.ensures) ∙ sym c.in-Some.ensures)).told [] in
+    c.now.ensures cluster me (ruled me).met told.leased
+
+pub returns-in-None : goal.returns-in-None
+returns-in-None c cluster ruled all up = let no : false ≡ true = ap is_some c.in-None.ensures ∙ ap (λ k. is_up_at c.args.places.now k) c.from.ensures ∙ up in cc

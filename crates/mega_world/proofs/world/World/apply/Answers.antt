@@ -1,4 +1,7 @@
+use Rattle.std.proofs.Common.{◌≡◌}
 use Rattle.std.proofs.lemmas.Result.{on_ok_weaker}
+use Rattle.mega_disk.specs.declared.pair.Device.TheVariants.{Log}
+use Rattle.mega_world.specs.declared.fault.WorldFault.TheVariants.{Refused, Unbuilt}
 use Rattle.mega_world.proofs.world.World.apply.Goals as goal
 
 pub returns-in-Deliver-clause-lines : goal.returns-in-Deliver-clause-lines
@@ -36,3 +39,18 @@ returns-in-Tick-clause-lines c = rw c.in-Tick.is c.tick.ensures.lines
 
 pub returns-in-Tick-clause-unbuilt : goal.returns-in-Tick-clause-unbuilt
 returns-in-Tick-clause-unbuilt c = rw c.in-Tick.is (λ unbuilt cluster h cuts now r sound. c.tick.ensures.built unbuilt cluster now r)
+
+pub returns-in-Crash-clause-state : goal.returns-in-Crash-clause-state
+returns-in-Crash-clause-state c = rw c.in-Crash.is (on_ok_weaker c.crash.result (λ state cluster h cuts now r sound. state cluster h cuts now r) c.crash.ensures.state)
+
+pub returns-in-Start-clause-unbuilt : goal.returns-in-Start-clause-unbuilt
+returns-in-Start-clause-unbuilt c =
+    rw c.in-Start.is (λ unbuilt cluster h cuts now r sound. let same : c.start.result ≡ Unbuilt = cc in c.start.ensures.unbuilt same cluster h cuts c.args.tape.now.items now r)
+
+pub returns-in-Fuse-clause-refused : goal.returns-in-Fuse-clause-refused
+returns-in-Fuse-clause-refused c =
+    rw c.in-Fuse.is (λ why refused cluster now r. let same : c.fuse.result ≡ Refused why = cc in c.fuse.ensures.refused why 0 0 Log same cluster c.args.tape.now.items now r)
+
+pub returns-in-Fuse-clause-unbuilt : goal.returns-in-Fuse-clause-unbuilt
+returns-in-Fuse-clause-unbuilt c =
+    rw c.in-Fuse.is (λ unbuilt cluster h cuts now r sound. let same : c.fuse.result ≡ Unbuilt = cc in c.fuse.ensures.unbuilt 0 0 Log same cluster h cuts c.args.tape.now.items now r)

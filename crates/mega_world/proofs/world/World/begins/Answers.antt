@@ -11,7 +11,7 @@ returns-clause-state c cluster h cuts now r sound =
     let owned = begun_owned cluster h cuts old items now node c.args.request c.args.text r sound in
     let makes = c.in-Ok.ensures.made cluster h now.node r.nodes owned in
     let named = c.in-Ok.ensures.id cluster h now.node r.nodes in
-    begun_at cluster h cuts now node c.args.request c.args.text c.in-Ok.begun.0 old (record { nodes = c.begin_at.new.nodes; mail = old.mail; safety = old.safety }) c.show.new.self items c.push.new.self c.show.new.tape.items c.in-Ok.begun.1
+    begun_at cluster h cuts now node c.args.request c.args.text c.in-Ok.begun.0 old (record { places = c.begin_at.new.places; mail = old.mail; safety = old.safety }) c.show.new.self items c.push.new.self c.show.new.tape.items c.in-Ok.begun.1
     r sound there named makes c.in_ok-push.ensures.ok refl refl (c.in_ok-show.ensures.shown cluster)
 
 pub returns-clause-lines : goal.returns-clause-lines
@@ -23,5 +23,5 @@ returns-clause-lines c cluster h cuts now r sound lined =
     let owned = begun_owned cluster h cuts old items now node c.args.request c.args.text r sound in
     let makes = c.in-Ok.ensures.made cluster h now.node r.nodes owned in
     let named = c.in-Ok.ensures.id cluster h now.node r.nodes in
-    begun_lined cluster h cuts now node c.args.request c.args.text c.in-Ok.begun.0 old (record { nodes = c.begin_at.new.nodes; mail = old.mail; safety = old.safety }) items c.push.new.self c.show.new.tape.items c.in-Ok.begun.1
+    begun_lined cluster h cuts now node c.args.request c.args.text c.in-Ok.begun.0 old (record { places = c.begin_at.new.places; mail = old.mail; safety = old.safety }) items c.push.new.self c.show.new.tape.items c.in-Ok.begun.1
     r sound there named makes c.in_ok-push.ensures.ok refl refl c.in_ok-show.ensures.lines lined

@@ -1,9 +1,11 @@
-use Rattle.std.proofs.Common.{◌≡◌, ◌-◌, ◌∙◌, Err, ap, length, subst, sym}
+use Rattle.std.proofs.Common.{◌≡◌, ◌-◌, ◌∙◌, Err, List, ap, subst, sym}
 use Rattle.std.specs.List.{All}
 use Rattle.std.proofs.lemmas.List.Elements.{All-push}
 use Rattle.mega_transcript.specs.declared.item.Item.TheVariants.{Cut}
 use Rattle.mega_transcript.specs.Lines.{HasLine}
 use Rattle.mega_world.specs.declared.fault.WorldFault.TheVariants.{Unbuilt}
+use Rattle.mega_world.specs.declared.place.Place.{Place}
+use Rattle.mega_world.specs.Members.{is_up_at}
 use Rattle.mega_world.proofs.Emptying.{drained_at, drained_cut, next_sound, none_left, reaches_next}
 use Rattle.mega_world.proofs.Finding.{next_happens}
 use Rattle.mega_world.proofs.world.World.drain.Goals as goal
@@ -12,7 +14,7 @@ pub returns-in-None-clause-state : goal.returns-in-None-clause-state
 returns-in-None-clause-state c cluster h cuts now r sound =
     let reached = c.loop-turn.invariant cluster h cuts now r sound in
     drained_at cluster h cuts now c.args.most (c.args.most - c.loop-turn._turn) c.loop-turn.self c.args.tape.now.items c.loop-turn.tape.items reached
-    (sym (c.in-None.ensures cluster reached.mid reached.at.mail (sym reached.at.nodes.count ∙ ap length (sym c.as_slice.ensures.value))))
+    (sym (c.in-None.ensures reached.mid reached.at.mail (λ me. reached.at.nodes.up_are me ∙ ap (λ (ps : List Place). is_up_at ps me) (sym c.as_slice.ensures.value))))
 
 pub returns-in-None-clause-lines : goal.returns-in-None-clause-lines
 returns-in-None-clause-lines c cluster h cuts now r sound lined = (c.loop-turn.invariant cluster h cuts now r sound).lines lined
@@ -20,7 +22,7 @@ returns-in-None-clause-lines c cluster h cuts now r sound lined = (c.loop-turn.i
 pub returns-in-Err-clause-built : goal.returns-in-Err-clause-built
 returns-in-Err-clause-built c unbuilt cluster h cuts now r sound =
     let reached = c.loop-turn.invariant cluster h cuts now r sound in
-    let is = sym (c.in-Some.ensures cluster reached.mid reached.at.mail (sym reached.at.nodes.count ∙ ap length (sym c.as_slice.ensures.value))) in
+    let is = sym (c.in-Some.ensures reached.mid reached.at.mail (λ me. reached.at.nodes.up_are me ∙ ap (λ (ps : List Place). is_up_at ps me) (sym c.as_slice.ensures.value))) in
     let same : c.in-Err.fault ≡ Unbuilt = cc in
     c.in-Err.ensures.built (ap Err same) cluster reached.mid reached.at (next_happens cluster c.loop-turn.self.mail reached.mid c.in-Some.number reached.at.mail is)
 
@@ -29,7 +31,7 @@ loop-turn-preserved c cluster h cuts now r sound =
     let most = c.args.most in
     let turn = c.loop-turn._turn in
     let reached = c.loop-turn.invariant cluster h cuts now r sound in
-    let is = sym (c.in-Some.ensures cluster reached.mid reached.at.mail (sym reached.at.nodes.count ∙ ap length (sym c.as_slice.ensures.value))) in
+    let is = sym (c.in-Some.ensures reached.mid reached.at.mail (λ me. reached.at.nodes.up_are me ∙ ap (λ (ps : List Place). is_up_at ps me) (sym c.as_slice.ensures.value))) in
     let next = next_sound cluster h cuts now most turn c.in-Some.number c.loop-turn.self c.args.tape.now.items c.loop-turn.tape.items reached c.loop-turn-test.true sound is in
     reaches_next cluster h cuts now most turn c.in-Some.number c.loop-turn.self c.hand.new.self c.args.tape.now.items c.loop-turn.tape.items c.hand.new.tape.items reached c.loop-turn-test.true is
     (c.in-Ok.ensures.state cluster h cuts reached.mid reached.at next) (c.in-Ok.ensures.lines cluster h cuts reached.mid reached.at next)
@@ -39,7 +41,7 @@ returns-in_ok-push-in-Some-next_delivery-clause-state c cluster h cuts now r sou
     let most = c.args.most in
     let turn = c.loop-turn._turn in
     let reached = c.loop-turn.invariant cluster h cuts now r sound in
-    let is = sym (c.in-Some-next_delivery.ensures cluster reached.mid reached.at.mail (sym reached.at.nodes.count ∙ ap length (sym c.as_slice-2.ensures.value))) in
+    let is = sym (c.in-Some-next_delivery.ensures reached.mid reached.at.mail (λ me. reached.at.nodes.up_are me ∙ ap (λ (ps : List Place). is_up_at ps me) (sym c.as_slice-2.ensures.value))) in
     drained_cut cluster h cuts now most (most - turn) c.in-Some-next_delivery._number c.loop-turn.self c.args.tape.now.items c.loop-turn.tape.items c.push.new.self reached (none_left most turn c.loop-turn-test.false) is
     c.in_ok-push-in-Some-next_delivery.ensures.ok
 
@@ -51,7 +53,7 @@ pub returns-in-None-next_delivery-clause-state : goal.returns-in-None-next_deliv
 returns-in-None-next_delivery-clause-state c cluster h cuts now r sound =
     let reached = c.loop-turn.invariant cluster h cuts now r sound in
     drained_at cluster h cuts now c.args.most (c.args.most - c.loop-turn._turn) c.loop-turn.self c.args.tape.now.items c.loop-turn.tape.items reached
-    (sym (c.in-None-next_delivery.ensures cluster reached.mid reached.at.mail (sym reached.at.nodes.count ∙ ap length (sym c.as_slice-2.ensures.value))))
+    (sym (c.in-None-next_delivery.ensures reached.mid reached.at.mail (λ me. reached.at.nodes.up_are me ∙ ap (λ (ps : List Place). is_up_at ps me) (sym c.as_slice-2.ensures.value))))
 
 pub returns-in-None-next_delivery-clause-lines : goal.returns-in-None-next_delivery-clause-lines
 returns-in-None-next_delivery-clause-lines c cluster h cuts now r sound lined = (c.loop-turn.invariant cluster h cuts now r sound).lines lined

@@ -8,8 +8,8 @@ returns-in-Some-clause-refused c why is cluster now r = let same : c.in-Some.why
 
 pub returns-in_ok-push-in-None-clause-state : goal.returns-in_ok-push-in-None-clause-state
 returns-in_ok-push-in-None-clause-state c cluster h cuts now r =
-    dropped_at cluster h cuts now c.args.number c.args.self.now (record { nodes = c.args.self.now.nodes; mail = c.drops.new.self; safety = c.args.self.now.safety }) c.args.tape.now.items c.push.new.self r refl refl
-    (c.in_ok-drops-in-None.ensures now.tape r.mail.carries (drop_sent cluster now c.args.number (sym (c.in-None.ensures cluster now r.mail)))) c.in_ok-push-in-None.ensures.ok
+    dropped_at cluster h cuts now c.args.number c.args.self.now (record { places = c.args.self.now.places; mail = c.drops.new.self; safety = c.args.self.now.safety }) c.args.tape.now.items c.push.new.self r refl refl
+    (c.in_ok-drops-in-None.ensures now.tape r.mail (drop_sent cluster now c.args.number (sym (c.in-None.ensures cluster now r.mail)))) c.in_ok-push-in-None.ensures.ok
 
 pub returns-in_ok-push-in-None-clause-happens : goal.returns-in_ok-push-in-None-clause-happens
 returns-in_ok-push-in-None-clause-happens c cluster now r = sym (c.in-None.ensures cluster now r.mail)

@@ -1,5 +1,4 @@
-use Rattle.mega_world.specs.Stands.{version_of}
-use Rattle.mega_world.proofs.Starting.{cells_few, opening_formed, opening_leases, opening_members, opening_stands, opening_tape, opening_within}
+use Rattle.mega_world.proofs.Starting.{cells_few, opening_formed, opening_leases, opening_mail, opening_members, opening_tape, opening_unfused, opening_within}
 use Rattle.mega_world.proofs.world.World.new.Goals as goal
 
 pub start_all-requires-clause-served : goal.start_all-requires-clause-served
@@ -9,8 +8,9 @@ start_all-requires-clause-served c =
 pub returns-clause-state : goal.returns-clause-state
 returns-clause-state c h =
     let cluster = c.args.cluster.now in record {
-      nodes = opening_members version_of cluster h c.in-Ok.nodes.items c.in-Ok.ensures.count c.in-Ok.ensures.nodes;
-      mail = opening_stands cluster h c.new.result c.new.ensures;
+      nodes = opening_members cluster h c.in-Ok.places.items c.in-Ok.ensures.count c.in-Ok.ensures.nodes;
+      mail = opening_mail cluster h c.new.result c.new.ensures;
+      unfused = opening_unfused cluster h;
       tape = opening_tape cluster h c.start_all.new.tape.items c.in-Ok.ensures.tape;
       leases = opening_leases cluster h c.new-2.result c.new-2.ensures.lapses c.new-2.ensures.told;
       formed = opening_formed cluster h (record { nodes = c.requires.few; cells = cells_few cluster.cells c.requires.cells; limit = c.requires.limit }) c.requires.lease;

@@ -4,7 +4,7 @@ use Rattle.std.proofs.lemmas.List.Elements.{All-append}
 use Rattle.mega_transcript.specs.Lines.{HasLine}
 use Rattle.mega_transcript.specs.Tape.{newest, sent_count}
 use Rattle.mega_promises.specs.Items.{numbered}
-use Rattle.mega_world.specs.Showing.{AreUp}
+use Rattle.mega_world.specs.Members.{AreMembers}
 use Rattle.mega_world.proofs.Noted.{kept_of, shown_whole}
 use Rattle.mega_world.proofs.world.World.show.Goals as goal
 
@@ -14,8 +14,8 @@ returns-clause-shown c cluster was ruled stepped =
     let items = c.args.tape.now.items in
     let lapses = c.keep_lapses.new.lapses in
     let knows = kept_of cluster old c.args.me c.args.made.notes was ruled (newest items) lapses stepped c.in_ok-keep_lapses.ensures in
-    let up = subst (λ nodes. AreUp cluster nodes ruled) (sym c.as_slice.ensures.value) stepped.nodes in
-    shown_whole cluster old (record { nodes = old.nodes; mail = c.send_all.new.self; safety = c.put_all.new.safety }) c.args.me c.args.made was ruled items c.put_all.new.tape.items c.send_all.new.tape.items c.put_all.new.safety stepped
+    let up = subst (λ places. AreMembers cluster places ruled) (sym c.as_slice.ensures.value) stepped.nodes in
+    shown_whole cluster old (record { places = old.places; mail = c.send_all.new.self; safety = c.put_all.new.safety }) c.args.me c.args.made was ruled items c.put_all.new.tape.items c.send_all.new.tape.items c.put_all.new.safety stepped
     (c.in_ok-put_all.ensures.tape cluster ruled up knows) (c.in_ok-put_all.ensures.leases cluster ruled up knows) c.in_ok-send_all.ensures.carried c.in_ok-send_all.ensures.shown refl refl
 
 pub returns-clause-lines : goal.returns-clause-lines

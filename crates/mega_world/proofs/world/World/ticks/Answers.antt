@@ -11,7 +11,7 @@ returns-clause-state c cluster h cuts now r sound =
     let there = is_there cluster old items now node.0 r c.requires.least c.requires.most in
     let owned = ticked_owned cluster h cuts old items now node c.args.clock r sound in
     let makes = c.in-Ok.ensures.made cluster h now.node r.nodes owned in
-    ticked_at cluster h cuts now node c.args.clock old (record { nodes = c.tick_at.new.nodes; mail = old.mail; safety = old.safety }) c.show.new.self items c.push.new.self c.show.new.tape.items c.in-Ok.made
+    ticked_at cluster h cuts now node c.args.clock old (record { places = c.tick_at.new.places; mail = old.mail; safety = old.safety }) c.show.new.self items c.push.new.self c.show.new.tape.items c.in-Ok.made
     r sound there makes c.in_ok-push.ensures.ok refl refl (c.in_ok-show.ensures.shown cluster)
 
 pub returns-clause-lines : goal.returns-clause-lines
@@ -22,7 +22,7 @@ returns-clause-lines c cluster h cuts now r sound lined =
     let there = is_there cluster old items now node.0 r c.requires.least c.requires.most in
     let owned = ticked_owned cluster h cuts old items now node c.args.clock r sound in
     let makes = c.in-Ok.ensures.made cluster h now.node r.nodes owned in
-    ticked_lined cluster h cuts now node c.args.clock old (record { nodes = c.tick_at.new.nodes; mail = old.mail; safety = old.safety }) items c.push.new.self c.show.new.tape.items c.in-Ok.made
+    ticked_lined cluster h cuts now node c.args.clock old (record { places = c.tick_at.new.places; mail = old.mail; safety = old.safety }) items c.push.new.self c.show.new.tape.items c.in-Ok.made
     r sound there makes c.in_ok-push.ensures.ok refl refl c.in_ok-show.ensures.lines lined
 
 pub returns-in-Err-clause-built : goal.returns-in-Err-clause-built
