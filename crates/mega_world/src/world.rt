@@ -1,4 +1,4 @@
-//! A world: full nodes over memory, up or down, and all messages between them.
+//! A world: nodes over memory, up or down, and all messages between them.
 use crate::mail::Mail;
 use crate::place::Place;
 use crate::safety::Safety;
