@@ -1,5 +1,5 @@
 -- An item that is held and of the format is plain, where it shows no rows of a read.
-use Rattle.std.proofs.Common.{◌≡◌, ◌&&◌, ℕ, ◌<◌, ◌==◌, nat_lt, Bool, false, true, cond, List, [], ◌∷◌, length, Option, Some, None, refl, arith}
+use Rattle.std.proofs.Common.{◌≡◌, ◌&&◌, ℕ, ◌<◌, ◌==◌, nat_lt, Bool, false, true, cond, List, [], ◌∷◌, length, Option, Some, None, Result, Ok, Err, refl, arith}
 use Rattle.std.specs.Prelude.{All}
 use Rattle.std.specs.List.{AllByRecursion, list_all}
 use Rattle.std.proofs.lemmas.Bool.Decides.{nat_tests}
@@ -25,16 +25,20 @@ use Rattle.mega_transcript.specs.declared.item.Item.{Item}
 use Rattle.mega_transcript.specs.declared.item.Item.TheVariants.{Start, Unsent, Tick, Begin, Taken, Dropped, Sent, Grant, Lapse, Counts, Forgets, Serving, Lost, Valid, Invalid, Decide, Apply, Answer as AnswerItem, Crash, Cut, Unsafe}
 use Rattle.mega_transcript.specs.Plain.{IsPlain}
 use Rattle.mega_transcript.specs.Named.{names_property}
+use Rattle.mega_outcome.specs.declared.answer.Shown.{Shown}
+use Rattle.mega_outcome.specs.declared.answer.Turn.{Turn}
+use Rattle.mega_outcome.specs.declared.answer.Turn.TheVariants.{OtherGroup, BadRow, CheckFailed, NoRow, Overflow, TooLarge, DiskFault, Full, BadRecord, NoMemory}
+use Rattle.mega_transcript.specs.PlainTurns.{IsPlainTurn}
 use Rattle.mega_transcript.specs.PlainAnswers.{IsPlainAnswer}
-use Rattle.mega_transcript.specs.PlainRows.{ArePlainCells, ArePlainIn, HaveKinds, IsHeld, IsPlainCell, IsPlainFound, IsPlainKey}
+use Rattle.mega_transcript.specs.PlainRows.{ArePlainCells, ArePlainIn, HaveKinds, IsHeld, IsPlainCell, IsPlainFound, IsPlainKey, IsPlainResult}
 use Rattle.mega_promises.specs.Promises.{Stands}
 use Rattle.mega_promises.specs.Runs.{Happening, IsRun}
 use Rattle.mega_format_laws.specs.Histories.{IsCluster}
 use Rattle.mega_format_laws.specs.Rounds.{Each}
 use Rattle.mega_format_laws.proofs.Each.{all_of_each, each_of_all}
-use Rattle.mega_plain_laws.specs.Answers.{AreOfKinds, IsFit, IsFound, IsFoundIn, IsNamed, shows_rows}
+use Rattle.mega_plain_laws.specs.Answers.{AreOfKinds, AreRefused, IsFit, IsFound, IsFoundIn, IsNamed, IsWord, shows_rows}
 use Rattle.mega_plain_laws.specs.Formed.{AreFormed, IsSpelled, is_of_rows}
-use Rattle.mega_plain_laws.specs.Held.{HoldsAnswer, HoldsCell, HoldsFound, HoldsItem}
+use Rattle.mega_plain_laws.specs.Held.{HoldsAnswer, HoldsCell, HoldsFound, HoldsItem, HoldsResult, HoldsTurn}
 use Rattle.mega_plain_laws.proofs.Showing.{each_stands}
 use Rattle.mega_plain_laws.proofs.Events.{run_spelled}
 
@@ -88,12 +92,31 @@ plain_finds : (k : Schema) → IsNamed k → (finds : List Found) → AllByRecur
 plain_finds k named [] are held = tt
 plain_finds k named (found ∷ finds) are held = (plain_found k named found are.0 held.0, plain_finds k named finds are.1 held.1)
 
+-- ---- why one is turned
+
+plain_turn : (turn : Turn) → HoldsTurn turn → IsWord turn → IsPlainTurn turn
+plain_turn (OtherGroup item) held word = held
+plain_turn (BadRow item) held word = held
+plain_turn (CheckFailed item) held word = held
+plain_turn (NoRow item) held word = held
+plain_turn (Overflow item) held word = held
+plain_turn (TooLarge bytes) held word = held
+plain_turn DiskFault held word = absurd word
+plain_turn (Full length) held word = absurd word
+plain_turn (BadRecord number) held word = absurd word
+plain_turn NoMemory held word = absurd word
+
+plain_results : (k : Schema) (results : List (Result (List (Option Shown)) Turn)) → AllByRecursion HoldsResult results → AreRefused results → AllByRecursion (IsPlainResult k) results
+plain_results k [] held fit = tt
+plain_results k (Ok replies ∷ results) held fit = absurd fit.0
+plain_results k (Err turn ∷ results) held fit = (plain_turn turn held.0 fit.0, plain_results k results held.1 fit.1)
+
 -- ---- answers and items
 
 plain_answer : (k : Schema) → IsNamed k → (answer : Answer) → HoldsAnswer answer → IsFit k answer → shows_rows answer ≡ false → IsPlainAnswer k answer
 plain_answer k named (answers.Committed position replies) held fit none = cc
 plain_answer k named (answers.Conflict position other) held fit none = held
-plain_answer k named (answers.Turned turn) held fit none = cc
+plain_answer k named (answers.Turned turn) held fit none = plain_turn turn held fit
 plain_answer k named answers.Unknown held fit none = tt
 plain_answer k named answers.TimedOut held fit none = tt
 plain_answer k named (answers.Read position rows) held fit none = cc
@@ -106,7 +129,7 @@ plain_answer k named (answers.NotHere kind) held fit none = fit
 plain_answer k named (answers.NothingToDo marks) held fit none = (fit, held)
 plain_answer k named (answers.NoHandler queue) held fit none = held
 plain_answer k named (answers.Batched position results) held fit none = cc
-plain_answer k named (answers.AllTurned results) held fit none = cc
+plain_answer k named (answers.AllTurned results) held fit none = plain_results k results held fit
 
 plain_item : (k : Schema) → IsNamed k → (item : Item) → HoldsItem item → IsSpelled k item → is_of_rows item ≡ false → IsPlain k item
 plain_item k named (Start node start) held spelled none = held

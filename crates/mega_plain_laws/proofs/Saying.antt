@@ -54,6 +54,7 @@ use Rattle.mega_plain_laws.proofs.Showing.{IsSaid, IsStill}
 use Rattle.mega_plain_laws.proofs.Noting.{apply_still, decision_still, lapses_still, lease_still, told_still}
 use Rattle.mega_plain_laws.proofs.Marking.{marks_fit, marks_onto}
 use Rattle.mega_plain_laws.proofs.Finding.{global_fit, local_fit}
+use Rattle.mega_plain_laws.proofs.Turning.{AreWords, Words, all_refused, batch_words, outcome_words, rows_words}
 
 still_said : (k : Schema) (one : Met) → IsStill one → IsSaid k one
 still_said k (Begins op text) h = absurd h
@@ -130,14 +131,16 @@ module _ (s : Setting) where
   proposes_it : (now : Now) (o : Operation) (group : GroupId) (r : Reading) (p : ℕ) (own : Content) (promised : Promised) → Said k now → Said k (proposes s now o group r p own promised)
   proposes_it now o group r p own promised h = proposes_by_it now o group r p own promised (leader_after s now group p) h
 
-  sealed_it : (now : Now) (o : Operation) (group : GroupId) (r : Reading) (p : ℕ) (result : Result Done Turned) → Said k now → Said k (sealed s now o group r p result)
-  sealed_it now o group r p (Err turn) h = ends_it now o.id _ tt h
-  sealed_it now o group r p (Ok done) h = proposes_it now o group r p (entry_of_done o.id done) (Replies done.replies) h
+  sealed_it : (now : Now) (o : Operation) (group : GroupId) (r : Reading) (p : ℕ) (result : Result Done Turned) → Words result → Said k now → Said k (sealed s now o group r p result)
+  sealed_it now o group r p (Err turn) w h = ends_it now o.id _ w h
+  sealed_it now o group r p (Ok done) w h = proposes_it now o group r p (entry_of_done o.id done) (Replies done.replies) h
 
-  batch_it : (now : Now) (o : Operation) (group : GroupId) (r : Reading) (p : ℕ) (b : Batch) → Said k now → Said k (batch_sealed s now o group r p b)
-  batch_it now o group r p b h =
-      either (Said k) (list_any is_taken b.results) (proposes s now o group r p (entry_of_batch o.id b) (Results b.results)) (ends now o.id (AllTurned b.results))
-      (proposes_it now o group r p (entry_of_batch o.id b) (Results b.results) h) (ends_it now o.id (AllTurned b.results) tt h)
+  batch_it : (now : Now) (o : Operation) (group : GroupId) (r : Reading) (p : ℕ) (b : Batch) → AreWords b.results → Said k now → Said k (batch_sealed s now o group r p b)
+  batch_it now o group r p b w h = by (list_any is_taken b.results) refl
+    where
+      by : (t : Bool) → list_any is_taken b.results ≡ t → Said k (cond t (proposes s now o group r p (entry_of_batch o.id b) (Results b.results)) (ends now o.id (AllTurned b.results)))
+      by true is = proposes_it now o group r p (entry_of_batch o.id b) (Results b.results) h
+      by false is = ends_it now o.id (AllTurned b.results) (all_refused b.results w is) h
 
   full_it : (now : Now) (o : Operation) (p : ℕ) (next : Now) → Said k now → Said k next → Said k (unless_full s now o p next)
   full_it now o p next h then = either (Said k) (nat_le (s.cluster.limit).0 p) (ends now o.id (LogFull (record { 0 = p }))) next (ends_it now o.id (LogFull (record { 0 = p })) tt h) then
@@ -156,16 +159,16 @@ module _ (s : Setting) where
 
   -- ---- reads and finds
 
-  rows_fit : (p : ℕ) (found : Result (List (Option Shown)) Turned) → IsFit k (rows_answer p found)
-  rows_fit p (Ok rows) = tt
-  rows_fit p (Err turn) = tt
+  rows_fit : (p : ℕ) (found : Result (List (Option Shown)) Turned) → Words found → IsFit k (rows_answer p found)
+  rows_fit p (Ok rows) w = tt
+  rows_fit p (Err turn) w = w
 
-  read_fit_by : (request : ReadRequest) (mode : Mode) (group : GroupId) (refs : List RowRef) (p : ℕ) (rows : Rows) (listed : Listed) → IsFit k (read_answer s (record { mode = mode; group = group; rows = refs }) p rows listed)
-  read_fit_by request mode group [] p rows listed = tt
-  read_fit_by request mode group (row ∷ more) p rows listed = rows_fit p (read_rows s.cluster.schema group (row ∷ more) rows)
+  read_fit_by : (mode : Mode) (group : GroupId) (refs : List RowRef) (p : ℕ) (rows : Rows) (listed : Listed) → IsFit k (read_answer s (record { mode = mode; group = group; rows = refs }) p rows listed)
+  read_fit_by mode group [] p rows listed = tt
+  read_fit_by mode group (row ∷ more) p rows listed = rows_fit p (read_rows s.cluster.schema group (row ∷ more) rows) (rows_words s.cluster.schema group (row ∷ more) rows)
 
   read_fit : (request : ReadRequest) (p : ℕ) (rows : Rows) (listed : Listed) → IsFit k (read_answer s request p rows listed)
-  read_fit request p rows listed = read_fit_by request request.mode request.group request.rows p rows listed
+  read_fit request p rows listed = read_fit_by request.mode request.group request.rows p rows listed
 
   module _ (id : OpId) (began : ℕ) (visited : List GroupId) (message : Option Enter) where
     abbrev one : Request → Phase → Operation
@@ -173,9 +176,9 @@ module _ (s : Setting) where
 
     finishes_it : (again : Now → Operation → Now) → Stays again → (now : Now) (request : Request) (phase : Phase) (group : GroupId) (r : Reading) (p : ℕ) → Said k now → Said k (finishes s again now (one request phase) group r p)
     finishes_it again more now (Txn transaction) phase group r p h =
-        full_it now (one (Txn transaction) phase) p _ h (sealed_it now (one (Txn transaction) phase) group r p (outcome s.cluster.schema transaction (rows_at now group p)) h)
+        full_it now (one (Txn transaction) phase) p _ h (sealed_it now (one (Txn transaction) phase) group r p (outcome s.cluster.schema transaction (rows_at now group p)) (outcome_words s.cluster.schema transaction (rows_at now group p)) h)
     finishes_it again more now (BatchRequest own transactions) phase group r p h =
-        full_it now (one (BatchRequest own transactions) phase) p _ h (batch_it now (one (BatchRequest own transactions) phase) group r p (batch_outcome s.cluster.schema own transactions (rows_at now group p)) h)
+        full_it now (one (BatchRequest own transactions) phase) p _ h (batch_it now (one (BatchRequest own transactions) phase) group r p (batch_outcome s.cluster.schema own transactions (rows_at now group p)) (batch_words s.cluster.schema own transactions (rows_at now group p)) h)
     finishes_it again more now (ReadRequested request) phase group r p h = ends_it now id _ (read_fit request p (rows_at now group p) (listed_at now group p)) h
     finishes_it again more now (Find request) phase group r p h = ends_it now id _ (local_fit s.cluster.schema request p (listed_at now group p)) h
     finishes_it again more now PumpEnter phase group r p h = full_it now (one PumpEnter phase) p _ h (enters_it again more now (one PumpEnter phase) group r p message h)
