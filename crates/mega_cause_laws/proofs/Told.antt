@@ -1,5 +1,5 @@
 -- A lawful answer that its group's log tells has its cause.
-use Rattle.std.proofs.Common.{◌≡◌, ◌≢◌, ◌⊎◌, inl, inr, ℕ, suc, ◌-◌, ◌≤◌, Bool, true, false, List, [], ◌∷◌, ◌++◌, length, take, Option, Some, None, Result, Ok, Err, refl, sym, ap, ◌∙◌, subst, arith}
+use Rattle.std.proofs.Common.{◌≡◌, ◌≢◌, ℕ, suc, ◌-◌, ◌≤◌, true, false, List, [], ◌∷◌, ◌++◌, length, take, Option, Some, Result, Err, sym, ap, ◌∙◌, subst, arith}
 use Rattle.mega_base.specs.declared.names.GroupId.{GroupId}
 use Rattle.mega_base.specs.declared.names.OpId.{OpId}
 use Rattle.mega_base.specs.declared.names.Position.{Position}
@@ -10,7 +10,6 @@ use Rattle.mega_schema.specs.declared.schema.Schema.{Schema}
 use Rattle.mega_index.specs.Rows.{after, no_rows}
 use Rattle.mega_outcome.specs.declared.answer.Answer.{Answer}
 use Rattle.mega_outcome.specs.declared.answer.Answer.TheVariants as answers
-use Rattle.mega_outcome.specs.declared.answer.Done.{Done}
 use Rattle.mega_outcome.specs.declared.answer.Shown.{Shown}
 use Rattle.mega_outcome.specs.declared.answer.Turn.{Turn}
 use Rattle.mega_outcome.specs.declared.request.Mode.{Mode}
@@ -28,9 +27,9 @@ use Rattle.mega_promises.specs.Causes.{AreTurned, HasCause, HasReplies, HasResul
 use Rattle.mega_promises.specs.Moments.{StoodOn}
 use Rattle.mega_promises.specs.Promises.{Stands, asked_for, group_written, is_write, log_of, rows_shown}
 use Rattle.mega_promises.specs.Runs.{Happening, IsRun}
-use Rattle.mega_tape_laws.specs.Answers.{AreAnswered, HasCause as IsLawful, KnowsBelow, LawfulAnswers, MayCommitAll, MayConflict, MayRead, MayTurn, MayTurnAll, Replied, ShowsFront, of_pump, of_read, of_transaction, of_write}
+use Rattle.mega_tape_laws.specs.Answers.{AreAnswered, HasCause as IsLawful, LawfulAnswers, MayCommitAll, MayConflict, MayRead, MayTurn, MayTurnAll, Replied, ShowsFront, of_pump, of_read, of_transaction, of_write}
 use Rattle.mega_tape_laws.specs.Lawful.{Lawful}
-use Rattle.mega_tape_laws.specs.Writes.{AreWritten, IsFront, Knows, Usage}
+use Rattle.mega_tape_laws.specs.Writes.{IsFront, Usage}
 use Rattle.mega_tape_laws.proofs.Complete.{known_is_front}
 use Rattle.mega_run_laws.specs.Usages.{Fits}
 use Rattle.mega_run_laws.proofs.Runs.{run_answered}

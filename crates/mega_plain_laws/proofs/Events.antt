@@ -1,5 +1,5 @@
 -- Every run stays of the format.
-use Rattle.std.proofs.Common.{◌≡◌, ℕ, zero, suc, ◌+◌, ◌≤◌, ◌&&◌, nat_le, nat_lt, Bool, true, false, not, cond, List, [], ◌∷◌, fold, length, Option, Some, None, refl, sym, subst, arith}
+use Rattle.std.proofs.Common.{◌≡◌, ℕ, zero, suc, ◌+◌, ◌≤◌, ◌&&◌, nat_le, Bool, true, false, not, cond, List, [], ◌∷◌, fold, length, Option, Some, None, refl, sym, subst, arith}
 use Rattle.std.specs.Prelude.{find}
 use Rattle.std.specs.List.{range_with_len}
 use Rattle.std.proofs.lemmas.Bool.Decides.{nat_tests}
@@ -12,13 +12,12 @@ use Rattle.mega_schedule.specs.declared.world_event.WorldEvent.TheVariants.{Tick
 use Rattle.mega_transcript.specs.declared.item.Item.{Item}
 use Rattle.mega_transcript.specs.declared.item.Item.TheVariants.{Taken, Dropped, Cut as CutItem}
 use Rattle.mega_transcript.specs.Tape.{is_sent, is_taken}
-use Rattle.mega_rules.specs.Clock.{clock_of, is_up}
 use Rattle.mega_rules.specs.Members.{is_node, nodes}
 use Rattle.mega_rules.specs.Met.{Begins, Ticks}
 use Rattle.mega_rules.specs.Steps.{Begin, Take, Tick, op_of}
 use Rattle.mega_promises.specs.Items.{shown}
 use Rattle.mega_promises.specs.Messages.{is_deliverable, is_dropped, message_of, next_delivery, receiver_up}
-use Rattle.mega_promises.specs.Runs.{Cuts, Happening, IsRun, Standing, Whole, after_event, because, delivered, drained, fate_of, fated_start, goes_on, handed, marked, names_nothing, nothing_yet, opening, receiver_down, refusal, setting, start_calls, unless_none, unless_refused, up}
+use Rattle.mega_promises.specs.Runs.{Cuts, Happening, IsRun, Standing, Whole, after_event, because, delivered, drained, fate_of, fated_start, goes_on, handed, marked, nothing_yet, opening, receiver_down, refusal, setting, start_calls, unless_none, unless_refused, up}
 use Rattle.mega_format_laws.specs.Histories.{IsCluster}
 use Rattle.mega_format_laws.specs.Requests.{AreHandlers}
 use Rattle.mega_format_laws.specs.Rounds.{Each}

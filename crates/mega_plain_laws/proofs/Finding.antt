@@ -1,5 +1,5 @@
 -- What is found in an index is of its table: an index names rows that fit alone.
-use Rattle.std.proofs.Common.{◌≡◌, ◌&&◌, ◌||◌, ℕ, suc, zero, ◌+◌, ◌<◌, ◌≤◌, nat_lt, Bool, true, false, cond, List, [], ◌∷◌, ◌++◌, length, map, flat_map, fold, Ordering, Less, Equal, Greater, Option, Some, None, Result, Ok, Err, refl, sym, ap, ◌∙◌, subst, arith}
+use Rattle.std.proofs.Common.{◌≡◌, ◌&&◌, ◌||◌, ℕ, suc, ◌+◌, ◌≤◌, nat_lt, Bool, true, false, cond, List, [], ◌∷◌, length, map, flat_map, fold, Ordering, Less, Equal, Greater, Option, Some, None, Ok, Err, refl, sym, subst, arith}
 use Rattle.std.specs.Prelude.{filter, is_ok, is_none}
 use Rattle.std.specs.List.{AllByRecursion}
 use Rattle.std.specs.BTreeMap.{insert_entry}
@@ -10,7 +10,6 @@ use Rattle.mega_base.specs.declared.values.Cell.{Cell}
 use Rattle.mega_base.specs.declared.values.Kind.{Kind}
 use Rattle.mega_base.specs.declared.values.Row.{Row}
 use Rattle.mega_base.specs.declared.values.Value.{Value}
-use Rattle.mega_keys.specs.declared.fault.KeyFault.{KeyFault}
 use Rattle.mega_keys.specs.declared.fault.KeyFault.TheVariants.{Missing}
 use Rattle.mega_keys.specs.Answers.{fault_of, fault_or_missing, unless_fault}
 use Rattle.mega_keys.specs.Fit.{has_kind, key_kinds, misplaced}
@@ -23,9 +22,9 @@ use Rattle.mega_schema.specs.Shaping.{shape_of}
 use Rattle.mega_index.specs.declared.found.Found.{Found}
 use Rattle.mega_index.specs.Cells.{is_listed, key_values, row_with}
 use Rattle.mega_index.specs.Entries.{found_of, index_of, placed, with_row, with_row_under}
-use Rattle.mega_index.specs.Finding.{begun_by, found_in, front_of, indexed_kinds, unless_misplaced}
+use Rattle.mega_index.specs.Finding.{begun_by, front_of, indexed_kinds, unless_misplaced}
 use Rattle.mega_index.specs.Fits.{cell_fits, cells_fit, entry_keys, group_bytes_of, has_place, has_required, key_of, long_key, numbered, properties_fit, row_fits, stands_in}
-use Rattle.mega_index.specs.Rows.{Listed, key_cmp, same_key}
+use Rattle.mega_index.specs.Rows.{Listed, key_cmp}
 use Rattle.mega_outcome.specs.declared.answer.Mark.{Mark}
 use Rattle.mega_outcome.specs.declared.request.FindRequest.{FindRequest}
 use Rattle.mega_rules.specs.Finding.{find_answer, find_by, global_found, group_bytes, group_marks, local_found, mark_at, refreshed_marks, rows_through}

@@ -1,5 +1,5 @@
 -- A run stays of the format through a step, a start and a crash of a node, whole or cut.
-use Rattle.std.proofs.Common.{◌≡◌, ℕ, suc, zero, ◌+◌, ◌==◌, ◌≤◌, nat_le, ◌&&◌, Bool, true, false, cond, List, [], ◌∷◌, ◌++◌, map, flat_map, Option, Some, None, refl, sym, ap, ◌∙◌, subst, arith}
+use Rattle.std.proofs.Common.{◌≡◌, ℕ, ◌+◌, ◌==◌, ◌≤◌, Bool, true, false, cond, List, [], ◌∷◌, ◌++◌, map, flat_map, Option, None, refl, sym, ap, ◌∙◌, subst, arith}
 use Rattle.std.specs.Prelude.{filter}
 use Rattle.std.proofs.lemmas.Bool.Decides.{nat_tests}
 use Rattle.mega_base.specs.Names.{IsU32}
@@ -20,7 +20,7 @@ use Rattle.mega_rules.specs.Members.{is_node}
 use Rattle.mega_rules.specs.Operations.{Node, Setting}
 use Rattle.mega_rules.specs.Steps.{Begin, Event, Step, Take, Tick, crashed, onto, start, start_items, start_notes, step}
 use Rattle.mega_promises.specs.Items.{number, numbered, shown}
-use Rattle.mega_promises.specs.Runs.{Calls, CutByData, CutByLog, Fate, Fuse, Left, Standing, Whole, at_node, calls_of, crashes, cut_start, cut_step, fate_of, fated, fated_start, is_durable, is_kept, met_in, owes, replies_in, set_at, setting, start_calls, whole_start, whole_step, with_items}
+use Rattle.mega_promises.specs.Runs.{CutByData, CutByLog, Fate, Fuse, Left, Standing, Whole, at_node, calls_of, crashes, cut_start, cut_step, fate_of, fated, fated_start, is_durable, is_kept, met_in, owes, replies_in, set_at, setting, whole_start, whole_step}
 use Rattle.mega_format_laws.specs.Histories.{IsCluster, IsItem, IsMet}
 use Rattle.mega_format_laws.specs.Nodes.{IsEvent, IsNode, IsStep}
 use Rattle.mega_format_laws.specs.Requests.{AreHandlers}

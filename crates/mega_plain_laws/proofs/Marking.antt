@@ -1,25 +1,23 @@
 -- Marks stand in order of group, each at a position of at least 1.
-use Rattle.std.proofs.Common.{◌≡◌, ◌&&◌, ◌||◌, ℕ, nat_lt, Bool, true, false, cond, List, [], ◌∷◌, map, length, Ordering, Less, Equal, Greater, is_lt, Option, Some, None, refl, sym, ap, ◌∙◌, subst}
+use Rattle.std.proofs.Common.{◌≡◌, ◌&&◌, nat_lt, Bool, true, false, cond, List, [], ◌∷◌, map, length, Less, is_lt, Option, Some, None, refl, sym, ap, subst}
 use Rattle.std.specs.Prelude.{filter_map}
 use Rattle.std.specs.List.{AllByRecursion, cons_option}
 use Rattle.std.specs.List.Sorted.{IsStrictlySortedBy}
 use Rattle.mega_base.specs.declared.names.GroupId.{GroupId}
 use Rattle.mega_schema.specs.declared.schema.Schema.{Schema}
-use Rattle.mega_outcome.specs.declared.answer.Answer.{Answer}
 use Rattle.mega_outcome.specs.declared.answer.Answer.TheVariants.{Refreshed}
 use Rattle.mega_outcome.specs.declared.answer.Mark.{Mark}
 use Rattle.mega_wal.specs.History.{group_cmp}
-use Rattle.mega_rules.specs.Acting.{applied_in, applied_logs, applied_marks, mark_of}
-use Rattle.mega_rules.specs.Finding.{marks_shown, refreshed_marks}
+use Rattle.mega_rules.specs.Acting.{applied_in, applied_marks, mark_of}
+use Rattle.mega_rules.specs.Finding.{refreshed_marks}
 use Rattle.mega_rules.specs.Logs.{groups_of}
-use Rattle.mega_rules.specs.Met.{Met, Answers, Begins, Sends, Starts}
+use Rattle.mega_rules.specs.Met.{Met, Answers, Starts}
 use Rattle.mega_rules.specs.Operations.{Now}
 use Rattle.mega_rules.specs.Queues.{Log}
 use Rattle.mega_rules.specs.Steps.{onto}
 use Rattle.mega_voter.proofs.Grouped.{groups_sorted}
 use Rattle.mega_transcript.specs.PlainRows.{are_marks, are_marks_behind, follows}
 use Rattle.mega_format_laws.specs.Rounds.{Each}
-use Rattle.mega_plain_laws.specs.Answers.{IsFit}
 use Rattle.mega_plain_laws.proofs.Showing.{IsSaid}
 
 -- the mark before, if there is one, is of a group below

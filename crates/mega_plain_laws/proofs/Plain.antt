@@ -34,7 +34,6 @@ use Rattle.mega_transcript.specs.PlainRows.{ArePlainCells, ArePlainIn, HaveKinds
 use Rattle.mega_promises.specs.Promises.{Stands}
 use Rattle.mega_promises.specs.Runs.{Happening, IsRun}
 use Rattle.mega_format_laws.specs.Histories.{IsCluster}
-use Rattle.mega_format_laws.specs.Rounds.{Each}
 use Rattle.mega_format_laws.proofs.Each.{all_of_each, each_of_all}
 use Rattle.mega_plain_laws.specs.Answers.{AreOfKinds, AreRefused, IsFit, IsFound, IsFoundIn, IsNamed, IsWord, shows_rows}
 use Rattle.mega_plain_laws.specs.Formed.{AreFormed, IsSpelled, is_of_rows}

@@ -14,7 +14,7 @@ use Rattle.mega_wire.specs.declared.message.Message.{Message}
 use Rattle.mega_handler.specs.Named.{has}
 use Rattle.mega_index.specs.Rows.{Listed, Rows}
 use Rattle.mega_outcome.specs.declared.answer.Answer.{Answer}
-use Rattle.mega_outcome.specs.declared.answer.Answer.TheVariants.{AllTurned, Busy, Conflict, LogFull, NoHandler, NotHere, NothingToDo, Refreshed, TimedOut, Turned as TurnedAnswer, Unknown, Worn}
+use Rattle.mega_outcome.specs.declared.answer.Answer.TheVariants.{AllTurned, Busy, Conflict, LogFull, NoHandler, Worn}
 use Rattle.mega_outcome.specs.declared.answer.Batch.{Batch}
 use Rattle.mega_outcome.specs.declared.answer.Done.{Done}
 use Rattle.mega_outcome.specs.declared.answer.Shown.{Shown}
@@ -29,22 +29,21 @@ use Rattle.mega_outcome.specs.declared.transaction.RowRef.{RowRef}
 use Rattle.mega_outcome.specs.Outcome.{batch_outcome, entry_of_batch, entry_of_done, outcome}
 use Rattle.mega_outcome.specs.Reads.{read_rows}
 use Rattle.mega_wal.specs.Same.{same_op, same_option}
-use Rattle.mega_propose.specs.declared.round.Move.{Move as RoundMove}
 use Rattle.mega_read.specs.declared.reading.Reading.{Reading}
 use Rattle.mega_read.specs.declared.reading.Stage.{Stage}
 use Rattle.mega_read.specs.declared.reading.Stage.TheVariants.{Polling, Catching}
 use Rattle.mega_read.specs.Catching.{asked_by}
-use Rattle.mega_rules.specs.Met.{Met, Answers, Begins, Sends, Starts, Takes, Ticks, Validates}
-use Rattle.mega_rules.specs.Clock.{begun_of, clock_of, last_number}
+use Rattle.mega_rules.specs.Met.{Met, Answers, Begins, Takes, Ticks, Validates}
+use Rattle.mega_rules.specs.Clock.{clock_of}
 use Rattle.mega_rules.specs.Members.{kind_of}
 use Rattle.mega_rules.specs.Logs.{decided, groups_of, log_of, prefix_of}
 use Rattle.mega_rules.specs.Coordinators.{refused_at}
-use Rattle.mega_rules.specs.Finding.{global_found, local_found, marks_shown, refreshed_marks}
+use Rattle.mega_rules.specs.Finding.{refreshed_marks}
 use Rattle.mega_rules.specs.Queues.{Posted, enter_entry, is_named, names_entered, next_to_enter, next_to_handle, oldest_unhandled}
 use Rattle.mega_rules.specs.Operations.{Node, Now, Operation, Phase, Promised, Proposes, Reads, Replies, Results, Setting}
-use Rattle.mega_rules.specs.Acting.{acts, acts_within, applied_logs, applied_marks, batch_sealed, begins_read, committed, completes_read, ends, enters, finishes, goes_on, handles, is_taken, keeps, leader_after, listed_at, handling, picks_group, picks_message, proposes, proposes_by, read_answer, read_begun, reads_on, rows_answer, rows_at, sealed, sends_more, table_rows, unless_decided, unless_full, validated_by, validates, verdict}
+use Rattle.mega_rules.specs.Acting.{acts, acts_within, applied_logs, batch_sealed, begins_read, committed, completes_read, ends, enters, finishes, goes_on, handles, is_taken, keeps, leader_after, listed_at, handling, picks_group, picks_message, proposes, proposes_by, read_answer, read_begun, reads_on, rows_answer, rows_at, sealed, sends_more, table_rows, unless_decided, unless_full, validated_by, validates, verdict}
 use Rattle.mega_rules.specs.Replies.{reply_to}
-use Rattle.mega_rules.specs.Steps.{Begin, Decision, Event, Heard, Step, Take, Tick, acts_in_turn, all_act, applied_position, apply_notes, at_first, at_open, begin_step, begins, decision_note, does_due, find_begins, first_settled, hears_message, if_new, is_out, is_worn, lapse_notes, last_answer, lease_notes, local_find_begins, missing_kind, needs_full, new_operation, news, onto, op_of, portion_of, read_begins, refusal, snapshot_listed, step, stored_after, stored_listed, take_step, taken, tick_step, ticked, told_decision, told_notes, unless_busy, unless_missing, unless_refused}
+use Rattle.mega_rules.specs.Steps.{Begin, Decision, Event, Heard, Take, Tick, acts_in_turn, all_act, applied_position, apply_notes, at_first, at_open, begin_step, begins, decision_note, does_due, find_begins, first_settled, hears_message, if_new, is_out, is_worn, lapse_notes, last_answer, lease_notes, local_find_begins, missing_kind, needs_full, new_operation, news, onto, op_of, portion_of, read_begins, refusal, snapshot_listed, step, stored_after, stored_listed, take_step, taken, tick_step, ticked, told_decision, told_notes, unless_busy, unless_missing, unless_refused}
 use Rattle.mega_node_laws.proofs.Ending.{taken_by}
 use Rattle.mega_transcript.specs.PlainRows.{are_marks}
 use Rattle.mega_format_laws.specs.Rounds.{Each}

@@ -1,5 +1,5 @@
 -- Three nodes that start, and a tick at which node 1 asks the cells.
-use Rattle.std.proofs.Common.{◌≡◌, ◌&&◌, ℕ, zero, suc, ◌<◌, ◌≤◌, nat_lt, Bool, true, false, List, [], ◌∷◌, map, Option, Some, None, codes, ◌==◌, ◌-◌, cond, length, slice_get, refl, sym, ap, ◌∙◌, subst, arith}
+use Rattle.std.proofs.Common.{◌≡◌, ◌&&◌, ℕ, zero, suc, ◌<◌, ◌≤◌, nat_lt, Bool, true, false, List, [], ◌∷◌, map, Some, None, codes, ◌==◌, ◌-◌, cond, length, slice_get, refl, sym, ap, ◌∙◌, subst, arith}
 use Rattle.std.specs.Prelude.{All}
 use Rattle.std.specs.List.{list_all}
 use Rattle.std.proofs.lemmas.Bool.Decides.{nat_tests}
@@ -7,7 +7,6 @@ use Rattle.std.proofs.lemmas.Str.{is_utf8-from_IsUtf8}
 use Rattle.std.specs.Str.{is_utf8}
 use Rattle.hex.specs.Hex.{IsBytes}
 use Rattle.mega_base.specs.Codec.{number_text}
-use Rattle.mega_cluster.specs.declared.cluster.Cluster.{Cluster}
 use Rattle.mega_base.specs.declared.values.Kind.TheVariants.{Int64, Str}
 use Rattle.mega_syntax.specs.declared.need.Need.TheVariants.{Required}
 use Rattle.mega_syntax.proofs.NameText.{name_text}
@@ -18,10 +17,9 @@ use Rattle.mega_wire.specs.Messages.{message_text}
 use Rattle.mega_wire.specs.declared.message.Message.{Message}
 use Rattle.mega_wire.specs.declared.message.Body.TheVariants.{Acquire}
 use Rattle.mega_index.specs.Fits.{numbered}
-use Rattle.mega_transcript.specs.declared.item.Item.{Item}
 use Rattle.mega_transcript.specs.Named.{names_property, names_table, property_number, table_number}
 use Rattle.mega_rules.specs.Examples.{cluster, users}
-use Rattle.mega_promises.specs.Runs.{Standing, Whole, goes_on, opening}
+use Rattle.mega_promises.specs.Runs.{Whole, goes_on, opening}
 use Rattle.mega_promises.specs.Worked.{happens, tick}
 use Rattle.mega_format_laws.specs.Histories.{IsCluster}
 use Rattle.mega_format_laws.specs.Rounds.{Each}

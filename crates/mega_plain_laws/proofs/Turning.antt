@@ -1,5 +1,5 @@
 -- Why a transaction is turned is a word of answers: the faults of a device are none.
-use Rattle.std.proofs.Common.{◌≡◌, ◌||◌, ◌&&◌, ℕ, ◌+◌, nat_lt, not, Bool, true, false, cond, List, [], ◌∷◌, ◌++◌, fold, ℤ, Option, Some, None, Result, Ok, Err, refl}
+use Rattle.std.proofs.Common.{◌≡◌, ◌||◌, ◌&&◌, ℕ, ◌+◌, nat_lt, not, Bool, true, false, cond, List, [], ◌∷◌, ◌++◌, fold, ℤ, Option, Some, None, Result, Ok, Err}
 use Rattle.std.specs.Prelude.{is_none, is_some, ◌+ℤ◌}
 use Rattle.std.specs.List.{AllByRecursion, list_any}
 use Rattle.mega_base.specs.declared.names.GroupId.{GroupId}
@@ -11,7 +11,7 @@ use Rattle.mega_keys.specs.declared.fault.KeyFault.{KeyFault}
 use Rattle.mega_schema.specs.declared.schema.Property.{Property}
 use Rattle.mega_schema.specs.declared.schema.Schema.{Schema}
 use Rattle.mega_schema.specs.declared.schema.Table.{Table}
-use Rattle.mega_index.specs.Cells.{is_listed, key_values, row_set, values_of}
+use Rattle.mega_index.specs.Cells.{is_listed, key_values, values_of}
 use Rattle.mega_index.specs.Fits.{fits, group_of, key_of, long_key, numbered}
 use Rattle.mega_index.specs.Fitted.{most_bytes, send_fits}
 use Rattle.mega_index.specs.Rows.{Rows, same_key, written}
@@ -28,7 +28,7 @@ use Rattle.mega_outcome.specs.declared.transaction.RowRef.{RowRef}
 use Rattle.mega_outcome.specs.declared.transaction.Transaction.{Transaction}
 use Rattle.mega_outcome.specs.Changes.{add_at, add_in, add_to, all_changes, change, delete_at, is_number, number_of, number_value, or_overflow, put_in, replaced, sum_of}
 use Rattle.mega_outcome.specs.Checks.{all_checks, check, has_values, holds, may_be_in}
-use Rattle.mega_outcome.specs.Outcome.{all_sends, batch_length, batch_outcome, first_change, first_read, first_send, left_out, longest, no_batch, outcome, outcome_in, taken, taken_unless_large, unless_large, with_all, with_next, with_result}
+use Rattle.mega_outcome.specs.Outcome.{all_sends, batch_length, batch_outcome, first_change, first_read, first_send, left_out, longest, no_batch, outcome, outcome_in, taken, with_next, with_result}
 use Rattle.mega_outcome.specs.Places.{◌>>=◌, key_in, key_in_table, placed, row_in, spelled}
 use Rattle.mega_outcome.specs.Reads.{all_reads, read, read_rows}
 use Rattle.mega_rules.specs.Acting.{is_taken}
