@@ -1,0 +1,10 @@
+pub mod Showing
+pub mod Noting
+pub mod Marking
+pub mod Finding
+pub mod Turning
+pub mod Saying
+pub mod Forming
+pub mod Events
+pub mod Plain
+pub mod Ticking
