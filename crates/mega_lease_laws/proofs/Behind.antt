@@ -1,5 +1,5 @@
 -- In every run an `invalidated` stands behind the `invalid` of its node.
-use Rattle.std.proofs.Common.{◌≡◌, ◌⊎◌, inl, inr, ℕ, suc, zero, ◌+◌, ◌&&◌, Bool, true, false, not, cond, List, [], ◌∷◌, ◌++◌, flat_map, fold, Option, Some, None, refl, sym, ap, ◌∙◌, subst}
+use Rattle.std.proofs.Common.{inl, inr, ℕ, suc, zero, ◌+◌, ◌&&◌, Bool, true, false, not, cond, List, [], ◌∷◌, ◌++◌, flat_map, fold, Option, Some, None, refl, sym, subst}
 use Rattle.std.specs.List.{All}
 use Rattle.std.proofs.lemmas.List.Elements.{All-head, All-tail}
 use Rattle.mega_base.specs.declared.names.GroupId.{GroupId}
@@ -14,7 +14,7 @@ use Rattle.mega_wire.specs.declared.message.Body.TheVariants.{Invalidated}
 use Rattle.mega_schedule.specs.declared.world_event.WorldEvent.{WorldEvent}
 use Rattle.mega_schedule.specs.declared.world_event.WorldEvent.TheVariants.{Tick as TickEvent, Deliver, Drop, Drain, Crash as CrashEvent, Start as StartEvent, Fuse as FuseEvent, Begin as BeginEvent}
 use Rattle.mega_transcript.specs.declared.item.Item.{Item}
-use Rattle.mega_transcript.specs.declared.item.Item.TheVariants.{Invalid, Sent, Taken, Unsafe, Dropped, Cut as CutItem}
+use Rattle.mega_transcript.specs.declared.item.Item.TheVariants.{Invalid, Sent, Taken, Unsafe, Cut as CutItem}
 use Rattle.mega_transcript.specs.Tape.{sent_count}
 use Rattle.mega_rules.specs.Members.{nodes}
 use Rattle.mega_rules.specs.Met.{Met, Starts, Crashes, Ticks, Begins, Takes, Sends, Unsends, Grants, Lapses, Counts, Forgets, Serves, Loses, Validates, Invalidates, Decides, Applies, Answers}
@@ -23,7 +23,7 @@ use Rattle.mega_rules.specs.Steps.{Begin, Event, Step, Take, Tick, crashed, op_o
 use Rattle.mega_promises.specs.Items.{number, numbered, shown}
 use Rattle.mega_promises.specs.Messages.{is_unsafe, message_of, next_delivery}
 use Rattle.mega_promises.specs.Promises.{Stands, StoodBefore}
-use Rattle.mega_promises.specs.Runs.{CutByData, CutByLog, Cuts, Fate, Fuse, Happening, IsRun, Left, Standing, Whole, after_event, at_node, breaks, calls_of, crashes, cut_start, cut_step, delivered, drained, fate_of, fated, fated_start, goes_on, handed, marked, met_in, nothing_yet, opening, refusal, replies_in, set_at, setting, start_calls, unless_none, unless_refused, up, whole_start, whole_step, with_item, with_items}
+use Rattle.mega_promises.specs.Runs.{CutByData, CutByLog, Cuts, Fate, Happening, IsRun, Standing, Whole, after_event, at_node, breaks, calls_of, delivered, drained, fate_of, fated, fated_start, goes_on, handed, marked, met_in, nothing_yet, opening, refusal, replies_in, set_at, setting, start_calls, unless_none, unless_refused, up, whole_step, with_item, with_items}
 use Rattle.mega_tape_laws.specs.Lawful.{Heard, message}
 use Rattle.mega_tape_laws.specs.Places.{In}
 use Rattle.mega_run_laws.proofs.Noted.{with_append}
