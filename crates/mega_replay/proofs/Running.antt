@@ -22,6 +22,7 @@ use Rattle.mega_run_laws.specs.Usages.{Fits, FitsOne, IsMeant}
 use Rattle.mega_run_laws.proofs.Indexing.{asks_values}
 use Rattle.mega_run_laws.proofs.Runs.{run_answered, run_lawful, run_written}
 use Rattle.mega_row_laws.proofs.Nodes.{node_owns}
+use Rattle.mega_cause_laws.proofs.Told.{run_causes}
 use Rattle.mega_line_laws.proofs.Asking.{clock_asked, request_asked}
 use Rattle.mega_line_laws.proofs.Again.{means}
 use Rattle.mega_line_laws.specs.Meanings.{meaning_in}
@@ -72,6 +73,7 @@ replayed c lines events declared happen =
       agree = agreement c (stood c events).tape (run_lawful c [] (in_turn events []) (stood c events).tape run);
       serial = serial c (usage c.schema) (stood c events).tape (run_answered c (usage c.schema) [] (in_turn events []) (stood c events).tape run fits);
       messages = messages c (usage c.schema) tape [] (λ moment. refl) writes;
+      causes = run_causes c (usage c.schema) [] (in_turn events []) tape run fits [];
       indexed = indexed c (usage c.schema) tape writes declared values;
       rows = rows_fit c (usage c.schema) tape writes declared values;
     }

@@ -1,13 +1,20 @@
 -- The run of a cluster over the events that lines spell. Lines and events stand newest first.
-use Rattle.std.specs.Prelude.{◌≡◌, ℕ, ◌+◌, List, [], ◌∷◌, length, take, None, Ok}
+use Rattle.std.specs.Prelude.{◌≡◌, ℕ, ◌+◌, true, List, [], ◌∷◌, length, take, Some, None, Ok}
 use Rattle.mega_base.specs.declared.names.GroupId.{GroupId}
+use Rattle.mega_base.specs.declared.names.OpId.{OpId}
 use Rattle.mega_cluster.specs.declared.cluster.Cluster.{Cluster}
 use Rattle.mega_index.specs.Rows.{list_after}
 use Rattle.mega_schedule.specs.Events.{event_of}
+use Rattle.mega_outcome.specs.declared.answer.Answer.{Answer}
+use Rattle.mega_outcome.specs.declared.request.Request.{Request}
 use Rattle.mega_transcript.specs.declared.item.Item.{Item}
-use Rattle.mega_promises.specs.Promises.{Agree, AreMessages, IsSerial, log_of}
+use Rattle.mega_transcript.specs.declared.item.Item.TheVariants.{Answer as Answered}
+use Rattle.mega_promises.specs.Causes.{HasCause}
+use Rattle.mega_promises.specs.Moments.{StoodOn}
+use Rattle.mega_promises.specs.Promises.{Agree, AreMessages, IsSerial, asked_for, log_of}
 use Rattle.mega_promises.specs.Runs.{Cuts, Happening, IsRun, Standing, Whole, after_event, opening, refusal, unless_refused}
 use Rattle.mega_tape_laws.specs.Indexed.{AreRows, IsDeclared, IsIndexed}
+use Rattle.mega_cause_laws.specs.Told.{is_told}
 use Rattle.mega_world.specs.declared.world.World.{World}
 use Rattle.mega_world.specs.Stands.{IsAt}
 use Rattle.mega_line_laws.specs.Meanings.{meaning_in}
@@ -39,9 +46,15 @@ abbrev pub in_turn : List Happening → List Happening → List Happening
 in_turn [] rest = rest
 in_turn (one ∷ earlier) rest = in_turn earlier (one ∷ rest)
 
+-- where the text of an operation means a request, an answer to it that the log of its group tells has its cause on the tape before it
+abbrev pub HaveCauses : Cluster → List Item → Type 0
+HaveCauses c tape =
+    (op : OpId) (request : Request) (answer : Answer) (before : List Item) → StoodOn (Answered op answer) before tape → asked_for (meaning_in c.schema) before op ≡ Some request
+    → is_told request answer ≡ true → HasCause c (meaning_in c.schema) [] before op answer
+
 -- the lines' events happen, and the tape is a run of the cluster over them, in order: so what nodes decided at one position is one entry; an
 -- entry with the id of an operation is what that came to over the entries below, and answers are as of one thread; messages between groups
--- are entered and handled once, in order; and what stands in a log under keys that are no row keys is what the local indexes have over the
+-- are entered and handled once, in order; answers that a log tells have their causes; and what stands in a log under keys that are no row keys is what the local indexes have over the
 -- tables' rows, each of which fits and stands under its own key
 pub record Replayed (c : Cluster) (lines : List (List ℕ)) (events : List Happening) : Type 0 where
   pub happen : AllHappen c lines events
@@ -49,6 +62,7 @@ pub record Replayed (c : Cluster) (lines : List (List ℕ)) (events : List Happe
   pub agree : Agree (stood c events).tape
   pub serial : IsSerial c.schema (meaning_in c.schema) (stood c events).tape
   pub messages : AreMessages c.schema [] (stood c events).tape
+  pub causes : HaveCauses c (stood c events).tape
   pub indexed : (group : GroupId) (p : ℕ) → IsIndexed c.schema group (list_after (take p (log_of (stood c events).tape group)) [])
   pub rows : (group : GroupId) (p : ℕ) → AreRows c.schema group (list_after (take p (log_of (stood c events).tape group)) [])
 
