@@ -1,0 +1,5 @@
+pub mod Noted
+pub mod Cutting
+pub mod Going
+pub mod Upheld
+pub mod Appending

@@ -1,0 +1,9 @@
+//! A node over its records: nothing that it promises is sent before its record is kept (Lamport 2001; CIDR 2011).
+#![tactic(auto)]
+
+mod fault;
+mod keeping;
+mod up;
+
+pub use fault::UpFault;
+pub use up::Up;
