@@ -1,27 +1,64 @@
--- A transaction or a batch that begins acts in turn, with the read of its group.
-use Rattle.std.proofs.Common.{◌≡◌, ◌∙◌, ℕ, ◌∷◌, [], true, List, None, sym, ap}
+-- What a request does that begins: it is answered at once, or acts in turn with the read of its group.
+use Rattle.std.proofs.Common.{◌≡◌, ◌∙◌, ℕ, ◌∷◌, [], Bool, true, false, ◌&&◌, List, Option, None, Some, sym, ap}
+use Rattle.std.specs.Prelude.{not}
 use Rattle.mega_base.specs.declared.names.GroupId.{GroupId}
 use Rattle.mega_base.specs.declared.names.OpId.{OpId}
+use Rattle.mega_outcome.specs.declared.answer.Answer.{Answer}
+use Rattle.mega_outcome.specs.declared.request.Mode.{Mode}
+use Rattle.mega_outcome.specs.declared.request.Mode.TheVariants.{Current, Snapshot, Inconsistent}
+use Rattle.mega_outcome.specs.declared.request.ReadRequest.{ReadRequest}
 use Rattle.mega_outcome.specs.declared.request.Request.{Request}
 use Rattle.mega_outcome.specs.declared.request.Request.TheVariants.{Txn, Batch, Read, Find, PumpEnter, PumpHandle, Refresh}
 use Rattle.mega_read.specs.declared.reading.Move.{Move}
 use Rattle.mega_rules.specs.Clock.{clock_of}
 use Rattle.mega_rules.specs.Operations.{Now, Reads, Setting}
-use Rattle.mega_rules.specs.Acting.{begins_read, goes_on, read_begun}
-use Rattle.mega_rules.specs.Steps.{Heard, acts_in_turn, begins, new_operation}
+use Rattle.mega_rules.specs.Acting.{begins_read, ends, goes_on, read_begun}
+use Rattle.mega_rules.specs.Steps.{Heard, acts_in_turn, begins, is_current, new_operation, read_begins}
 use Rattle.mega_node_laws.specs.About.{IsOf}
-use Rattle.mega_actions.specs.Built.{is_built}
+use Rattle.mega_actions.specs.Built.{is_at_once, is_built, is_named}
+use Rattle.mega_actions.specs.Showing.{at_once, read_at_once}
 
 module _ (s : Setting) (now : Now) (op : OpId) where
-  pub begins_by : (request : Request) (group : GroupId) (clock : ℕ) → is_built request ≡ true → IsOf request group
+  both_true : (a : Bool) → (a && true) ≡ false → a ≡ true → ⊥
+  both_true true kept named = cc
+  both_true false kept named = cc
+
+  -- a read that is not answered at once asks for current rows
+  current_begins : (request : ReadRequest) (group : GroupId) (clock : ℕ) (mode : Mode) → is_named request.rows ≡ true → (is_named request.rows && not (is_current mode)) ≡ false → request.group ≡ group
+      → read_begins s now (new_operation op (Read request) clock) request mode ≡ begins_read s (goes_on s) now (new_operation op (Read request) clock) group None []
+  current_begins request group clock Current named current of = ap (λ (own : GroupId). begins_read s (goes_on s) now (new_operation op (Read request) clock) own None []) of
+  current_begins request group clock Snapshot named current of = absurd (both_true (is_named request.rows) current named)
+  current_begins request group clock Inconsistent named current of = absurd (both_true (is_named request.rows) current named)
+
+  abbrev ends_by : Option Answer → Now
+  ends_by None = now
+  ends_by (Some answer) = ends now op answer
+
+  read_answered : (request : ReadRequest) (clock : ℕ) (mode : Mode) (answer : Answer) → read_at_once s now request mode ≡ Some answer
+      → read_begins s now (new_operation op (Read request) clock) request mode ≡ ends now op answer
+  read_answered request clock Current answer is = cc
+  read_answered request clock Snapshot answer is = ap ends_by is
+  read_answered request clock Inconsistent answer is = ap ends_by is
+
+  -- one that is answered at once ends
+  pub begins_answered : (request : Request) (clock : ℕ) (answer : Answer) → at_once s now request ≡ Some answer → begins s now (new_operation op request clock) ≡ ends now op answer
+  begins_answered (Txn transaction) clock answer is = cc
+  begins_answered (Batch own transactions) clock answer is = cc
+  begins_answered (Read request) clock answer is = read_answered request clock request.mode answer is
+  begins_answered (Find request) clock answer is = cc
+  begins_answered PumpEnter clock answer is = cc
+  begins_answered PumpHandle clock answer is = cc
+  begins_answered Refresh clock answer is = cc
+
+  pub begins_by : (request : Request) (group : GroupId) (clock : ℕ) → is_built request ≡ true → is_at_once request ≡ false → IsOf request group
       → begins s now (new_operation op request clock) ≡ begins_read s (goes_on s) now (new_operation op request clock) group None []
-  begins_by (Txn transaction) group clock built of = ap (λ (own : GroupId). begins_read s (goes_on s) now (new_operation op (Txn transaction) clock) own None []) of
-  begins_by (Batch own transactions) group clock built of = ap (λ (own' : GroupId). begins_read s (goes_on s) now (new_operation op (Batch own transactions) clock) own' None []) of
-  begins_by (Read request) group clock built of = cc
-  begins_by (Find request) group clock built of = cc
-  begins_by PumpEnter group clock built of = cc
-  begins_by PumpHandle group clock built of = cc
-  begins_by Refresh group clock built of = cc
+  begins_by (Txn transaction) group clock built current of = ap (λ (own : GroupId). begins_read s (goes_on s) now (new_operation op (Txn transaction) clock) own None []) of
+  begins_by (Batch own transactions) group clock built current of = ap (λ (own' : GroupId). begins_read s (goes_on s) now (new_operation op (Batch own transactions) clock) own' None []) of
+  begins_by (Read request) group clock built current of = current_begins request group clock request.mode built current of
+  begins_by (Find request) group clock built current of = cc
+  begins_by PumpEnter group clock built current of = cc
+  begins_by PumpHandle group clock built current of = cc
+  begins_by Refresh group clock built current of = cc
 
   -- what is heard of an operation that begins with a read
   abbrev pub begun : Request → ℕ → List GroupId → GroupId → Move → Heard
@@ -31,7 +68,7 @@ module _ (s : Setting) (now : Now) (op : OpId) where
   }
 
   pub begins_in_turn : (request : Request) (began : ℕ) (visited : List GroupId) (group : GroupId) (made : Move) → began ≡ clock_of now.met → visited ≡ group ∷ []
-      → made ≡ read_begun s now (new_operation op request (clock_of now.met)) group [] → is_built request ≡ true → IsOf request group
+      → made ≡ read_begun s now (new_operation op request (clock_of now.met)) group [] → is_built request ≡ true → is_at_once request ≡ false → IsOf request group
       → acts_in_turn s now (begun request began visited group made) ≡ begins s now (new_operation op request (clock_of now.met))
-  begins_in_turn request began visited group made clock first is built of =
-      (λ i. acts_in_turn s now (begun request (clock i) (first i) group (is i))) ∙ sym (begins_by request group (clock_of now.met) built of)
+  begins_in_turn request began visited group made clock first is built current of =
+      (λ i. acts_in_turn s now (begun request (clock i) (first i) group (is i))) ∙ sym (begins_by request group (clock_of now.met) built current of)

@@ -6,6 +6,7 @@ use Rattle.mega_base.specs.declared.names.OpId.{OpId}
 use Rattle.mega_disk.specs.VersionMaps.{Versions}
 use Rattle.mega_entry.specs.declared.content.Enter.{Enter}
 use Rattle.mega_schema.specs.declared.schema.Schema.{Schema}
+use Rattle.mega_outcome.specs.declared.answer.Answer.{Answer}
 use Rattle.mega_outcome.specs.declared.answer.Answer.TheVariants.{LogFull}
 use Rattle.mega_outcome.specs.declared.request.Request.{Request}
 use Rattle.mega_outcome.specs.declared.request.Request.TheVariants.{Txn, Batch, Read, Find, PumpEnter, PumpHandle, Refresh}
@@ -13,13 +14,14 @@ use Rattle.mega_outcome.specs.Answers.{rows_at as versions_at}
 use Rattle.mega_outcome.specs.Outcome.{batch_outcome, outcome}
 use Rattle.mega_read.specs.declared.reading.Reading.{Reading}
 use Rattle.mega_rules.specs.Operations.{Now, Operation, Reads, Setting}
-use Rattle.mega_rules.specs.Acting.{batch_sealed, ends, finishes, rows_at, sealed}
+use Rattle.mega_rules.specs.Acting.{batch_sealed, ends, finishes, listed_at, rows_at, sealed}
 use Rattle.mega_node_laws.specs.About.{IsOf}
 use Rattle.mega_actions.specs.declared.came.Came.{Came}
 use Rattle.mega_actions.specs.declared.came.Came.TheVariants.{Alone, Batched}
-use Rattle.mega_actions.specs.Built.{is_built}
+use Rattle.mega_actions.specs.Built.{is_proposed}
 use Rattle.mega_actions.specs.Coming.{comes, sealed_by}
 use Rattle.mega_actions.specs.Sees.{Sees}
+use Rattle.mega_actions.specs.Showing.{shown}
 
 -- over the rows that are seen a request comes to what it does over the log
 pub sees_comes : (schema : Schema) (version : Versions) (group : GroupId) (p : ℕ) (now : Now) (request : Request) → IsOf request group → Sees schema version group p now
@@ -36,8 +38,22 @@ module _ (s : Setting) (again : Now → Operation → Now) (now : Now) (group : 
   abbrev one : Request → Operation
   one request = record { id = id; request = request; began = began; visited = visited; message = message; phase = Reads group r }
 
+  abbrev ends_by : Option Answer → Now
+  ends_by None = now
+  ends_by (Some answer) = ends now id answer
+
+  -- one that is answered by its rows ends so
+  pub answers_by : (request : Request) (answer : Answer) → shown s request p (rows_at now group p) (listed_at now group p) ≡ Some answer → finishes s again now (one request) group r p ≡ ends now id answer
+  answers_by (Txn transaction) answer is = cc
+  answers_by (Batch own transactions) answer is = cc
+  answers_by (Read request) answer is = ap ends_by is
+  answers_by (Find request) answer is = cc
+  answers_by PumpEnter answer is = cc
+  answers_by PumpHandle answer is = cc
+  answers_by Refresh answer is = cc
+
   -- a log that is full ends it
-  pub ends_full : (request : Request) → is_built request ≡ true → nat_le (s.cluster.limit).0 p ≡ true → finishes s again now (one request) group r p ≡ ends now id (LogFull (record { 0 = p }))
+  pub ends_full : (request : Request) → is_proposed request ≡ true → nat_le (s.cluster.limit).0 p ≡ true → finishes s again now (one request) group r p ≡ ends now id (LogFull (record { 0 = p }))
   ends_full (Txn transaction) built full = ap (λ (t : Bool). if t then ends now id (LogFull (record { 0 = p })) else sealed s now (one (Txn transaction)) group r p (outcome s.cluster.schema transaction (rows_at now group p))) full
   ends_full (Batch own transactions) built full =
       ap (λ (t : Bool). if t then ends now id (LogFull (record { 0 = p })) else batch_sealed s now (one (Batch own transactions)) group r p (batch_outcome s.cluster.schema own transactions (rows_at now group p))) full

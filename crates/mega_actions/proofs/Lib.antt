@@ -2,6 +2,7 @@ mod Refused
 mod Doing
 mod Standing
 mod Going
+mod Shown
 mod Onward
 mod Within
 mod InTurn

@@ -7,4 +7,5 @@ pub mod Built
 pub mod Faults
 pub mod Sees
 pub mod Coming
+pub mod Showing
 pub mod Turns

@@ -1,4 +1,4 @@
-//! An operation begins, with a current read of the group of its request.
+//! An operation begins: it is answered at once, or reads the group of its request.
 ghost use Rattle.std.specs.Prelude.{◌≡◌, IfOk, OnOk, Err, None, [], ◌∷◌, false, true};
 ghost use Rattle.mega_handler.specs.Named.{Meanings};
 ghost use Rattle.mega_leases.specs.Tells.{Tells as TellsLeases};
@@ -11,11 +11,13 @@ ghost use Rattle.mega_replica.specs.Following.{progress_at};
 ghost use Rattle.mega_replica.specs.Faring.{Fares};
 ghost use Rattle.mega_voter.specs.Telling.{Tells};
 ghost use Rattle.mega_actions.specs.declared.fault.ActFault.TheVariants.{Unbuilt};
-ghost use Rattle.mega_actions.specs.Built.{is_built};
+ghost use Rattle.mega_actions.specs.Built.{is_at_once, is_built};
 ghost use Rattle.mega_actions.specs.Faults.{failed_by};
 ghost use Rattle.mega_actions.specs.Stands.{Stands, setting};
 ghost use Rattle.mega_actions.specs.Working.{work_of};
 
+use crate::answering::{answer_now, is_answered, is_at_once};
+use crate::deed::{Deed, End};
 use crate::fault::ActFault;
 use crate::replica::Replica;
 use crate::work::Work;
@@ -59,6 +61,7 @@ fn group_of(alloc: Global, request: &Request) -> Result<GroupId, ActFault>
     match request {
         Request::Txn(txn) => Ok(txn.group.copy(alloc)?),
         Request::Batch(group, txns) if txns.len() <= 16 => Ok(group.copy(alloc)?),
+        Request::Read(read) if is_answered(request) => Ok(read.group.copy(alloc)?),
         _ => Err(ActFault::Unbuilt),
     }
 }
@@ -80,7 +83,8 @@ struct FirstRead {
 }
 
 impl<R: Records, V: Versions> Replica<R, V> {
-    /// A transaction or a batch begins: it reads its group, and goes on in the same step where that read is local.
+    /// A request begins: a read that asks for no current rows is answered at once; any other reads its group, and goes on in the same
+    /// step where that read is local.
     #[tactic(auto, using(mega_replica::proofs::Fared::fares_here, crate::proofs::Refused::fares_apart))]
     pub fn begins(
         &mut self,
@@ -94,6 +98,73 @@ impl<R: Records, V: Versions> Replica<R, V> {
             Stands (setting self.new.members self.new.me h) self.new.voter.logs.kept self.new.leases (V.version self.new.rows.rows) (progress_at self.new.rows.progress)
             (begins (setting self.old.members self.old.me h) now (new_operation op request (clock_of now.met))).met (begins (setting self.old.members self.old.me h) now (new_operation op request (clock_of now.met))).stored) }
         ensures work { OnOk result ((h : Meanings) (now : Now) → V.is_told ≡ true →
+            Stands (setting self.old.members self.old.me h) self.old.voter.logs.kept self.old.leases (V.version self.old.rows.rows) (progress_at self.old.rows.progress) now.met now.stored →
+            work.old ≡ work_of now → work.new ≡ work_of (begins (setting self.old.members self.old.me h) now (new_operation op request (clock_of now.met)))) }
+        ensures fares { Fares V.Versions (failed_by result) self.old.rows.rows self.new.rows.rows }
+        ensures members { self.new.members ≡ self.old.members }
+        ensures me { self.new.me ≡ self.old.me }
+        ensures voter { self.new.voter ≡ self.old.voter }
+        ensures unbuilt { result ≡ Err Unbuilt → is_built request ≡ false }
+    {
+        if is_at_once(&request) {
+            match self.answers_now(alloc, work, op, &request) {
+                Ok(()) => {
+                    drop(request);
+                    return Ok(());
+                }
+                Err(fault) => {
+                    drop(request);
+                    return Err(fault);
+                }
+            }
+        }
+        self.begins_read(alloc, work, op, request)?;
+        Ok(())
+    }
+
+    /// An operation that is answered at once.
+    fn answers_now(
+        &mut self,
+        alloc: Global,
+        work: &mut Work,
+        op: OpId,
+        request: &Request,
+    ) -> Result<(), ActFault>
+        ensures state { OnOk result ((h : Meanings) (now : Now) → V.is_told ≡ true → is_at_once request.now ≡ true →
+            Stands (setting self.old.members self.old.me h) self.old.voter.logs.kept self.old.leases (V.version self.old.rows.rows) (progress_at self.old.rows.progress) now.met now.stored →
+            Stands (setting self.new.members self.new.me h) self.new.voter.logs.kept self.new.leases (V.version self.new.rows.rows) (progress_at self.new.rows.progress)
+            (begins (setting self.old.members self.old.me h) now (new_operation op request.now (clock_of now.met))).met (begins (setting self.old.members self.old.me h) now (new_operation op request.now (clock_of now.met))).stored) }
+        ensures work { OnOk result ((h : Meanings) (now : Now) → V.is_told ≡ true → is_at_once request.now ≡ true →
+            Stands (setting self.old.members self.old.me h) self.old.voter.logs.kept self.old.leases (V.version self.old.rows.rows) (progress_at self.old.rows.progress) now.met now.stored →
+            work.old ≡ work_of now → work.new ≡ work_of (begins (setting self.old.members self.old.me h) now (new_operation op request.now (clock_of now.met)))) }
+        ensures fares { Fares V.Versions (failed_by result) self.old.rows.rows self.new.rows.rows }
+        ensures members { self.new.members ≡ self.old.members }
+        ensures me { self.new.me ≡ self.old.me }
+        ensures voter { self.new.voter ≡ self.old.voter }
+        ensures unbuilt { result ≡ Err Unbuilt → is_at_once request.now ≡ false }
+    {
+        let answer = answer_now(alloc, &self.members, &self.voter, &mut self.rows, request)?;
+        work.does(Deed {
+            sends: None,
+            end: End::Ends(op, answer),
+        })?;
+        Ok(())
+    }
+
+    /// An operation begins with a current read of its group.
+    #[tactic(auto, using(mega_replica::proofs::Fared::fares_here, crate::proofs::Refused::fares_apart))]
+    fn begins_read(
+        &mut self,
+        alloc: Global,
+        work: &mut Work,
+        op: OpId,
+        request: Request,
+    ) -> Result<(), ActFault>
+        ensures state { OnOk result ((h : Meanings) (now : Now) → V.is_told ≡ true → is_at_once request ≡ false →
+            Stands (setting self.old.members self.old.me h) self.old.voter.logs.kept self.old.leases (V.version self.old.rows.rows) (progress_at self.old.rows.progress) now.met now.stored →
+            Stands (setting self.new.members self.new.me h) self.new.voter.logs.kept self.new.leases (V.version self.new.rows.rows) (progress_at self.new.rows.progress)
+            (begins (setting self.old.members self.old.me h) now (new_operation op request (clock_of now.met))).met (begins (setting self.old.members self.old.me h) now (new_operation op request (clock_of now.met))).stored) }
+        ensures work { OnOk result ((h : Meanings) (now : Now) → V.is_told ≡ true → is_at_once request ≡ false →
             Stands (setting self.old.members self.old.me h) self.old.voter.logs.kept self.old.leases (V.version self.old.rows.rows) (progress_at self.old.rows.progress) now.met now.stored →
             work.old ≡ work_of now → work.new ≡ work_of (begins (setting self.old.members self.old.me h) now (new_operation op request (clock_of now.met)))) }
         ensures fares { Fares V.Versions (failed_by result) self.old.rows.rows self.new.rows.rows }

@@ -4,7 +4,7 @@ ghost use Rattle.mega_disk.specs.VersionMaps.{SameVersions};
 ghost use Rattle.mega_outcome.specs.Answers.{rows_at};
 ghost use Rattle.mega_replica.specs.Faring.{Fares};
 ghost use Rattle.mega_actions.specs.declared.fault.ActFault.TheVariants.{Unbuilt};
-ghost use Rattle.mega_actions.specs.Built.{is_built};
+ghost use Rattle.mega_actions.specs.Built.{is_proposed};
 ghost use Rattle.mega_actions.specs.Coming.{comes};
 ghost use Rattle.mega_actions.specs.Faults.{failed_by};
 
@@ -24,9 +24,9 @@ pub enum Came {
     Batched(Batch),
 }
 
-/// Whether a request is served: a transaction, or a batch of at most 16.
-pub(crate) fn is_built(request: &Request) -> bool
-    ensures { result ≡ is_built request.now }
+/// Whether a request is one whose entry is proposed: a transaction, or a batch of at most 16.
+pub(crate) fn is_proposed(request: &Request) -> bool
+    ensures { result ≡ is_proposed request.now }
 {
     match request {
         Request::Txn(_) => true,
@@ -47,7 +47,7 @@ pub(crate) fn comes_to<V: Versions>(
     ensures exact { IfOk result (λ came. V.is_told ≡ true → comes schema.now request.now (rows_at (V.version rows.old) position) ≡ Some came) }
     ensures versions { SameVersions (V.version rows.old) (V.version rows.new) }
     ensures fares { Fares V.Versions (failed_by result) rows.old rows.new }
-    ensures unbuilt { result ≡ Err Unbuilt → is_built request.now ≡ false }
+    ensures unbuilt { result ≡ Err Unbuilt → is_proposed request.now ≡ false }
 {
     match request {
         Request::Txn(txn) => {

@@ -1,4 +1,4 @@
-//! An operation whose read is complete proposes what its request comes to, or ends.
+//! An operation whose read is complete is answered, proposes what its request comes to, or ends.
 ghost use Rattle.std.specs.Prelude.{◌≡◌, ◌+◌, ◌<◌, ◌^◌, IfOk, true, false, nat_le, Err};
 ghost use Rattle.mega_disk.specs.VersionMaps.{SameVersions};
 ghost use Rattle.mega_handler.specs.Named.{Meanings};
@@ -9,7 +9,7 @@ ghost use Rattle.mega_rules.specs.Acting.{finishes};
 ghost use Rattle.mega_replica.specs.Faring.{Fares};
 ghost use Rattle.mega_voter.specs.Telling.{Tells};
 ghost use Rattle.mega_actions.specs.declared.fault.ActFault.TheVariants.{Unbuilt};
-ghost use Rattle.mega_actions.specs.Built.{is_built};
+ghost use Rattle.mega_actions.specs.Built.{is_answered, is_built, is_proposed};
 ghost use Rattle.mega_actions.specs.Coming.{sealed_by};
 ghost use Rattle.mega_actions.specs.Deeds.{does};
 ghost use Rattle.mega_actions.specs.Faults.{failed_by};
@@ -17,7 +17,8 @@ ghost use Rattle.mega_actions.specs.Reaching.{operation_of};
 ghost use Rattle.mega_actions.specs.Sees.{Sees};
 ghost use Rattle.mega_actions.specs.Stands.{setting};
 
-use crate::came::{Came, comes_to, is_built};
+use crate::answering::{answer_at, is_answered};
+use crate::came::{Came, comes_to, is_proposed};
 use crate::deed::Deed;
 use crate::fault::ActFault;
 use crate::reached::Reached;
@@ -37,8 +38,7 @@ fn is_limit(members: &Members, position: u64) -> bool
 }
 
 impl Reached {
-    /// The operation ends where the log has reached its limit, and else proposes what its request comes to over the rows.
-    #[tactic(auto, using(mega_replica::proofs::Fared::fares_here, crate::proofs::Refused::fares_unkept))]
+    /// The operation ends with the answer that its request has over the rows, or goes on to its own proposal.
     pub(crate) fn finishes<R: Records, V: Versions>(
         self,
         alloc: Global,
@@ -55,7 +55,58 @@ impl Reached {
         ensures fares { Fares V.Versions (failed_by result) rows.old rows.new }
         ensures unbuilt { result ≡ Err Unbuilt → is_built self.kept.request ≡ false }
     {
-        if !is_built(&self.kept.request) {
+        if is_answered(&self.kept.request) {
+            let deed = self.answers(alloc, members, rows)?;
+            return Ok(deed);
+        }
+        let deed = self.comes(alloc, members, voter, clock, rows)?;
+        Ok(deed)
+    }
+
+    /// The operation ends with the answer that its request has over the rows.
+    fn answers<V: Versions>(
+        self,
+        alloc: Global,
+        members: &Members,
+        rows: &mut V,
+    ) -> Result<Deed, ActFault>
+        ensures deed { IfOk result (λ deed. V.is_told ≡ true → (me : _) (h : Meanings) (now : Now) (again : Now → Operation → Now) →
+            Sees members.now.schema (V.version rows.old) self.group self.position now → IsOf self.kept.request self.group →
+            does now deed ≡ finishes (setting members.now me h) again now (operation_of self) self.group self.reading self.position) }
+        ensures versions { SameVersions (V.version rows.old) (V.version rows.new) }
+        ensures fares { Fares V.Versions (failed_by result) rows.old rows.new }
+        ensures unbuilt { result ≡ Err Unbuilt → is_answered self.kept.request ≡ false }
+    {
+        let schema = &members.cluster().schema;
+        let position = self.position;
+        match answer_at(alloc, schema, &self.kept.request, rows, position, position) {
+            Ok(answer) => Ok(self.ends(answer)),
+            Err(fault) => {
+                drop(self);
+                Err(fault)
+            }
+        }
+    }
+
+    /// The operation ends where the log has reached its limit, and else proposes what its request comes to over the rows.
+    #[tactic(auto, using(mega_replica::proofs::Fared::fares_here, crate::proofs::Refused::fares_unkept))]
+    fn comes<R: Records, V: Versions>(
+        self,
+        alloc: Global,
+        members: &Members,
+        voter: &Voter<R>,
+        clock: u64,
+        rows: &mut V,
+    ) -> Result<Deed, ActFault>
+        ensures deed { IfOk result (λ deed. V.is_told ≡ true → (me : _) (h : Meanings) (now : Now) (again : Now → Operation → Now) →
+            Tells voter.now.logs.kept now.met → clock ≡ clock_of now.met →
+            Sees members.now.schema (V.version rows.old) self.group self.position now → IsOf self.kept.request self.group →
+            does now deed ≡ finishes (setting members.now me h) again now (operation_of self) self.group self.reading self.position) }
+        ensures versions { SameVersions (V.version rows.old) (V.version rows.new) }
+        ensures fares { Fares V.Versions (failed_by result) rows.old rows.new }
+        ensures unbuilt { result ≡ Err Unbuilt → is_proposed self.kept.request ≡ false }
+    {
+        if !is_proposed(&self.kept.request) {
             drop(self);
             return Err(ActFault::Unbuilt);
         }

@@ -3,6 +3,7 @@
 #![tactic(auto)]
 
 mod acting;
+mod answering;
 mod beginning;
 mod came;
 mod completing;
@@ -17,6 +18,7 @@ mod replica;
 mod turning;
 mod work;
 
+pub use answering::is_built;
 pub use came::Came;
 pub use deed::{Deed, End};
 pub use fault::ActFault;

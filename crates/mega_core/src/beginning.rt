@@ -23,7 +23,7 @@ ghost use Rattle.mega_core.specs.Represents.{Represents};
 
 use crate::kinds::{kind_of, missing_kind};
 use crate::node::Node;
-use mega_actions::{ActFault, Deed, End, Replica, Work};
+use mega_actions::{ActFault, Deed, End, Replica, Work, is_built};
 use mega_base::{Items, NodeId, NodeKind, OpId};
 use mega_disk::{Records, Versions};
 use mega_operations::Operation;
@@ -76,17 +76,6 @@ fn at_open(alloc: Global, opened: Items<Operation>) -> Work
         valid: Items::new(alloc),
         answers: Items::new(alloc),
         sends: Items::new(alloc),
-    }
-}
-
-/// Whether a request is served.
-fn is_built(request: &Request) -> bool
-    ensures { result ≡ is_built request.now }
-{
-    match request {
-        Request::Txn(_) => true,
-        Request::Batch(_, txns) => txns.len() <= 16,
-        _ => false,
     }
 }
 

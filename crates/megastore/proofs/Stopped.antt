@@ -8,7 +8,7 @@ use Rattle.megastore.specs.declared.status.Stop.TheVariants.{Header, Schedule, R
 use Rattle.megastore.specs.LastLines.{last_line}
 use Rattle.megastore.specs.Known.{InputBegun, InputBroken, InputCut, InputNoEvent, InputRefused, InputUnbuilt}
 use Rattle.megastore.specs.Progress.{Writes, WritesFront}
-use Rattle.megastore.specs.Statuses.{IsStatus, status_of}
+use Rattle.megastore.specs.Statuses.{IsReplayStatus, status_of}
 use Rattle.megastore.specs.Stops.{IsTold}
 use Rattle.megastore.proofs.Said.{begun_front, begun_held, broken_front, none_front, refused_front, unbuilt_front}
 
@@ -84,11 +84,11 @@ sink_by (Unbuilt line) is = absurd (omega arith)
 sink_by Source is = absurd (omega arith)
 sink_by NoMemory is = absurd (omega arith)
 
-pub status_known : (stop : Stop) → IsStatus (status_of stop)
-status_known (Header rule) = inr (inr (inl refl))
-status_known (Schedule line reason) = inr (inr (inr (inl refl)))
-status_known (Refused line why) = inr (inr (inr (inl refl)))
-status_known (Unbuilt line) = inr (inr (inr (inr (inl refl))))
-status_known Source = inr (inr (inr (inr (inr (inl refl)))))
-status_known Sink = inr (inr (inr (inr (inr (inr (inl refl))))))
-status_known NoMemory = inr (inr (inr (inr (inr (inr (inr refl))))))
+pub status_known : (stop : Stop) → IsReplayStatus (status_of stop)
+status_known (Header rule) = inr (inl refl)
+status_known (Schedule line reason) = inr (inr (inl refl))
+status_known (Refused line why) = inr (inr (inl refl))
+status_known (Unbuilt line) = inr (inr (inr (inl refl)))
+status_known Source = inr (inr (inr (inr (inl refl))))
+status_known Sink = inr (inr (inr (inr (inr (inl refl)))))
+status_known NoMemory = inr (inr (inr (inr (inr (inr refl)))))

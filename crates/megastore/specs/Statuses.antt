@@ -1,13 +1,7 @@
--- The words of the program and the statuses with which it ends.
-use Rattle.std.specs.Prelude.{◌≡◌, ◌⊎◌, ℕ, Bool, false, nat_eq, codes, List, [], ◌∷◌}
-use Rattle.std.specs.Cmp.Lexicographic.{pointwise}
+-- The statuses with which the program ends.
+use Rattle.std.specs.Prelude.{◌≡◌, ◌⊎◌, ℕ}
 use Rattle.megastore.specs.declared.status.Stop.{Stop}
 use Rattle.megastore.specs.declared.status.Stop.TheVariants.{Header, Schedule, Refused, Unbuilt, Source, Sink, NoMemory}
-
--- the one form of words that the program has
-abbrev pub is_form : List (List ℕ) → Bool
-is_form (word ∷ []) = pointwise nat_eq word (codes "replay")
-is_form _ = false
 
 -- the status of a stop
 abbrev pub status_of : Stop → ℕ
@@ -23,6 +17,14 @@ status_of (Unbuilt line) = 11
 abbrev pub IsCutStatus : ℕ → Type 0
 IsCutStatus status = (status ≡ 5) ⊎ (status ≡ 6) ⊎ (status ≡ 8)
 
+-- the statuses with which a replay ends
+abbrev pub IsReplayStatus : ℕ → Type 0
+IsReplayStatus status = (status ≡ 0) ⊎ (status ≡ 3) ⊎ (status ≡ 4) ⊎ (status ≡ 11) ⊎ IsCutStatus status
+
+-- the statuses with which a drawing of lines ends
+abbrev pub IsDrawn : ℕ → Type 0
+IsDrawn status = (status ≡ 0) ⊎ (status ≡ 6) ⊎ (status ≡ 8)
+
 -- the statuses with which the program ends
 abbrev pub IsStatus : ℕ → Type 0
-IsStatus status = (status ≡ 0) ⊎ (status ≡ 2) ⊎ (status ≡ 3) ⊎ (status ≡ 4) ⊎ (status ≡ 11) ⊎ IsCutStatus status
+IsStatus status = (status ≡ 2) ⊎ IsReplayStatus status

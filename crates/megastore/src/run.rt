@@ -1,18 +1,23 @@
 //! The top call: its words, the transcript that it writes, and its status.
-ghost use Rattle.std.specs.Prelude.{◌≡◌, ◌≤◌, ◌⊎◌, ◌++◌, ℕ, List, true, false, Ok, Err, OnOk, OnErr};
+ghost use Rattle.std.specs.Prelude.{◌≡◌, ◌≤◌, ◌⊎◌, ◌++◌, ℕ, List, Some, None, Ok, Err, OnOk, OnErr};
 ghost use Rattle.std.specs.Io.KnownBytes.{Appends, IsAtEnd};
 ghost use Rattle.mega_base.specs.Causes.{Rose};
 ghost use Rattle.mega_io.specs.Pieces.{AppendsFront};
 ghost use Rattle.megastore.specs.LastLines.{header_line, schedule_line, refused_line, unbuilt_line, last_line, usage_line};
 ghost use Rattle.megastore.specs.Known.{InputDone, InputBegun, InputBroken, InputNoEvent, InputRefused, InputUnbuilt, InputCut};
-ghost use Rattle.megastore.specs.Statuses.{is_form, IsStatus, IsCutStatus};
+ghost use Rattle.megastore.specs.Statuses.{IsCutStatus, IsDrawn, IsReplayStatus, IsStatus};
+ghost use Rattle.mega_gen.specs.Generated.{generated};
+ghost use Rattle.mega_words.specs.Commands.{command_of};
+ghost use Rattle.mega_words.specs.declared.command.Command.TheVariants.{Gen, Replay};
 ghost use Rattle.megastore.specs.Stops.{IsTold, IsWriteStop};
 
 use crate::replay::replay;
 use crate::status::Stop;
 use crate::writing::write_on;
 use mega_base::{Bytes, Text};
+use mega_gen::generate;
 use mega_io::{Sink, SinkError, Source, put};
+use mega_words::{Command, command_of};
 use std::alloc::Global;
 
 /// What the program says where its words are no form.
@@ -20,32 +25,71 @@ const USAGE: &str =
     "usage: megastore replay [--summary] | gen --seed S --count N --nodes K | node --number K --turns T\n";
 
 /// Runs the program on its words, and gives the status with which it ends: 0 where the input was read
-/// to its end and every line was an event that happened; 2 where the words are no form; 3 where the
+/// to its end and every line was an event that happened, or where all lines were drawn; 2 where the words are no form; 3 where the
 /// header breaks a rule; 4 where a line is no event, or its event is refused; 5 and 6 where the source
 /// or the sink failed; 8 for want of memory; 11 where a line is not served yet. With 0 the
 /// text of all lines was written; with 3, 4 and 11 that of what came before, and then the last line;
 /// with 5 that of the lines that were done, where the sink took it; with 6 and 8 a front of such a text.
 pub fn run<I: Source, O: Sink>(alloc: Global, words: &[Text], input: &mut I, out: &mut O) -> u8
-    ensures unformed { result ≡ 2 → is_form words.now ≡ false }
-    ensures no_form { is_form words.now ≡ false → (result ≡ 2) ⊎ (result ≡ 8) }
+    ensures unformed { result ≡ 2 → command_of words.now ≡ None }
+    ensures no_form { command_of words.now ≡ None → (result ≡ 2) ⊎ (result ≡ 8) }
     ensures used { result ≡ 2 → Appends (O.held out.old) (O.held out.new) usage_line ⊎ Rose (O.faults out.old) (O.faults out.new) }
-    ensures usage { is_form words.now ≡ false → AppendsFront (O.held out.old) (O.held out.new) usage_line }
-    ensures done { result ≡ 0 → InputDone (I.left input.old) (Appends (O.held out.old) (O.held out.new)) }
-    ensures end { result ≡ 0 → IsAtEnd (I.left input.new) }
+    ensures usage { command_of words.now ≡ None → AppendsFront (O.held out.old) (O.held out.new) usage_line }
+    ensures drawn { (seed count nodes : ℕ) → command_of words.now ≡ Some (Gen seed count nodes) → result ≡ 0 → Appends (O.held out.old) (O.held out.new) (generated seed count nodes) }
+    ensures drawing { (seed count nodes : ℕ) → command_of words.now ≡ Some (Gen seed count nodes) → IsDrawn result × AppendsFront (O.held out.old) (O.held out.new) (generated seed count nodes) }
+    ensures unread { (seed count nodes : ℕ) → command_of words.now ≡ Some (Gen seed count nodes) → input.new ≡ input.old }
+    ensures done { command_of words.now ≡ Some Replay → result ≡ 0 → InputDone (I.left input.old) (Appends (O.held out.old) (O.held out.new)) }
+    ensures end { command_of words.now ≡ Some Replay → result ≡ 0 → IsAtEnd (I.left input.new) }
     ensures header { result ≡ 3 → (rule : ℕ) × InputBroken (I.left input.old) rule (λ text. Appends (O.held out.old) (O.held out.new) (text ++ header_line rule)) }
     ensures refused { result ≡ 4 → ((line : ℕ) × (reason : ℕ) × InputNoEvent (I.left input.old) line reason (λ text. Appends (O.held out.old) (O.held out.new) (text ++ schedule_line line reason))) ⊎ ((line : ℕ) × (why : ℕ) × InputRefused (I.left input.old) line why (λ text. Appends (O.held out.old) (O.held out.new) (text ++ refused_line line why))) }
     ensures unbuilt { result ≡ 11 → (line : ℕ) × InputUnbuilt (I.left input.old) line (λ text. Appends (O.held out.old) (O.held out.new) (text ++ unbuilt_line line)) }
     ensures broken { result ≡ 5 → InputBegun (I.left input.old) (Appends (O.held out.old) (O.held out.new)) ⊎ Rose (O.faults out.old) (O.faults out.new) }
-    ensures cut { is_form words.now ≡ true → IsCutStatus result → InputCut (I.left input.old) (AppendsFront (O.held out.old) (O.held out.new)) }
+    ensures cut { command_of words.now ≡ Some Replay → IsCutStatus result → InputCut (I.left input.old) (AppendsFront (O.held out.old) (O.held out.new)) }
     ensures source { result ≡ 5 → Rose (I.faults input.old) (I.faults input.new) }
     ensures sink { result ≡ 6 → Rose (O.faults out.old) (O.faults out.new) }
     ensures only { IsStatus result }
     ensures inputs { I.faults input.old ≤ I.faults input.new }
     ensures outs { O.faults out.old ≤ O.faults out.new }
 {
-    if !is_form(words) {
-        return tell_usage(out);
+    match command_of(words) {
+        None => tell_usage(out),
+        Some(Command::Gen { seed, count, nodes }) => draw(alloc, seed, count, nodes, out),
+        Some(Command::Replay) => replay_all(alloc, input, out),
     }
+}
+
+/// Writes the schedule that is drawn from a seed, and gives the status with which the program then ends.
+fn draw<O: Sink>(alloc: Global, seed: u64, count: u64, nodes: u8, out: &mut O) -> u8
+    requires first { 1 ≤ nodes }
+    requires last { nodes ≤ 9 }
+    ensures whole { result ≡ 0 → Appends (O.held out.old) (O.held out.new) (generated seed count nodes) }
+    ensures front { AppendsFront (O.held out.old) (O.held out.new) (generated seed count nodes) }
+    ensures only { IsDrawn result }
+    ensures sink { result ≡ 6 → Rose (O.faults out.old) (O.faults out.new) }
+    ensures count { O.faults out.old ≤ O.faults out.new }
+{
+    match generate(alloc, seed, count, nodes, out) {
+        Ok(()) => 0,
+        Err(SinkError::Failed) => 6,
+        Err(SinkError::NoMemory) => 8,
+    }
+}
+
+/// Replays the input, and gives the status with which the program then ends.
+fn replay_all<I: Source, O: Sink>(alloc: Global, input: &mut I, out: &mut O) -> u8
+    ensures done { result ≡ 0 → InputDone (I.left input.old) (Appends (O.held out.old) (O.held out.new)) }
+    ensures end { result ≡ 0 → IsAtEnd (I.left input.new) }
+    ensures header { result ≡ 3 → (rule : ℕ) × InputBroken (I.left input.old) rule (λ text. Appends (O.held out.old) (O.held out.new) (text ++ header_line rule)) }
+    ensures refused { result ≡ 4 → ((line : ℕ) × (reason : ℕ) × InputNoEvent (I.left input.old) line reason (λ text. Appends (O.held out.old) (O.held out.new) (text ++ schedule_line line reason))) ⊎ ((line : ℕ) × (why : ℕ) × InputRefused (I.left input.old) line why (λ text. Appends (O.held out.old) (O.held out.new) (text ++ refused_line line why))) }
+    ensures unbuilt { result ≡ 11 → (line : ℕ) × InputUnbuilt (I.left input.old) line (λ text. Appends (O.held out.old) (O.held out.new) (text ++ unbuilt_line line)) }
+    ensures broken { result ≡ 5 → InputBegun (I.left input.old) (Appends (O.held out.old) (O.held out.new)) ⊎ Rose (O.faults out.old) (O.faults out.new) }
+    ensures cut { IsCutStatus result → InputCut (I.left input.old) (AppendsFront (O.held out.old) (O.held out.new)) }
+    ensures source { result ≡ 5 → Rose (I.faults input.old) (I.faults input.new) }
+    ensures sink { result ≡ 6 → Rose (O.faults out.old) (O.faults out.new) }
+    ensures only { IsReplayStatus result }
+    ensures inputs { I.faults input.old ≤ I.faults input.new }
+    ensures outs { O.faults out.old ≤ O.faults out.new }
+{
     match transcribe(alloc, input, out) {
         Ok(()) => 0,
         Err(stop) => stop.status(),
@@ -124,15 +168,5 @@ fn first_met(stop: Stop, fault: Stop) -> Stop
         (Stop::Source, Stop::Sink) => stop,
         (Stop::Sink, _) => stop,
         _ => fault,
-    }
-}
-
-/// Whether the words are a form that the program has: `replay` alone.
-fn is_form(words: &[Text]) -> bool
-    ensures { result ≡ is_form words.now }
-{
-    match words {
-        [only] => only.as_str() == "replay",
-        _ => false,
     }
 }

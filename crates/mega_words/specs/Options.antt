@@ -1,0 +1,63 @@
+-- The options of `gen`, as words.
+use Rattle.std.specs.Prelude.{ℕ, ◌≤◌, IfSome, ◌==◌, ◌||◌, Bool, nat_eq, if◌then◌else◌, codes, List, [], ◌∷◌, Option, Some, None, is_some, option_map, option_and_then}
+use Rattle.std.specs.Cmp.Lexicographic.{pointwise}
+use Rattle.mega_words.specs.declared.option.Name.{Name}
+use Rattle.mega_words.specs.declared.option.Name.TheVariants.{Seed, Count, Nodes}
+use Rattle.mega_words.specs.declared.option.Options.{Options}
+use Rattle.mega_words.specs.Numbers.{number_in}
+
+-- no option yet
+abbrev pub none_yet : Options
+none_yet = record { seed = None; count = None; nodes = None }
+
+-- a number of nodes that a cluster may have
+abbrev pub AreNodes : Option ℕ → Type 0
+AreNodes nodes = IfSome nodes (λ n. (1 ≤ n) × (n ≤ 9))
+
+-- how an option is written
+abbrev pub text_of : Name → List ℕ
+text_of Seed = codes "--seed"
+text_of Count = codes "--count"
+text_of Nodes = codes "--nodes"
+
+-- what stands in a word behind a name and `=`
+abbrev pub behind : List ℕ → List ℕ → Option (List ℕ)
+behind [] [] = None
+behind [] (byte ∷ word) = if byte == 61 then Some word else None
+behind (first ∷ name) [] = None
+behind (first ∷ name) (byte ∷ word) = if first == byte then behind name word else None
+
+-- a word is a name, or a name and `=` and more
+abbrev pub is_named : List ℕ → List ℕ → Bool
+is_named name word = pointwise nat_eq word name || is_some (behind name word)
+
+abbrev pub name_of : List ℕ → Option Name
+name_of word =
+    if is_named (text_of Seed) word then Some Seed
+    else if is_named (text_of Count) word then Some Count
+    else if is_named (text_of Nodes) word then Some Nodes
+    else None
+
+abbrev pub first_time : Option ℕ → Option ℕ → Option ℕ
+first_time (Some before) number = None
+first_time None number = number
+
+-- the options with one more, where it comes for the first time and its value is in its range
+abbrev pub with_value : Options → Name → List ℕ → Option Options
+with_value found Seed value = option_map (λ seed. record found { seed = Some seed }) (first_time found.seed (number_in 0 18446744073709551615 value))
+with_value found Count value = option_map (λ count. record found { count = Some count }) (first_time found.count (number_in 1 1000000 value))
+with_value found Nodes value = option_map (λ nodes. record found { nodes = Some nodes }) (first_time found.nodes (number_in 1 9 value))
+
+-- a value behind `=` is taken at once, else the option waits for the next word
+abbrev pub valued : Option (List ℕ) → (List ℕ → Option Options) → Option Options → Option Options
+valued None joined next = next
+valued (Some value) joined next = joined value
+
+-- the options after more words, of which the first is the value of an option that waits
+abbrev pub read_on : Option Name → Options → List (List ℕ) → Option Options
+read_on None found [] = Some found
+read_on (Some name) found [] = None
+read_on (Some name) found (word ∷ words) = option_and_then (λ more. read_on None more words) (with_value found name word)
+read_on None found (word ∷ words) =
+    option_and_then (λ name. valued (behind (text_of name) word) (λ value. option_and_then (λ more. read_on None more words) (with_value found name value)) (read_on (Some name) found words))
+    (name_of word)

@@ -1,0 +1,9 @@
+//! The words of the program: a command, and then each of its options once.
+#![tactic(auto)]
+
+mod command;
+mod number;
+mod option;
+pub mod worked;
+
+pub use command::{Command, command_of};
