@@ -19,4 +19,4 @@ pub mod Refused
 pub mod Failing
 pub mod Untouched
 pub mod Watched
-pub mod Restarted
+pub mod Anew

@@ -66,7 +66,7 @@ pub struct Restarted<R: Records, V: Versions> {
 }
 
 /// Notes a start, and gives its number.
-#[tactic(auto, using(crate::proofs::Restarted::owed_no_start))]
+#[tactic(auto, using(crate::proofs::Anew::owed_no_start))]
 fn begins<R: Records>(alloc: Global, voter: &mut Voter<R>) -> Result<u32, RestartFault>
     ensures told { OnOk result ((starts : ℕ) (met owed : List Met) → AreOwed owed met → Recalls voter.old.logs.kept starts (onto owed met) → Tells voter.new.logs.kept (onto owed (Starts (starts + 1) ∷ met))) }
     ensures number { IfOk result (λ start. start ≡ voter.old.logs.kept.starts + 1) }
@@ -217,6 +217,7 @@ impl<R: Records + Drop, V: Versions + Drop> Node<R, V> {
         ensures notes { IfOk result (λ made. (h : Meanings) (starts : ℕ) (met owed : List Met) → AreOwed owed met → Recalls voter.logs.kept starts (onto owed met) →
             map met_of made.notes ≡ start_notes (setting cluster me h) (onto owed (Starts (starts + 1) ∷ met))) }
         ensures number { IfOk result (λ made. made.start ≡ voter.logs.kept.starts + 1) }
+        ensures few { OnOk result (voter.logs.kept.starts < 4294967295) }
         ensures staged { IfOk result (λ made. made.node.replica.voter.logs.staged.items ≡ voter.logs.staged.items ++ StartItem ∷ []) }
         ensures records { IfOk result (λ made. made.node.replica.voter.logs.records ≡ voter.logs.records) }
         ensures members { IfOk result (λ made. made.node.replica.members ≡ cluster) }

@@ -6,7 +6,7 @@ use Rattle.mega_replica.specs.Stored.{stored_with}
 use Rattle.mega_rules.specs.Logs.{log_of}
 use Rattle.mega_voter.specs.Journal.{journal_of}
 use Rattle.mega_node_laws.proofs.Logs.{log_is}
-use Rattle.mega_core.proofs.Restarted.{read_all}
+use Rattle.mega_core.proofs.Anew.{read_all}
 use Rattle.mega_core.proofs.restarting.apply.Goals as goal
 
 pub returns-in-Ok-clause-follows : goal.returns-in-Ok-clause-follows

@@ -7,7 +7,7 @@ use Rattle.mega_rules.specs.Steps.{start_note}
 use Rattle.mega_replica.specs.Following.{progress_at}
 use Rattle.mega_core.specs.Notes.{met_of}
 use Rattle.mega_core.proofs.Left.{nothing_left, one_less}
-use Rattle.mega_core.proofs.Restarted.{AppliedSo, applied_first, applied_last, applied_next, noted}
+use Rattle.mega_core.proofs.Anew.{AppliedSo, applied_first, applied_last, applied_next, noted}
 use Rattle.mega_core.proofs.restarting.apply_all.Goals as goal
 
 pub loop-group-init : goal.loop-group-init

@@ -6,7 +6,7 @@ use Rattle.mega_rules.specs.Steps.{start_note}
 use Rattle.mega_voter.specs.Telling.{Tells}
 use Rattle.mega_replica.specs.Following.{Follows, progress_at}
 use Rattle.mega_core.specs.Notes.{met_of}
-use Rattle.mega_core.proofs.Restarted.{AppliedSo}
+use Rattle.mega_core.proofs.Anew.{AppliedSo}
 use Rattle.mega_core.proofs.restarting.apply_all.Given as goal
 
 abbrev pub invariant-loop-group : goal.invariant-loop-group

@@ -3,7 +3,7 @@ use Rattle.mega_locks.specs.History.{nodes}
 use Rattle.mega_rules.specs.Locks.{last_grant}
 use Rattle.mega_rules.specs.Met.{Met, Starts}
 use Rattle.mega_rules.specs.Steps.{onto}
-use Rattle.mega_core.proofs.Restarted.{grant_on}
+use Rattle.mega_core.proofs.Anew.{grant_on}
 use Rattle.mega_core.proofs.restarting.leases.Goals as goal
 
 pub start-requires-clause-cells : goal.start-requires-clause-cells

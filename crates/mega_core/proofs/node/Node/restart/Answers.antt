@@ -9,7 +9,7 @@ use Rattle.mega_voter.specs.Telling.{Tells}
 use Rattle.mega_actions.specs.Stands.{setting}
 use Rattle.mega_core.specs.Represents.{Represents}
 use Rattle.mega_core.specs.Restarting.{applied_at_start}
-use Rattle.mega_core.proofs.Restarted.{restarted}
+use Rattle.mega_core.proofs.Anew.{restarted}
 use Rattle.mega_core.proofs.node.Node.restart.Goals as goal
 
 pub returns-clause-state : goal.returns-clause-state

@@ -152,7 +152,7 @@ each_quiet : (met : List Met) (groups : List GroupId) → All IsQuiet (flat_map 
 each_quiet met [] = All-nil IsQuiet
 each_quiet met (group ∷ groups) = All-append IsQuiet (start_note met group) (flat_map (start_note met) groups) (note_quiet met group) (each_quiet met groups)
 
-notes_quiet : (s : Setting) (met : List Met) → All IsQuiet (start_notes s met)
+pub notes_quiet : (s : Setting) (met : List Met) → All IsQuiet (start_notes s met)
 notes_quiet s met = by (has_rows s.cluster s.me)
   where
     by : (t : Bool) → All IsQuiet (cond t (flat_map (start_note met) (groups_of met)) [])
