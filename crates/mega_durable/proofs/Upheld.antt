@@ -37,8 +37,8 @@ own_noted s node (Begin request text) = refl
 pub step_few : (s : Setting) (node : Node) (event : Event) (staged : List JournalItem) → Stages staged node.met (step s node event).node.met → length staged ≤ 1000
 step_few s node event staged stages =
     let few = staged_few staged node.met (step s node event).node.met 11 stages
-        (subst (λ (met : List Met). length (journal_of met) ≤ 11 + length (journal_of node.met)) (sym (step_met s node event))
-        (made_few (step s node event) (replies_in s.cluster s.me node.met event) (own_item s node event) node.met (step_parts s node event) (one_reply_in s.cluster s.me node.met event) (own_silent s node event))) in
+    (subst (λ (met : List Met). length (journal_of met) ≤ 11 + length (journal_of node.met)) (sym (step_met s node event))
+    (made_few (step s node event) (replies_in s.cluster s.me node.met event) (own_item s node event) node.met (step_parts s node event) (one_reply_in s.cluster s.me node.met event) (own_silent s node event))) in
     within (length staged) few
   where
     within : (n : ℕ) → n ≤ 11 → n ≤ 1000
@@ -83,7 +83,7 @@ as_it_was s node event found holds =
 
 pub left_by_record : (s : Setting) (node : Node) (event : Event) (staged : List JournalItem) (found : List (List ℕ)) → Stages staged node.met (step s node event).node.met
     → HoldsMet found (start_of node.met) node.met
-        ⊎ HoldsMet found (starts_after staged (start_of node.met)) (onto (owes (step s node event) (replies_in s.cluster s.me node.met event)) (Crashes ∷ own_item s node event ∷ node.met))
+    ⊎ HoldsMet found (starts_after staged (start_of node.met)) (onto (owes (step s node event) (replies_in s.cluster s.me node.met event)) (Crashes ∷ own_item s node event ∷ node.met))
     → MayLeave s node event found
 left_by_record s node event staged found stages (inl holds) = as_it_was s node event found holds
 left_by_record s node event staged found stages (inr holds) = (Recorded, subst (λ (n : ℕ). HoldsMet found n (cut_met s node event)) (none_started staged (start_of node.met) stages.plain) holds)

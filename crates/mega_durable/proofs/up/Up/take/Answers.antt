@@ -17,13 +17,13 @@ use Rattle.mega_durable.proofs.Appending.{step_appends}
 use Rattle.mega_durable.proofs.Upheld.{as_it_was, leaves_same, leaves_weaker, left_by_record, step_cut, step_each, step_few, step_goes, step_holds}
 use Rattle.mega_durable.proofs.up.Up.take.Goals as goal
 
-pub keep-requires-few : goal.keep-requires-few
-keep-requires-few g c =
+pub keep-requires-clause-few : goal.keep-requires-clause-few
+keep-requires-clause-few g c =
     let told = c.requires.known.0 in
     let h = c.requires.known.1.0 in
     let node = c.requires.known.1.1.0 in
-    let up = c.requires.known.1.1.1.0 in
-    let may = c.requires.known.1.1.1.1 in
+    let up = c.requires.known.1.1.1 in
+    let may = c.requires.known.1.1.2 in
     let old = c.args.self.now.node.replica in
     let s = setting old.members old.me h in
     let event = Take c.args.message.now in
@@ -31,13 +31,13 @@ keep-requires-few g c =
     let staged = c.take.new.self.replica.voter.logs.staged.items in
     step_few s node event staged stages
 
-pub keep-requires-each : goal.keep-requires-each
-keep-requires-each g c =
+pub keep-requires-clause-each : goal.keep-requires-clause-each
+keep-requires-clause-each g c =
     let told = c.requires.known.0 in
     let h = c.requires.known.1.0 in
     let node = c.requires.known.1.1.0 in
-    let up = c.requires.known.1.1.1.0 in
-    let may = c.requires.known.1.1.1.1 in
+    let up = c.requires.known.1.1.1 in
+    let may = c.requires.known.1.1.2 in
     let old = c.args.self.now.node.replica in
     let s = setting old.members old.me h in
     let event = Take c.args.message.now in
