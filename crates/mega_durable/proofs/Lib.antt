@@ -3,3 +3,4 @@ pub mod Cutting
 pub mod Going
 pub mod Upheld
 pub mod Appending
+pub mod AtStart

@@ -7,10 +7,12 @@ use Rattle.mega_handler.specs.Named.{Meanings}
 use Rattle.mega_wal.specs.Items.{IsItem}
 use Rattle.mega_rules.specs.Clock.{start_of}
 use Rattle.mega_rules.specs.Logs.{log_of}
-use Rattle.mega_rules.specs.Met.{Crashes}
+use Rattle.mega_rules.specs.Met.{Met, Crashes}
 use Rattle.mega_rules.specs.Operations.{Node as RuleNode, Setting}
 use Rattle.mega_rules.specs.Steps.{Begin, Event, Take, Tick, onto, step}
-use Rattle.mega_voter.specs.Holding.{HoldsMet}
+use Rattle.mega_leases.specs.Opening.{AreOwed}
+use Rattle.mega_voter.specs.declared.voter.Voter.{Voter}
+use Rattle.mega_voter.specs.Holding.{HoldsMet, Recalls}
 use Rattle.mega_voter.specs.Journal.{journal_of}
 use Rattle.mega_node_laws.specs.Acted.{acted_on, decision_in, own_item}
 use Rattle.mega_node_laws.specs.Own.{HasOwnRows}
@@ -46,3 +48,10 @@ HoldsCut s node event found left =
 -- what a crash at some moment of a step may leave
 abbrev pub MayLeave : Setting → RuleNode → Event → List (List ℕ) → Type 0
 MayLeave s node event found = (left : Left) × HoldsCut s node event found left
+
+-- logs over which a node may start: they recall what it met and owes, their records are open and hold it
+pub record MayStart {R : Type 0} (store : Ghosts R) (voter : Voter R) (starts : ℕ) (met owed : List Met) : Type 0 where
+  pub owes : AreOwed owed met
+  pub recalls : Recalls voter.logs.kept starts (onto owed met)
+  pub ready : store.is_spent voter.logs.records ≡ false
+  pub holds : HoldsMet (store.list voter.logs.records) starts (onto owed met)

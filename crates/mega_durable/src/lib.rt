@@ -3,7 +3,9 @@
 
 mod fault;
 mod keeping;
+mod starting;
 mod up;
 
 pub use fault::UpFault;
+pub use starting::{NotStarted, Started};
 pub use up::Up;
