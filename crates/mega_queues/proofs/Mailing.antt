@@ -1,5 +1,5 @@
 -- The mail of a log with one entry more.
-use Rattle.std.proofs.Common.{◌≡◌, ◌∙◌, ap, sym, refl, ◌||◌, Bool, true, false, cond, List, [], ◌∷◌, ◌++◌, append-nil}
+use Rattle.std.proofs.Common.{◌≡◌, ◌∙◌, ap, sym, refl, ◌||◌, Bool, true, false, cond, List, [], ◌∷◌, ◌++◌, length, arith, append-nil}
 use Rattle.std.specs.Prelude.{Option, Some, None, map, not, filter, find, flat_map}
 use Rattle.std.specs.List.{list_any}
 use Rattle.std.proofs.lemmas.Grind.{flat_map-append}
@@ -19,17 +19,18 @@ use Rattle.mega_queues.specs.Mail.{Mail, first_of, is_left, mail_of, no_mail, on
 pub filter_twice : {A : Type 0} (p q r : A → Bool) → ((x : A) → cond (q x) (p x) false ≡ r x) → (xs : List A) → filter p (filter q xs) ≡ filter r xs
 filter_twice p q r same [] = refl
 filter_twice p q r same (x ∷ xs) = go (q x) (same x) (filter_twice p q r same xs)
-  where    go : (b : Bool) → cond b (p x) false ≡ r x → filter p (filter q xs) ≡ filter r xs → filter p (cond b (x ∷ filter q xs) (filter q xs)) ≡ cond (r x) (x ∷ filter r xs) (filter r xs)
+  where
+    go : (b : Bool) → cond b (p x) false ≡ r x → filter p (filter q xs) ≡ filter r xs → filter p (cond b (x ∷ filter q xs) (filter q xs)) ≡ cond (r x) (x ∷ filter r xs) (filter r xs)
     go true e rest = λ i. cond (e i) (x ∷ rest i) (rest i)
     go false e rest = rest ∙ ap (λ t. cond t (x ∷ filter r xs) (filter r xs)) e
 
 pub filter_append : {A : Type 0} (p : A → Bool) (xs ys : List A) → filter p (xs ++ ys) ≡ filter p xs ++ filter p ys
 filter_append p [] ys = refl
-filter_append p (x ∷ xs) ys = go (p x)
+filter_append p (x ∷ xs) ys = go (p x) (filter_append p xs ys)
   where
-    go : (b : Bool) → cond b (x ∷ filter p (xs ++ ys)) (filter p (xs ++ ys)) ≡ cond b (x ∷ filter p xs) (filter p xs) ++ filter p ys
-    go true = ap (λ l. x ∷ l) (filter_append p xs ys)
-    go false = filter_append p xs ys
+    go : (b : Bool) → filter p (xs ++ ys) ≡ filter p xs ++ filter p ys → cond b (x ∷ filter p (xs ++ ys)) (filter p (xs ++ ys)) ≡ cond b (x ∷ filter p xs) (filter p xs) ++ filter p ys
+    go true rest = ap (λ l. x ∷ l) rest
+    go false rest = rest
 
 pub filter_alike : {A : Type 0} (p q : A → Bool) → ((x : A) → p x ≡ q x) → (xs : List A) → filter p xs ≡ filter q xs
 filter_alike p q same xs = ap (λ f. filter f xs) (λ i x. same x i)
@@ -95,6 +96,10 @@ first_found p (x ∷ xs) = go (p x) (first_found p xs)
 pub none_left_out : (xs : List Enter) → filter (is_left []) xs ≡ xs
 none_left_out [] = refl
 none_left_out (x ∷ xs) = ap (λ l. x ∷ l) (none_left_out xs)
+
+pub none_waits : (handled : List Name) (xs : List Enter) → length handled ≡ 0 → xs ≡ filter (is_left handled) xs
+none_waits [] xs none = sym (none_left_out xs)
+none_waits (name ∷ names) xs none = absurd (omega (arith, none))
 
 pub only_then : (p : Enter → Bool) (b : Bool) (x : Enter) (xs : List Enter) → p x ≡ b → only_if b x ++ filter p xs ≡ filter p (x ∷ xs)
 only_then p true x xs e = ap (λ t. cond t (x ∷ filter p xs) (filter p xs)) (sym e)

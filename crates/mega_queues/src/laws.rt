@@ -13,12 +13,10 @@ ghost use Rattle.mega_queues.specs.Mail.{mail_of, no_mail, with_entry};
 pub fn pumps_pick_among_applied_logs()
     ensures logs { (now : Now) → applied_logs now ≡ logs_of (applied_of now) (groups_of now.met) }
     ensures all { (now : Now) → AreAll (applied_of now) (groups_of now.met) }
-{
-}
+{}
 
 /// A mailbox that takes in the entries of a log one after another shows the mail of the log.
 pub fn mailboxes_follow_logs()
     ensures begun { no_mail ≡ mail_of [] }
     ensures grown { (entries : List Content) (entry : Content) → with_entry entry (mail_of entries) ≡ mail_of (entries ++ entry ∷ []) }
-{
-}
+{}

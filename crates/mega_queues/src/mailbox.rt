@@ -44,7 +44,6 @@ fn forget(waiting: &mut Vec<Enter>, handled: &[Name])
 }
 
 /// Takes the messages out that are among these, if there are any.
-#[tactic(auto, using(crate::proofs::Mailing::none_left_out))]
 fn forget_some(waiting: &mut Vec<Enter>, handled: &[Name])
     ensures { waiting.new.items ≡ filter (is_left handled.now) waiting.old.items }
 {
@@ -111,12 +110,7 @@ impl Mailbox {
     }
 
     /// Takes in what an entry enters and handles.
-    fn take_in(
-        &mut self,
-        alloc: Global,
-        enters: &[Enter],
-        handles: &[Name],
-    ) -> Result<(), NoMemory>
+    fn take_in(&mut self, alloc: Global, enters: &[Enter], handles: &[Name]) -> Result<(), NoMemory>
         ensures { OnOk result (seen self.new ≡ with_marks enters.now handles.now (seen self.old)) }
     {
         add_names_of(alloc, &mut self.entered, enters)?;

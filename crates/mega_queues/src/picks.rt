@@ -42,6 +42,7 @@ fn first_of_sender<'a>(
 }
 
 /// The first message of these senders, one after another, that can be entered.
+#[tactic(auto, using(crate::proofs::Picking::not_here, crate::proofs::Picking::here))]
 pub fn next_to_enter<'a>(
     op: OpId,
     boxes: &Mailboxes,

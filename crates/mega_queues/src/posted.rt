@@ -76,6 +76,7 @@ fn next_place(place: u32) -> Result<u32, NoMemory>
 }
 
 /// Adds the sends of an entry.
+#[tactic(auto, using(crate::proofs::Posting::posted_more))]
 pub fn post_all(
     alloc: Global,
     outbox: &mut Vec<Posted>,
