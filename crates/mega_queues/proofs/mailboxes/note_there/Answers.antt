@@ -8,4 +8,4 @@ returns-in_ok-note-in-Some c =
     let there = c.in-Some.ensures.value in
     mail_noted c.args.boxes.now (c.get_mut.follows.lender c.note.new.self) c.args.group.now c.args.entry.now c.in-Some.own.now c.note.new.self (sym there)
     ((c.get_mut.follows.holds c.note.new.self).3 (ap is_some (sym there))).0
-    c.in_ok-note-in-Some.ensures.seen
+    c.in_ok-note-in-Some.ensures
