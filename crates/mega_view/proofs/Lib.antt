@@ -1,0 +1,8 @@
+mod Numbers
+mod Lists
+mod RowKeys
+mod Ranges
+mod Adding
+mod Scanned
+mod Listed
+mod Logged
