@@ -22,7 +22,7 @@ tail_of root tail = ap (λ (b : Bool). cond b (Some tail) None) same
 
 module _ (s : Schema) (n : ℕ) (t : Table) (group : List ℕ) where
   pub within_table : (tail key : List ℕ) → tail_in t.root group ≡ Some tail → AreBytes key → is_key_of s n t group key ≡ true
-      → IsWithin ((space_of n t ∷ tail) ++ n ∷ []) ((space_of n t ∷ tail) ++ n + 1 ∷ []) key
+      → IsWithin ((space_of n t ∷ tail) ++ n ∷ []) ((space_of n t ∷ tail) ++ (n + 1) ∷ []) key
   within_table tail key told fits is =
       let parts = parts_of s n t group key (key_of_table s n t group key fits is) in
       let same : parts.tail ≡ tail = some_is parts.tail tail (sym (tail_of t.root parts.tail) ∙ ap (tail_in t.root) (sym parts.group_is) ∙ told) in

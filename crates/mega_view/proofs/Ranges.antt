@@ -22,14 +22,14 @@ not_less n rest h = by rest (sym (ap (λ (o : Ordering). ordering_then o (slice_
     by [] g = let no : Equal ≡ Less = g in cc
     by (x ∷ rest) g = let no : Greater ≡ Less = g in cc
 
-next_less : (n : ℕ) (rest : List ℕ) → slice_cmp nat_cmp (n ∷ rest) (n + 1 ∷ []) ≡ Less
+next_less : (n : ℕ) (rest : List ℕ) → slice_cmp nat_cmp (n ∷ rest) ((n + 1) ∷ []) ≡ Less
 next_less n rest = ap (λ (o : Ordering). ordering_then o (slice_cmp nat_cmp rest [])) less
   where
     less : nat_cmp n (n + 1) ≡ Less
     less = grind (arith, nat_tests)
 
-pub in_range : (front rest key : List ℕ) (n : ℕ) → key ≡ front ++ n ∷ rest → IsWithin (front ++ n ∷ []) (front ++ n + 1 ∷ []) key
+pub in_range : (front rest key : List ℕ) (n : ℕ) → key ≡ front ++ n ∷ rest → IsWithin (front ++ n ∷ []) (front ++ (n + 1) ∷ []) key
 in_range front rest key n is = (
   λ less. not_less n rest (sym (front_cmp front (n ∷ rest) (n ∷ [])) ∙ ap (λ (k : List ℕ). slice_cmp nat_cmp k (front ++ n ∷ [])) (sym is) ∙ less),
-  ap (λ (k : List ℕ). slice_cmp nat_cmp k (front ++ n + 1 ∷ [])) is ∙ front_cmp front (n ∷ rest) (n + 1 ∷ []) ∙ next_less n rest
+  ap (λ (k : List ℕ). slice_cmp nat_cmp k (front ++ (n + 1) ∷ [])) is ∙ front_cmp front (n ∷ rest) ((n + 1) ∷ []) ∙ next_less n rest
 )

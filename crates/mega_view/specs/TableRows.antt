@@ -1,5 +1,5 @@
 -- The rows of a group's tables, by their keys.
-use Rattle.std.specs.Prelude.{◌≡◌, ℕ, List, Option, Some, ◌×◌}
+use Rattle.std.specs.Prelude.{◌≡◌, ℕ, List, Option, Some}
 use Rattle.mega_base.specs.declared.values.Row.{Row}
 use Rattle.mega_schema.specs.declared.schema.Schema.{Schema}
 use Rattle.mega_index.specs.Rows.{Rows}
