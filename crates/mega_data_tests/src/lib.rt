@@ -1,4 +1,4 @@
-//! Tests of indexes, handlers and schedules over what these libraries show.
+//! Tests of indexes, handlers, schedules and transcripts over what these libraries show.
 #![tactic(auto)]
 
 #[cfg(test)]
@@ -7,3 +7,5 @@ mod handler_tests;
 mod index_tests;
 #[cfg(test)]
 mod schedule_tests;
+#[cfg(test)]
+mod transcript_tests;
