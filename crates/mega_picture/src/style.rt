@@ -56,7 +56,7 @@ pub const SHAPES: &str = "<defs>
 <g id=\"invalid\"><circle r=\"5.5\" style=\"fill:var(--paper);stroke:var(--alarm);stroke-width:1.6\"/><path d=\"M-4 4L4 -4\" style=\"stroke:var(--alarm)\"/></g>
 <circle id=\"decide\" r=\"6\" style=\"fill:currentColor;stroke:var(--paper);stroke-width:1\"/>
 <circle id=\"apply\" r=\"5\" style=\"fill:var(--paper);stroke:currentColor;stroke-width:2.6\"/>
-<path id=\"cut\" d=\"M0 0H4000\" style=\"stroke:var(--dim);stroke-dasharray:1 4\"/>
-<path id=\"unsafe\" d=\"M0 0H4000\" style=\"stroke:var(--alarm);stroke-width:2;stroke-dasharray:12 4 2 4\"/>
+<path id=\"cut\" d=\"M0 8H4000\" style=\"stroke:var(--dim);stroke-dasharray:1 4\"/>
+<path id=\"unsafe\" d=\"M0 8H4000\" style=\"stroke:var(--alarm);stroke-width:2;stroke-dasharray:12 4 2 4\"/>
 </defs>
 ";
