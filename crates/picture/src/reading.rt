@@ -1,8 +1,7 @@
 //! Reads the header and the items of a window of lines.
-ghost use Rattle.std.specs.Prelude.{◌≡◌, ◌≢◌, ◌≤◌, Err, IfErr, IfOk, All, length};
+ghost use Rattle.std.specs.Prelude.{◌≡◌, ◌≢◌, ◌≤◌, Err, IfErr, IfOk, length};
 ghost use Rattle.mega_base.specs.Causes.{Rose};
 ghost use Rattle.picture.specs.Statuses.{IsReadStop};
-ghost use Rattle.picture.specs.Drawn.{IsTold};
 
 use crate::stop::Stop;
 use crate::words::Window;
@@ -112,9 +111,7 @@ pub fn read_header<I: Source>(
 }
 
 /// The item that a line tells; the line is copied.
-#[tactic(auto, using(crate::proofs::Drawing::is_told))]
 fn told_of(alloc: Global, schema: &Schema, line: &mut Bytes, number: u64) -> Result<Told, Stop>
-    ensures told { IfOk result (IsTold schema.now) }
     ensures source { result ≢ Err Stop.Source }
     ensures only { IfErr result IsReadStop }
     ensures sink { result ≢ Err Stop.Sink }
@@ -160,7 +157,6 @@ fn pass_lines<I: Source>(
 }
 
 /// Reads the items of the window's lines, of which there are at most as many as a page has.
-#[tactic(auto, using(crate::proofs::Drawing::all_told))]
 pub fn read_items<I: Source>(
     alloc: Global,
     reader: &mut LineReader,
@@ -168,7 +164,6 @@ pub fn read_items<I: Source>(
     schema: &Schema,
     window: Window,
 ) -> Result<Items<Told>, Stop>
-    ensures told { IfOk result (All (IsTold schema.now)) }
     ensures few { IfOk result (λ told. length told ≤ 4000) }
     ensures source { result ≡ Err Stop.Source → Rose (I.faults input.old) (I.faults input.new) }
     ensures only { IfErr result IsReadStop }

