@@ -42,10 +42,10 @@ client_parted : (told : List Told) (i : ℕ) (one : Told) → i < length told �
 client_parted told i one lt is = ap (list_any of_client) (drop_more told i one lt ∙ ap (λ x. x ∷ drop (i + 1) told) (sym is))
 
 pub client_on : (told : List Told) (i : ℕ) (one : Told) (whole : Bool) → i < length told → one ≡ get_or told i one → is_of_client one.item ≡ false → list_any (λ o. is_of_client o.item) (drop i told) ≡ whole → list_any (λ o. is_of_client o.item) (drop (i + 1) told) ≡ whole
-client_on told i one whole lt is no was = sym (ap (λ b. b || list_any of_client (drop (i + 1) told)) no) ∙ (sym (client_parted told i one lt is) ∙ was)
+client_on told i one whole lt is none was = sym (ap (λ b. b || list_any of_client (drop (i + 1) told)) none) ∙ (sym (client_parted told i one lt is) ∙ was)
 
 pub client_here : (told : List Told) (i : ℕ) (one : Told) (whole : Bool) → i < length told → one ≡ get_or told i one → is_of_client one.item ≡ true → list_any (λ o. is_of_client o.item) (drop i told) ≡ whole → true ≡ whole
-client_here told i one whole lt is yes was = sym (ap (λ b. b || list_any of_client (drop (i + 1) told)) yes) ∙ (sym (client_parted told i one lt is) ∙ was)
+client_here told i one whole lt is some was = sym (ap (λ b. b || list_any of_client (drop (i + 1) told)) some) ∙ (sym (client_parted told i one lt is) ∙ was)
 
 pub client_none : (told : List Told) (i : ℕ) (whole : Bool) → length told ≤ i → list_any (λ o. is_of_client o.item) (drop i told) ≡ whole → false ≡ whole
 client_none told i whole le was = sym (ap (list_any of_client) (drop_of_length-le told le)) ∙ was

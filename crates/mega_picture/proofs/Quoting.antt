@@ -34,18 +34,18 @@ quote_end text i le was =
 
 -- the mark does not stand here
 pub value_on : (mark text : List ℕ) (i : ℕ) → i < length text → starts_with nat_eq (drop i text) mark ≡ false → value_behind mark text ≡ value_behind mark (drop i text) → value_behind mark text ≡ value_behind mark (drop (i + 1) text)
-value_on mark text i lt no was =
+value_on mark text i lt none was =
     let e = drop_more text i 0 lt in
     was ∙ (ap (value_behind mark) e
-    ∙ ap (λ t. cond t (until_quote (drop (length mark) (get_or text i 0 ∷ drop (i + 1) text))) (value_behind mark (drop (i + 1) text))) (sym (ap (λ r. starts_with nat_eq r mark) e) ∙ no))
+    ∙ ap (λ t. cond t (until_quote (drop (length mark) (get_or text i 0 ∷ drop (i + 1) text))) (value_behind mark (drop (i + 1) text))) (sym (ap (λ r. starts_with nat_eq r mark) e) ∙ none))
 
 -- it stands here
 pub value_here : (mark text : List ℕ) (i : ℕ) → i < length text → starts_with nat_eq (drop i text) mark ≡ true → value_behind mark text ≡ value_behind mark (drop i text) → until_quote (drop (length mark) (drop i text)) ≡ value_behind mark text
-value_here mark text i lt yes was =
+value_here mark text i lt some was =
     let e = drop_more text i 0 lt in
     ap (λ r. until_quote (drop (length mark) r)) e
     ∙ sym (was ∙ (ap (value_behind mark) e
-    ∙ ap (λ t. cond t (until_quote (drop (length mark) (get_or text i 0 ∷ drop (i + 1) text))) (value_behind mark (drop (i + 1) text))) (sym (ap (λ r. starts_with nat_eq r mark) e) ∙ yes)))
+    ∙ ap (λ t. cond t (until_quote (drop (length mark) (get_or text i 0 ∷ drop (i + 1) text))) (value_behind mark (drop (i + 1) text))) (sym (ap (λ r. starts_with nat_eq r mark) e) ∙ some)))
 
 -- it stands nowhere
 pub value_end : (mark text : List ℕ) (i : ℕ) → length text ≤ i → value_behind mark text ≡ value_behind mark (drop i text) → ◌≡◌ {A = List ℕ} [] (value_behind mark text)

@@ -17,18 +17,18 @@ class_of (Dropped row) = codes "lost"
 class_of Fades = codes "fades"
 class_of (Again row) = codes "again"
 
-abbrev pub point : ℕ → ℕ → List ℕ
-point x y = decimal x ++ (codes " " ++ decimal y)
-
 -- a straight line
 abbrev pub line_path : ℕ → ℕ → ℕ → ℕ → List ℕ
 line_path x y to_x to_y = codes "M" ++ (decimal x ++ (codes " " ++ (decimal y ++ (codes "L" ++ (decimal to_x ++ (codes " " ++ decimal to_y))))))
 
 -- a line that goes out to the left and comes back
-abbrev pub bow_path : ℕ → ℕ → ℕ → ℕ → List ℕ
-bow_path x y to_x to_y =
-    codes "M" ++ (decimal x ++ (codes " " ++ (decimal y ++ (codes "C" ++ (decimal (x - 44) ++ (codes " " ++ (decimal y ++ (codes " " ++ (decimal (x - 44) ++ (codes " " ++ (decimal to_y
+abbrev pub curve_path : ℕ → ℕ → ℕ → ℕ → ℕ → List ℕ
+curve_path x y by to_x to_y =
+    codes "M" ++ (decimal x ++ (codes " " ++ (decimal y ++ (codes "C" ++ (decimal by ++ (codes " " ++ (decimal y ++ (codes " " ++ (decimal by ++ (codes " " ++ (decimal to_y
     ++ (codes " " ++ (decimal to_x ++ (codes " " ++ decimal to_y))))))))))))))
+
+abbrev pub bow_path : ℕ → ℕ → ℕ → ℕ → List ℕ
+bow_path x y to_x to_y = curve_path x y (x - 44) to_x to_y
 
 -- a place so far before another, seen from a third one
 abbrev pub short_of : ℕ → ℕ → ℕ

@@ -46,6 +46,15 @@ place_label name group position = name ++ (codes " g" ++ (decimal group ++ (code
 abbrev pub unsent_label : Message → List ℕ
 unsent_label message = codes "unsent " ++ (kind_name (kind_of message.body) ++ (codes " to " ++ decimal message.to))
 
+unfoldable pub forgets_label : ℕ → List ℕ
+forgets_label cell = number_label (codes "forgets cell") cell
+
+unfoldable pub cut_label : List ℕ
+cut_label = codes "cut: the drain ends, and a message waits"
+
+unfoldable pub unsafe_label : List ℕ
+unsafe_label = codes "unsafe: leases are not safe from the line before on"
+
 -- the label of an item's mark; its line has the words of an answer
 abbrev pub label_of : List (List ℕ) → List ℕ → Item → List ℕ
 label_of keys line (items.Start node start) = number_label (codes "start") start
@@ -58,7 +67,7 @@ label_of keys line (items.Sent number message) = []
 label_of keys line (items.Grant cell node epoch) = cell_label (codes "grant") epoch (codes "to") node.0
 label_of keys line (items.Lapse cell node epoch) = cell_label (codes "lapse") epoch (codes "of") node.0
 label_of keys line (items.Counts node cell epoch) = number_label (codes "counts cell") cell
-label_of keys line (items.Forgets node cell epoch) = number_label (codes "forgets cell") cell
+label_of keys line (items.Forgets node cell epoch) = forgets_label cell
 label_of keys line (items.Serving node epoch) = epoch_label (codes "serving") epoch
 label_of keys line (items.Lost node epoch) = epoch_label (codes "lost") epoch
 label_of keys line (items.Valid node group position) = place_label (codes "valid") (number_in keys group.key) position.0
@@ -67,5 +76,5 @@ label_of keys line (items.Decide node group position entry) = place_label (codes
 label_of keys line (items.Apply node group position) = place_label (codes "apply") (number_in keys group.key) position.0
 label_of keys line (items.Answer op answer) = answer_label line
 label_of keys line (items.Crash node) = codes "crash"
-label_of keys line items.Cut = codes "cut: the drain ends, and a message waits"
-label_of keys line items.Unsafe = codes "unsafe: leases are not safe from the line before on"
+label_of keys line items.Cut = cut_label
+label_of keys line items.Unsafe = unsafe_label

@@ -34,7 +34,7 @@ room_of sheet (Right node) = label_room sheet
 room_of sheet (Left node) = label_room sheet
 room_of sheet Across = width sheet
 
-abbrev pub mark_opening : ℕ → List ℕ
+unfoldable pub mark_opening : ℕ → List ℕ
 mark_opening position = codes "<g class=\"mark p" ++ (decimal (tone_of position) ++ codes "\"><title>")
 
 abbrev pub use_text : List ℕ → ℕ → ℕ → List ℕ

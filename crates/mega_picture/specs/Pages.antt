@@ -61,7 +61,7 @@ kind_text sheet y index None = []
 kind_text sheet y index (Some kind) = name_text (lane sheet (index + 1)) y (index + 1) (node_word kind)
 
 -- the name of a node's lane, counted from 0
-abbrev pub name_at : Sheet → List NodeKind → ℕ → ℕ → List ℕ
+unfoldable pub name_at : Sheet → List NodeKind → ℕ → ℕ → List ℕ
 name_at sheet nodes y index = kind_text sheet y index (slice_get nodes index)
 
 abbrev pub lane_names : Sheet → List NodeKind → ℕ → List ℕ

@@ -1,7 +1,7 @@
 //! How arrows are spelled in a page.
 ghost use Rattle.std.specs.Prelude.{◌≡◌, ◌≤◌, ◌++◌, OnOk, IfOk, length, string_bytes};
 ghost use Rattle.mega_picture.specs.Rows.{Follows};
-ghost use Rattle.mega_picture.specs.ArrowTexts.{class_of, line_path, bow_path, short_of, path_between, path_back, path_of, opening_of, drawn_path, arrow_text, text_if, arrow_texts};
+ghost use Rattle.mega_picture.specs.ArrowTexts.{class_of, line_path, curve_path, bow_path, short_of, path_between, path_back, path_of, opening_of, drawn_path, arrow_text, text_if, arrow_texts};
 
 use crate::arrows::{Arrow, End, arrow_of};
 use crate::escape::put_cut;
@@ -41,13 +41,26 @@ fn line_path(alloc: Global, x: u64, y: u64, to_x: u64, to_y: u64) -> Result<Stri
     Ok(path)
 }
 
+/// The line from a point to another by way of a third place.
+fn curve_path(
+    alloc: Global,
+    x: u64,
+    y: u64,
+    by: u64,
+    to_x: u64,
+    to_y: u64,
+) -> Result<String, NoMemory>
+    ensures { IfOk result (λ path. string_bytes path ≡ curve_path x y by to_x to_y) }
+{
+    let path = format!(in alloc; "M{x} {y}C{by} {y} {by} {to_y} {to_x} {to_y}")?;
+    Ok(path)
+}
+
 /// The line from a point out to the left, and back to another point below.
 fn bow_path(alloc: Global, x: u64, y: u64, to_x: u64, to_y: u64) -> Result<String, NoMemory>
     ensures { IfOk result (λ path. string_bytes path ≡ bow_path x y to_x to_y) }
 {
-    let bow = x.saturating_sub(BOW);
-    let path = format!(in alloc; "M{x} {y}C{bow} {y} {bow} {to_y} {to_x} {to_y}")?;
-    Ok(path)
+    curve_path(alloc, x, y, x.saturating_sub(BOW), to_x, to_y)
 }
 
 /// A place short of another, seen from a third one.
@@ -122,7 +135,8 @@ fn put_path(alloc: Global, out: &mut Bytes, sheet: Sheet, arrow: Arrow) -> Resul
 {
     let path = path_of(alloc, sheet, arrow)?;
     let text = format!(in alloc; "</title><path d=\"{path}\"/>")?;
-    out.extend_from_slice(text.as_bytes())
+    out.extend_from_slice(text.as_bytes())?;
+    Ok(())
 }
 
 /// Writes an arrow with a line of the transcript as its title.

@@ -1,7 +1,7 @@
 //! What stands beside the marks of items.
 ghost use Rattle.std.specs.Prelude.{◌≡◌, ◌++◌, OnOk, decimal};
 ghost use Rattle.mega_picture.specs.Groups.{number_in};
-ghost use Rattle.mega_picture.specs.Labels.{until_quote, value_behind, op_label, begin_label, answer_label, number_label, epoch_label, cell_label, place_label, unsent_label, label_of};
+ghost use Rattle.mega_picture.specs.Labels.{until_quote, value_behind, op_label, begin_label, answer_label, number_label, epoch_label, cell_label, place_label, unsent_label, forgets_label, cut_label, unsafe_label, label_of};
 
 use crate::groups::Groups;
 use crate::kinds::{kind_name, kind_of};
@@ -147,6 +147,27 @@ fn put_unsent(alloc: Global, out: &mut Bytes, message: &Message) -> Result<(), N
     out.extend_from_slice(text.as_bytes())
 }
 
+#[tactic(auto, unfolding(crate::specs::Labels::forgets_label))]
+fn put_forgets(alloc: Global, out: &mut Bytes, cell: u8) -> Result<(), NoMemory>
+    ensures { OnOk result (out.new ≡ out.old ++ forgets_label cell) }
+{
+    put_number(alloc, out, "forgets cell", u64::from(cell))
+}
+
+#[tactic(auto, unfolding(crate::specs::Labels::cut_label))]
+fn put_cut_label(out: &mut Bytes) -> Result<(), NoMemory>
+    ensures { OnOk result (out.new ≡ out.old ++ cut_label) }
+{
+    out.extend_from_slice(b"cut: the drain ends, and a message waits")
+}
+
+#[tactic(auto, unfolding(crate::specs::Labels::unsafe_label))]
+fn put_unsafe_label(out: &mut Bytes) -> Result<(), NoMemory>
+    ensures { OnOk result (out.new ≡ out.old ++ unsafe_label) }
+{
+    out.extend_from_slice(b"unsafe: leases are not safe from the line before on")
+}
+
 /// Appends what stands beside the mark of an item; its line is given for the words of an answer.
 pub fn put_label(
     alloc: Global,
@@ -168,7 +189,7 @@ pub fn put_label(
         Item::Grant { node, epoch, .. } => put_cell(alloc, out, "grant", *epoch, "to", *node),
         Item::Lapse { node, epoch, .. } => put_cell(alloc, out, "lapse", *epoch, "of", *node),
         Item::Counts { cell, .. } => put_number(alloc, out, "counts cell", u64::from(*cell)),
-        Item::Forgets { cell, .. } => put_number(alloc, out, "forgets cell", u64::from(*cell)),
+        Item::Forgets { cell, .. } => put_forgets(alloc, out, *cell),
         Item::Serving { epoch, .. } => put_epoch(alloc, out, "serving", *epoch),
         Item::Lost { epoch, .. } => put_epoch(alloc, out, "lost", *epoch),
         Item::Valid {
@@ -185,9 +206,7 @@ pub fn put_label(
         } => put_place(alloc, out, "apply", groups, group, *position),
         Item::Answer { .. } => put_answer(out, line),
         Item::Crash { .. } => out.extend_from_slice(b"crash"),
-        Item::Cut => out.extend_from_slice(b"cut: the drain ends, and a message waits"),
-        Item::Unsafe => {
-            out.extend_from_slice(b"unsafe: leases are not safe from the line before on")
-        }
+        Item::Cut => put_cut_label(out),
+        Item::Unsafe => put_unsafe_label(out),
     }
 }

@@ -67,6 +67,7 @@ fn room_of(sheet: Sheet, place: Place) -> usize
 }
 
 /// Opens the group of a mark.
+#[tactic(auto, unfolding(crate::specs::MarkTexts::mark_opening))]
 fn put_mark_opening(alloc: Global, out: &mut Bytes, position: u64) -> Result<(), NoMemory>
     ensures { OnOk result (out.new ≡ out.old ++ mark_opening position) }
 {
@@ -112,7 +113,8 @@ fn put_caption(
     let y = step(row) + BELOW;
     put_text_opening(alloc, out, class_of(place), beside_of(sheet, place), y)?;
     put_cut(out, label, room_of(sheet, place))?;
-    out.extend_from_slice(b"</text></g>\n")
+    out.extend_from_slice(b"</text></g>\n")?;
+    Ok(())
 }
 
 /// Writes a mark with a line of the transcript as its title, and a label beside it.

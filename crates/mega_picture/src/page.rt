@@ -40,7 +40,8 @@ fn put_head(alloc: Global, out: &mut Bytes, width: u64, height: u64) -> Result<(
     put_opening(alloc, out, width, height)?;
     out.extend_from_slice(STYLE.as_bytes())?;
     out.extend_from_slice(SHAPES.as_bytes())?;
-    put_paper(alloc, out, width, height)
+    put_paper(alloc, out, width, height)?;
+    Ok(())
 }
 
 /// Writes the bands of the lane of a node, counted from 0.

@@ -84,6 +84,23 @@ fn put_kind(
     }
 }
 
+/// Writes the name of a lane, counted from 0, at a height.
+#[tactic(auto, unfolding(crate::specs::Pages::name_at))]
+fn put_name(
+    alloc: Global,
+    out: &mut Bytes,
+    sheet: Sheet,
+    nodes: &[NodeKind],
+    y: u64,
+    index: u8,
+) -> Result<(), NoMemory>
+    requires { index < 255 }
+    ensures { OnOk result (out.new ≡ out.old ++ name_at sheet nodes.now y index) }
+{
+    let kind = nodes.get(usize::from(index)).copied();
+    put_kind(alloc, out, sheet, y, index, kind)
+}
+
 /// Writes the names of all lanes at a height.
 #[tactic(auto, using(crate::proofs::Paging::names_on))]
 fn put_names(
@@ -96,8 +113,7 @@ fn put_names(
     ensures { OnOk result (out.new ≡ out.old ++ lane_names sheet nodes.now y) }
 {
     for index in 0..sheet.nodes {
-        let kind = nodes.get(usize::from(index)).copied();
-        put_kind(alloc, out, sheet, y, index, kind)?;
+        put_name(alloc, out, sheet, nodes, y, index)?;
     }
     Ok(())
 }

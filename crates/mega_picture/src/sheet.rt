@@ -81,7 +81,8 @@ impl Sheet {
 
     /// Where the lanes end.
     pub fn foot(self) -> u64
-        ensures { result ≡ foot self }
+        ensures value { result ≡ foot self }
+        ensures bound { result ≤ 281474976710656 }
     {
         step(self.steps)
     }

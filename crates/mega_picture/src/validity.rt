@@ -99,7 +99,8 @@ fn put_validity(
     let aside = FIRST + u64::from(change.group % COLUMNS) * APART;
     let x = sheet.lane(node).saturating_sub(aside);
     let y = step(from);
-    put_strip(alloc, out, x, y, step(to).saturating_sub(y))
+    put_strip(alloc, out, x, y, step(to).saturating_sub(y))?;
+    Ok(())
 }
 
 /// Where the bands of groups at a node end, looking back from the foot of the page.
