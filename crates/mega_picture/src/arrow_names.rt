@@ -12,6 +12,7 @@ use std::alloc::Global;
 
 /// How far beside and above its arrow's beginning a name stands.
 const BESIDE: u64 = 9;
+
 const ABOVE: u64 = 5;
 
 /// A name to the right of a point.

@@ -79,9 +79,7 @@ fn again_of(journeys: &Journeys, told: &[Told], row: u32, number: u64) -> Option
     }
     let sent = journeys.sent(number);
     match (sent, message_at(told, sent)) {
-        (Some(sent), Some(message)) => {
-            Some(arrow_with(message, sent, End::Again { row }))
-        }
+        (Some(sent), Some(message)) => { Some(arrow_with(message, sent, End::Again { row })) }
         _ => None,
     }
 }

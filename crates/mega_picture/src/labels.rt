@@ -193,16 +193,24 @@ pub fn put_label(
         Item::Serving { epoch, .. } => put_epoch(alloc, out, "serving", *epoch),
         Item::Lost { epoch, .. } => put_epoch(alloc, out, "lost", *epoch),
         Item::Valid {
-            group, position, ..
+            group,
+            position,
+            ..
         } => put_place(alloc, out, "valid", groups, group, *position),
         Item::Invalid {
-            group, position, ..
+            group,
+            position,
+            ..
         } => put_place(alloc, out, "invalid", groups, group, *position),
         Item::Decide {
-            group, position, ..
+            group,
+            position,
+            ..
         } => put_place(alloc, out, "decide", groups, group, *position),
         Item::Apply {
-            group, position, ..
+            group,
+            position,
+            ..
         } => put_place(alloc, out, "apply", groups, group, *position),
         Item::Answer { .. } => put_answer(out, line),
         Item::Crash { .. } => out.extend_from_slice(b"crash"),

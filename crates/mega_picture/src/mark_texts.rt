@@ -19,6 +19,7 @@ const EDGE: u64 = 52;
 
 /// How far beside and below its mark's middle a label stands.
 const BESIDE: u64 = 11;
+
 const BELOW: u64 = 4;
 
 /// Where a mark stands.
@@ -132,7 +133,13 @@ fn put_mark(
 {
     put_mark_opening(alloc, out, mark.position)?;
     put_cut(out, line, sheet.title_room())?;
-    put_use(alloc, out, word_of(mark.shape), x_of(sheet, mark.place), step(row))?;
+    put_use(
+        alloc,
+        out,
+        word_of(mark.shape),
+        x_of(sheet, mark.place),
+        step(row),
+    )?;
     put_caption(alloc, out, sheet, row, mark.place, label)
 }
 

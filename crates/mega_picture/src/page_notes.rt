@@ -59,7 +59,9 @@ fn put_name_text(
 ) -> Result<(), NoMemory>
     ensures { OnOk result (out.new ≡ out.old ++ name_text x y node word.now) }
 {
-    let text = format!(in alloc; "<text class=\"name\" x=\"{x}\" y=\"{y}\">{node} {word}</text>\n")?;
+    let text = format!(in alloc;
+        "<text class=\"name\" x=\"{x}\" y=\"{y}\">{node} {word}</text>\n"
+    )?;
     out.extend_from_slice(text.as_bytes())
 }
 

@@ -13,6 +13,7 @@ pub const NAMED: u32 = 40;
 
 /// Where the lane of the first node stands, and that of clients.
 const FIRST_LANE: u64 = 124;
+
 const CLIENT_LANE: u64 = 66;
 
 /// What is left below the last step.
@@ -20,10 +21,12 @@ const FOOT: u64 = 34;
 
 /// What is left beside a label, and how wide its letters are.
 const MARGIN: u64 = 24;
+
 const LETTER: u64 = 7;
 
 /// How many bytes all titles of a page may have, and of how many steps a page has room for titles at least.
 const TITLES: u64 = 960_000;
+
 const FEW: u32 = 60;
 
 /// The measures of a page: how many nodes it has lanes for, and how many steps.

@@ -15,7 +15,9 @@ use std::collections::BTreeMap;
 
 /// How many columns the bands of groups have beside a lane, how far they are apart, and where the first one stands.
 const COLUMNS: u32 = 8;
+
 const APART: u64 = 5;
+
 const FIRST: u64 = 14;
 
 /// A group, by its number, that becomes valid or invalid.
@@ -40,10 +42,16 @@ fn change_of(groups: &Groups, node: u8, item: &Item) -> Option<Change>
     ensures { result ≡ change_of groups.now node item.now }
 {
     match item {
-        Item::Valid { node: at, group, .. } => change_if(at.0 == node, groups.number(group), true),
-        Item::Invalid { node: at, group, .. } => {
-            change_if(at.0 == node, groups.number(group), false)
-        }
+        Item::Valid {
+            node: at,
+            group,
+            ..
+        } => change_if(at.0 == node, groups.number(group), true),
+        Item::Invalid {
+            node: at,
+            group,
+            ..
+        } => { change_if(at.0 == node, groups.number(group), false) }
         _ => None,
     }
 }
@@ -191,7 +199,16 @@ fn put_change(
     ensures { OnOk result (out.new ≡ out.old ++ change_text sheet node row change (end_at ends.now) line.now) }
 {
     match change {
-        Some(change) => put_validity(alloc, out, sheet, node, change, row, ends.of(change.group), line),
+        Some(change) => put_validity(
+            alloc,
+            out,
+            sheet,
+            node,
+            change,
+            row,
+            ends.of(change.group),
+            line,
+        ),
         None => Ok(()),
     }
 }
@@ -217,7 +234,16 @@ pub fn put_validities(
         let one = &told[at];
         let change = change_of(groups, node, &one.item);
         let turn = turn_of(Band::Serves, node, &one.item);
-        put_change(alloc, out, sheet, node, row, change, &ends, one.line.as_slice())?;
+        put_change(
+            alloc,
+            out,
+            sheet,
+            node,
+            row,
+            change,
+            &ends,
+            one.line.as_slice(),
+        )?;
         ends = ends.over(alloc, row, change, turn)?;
     }
     Ok(())

@@ -40,7 +40,11 @@ fn next_line<I: Source>(
 {
     match reader.next_line(input, line, LONGEST) {
         Ok(Ended::Feed) => Ok(Next::Line),
-        Ok(Ended::Input) => Ok(if line.is_empty() { Next::End } else { Next::Line }),
+        Ok(Ended::Input) => Ok(if line.is_empty() {
+            Next::End
+        } else {
+            Next::Line
+        }),
         Ok(Ended::Long) => Ok(Next::Long),
         Err(LineError::Failed) => Err(Stop::Source),
         Err(LineError::NoMemory) => Err(Stop::NoMemory),

@@ -79,7 +79,9 @@ fn tell_flaw(alloc: Global, first: u64, flaw: Flaw, out: &mut Bytes) -> Result<(
     let told = match flaw {
         Flaw::NotSent { row, number } => {
             let line = line_at(first, row);
-            format!(in alloc; "line {line}: message {number} was not sent before it in the lines drawn\n")?
+            format!(in alloc;
+                "line {line}: message {number} was not sent before it in the lines drawn\n"
+            )?
         }
         Flaw::SentBefore { row, number } => {
             let line = line_at(first, row);

@@ -1,7 +1,8 @@
 //! Lines of transcripts, one of each kind at least, by their schemas.
 
 /// The schema of BANK.
-pub const BANK_SCHEMA: &str = r#"CREATE SCHEMA Bank; CREATE TABLE Account { required int64 id; required int64 balance; } PRIMARY KEY(id), ENTITY GROUP ROOT;"#;
+pub const BANK_SCHEMA: &str =
+    r#"CREATE SCHEMA Bank; CREATE TABLE Account { required int64 id; required int64 balance; } PRIMARY KEY(id), ENTITY GROUP ROOT;"#;
 
 pub const BANK: &str = r#"start 1 1
 sent 1 1 1 where 4d530101010101000000010000000100000009018000000000000001
@@ -20,9 +21,11 @@ answer 3.1.1 conflict 2 2.1.1
 answer 1.1.4 nothing [["018000000000000001",1],["018000000000000002",3]]"#;
 
 /// The schema of USERS.
-pub const USERS_SCHEMA: &str = r#"CREATE SCHEMA S; CREATE TABLE User { required int64 user_id; required string name; } PRIMARY KEY(user_id), ENTITY GROUP ROOT;"#;
+pub const USERS_SCHEMA: &str =
+    r#"CREATE SCHEMA S; CREATE TABLE User { required int64 user_id; required string name; } PRIMARY KEY(user_id), ENTITY GROUP ROOT;"#;
 
-pub const USERS: &str = r#"begin 1.1.2 {"checks":[{"gone":"User","key":[101]}],"do":"txn","group":["User",[101]],"node":1,"reads":[],"sends":[],"writes":[]}
+pub const USERS: &str =
+    r#"begin 1.1.2 {"checks":[{"gone":"User","key":[101]}],"do":"txn","group":["User",[101]],"node":1,"reads":[],"sends":[],"writes":[]}
 begin 1.1.1 {"do":"read","group":["User",[101]],"mode":"current","node":1,"rows":[{"key":[101],"row":"User"}]}
 answer 1.1.65 busy 64
 cut
@@ -57,7 +60,8 @@ dropped 8
 sent 16 1 2 refused 4d530105010202000000010000000100000009018000000000000065000000000000000100000000000000000000000000000000000000000000000000000100000048010103000000010000000103000000010000000a0180000000000000650101020100000001020000000000000065020000000104000000044a6f686e000000000000000000000000"#;
 
 /// The schema of PHOTOS.
-pub const PHOTOS_SCHEMA: &str = r#"CREATE SCHEMA PhotoApp; CREATE TABLE User { required int64 user_id; required string name; } PRIMARY KEY(user_id), ENTITY GROUP ROOT; CREATE TABLE Photo { required int64 user_id; required int32 photo_id; required int64 time; required string full_url; optional string thumbnail_url; repeated string tag; } PRIMARY KEY(user_id, photo_id), IN TABLE User, ENTITY GROUP KEY(user_id) REFERENCES User; CREATE LOCAL INDEX PhotosByTime ON Photo(user_id, time); CREATE GLOBAL INDEX PhotosByTag ON Photo(tag) STORING (thumbnail_url);"#;
+pub const PHOTOS_SCHEMA: &str =
+    r#"CREATE SCHEMA PhotoApp; CREATE TABLE User { required int64 user_id; required string name; } PRIMARY KEY(user_id), ENTITY GROUP ROOT; CREATE TABLE Photo { required int64 user_id; required int32 photo_id; required int64 time; required string full_url; optional string thumbnail_url; repeated string tag; } PRIMARY KEY(user_id, photo_id), IN TABLE User, ENTITY GROUP KEY(user_id) REFERENCES User; CREATE LOCAL INDEX PhotosByTime ON Photo(user_id, time); CREATE GLOBAL INDEX PhotosByTag ON Photo(tag) STORING (thumbnail_url);"#;
 
 pub const PHOTOS: &str = r#"begin 1.1.2 {"do":"refresh","node":1}
 answer 1.1.2 refreshed [["018000000000000065",1]]
