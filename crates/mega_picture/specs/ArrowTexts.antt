@@ -22,13 +22,9 @@ abbrev pub line_path : ℕ → ℕ → ℕ → ℕ → List ℕ
 line_path x y to_x to_y = codes "M" ++ (decimal x ++ (codes " " ++ (decimal y ++ (codes "L" ++ (decimal to_x ++ (codes " " ++ decimal to_y))))))
 
 -- a line that goes out to the left and comes back
-abbrev pub curve_path : ℕ → ℕ → ℕ → ℕ → ℕ → List ℕ
-curve_path x y by to_x to_y =
-    codes "M" ++ (decimal x ++ (codes " " ++ (decimal y ++ (codes "C" ++ (decimal by ++ (codes " " ++ (decimal y ++ (codes " " ++ (decimal by ++ (codes " " ++ (decimal to_y
-    ++ (codes " " ++ (decimal to_x ++ (codes " " ++ decimal to_y))))))))))))))
-
-abbrev pub bow_path : ℕ → ℕ → ℕ → ℕ → List ℕ
-bow_path x y to_x to_y = curve_path x y (x - 44) to_x to_y
+abbrev pub bow_path : ℕ → ℕ → List ℕ → ℕ → List ℕ
+bow_path x y aside to_y =
+    codes "M" ++ (decimal x ++ (codes " " ++ (decimal y ++ (codes "c-44 0 -44 " ++ (decimal (to_y - y) ++ (codes " " ++ (aside ++ (codes " " ++ decimal (to_y - y)))))))))
 
 -- a place so far before another, seen from a third one
 abbrev pub short_of : ℕ → ℕ → ℕ
@@ -42,10 +38,10 @@ path_between x to y Fades = line_path x y ((x + to) / 2) (y + 20)
 path_between x to y (Again row) = line_path x y to (step row)
 
 abbrev pub path_back : ℕ → ℕ → End → List ℕ
-path_back x y (Taken row) = bow_path x y x (step row)
-path_back x y (Dropped row) = bow_path x y (x - 22) (step row)
-path_back x y Fades = bow_path x y (x - 22) (y + 20)
-path_back x y (Again row) = bow_path x y x (step row)
+path_back x y (Taken row) = bow_path x y (codes "0") (step row)
+path_back x y (Dropped row) = bow_path x y (codes "-22") (step row)
+path_back x y Fades = bow_path x y (codes "-22") (y + 20)
+path_back x y (Again row) = bow_path x y (codes "0") (step row)
 
 unfoldable pub path_of : Sheet → Arrow → List ℕ
 path_of sheet arrow =

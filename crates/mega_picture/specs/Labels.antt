@@ -46,9 +46,6 @@ place_label name group position = name ++ (codes " g" ++ (decimal group ++ (code
 abbrev pub unsent_label : Message → List ℕ
 unsent_label message = codes "unsent " ++ (kind_name (kind_of message.body) ++ (codes " to " ++ decimal message.to))
 
-unfoldable pub forgets_label : ℕ → List ℕ
-forgets_label cell = number_label (codes "forgets cell") cell
-
 unfoldable pub cut_label : List ℕ
 cut_label = codes "cut: the drain ends, and a message waits"
 
@@ -66,8 +63,8 @@ label_of keys line (items.Dropped number) = number_label (codes "dropped") numbe
 label_of keys line (items.Sent number message) = []
 label_of keys line (items.Grant cell node epoch) = cell_label (codes "grant") epoch (codes "to") node.0
 label_of keys line (items.Lapse cell node epoch) = cell_label (codes "lapse") epoch (codes "of") node.0
-label_of keys line (items.Counts node cell epoch) = number_label (codes "counts cell") cell
-label_of keys line (items.Forgets node cell epoch) = forgets_label cell
+label_of keys line (items.Counts node cell epoch) = number_label (codes "counts") cell
+label_of keys line (items.Forgets node cell epoch) = number_label (codes "forgets") cell
 label_of keys line (items.Serving node epoch) = epoch_label (codes "serving") epoch
 label_of keys line (items.Lost node epoch) = epoch_label (codes "lost") epoch
 label_of keys line (items.Valid node group position) = place_label (codes "valid") (number_in keys group.key) position.0

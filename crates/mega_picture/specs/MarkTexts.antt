@@ -35,7 +35,7 @@ room_of sheet (Left node) = label_room sheet
 room_of sheet Across = width sheet
 
 unfoldable pub mark_opening : ℕ → List ℕ
-mark_opening position = codes "<g class=\"mark p" ++ (decimal (tone_of position) ++ codes "\"><title>")
+mark_opening tone = codes "<g class=\"mark p" ++ (decimal tone ++ codes "\"><title>")
 
 abbrev pub use_text : List ℕ → ℕ → ℕ → List ℕ
 use_text shape x y = codes "</title><use href=\"#" ++ (shape ++ (codes "\" x=\"" ++ (decimal x ++ (codes "\" y=\"" ++ (decimal y ++ codes "\"/>")))))
@@ -51,7 +51,7 @@ caption_text sheet row place label =
 -- a mark in a row, with the line of the transcript as its title, and a label beside it
 unfoldable pub mark_text : Sheet → ℕ → Mark → List ℕ → List ℕ → List ℕ
 mark_text sheet row mark line label =
-    mark_opening mark.position ++ (shortened (title_room sheet) line ++ (use_text (word_of mark.shape) (x_of sheet mark.place) (step row) ++ caption_text sheet row mark.place label))
+    mark_opening (tone_of mark.position) ++ (shortened (title_room sheet) line ++ (use_text (word_of mark.shape) (x_of sheet mark.place) (step row) ++ caption_text sheet row mark.place label))
 
 -- the mark of a line, where it has one
 abbrev pub text_if : Sheet → List (List ℕ) → ℕ → Told → Option Mark → List ℕ

@@ -27,8 +27,11 @@ abbrev pub paper : ℕ → ℕ → List ℕ
 paper width height = codes "<rect class=\"page\" width=\"" ++ (decimal width ++ (codes "\" height=\"" ++ (decimal height ++ codes "\"/>\n")))
 
 -- the opening, the style sheet, the shapes, and the paper
-unfoldable pub head : ℕ → ℕ → List ℕ
-head width height = opening width height ++ (STYLE.now ++ (SHAPES.now ++ paper width height))
+unfoldable pub head_with : List ℕ → List ℕ → ℕ → ℕ → List ℕ
+head_with style shapes width height = opening width height ++ (style ++ (shapes ++ paper width height))
+
+abbrev pub head : ℕ → ℕ → List ℕ
+head width height = head_with STYLE.now SHAPES.now width height
 
 -- the bands of a node, counted from 0
 unfoldable pub lane_bands : Sheet → List (List ℕ) → List Told → ℕ → List ℕ

@@ -52,10 +52,14 @@ strip_opening class = codes "<g class=\"" ++ (class ++ codes "\"><title>")
 abbrev pub strip_text : ℕ → ℕ → ℕ → List ℕ
 strip_text x y height = codes "</title><rect x=\"" ++ (decimal x ++ (codes "\" y=\"" ++ (decimal y ++ (codes "\" width=\"3\" height=\"" ++ (decimal height ++ codes "\"/></g>\n")))))
 
--- a thin band of a group at a node, between two steps, with a line as its title; groups have eight columns in turn
+-- the strip of a group at a node, between two steps; groups have eight columns in turn
+unfoldable pub strip_at : Sheet → ℕ → ℕ → ℕ → ℕ → List ℕ
+strip_at sheet node group from to = strip_text (lane sheet node - (14 + group % 8 * 5)) (step from) (step to - step from)
+
+-- a thin band of a group at a node, between two steps, with a line as its title
 unfoldable pub validity_text : Sheet → ℕ → Change → ℕ → ℕ → List ℕ → List ℕ
 validity_text sheet node change from to line =
-    strip_opening (class_of change.valid) ++ (shortened (title_room sheet) line ++ strip_text (lane sheet node - (14 + change.group % 8 * 5)) (step from) (step to - step from))
+    strip_opening (class_of change.valid) ++ (shortened (title_room sheet) line ++ strip_at sheet node change.group from to)
 
 -- the band that begins with a change in a row, where there is one, by where the bands of groups end
 abbrev pub change_text : Sheet → ℕ → ℕ → Option Change → (ℕ → ℕ) → List ℕ → List ℕ

@@ -1,7 +1,7 @@
 //! How arrows are spelled in a page.
 ghost use Rattle.std.specs.Prelude.{◌≡◌, ◌≤◌, ◌++◌, OnOk, IfOk, length, string_bytes};
 ghost use Rattle.mega_picture.specs.Rows.{Follows};
-ghost use Rattle.mega_picture.specs.ArrowTexts.{class_of, line_path, curve_path, bow_path, short_of, path_between, path_back, path_of, opening_of, drawn_path, arrow_text, text_if, arrow_texts};
+ghost use Rattle.mega_picture.specs.ArrowTexts.{class_of, line_path, bow_path, short_of, path_between, path_back, path_of, opening_of, drawn_path, arrow_text, text_if, arrow_texts};
 
 use crate::arrows::{Arrow, End, arrow_of};
 use crate::escape::put_cut;
@@ -14,9 +14,6 @@ use std::alloc::Global;
 
 /// How far from the receiver's lane the arrow of a message that is dropped ends.
 const SHORT: u64 = 22;
-
-/// How far to the side the arrow of a node to itself goes.
-const BOW: u64 = 44;
 
 /// How far down the arrow of a message that is never taken goes.
 const FALL: u64 = 20;
@@ -41,26 +38,13 @@ fn line_path(alloc: Global, x: u64, y: u64, to_x: u64, to_y: u64) -> Result<Stri
     Ok(path)
 }
 
-/// The line from a point to another by way of a third place.
-fn curve_path(
-    alloc: Global,
-    x: u64,
-    y: u64,
-    by: u64,
-    to_x: u64,
-    to_y: u64,
-) -> Result<String, NoMemory>
-    ensures { IfOk result (λ path. string_bytes path ≡ curve_path x y by to_x to_y) }
+/// The line from a point out to the left, and back to a place below, so far aside.
+fn bow_path(alloc: Global, x: u64, y: u64, aside: &str, to_y: u64) -> Result<String, NoMemory>
+    ensures { IfOk result (λ path. string_bytes path ≡ bow_path x y aside.now to_y) }
 {
-    let path = format!(in alloc; "M{x} {y}C{by} {y} {by} {to_y} {to_x} {to_y}")?;
+    let down = to_y.saturating_sub(y);
+    let path = format!(in alloc; "M{x} {y}c-44 0 -44 {down} {aside} {down}")?;
     Ok(path)
-}
-
-/// The line from a point out to the left, and back to another point below.
-fn bow_path(alloc: Global, x: u64, y: u64, to_x: u64, to_y: u64) -> Result<String, NoMemory>
-    ensures { IfOk result (λ path. string_bytes path ≡ bow_path x y to_x to_y) }
-{
-    curve_path(alloc, x, y, x.saturating_sub(BOW), to_x, to_y)
 }
 
 /// A place short of another, seen from a third one.
@@ -96,10 +80,10 @@ fn path_back(alloc: Global, x: u64, y: u64, end: End) -> Result<String, NoMemory
     ensures { IfOk result (λ path. string_bytes path ≡ path_back x y end) }
 {
     match end {
-        End::Taken { row } => bow_path(alloc, x, y, x, step(row)),
-        End::Dropped { row } => bow_path(alloc, x, y, x.saturating_sub(SHORT), step(row)),
-        End::Fades => bow_path(alloc, x, y, x.saturating_sub(SHORT), y + FALL),
-        End::Again { row } => bow_path(alloc, x, y, x, step(row)),
+        End::Taken { row } => bow_path(alloc, x, y, "0", step(row)),
+        End::Dropped { row } => bow_path(alloc, x, y, "-22", step(row)),
+        End::Fades => bow_path(alloc, x, y, "-22", y + FALL),
+        End::Again { row } => bow_path(alloc, x, y, "0", step(row)),
     }
 }
 
@@ -134,8 +118,9 @@ fn put_path(alloc: Global, out: &mut Bytes, sheet: Sheet, arrow: Arrow) -> Resul
     ensures { OnOk result (out.new ≡ out.old ++ drawn_path sheet arrow) }
 {
     let path = path_of(alloc, sheet, arrow)?;
-    let text = format!(in alloc; "</title><path d=\"{path}\"/>")?;
-    out.extend_from_slice(text.as_bytes())?;
+    out.extend_from_slice(b"</title><path d=\"")?;
+    out.extend_from_slice(path.as_bytes())?;
+    out.extend_from_slice(b"\"/>")?;
     Ok(())
 }
 

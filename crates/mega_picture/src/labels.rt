@@ -1,7 +1,7 @@
 //! What stands beside the marks of items.
 ghost use Rattle.std.specs.Prelude.{◌≡◌, ◌++◌, OnOk, decimal};
 ghost use Rattle.mega_picture.specs.Groups.{number_in};
-ghost use Rattle.mega_picture.specs.Labels.{until_quote, value_behind, op_label, begin_label, answer_label, number_label, epoch_label, cell_label, place_label, unsent_label, forgets_label, cut_label, unsafe_label, label_of};
+ghost use Rattle.mega_picture.specs.Labels.{until_quote, value_behind, op_label, begin_label, answer_label, number_label, epoch_label, cell_label, place_label, unsent_label, cut_label, unsafe_label, label_of};
 
 use crate::groups::Groups;
 use crate::kinds::{kind_name, kind_of};
@@ -147,13 +147,6 @@ fn put_unsent(alloc: Global, out: &mut Bytes, message: &Message) -> Result<(), N
     out.extend_from_slice(text.as_bytes())
 }
 
-#[tactic(auto, unfolding(crate::specs::Labels::forgets_label))]
-fn put_forgets(alloc: Global, out: &mut Bytes, cell: u8) -> Result<(), NoMemory>
-    ensures { OnOk result (out.new ≡ out.old ++ forgets_label cell) }
-{
-    put_number(alloc, out, "forgets cell", u64::from(cell))
-}
-
 #[tactic(auto, unfolding(crate::specs::Labels::cut_label))]
 fn put_cut_label(out: &mut Bytes) -> Result<(), NoMemory>
     ensures { OnOk result (out.new ≡ out.old ++ cut_label) }
@@ -188,8 +181,8 @@ pub fn put_label(
         Item::Sent { .. } => Ok(()),
         Item::Grant { node, epoch, .. } => put_cell(alloc, out, "grant", *epoch, "to", *node),
         Item::Lapse { node, epoch, .. } => put_cell(alloc, out, "lapse", *epoch, "of", *node),
-        Item::Counts { cell, .. } => put_number(alloc, out, "counts cell", u64::from(*cell)),
-        Item::Forgets { cell, .. } => put_forgets(alloc, out, *cell),
+        Item::Counts { cell, .. } => put_number(alloc, out, "counts", u64::from(*cell)),
+        Item::Forgets { cell, .. } => put_number(alloc, out, "forgets", u64::from(*cell)),
         Item::Serving { epoch, .. } => put_epoch(alloc, out, "serving", *epoch),
         Item::Lost { epoch, .. } => put_epoch(alloc, out, "lost", *epoch),
         Item::Valid {

@@ -69,10 +69,9 @@ fn room_of(sheet: Sheet, place: Place) -> usize
 
 /// Opens the group of a mark.
 #[tactic(auto, unfolding(crate::specs::MarkTexts::mark_opening))]
-fn put_mark_opening(alloc: Global, out: &mut Bytes, position: u64) -> Result<(), NoMemory>
-    ensures { OnOk result (out.new ≡ out.old ++ mark_opening position) }
+fn put_mark_opening(alloc: Global, out: &mut Bytes, tone: u64) -> Result<(), NoMemory>
+    ensures { OnOk result (out.new ≡ out.old ++ mark_opening tone) }
 {
-    let tone = tone_of(position);
     let text = format!(in alloc; "<g class=\"mark p{tone}\"><title>")?;
     out.extend_from_slice(text.as_bytes())
 }
@@ -131,7 +130,7 @@ fn put_mark(
 ) -> Result<(), NoMemory>
     ensures { OnOk result (out.new ≡ out.old ++ mark_text sheet row mark line.now label.now) }
 {
-    put_mark_opening(alloc, out, mark.position)?;
+    put_mark_opening(alloc, out, tone_of(mark.position))?;
     put_cut(out, line, sheet.title_room())?;
     put_use(
         alloc,

@@ -1,6 +1,6 @@
 //! A whole page: its head, what is drawn, and what is written around it.
 ghost use Rattle.std.specs.Prelude.{◌≡◌, ◌≤◌, ◌<◌, ◌++◌, OnOk, length};
-ghost use Rattle.mega_picture.specs.Pages.{opening, paper, head, lane_bands, all_bands, drawing, page};
+ghost use Rattle.mega_picture.specs.Pages.{opening, paper, head_with, head, lane_bands, all_bands, drawing, page};
 
 use crate::arrow_names::put_arrow_names;
 use crate::arrow_texts::put_arrows;
@@ -32,16 +32,29 @@ fn put_paper(alloc: Global, out: &mut Bytes, width: u64, height: u64) -> Result<
     out.extend_from_slice(text.as_bytes())
 }
 
+/// Writes the opening of a page, with this style and these shapes.
+#[tactic(auto, unfolding(crate::specs::Pages::head_with))]
+fn put_head_with(
+    alloc: Global,
+    out: &mut Bytes,
+    style: &str,
+    shapes: &str,
+    width: u64,
+    height: u64,
+) -> Result<(), NoMemory>
+    ensures { OnOk result (out.new ≡ out.old ++ head_with style.now shapes.now width height) }
+{
+    put_opening(alloc, out, width, height)?;
+    out.extend_from_slice(style.as_bytes())?;
+    out.extend_from_slice(shapes.as_bytes())?;
+    put_paper(alloc, out, width, height)
+}
+
 /// Writes the opening of a page, its style and its shapes.
-#[tactic(auto, unfolding(crate::specs::Pages::head))]
 fn put_head(alloc: Global, out: &mut Bytes, width: u64, height: u64) -> Result<(), NoMemory>
     ensures { OnOk result (out.new ≡ out.old ++ head width height) }
 {
-    put_opening(alloc, out, width, height)?;
-    out.extend_from_slice(STYLE.as_bytes())?;
-    out.extend_from_slice(SHAPES.as_bytes())?;
-    put_paper(alloc, out, width, height)?;
-    Ok(())
+    put_head_with(alloc, out, STYLE, SHAPES, width, height)
 }
 
 /// Writes the bands of the lane of a node, counted from 0.

@@ -1,6 +1,6 @@
 //! The thin bands of groups that are valid or invalid at a node.
 ghost use Rattle.std.specs.Prelude.{◌≡◌, ◌≤◌, ◌++◌, ◌==◌, ℕ, OnOk, IfOk, length, if◌then◌else◌};
-ghost use Rattle.mega_picture.specs.Validity.{change_if, change_of, is_end, is_of, ends_band, class_of, strip_opening, strip_text, validity_text, change_text, validity_texts};
+ghost use Rattle.mega_picture.specs.Validity.{change_if, change_of, is_end, is_of, ends_band, class_of, strip_opening, strip_text, strip_at, validity_text, change_text, validity_texts};
 ghost use Rattle.mega_picture.specs.Ends.{end_at};
 
 use crate::bands::{Band, Turn, turn_of};
@@ -88,6 +88,25 @@ fn put_strip(alloc: Global, out: &mut Bytes, x: u64, y: u64, height: u64) -> Res
     out.extend_from_slice(text.as_bytes())
 }
 
+/// Writes the strip of a group at a node between two steps.
+#[tactic(auto, unfolding(crate::specs::Validity::strip_at))]
+fn put_strip_at(
+    alloc: Global,
+    out: &mut Bytes,
+    sheet: Sheet,
+    node: u8,
+    group: u32,
+    from: u32,
+    to: u32,
+) -> Result<(), NoMemory>
+    ensures { OnOk result (out.new ≡ out.old ++ strip_at sheet node group from to) }
+{
+    let aside = FIRST + u64::from(group % COLUMNS) * APART;
+    let x = sheet.lane(node).saturating_sub(aside);
+    let y = step(from);
+    put_strip(alloc, out, x, y, step(to).saturating_sub(y))
+}
+
 /// Writes the band of a group at a node between two steps.
 #[tactic(auto, unfolding(crate::specs::Validity::validity_text))]
 fn put_validity(
@@ -104,11 +123,7 @@ fn put_validity(
 {
     put_opening(alloc, out, class_of(change.valid))?;
     put_cut(out, line, sheet.title_room())?;
-    let aside = FIRST + u64::from(change.group % COLUMNS) * APART;
-    let x = sheet.lane(node).saturating_sub(aside);
-    let y = step(from);
-    put_strip(alloc, out, x, y, step(to).saturating_sub(y))?;
-    Ok(())
+    put_strip_at(alloc, out, sheet, node, change.group, from, to)
 }
 
 /// Where the bands of groups at a node end, looking back from the foot of the page.
