@@ -32,8 +32,10 @@ fn check(rt: &impl Abort, alloc: Global, declared: &str, rows: &str) -> Result<(
     let schema = schema(alloc, declared)?;
     for row in rows.lines() {
         let line = fed(alloc, row)?;
-        let made = written_back(alloc, &schema, line.as_slice())?;
-        assert_eq!(rt; made.as_slice(), line.as_slice(), "{row}");
+        match written_back(alloc, &schema, line.as_slice()) {
+            Ok(made) => assert_eq!(rt; made.as_slice(), line.as_slice(), "{row}"),
+            Err(fault) => return Err(fault.into()),
+        }
     }
     Ok(())
 }

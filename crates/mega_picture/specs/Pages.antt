@@ -19,11 +19,11 @@ use Rattle.mega_picture.specs.ArrowTexts.{arrow_texts}
 use Rattle.mega_picture.specs.ArrowNames.{arrow_names}
 use Rattle.mega_picture.specs.MarkTexts.{mark_texts}
 
-abbrev pub opening : ℕ → ℕ → List ℕ
+unfoldable pub opening : ℕ → ℕ → List ℕ
 opening width height =
     codes "<svg xmlns=\"http://www.w3.org/2000/svg\" width=\"" ++ (decimal width ++ (codes "\" height=\"" ++ (decimal height ++ (codes "\" viewBox=\"0 0 " ++ (decimal width ++ (codes " " ++ (decimal height ++ codes "\">\n")))))))
 
-abbrev pub paper : ℕ → ℕ → List ℕ
+unfoldable pub paper : ℕ → ℕ → List ℕ
 paper width height = codes "<rect class=\"page\" width=\"" ++ (decimal width ++ (codes "\" height=\"" ++ (decimal height ++ codes "\"/>\n")))
 
 -- the opening, the style sheet, the shapes, and the paper

@@ -112,15 +112,22 @@ fn put_opening(alloc: Global, out: &mut Bytes, arrow: Arrow) -> Result<(), NoMem
     out.extend_from_slice(text.as_bytes())
 }
 
+/// Appends a text between two others.
+fn put_between(out: &mut Bytes, front: &[u8], text: &[u8], back: &[u8]) -> Result<(), NoMemory>
+    ensures { OnOk result (out.new ≡ out.old ++ (front.now ++ (text.now ++ back.now))) }
+{
+    out.extend_from_slice(front)?;
+    out.extend_from_slice(text)?;
+    out.extend_from_slice(back)
+}
+
 /// Closes the title of an arrow, and draws its line.
 #[tactic(auto, unfolding(crate::specs::ArrowTexts::drawn_path))]
 fn put_path(alloc: Global, out: &mut Bytes, sheet: Sheet, arrow: Arrow) -> Result<(), NoMemory>
     ensures { OnOk result (out.new ≡ out.old ++ drawn_path sheet arrow) }
 {
     let path = path_of(alloc, sheet, arrow)?;
-    out.extend_from_slice(b"</title><path d=\"")?;
-    out.extend_from_slice(path.as_bytes())?;
-    out.extend_from_slice(b"\"/>")?;
+    put_between(out, b"</title><path d=\"", path.as_bytes(), b"\"/>")?;
     Ok(())
 }
 

@@ -16,6 +16,7 @@ use crate::validity::put_validities;
 use mega_base::{Bytes, NoMemory, NodeKind};
 use std::alloc::Global;
 
+#[tactic(auto, unfolding(crate::specs::Pages::opening))]
 fn put_opening(alloc: Global, out: &mut Bytes, width: u64, height: u64) -> Result<(), NoMemory>
     ensures { OnOk result (out.new ≡ out.old ++ opening width height) }
 {
@@ -25,6 +26,7 @@ fn put_opening(alloc: Global, out: &mut Bytes, width: u64, height: u64) -> Resul
     out.extend_from_slice(text.as_bytes())
 }
 
+#[tactic(auto, unfolding(crate::specs::Pages::paper))]
 fn put_paper(alloc: Global, out: &mut Bytes, width: u64, height: u64) -> Result<(), NoMemory>
     ensures { OnOk result (out.new ≡ out.old ++ paper width height) }
 {
