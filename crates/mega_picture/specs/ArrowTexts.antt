@@ -52,13 +52,13 @@ path_of sheet arrow =
 unfoldable pub opening_of : Arrow → List ℕ
 opening_of arrow = codes "<g class=\"" ++ (class_of arrow.end ++ (codes " p" ++ (decimal (tone_of arrow.position) ++ codes "\"><title>")))
 
-unfoldable pub drawn_path : Sheet → Arrow → List ℕ
-drawn_path sheet arrow = codes "</title><path d=\"" ++ (path_of sheet arrow ++ codes "\"/>")
+unfoldable pub drawn : List ℕ → List ℕ
+drawn path = codes "</title><path d=\"" ++ (path ++ codes "\"/>")
 
 -- an arrow, with the line of the transcript as its title
 unfoldable pub arrow_text : Sheet → Arrow → List ℕ → List ℕ
 arrow_text sheet arrow line =
-    opening_of arrow ++ (shortened (title_room sheet) line ++ (drawn_path sheet arrow ++ codes "</g>\n"))
+    opening_of arrow ++ (shortened (title_room sheet) line ++ (drawn (path_of sheet arrow) ++ codes "</g>\n"))
 
 abbrev pub text_if : Sheet → List ℕ → Option Arrow → List ℕ
 text_if sheet line None = []

@@ -1,7 +1,7 @@
 //! How arrows are spelled in a page.
 ghost use Rattle.std.specs.Prelude.{◌≡◌, ◌≤◌, ◌++◌, OnOk, IfOk, length, string_bytes};
 ghost use Rattle.mega_picture.specs.Rows.{Follows};
-ghost use Rattle.mega_picture.specs.ArrowTexts.{class_of, line_path, bow_path, short_of, path_between, path_back, path_of, opening_of, drawn_path, arrow_text, text_if, arrow_texts};
+ghost use Rattle.mega_picture.specs.ArrowTexts.{class_of, line_path, bow_path, short_of, path_between, path_back, path_of, opening_of, drawn, arrow_text, text_if, arrow_texts};
 
 use crate::arrows::{Arrow, End, arrow_of};
 use crate::escape::put_cut;
@@ -112,22 +112,21 @@ fn put_opening(alloc: Global, out: &mut Bytes, arrow: Arrow) -> Result<(), NoMem
     out.extend_from_slice(text.as_bytes())
 }
 
-/// Appends a text between two others.
-fn put_between(out: &mut Bytes, front: &[u8], text: &[u8], back: &[u8]) -> Result<(), NoMemory>
-    ensures { OnOk result (out.new ≡ out.old ++ (front.now ++ (text.now ++ back.now))) }
+/// Closes the title of an arrow, and draws this line.
+#[tactic(auto, unfolding(crate::specs::ArrowTexts::drawn))]
+fn put_drawn(alloc: Global, out: &mut Bytes, path: &str) -> Result<(), NoMemory>
+    ensures { OnOk result (out.new ≡ out.old ++ drawn path.now) }
 {
-    out.extend_from_slice(front)?;
-    out.extend_from_slice(text)?;
-    out.extend_from_slice(back)
+    let text = format!(in alloc; "</title><path d=\"{path}\"/>")?;
+    out.extend_from_slice(text.as_bytes())
 }
 
 /// Closes the title of an arrow, and draws its line.
-#[tactic(auto, unfolding(crate::specs::ArrowTexts::drawn_path))]
 fn put_path(alloc: Global, out: &mut Bytes, sheet: Sheet, arrow: Arrow) -> Result<(), NoMemory>
-    ensures { OnOk result (out.new ≡ out.old ++ drawn_path sheet arrow) }
+    ensures { OnOk result (out.new ≡ out.old ++ drawn (path_of sheet arrow)) }
 {
     let path = path_of(alloc, sheet, arrow)?;
-    put_between(out, b"</title><path d=\"", path.as_bytes(), b"\"/>")?;
+    put_drawn(alloc, out, path.as_str())?;
     Ok(())
 }
 
