@@ -1,5 +1,5 @@
 mod Numbers
-mod Lists
+pub mod Lists
 mod RowKeys
 mod Ranges
 mod Adding
