@@ -9,10 +9,10 @@ use Rattle.mega_wire.specs.declared.message.Message.{Message}
 use Rattle.mega_schedule.specs.declared.world_event.WorldEvent.{WorldEvent}
 use Rattle.mega_schedule.specs.declared.world_event.WorldEvent.TheVariants.{Tick as TickEvent, Deliver, Drop, Drain, Crash as CrashEvent, Start as StartEvent, Fuse as FuseEvent, Begin as BeginEvent}
 use Rattle.mega_transcript.specs.declared.item.Item.{Item}
-use Rattle.mega_transcript.specs.declared.item.Item.TheVariants.{Taken, Dropped, Start, Tick as TickItem, Begin as BeginItem, Crash, Cut as CutItem}
+use Rattle.mega_transcript.specs.declared.item.Item.TheVariants.{Sent, Taken, Dropped, Start, Tick as TickItem, Begin as BeginItem, Crash, Cut as CutItem}
 use Rattle.mega_promises.specs.Items.{number, shown}
 use Rattle.mega_promises.specs.Messages.{is_deliverable, is_dropped, message_of, next_delivery, receiver_up}
-use Rattle.mega_promises.specs.Runs.{Calls, CutByData, CutByLog, Cuts, Fate, Fuse, Happening, IsRun, Left, Standing, Whole, after_event, at_node, because, calls_of, crashes, cut_start, cut_step, delivered, drained, fate_by, fated, fated_start, goes_on, handed, is_durable, is_kept, log_fuse_after, marked, nothing_yet, opening, owes, receiver_down, records_left, refusal, set_at, setting, start_calls, started_records, unless_none, unless_refused, up, whole_start, whole_step, with_item, with_items}
+use Rattle.mega_promises.specs.Runs.{Calls, CutByData, CutByLog, Cuts, Fate, Fuse, Happening, IsRun, Left, Standing, Whole, after_event, at_node, because, calls_of, crashes, cut_start, cut_step, delivered, drained, fate_by, fated, fated_start, goes_on, handed, is_durable, is_kept, log_fuse_after, marked, new_fuse, nothing_yet, opening, owes, receiver_down, records_left, refusal, set_at, setting, start_calls, started_records, unless_none, unless_refused, up, whole_start, whole_step, with_item, with_items}
 use Rattle.mega_transcript.specs.Tape.{is_sent, is_taken}
 use Rattle.mega_rules.specs.Met.{Met, Answers, Applies, Begins, Crashes, Starts, Takes, Ticks, Unsends}
 use Rattle.mega_rules.specs.Members.{has_rows, is_node, nodes}
@@ -67,7 +67,7 @@ at_self f me x = ap (λ t. cond t x (f me)) (number_self me)
 at_other : {X : Type 0} (f : ℕ → X) (me : ℕ) (x : X) (v : ℕ) → (me == v) ≡ false → set_at f me x v ≡ f v
 at_other f me x v h = ap (λ t. cond t x (f v)) h
 
-starts_plain : (s : Setting) (met : List Met) → Each IsPlain (start_notes s met)
+pub starts_plain : (s : Setting) (met : List Met) → Each IsPlain (start_notes s met)
 starts_plain s met = if_rows (has_rows s.cluster s.me)
   where
     note_plain : (group : GroupId) → Each IsPlain (start_note met group)
@@ -514,7 +514,7 @@ run_stands : (users : Users) → (c : Cluster) (first : Meanings) (events : List
 run_stands users c first events tape run fits = run_good users c run.cuts events (opening c first) fits (opened_good users c first (nodes c) nothing_yet (nothing_good users c))
 
 -- of any events, whatever was meant
-nobody : Users
+pub nobody : Users
 nobody = record { usage = record { meaning = λ text. None; handlers = λ moment. [] }; fits = ⊥ }
 
 no_fits : (events : List Happening) → nobody.fits → Fits nobody.usage events
@@ -538,3 +538,94 @@ run_answered c usage first events tape run fits = record {
   writes = run_written c usage first events tape run fits;
   answered = subst (AreAnswered c.schema usage) (sym run.tape_is) ((run_stands (record { usage = usage; fits = Fits usage events }) c first events tape run (λ f. f)).answered fits);
 }
+
+-- ---- what every run keeps
+
+-- an item that no node meets
+abbrev pub IsMark : Item → Type 0
+IsMark (Dropped number) = Unit {0}
+IsMark CutItem = Unit {0}
+IsMark _ = ⊥
+
+-- what each kind of event keeps of a good standing, whatever becomes of its step
+pub record Keeps (c : Cluster) (Q : Standing → Type 0) : Type 0 where
+  pub ticks : (h : Meanings) (now : Standing) (me clock : ℕ) (cut : Calls → Fate) → Good nobody c now → is_up (now.node me).met ≡ true → Q now → Q (at_node c h now me (shown me (Ticks clock)) (Tick clock) cut)
+  pub takes : (h : Meanings) (now : Standing) (j : ℕ) (m : Message) (cut : Calls → Fate) → Good nobody c now → is_up (now.node m.to).met ≡ true → Stands (Sent j m) now.tape → Q now
+      → Q (at_node c h now m.to (Taken j ∷ []) (Take m) cut)
+  pub begins : (h : Meanings) (now : Standing) (me : ℕ) (request : Request) (text : List ℕ) (cut : Calls → Fate) → Good nobody c now → is_up (now.node me).met ≡ true → Q now
+      → Q (at_node c h now me (shown me (Begins (op_of (setting c h me) (now.node me).met) text)) (Begin request text) cut)
+  pub starts : (h : Meanings) (now : Standing) (me : ℕ) (fate : Fate) → Good nobody c now → Q now → Q (fated_start c h now me fate)
+  pub crash : (now : Standing) (me : ℕ) → Good nobody c now → Q now → Q (crashes now me)
+  pub marks : (now : Standing) (item : Item) → IsMark item → Good nobody c now → Q now → Q (marked now item)
+  pub fuses : (now : Standing) (log_fuse data_fuse : ℕ → Option Fuse) → Q now
+      → Q (record { tape = now.tape; node = now.node; log_fuse = log_fuse; data_fuse = data_fuse; starts = now.starts; records = now.records; owed = now.owed })
+
+none_brought : (h : Meanings) → nobody.fits → Brought (nobody.usage) h
+unfolding nobody
+none_brought h f = absurd f
+
+none_meant : (event : WorldEvent) → nobody.fits → IsMeant (nobody.usage) event
+unfolding nobody
+none_meant event f = absurd f
+
+module _ (c : Cluster) (Q : Standing → Type 0) (k : Keeps c Q) where
+  handed_kept : (h : Meanings) (cuts : Cuts) (now : Standing) (j : ℕ) (o : Option Message) → message_of now.tape j ≡ o → receiver_up (up now) o ≡ true → Good nobody c now → Q now → Q (handed c h cuts now j o)
+  handed_kept h cuts now j None is r g q = q
+  handed_kept h cuts now j (Some m) is r g q = (k.takes) h now j m (cuts now m.to) g r (stands_sent now.tape j m is) q
+
+  deliverable_kept : (h : Meanings) (cuts : Cuts) (now : Standing) (j : ℕ) → next_delivery (up now) now.tape ≡ Some j → Good nobody c now → Q now → Q (delivered c h cuts now j)
+  deliverable_kept h cuts now j e g q = handed_kept h cuts now j (message_of now.tape j) refl
+      (both_true (not (is_taken now.tape j) && not (is_dropped now.tape j)) (receiver_up (up now) (message_of now.tape j)) (found (is_deliverable (up now) now.tape) _ j e)).1 g q
+
+  drained_kept : (h : Meanings) (cuts : Cuts) (most : ℕ) (now : Standing) → Good nobody c now → Q now → Q (drained c h cuts now most)
+  drained_kept h cuts zero now g q = go (next_delivery (up now) now.tape)
+    where
+      go : (o : Option ℕ) → Q (unless_none now (λ j. marked now CutItem) o)
+      go None = q
+      go (Some j) = (k.marks) now CutItem tt g q
+  drained_kept h cuts (suc most) now g q = go (next_delivery (up now) now.tape) refl (λ j. drained_kept h cuts most (delivered c h cuts now j))
+    where
+      go : (o : Option ℕ) → next_delivery (up now) now.tape ≡ o
+          → ((j : ℕ) → Good nobody c (delivered c h cuts now j) → Q (delivered c h cuts now j) → Q (drained c h cuts (delivered c h cuts now j) most))
+          → Q (unless_none now (λ j. drained c h cuts (delivered c h cuts now j) most) o)
+      go None e more = q
+      go (Some j) e more = more j (deliverable_good nobody c h (none_brought h) cuts now j e g) (deliverable_kept h cuts now j e g q)
+
+  down_kept : (h : Meanings) (cuts : Cuts) (now : Standing) (j : ℕ) (o : Option Message) → message_of now.tape j ≡ o → receiver_down now o ≡ false → Good nobody c now → Q now → Q (handed c h cuts now j o)
+  down_kept h cuts now j None is r g q = q
+  down_kept h cuts now j (Some m) is r g q = handed_kept h cuts now j (Some m) is (not_false (up now m.to) r) g q
+
+  event_kept : (h : Meanings) (cuts : Cuts) (now : Standing) (event : WorldEvent) → refusal c now event ≡ None → Good nobody c now → Q now → Q (after_event c h cuts now event)
+  event_kept h cuts now (TickEvent node clock) r g q =
+      let second = (not_because (not (is_node c node.0)) 6 _ r).1 in let third = (not_because (not (up now node.0)) 1 _ second).0 in
+      (k.ticks) h now node.0 clock (cuts now node.0) g (not_false (up now node.0) third) q
+  event_kept h cuts now (Deliver j) r g q =
+      let second = (not_because (not (is_sent now.tape j)) 3 _ r).1 in let third = (not_because (is_dropped now.tape j) 4 _ second).1 in
+      down_kept h cuts now j (message_of now.tape j) refl (not_because (receiver_down now (message_of now.tape j)) 1 None third).0 g q
+  event_kept h cuts now (Drop j) r g q = (k.marks) now (Dropped j) tt g q
+  event_kept h cuts now (Drain most) r g q = drained_kept h cuts most now g q
+  event_kept h cuts now (CrashEvent node) r g q = (k.crash) now node.0 g q
+  event_kept h cuts now (StartEvent node) r g q = (k.starts) h now node.0 (fate_by now node.0 (cuts now node.0) (start_calls c node.0)) g q
+  event_kept h cuts now (FuseEvent node calls image Log) r g q = (k.fuses) now (set_at now.log_fuse node.0 (new_fuse calls image)) now.data_fuse q
+  event_kept h cuts now (FuseEvent node calls image Data) r g q = (k.fuses) now now.log_fuse (set_at now.data_fuse node.0 (new_fuse calls image)) q
+  event_kept h cuts now (BeginEvent node request text) r g q =
+      let second = (not_because (not (is_node c node.0)) 6 _ r).1 in let third = (not_because (not (up now node.0)) 1 _ second).0 in
+      (k.begins) h now node.0 request text (cuts now node.0) g (not_false (up now node.0) third) q
+
+  all_kept : (cuts : Cuts) (events : List Happening) (now : Standing) → Good nobody c now → Q now → Q (goes_on c cuts now events)
+  all_kept cuts [] now g q = q
+  all_kept cuts (one ∷ events) now g q = go (refusal c now one.event) refl (all_kept cuts events)
+    where
+      go : (o : Option ℕ) → refusal c now one.event ≡ o → ((next : Standing) → Good nobody c next → Q next → Q (goes_on c cuts next events))
+          → Q (goes_on c cuts (unless_refused now (after_event c one.handlers cuts now one.event) o) events)
+      go None r more = more (after_event c one.handlers cuts now one.event)
+          (event_good nobody c one.handlers (none_brought one.handlers) cuts now one.event (none_meant one.event) r g) (event_kept one.handlers cuts now one.event r g q)
+      go (Some why) r more = more now g q
+
+  opened_kept : (h : Meanings) (those : List ℕ) (now : Standing) → Good nobody c now → Q now → Q (fold (λ now me. fated_start c h now me Whole) now those)
+  opened_kept h [] now g q = q
+  opened_kept h (me ∷ those) now g q = opened_kept h those (fated_start c h now me Whole) (start_good nobody c h now me g) ((k.starts) h now me Whole g q)
+
+  -- what each event keeps, and held at first, holds of every run
+  pub run_keeps : (first : Meanings) (events : List Happening) (tape : List Item) → (run : IsRun c first events tape) → Q nothing_yet → Q (goes_on c run.cuts (opening c first) events)
+  run_keeps first events tape run q = all_kept run.cuts events (opening c first) (opened_good nobody c first (nodes c) nothing_yet (nothing_good nobody c)) (opened_kept first (nodes c) nothing_yet (nothing_good nobody c) q)
