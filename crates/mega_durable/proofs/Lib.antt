@@ -1,0 +1,6 @@
+pub mod Noted
+pub mod Cutting
+pub mod Going
+pub mod Upheld
+pub mod Appending
+pub mod AtStart

@@ -1,0 +1,11 @@
+//! A node over its records: nothing that it promises is sent before its record is kept (Lamport 2001; CIDR 2011).
+#![tactic(auto)]
+
+mod fault;
+mod keeping;
+mod starting;
+mod up;
+
+pub use fault::UpFault;
+pub use starting::{NotStarted, Started};
+pub use up::Up;
