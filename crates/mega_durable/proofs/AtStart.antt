@@ -1,13 +1,15 @@
 -- What the records hold once the record of a start is there: the node that the rules start.
-use Rattle.std.proofs.Common.{◌≡◌, ℕ, ◌+◌, ◌<◌, ◌≤◌, min, true, List, [], ◌∷◌, None, refl, sym, ap, subst, ◌∙◌, arith}
+use Rattle.std.proofs.Common.{◌≡◌, ◌⊎◌, inl, inr, ℕ, ◌+◌, ◌<◌, ◌≤◌, min, true, List, [], ◌∷◌, None, refl, sym, ap, subst, ◌∙◌, arith}
 use Rattle.std.specs.List.{All, list_all}
 use Rattle.std.proofs.lemmas.List.Elements.{All-head, All-tail, All-weaker}
+use Rattle.mega_wal.specs.declared.item.JournalItem.{JournalItem}
 use Rattle.mega_wal.specs.declared.item.JournalItem.TheVariants.{Start}
 use Rattle.mega_rules.specs.Clock.{start_of}
 use Rattle.mega_rules.specs.Met.{Met, Starts}
 use Rattle.mega_rules.specs.Operations.{Setting}
 use Rattle.mega_rules.specs.Steps.{onto, start, start_items, start_notes}
-use Rattle.mega_voter.specs.Holding.{HoldsMet, is_no_start, starts_after}
+use Rattle.mega_voter.specs.Holding.{GoesOn, HoldsMet, is_no_start, starts_after}
+use Rattle.mega_voter.specs.Telling.{AreHonest}
 use Rattle.mega_voter.specs.Journal.{item_of}
 use Rattle.mega_voter.proofs.Begun.{start_on}
 use Rattle.mega_voter.proofs.Held.{silent_held}
@@ -15,6 +17,8 @@ use Rattle.mega_voter.proofs.Told.{silent_start}
 use Rattle.mega_node_laws.proofs.Ending.{onto_append}
 use Rattle.mega_core.proofs.Anew.{notes_quiet}
 use Rattle.mega_core.proofs.Silent.{IsMute, IsQuiet}
+use Rattle.mega_promises.specs.Runs.{AsItWas, Recorded}
+use Rattle.mega_durable.specs.Cut.{MayLeaveStart}
 
 held_on : (records : List (List ℕ)) (starts : ℕ) (items met : List Met) → All IsMute items → HoldsMet records starts met → HoldsMet records starts (onto items met)
 held_on records starts [] met mute holds = holds
@@ -48,3 +52,24 @@ started_holds s starts met owed records are few holds =
 
     number : starts_after (Start ∷ []) starts ≡ start_of (onto (start_items s (starts + 1) owed met) met)
     number = least starts few ∙ sym (ap start_of all ∙ (start_stays notes now mute ∙ start_on owed (Starts (starts + 1) ∷ met) are))
+
+-- ---- a start that is cut off
+pub least_start : (starts : ℕ) → starts < 4294967295 → starts_after (Start ∷ []) starts ≡ starts + 1
+least_start starts few = least starts few
+  where
+    least : (n : ℕ) → n < 4294967295 → min (n + 1) 4294967295 ≡ n + 1
+    least n lt = omega arith
+
+-- its record says that the node started once more, and nothing else
+pub same_goes : (starts : ℕ) (met : List Met) (items : List JournalItem) → items ≡ Start ∷ [] → starts < 4294967295 → start_of met ≤ starts → AreHonest met → GoesOn items starts met met
+same_goes starts met items one few later honest =
+    subst (λ (items : List JournalItem). GoesOn items starts met met) (sym one) (record { journal = refl; later = more (start_of met) starts later few; honest = honest })
+  where
+    more : (a n : ℕ) → a ≤ n → n < 4294967295 → a ≤ min (n + 1) 4294967295
+    more a n le lt = omega arith
+
+pub left_by_start : (starts : ℕ) (met : List Met) (items : List JournalItem) (found : List (List ℕ)) → items ≡ Start ∷ [] → starts < 4294967295
+    → HoldsMet found starts met ⊎ HoldsMet found (starts_after items starts) met → MayLeaveStart starts met found
+left_by_start starts met items found one few (inl holds) = (AsItWas, holds)
+left_by_start starts met items found one few (inr holds) =
+    (Recorded, subst (λ (n : ℕ). HoldsMet found n met) (ap (λ (items : List JournalItem). starts_after items starts) one ∙ least_start starts few) holds)

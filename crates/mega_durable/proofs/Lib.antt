@@ -4,3 +4,4 @@ pub mod Going
 pub mod Upheld
 pub mod Appending
 pub mod AtStart
+pub mod Stepping

@@ -18,7 +18,7 @@ use Rattle.mega_node_laws.specs.Acted.{own_item}
 use Rattle.mega_node_laws.proofs.Ending.{step_met}
 use Rattle.mega_core.specs.Staging.{Stages}
 use Rattle.mega_promises.specs.Runs.{AsItWas, Recorded, owes, replies_in}
-use Rattle.mega_durable.specs.Standing.{HoldsCut, MayLeave}
+use Rattle.mega_durable.specs.Cut.{HoldsCut, MayLeave}
 use Rattle.mega_durable.proofs.Noted.{HasParts, is_noted, step_parts}
 use Rattle.mega_durable.proofs.Cutting.{cut_beside, cut_start, whole_start}
 use Rattle.mega_durable.proofs.Going.{cut_goes, made_few, none_started, one_reply_in, staged_few, staged_formed, whole_goes}
@@ -77,9 +77,12 @@ step_cut s node event staged stages honest =
     parts : HasParts (step s node event) (replies_in s.cluster s.me node.met event)
     parts = step_parts s node event
 
+pub cut_before : (s : Setting) (node : Node) (event : Event) (found : List (List ℕ)) → HoldsMet found (start_of node.met) node.met → HoldsCut s node event found AsItWas
+cut_before s node event found holds =
+    (silent_held found (start_of node.met) (own_item s node event ∷ node.met) Crashes refl).0 ((silent_held found (start_of node.met) node.met (own_item s node event) (own_silent s node event)).0 holds)
+
 pub as_it_was : (s : Setting) (node : Node) (event : Event) (found : List (List ℕ)) → HoldsMet found (start_of node.met) node.met → MayLeave s node event found
-as_it_was s node event found holds =
-    (AsItWas, (silent_held found (start_of node.met) (own_item s node event ∷ node.met) Crashes refl).0 ((silent_held found (start_of node.met) node.met (own_item s node event) (own_silent s node event)).0 holds))
+as_it_was s node event found holds = (AsItWas, cut_before s node event found holds)
 
 pub left_by_record : (s : Setting) (node : Node) (event : Event) (staged : List JournalItem) (found : List (List ℕ)) → Stages staged node.met (step s node event).node.met
     → HoldsMet found (start_of node.met) node.met

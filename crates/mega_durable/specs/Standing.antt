@@ -1,32 +1,38 @@
--- How a node over its records stands to the node of the rules: while it is up, and where a step of it is cut off.
-use Rattle.std.specs.Prelude.{◌≡◌, ℕ, Bool, false, if◌then◌else◌, List, [], ◌∷◌, All}
-use Rattle.mega_cluster.specs.declared.cluster.Cluster.{Cluster}
+-- How a node over its records stands to the node of the rules: while it is up, and where it starts.
+use Rattle.std.specs.Prelude.{◌≡◌, ℕ, false, List, [], All}
 use Rattle.mega_disk.specs.declared.records.Records.{Ghosts}
 use Rattle.mega_disk.specs.VersionMaps.{Versions}
 use Rattle.mega_handler.specs.Named.{Meanings}
 use Rattle.mega_wal.specs.Items.{IsItem}
 use Rattle.mega_rules.specs.Clock.{start_of}
 use Rattle.mega_rules.specs.Logs.{log_of}
-use Rattle.mega_rules.specs.Met.{Met, Crashes}
+use Rattle.mega_rules.specs.Met.{Met}
 use Rattle.mega_rules.specs.Operations.{Node as RuleNode, Setting}
 use Rattle.mega_rules.specs.Steps.{Begin, Event, Take, Tick, onto, step}
 use Rattle.mega_leases.specs.Opening.{AreOwed}
 use Rattle.mega_voter.specs.declared.voter.Voter.{Voter}
 use Rattle.mega_voter.specs.Holding.{HoldsMet, Recalls}
 use Rattle.mega_voter.specs.Journal.{journal_of}
-use Rattle.mega_node_laws.specs.Acted.{acted_on, decision_in, own_item}
+use Rattle.mega_node_laws.specs.Acted.{acted_on, decision_in}
 use Rattle.mega_node_laws.specs.Own.{HasOwnRows}
+use Rattle.mega_actions.specs.Stands.{setting}
 use Rattle.mega_core.specs.declared.node.Node.{Node}
 use Rattle.mega_core.specs.Placed.{IsPlaced}
 use Rattle.mega_core.specs.Standing.{StandsFor}
-use Rattle.mega_promises.specs.Runs.{Left, is_kept, owes, replies_in}
+
+-- the records of a node, and its setting
+abbrev pub records_in : {R V : Type 0} → Node R V → R
+records_in one = one.replica.voter.logs.records
+
+abbrev pub setting_of : {R V : Type 0} → Node R V → Meanings → Setting
+setting_of one h = setting one.replica.members one.replica.me h
 
 -- a node that is up: it stands for that of the rules, nothing is staged, its records are open, and they hold what the node met
 pub record IsUp {R V : Type 0} (store : Ghosts R) (version : V → Versions) (h : Meanings) (one : Node R V) (node : RuleNode) : Type 0 where
   pub stands : StandsFor version h one node
   pub empty : one.replica.voter.logs.staged.items ≡ []
-  pub ready : store.is_spent one.replica.voter.logs.records ≡ false
-  pub holds : HoldsMet (store.list one.replica.voter.logs.records) (start_of node.met) node.met
+  pub ready : store.is_spent (records_in one) ≡ false
+  pub holds : HoldsMet (store.list (records_in one)) (start_of node.met) node.met
 
 -- a decision that a message brings is at a position from 1 on
 abbrev pub IsPlacedAt : Setting → RuleNode → Event → Type 0
@@ -39,15 +45,6 @@ pub record MayHappen (s : Setting) (node : RuleNode) (event : Event) : Type 0 wh
   pub owned : HasOwnRows s.cluster.schema (log_of (acted_on s node event))
   pub placed : IsPlacedAt s node event
   pub formed : All IsItem (journal_of (step s node event).node.met)
-
--- a step that is cut off and leaves this: these records hold what the node met until the crash, and what the next start owes
-abbrev pub HoldsCut : Setting → RuleNode → Event → List (List ℕ) → Left → Type 0
-HoldsCut s node event found left =
-    HoldsMet found (start_of node.met) (onto (if is_kept left then owes (step s node event) (replies_in s.cluster s.me node.met event) else []) (Crashes ∷ own_item s node event ∷ node.met))
-
--- what a crash at some moment of a step may leave
-abbrev pub MayLeave : Setting → RuleNode → Event → List (List ℕ) → Type 0
-MayLeave s node event found = (left : Left) × HoldsCut s node event found left
 
 -- logs over which a node may start: they recall what it met and owes, their records are open and hold it
 pub record MayStart {R : Type 0} (store : Ghosts R) (voter : Voter R) (starts : ℕ) (met owed : List Met) : Type 0 where

@@ -1,7 +1,7 @@
 //! A node starts over the logs that its earlier starts left: its record is kept before anything of the start is given out.
-ghost use Rattle.std.specs.Prelude.{◌≡◌, ◌+◌, ◌∷◌, [], ℕ, List, map, None, true, IfOk};
+ghost use Rattle.std.specs.Prelude.{◌≡◌, ◌+◌, ◌∷◌, [], ℕ, List, map, None, Some, true, false, IfOk, IfErr, MatchResult};
+ghost use Rattle.mega_disk.specs.Images.{LeavesOnly};
 ghost use Rattle.mega_handler.specs.Named.{Meanings};
-ghost use Rattle.mega_leases.specs.Opening.{AreOwed};
 ghost use Rattle.mega_rules.specs.Members.{is_node};
 ghost use Rattle.mega_rules.specs.Met.{Met, Starts};
 ghost use Rattle.mega_rules.specs.Steps.{onto, start, start_notes};
@@ -12,7 +12,9 @@ ghost use Rattle.mega_actions.specs.Stands.{setting};
 ghost use Rattle.mega_core.specs.Notes.{met_of};
 ghost use Rattle.mega_core.specs.Served.{IsServed};
 ghost use Rattle.mega_core.specs.Standing.{StandsFor};
-ghost use Rattle.mega_durable.specs.Standing.{IsUp, MayStart};
+ghost use Rattle.mega_durable.specs.Cut.{LogWent, MayLeaveStart};
+ghost use Rattle.mega_durable.specs.Standing.{IsUp, records_in};
+ghost use Rattle.mega_durable.specs.Starting.{AtEachStart, AtStarts, IsRefused, LeavesStart};
 
 use crate::up::Up;
 use mega_actions::Replica;
@@ -37,25 +39,17 @@ pub struct Started<R: Records, V: Versions> {
 pub enum NotStarted<R: Records> {
     /// It started 4,294,967,295 times.
     StartsFull { records: R },
-    /// The record of the start was not kept for certain: the start is cut off, and shows nothing.
+    /// The device of the log failed as the record of the start was appended: the start is cut off, and shows nothing.
+    Cut { records: R },
+    /// The record of the start was not kept for another cause.
     Log { fault: LogFault, records: R },
     /// An allocation was refused, and the records are lost.
     NoMemory,
 }
 
-impl<R: Records> From<RestartFault> for NotStarted<R> {
-    ghost use Rattle.mega_durable.specs.declared.starting.NotStarted.TheVariants.{NoMemory as OutOfMemory};
-
-    ghost from_gives = { λ _ e. e ≡ OutOfMemory };
-
-    fn from(_refused: RestartFault) -> NotStarted<R> {
-        NotStarted::NoMemory
-    }
-}
-
 /// The records of a node.
-pub(crate) fn records_of<R: Records + Drop, V: Versions + Drop>(node: Node<R, V>) -> R
-    ensures { result ≡ node.replica.voter.logs.records }
+pub(crate) fn into_records<R: Records + Drop, V: Versions + Drop>(node: Node<R, V>) -> R
+    ensures { result ≡ records_in node }
 {
     let Node { replica, .. } = node;
     let Replica { voter, .. } = replica;
@@ -66,13 +60,17 @@ pub(crate) fn records_of<R: Records + Drop, V: Versions + Drop>(node: Node<R, V>
 fn kept<R: Records + Drop, V: Versions + Drop>(
     alloc: Global,
     made: Restarted<R, V>,
-) -> Result<Started<R, V>, NotStarted<R>>
+) -> Result<Started<R, V>, (LogFault, R)>
     requires one { made.node.replica.voter.logs.staged.items ≡ StartItem ∷ [] }
     ensures stands { IfOk result (λ started. (h : Meanings) (node : RuleNode) → StandsFor V.version h made.node node → StandsFor V.version h started.up.node node) }
     ensures empty { IfOk result (λ started. started.up.node.replica.voter.logs.staged.items ≡ []) }
-    ensures ready { IfOk result (λ started. R.is_spent started.up.node.replica.voter.logs.records ≡ R.is_spent made.node.replica.voter.logs.records) }
-    ensures holds { R.is_told ≡ true → IfOk result (λ started. (starts : ℕ) (before met : List Met) → HoldsMet (R.list made.node.replica.voter.logs.records) starts before → GoesOn (StartItem ∷ []) starts before met →
-        HoldsMet (R.list started.up.node.replica.voter.logs.records) (starts_after (StartItem ∷ []) starts) met) }
+    ensures ready { IfOk result (λ started. R.is_spent (records_in started.up.node) ≡ R.is_spent (records_in made.node)) }
+    ensures holds { R.is_told ≡ true → IfOk result (λ started. (starts : ℕ) (before met : List Met) → HoldsMet (R.list (records_in made.node)) starts before → GoesOn (StartItem ∷ []) starts before met →
+        HoldsMet (R.list (records_in started.up.node)) (starts_after (StartItem ∷ []) starts) met) }
+    ensures counted { IfOk result (λ started. R.count_of (records_in started.up.node) ≡ R.count_of (records_in made.node) + 1) }
+    ensures cut { R.is_told ≡ true → R.is_spent (records_in made.node) ≡ false → MatchResult result (λ started. AtStarts R.Records (records_in made.node) (λ starts met. LeavesOnly R.moment R.opened_since (records_in made.node) (records_in started.up.node) (MayLeaveStart starts met)))
+        (λ refused. AtStarts R.Records (records_in made.node) (λ starts met. LeavesOnly R.moment R.opened_since (records_in made.node) refused.1 (MayLeaveStart starts met))) }
+    ensures went { MatchResult result (λ started. LogWent R.Records None (records_in made.node) (records_in started.up.node)) (λ refused. LogWent R.Records (Some refused.0) (records_in made.node) refused.1) }
     ensures start { IfOk result (λ started. started.start ≡ made.start) }
     ensures notes { IfOk result (λ started. started.notes ≡ made.notes) }
     ensures members { IfOk result (λ started. started.up.node.replica.members ≡ made.node.replica.members) }
@@ -88,10 +86,7 @@ fn kept<R: Records + Drop, V: Versions + Drop>(
         }),
         Err(fault) => {
             drop(notes);
-            Err(NotStarted::Log {
-                fault,
-                records: records_of(node),
-            })
+            Err((fault, into_records(node)))
         }
     }
 }
@@ -109,11 +104,17 @@ impl<R: Records + Drop, V: Versions + Drop> Up<R, V> {
         requires served { IsServed cluster }
         requires member { is_node cluster me ≡ true }
         requires flushed { voter.logs.staged.items ≡ [] }
-        ensures state { R.is_told ≡ true → IfOk result (λ made. (h : Meanings) (starts : ℕ) (met owed : List Met) → MayStart R.Records voter starts met owed → ((key : List ℕ) (n : ℕ) → V.version rows key n ≡ None) →
-            IsUp R.Records V.version h made.up.node (start (setting cluster me h) (starts + 1) owed met)) }
-        ensures notes { IfOk result (λ made. (h : Meanings) (starts : ℕ) (met owed : List Met) → MayStart R.Records voter starts met owed →
-            map met_of made.notes ≡ start_notes (setting cluster me h) (onto owed (Starts (starts + 1) ∷ met))) }
+        ensures state { R.is_told ≡ true → IfOk result (λ made. AtEachStart R.Records voter (λ h starts met owed. ((key : List ℕ) (n : ℕ) → V.version rows key n ≡ None) →
+            IsUp R.Records V.version h made.up.node (start (setting cluster me h) (starts + 1) owed met))) }
+        ensures notes { IfOk result (λ made. AtEachStart R.Records voter (λ h starts met owed. map met_of made.notes ≡ start_notes (setting cluster me h) (onto owed (Starts (starts + 1) ∷ met)))) }
         ensures number { IfOk result (λ made. made.start ≡ voter.logs.kept.starts + 1) }
+        ensures counted { IfOk result (λ made. R.count_of (records_in made.up.node) ≡ R.count_of voter.logs.records + 1) }
+
+        // A crash at any moment of the start leaves the records from before, or these with the record of the start.
+        ensures cut { R.is_told ≡ true → MatchResult result (λ made. AtEachStart R.Records voter (λ h starts met owed. LeavesOnly R.moment R.opened_since voter.logs.records (records_in made.up.node) (MayLeaveStart starts (onto owed met))))
+            (λ refused. AtEachStart R.Records voter (λ h starts met owed. LeavesStart R.Records starts (onto owed met) voter.logs.records refused)) }
+
+        ensures went { MatchResult result (λ made. LogWent R.Records None voter.logs.records (records_in made.up.node)) (λ refused. IsRefused R.Records voter refused) }
         ensures members { IfOk result (λ made. made.up.node.replica.members ≡ cluster) }
         ensures me { IfOk result (λ made. made.up.node.replica.me ≡ me) }
     {
@@ -122,16 +123,22 @@ impl<R: Records + Drop, V: Versions + Drop> Up<R, V> {
                 records: voter.close().close(),
             });
         }
-        let made = Node::restart(alloc, cluster, me, voter, rows)?;
-        let started = kept(alloc, made)?;
-        Ok(started)
+        let made = match Node::restart(alloc, cluster, me, voter, rows) {
+            Ok(made) => made,
+            Err(_refused) => return Err(NotStarted::NoMemory),
+        };
+        match kept(alloc, made) {
+            Ok(started) => Ok(started),
+            Err((LogFault::DiskFault, records)) => Err(NotStarted::Cut { records }),
+            Err((fault, records)) => Err(NotStarted::Log { fault, records }),
+        }
     }
 
     /// The node crashes: what it kept in memory is gone, and its records are what the next start opens anew.
     pub fn crash(self) -> R
-        ensures { result ≡ self.node.replica.voter.logs.records }
+        ensures { result ≡ records_in self.node }
     {
         let Up { node } = self;
-        records_of(node)
+        into_records(node)
     }
 }
