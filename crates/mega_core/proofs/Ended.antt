@@ -4,6 +4,7 @@ use Rattle.std.specs.List.{All}
 use Rattle.std.proofs.lemmas.List.Elements.{All-weaker}
 use Rattle.mega_base.specs.declared.names.GroupId.{GroupId}
 use Rattle.mega_disk.specs.VersionMaps.{Versions}
+use Rattle.mega_wal.specs.declared.item.JournalItem.{JournalItem}
 use Rattle.mega_wal.specs.declared.kept.Kept.{Kept}
 use Rattle.mega_wire.specs.declared.message.Message.{Message}
 use Rattle.mega_rules.specs.Met.{Met, Sends}
@@ -30,7 +31,9 @@ use Rattle.mega_core.specs.Made.{Made}
 use Rattle.mega_core.specs.Notes.{met_of}
 use Rattle.mega_core.specs.Positions.{Keeps}
 use Rattle.mega_core.specs.Represents.{Represents}
+use Rattle.mega_core.specs.Staging.{Stages}
 use Rattle.mega_core.proofs.Alike.{IsApart, alike_tells, alike_then, all_apart_alike, validates_alike}
+use Rattle.mega_core.proofs.Staged.{mute_staged}
 use Rattle.mega_core.proofs.Silent.{IsMute, IsQuiet, applies_quiet, end_mute, ends_apart, mute_begun, mute_told, mute_undecided, sent_apart, sent_begun, sent_undecided, validate_mute}
 
 -- the notes of a step, one list after another
@@ -56,6 +59,11 @@ module _ (s : Setting) (base : List Met) (applies : List Met) (sends : List Mess
 
   noted_told : (kept : Kept) → Tells kept base → Tells kept noted
   noted_told kept tells = mute_told kept now.answers (onto now.valid (onto applies base)) mute_answers (mute_told kept now.valid (onto applies base) mute_valid (mute_told kept applies base mute_applies tells))
+
+  noted_staged : (staged : List JournalItem) (before : List Met) → Stages staged before base → Stages staged before noted
+  noted_staged staged before stages =
+      mute_staged staged before now.answers (onto now.valid (onto applies base)) mute_answers
+      (mute_staged staged before now.valid (onto applies base) mute_valid (mute_staged staged before applies base mute_applies stages))
 
   noted_begun : begun_of (onto (map Sends sends) noted) ≡ begun_of base
   noted_begun = sent_begun sends noted ∙ (mute_begun now.answers (onto now.valid (onto applies base)) mute_answers ∙ (mute_begun now.valid (onto applies base) mute_valid ∙ mute_begun applies base mute_applies))
@@ -141,5 +149,38 @@ step_made s node own locks durable opening closing now kept after leases version
       (subst (λ (all : List Message). (met : List Met) → MaySend met all → Tells kept met → Tells after (onto (map Sends all) met)) all_sent sent);
 }
   where
+    all_sent : sends ≡ (opening ++ now.sends) ++ closing
+    all_sent = sends_is ∙ ap (λ (w : Work). (opening ++ w.sends) ++ closing) h.work_is
+
+-- what is staged then, where what is sent is staged
+pub step_staged : (s : Setting) (node : Node) (own : Met) (locks durable : List Met) (opening closing : List Message) (now : Now)
+    (kept : Kept) (staged after : List JournalItem) (leases : Leases) (version : Versions) (progress : GroupId → Progress) (begun : ℕ) (work : Work)
+    (sends : List Message) (before : List Met)
+    → HasActed s kept leases version progress begun work (onto durable (onto locks (own ∷ node.met))) now
+    → sends ≡ (opening ++ work.sends) ++ closing
+    → MaySend (onto (ended s node own locks durable ((opening ++ now.sends) ++ closing) now).notes (own ∷ node.met)) ((opening ++ now.sends) ++ closing)
+    → ((before met : List Met) → MaySend met sends → Tells kept met → Stages staged before met → Stages after before (onto (map Sends sends) met))
+    → Stages staged before (onto durable (onto locks (own ∷ node.met)))
+    → Stages after before (ended s node own locks durable ((opening ++ now.sends) ++ closing) now).node.met
+step_staged s node own locks durable opening closing now kept staged after leases version progress begun work sends before h sends_is may sent stages =
+    coe 0 1 (i. Stages after before (onto (map Sends (all_sent i)) (sym notes_are i)))
+    (sent before all (subst (λ (sent_ones : List Message). MaySend all sent_ones) (sym all_sent) (subst (λ (met : List Met). MaySend met ((opening ++ now.sends) ++ closing)) notes_are may)) (noted_told s base applies sends now quiet h.acted kept h.tells)
+    (noted_staged s base applies sends now quiet h.acted staged before stages))
+  where
+    base : List Met
+    base = onto durable (onto locks (own ∷ node.met))
+
+    applies : List Met
+    applies = apply_notes s node.met node.stored now.met now.stored
+
+    quiet : All IsQuiet applies
+    quiet = applies_quiet s node.met node.stored now.met now.stored
+
+    all : List Met
+    all = onto now.answers (onto now.valid (onto applies base))
+
+    notes_are : onto ((((locks ++ durable) ++ applies) ++ now.valid) ++ now.answers) (own ∷ node.met) ≡ all
+    notes_are = onto_notes locks durable applies now.valid now.answers (own ∷ node.met)
+
     all_sent : sends ≡ (opening ++ now.sends) ++ closing
     all_sent = sends_is ∙ ap (λ (w : Work). (opening ++ w.sends) ++ closing) h.work_is

@@ -1,5 +1,6 @@
 pub mod Left
 pub mod Sent
+pub mod Staged
 pub mod Roles
 pub mod Replied
 pub mod Portions
@@ -18,3 +19,4 @@ pub mod Refused
 pub mod Failing
 pub mod Untouched
 pub mod Watched
+pub mod Anew

@@ -11,3 +11,6 @@ pub mod Beginning
 pub mod Taking
 pub mod Faults
 pub mod Ticking
+pub mod Staging
+pub mod Restarting
+pub mod Standing

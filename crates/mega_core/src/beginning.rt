@@ -158,6 +158,7 @@ impl<R: Records, V: Versions> Node<R, V> {
         ensures built { OnOk result ((h : Meanings) (node : RuleNode) →
             Represents (setting self.old.replica.members self.old.replica.me h) self.old.replica.voter.logs.kept self.old.replica.leases (V.version self.old.replica.rows.rows) (progress_at self.old.replica.rows.progress) self.old.open self.old.begun node →
             refusal (setting self.old.replica.members self.old.replica.me h) node request ≡ None → is_built request ≡ true) }
+        ensures voter { self.new.replica.voter ≡ self.old.replica.voter }
         ensures fares { Fares V.Versions (failed_by result) self.old.replica.rows.rows self.new.replica.rows.rows }
     {
         let op = next_op(&self.replica.voter, self.replica.me, self.begun);

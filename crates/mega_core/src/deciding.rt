@@ -12,6 +12,7 @@ ghost use Rattle.mega_replica.specs.Following.{Follows, progress_at};
 ghost use Rattle.mega_voter.specs.Telling.{Tells};
 ghost use Rattle.mega_core.specs.Notes.{met_of};
 ghost use Rattle.mega_core.specs.Placed.{IsPlaced};
+ghost use Rattle.mega_core.specs.Staging.{Stages};
 
 use crate::note::Note;
 use mega_base::{Copied, GroupId, Items, NoMemory, Position};
@@ -114,9 +115,13 @@ pub(crate) fn decision(
 }
 
 /// Keeps a decision at a position that was not decided.
+#[tactic(auto, using(crate::proofs::Staged::deciding_staged))]
 fn keep_new<R: Records>(alloc: Global, voter: &mut Voter<R>, found: &Chosen) -> Result<(), NoMemory>
-    ensures { OnOk result ((met : List Met) → is_none (decided met found.now.group found.now.position) ≡ true → 0 < found.now.position → Tells voter.old.logs.kept met →
+    ensures kept { OnOk result ((met : List Met) → is_none (decided met found.now.group found.now.position) ≡ true → 0 < found.now.position → Tells voter.old.logs.kept met →
         Tells voter.new.logs.kept (Decides found.now.group found.now.position found.now.entry ∷ met)) }
+    ensures staged { OnOk result ((before met : List Met) → is_none (decided met found.now.group found.now.position) ≡ true → Tells voter.old.logs.kept met → Stages voter.old.logs.staged.items before met →
+        Stages voter.new.logs.staged.items before (Decides found.now.group found.now.position found.now.entry ∷ met)) }
+    ensures records { voter.new.logs.records ≡ voter.old.logs.records }
 {
     let entry = found.entry.copy(alloc)?;
     match voter.decides(alloc, &found.group, Position(found.position), entry) {
@@ -142,6 +147,8 @@ pub(crate) fn decides<R: Records>(
 ) -> Result<Option<Chosen>, NoMemory>
     ensures new { IfOk result (λ d. (met : List Met) → Tells voter.old.logs.kept met → d ≡ if_new met found) }
     ensures state { IfOk result (λ d. (met : List Met) → IsPlaced d → Tells voter.old.logs.kept met → Tells voter.new.logs.kept (onto (decision_note d) met)) }
+    ensures staged { IfOk result (λ d. (before met : List Met) → Tells voter.old.logs.kept met → Stages voter.old.logs.staged.items before met → Stages voter.new.logs.staged.items before (onto (decision_note d) met)) }
+    ensures records { voter.new.logs.records ≡ voter.old.logs.records }
 {
     match found {
         Some(found) => {

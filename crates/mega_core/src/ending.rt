@@ -12,6 +12,7 @@ ghost use Rattle.mega_core.specs.Acted.{HasActed, ended};
 ghost use Rattle.mega_core.specs.Made.{Made};
 ghost use Rattle.mega_core.specs.Notes.{met_of};
 ghost use Rattle.mega_core.specs.Positions.{note_since};
+ghost use Rattle.mega_core.specs.Staging.{Stages};
 
 use crate::applying::{Before, apply_notes};
 use crate::joining::{add_sends, joined};
@@ -26,12 +27,15 @@ use mega_wire::Message;
 use std::alloc::Global;
 
 /// Tells the voter of a message that its node sends.
+#[tactic(auto, using(crate::proofs::Staged::sending_staged))]
 fn tell_sent<R: Records>(
     alloc: Global,
     voter: &mut Voter<R>,
     message: &Message,
 ) -> Result<(), NoMemory>
-    ensures { OnOk result ((met : List Met) → IsAnswer met message.now.body → Tells voter.old.logs.kept met → Tells voter.new.logs.kept (Sends message.now ∷ met)) }
+    ensures kept { OnOk result ((met : List Met) → IsAnswer met message.now.body → Tells voter.old.logs.kept met → Tells voter.new.logs.kept (Sends message.now ∷ met)) }
+    ensures staged { OnOk result ((before met : List Met) → IsAnswer met message.now.body → Tells voter.old.logs.kept met → Stages voter.old.logs.staged.items before met → Stages voter.new.logs.staged.items before (Sends message.now ∷ met)) }
+    ensures records { voter.new.logs.records ≡ voter.old.logs.records }
 {
     match voter.sent(alloc, message) {
         Ok(()) => Ok(()),
@@ -45,7 +49,9 @@ fn tell_all_sent<R: Records>(
     voter: &mut Voter<R>,
     sends: &[Message],
 ) -> Result<(), NoMemory>
-    ensures { OnOk result ((met : List Met) → MaySend met sends.now → Tells voter.old.logs.kept met → Tells voter.new.logs.kept (onto (map Sends sends.now) met)) }
+    ensures kept { OnOk result ((met : List Met) → MaySend met sends.now → Tells voter.old.logs.kept met → Tells voter.new.logs.kept (onto (map Sends sends.now) met)) }
+    ensures staged { OnOk result ((before met : List Met) → MaySend met sends.now → Tells voter.old.logs.kept met → Stages voter.old.logs.staged.items before met → Stages voter.new.logs.staged.items before (onto (map Sends sends.now) met)) }
+    ensures records { voter.new.logs.records ≡ voter.old.logs.records }
 {
     for message in sends {
         tell_sent(alloc, voter, message)?;
@@ -85,6 +91,12 @@ impl<R: Records, V: Versions> Node<R, V> {
             map met_of first ≡ locks ++ durable →
             MaySend (onto (ended (setting self.old.replica.members self.old.replica.me h) node own locks durable ((opening ++ now.sends) ++ closing) now).notes (own ∷ node.met)) ((opening ++ now.sends) ++ closing) →
             Made (setting self.new.replica.members self.new.replica.me h) made self.new.replica.voter.logs.kept self.new.replica.leases (V.version self.new.replica.rows.rows) (progress_at self.new.replica.rows.progress) self.new.open self.new.begun (ended (setting self.old.replica.members self.old.replica.me h) node own locks durable ((opening ++ now.sends) ++ closing) now)) }
+        ensures staged { OnOk result ((h : Meanings) (node : RuleNode) (own : Met) (locks durable : List Met) (now : Now) (before : List Met) →
+            HasActed (setting self.old.replica.members self.old.replica.me h) self.old.replica.voter.logs.kept self.old.replica.leases (V.version self.old.replica.rows.rows) (progress_at self.old.replica.rows.progress) self.old.begun work (onto durable (onto locks (own ∷ node.met))) now →
+            MaySend (onto (ended (setting self.old.replica.members self.old.replica.me h) node own locks durable ((opening ++ now.sends) ++ closing) now).notes (own ∷ node.met)) ((opening ++ now.sends) ++ closing) →
+            Stages self.old.replica.voter.logs.staged.items before (onto durable (onto locks (own ∷ node.met))) →
+            Stages self.new.replica.voter.logs.staged.items before (ended (setting self.old.replica.members self.old.replica.me h) node own locks durable ((opening ++ now.sends) ++ closing) now).node.met) }
+        ensures records { self.new.replica.voter.logs.records ≡ self.old.replica.voter.logs.records }
         ensures members { self.new.replica.members ≡ self.old.replica.members }
         ensures me { self.new.replica.me ≡ self.old.replica.me }
         ensures rows { self.new.replica.rows ≡ self.old.replica.rows }

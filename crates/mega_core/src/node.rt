@@ -6,6 +6,7 @@ ghost use Rattle.mega_node_laws.specs.Own.{HasOwnRows};
 ghost use Rattle.mega_leases.specs.Taking.{IsByStranger, IsLate};
 ghost use Rattle.mega_rules.specs.Logs.{log_of};
 ghost use Rattle.mega_rules.specs.Members.{is_node};
+ghost use Rattle.mega_rules.specs.Met.{Met};
 ghost use Rattle.mega_rules.specs.Operations.{Node as RuleNode};
 ghost use Rattle.mega_rules.specs.Steps.{Begin, Take, Tick, start, step};
 ghost use Rattle.mega_replica.specs.Faring.{Fares};
@@ -19,6 +20,8 @@ ghost use Rattle.mega_core.specs.Notes.{met_of};
 ghost use Rattle.mega_core.specs.Placed.{IsPlaced};
 ghost use Rattle.mega_core.specs.Represents.{Represents};
 ghost use Rattle.mega_core.specs.Served.{IsServed};
+ghost use Rattle.mega_core.specs.Staging.{Stages};
+ghost use Rattle.mega_core.specs.Standing.{StandsFor};
 
 use crate::applying::watched;
 use crate::fault::StepFault;
@@ -101,6 +104,10 @@ impl<R: Records, V: Versions> Node<R, V> {
             Represents (setting self.old.replica.members self.old.replica.me h) self.old.replica.voter.logs.kept self.old.replica.leases (V.version self.old.replica.rows.rows) (progress_at self.old.replica.rows.progress) self.old.open self.old.begun node →
             HasOwnRows self.old.replica.members.schema (log_of (acted_on (setting self.old.replica.members self.old.replica.me h) node (Take message.now))) → IsPlaced (decision_in (setting self.old.replica.members self.old.replica.me h) node message.now) →
             Represents (setting self.new.replica.members self.new.replica.me h) self.new.replica.voter.logs.kept self.new.replica.leases (V.version self.new.replica.rows.rows) (progress_at self.new.replica.rows.progress) self.new.open self.new.begun (step (setting self.old.replica.members self.old.replica.me h) node (Take message.now)).node) }
+        ensures staged { V.is_told ≡ true → OnOk result ((h : Meanings) (node : RuleNode) (before : List Met) → StandsFor V.version h self.old node →
+            HasOwnRows self.old.replica.members.schema (log_of (acted_on (setting self.old.replica.members self.old.replica.me h) node (Take message.now))) → IsPlaced (decision_in (setting self.old.replica.members self.old.replica.me h) node message.now) →
+            Stages self.old.replica.voter.logs.staged.items before node.met → Stages self.new.replica.voter.logs.staged.items before (step (setting self.old.replica.members self.old.replica.me h) node (Take message.now)).node.met) }
+        ensures records { self.new.replica.voter.logs.records ≡ self.old.replica.voter.logs.records }
         ensures members { self.new.replica.members ≡ self.old.replica.members }
         ensures me { self.new.replica.me ≡ self.old.replica.me }
         ensures built { result ≡ Err Unbuilt → (h : Meanings) (node : RuleNode) → Represents (setting self.old.replica.members self.old.replica.me h) self.old.replica.voter.logs.kept self.old.replica.leases (V.version self.old.replica.rows.rows) (progress_at self.old.replica.rows.progress) self.old.open self.old.begun node → ⊥ }
@@ -136,6 +143,10 @@ impl<R: Records, V: Versions> Node<R, V> {
             Represents (setting self.old.replica.members self.old.replica.me h) self.old.replica.voter.logs.kept self.old.replica.leases (V.version self.old.replica.rows.rows) (progress_at self.old.replica.rows.progress) self.old.open self.old.begun node →
             HasOwnRows self.old.replica.members.schema (log_of (acted_on (setting self.old.replica.members self.old.replica.me h) node (Begin request text.now))) →
             Represents (setting self.new.replica.members self.new.replica.me h) self.new.replica.voter.logs.kept self.new.replica.leases (V.version self.new.replica.rows.rows) (progress_at self.new.replica.rows.progress) self.new.open self.new.begun (step (setting self.old.replica.members self.old.replica.me h) node (Begin request text.now)).node) }
+        ensures staged { V.is_told ≡ true → OnOk result ((h : Meanings) (node : RuleNode) (before : List Met) → StandsFor V.version h self.old node →
+            HasOwnRows self.old.replica.members.schema (log_of (acted_on (setting self.old.replica.members self.old.replica.me h) node (Begin request text.now))) →
+            Stages self.old.replica.voter.logs.staged.items before node.met → Stages self.new.replica.voter.logs.staged.items before (step (setting self.old.replica.members self.old.replica.me h) node (Begin request text.now)).node.met) }
+        ensures records { self.new.replica.voter.logs.records ≡ self.old.replica.voter.logs.records }
         ensures members { self.new.replica.members ≡ self.old.replica.members }
         ensures me { self.new.replica.me ≡ self.old.replica.me }
         ensures unbuilt { result ≡ Err Unbuilt → is_built request ≡ false }
@@ -172,6 +183,10 @@ impl<R: Records, V: Versions> Node<R, V> {
             Represents (setting self.old.replica.members self.old.replica.me h) self.old.replica.voter.logs.kept self.old.replica.leases (V.version self.old.replica.rows.rows) (progress_at self.old.replica.rows.progress) self.old.open self.old.begun node →
             HasOwnRows self.old.replica.members.schema (log_of (acted_on (setting self.old.replica.members self.old.replica.me h) node (Tick now))) →
             Represents (setting self.new.replica.members self.new.replica.me h) self.new.replica.voter.logs.kept self.new.replica.leases (V.version self.new.replica.rows.rows) (progress_at self.new.replica.rows.progress) self.new.open self.new.begun (step (setting self.old.replica.members self.old.replica.me h) node (Tick now)).node) }
+        ensures staged { V.is_told ≡ true → OnOk result ((h : Meanings) (node : RuleNode) (before : List Met) → StandsFor V.version h self.old node →
+            HasOwnRows self.old.replica.members.schema (log_of (acted_on (setting self.old.replica.members self.old.replica.me h) node (Tick now))) →
+            Stages self.old.replica.voter.logs.staged.items before node.met → Stages self.new.replica.voter.logs.staged.items before (step (setting self.old.replica.members self.old.replica.me h) node (Tick now)).node.met) }
+        ensures records { self.new.replica.voter.logs.records ≡ self.old.replica.voter.logs.records }
         ensures members { self.new.replica.members ≡ self.old.replica.members }
         ensures me { self.new.replica.me ≡ self.old.replica.me }
         ensures built { result ≡ Err Unbuilt → (h : Meanings) (node : RuleNode) → Represents (setting self.old.replica.members self.old.replica.me h) self.old.replica.voter.logs.kept self.old.replica.leases (V.version self.old.replica.rows.rows) (progress_at self.old.replica.rows.progress) self.old.open self.old.begun node → ⊥ }

@@ -26,6 +26,7 @@ ghost use Rattle.mega_core.specs.Faults.{failed_by};
 ghost use Rattle.mega_core.specs.Notes.{met_of};
 ghost use Rattle.mega_core.specs.Placed.{IsPlaced};
 ghost use Rattle.mega_core.specs.Represents.{Represents};
+ghost use Rattle.mega_core.specs.Staging.{Stages};
 ghost use Rattle.mega_core.specs.Taking.{HasTaken, news_by};
 
 use crate::deciding::{Chosen, decides, decision, note_decision, stores, tells_decision};
@@ -143,6 +144,8 @@ fn decides_by<R: Records, V: Versions>(
 ) -> Result<Option<Chosen>, NoMemory>
     ensures new { IfOk result (λ d. (met : List Met) → Tells replica.old.voter.logs.kept met → d ≡ if_new met (or_settled (told_decision message.now.body) (first_settled heard.now))) }
     ensures kept { IfOk result (λ d. (met : List Met) → IsPlaced d → Tells replica.old.voter.logs.kept met → Tells replica.new.voter.logs.kept (onto (decision_note d) met)) }
+    ensures staged { IfOk result (λ d. (before met : List Met) → Tells replica.old.voter.logs.kept met → Stages replica.old.voter.logs.staged.items before met → Stages replica.new.voter.logs.staged.items before (onto (decision_note d) met)) }
+    ensures records { replica.new.voter.logs.records ≡ replica.old.voter.logs.records }
     ensures follows { IfOk result (λ d. (h : Meanings) (met : List Met) (stored : Group → ℕ) → (has_rows replica.old.members replica.old.me ≡ false → (group : Group) → stored group ≡ 0) → IsPlaced d → Tells replica.old.voter.logs.kept met →
         Follows (V.version replica.old.rows.rows) (progress_at replica.old.rows.progress) (log_of met) stored →
         Follows (V.version replica.new.rows.rows) (progress_at replica.new.rows.progress) (log_of (onto (decision_note d) met)) (stored_after (setting replica.old.members replica.old.me h) (onto (decision_note d) met) stored d)) }
@@ -205,6 +208,10 @@ pub(crate) fn takes<R: Records, V: Versions>(
         Represents (setting replica.old.members replica.old.me h) replica.old.voter.logs.kept replica.old.leases (V.version replica.old.rows.rows) (progress_at replica.old.rows.progress) opened begun node →
         HasOwnRows replica.old.members.schema (log_of (acted_on (setting replica.old.members replica.old.me h) node (Take message.now))) → IsPlaced (decision_in (setting replica.old.members replica.old.me h) node message.now) →
         HasTaken (setting replica.old.members replica.old.me h) (setting replica.new.members replica.new.me h) made replica.new.voter.logs.kept replica.new.leases (V.version replica.new.rows.rows) (progress_at replica.new.rows.progress) node message.now) }
+    ensures staged { IfOk result (λ made. (h : Meanings) (node : RuleNode) (begun : ℕ) (before : List Met) →
+        Represents (setting replica.old.members replica.old.me h) replica.old.voter.logs.kept replica.old.leases (V.version replica.old.rows.rows) (progress_at replica.old.rows.progress) opened begun node →
+        Stages replica.old.voter.logs.staged.items before node.met → Stages replica.new.voter.logs.staged.items before (acted_on (setting replica.old.members replica.old.me h) node (Take message.now))) }
+    ensures records { replica.new.voter.logs.records ≡ replica.old.voter.logs.records }
     ensures heard { IfOk result (λ made. (h : Meanings) (node : RuleNode) (begun : ℕ) →
         Represents (setting replica.old.members replica.old.me h) replica.old.voter.logs.kept replica.old.leases (V.version replica.old.rows.rows) (progress_at replica.old.rows.progress) opened begun node →
         made.heard ≡ map (hears_message (setting replica.old.members replica.old.me h) (clock_of node.met) message.now) node.open_operations) }

@@ -12,6 +12,7 @@ ghost use Rattle.mega_actions.specs.Stands.{setting};
 ghost use Rattle.mega_core.specs.declared.fault.StepFault.TheVariants.{Late, Stranger, Unbuilt};
 ghost use Rattle.mega_core.specs.Faults.{failed_by};
 ghost use Rattle.mega_core.specs.Notes.{met_of};
+ghost use Rattle.mega_core.specs.Staging.{Stages};
 
 use crate::fault::StepFault;
 use crate::joining::add_of_leases;
@@ -34,13 +35,16 @@ pub(crate) struct Told {
 }
 
 /// Keeps that the cell grants an epoch.
+#[tactic(auto, using(crate::proofs::Staged::granting_staged))]
 fn keep_grant<R: Records>(
     alloc: Global,
     voter: &mut Voter<R>,
     node: NodeId,
     epoch: Epoch,
 ) -> Result<(), NoMemory>
-    ensures { OnOk result ((met : List Met) → Tells voter.old.logs.kept met → Tells voter.new.logs.kept (Grants node.0 epoch ∷ met)) }
+    ensures kept { OnOk result ((met : List Met) → Tells voter.old.logs.kept met → Tells voter.new.logs.kept (Grants node.0 epoch ∷ met)) }
+    ensures staged { OnOk result ((before met : List Met) → Stages voter.old.logs.staged.items before met → Stages voter.new.logs.staged.items before (Grants node.0 epoch ∷ met)) }
+    ensures records { voter.new.logs.records ≡ voter.old.logs.records }
 {
     match voter.grants(alloc, node, epoch) {
         Ok(()) => Ok(()),
@@ -49,13 +53,16 @@ fn keep_grant<R: Records>(
 }
 
 /// Keeps that the cell lets an epoch lapse.
+#[tactic(auto, using(crate::proofs::Staged::lapsing_staged))]
 fn keep_lapse<R: Records>(
     alloc: Global,
     voter: &mut Voter<R>,
     node: NodeId,
     epoch: Epoch,
 ) -> Result<(), NoMemory>
-    ensures { OnOk result ((met : List Met) → Tells voter.old.logs.kept met → Tells voter.new.logs.kept (Lapses node.0 epoch ∷ met)) }
+    ensures kept { OnOk result ((met : List Met) → Tells voter.old.logs.kept met → Tells voter.new.logs.kept (Lapses node.0 epoch ∷ met)) }
+    ensures staged { OnOk result ((before met : List Met) → Stages voter.old.logs.staged.items before met → Stages voter.new.logs.staged.items before (Lapses node.0 epoch ∷ met)) }
+    ensures records { voter.new.logs.records ≡ voter.old.logs.records }
 {
     match voter.lapses(alloc, node, epoch) {
         Ok(()) => Ok(()),
@@ -64,12 +71,15 @@ fn keep_lapse<R: Records>(
 }
 
 /// Keeps a note of the cell: what it grants, and what it lets lapse.
+#[tactic(auto, using(crate::proofs::Staged::silent_staged))]
 fn keep_note<R: Records>(
     alloc: Global,
     voter: &mut Voter<R>,
     note: &OfLeases,
 ) -> Result<(), NoMemory>
-    ensures { OnOk result ((met : List Met) → Tells voter.old.logs.kept met → Tells voter.new.logs.kept (leases_met note.now ∷ met)) }
+    ensures kept { OnOk result ((met : List Met) → Tells voter.old.logs.kept met → Tells voter.new.logs.kept (leases_met note.now ∷ met)) }
+    ensures staged { OnOk result ((before met : List Met) → Stages voter.old.logs.staged.items before met → Stages voter.new.logs.staged.items before (leases_met note.now ∷ met)) }
+    ensures records { voter.new.logs.records ≡ voter.old.logs.records }
 {
     match note {
         OfLeases::Grants { node, epoch } => keep_grant(alloc, voter, *node, *epoch),
@@ -84,7 +94,9 @@ pub(crate) fn keep_notes<R: Records>(
     voter: &mut Voter<R>,
     notes: &[OfLeases],
 ) -> Result<(), NoMemory>
-    ensures { OnOk result ((met : List Met) → Tells voter.old.logs.kept met → Tells voter.new.logs.kept (onto (map leases_met notes.now) met)) }
+    ensures kept { OnOk result ((met : List Met) → Tells voter.old.logs.kept met → Tells voter.new.logs.kept (onto (map leases_met notes.now) met)) }
+    ensures staged { OnOk result ((before met : List Met) → Stages voter.old.logs.staged.items before met → Stages voter.new.logs.staged.items before (onto (map leases_met notes.now) met)) }
+    ensures records { voter.new.logs.records ≡ voter.old.logs.records }
 {
     for note in notes {
         keep_note(alloc, voter, note)?;
@@ -102,7 +114,7 @@ pub(crate) fn of_leases(alloc: Global, more: Items<OfLeases>) -> Result<Items<No
 }
 
 /// The node takes a message: its cell and its coordinator are told, and it replies.
-#[tactic(auto, using(crate::proofs::Failing::taking_is_apart))]
+#[tactic(auto, using(crate::proofs::Failing::taking_is_apart, crate::proofs::Staged::silent_staged))]
 pub(crate) fn is_told<R: Records, V: Versions>(
     alloc: Global,
     replica: &mut Replica<R, V>,
@@ -114,6 +126,9 @@ pub(crate) fn is_told<R: Records, V: Versions>(
         TellsLeases replica.old.members replica.old.me replica.old.leases met → made.sends ≡ reply_to replica.old.members replica.old.me met message.now) }
     ensures kept { OnOk result ((h : Meanings) (met : List Met) → Tells replica.old.voter.logs.kept met → TellsLeases replica.old.members replica.old.me replica.old.leases met →
         Tells replica.new.voter.logs.kept (onto (told_notes (setting replica.old.members replica.old.me h) met message.now.from message.now.body) (Takes message.now ∷ met))) }
+    ensures staged { OnOk result ((h : Meanings) (before met : List Met) → TellsLeases replica.old.members replica.old.me replica.old.leases met → Stages replica.old.voter.logs.staged.items before met →
+        Stages replica.new.voter.logs.staged.items before (onto (told_notes (setting replica.old.members replica.old.me h) met message.now.from message.now.body) (Takes message.now ∷ met))) }
+    ensures records { replica.new.voter.logs.records ≡ replica.old.voter.logs.records }
     ensures leased { OnOk result ((h : Meanings) (met : List Met) → TellsLeases replica.old.members replica.old.me replica.old.leases met →
         TellsLeases replica.old.members replica.old.me replica.new.leases (onto (told_notes (setting replica.old.members replica.old.me h) met message.now.from message.now.body) (Takes message.now ∷ met))) }
     ensures members { replica.new.members ≡ replica.old.members }

@@ -24,6 +24,7 @@ ghost use Rattle.mega_actions.specs.Turns.{IsBuilt};
 ghost use Rattle.mega_actions.specs.Working.{work_of};
 ghost use Rattle.mega_core.specs.Notes.{met_of};
 ghost use Rattle.mega_core.specs.Represents.{Represents};
+ghost use Rattle.mega_core.specs.Staging.{Stages};
 ghost use Rattle.mega_core.specs.Ticking.{HasTicked, fetch_message};
 
 use crate::joining::{add_of_leases, add_sends};
@@ -240,6 +241,10 @@ pub(crate) fn ticks<R: Records, V: Versions>(
         Represents (setting replica.old.members replica.old.me h) replica.old.voter.logs.kept replica.old.leases (V.version replica.old.rows.rows) (progress_at replica.old.rows.progress) open_ones begun node →
         HasOwnRows replica.old.members.schema (log_of (acted_on (setting replica.old.members replica.old.me h) node (Tick now))) →
         HasTicked (setting replica.old.members replica.old.me h) (setting replica.new.members replica.new.me h) made replica.new.voter.logs.kept replica.new.leases (V.version replica.new.rows.rows) (progress_at replica.new.rows.progress) node now) }
+    ensures staged { OnOk result ((h : Meanings) (node : RuleNode) (open_ones : List Open) (begun : ℕ) (before : List Met) →
+        Represents (setting replica.old.members replica.old.me h) replica.old.voter.logs.kept replica.old.leases (V.version replica.old.rows.rows) (progress_at replica.old.rows.progress) open_ones begun node →
+        Stages replica.old.voter.logs.staged.items before node.met → Stages replica.new.voter.logs.staged.items before (acted_on (setting replica.old.members replica.old.me h) node (Tick now))) }
+    ensures records { replica.new.voter.logs.records ≡ replica.old.voter.logs.records }
     ensures members { replica.new.members ≡ replica.old.members }
     ensures me { replica.new.me ≡ replica.old.me }
     ensures fares { Fares V.Versions None replica.old.rows.rows replica.new.rows.rows }

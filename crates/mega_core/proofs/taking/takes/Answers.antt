@@ -11,6 +11,7 @@ use Rattle.mega_replica.specs.declared.rows.StoredRows.{StoredRows}
 use Rattle.mega_replica.specs.Following.{Follows, progress_at}
 use Rattle.mega_actions.specs.Stands.{setting}
 use Rattle.mega_core.specs.Placed.{IsPlaced}
+use Rattle.mega_core.specs.Staging.{Stages}
 use Rattle.mega_core.specs.Taking.{news_by}
 use Rattle.mega_core.proofs.Messages.{decision_is, taken_stands, told_on}
 use Rattle.mega_core.proofs.taking.takes.Goals as goal
@@ -59,3 +60,19 @@ returns-clause-heard g c = λ h node begun represents.
     let s = setting r0.members r0.me h in
     let clock_is : c.now-clock.result ≡ clock_of node.met = c.now-clock.ensures r0.members r0.me node.met represents.leased in
     c.in_ok-made.ensures.heard ∙ (c.in_ok-heard.ensures s refl ∙ (λ i. map (hears_message s (clock_is i) m) (sym represents.opened i)))
+
+pub returns-clause-staged : goal.returns-clause-staged
+returns-clause-staged g c = λ h node begun before represents stages.
+    let r0 = c.args.replica.now in
+    let r2 = c.decides_by.new.replica in
+    let m = c.args.message.now in
+    let says = c.in_ok-told.ensures in
+    let decides = c.in_ok-found.ensures in
+    let s = setting r0.members r0.me h in
+    let base = told_on s node m in
+    let tells = says.kept h node.met represents.tells represents.leased in
+    let clock_is : c.now-clock.result ≡ clock_of node.met = c.now-clock.ensures r0.members r0.me node.met represents.leased in
+    let heard_is : c.in_ok-heard.heard ≡ map (hears_message s (clock_of node.met) m) node.open_operations = c.in_ok-heard.ensures s refl ∙ (λ i. map (hears_message s (clock_is i) m) (sym represents.opened i)) in
+    let d = c.in_ok-found.found in
+    let d_is = decision_is s node m c.as_slice.result.now d (c.as_slice.ensures ∙ heard_is) (decides.new base tells) in
+    coe 0 1 (i. Stages r2.voter.logs.staged.items before (onto (decision_note (d_is i)) base)) (decides.staged before base tells (says.staged h before node.met represents.leased stages))

@@ -12,7 +12,9 @@ use Rattle.mega_voter.proofs.Told.{silent_told}
 use Rattle.mega_replica.specs.Following.{progress_at}
 use Rattle.mega_node_laws.proofs.Followed.{follows_after, follows_more}
 use Rattle.mega_actions.specs.Stands.{setting}
+use Rattle.mega_core.specs.Staging.{Stages}
 use Rattle.mega_core.proofs.Clocks.{leases_begun, leases_groups}
+use Rattle.mega_core.proofs.Staged.{silent_staged}
 use Rattle.mega_core.proofs.ticking.ticks.Goals as goal
 
 pub returns-clause-ticked : goal.returns-clause-ticked
@@ -27,8 +29,8 @@ returns-clause-ticked g c = λ h node open_ones begun represents owned.
     let lapse_is : map met_of made.of_cell ≡ lapse_notes s node.met now = says.lapse_notes s node.met represents.leased in
     let own = Ticks now in
     let told0 = (silent_told r0.voter.logs.kept node.met own refl).0 represents.tells in
-    let told1 = c.in_ok-keep_notes.ensures (own ∷ node.met) told0 in
-    let told2 = c.in_ok-keep_notes-2.ensures (onto (map met_of c.as_slice.result.now) (own ∷ node.met)) told1 in
+    let told1 = c.in_ok-keep_notes.ensures.kept (own ∷ node.met) told0 in
+    let told2 = c.in_ok-keep_notes-2.ensures.kept (onto (map met_of c.as_slice.result.now) (own ∷ node.met)) told1 in
     let first_is = ap (λ (notes : List Note). map met_of notes) c.as_slice.ensures ∙ lease_is in
     let second_is = ap (λ (notes : List Note). map met_of notes) c.as_slice-2.ensures ∙ lapse_is in
     let version = g.V.Versions.version c.store_portions.new.rows.rows in
@@ -51,3 +53,17 @@ returns-clause-ticked g c = λ h node open_ones begun represents owned.
       groups = (λ i. groups_of (onto (sym lapse_is i) (onto (sym lease_is i) (own ∷ node.met))))
           ∙ (leases_groups made.of_cell (onto (map met_of made.of_coordinator) (own ∷ node.met)) ∙ leases_groups made.of_coordinator (own ∷ node.met));
     }
+
+pub returns-clause-staged : goal.returns-clause-staged
+returns-clause-staged g c = λ h node open_ones begun before represents stages.
+    let r0 = c.args.replica.now in
+    let now = c.args.now in
+    let s = setting r0.members r0.me h in
+    let says = c.in_ok-ticking.ensures in
+    let own = Ticks now in
+    let first_is = ap (λ (notes : List Note). map met_of notes) c.as_slice.ensures ∙ says.lease_notes s node.met represents.leased in
+    let second_is = ap (λ (notes : List Note). map met_of notes) c.as_slice-2.ensures ∙ says.lapse_notes s node.met represents.leased in
+    let staged0 = silent_staged r0.voter.logs.staged.items before node.met own refl stages in
+    let staged1 = c.in_ok-keep_notes.ensures.staged before (own ∷ node.met) staged0 in
+    let staged2 = c.in_ok-keep_notes-2.ensures.staged before (onto (map met_of c.as_slice.result.now) (own ∷ node.met)) staged1 in
+    coe 0 1 (i. Stages c.keep_notes-2.new.voter.logs.staged.items before (onto (second_is i) (onto (first_is i) (own ∷ node.met)))) staged2

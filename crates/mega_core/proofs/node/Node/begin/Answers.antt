@@ -1,4 +1,4 @@
-use Rattle.std.proofs.Common.{◌≡◌, ◌∙◌, cond, List, [], map, ap, refl, subst}
+use Rattle.std.proofs.Common.{◌≡◌, ◌∙◌, cond, List, [], ◌∷◌, map, ap, refl, subst}
 use Rattle.mega_base.specs.declared.names.GroupId.{GroupId}
 use Rattle.mega_rules.specs.Members.{has_rows}
 use Rattle.mega_rules.specs.Met.{Begins}
@@ -10,8 +10,10 @@ use Rattle.mega_core.specs.Beginning.{has_begun}
 use Rattle.mega_core.specs.Notes.{met_of}
 use Rattle.mega_core.specs.Positions.{before_at}
 use Rattle.mega_core.specs.Represents.{Represents}
+use Rattle.mega_core.specs.Staging.{Stages}
 use Rattle.mega_core.specs.Touching.{asked_groups}
 use Rattle.mega_core.proofs.Begun.{begin_is, begin_may, represents_keeps}
+use Rattle.mega_core.proofs.Staged.{silent_staged}
 use Rattle.mega_core.proofs.Untouched.{begin_noted}
 use Rattle.mega_core.proofs.Watched.{watched_noted}
 use Rattle.mega_core.proofs.node.Node.begin.Goals as goal
@@ -73,3 +75,19 @@ returns-clause-state g c = λ told h node represents owned.
     let made = c.in_ok-step.ensures.made h node (Begins (op_of s node.met) text) [] [] (has_begun s node request text) noted acted first (begin_may s node request text _ is) in
     let new = c.ends.new.self in
     subst (λ (step : RuleStep). Represents (setting new.replica.members new.replica.me h) new.replica.voter.logs.kept new.replica.leases (g.V.Versions.version new.replica.rows.rows) (progress_at new.replica.rows.progress) new.open new.begun step.node) is made.state
+
+pub returns-clause-staged : goal.returns-clause-staged
+returns-clause-staged g c = λ told h node since represents owned stages.
+    let old = c.args.self.now.replica in
+    let mid = c.begins.new.self.replica in
+    let s = setting old.members old.me h in
+    let t = setting mid.members mid.me h in
+    let t_is : t ≡ s = (λ i. setting (c.in_ok-work.ensures.members i) (c.in_ok-work.ensures.me i) h) in
+    let text = c.args.text.now in
+    let request = c.args.request in
+    let is = begin_is s node request text t c.new.result c.new-2.result t_is c.new.ensures c.new-2.ensures in
+    let acted = c.in_ok-work.ensures.acted told h node text represents owned in
+    let own = Begins (op_of s node.met) text in
+    let mid = coe 1 0 (i. Stages (c.in_ok-work.ensures.voter i).logs.staged.items since (own ∷ node.met)) (silent_staged old.voter.logs.staged.items since node.met own refl stages) in
+    let after = c.in_ok-step.ensures.staged h node own [] [] (has_begun s node request text) since acted (begin_may s node request text _ is) mid in
+    subst (λ (step : RuleStep). Stages c.ends.new.self.replica.voter.logs.staged.items since step.node.met) is after

@@ -6,7 +6,8 @@ use Rattle.mega_node_laws.specs.Sending.{MaySend}
 use Rattle.mega_replica.specs.Following.{progress_at}
 use Rattle.mega_voter.specs.Telling.{Tells}
 use Rattle.mega_actions.specs.Stands.{setting}
-use Rattle.mega_core.proofs.Ended.{acted_tells, step_made}
+use Rattle.mega_core.specs.Staging.{Stages}
+use Rattle.mega_core.proofs.Ended.{acted_tells, step_made, step_staged}
 use Rattle.mega_core.proofs.node.Node.ends.Goals as goal
 
 pub returns-clause-made : goal.returns-clause-made
@@ -21,4 +22,15 @@ returns-clause-made g c = λ h node own locks durable now before acted first may
     (c.in_ok-applies.ensures now.met now.stored (acted_tells s r.voter.logs.kept r.leases version progress c.args.self.now.begun c.args.work base now acted)
     ∙ before)
     c.in_ok-notes.ensures c.in_ok-sends.ensures may
-    (subst (λ (all : List Message). (met : List Met) → MaySend met all → Tells r.voter.logs.kept met → Tells c.tell_all_sent.new.voter.logs.kept (onto (map Sends all) met)) c.as_slice.ensures c.in_ok-tell_all_sent.ensures)
+    (subst (λ (all : List Message). (met : List Met) → MaySend met all → Tells r.voter.logs.kept met → Tells c.tell_all_sent.new.voter.logs.kept (onto (map Sends all) met)) c.as_slice.ensures c.in_ok-tell_all_sent.ensures.kept)
+
+pub returns-clause-staged : goal.returns-clause-staged
+returns-clause-staged g c = λ h node own locks durable now before acted may stages.
+    let r = c.args.self.now.replica in
+    let s = setting r.members r.me h in
+    let old = r.voter.logs in
+    let new = c.tell_all_sent.new.voter.logs in
+    step_staged s node own locks durable c.args.opening c.args.closing now old.kept old.staged.items new.staged.items r.leases (g.V.Versions.version r.rows.rows) (progress_at r.rows.progress) c.args.self.now.begun c.args.work
+    c.in_ok-sends.sends before acted c.in_ok-sends.ensures may
+    (subst (λ (all : List Message). (before met : List Met) → MaySend met all → Tells old.kept met → Stages old.staged.items before met → Stages new.staged.items before (onto (map Sends all) met)) c.as_slice.ensures c.in_ok-tell_all_sent.ensures.staged)
+    stages

@@ -11,6 +11,7 @@ use Rattle.mega_actions.specs.Stands.{setting}
 use Rattle.mega_actions.specs.Turns.{IsBuilt}
 use Rattle.mega_core.specs.Positions.{before_at}
 use Rattle.mega_core.specs.Represents.{Represents}
+use Rattle.mega_core.specs.Staging.{Stages}
 use Rattle.mega_core.specs.Taking.{has_taken}
 use Rattle.mega_core.specs.Touching.{touched}
 use Rattle.mega_core.proofs.Begun.{represents_keeps}
@@ -130,3 +131,32 @@ returns-clause-state g c = λ told h node represents owned placed.
     let made = c.in_ok-step.ensures.made h node (Takes m) (told_notes s node.met m.from m.body) (decision_note (decision_in s node m)) (has_taken s node m) noted acted taken.notes (take_may s node m _ is) in
     let new = c.ends.new.self in
     subst (λ (step : RuleStep). Represents (setting new.replica.members new.replica.me h) new.replica.voter.logs.kept new.replica.leases (g.V.Versions.version new.replica.rows.rows) (progress_at new.replica.rows.progress) new.open new.begun step.node) is made.state
+
+pub returns-clause-staged : goal.returns-clause-staged
+returns-clause-staged g c = λ told h node since represents owned placed stages.
+    let r0 = c.args.self.now.replica in
+    let r1 = c.takes.new.replica in
+    let r2 = c.acts.new.replica in
+    let own_open = c.args.self.now.open in
+    let begun = c.args.self.now.begun in
+    let version = g.V.Versions.version r0.rows.rows in
+    let progress = progress_at r0.rows.progress in
+    let m = c.args.message.now in
+    let s = setting r0.members r0.me h in
+    let opened = subst (λ (os : List Operation). Represents s r0.voter.logs.kept r0.leases version progress os begun node) (sym c.replace-opened.ensures.value) represents in
+    let taken = c.in_ok-taken.ensures.taken h node begun opened owned placed in
+    let heard = c.in_ok-taken.taken.heard in
+    let t1 = setting r1.members r1.me h in
+    let t2 = setting r2.members r2.me h in
+    let t1_is : t1 ≡ s = (λ i. setting (c.in_ok-taken.ensures.members i) (c.in_ok-taken.ensures.me i) h) in
+    let t2_is : t2 ≡ t1 = (λ i. setting (c.in_ok-work.ensures.members i) (c.in_ok-work.ensures.me i) h) in
+    let about = heard_are_about s node m r0.voter.logs.kept r0.leases version progress own_open begun heard represents taken.heard in
+    let base = acted_on s node (Take m) in
+    let stored = stored_after s base node.stored (decision_in s node m) in
+    let acted = take_acts s node m t1 t2 r0.voter.logs.kept r1.voter.logs.kept r2.voter.logs.kept r0.leases r2.leases version (g.V.Versions.version r2.rows.rows) progress (progress_at r2.rows.progress) own_open begun
+    c.in_ok-work.work heard represents taken.heard t1_is t2_is (λ i. (c.in_ok-work.ensures.voter i).logs.kept) taken.stands.tells
+    (c.in_ok-work.ensures.state told h base stored about taken.stands) (c.in_ok-work.ensures.work told h base stored about taken.stands) in
+    let is = take_is s node m t2 c.in_ok-taken.taken.sends c.new-2.result (t2_is ∙ t1_is) taken.sends c.new-2.ensures in
+    let mid = coe 1 0 (i. Stages (c.in_ok-work.ensures.voter i).logs.staged.items since base) (c.in_ok-taken.ensures.staged h node begun since opened stages) in
+    let after = c.in_ok-step.ensures.staged h node (Takes m) (told_notes s node.met m.from m.body) (decision_note (decision_in s node m)) (has_taken s node m) since acted (take_may s node m _ is) mid in
+    subst (λ (step : RuleStep). Stages c.ends.new.self.replica.voter.logs.staged.items since step.node.met) is after

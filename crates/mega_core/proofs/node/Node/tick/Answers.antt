@@ -12,6 +12,7 @@ use Rattle.mega_actions.specs.Stands.{setting}
 use Rattle.mega_actions.specs.Turns.{IsBuilt}
 use Rattle.mega_core.specs.Positions.{before_at}
 use Rattle.mega_core.specs.Represents.{Represents}
+use Rattle.mega_core.specs.Staging.{Stages}
 use Rattle.mega_core.specs.Ticking.{has_ticked}
 use Rattle.mega_core.proofs.Begun.{represents_keeps}
 use Rattle.mega_core.proofs.Clocks.{tick_acts, tick_is, tick_may}
@@ -120,3 +121,31 @@ returns-clause-state g c = λ told h node represents owned.
     let made = c.in_ok-step.ensures.made h node (Ticks now) (lease_notes s node.met now) (lapse_notes s node.met now) (has_ticked s node now) noted acted made1.notes (tick_may s node now _ is) in
     let new = c.ends.new.self in
     subst (λ (step : RuleStep). Represents (setting new.replica.members new.replica.me h) new.replica.voter.logs.kept new.replica.leases (g.V.Versions.version new.replica.rows.rows) (progress_at new.replica.rows.progress) new.open new.begun step.node) is made.state
+
+pub returns-clause-staged : goal.returns-clause-staged
+returns-clause-staged g c = λ told h node since represents owned stages.
+    let r0 = c.args.self.now.replica in
+    let r1 = c.ticks.new.replica in
+    let r2 = c.acts_ticked.new.replica in
+    let own_open = c.args.self.now.open in
+    let begun = c.args.self.now.begun in
+    let version = g.V.Versions.version r0.rows.rows in
+    let progress = progress_at r0.rows.progress in
+    let now = c.args.now in
+    let s = setting r0.members r0.me h in
+    let made1 = c.in_ok-made.ensures.ticked h node own_open begun represents owned in
+    let t1 = setting r1.members r1.me h in
+    let t2 = setting r2.members r2.me h in
+    let t1_is : t1 ≡ s = (λ i. setting (c.in_ok-made.ensures.members i) (c.in_ok-made.ensures.me i) h) in
+    let t2_is : t2 ≡ t1 = (λ i. setting (c.in_ok-work.ensures.members i) (c.in_ok-work.ensures.me i) h) in
+    let operations = c.replace-opened.result in
+    let about = subst (All IsAbout) (sym c.replace-opened.ensures.value) represents.about in
+    let base = acted_on s node (Tick now) in
+    let stored = portion_of s node.met node.stored in
+    let acted = tick_acts s node now t1 t2 r0.voter.logs.kept r1.voter.logs.kept r2.voter.logs.kept r0.leases r2.leases version (g.V.Versions.version r2.rows.rows) progress (progress_at r2.rows.progress) own_open begun
+    c.in_ok-work.work operations represents (c.replace-opened.ensures.value ∙ sym represents.opened) t1_is t2_is (λ i. (c.in_ok-work.ensures.voter i).logs.kept) made1.begun made1.stands.tells
+    (c.in_ok-work.ensures.state told h base stored about made1.stands) (c.in_ok-work.ensures.work told h base stored about made1.stands) in
+    let is = tick_is s node now t2 c.in_ok-made.made.opening c.in_ok-made.made.closing (t2_is ∙ t1_is) made1.opening made1.closing in
+    let mid = coe 1 0 (i. Stages (c.in_ok-work.ensures.voter i).logs.staged.items since base) (c.in_ok-made.ensures.staged h node own_open begun since represents stages) in
+    let after = c.in_ok-step.ensures.staged h node (Ticks now) (lease_notes s node.met now) (lapse_notes s node.met now) (has_ticked s node now) since acted (tick_may s node now _ is) mid in
+    subst (λ (step : RuleStep). Stages c.ends.new.self.replica.voter.logs.staged.items since step.node.met) is after

@@ -1,0 +1,83 @@
+use Rattle.std.proofs.Common.{◌≡◌, ◌∙◌, ◌+◌, ℕ, List, [], ap, length, subst, sym}
+use Rattle.mega_disk.specs.Images.{LeavesOnly}
+use Rattle.mega_wal.specs.declared.item.JournalItem.{JournalItem}
+use Rattle.mega_wal.specs.declared.kept.Kept.{Kept}
+use Rattle.mega_wal.specs.Items.{record_text}
+use Rattle.mega_rules.specs.Clock.{start_of}
+use Rattle.mega_rules.specs.Steps.{step}
+use Rattle.mega_replica.specs.Following.{progress_at}
+use Rattle.mega_voter.specs.Holding.{HoldsMet}
+use Rattle.mega_actions.specs.Stands.{setting}
+use Rattle.mega_core.specs.Represents.{Represents}
+use Rattle.mega_durable.specs.Cut.{MayLeave}
+use Rattle.mega_durable.specs.Standing.{records_in}
+use Rattle.mega_durable.proofs.Appending.{step_appends}
+use Rattle.mega_durable.proofs.Upheld.{leaves_weaker, left_by_record, step_cut, step_each, step_few, step_goes, step_holds}
+use Rattle.mega_durable.proofs.keeping.keep.Goals as goal
+
+pub flush-requires-clause-few : goal.flush-requires-clause-few
+flush-requires-clause-few g c =
+    let known = c.requires.known.1 in
+    step_few known.0 known.1.0 known.1.1.0 c.args.node.now.replica.voter.logs.staged.items known.1.1.1.1.stages
+
+pub flush-requires-clause-each : goal.flush-requires-clause-each
+flush-requires-clause-each g c =
+    let known = c.requires.known.1 in
+    step_each known.0 known.1.0 known.1.1.0 c.args.node.now.replica.voter.logs.staged.items known.1.1.1.1.stages known.1.1.1.1.formed
+
+pub returns-in-Ok-clause-state : goal.returns-in-Ok-clause-state
+returns-in-Ok-clause-state g c = λ seen h s node event was stepped.
+    let mid = c.args.node.now in
+    let staged = mid.replica.voter.logs.staged.items in
+    let before = subst (λ (one : _). HoldsMet (g.R.Records.list one) (start_of node.met) node.met) (sym stepped.same) stepped.holds in
+    record {
+      stands = subst (λ (kept : Kept). Represents (setting mid.replica.members mid.replica.me h) kept mid.replica.leases (g.V.Versions.version mid.replica.rows.rows) (progress_at mid.replica.rows.progress) mid.open mid.begun (step s node event).node)
+          (sym c.in-Ok.ensures.kept) stepped.stands;
+      empty = c.in-Ok.ensures.cleared;
+      ready = c.in-Ok.ensures.still_open ∙ (ap g.R.Records.is_spent stepped.same ∙ stepped.ready);
+      holds = step_holds s node event staged (g.R.Records.list c.flush.new.self.logs.records) stepped.stages
+          (c.in-Ok.ensures.holds seen (start_of node.met) node.met (step s node event).node.met before (step_goes s node event staged stepped.stages stepped.stands.tells.honest));
+    }
+
+pub returns-in-Ok-clause-appended : goal.returns-in-Ok-clause-appended
+returns-in-Ok-clause-appended g c = λ h s node event was stepped.
+    c.in-Ok.ensures.counted ∙ (λ i. g.R.Records.count_of (stepped.same i) + step_appends s node event c.args.node.now.replica.voter.logs.staged.items stepped.stages i)
+
+pub returns-in-Ok-clause-cut : goal.returns-in-Ok-clause-cut
+returns-in-Ok-clause-cut g c = λ seen h s node event was stepped.
+    let mid = c.args.node.now in
+    let staged = mid.replica.voter.logs.staged.items in
+    let new = c.flush.new.self.logs.records in
+    let before = subst (λ (one : _). HoldsMet (g.R.Records.list one) (start_of node.met) node.met) (sym stepped.same) stepped.holds in
+    let leaves = c.in-Ok.ensures.any_moment seen (ap g.R.Records.is_spent stepped.same ∙ stepped.ready) (start_of node.met) node.met _ before (step_cut s node event staged stepped.stages stepped.stands.tells.honest) in
+    subst (λ (one : _). LeavesOnly g.R.Records.moment g.R.Records.opened_since one new (MayLeave s node event)) stepped.same
+    (leaves_weaker g.R.Records.moment g.R.Records.opened_since (records_in mid) new _ (MayLeave s node event) (λ found. left_by_record s node event staged found stepped.stages) leaves)
+
+pub returns-in-Err-DiskFault-clause-cut : goal.returns-in-Err-DiskFault-clause-cut
+returns-in-Err-DiskFault-clause-cut g c = λ seen h s node event was stepped.
+    let mid = c.args.node.now in
+    let staged = mid.replica.voter.logs.staged.items in
+    let new = c.flush.new.self.logs.records in
+    let before = subst (λ (one : _). HoldsMet (g.R.Records.list one) (start_of node.met) node.met) (sym stepped.same) stepped.holds in
+    let leaves = c.in-Err-DiskFault.ensures.any_moment seen (ap g.R.Records.is_spent stepped.same ∙ stepped.ready) (start_of node.met) node.met _ before (step_cut s node event staged stepped.stages stepped.stands.tells.honest) in
+    subst (λ (one : _). LeavesOnly g.R.Records.moment g.R.Records.opened_since one new (MayLeave s node event)) stepped.same
+    (leaves_weaker g.R.Records.moment g.R.Records.opened_since (records_in mid) new _ (MayLeave s node event) (λ found. left_by_record s node event staged found stepped.stages) leaves)
+
+pub returns-in-Err-clause-cut : goal.returns-in-Err-clause-cut
+returns-in-Err-clause-cut g c = λ seen h s node event was stepped.
+    let mid = c.args.node.now in
+    let staged = mid.replica.voter.logs.staged.items in
+    let new = c.flush.new.self.logs.records in
+    let before = subst (λ (one : _). HoldsMet (g.R.Records.list one) (start_of node.met) node.met) (sym stepped.same) stepped.holds in
+    let leaves = c.in-Err.ensures.any_moment seen (ap g.R.Records.is_spent stepped.same ∙ stepped.ready) (start_of node.met) node.met _ before (step_cut s node event staged stepped.stages stepped.stands.tells.honest) in
+    subst (λ (one : _). LeavesOnly g.R.Records.moment g.R.Records.opened_since one new (MayLeave s node event)) stepped.same
+    (leaves_weaker g.R.Records.moment g.R.Records.opened_since (records_in mid) new _ (MayLeave s node event) (λ found. left_by_record s node event staged found stepped.stages) leaves)
+
+pub returns-in-Ok-clause-went : goal.returns-in-Ok-clause-went
+returns-in-Ok-clause-went g c = (length (record_text c.args.node.now.replica.voter.logs.staged.items), c.in-Ok.ensures.fares)
+
+pub returns-in-Err-DiskFault-clause-went : goal.returns-in-Err-DiskFault-clause-went
+returns-in-Err-DiskFault-clause-went g c = (length (record_text c.args.node.now.replica.voter.logs.staged.items), c.in-Err-DiskFault.ensures.fares)
+
+pub returns-in-Err-clause-went : goal.returns-in-Err-clause-went
+returns-in-Err-clause-went g c = (length (record_text c.args.node.now.replica.voter.logs.staged.items), c.in-Err.ensures.fares)

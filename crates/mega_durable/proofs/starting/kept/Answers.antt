@@ -1,0 +1,54 @@
+use Rattle.std.proofs.Common.{◌≡◌, ◌≤◌, ◌+◌, ◌∷◌, [], List, ap, length, refl, subst, sym, ◌∙◌, arith}
+use Rattle.std.specs.List.{All}
+use Rattle.std.proofs.lemmas.List.Elements.{All-cons, All-nil}
+use Rattle.mega_wal.specs.declared.item.JournalItem.{JournalItem}
+use Rattle.mega_wal.specs.declared.item.JournalItem.TheVariants.{Start}
+use Rattle.mega_wal.specs.declared.kept.Kept.{Kept}
+use Rattle.mega_wal.specs.Items.{IsItem, record_text}
+use Rattle.mega_wal.specs.Records.{flushed}
+use Rattle.mega_replica.specs.Following.{progress_at}
+use Rattle.mega_voter.specs.Holding.{GoesOn, HoldsMet, starts_after}
+use Rattle.mega_actions.specs.Stands.{setting}
+use Rattle.mega_core.specs.Represents.{Represents}
+use Rattle.mega_durable.specs.Cut.{MayLeaveStart}
+use Rattle.mega_durable.specs.Standing.{records_in}
+use Rattle.mega_durable.proofs.AtStart.{left_by_start, same_goes}
+use Rattle.mega_durable.proofs.Upheld.{leaves_weaker}
+use Rattle.mega_durable.proofs.starting.kept.Goals as goal
+
+pub flush-requires-clause-few : goal.flush-requires-clause-few
+flush-requires-clause-few g c = subst (λ (items : List JournalItem). length items ≤ 1000) (sym c.requires.one) (omega arith)
+
+pub flush-requires-clause-each : goal.flush-requires-clause-each
+flush-requires-clause-each g c = subst (All IsItem) (sym c.requires.one) (All-cons IsItem Start [] tt (All-nil IsItem))
+
+pub returns-in-Ok-clause-stands : goal.returns-in-Ok-clause-stands
+returns-in-Ok-clause-stands g c = λ h node stands.
+    let mid = c.args.made.node in
+    subst (λ (kept : Kept). Represents (setting mid.replica.members mid.replica.me h) kept mid.replica.leases (g.V.Versions.version mid.replica.rows.rows) (progress_at mid.replica.rows.progress) mid.open mid.begun node)
+    (sym c.in-Ok.ensures.kept) stands
+
+pub returns-in-Ok-clause-holds : goal.returns-in-Ok-clause-holds
+returns-in-Ok-clause-holds g c = λ told starts before met holds goes.
+    subst (λ (items : List JournalItem). HoldsMet (g.R.Records.list c.flush.new.self.logs.records) (starts_after items starts) met) c.requires.one
+    (c.in-Ok.ensures.holds told starts before met holds (subst (λ (items : List JournalItem). GoesOn items starts before met) (sym c.requires.one) goes))
+
+pub returns-in-Ok-clause-counted : goal.returns-in-Ok-clause-counted
+returns-in-Ok-clause-counted g c =
+    c.in-Ok.ensures.counted ∙ ap (λ (items : List JournalItem). g.R.Records.count_of (records_in c.args.made.node) + length (flushed items)) c.requires.one
+
+pub returns-in-Ok-clause-cut : goal.returns-in-Ok-clause-cut
+returns-in-Ok-clause-cut g c = λ seen ready starts met few holds.
+    leaves_weaker g.R.Records.moment g.R.Records.opened_since (records_in c.args.made.node) c.flush.new.self.logs.records _ (MayLeaveStart starts met) (λ found. left_by_start starts met _ found c.requires.one few)
+    (c.in-Ok.ensures.any_moment seen ready starts met met holds (same_goes starts met _ c.requires.one few holds.later holds.honest))
+
+pub returns-in-Err-clause-cut : goal.returns-in-Err-clause-cut
+returns-in-Err-clause-cut g c = λ seen ready starts met few holds.
+    leaves_weaker g.R.Records.moment g.R.Records.opened_since (records_in c.args.made.node) c.flush.new.self.logs.records _ (MayLeaveStart starts met) (λ found. left_by_start starts met _ found c.requires.one few)
+    (c.in-Err.ensures.any_moment seen ready starts met met holds (same_goes starts met _ c.requires.one few holds.later holds.honest))
+
+pub returns-in-Ok-clause-went : goal.returns-in-Ok-clause-went
+returns-in-Ok-clause-went g c = (length (record_text c.args.made.node.replica.voter.logs.staged.items), c.in-Ok.ensures.fares)
+
+pub returns-in-Err-clause-went : goal.returns-in-Err-clause-went
+returns-in-Err-clause-went g c = (length (record_text c.args.made.node.replica.voter.logs.staged.items), c.in-Err.ensures.fares)

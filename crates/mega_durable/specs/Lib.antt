@@ -1,0 +1,5 @@
+pub mod Standing
+pub mod Replying
+pub mod Cut
+pub mod Stepped
+pub mod Starting

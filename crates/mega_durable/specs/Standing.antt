@@ -1,0 +1,54 @@
+-- How a node over its records stands to the node of the rules: while it is up, and where it starts.
+use Rattle.std.specs.Prelude.{◌≡◌, ℕ, false, List, [], All}
+use Rattle.mega_disk.specs.declared.records.Records.{Ghosts}
+use Rattle.mega_disk.specs.VersionMaps.{Versions}
+use Rattle.mega_handler.specs.Named.{Meanings}
+use Rattle.mega_wal.specs.Items.{IsItem}
+use Rattle.mega_rules.specs.Clock.{start_of}
+use Rattle.mega_rules.specs.Logs.{log_of}
+use Rattle.mega_rules.specs.Met.{Met}
+use Rattle.mega_rules.specs.Operations.{Node as RuleNode, Setting}
+use Rattle.mega_rules.specs.Steps.{Begin, Event, Take, Tick, onto, step}
+use Rattle.mega_leases.specs.Opening.{AreOwed}
+use Rattle.mega_voter.specs.declared.voter.Voter.{Voter}
+use Rattle.mega_voter.specs.Holding.{HoldsMet, Recalls}
+use Rattle.mega_voter.specs.Journal.{journal_of}
+use Rattle.mega_node_laws.specs.Acted.{acted_on, decision_in}
+use Rattle.mega_node_laws.specs.Own.{HasOwnRows}
+use Rattle.mega_actions.specs.Stands.{setting}
+use Rattle.mega_core.specs.declared.node.Node.{Node}
+use Rattle.mega_core.specs.Placed.{IsPlaced}
+use Rattle.mega_core.specs.Standing.{StandsFor}
+
+-- the records of a node, and its setting
+abbrev pub records_in : {R V : Type 0} → Node R V → R
+records_in one = one.replica.voter.logs.records
+
+abbrev pub setting_of : {R V : Type 0} → Node R V → Meanings → Setting
+setting_of one h = setting one.replica.members one.replica.me h
+
+-- a node that is up: it stands for that of the rules, nothing is staged, its records are open, and they hold what the node met
+pub record IsUp {R V : Type 0} (store : Ghosts R) (version : V → Versions) (h : Meanings) (one : Node R V) (node : RuleNode) : Type 0 where
+  pub stands : StandsFor version h one node
+  pub empty : one.replica.voter.logs.staged.items ≡ []
+  pub ready : store.is_spent (records_in one) ≡ false
+  pub holds : HoldsMet (store.list (records_in one)) (start_of node.met) node.met
+
+-- a decision that a message brings is at a position from 1 on
+abbrev pub IsPlacedAt : Setting → RuleNode → Event → Type 0
+IsPlacedAt s node (Take message) = IsPlaced (decision_in s node message)
+IsPlacedAt s node (Tick now) = Unit {0}
+IsPlacedAt s node (Begin request text) = Unit {0}
+
+-- an event may happen at a node: each group's rows are its own then, and what is to be kept of the step has a text
+pub record MayHappen (s : Setting) (node : RuleNode) (event : Event) : Type 0 where
+  pub owned : HasOwnRows s.cluster.schema (log_of (acted_on s node event))
+  pub placed : IsPlacedAt s node event
+  pub formed : All IsItem (journal_of (step s node event).node.met)
+
+-- logs over which a node may start: they recall what it met and owes, their records are open and hold it
+pub record MayStart {R : Type 0} (store : Ghosts R) (voter : Voter R) (starts : ℕ) (met owed : List Met) : Type 0 where
+  pub owes : AreOwed owed met
+  pub recalls : Recalls voter.logs.kept starts (onto owed met)
+  pub ready : store.is_spent voter.logs.records ≡ false
+  pub holds : HoldsMet (store.list voter.logs.records) starts (onto owed met)

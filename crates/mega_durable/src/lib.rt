@@ -1,0 +1,14 @@
+//! A node over its records: nothing that it promises is sent before its record is kept (Lamport 2001; CIDR 2011).
+#![tactic(auto)]
+
+mod cut;
+mod fault;
+mod keeping;
+mod replying;
+mod starting;
+mod up;
+
+pub use cut::Cut;
+pub use fault::UpFault;
+pub use starting::{NotStarted, Started};
+pub use up::Up;

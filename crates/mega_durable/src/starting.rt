@@ -1,0 +1,144 @@
+//! A node starts over the logs that its earlier starts left: its record is kept before anything of the start is given out.
+ghost use Rattle.std.specs.Prelude.{◌≡◌, ◌+◌, ◌∷◌, [], ℕ, List, map, None, Some, true, false, IfOk, IfErr, MatchResult};
+ghost use Rattle.mega_disk.specs.Images.{LeavesOnly};
+ghost use Rattle.mega_handler.specs.Named.{Meanings};
+ghost use Rattle.mega_rules.specs.Members.{is_node};
+ghost use Rattle.mega_rules.specs.Met.{Met, Starts};
+ghost use Rattle.mega_rules.specs.Steps.{onto, start, start_notes};
+ghost use Rattle.mega_rules.specs.Operations.{Node as RuleNode};
+ghost use Rattle.mega_voter.specs.Holding.{GoesOn, HoldsMet, starts_after};
+ghost use Rattle.mega_wal.specs.declared.item.JournalItem.TheVariants.{Start as StartItem};
+ghost use Rattle.mega_actions.specs.Stands.{setting};
+ghost use Rattle.mega_core.specs.Notes.{met_of};
+ghost use Rattle.mega_core.specs.Served.{IsServed};
+ghost use Rattle.mega_core.specs.Standing.{StandsFor};
+ghost use Rattle.mega_durable.specs.Cut.{LogWent, MayLeaveStart};
+ghost use Rattle.mega_durable.specs.Standing.{IsUp, records_in};
+ghost use Rattle.mega_durable.specs.Starting.{AtEachStart, AtStarts, IsRefused, LeavesStart};
+
+use crate::up::Up;
+use mega_actions::Replica;
+use mega_base::Items;
+use mega_cluster::Cluster;
+use mega_core::{Node, Note, RestartFault, Restarted};
+use mega_disk::{Records, Versions};
+use mega_voter::Voter;
+use mega_wal::LogFault;
+use std::alloc::Global;
+
+/// A node that started: the number of the start, and what the start shows behind what it owed, which is all that it applied.
+#[derive(Drop)]
+pub struct Started<R: Records, V: Versions> {
+    pub up: Up<R, V>,
+    pub start: u32,
+    pub notes: Items<Note>,
+}
+
+/// Why a node did not start.
+#[derive(Drop)]
+pub enum NotStarted<R: Records> {
+    /// It started 4,294,967,295 times.
+    StartsFull { records: R },
+    /// The device of the log failed as the record of the start was appended: the start is cut off, and shows nothing.
+    Cut { records: R },
+    /// The record of the start was not kept for another cause.
+    Log { fault: LogFault, records: R },
+    /// An allocation was refused, and the records are lost.
+    NoMemory,
+}
+
+/// The records of a node.
+pub(crate) fn into_records<R: Records + Drop, V: Versions + Drop>(node: Node<R, V>) -> R
+    ensures { result ≡ records_in node }
+{
+    let Node { replica, .. } = node;
+    let Replica { voter, .. } = replica;
+    voter.close().close()
+}
+
+/// Keeps the record of a start, and only then gives the start out.
+fn kept<R: Records + Drop, V: Versions + Drop>(
+    alloc: Global,
+    made: Restarted<R, V>,
+) -> Result<Started<R, V>, (LogFault, R)>
+    requires one { made.node.replica.voter.logs.staged.items ≡ StartItem ∷ [] }
+    ensures stands { IfOk result (λ started. (h : Meanings) (node : RuleNode) → StandsFor V.version h made.node node → StandsFor V.version h started.up.node node) }
+    ensures empty { IfOk result (λ started. started.up.node.replica.voter.logs.staged.items ≡ []) }
+    ensures ready { IfOk result (λ started. R.is_spent (records_in started.up.node) ≡ R.is_spent (records_in made.node)) }
+    ensures holds { R.is_told ≡ true → IfOk result (λ started. (starts : ℕ) (before met : List Met) → HoldsMet (R.list (records_in made.node)) starts before → GoesOn (StartItem ∷ []) starts before met →
+        HoldsMet (R.list (records_in started.up.node)) (starts_after (StartItem ∷ []) starts) met) }
+    ensures counted { IfOk result (λ started. R.count_of (records_in started.up.node) ≡ R.count_of (records_in made.node) + 1) }
+    ensures cut { R.is_told ≡ true → R.is_spent (records_in made.node) ≡ false → MatchResult result (λ started. AtStarts R.Records (records_in made.node) (λ starts met. LeavesOnly R.moment R.opened_since (records_in made.node) (records_in started.up.node) (MayLeaveStart starts met)))
+        (λ refused. AtStarts R.Records (records_in made.node) (λ starts met. LeavesOnly R.moment R.opened_since (records_in made.node) refused.1 (MayLeaveStart starts met))) }
+    ensures went { MatchResult result (λ started. LogWent R.Records None (records_in made.node) (records_in started.up.node)) (λ refused. LogWent R.Records (Some refused.0) (records_in made.node) refused.1) }
+    ensures start { IfOk result (λ started. started.start ≡ made.start) }
+    ensures notes { IfOk result (λ started. started.notes ≡ made.notes) }
+    ensures members { IfOk result (λ started. started.up.node.replica.members ≡ made.node.replica.members) }
+    ensures me { IfOk result (λ started. started.up.node.replica.me ≡ made.node.replica.me) }
+{
+    let Restarted { node, start, notes } = made;
+    let mut node = node;
+    match node.replica.voter.flush(alloc) {
+        Ok(()) => Ok(Started {
+            up: Up { node },
+            start,
+            notes,
+        }),
+        Err(fault) => {
+            drop(notes);
+            Err((fault, into_records(node)))
+        }
+    }
+}
+
+impl<R: Records + Drop, V: Versions + Drop> Up<R, V> {
+    /// The node of this number starts once more, over the logs that its earlier starts left, of which nothing is staged, and
+    /// rows that hold nothing. The record of the start is kept before anything of it is given out.
+    pub fn start(
+        alloc: Global,
+        cluster: Cluster,
+        me: u8,
+        voter: Voter<R>,
+        rows: V,
+    ) -> Result<Started<R, V>, NotStarted<R>>
+        requires served { IsServed cluster }
+        requires member { is_node cluster me ≡ true }
+        requires flushed { voter.logs.staged.items ≡ [] }
+        ensures state { R.is_told ≡ true → IfOk result (λ made. AtEachStart R.Records voter (λ h starts met owed. ((key : List ℕ) (n : ℕ) → V.version rows key n ≡ None) →
+            IsUp R.Records V.version h made.up.node (start (setting cluster me h) (starts + 1) owed met))) }
+        ensures notes { IfOk result (λ made. AtEachStart R.Records voter (λ h starts met owed. map met_of made.notes ≡ start_notes (setting cluster me h) (onto owed (Starts (starts + 1) ∷ met)))) }
+        ensures number { IfOk result (λ made. made.start ≡ voter.logs.kept.starts + 1) }
+        ensures counted { IfOk result (λ made. R.count_of (records_in made.up.node) ≡ R.count_of voter.logs.records + 1) }
+
+        // A crash at any moment of the start leaves the records from before, or these with the record of the start.
+        ensures cut { R.is_told ≡ true → MatchResult result (λ made. AtEachStart R.Records voter (λ h starts met owed. LeavesOnly R.moment R.opened_since voter.logs.records (records_in made.up.node) (MayLeaveStart starts (onto owed met))))
+            (λ refused. AtEachStart R.Records voter (λ h starts met owed. LeavesStart R.Records starts (onto owed met) voter.logs.records refused)) }
+
+        ensures went { MatchResult result (λ made. LogWent R.Records None voter.logs.records (records_in made.up.node)) (λ refused. IsRefused R.Records voter refused) }
+        ensures members { IfOk result (λ made. made.up.node.replica.members ≡ cluster) }
+        ensures me { IfOk result (λ made. made.up.node.replica.me ≡ me) }
+    {
+        if voter.start() == u32::MAX {
+            return Err(NotStarted::StartsFull {
+                records: voter.close().close(),
+            });
+        }
+        let made = match Node::restart(alloc, cluster, me, voter, rows) {
+            Ok(made) => made,
+            Err(_refused) => return Err(NotStarted::NoMemory),
+        };
+        match kept(alloc, made) {
+            Ok(started) => Ok(started),
+            Err((LogFault::DiskFault, records)) => Err(NotStarted::Cut { records }),
+            Err((fault, records)) => Err(NotStarted::Log { fault, records }),
+        }
+    }
+
+    /// The node crashes: what it kept in memory is gone, and its records are what the next start opens anew.
+    pub fn crash(self) -> R
+        ensures { result ≡ records_in self.node }
+    {
+        let Up { node } = self;
+        into_records(node)
+    }
+}

@@ -1,0 +1,143 @@
+//! A node that is up: each step is kept by one record before anything of it is given out.
+ghost use Rattle.std.specs.Prelude.{◌≡◌, ◌≢◌, ◌+◌, if◌then◌else◌, map, true, false, IfOk, IfErr, OnOk, Err};
+ghost use Rattle.mega_disk.specs.Fuse.{set_to};
+ghost use Rattle.mega_disk.specs.Images.{LeavesOnly, SameImages};
+ghost use Rattle.mega_handler.specs.Named.{Meanings};
+ghost use Rattle.mega_leases.specs.Taking.{IsByStranger, IsLate};
+ghost use Rattle.mega_rules.specs.Operations.{Node as RuleNode};
+ghost use Rattle.mega_rules.specs.Steps.{Begin, Take, Tick, step};
+ghost use Rattle.mega_replica.specs.Faring.{Fares};
+ghost use Rattle.mega_actions.specs.Built.{is_built};
+ghost use Rattle.mega_core.specs.declared.fault.StepFault.TheVariants.{Late, Stranger, Unbuilt};
+ghost use Rattle.mega_core.specs.Notes.{met_of};
+ghost use Rattle.mega_promises.specs.Runs.{appends, replies_in};
+ghost use Rattle.mega_durable.specs.declared.fault.UpFault.TheVariants.{Step as Failed};
+ghost use Rattle.mega_durable.specs.Cut.{IsOwedBy, LogWent, MayLeave, failed_by, log_failed_by};
+ghost use Rattle.mega_durable.specs.Standing.{IsUp, records_in};
+ghost use Rattle.mega_durable.specs.Stepped.{AtEach, IsSome};
+
+use crate::fault::UpFault;
+use crate::keeping::keep;
+use crate::replying::replies;
+use mega_base::Text;
+use mega_core::{Node, Step};
+use mega_disk::{Records, Versions};
+use mega_outcome::Request;
+use mega_wire::Message;
+use std::alloc::Global;
+
+/// A node that is up. What a step promises, decides, grants or lets lapse is one record on its log before anything of the
+/// step is given out. After a fault it is used no more but to be crashed.
+#[derive(Drop)]
+pub struct Up<R: Records, V: Versions> {
+    pub node: Node<R, V>,
+}
+
+impl<R: Records, V: Versions> Up<R, V> {
+    /// The node takes a message.
+    pub fn take(&mut self, alloc: Global, message: &Message) -> Result<Step, UpFault>
+        requires known { (V.is_told ≡ true) × IsSome R.Records V.version self.old.node (Take message.now) }
+        ensures notes { IfOk result (λ made. AtEach R.Records V.version self.old.node (Take message.now) (λ h s node. map met_of made.notes ≡ (step s node (Take message.now)).notes)) }
+        ensures sends { IfOk result (λ made. AtEach R.Records V.version self.old.node (Take message.now) (λ h s node. made.sends ≡ (step s node (Take message.now)).sends)) }
+        ensures state { R.is_told ≡ true → OnOk result (AtEach R.Records V.version self.old.node (Take message.now) (λ h s node. IsUp R.Records V.version h self.new.node (step s node (Take message.now)).node)) }
+        ensures appended { OnOk result (AtEach R.Records V.version self.old.node (Take message.now) (λ h s node. R.count_of (records_in self.new.node) ≡ R.count_of (records_in self.old.node) + (if appends (step s node (Take message.now)) then 1 else 0))) }
+
+        // A crash at any moment of the step leaves what the run's step leaves that is cut off.
+        ensures cut { R.is_told ≡ true → AtEach R.Records V.version self.old.node (Take message.now) (λ h s node. LeavesOnly R.moment R.opened_since (records_in self.old.node) (records_in self.new.node) (MayLeave s node (Take message.now))) }
+
+        ensures owed { IfErr result (λ refused. AtEach R.Records V.version self.old.node (Take message.now) (λ h s node. IsOwedBy (step s node (Take message.now)) (replies_in s.cluster s.me node.met (Take message.now)) refused)) }
+
+        ensures built { result ≢ Err (Failed Unbuilt) }
+        ensures stranger { result ≡ Err (Failed Stranger) → IsByStranger message.now.from message.now.body }
+        ensures late { result ≡ Err (Failed Late) → IsLate self.old.node.replica.members message.now.body }
+        ensures went { LogWent R.Records (log_failed_by result) (records_in self.old.node) (records_in self.new.node) }
+        ensures fares { Fares V.Versions (failed_by result) self.old.node.replica.rows.rows self.new.node.replica.rows.rows }
+        ensures members { self.new.node.replica.members ≡ self.old.node.replica.members }
+        ensures me { self.new.node.replica.me ≡ self.old.node.replica.me }
+    {
+        let members = &self.node.replica.members;
+        let replies = replies(members.cluster(), self.node.replica.me, &message.body);
+        match self.node.take(alloc, message) {
+            Ok(step) => match keep(alloc, &mut self.node, step, replies) {
+                Ok(made) => Ok(made),
+                Err(fault) => Err(fault),
+            },
+            Err(fault) => Err(UpFault::Step(fault)),
+        }
+    }
+
+    /// An operation begins at the node; the text is its request.
+    pub fn begin(&mut self, alloc: Global, request: Request, text: &Text) -> Result<Step, UpFault>
+        requires known { (V.is_told ≡ true) × IsSome R.Records V.version self.old.node (Begin request text.now) }
+        ensures notes { IfOk result (λ made. AtEach R.Records V.version self.old.node (Begin request text.now) (λ h s node. map met_of made.notes ≡ (step s node (Begin request text.now)).notes)) }
+        ensures sends { IfOk result (λ made. AtEach R.Records V.version self.old.node (Begin request text.now) (λ h s node. made.sends ≡ (step s node (Begin request text.now)).sends)) }
+        ensures state { R.is_told ≡ true → OnOk result (AtEach R.Records V.version self.old.node (Begin request text.now) (λ h s node. IsUp R.Records V.version h self.new.node (step s node (Begin request text.now)).node)) }
+        ensures appended { OnOk result (AtEach R.Records V.version self.old.node (Begin request text.now) (λ h s node. R.count_of (records_in self.new.node) ≡ R.count_of (records_in self.old.node) + (if appends (step s node (Begin request text.now)) then 1 else 0))) }
+
+        // A crash at any moment of the step leaves what the run's step leaves that is cut off.
+        ensures cut { R.is_told ≡ true → AtEach R.Records V.version self.old.node (Begin request text.now) (λ h s node. LeavesOnly R.moment R.opened_since (records_in self.old.node) (records_in self.new.node) (MayLeave s node (Begin request text.now))) }
+
+        ensures owed { IfErr result (λ refused. AtEach R.Records V.version self.old.node (Begin request text.now) (λ h s node. IsOwedBy (step s node (Begin request text.now)) (replies_in s.cluster s.me node.met (Begin request text.now)) refused)) }
+
+        ensures unbuilt { result ≡ Err (Failed Unbuilt) → is_built request ≡ false }
+        ensures stranger { result ≢ Err (Failed Stranger) }
+        ensures late { result ≢ Err (Failed Late) }
+        ensures went { LogWent R.Records (log_failed_by result) (records_in self.old.node) (records_in self.new.node) }
+        ensures fares { Fares V.Versions (failed_by result) self.old.node.replica.rows.rows self.new.node.replica.rows.rows }
+        ensures members { self.new.node.replica.members ≡ self.old.node.replica.members }
+        ensures me { self.new.node.replica.me ≡ self.old.node.replica.me }
+    {
+        match self.node.begin(alloc, request, text) {
+            Ok(step) => match keep(alloc, &mut self.node, step, 0) {
+                Ok(made) => Ok(made),
+                Err(fault) => Err(fault),
+            },
+            Err(fault) => Err(UpFault::Step(fault)),
+        }
+    }
+
+    /// The node's clock shows `now`, in milliseconds.
+    pub fn tick(&mut self, alloc: Global, now: u64) -> Result<Step, UpFault>
+        requires known { (V.is_told ≡ true) × IsSome R.Records V.version self.old.node (Tick now) }
+        ensures notes { IfOk result (λ made. AtEach R.Records V.version self.old.node (Tick now) (λ h s node. map met_of made.notes ≡ (step s node (Tick now)).notes)) }
+        ensures sends { IfOk result (λ made. AtEach R.Records V.version self.old.node (Tick now) (λ h s node. made.sends ≡ (step s node (Tick now)).sends)) }
+        ensures state { R.is_told ≡ true → OnOk result (AtEach R.Records V.version self.old.node (Tick now) (λ h s node. IsUp R.Records V.version h self.new.node (step s node (Tick now)).node)) }
+        ensures appended { OnOk result (AtEach R.Records V.version self.old.node (Tick now) (λ h s node. R.count_of (records_in self.new.node) ≡ R.count_of (records_in self.old.node) + (if appends (step s node (Tick now)) then 1 else 0))) }
+
+        // A crash at any moment of the step leaves what the run's step leaves that is cut off.
+        ensures cut { R.is_told ≡ true → AtEach R.Records V.version self.old.node (Tick now) (λ h s node. LeavesOnly R.moment R.opened_since (records_in self.old.node) (records_in self.new.node) (MayLeave s node (Tick now))) }
+
+        ensures owed { IfErr result (λ refused. AtEach R.Records V.version self.old.node (Tick now) (λ h s node. IsOwedBy (step s node (Tick now)) (replies_in s.cluster s.me node.met (Tick now)) refused)) }
+
+        ensures built { result ≢ Err (Failed Unbuilt) }
+        ensures stranger { result ≢ Err (Failed Stranger) }
+        ensures late { result ≢ Err (Failed Late) }
+        ensures went { LogWent R.Records (log_failed_by result) (records_in self.old.node) (records_in self.new.node) }
+        ensures fares { Fares V.Versions (failed_by result) self.old.node.replica.rows.rows self.new.node.replica.rows.rows }
+        ensures members { self.new.node.replica.members ≡ self.old.node.replica.members }
+        ensures me { self.new.node.replica.me ≡ self.old.node.replica.me }
+    {
+        match self.node.tick(alloc, now) {
+            Ok(step) => match keep(alloc, &mut self.node, step, 0) {
+                Ok(made) => Ok(made),
+                Err(fault) => Err(fault),
+            },
+            Err(fault) => Err(UpFault::Step(fault)),
+        }
+    }
+
+    /// Sets a fuse on the device below the node's log.
+    pub fn fuse(&mut self, calls: u64, image: u8)
+        ensures state { (h : Meanings) (node : RuleNode) → IsUp R.Records V.version h self.old.node node → IsUp R.Records V.version h self.new.node node }
+        ensures fuse { R.fuse_left (records_in self.new.node) ≡ set_to calls (R.fuse_left (records_in self.old.node)) }
+        ensures same { SameImages R.moment R.may_open R.opened_since (records_in self.old.node) (records_in self.new.node) }
+        ensures count { R.count_of (records_in self.new.node) ≡ R.count_of (records_in self.old.node) }
+        ensures faults { R.faults (records_in self.new.node) ≡ R.faults (records_in self.old.node) }
+        ensures by_fuse { R.fails_by_fuse (records_in self.new.node) ≡ R.fails_by_fuse (records_in self.old.node) }
+        ensures rows { self.new.node.replica.rows ≡ self.old.node.replica.rows }
+        ensures members { self.new.node.replica.members ≡ self.old.node.replica.members }
+        ensures me { self.new.node.replica.me ≡ self.old.node.replica.me }
+    {
+        self.node.replica.voter.fuse(calls, image);
+    }
+}
