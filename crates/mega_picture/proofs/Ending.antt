@@ -1,19 +1,18 @@
 -- Where the bands of groups end, one line more at a time, looking back.
-use Rattle.std.proofs.Common.{◌≡◌, ℕ, suc, ◌+◌, ◌-◌, ◌<◌, ◌≤◌, Bool, true, false, ◌||◌, cond, List, [], ◌∷◌, ◌++◌, length, drop, get_or, refl, sym, ap, ◌∙◌, subst, arith, append_assoc}
-use Rattle.std.specs.Prelude.{Option, Some, None, unwrap_or, ◌==◌}
+use Rattle.std.proofs.Common.{◌≡◌, ℕ, ◌+◌, ◌-◌, ◌<◌, ◌≤◌, Bool, true, false, ◌||◌, cond, List, ◌∷◌, ◌++◌, length, drop, get_or, refl, sym, ap, ◌∙◌, subst, arith, append_assoc}
+use Rattle.std.specs.Prelude.{Option, Some, unwrap_or, ◌==◌}
 use Rattle.std.specs.Ordering.{nat_cmp, is_eq}
 use Rattle.std.specs.BTreeMap.{BTreeMap, get, Updates}
 use Rattle.std.proofs.lemmas.List.{drop_more}
 use Rattle.std.proofs.lemmas.Bool.Decides.{nat_tests}
 use Rattle.mega_picture.specs.declared.told.Told.{Told}
 use Rattle.mega_picture.specs.declared.sheet.Sheet.{Sheet}
-use Rattle.mega_picture.specs.declared.bands.Turn.{Turn}
 use Rattle.mega_picture.specs.declared.bands.Band.TheVariants.{Serves}
 use Rattle.mega_picture.specs.declared.validity.Change.{Change}
 use Rattle.mega_picture.specs.declared.validity.EndsAt.{EndsAt}
 use Rattle.mega_picture.specs.Bands.{turn_of}
 use Rattle.mega_picture.specs.Ends.{end_at, Ends}
-use Rattle.mega_picture.specs.Validity.{change_of, is_of, is_end, ends_band, end_from, change_text, validities_from}
+use Rattle.mega_picture.specs.Validity.{change_of, ends_band, end_from, change_text, validities_from}
 
 -- of two tests either ends the band
 pub joined : (a b : Bool) (row was between after : ℕ) → between ≡ cond b row was → after ≡ cond a row between → after ≡ cond (a || b) row was

@@ -1,6 +1,6 @@
 -- First rows, one line more at a time.
-use Rattle.std.proofs.Common.{◌≡◌, ℕ, zero, suc, ◌+◌, ◌<◌, ◌≤◌, Bool, true, false, cond, List, [], ◌∷◌, ◌++◌, length, take, get_or, refl, sym, ap, ◌∙◌, arith}
-use Rattle.std.specs.Prelude.{Option, Some, None}
+use Rattle.std.proofs.Common.{◌≡◌, ℕ, ◌+◌, ◌<◌, Bool, true, false, cond, List, [], ◌∷◌, ◌++◌, length, take, get_or, refl, sym, ap, ◌∙◌, arith}
+use Rattle.std.specs.Prelude.{Some, None}
 use Rattle.std.specs.List.{position_from}
 use Rattle.std.proofs.lemmas.List.{take_more, length-take-le}
 use Rattle.mega_schema.specs.Named.{or_place}

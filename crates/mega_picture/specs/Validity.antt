@@ -1,11 +1,11 @@
 -- The thin bands of groups that are valid or invalid at a node, the last one first.
-use Rattle.std.specs.Prelude.{ℕ, ◌+◌, ◌-◌, ◌*◌, ◌/◌, ◌%◌, ◌==◌, ◌||◌, Bool, true, false, if◌then◌else◌, List, [], ◌∷◌, ◌++◌, codes, decimal, Option, Some, None}
+use Rattle.std.specs.Prelude.{ℕ, ◌+◌, ◌-◌, ◌*◌, ◌%◌, ◌==◌, ◌||◌, Bool, true, false, if◌then◌else◌, List, [], ◌∷◌, ◌++◌, codes, decimal, Option, Some, None}
 use Rattle.mega_transcript.specs.declared.item.Item.{Item}
 use Rattle.mega_transcript.specs.declared.item.Item.TheVariants as items
 use Rattle.mega_picture.specs.declared.told.Told.{Told}
 use Rattle.mega_picture.specs.declared.sheet.Sheet.{Sheet}
 use Rattle.mega_picture.specs.declared.bands.Turn.{Turn}
-use Rattle.mega_picture.specs.declared.bands.Turn.TheVariants.{Begins, Ends, Stays}
+use Rattle.mega_picture.specs.declared.bands.Turn.TheVariants.{Ends}
 use Rattle.mega_picture.specs.declared.bands.Band.TheVariants.{Serves}
 use Rattle.mega_picture.specs.declared.validity.Change.{Change}
 use Rattle.mega_picture.specs.Escape.{shortened}

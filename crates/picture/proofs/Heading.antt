@@ -1,5 +1,5 @@
 -- A header's lines, one more at a time.
-use Rattle.std.proofs.Common.{◌≡◌, ℕ, suc, ◌+◌, ◌<◌, ◌≤◌, Bool, true, false, cond, List, [], ◌∷◌, ◌++◌, length, drop, get_or, refl, sym, ap, ◌∙◌, append_assoc, arith}
+use Rattle.std.proofs.Common.{◌≡◌, ℕ, ◌+◌, ◌<◌, ◌≤◌, Bool, true, false, cond, List, [], ◌∷◌, ◌++◌, length, drop, get_or, refl, sym, ap, ◌∙◌, append_assoc}
 use Rattle.std.specs.Prelude.{Option, Some, None}
 use Rattle.std.specs.List.{position_from}
 use Rattle.std.proofs.Math.ListN.{drop_of_length-le}
@@ -10,10 +10,7 @@ parted : (lines : List (List ℕ)) (i : ℕ) (line : List ℕ) → i < length li
 parted lines i line lt is = drop_more lines i line lt ∙ ap (λ x. x ∷ drop (i + 1) lines) (sym is)
 
 looked : (line : List ℕ) (rest : List (List ℕ)) (i : ℕ) → position_from is_mark i (line ∷ rest) ≡ cond (is_mark line) (Some i) (position_from is_mark (i + 1) rest)
-looked line rest i = ap (λ k. cond (is_mark line) (Some i) (position_from is_mark k rest)) (next i)
-  where
-    next : (k : ℕ) → suc k ≡ k + 1
-    next k = omega arith
+looked line rest i = refl
 
 -- a line that is no mark is passed over
 pub place_on : (lines : List (List ℕ)) (i : ℕ) (line : List ℕ) (whole : Option ℕ) → i < length lines → line ≡ get_or lines i line → is_mark line ≡ false → position_from is_mark i (drop i lines) ≡ whole → position_from is_mark (i + 1) (drop (i + 1) lines) ≡ whole

@@ -1,6 +1,7 @@
 -- A text that is parted into its lines byte by byte.
-use Rattle.std.proofs.Common.{◌≡◌, ◌≢◌, ℕ, zero, suc, ◌+◌, ◌<◌, ◌==◌, Bool, true, false, if◌then◌else◌, List, [], ◌∷◌, ◌++◌, length, drop, get_or, refl, sym, ap, ◌∙◌, append_assoc, append-nil}
+use Rattle.std.proofs.Common.{◌≡◌, ◌≢◌, ℕ, suc, ◌+◌, ◌<◌, ◌==◌, Bool, true, false, if◌then◌else◌, List, [], ◌∷◌, ◌++◌, length, drop, get_or, refl, sym, ap, ◌∙◌, append_assoc, append-nil, arith}
 use Rattle.std.proofs.lemmas.Bool.{ne_eqb}
+use Rattle.std.proofs.lemmas.Bool.Decides.{nat_tests}
 use Rattle.std.proofs.lemmas.List.{drop_more}
 use Rattle.mega_io.specs.TextLines.{close_line, lines_after}
 
@@ -14,12 +15,19 @@ pub grows : (lines : List (List ℕ)) (line longer : List ℕ) (byte : ℕ) → 
 grows lines line longer byte other is rest =
     ap (λ xs. lines ++ lines_after xs rest) is ∙ ap (λ b. lines ++ (if b then line ∷ lines_after [] rest else lines_after (line ++ byte ∷ []) rest)) (sym (ne_eqb byte 10 other))
 
+some_bytes : (n : ℕ) → (suc n == 0) ≡ false
+some_bytes n = grind (arith, nat_tests)
+
+both : (b : Bool) → b ≡ true → b ≡ false → ⊥
+both true is not = let e : ◌≡◌ {A = Bool} true false = not in cc
+both false is not = let e : ◌≡◌ {A = Bool} false true = is in cc
+
 pub none : (lines : List (List ℕ)) (line : List ℕ) → (length line == 0) ≡ true → lines ≡ lines ++ close_line line
 none lines [] empty = sym (append-nil lines)
-none lines (byte ∷ line) empty = absurd (let e : ◌≡◌ {A = Bool} false true = empty in cc)
+none lines (byte ∷ line) empty = absurd (both (suc (length line) == 0) empty (some_bytes (length line)))
 
 pub closed : (lines new : List (List ℕ)) (line : List ℕ) → (length line == 0) ≡ false → new ≡ lines ++ line ∷ [] → new ≡ lines ++ close_line line
-closed lines new [] some is = absurd (let e : ◌≡◌ {A = Bool} true false = some in cc)
+closed lines new [] some is = absurd (both true refl some)
 closed lines new (byte ∷ line) some is = is
 
 -- one byte more was looked at

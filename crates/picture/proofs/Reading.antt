@@ -1,5 +1,5 @@
 -- The items of lines, one line more at a time.
-use Rattle.std.proofs.Common.{◌≡◌, ℕ, ◌+◌, ◌<◌, ◌≤◌, List, [], ◌∷◌, ◌++◌, length, drop, get_or, refl, sym, ap, ◌∙◌, append_assoc, append-nil}
+use Rattle.std.proofs.Common.{◌≡◌, ℕ, ◌+◌, ◌<◌, ◌≤◌, List, [], ◌∷◌, ◌++◌, length, drop, get_or, refl, sym, ap, ◌∙◌, append_assoc, append-nil, arith, length-append}
 use Rattle.std.specs.Prelude.{Result, Ok, Err, ⊤}
 use Rattle.std.proofs.Math.ListN.{drop_of_length-le}
 use Rattle.std.proofs.lemmas.List.{drop_more}
@@ -48,3 +48,7 @@ told_not schema first i lines line told NoMemory whole lt is read was = tt
 -- all lines were read
 pub told_all : (schema : Schema) (first i : ℕ) (lines : List (List ℕ)) (told : List Told) (whole : Result (List Told) Refusal) → length lines ≤ i → onto told (told_from schema first i (drop i lines)) ≡ whole → whole ≡ Ok told
 told_all schema first i lines told whole le was = sym was ∙ (ap (λ ls. onto told (told_from schema first i ls)) (drop_of_length-le lines le) ∙ ap Ok (append-nil told))
+
+-- there are no more items than lines
+pub longer : (told after : List Told) (one : Told) (i : ℕ) → length told ≤ i → after ≡ told ++ one ∷ [] → length after ≤ i + 1
+longer told after one i le is = omega (arith, le, ap length is, length-append told (one ∷ []))

@@ -1,6 +1,5 @@
 //! The page of a window of an input's lines.
 ghost use Rattle.std.specs.Prelude.{◌≡◌, ◌≤◌, ◌<◌, Some, drop, length, take};
-ghost use Rattle.picture.specs.Inputs.{cluster_of};
 ghost use Rattle.picture.specs.Stops.{Gives};
 ghost use Rattle.picture.specs.Drawings.{page_unless, page_of, window_lines, drawn, drawing_at, drawing_of};
 

@@ -41,7 +41,7 @@ fn told_of(alloc: Global, schema: &Schema, number: u64, line: &[u8]) -> Result<T
 }
 
 /// The items of these lines; the first one has this number.
-#[tactic(auto, using(crate::proofs::Reading::told_on, crate::proofs::Reading::told_not, crate::proofs::Reading::told_all))]
+#[tactic(auto, using(crate::proofs::Reading::told_on, crate::proofs::Reading::told_not, crate::proofs::Reading::told_all, crate::proofs::Reading::longer))]
 pub fn told_of_lines(
     alloc: Global,
     schema: &Schema,
@@ -49,7 +49,8 @@ pub fn told_of_lines(
     lines: &[Bytes],
 ) -> Result<Items<Told>, Stop>
     requires { length lines.now ≤ 4000 }
-    ensures { Gives result (told_from schema.now first 0 lines.now) }
+    ensures value { Gives result (told_from schema.now first 0 lines.now) }
+    ensures few { IfOk result (λ told. length told ≤ 4000) }
 {
     let mut told = Items::new(alloc);
     for (index, line) in lines.iter().enumerate() {

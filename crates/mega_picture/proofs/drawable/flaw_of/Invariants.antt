@@ -1,5 +1,4 @@
 use Rattle.std.proofs.Common.{◌≡◌, drop}
-use Rattle.mega_picture.specs.Rows.{Follows}
 use Rattle.mega_picture.specs.Flaws.{flaw_of, flaw_from}
 use Rattle.mega_picture.proofs.drawable.flaw_of.Given as goal
 
