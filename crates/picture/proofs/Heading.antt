@@ -1,5 +1,5 @@
 -- A header's lines, one more at a time.
-use Rattle.std.proofs.Common.{◌≡◌, ℕ, ◌+◌, ◌<◌, ◌≤◌, Bool, true, false, cond, List, [], ◌∷◌, ◌++◌, length, drop, get_or, refl, sym, ap, ◌∙◌, append_assoc}
+use Rattle.std.proofs.Common.{◌≡◌, ℕ, ◌+◌, ◌<◌, ◌≤◌, true, false, cond, List, [], ◌∷◌, ◌++◌, length, drop, get_or, refl, sym, ap, ◌∙◌, append_assoc}
 use Rattle.std.specs.Prelude.{Option, Some, None}
 use Rattle.std.specs.List.{position_from}
 use Rattle.std.proofs.Math.ListN.{drop_of_length-le}

@@ -1,9 +1,8 @@
 -- The lines of a window, and the page of what they tell.
-use Rattle.std.proofs.Common.{◌≡◌, ℕ, ◌<◌, ◌≤◌, List, [], ◌++◌, length, take, drop, sym, ap, ◌∙◌, subst, arith, length-append, append-nil}
+use Rattle.std.proofs.Common.{◌≡◌, ℕ, ◌≤◌, List, [], length, take, drop, sym, ap, subst}
 use Rattle.std.specs.Prelude.{Result, Ok, Err}
 use Rattle.std.proofs.Math.ListN.{drop_of_length-le}
 use Rattle.std.proofs.lemmas.List.{take_all}
-use Rattle.mega_picture.specs.declared.told.Told.{Told}
 use Rattle.picture.specs.declared.refusal.Refusal.{Refusal}
 use Rattle.picture.specs.declared.stop.Stop.{Stop}
 use Rattle.picture.specs.declared.stop.Stop.TheVariants.{Refused, Source, Sink, NoMemory}

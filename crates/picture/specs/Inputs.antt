@@ -1,11 +1,11 @@
 -- The parts of an input: the header of a cluster, and the lines of a transcript, which stand behind the line `---`.
-use Rattle.std.specs.Prelude.{ℕ, Bool, ◌||◌, ◌+◌, nat_eq, codes, List, [], ◌∷◌, ◌++◌, take, drop, Option, Some, None, Result, Ok, Err}
+use Rattle.std.specs.Prelude.{ℕ, Bool, ◌||◌, nat_eq, codes, List, [], ◌∷◌, ◌++◌, Option, Result, Ok, Err}
 use Rattle.std.specs.List.{position_from}
 use Rattle.std.specs.Cmp.Lexicographic.{pointwise}
 use Rattle.mega_cluster.specs.declared.cluster.Cluster.{Cluster}
 use Rattle.mega_cluster.specs.Header.{read_of}
 use Rattle.picture.specs.declared.refusal.Refusal.{Refusal}
-use Rattle.picture.specs.declared.refusal.Refusal.TheVariants.{NoTranscript, Header}
+use Rattle.picture.specs.declared.refusal.Refusal.TheVariants.{Header}
 
 -- the line between them; a carriage return may stand at its end
 abbrev pub is_mark : List ℕ → Bool

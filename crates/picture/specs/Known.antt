@@ -1,5 +1,5 @@
 -- What is said of the input where its bytes are told.
-use Rattle.std.specs.Prelude.{◌≡◌, ℕ, List, Option, None, Some, Ok, Err, ⊤, IfSome}
+use Rattle.std.specs.Prelude.{◌≡◌, ℕ, List, Option, None, Some, Ok, Err, IfSome}
 use Rattle.picture.specs.declared.refusal.Refusal.{Refusal}
 use Rattle.picture.specs.declared.words.Window.{Window}
 use Rattle.picture.specs.Drawings.{drawing_of}

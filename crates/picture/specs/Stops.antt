@@ -1,5 +1,5 @@
 -- Why no page is written, and what is said of a call that gives a page or a stop.
-use Rattle.std.specs.Prelude.{◌≡◌, ◌⊎◌, ℕ, ◌+◌, min, List, ◌++◌, codes, decimal, ⊤, Option, None, Some, Result, Ok, Err}
+use Rattle.std.specs.Prelude.{◌≡◌, ◌⊎◌, ℕ, List, ◌++◌, codes, decimal, ⊤, Result, Ok, Err}
 use Rattle.mega_picture.specs.declared.drawable.Flaw.{Flaw}
 use Rattle.mega_picture.specs.declared.drawable.Flaw.TheVariants.{NotSent, SentBefore, NoNode}
 use Rattle.mega_picture.specs.Pages.{line_number}

@@ -88,9 +88,7 @@ fn tell_item(alloc: Global, out: &mut Bytes, line: u64) -> Result<(), NoMemory>
 fn tell_many(alloc: Global, out: &mut Bytes, first: u64, last: u64) -> Result<(), NoMemory>
     ensures { OnOk result (out.new ≡ out.old ++ many_line first last) }
 {
-    let told = format!(in alloc;
-        "more than 4000 lines: take --from {first} --to {last}\n"
-    )?;
+    let told = format!(in alloc; "more than 4000 lines: take --from {first} --to {last}\n")?;
     out.extend_from_slice(told.as_bytes())
 }
 
