@@ -8,7 +8,7 @@ use Rattle.mega_transcript.specs.declared.item.Item.{Item}
 use Rattle.mega_transcript.specs.declared.item.Item.TheVariants.{Begin as BeginItem, Crash, Cut as CutItem, Dropped, Taken, Tick as TickItem}
 use Rattle.mega_transcript.specs.Tape.{sent_count}
 use Rattle.mega_promises.specs.Items.{number, numbered, shown}
-use Rattle.mega_promises.specs.Runs.{CutByData, CutByLog, Fate, Fuse, Happening, IsRun, Left, Standing, Whole, calls_of, crashes, cut_step, fate_of, fated, fated_start, goes_on, is_durable, is_kept, marked, met_in, nothing_yet, opening, owes, replies_in, set_at, setting, whole_step, with_item, with_items}
+use Rattle.mega_promises.specs.Runs.{CutByData, CutByLog, Fate, Fuse, Happening, IsRun, Left, Standing, Whole, calls_of, crashes, cut_step, fate_by, fated, fated_start, goes_on, is_durable, is_kept, marked, met_in, nothing_yet, opening, owes, replies_in, set_at, setting, whole_step, with_item, with_items}
 use Rattle.mega_rules.specs.Met.{Met, Starts, Crashes, Takes, Sends, Unsends, Grants, Lapses, Decides, Applies}
 use Rattle.mega_rules.specs.Clock.{clock_of, is_up}
 use Rattle.mega_rules.specs.Coordinators.{serves_at, valid_at}
@@ -275,10 +275,10 @@ module _ (c : Cluster) where
 
   shown_keeps : Keeps c (ShownAt c)
   shown_keeps = record {
-    ticks = λ h now me clock cut g up q. fated_shown h now me (TickItem (number me) clock) (Tick clock) (fate_of now me (calls_of c h now me (Tick clock) (step (setting c h me) (now.node me) (Tick clock))) cut) tt tt (λ nodes. refl) up q;
-    takes = λ h now j m cut g up stands q. fated_shown h now m.to (Taken j) (Take m) (fate_of now m.to (calls_of c h now m.to (Take m) (step (setting c h m.to) (now.node m.to) (Take m))) cut) tt tt (λ nodes. refl) up q;
+    ticks = λ h now me clock cut g up q. fated_shown h now me (TickItem (number me) clock) (Tick clock) (fate_by now me cut (calls_of c h now me (Tick clock) (step (setting c h me) (now.node me) (Tick clock)))) tt tt (λ nodes. refl) up q;
+    takes = λ h now j m cut g up stands q. fated_shown h now m.to (Taken j) (Take m) (fate_by now m.to cut (calls_of c h now m.to (Take m) (step (setting c h m.to) (now.node m.to) (Take m)))) tt tt (λ nodes. refl) up q;
     begins = λ h now me request text cut g up q. fated_shown h now me (BeginItem (op_of (setting c h me) (now.node me).met) text) (Begin request text)
-        (fate_of now me (calls_of c h now me (Begin request text) (step (setting c h me) (now.node me) (Begin request text))) cut) tt tt (λ nodes. refl) up q;
+        (fate_by now me cut (calls_of c h now me (Begin request text) (step (setting c h me) (now.node me) (Begin request text)))) tt tt (λ nodes. refl) up q;
     starts = λ h now me fate g q. start_shown h now me fate q;
     crash = λ now me g q. crash_shown now me q;
     marks = λ now item is g q. mark_shown now item is q;
