@@ -6,3 +6,4 @@ pub mod Folds
 pub mod Agreeing
 pub mod Walked
 pub mod Shows
+pub mod Witness

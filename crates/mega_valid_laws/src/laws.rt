@@ -20,6 +20,9 @@ ghost use Rattle.mega_tape_laws.specs.Places.{In};
 ghost use Rattle.mega_tape_laws.specs.Polls.{ArePolls};
 ghost use Rattle.mega_tape_laws.specs.Settled.{IsCellMajority};
 ghost use Rattle.mega_settled_laws.specs.Covering.{WasCovered};
+ghost use Rattle.mega_rules.specs.Examples.{cluster, entry_of, group};
+ghost use Rattle.mega_tape_laws.specs.Examples.{place};
+ghost use Rattle.mega_valid_laws.specs.Examples.{epoch, validated};
 ghost use Rattle.mega_valid_laws.specs.Leases.{AreLeased, HasAtLeast, IsHeld, IsTop, SaysFree, ServedBehind, serving_on, valid_on};
 
 /// An epoch that serves with a majority of the cells, none of which lapsed it, began to serve behind an answer of one of any majority of the cells that
@@ -48,4 +51,13 @@ pub fn a_tape_shows_what_is_valid()
         is_up ((goes_on c run.cuts (opening c first) events).node node).met ≡ true → serving_on tape node ≡ serves_at c ((goes_on c run.cuts (opening c first) events).node node).met }
     ensures valid { (c : Cluster) (first : Meanings) (events : List Happening) (tape : List Item) → (run : IsRun c first events tape) → (node : ℕ) → is_full c node ≡ true →
         is_up ((goes_on c run.cuts (opening c first) events).node node).met ≡ true → (group : Group) → valid_on tape node group ≡ valid_at c ((goes_on c run.cuts (opening c first) events).node node).met group }
+{}
+
+/// There is a tape that is leased, on which a group is valid at a node under an epoch that is held, and an entry is settled: the laws are about some.
+pub fn a_group_may_be_valid()
+    ensures leased { AreLeased cluster validated }
+    ensures polled { ArePolls validated }
+    ensures settled { WasCovered cluster validated place (entry_of 1) }
+    ensures valid { valid_on validated 2 group ≡ true }
+    ensures held { IsHeld cluster validated 2 epoch }
 {}
