@@ -25,7 +25,7 @@ const MARGIN: u64 = 24;
 const LETTER: u64 = 7;
 
 /// How many bytes all titles of a page may have, and of how many steps a page has room for titles at least.
-const TITLES: u64 = 960_000;
+const TITLES: u64 = 640_000;
 
 const FEW: u32 = 60;
 

@@ -16,7 +16,7 @@ text{font:11px ui-monospace,SFMono-Regular,Menlo,Consolas,'DejaVu Sans Mono',mon
 path{fill:none;stroke:currentColor;stroke-width:1.4}
 .taken path{marker-end:url(#head)}
 .lost path{stroke-dasharray:7 3}
-.fades path{stroke-dasharray:9 2 7 3 5 4 3 5 2 6 1 7 1 9 1 400}
+.fades path{stroke-dasharray:18 3 14 4 11 5 8 6 6 7 4 8 3 9 2 10 1 400}
 .again path{stroke-width:.8;stroke-dasharray:2 3;marker-end:url(#head)}
 .p0{color:var(--ink)}
 .p1{color:hsl(212,80%,var(--level))}

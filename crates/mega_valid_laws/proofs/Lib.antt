@@ -2,3 +2,8 @@ pub mod Orders
 pub mod Epochs
 pub mod Joint
 pub mod Decided
+pub mod Folds
+pub mod Agreeing
+pub mod Walked
+pub mod Shows
+pub mod Witness

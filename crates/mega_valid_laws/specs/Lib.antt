@@ -1,1 +1,3 @@
 pub mod Leases
+pub mod Showing
+pub mod Examples
