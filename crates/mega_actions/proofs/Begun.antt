@@ -1,5 +1,5 @@
 -- What a request does that begins: it is answered at once, or acts in turn with the read of its group.
-use Rattle.std.proofs.Common.{◌≡◌, ◌∙◌, ℕ, ◌∷◌, [], Bool, true, false, ◌&&◌, List, Option, None, Some, sym, ap}
+use Rattle.std.proofs.Common.{◌≡◌, ◌∙◌, ℕ, ◌∷◌, [], true, false, List, Option, None, Some, sym, ap}
 use Rattle.std.specs.Prelude.{not}
 use Rattle.mega_base.specs.declared.names.GroupId.{GroupId}
 use Rattle.mega_base.specs.declared.names.OpId.{OpId}
@@ -15,20 +15,16 @@ use Rattle.mega_rules.specs.Operations.{Now, Reads, Setting}
 use Rattle.mega_rules.specs.Acting.{begins_read, ends, goes_on, read_begun}
 use Rattle.mega_rules.specs.Steps.{Heard, acts_in_turn, begins, is_current, new_operation, read_begins}
 use Rattle.mega_node_laws.specs.About.{IsOf}
-use Rattle.mega_actions.specs.Built.{is_at_once, is_built, is_named}
+use Rattle.mega_actions.specs.Built.{is_at_once, is_built}
 use Rattle.mega_actions.specs.Showing.{at_once, read_at_once}
 
 module _ (s : Setting) (now : Now) (op : OpId) where
-  both_true : (a : Bool) → (a && true) ≡ false → a ≡ true → ⊥
-  both_true true kept named = cc
-  both_true false kept named = cc
-
   -- a read that is not answered at once asks for current rows
-  current_begins : (request : ReadRequest) (group : GroupId) (clock : ℕ) (mode : Mode) → is_named request.rows ≡ true → (is_named request.rows && not (is_current mode)) ≡ false → request.group ≡ group
+  current_begins : (request : ReadRequest) (group : GroupId) (clock : ℕ) (mode : Mode) → not (is_current mode) ≡ false → request.group ≡ group
       → read_begins s now (new_operation op (Read request) clock) request mode ≡ begins_read s (goes_on s) now (new_operation op (Read request) clock) group None []
-  current_begins request group clock Current named current of = ap (λ (own : GroupId). begins_read s (goes_on s) now (new_operation op (Read request) clock) own None []) of
-  current_begins request group clock Snapshot named current of = absurd (both_true (is_named request.rows) current named)
-  current_begins request group clock Inconsistent named current of = absurd (both_true (is_named request.rows) current named)
+  current_begins request group clock Current current of = ap (λ (own : GroupId). begins_read s (goes_on s) now (new_operation op (Read request) clock) own None []) of
+  current_begins request group clock Snapshot current of = cc
+  current_begins request group clock Inconsistent current of = cc
 
   abbrev ends_by : Option Answer → Now
   ends_by None = now
@@ -54,7 +50,7 @@ module _ (s : Setting) (now : Now) (op : OpId) where
       → begins s now (new_operation op request clock) ≡ begins_read s (goes_on s) now (new_operation op request clock) group None []
   begins_by (Txn transaction) group clock built current of = ap (λ (own : GroupId). begins_read s (goes_on s) now (new_operation op (Txn transaction) clock) own None []) of
   begins_by (Batch own transactions) group clock built current of = ap (λ (own' : GroupId). begins_read s (goes_on s) now (new_operation op (Batch own transactions) clock) own' None []) of
-  begins_by (Read request) group clock built current of = current_begins request group clock request.mode built current of
+  begins_by (Read request) group clock built current of = current_begins request group clock request.mode current of
   begins_by (Find request) group clock built current of = cc
   begins_by PumpEnter group clock built current of = cc
   begins_by PumpHandle group clock built current of = cc

@@ -1,5 +1,6 @@
 mod Refused
 mod Doing
+mod Logged
 mod Standing
 mod Going
 mod Shown

@@ -4,14 +4,15 @@ use Rattle.std.specs.Prelude.{Option, Some, None, Result, Ok, Err, true}
 use Rattle.mega_base.specs.Causes.{Rose}
 use Rattle.mega_disk.specs.Fuse.{MayBurn, Burns}
 use Rattle.mega_disk.specs.declared.versions.StoreError.{StoreError}
-use Rattle.mega_disk.specs.declared.versions.StoreError.TheVariants.{DiskFault, Full, BadRecord}
+use Rattle.mega_disk.specs.declared.versions.StoreError.TheVariants.{DiskFault, Full, BadRecord, NoMemory}
 use Rattle.mega_disk.specs.declared.versions.Versions.{Ghosts}
 use Rattle.mega_outcome.specs.declared.answer.Turn.{Turn}
 use Rattle.mega_outcome.specs.declared.answer.Turn.TheVariants as turn
+use Rattle.mega_outcome.specs.Looks.{Looked, Looks}
 use Rattle.mega_replica.specs.Faring.{Fares}
 use Rattle.mega_actions.specs.declared.fault.ActFault.{ActFault}
 use Rattle.mega_actions.specs.declared.fault.ActFault.TheVariants as act
-use Rattle.mega_actions.specs.Faults.{fault_of, of_store}
+use Rattle.mega_actions.specs.Faults.{error_of, fault_of, of_store}
 
 -- the store's error that a refusal is, where it is one
 abbrev pub by_fault : Option ActFault → Option StoreError
@@ -109,3 +110,42 @@ fares_apart store failed old new is fares = subst (λ (error : Option StoreError
 -- one that found no memory
 pub fares_unkept : {V : Type 0} (store : Ghosts V) (fault : ActFault) (old new : V) → fault ≡ act.NoMemory → Fares store None old new → Fares store (of_store fault) old new
 fares_unkept store fault old new is fares = fares_apart store (of_store fault) old new (ap of_store is) fares
+
+-- ---- looks
+
+pub fares_looks : {V : Type 0} (store : Ghosts V) (failed : Option StoreError) (old new : V) → Looks store failed old new → Fares store failed old new
+fares_looks store failed old new looks = record {
+  later = looks.looked.later;
+  bad_stays = looks.looked.bad_stays;
+  may_burn = looks.looked.may_burn;
+  by_fuse = looks.looked.by_fuse;
+  cause = looks.cause;
+  bad = looks.bad;
+  never_full = looks.never_full;
+  burns = looks.burns;
+}
+
+looked_fares : {V : Type 0} (store : Ghosts V) (old new : V) → Looked store old new → Fares store None old new
+looked_fares store old new looked = record {
+  later = looked.later;
+  bad_stays = looked.bad_stays;
+  may_burn = looked.may_burn;
+  by_fuse = looked.by_fuse;
+  cause = λ is. absurd (none_is is);
+  bad = λ n is. absurd (none_is is);
+  never_full = λ n is. none_is is;
+  burns = λ set is. absurd (none_is is);
+}
+  where
+    none_is : {error : StoreError} → None ≡ Some error → ⊥
+    none_is is = cc
+
+-- a look that failed
+pub fares_error : {V : Type 0} (store : Ghosts V) (error : StoreError) (fault : ActFault) (old new : V) → of_store fault ≡ error_of error → Looks store (Some error) old new → Fares store (of_store fault) old new
+fares_error store error fault old new is looks = subst (λ (failed : Option StoreError). Fares store failed old new) (sym is) (by error looks)
+  where
+    by : (error : StoreError) → Looks store (Some error) old new → Fares store (error_of error) old new
+    by DiskFault looks = fares_looks store (Some DiskFault) old new looks
+    by (Full n) looks = fares_looks store (Some (Full n)) old new looks
+    by (BadRecord n) looks = fares_looks store (Some (BadRecord n)) old new looks
+    by NoMemory looks = looked_fares store old new looks.looked

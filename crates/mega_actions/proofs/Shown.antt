@@ -1,9 +1,8 @@
--- What reads of named rows show: what a transaction shows that only reads them.
-use Rattle.std.proofs.Common.{◌≡◌, ◌∙◌, ℕ, ◌≤◌, List, [], ◌∷◌, Bool, true, false, cond, length, take, sym, ap, refl, arith}
-use Rattle.std.specs.Prelude.{Option, Some, None, Result, Ok, Err, nat_lt}
+-- What reads show: of named rows what a transaction shows that only reads them, and else all rows of the group's tables.
+use Rattle.std.proofs.Common.{◌≡◌, ◌∙◌, ℕ, List, [], ◌∷◌, Bool, true, false, cond, length, sym, ap, refl, arith}
+use Rattle.std.specs.Prelude.{Option, Some, Result, Ok, Err, nat_lt}
 use Rattle.std.proofs.lemmas.List.{take_all}
 use Rattle.mega_base.specs.declared.names.GroupId.{GroupId}
-use Rattle.mega_base.specs.declared.values.Value.{Value}
 use Rattle.mega_entry.specs.declared.content.Content.{Content}
 use Rattle.mega_disk.specs.VersionMaps.{Versions}
 use Rattle.mega_schema.specs.declared.schema.Schema.{Schema}
@@ -21,7 +20,6 @@ use Rattle.mega_outcome.specs.declared.request.ReadRequest.{ReadRequest}
 use Rattle.mega_outcome.specs.declared.transaction.RowRef.{RowRef}
 use Rattle.mega_outcome.specs.declared.transaction.Transaction.{Transaction}
 use Rattle.mega_outcome.specs.Answers.{rows_at as versions_at}
-use Rattle.mega_outcome.specs.Group.{AgreeIn}
 use Rattle.mega_outcome.specs.Outcome.{longest, outcome, unless_large}
 use Rattle.mega_outcome.specs.Places.{◌>>=◌, key_in}
 use Rattle.mega_outcome.specs.Reads.{all_reads, all_rows, read_rows}
@@ -64,6 +62,14 @@ module _ (s : Setting) (request : ReadRequest) (p : ℕ) (rows : Rows) (listed :
 
   named_by : is_named request.rows ≡ true → read_answer s request p rows listed ≡ rows_answer p (read_rows s.cluster.schema request.group request.rows rows)
   named_by named = named_rows request.rows named
+
+  unnamed_rows : (refs : List RowRef) → is_named refs ≡ false → shows refs ≡ ReadAnswer (record { 0 = p }) (all_rows s.cluster.schema request.group listed)
+  unnamed_rows [] none = refl
+  unnamed_rows (row ∷ more) none = absurd (cc)
+
+  -- one that names no rows shows all
+  pub all_shown : is_named request.rows ≡ false → read_answer s request p rows listed ≡ ReadAnswer (record { 0 = p }) (all_rows s.cluster.schema request.group listed)
+  all_shown none = unnamed_rows request.rows none
 
 -- a read is answered what its transaction comes to over rows that agree
 pub read_told : (s : Setting) (schema : Schema) (request : ReadRequest) (p : ℕ) (looked seen : Rows) (listed : Listed) (came : Result Done Turn) → s.cluster.schema ≡ schema → is_named request.rows ≡ true

@@ -19,6 +19,7 @@ use Rattle.mega_node_laws.proofs.Owned.{batch_is, outcome_is, owned_same_logs}
 use Rattle.mega_actions.specs.Completed.{completed, stored_through, valid_if}
 use Rattle.mega_actions.specs.Sees.{Sees}
 use Rattle.mega_actions.specs.Stands.{Stands}
+use Rattle.mega_actions.proofs.Logged.{shows_log}
 
 module _ (s : Setting) (kept : Kept) (leases : Leases) (version : Versions) (progress : GroupId → Progress) (stored : GroupId → ℕ) where
   pub stands_valid : (new : Leases) (met : List Met) (group : GroupId) (p : ℕ) → TellsLeases s.cluster s.me new (Validates group p ∷ met)
@@ -49,4 +50,5 @@ pub sees_log : (s : Setting) (kept : Kept) (leases : Leases) (version : Versions
 sees_log s kept leases version progress now group p r le = record {
   alone = outcome_is version progress (log_of now.met) now.stored s.cluster.schema group p r.follows r.owned le;
   batched = batch_is version progress (log_of now.met) now.stored s.cluster.schema group p r.follows r.owned le;
+  shows = shows_log s.cluster.schema version progress (log_of now.met) now.stored group r.follows r.owned p le;
 }

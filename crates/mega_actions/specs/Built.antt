@@ -1,11 +1,11 @@
--- What is served: transactions, batches of at most 16 of them, and reads of named rows.
-use Rattle.std.specs.Prelude.{Bool, true, false, not, ◌||◌, ◌&&◌, nat_le, length, List, [], ◌∷◌}
+-- What is served: transactions, batches of at most 16 of them, and reads.
+use Rattle.std.specs.Prelude.{Bool, true, false, not, ◌||◌, nat_le, length, List, [], ◌∷◌}
 use Rattle.mega_outcome.specs.declared.request.Request.{Request}
 use Rattle.mega_outcome.specs.declared.request.Request.TheVariants.{Txn, Batch, Read, Find, PumpEnter, PumpHandle, Refresh}
-use Rattle.mega_outcome.specs.declared.request.ReadRequest.{ReadRequest}
 use Rattle.mega_outcome.specs.declared.transaction.RowRef.{RowRef}
 use Rattle.mega_rules.specs.Steps.{is_current}
 
+-- a read names rows, or shows all of them
 abbrev pub is_named : List RowRef → Bool
 is_named [] = false
 is_named (row ∷ rows) = true
@@ -24,7 +24,7 @@ is_proposed Refresh = false
 abbrev pub is_answered : Request → Bool
 is_answered (Txn transaction) = false
 is_answered (Batch group transactions) = false
-is_answered (Read request) = is_named request.rows
+is_answered (Read request) = true
 is_answered (Find request) = false
 is_answered PumpEnter = false
 is_answered PumpHandle = false
@@ -34,7 +34,7 @@ is_answered Refresh = false
 abbrev pub is_at_once : Request → Bool
 is_at_once (Txn transaction) = false
 is_at_once (Batch group transactions) = false
-is_at_once (Read request) = is_named request.rows && not (is_current request.mode)
+is_at_once (Read request) = not (is_current request.mode)
 is_at_once (Find request) = false
 is_at_once PumpEnter = false
 is_at_once PumpHandle = false

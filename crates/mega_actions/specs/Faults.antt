@@ -27,6 +27,13 @@ of_store (BadRecord n) = Some (store.BadRecord n)
 of_store Unbuilt = None
 of_store NoMemory = None
 
+-- the store's own errors, of which want of memory is none
+abbrev pub error_of : StoreError → Option StoreError
+error_of store.DiskFault = Some store.DiskFault
+error_of (store.Full n) = Some (store.Full n)
+error_of (store.BadRecord n) = Some (store.BadRecord n)
+error_of store.NoMemory = None
+
 -- the store's error by which a call failed
 abbrev pub failed_by : {T : Type 0} → Result T ActFault → Option StoreError
 failed_by (Ok x) = None

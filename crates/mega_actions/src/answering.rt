@@ -1,4 +1,4 @@
-//! Reads of named rows: the transaction that only reads them, over the rows of its position.
+//! Reads: of named rows the transaction that only reads them, and else all rows of the group's tables, over the rows of a position.
 ghost use Rattle.std.specs.Prelude.{◌≡◌, IfOk, Some, true, false, Err};
 ghost use Rattle.mega_base.specs.declared.names.GroupId.{GroupId as Group};
 ghost use Rattle.mega_disk.specs.VersionMaps.{SameVersions};
@@ -16,19 +16,21 @@ ghost use Rattle.mega_replica.specs.Faring.{Fares};
 ghost use Rattle.mega_replica.specs.Following.{progress_at};
 ghost use Rattle.mega_actions.specs.declared.fault.ActFault.TheVariants.{Unbuilt};
 ghost use Rattle.mega_actions.specs.Built.{is_answered, is_at_once, is_built, is_named};
-ghost use Rattle.mega_actions.specs.Faults.{failed_by};
+ghost use Rattle.mega_actions.specs.Faults.{error_of, failed_by, of_store};
 ghost use Rattle.mega_actions.specs.Showing.{at_once, place_by, reading, shown, told};
 ghost use Rattle.mega_actions.specs.Stands.{Stands, setting};
+ghost use Rattle.mega_view.specs.Shows.{Shows};
 
 use crate::came::is_proposed;
 use crate::fault::ActFault;
 use crate::outcomes::outcome_at;
 use mega_base::{Copied, Items, NoMemory, Position};
-use mega_disk::{Records, Versions};
+use mega_disk::{Records, StoreError, Versions};
 use mega_operations::Members;
 use mega_outcome::{Answer, Done, Mode, ReadRequest, Request, RowRef, Transaction, Turn};
 use mega_replica::StoredRows;
 use mega_schema::Schema;
+use mega_view::read_all;
 use mega_voter::Voter;
 use std::alloc::Global;
 
@@ -42,17 +44,17 @@ fn is_named(rows: &[RowRef]) -> bool
     }
 }
 
-/// Whether a request is answered by the rows of its group alone: a read of named rows.
+/// Whether a request is answered by the rows of its group alone: a read.
 pub(crate) fn is_answered(request: &Request) -> bool
     ensures { result ≡ is_answered request.now }
 {
     match request {
-        Request::Read(read) => is_named(read.rows.as_slice()),
+        Request::Read(_) => true,
         _ => false,
     }
 }
 
-/// Whether a request is served: a transaction, a batch of at most 16, or a read of named rows.
+/// Whether a request is served: a transaction, a batch of at most 16, or a read.
 pub fn is_built(request: &Request) -> bool
     ensures { result ≡ is_built request.now }
 {
@@ -74,7 +76,7 @@ pub(crate) fn is_at_once(request: &Request) -> bool
     ensures { result ≡ is_at_once request.now }
 {
     match request {
-        Request::Read(read) => is_named(read.rows.as_slice()) && !is_current(read.mode),
+        Request::Read(read) => !is_current(read.mode),
         _ => false,
     }
 }
@@ -139,6 +141,73 @@ fn read_at<V: Versions>(
     }
 }
 
+/// The fault that an error of the store is.
+fn fault_by(error: StoreError) -> ActFault
+    ensures exact { of_store result ≡ error_of error }
+    ensures built { result ≡ Unbuilt → ⊥ }
+{
+    match error {
+        StoreError::DiskFault => ActFault::DiskFault,
+        StoreError::Full { length } => ActFault::Full { length },
+        StoreError::BadRecord { number } => ActFault::BadRecord { number },
+        StoreError::NoMemory => ActFault::NoMemory,
+    }
+}
+
+/// The answer of a read that names no rows over the rows of its group at a position, as one of the position that it tells.
+fn all_at<V: Versions>(
+    alloc: Global,
+    schema: &Schema,
+    read: &ReadRequest,
+    rows: &mut V,
+    at: u64,
+    position: u64,
+) -> Result<Answer, ActFault>
+    ensures exact { IfOk result (λ answer. V.is_told ≡ true → (s : Setting) (seen : Rows) (listed : Listed) → s.cluster.schema ≡ schema.now → is_named read.now.rows ≡ false →
+        Shows schema.now read.now.group (rows_at (V.version rows.old) at) listed →
+        read_answer s read.now position seen listed ≡ answer) }
+    ensures versions { SameVersions (V.version rows.old) (V.version rows.new) }
+    ensures fares { Fares V.Versions (failed_by result) rows.old rows.new }
+    ensures built { result ≡ Err Unbuilt → ⊥ }
+{
+    match read_all(
+        alloc,
+        schema,
+        &read.group,
+        rows,
+        Position(at),
+        Position(position),
+    ) {
+        Ok(answer) => Ok(answer),
+        Err(error) => Err(fault_by(error)),
+    }
+}
+
+/// The answer of a read over the rows of its group at a position, as one of the position that it tells.
+fn shown_at<V: Versions>(
+    alloc: Global,
+    schema: &Schema,
+    read: &ReadRequest,
+    rows: &mut V,
+    at: u64,
+    position: u64,
+) -> Result<Answer, ActFault>
+    ensures exact { IfOk result (λ answer. V.is_told ≡ true → (s : Setting) (seen : Rows) (listed : Listed) → s.cluster.schema ≡ schema.now →
+        ((txn : TransactionSeen) → txn.group ≡ read.now.group → outcome schema.now txn (rows_at (V.version rows.old) at) ≡ outcome schema.now txn seen) →
+        Shows schema.now read.now.group (rows_at (V.version rows.old) at) listed →
+        read_answer s read.now position seen listed ≡ answer) }
+    ensures versions { SameVersions (V.version rows.old) (V.version rows.new) }
+    ensures fares { Fares V.Versions (failed_by result) rows.old rows.new }
+    ensures built { result ≡ Err Unbuilt → ⊥ }
+{
+    if is_named(read.rows.as_slice()) {
+        let answer = read_at(alloc, schema, read, rows, at, position)?;
+        return Ok(answer);
+    }
+    let answer = all_at(alloc, schema, read, rows, at, position)?;
+    Ok(answer)
+}
+
 /// The answer of a request over the rows of its group at a position, as one of the position that it tells.
 pub(crate) fn answer_at<V: Versions>(
     alloc: Global,
@@ -150,6 +219,7 @@ pub(crate) fn answer_at<V: Versions>(
 ) -> Result<Answer, ActFault>
     ensures exact { IfOk result (λ answer. V.is_told ≡ true → (s : Setting) (group : Group) (seen : Rows) (listed : Listed) → s.cluster.schema ≡ schema.now → IsOf request.now group →
         ((txn : TransactionSeen) → txn.group ≡ group → outcome schema.now txn (rows_at (V.version rows.old) at) ≡ outcome schema.now txn seen) →
+        Shows schema.now group (rows_at (V.version rows.old) at) listed →
         shown s request.now position seen listed ≡ Some answer) }
     ensures versions { SameVersions (V.version rows.old) (V.version rows.new) }
     ensures fares { Fares V.Versions (failed_by result) rows.old rows.new }
@@ -157,10 +227,7 @@ pub(crate) fn answer_at<V: Versions>(
 {
     match request {
         Request::Read(read) => {
-            if !is_named(read.rows.as_slice()) {
-                return Err(ActFault::Unbuilt);
-            }
-            let answer = read_at(alloc, schema, read, rows, at, position)?;
+            let answer = shown_at(alloc, schema, read, rows, at, position)?;
             Ok(answer)
         }
         _ => Err(ActFault::Unbuilt),

@@ -1,5 +1,5 @@
 -- The fuse of a device: how many calls it still makes before one fails and a crash follows.
-use Rattle.std.specs.Prelude.{◌≡◌, ◌⊎◌, ℕ, zero, suc, ◌+◌, ◌≤◌, Bool, true, false, Option, Some}
+use Rattle.std.specs.Prelude.{◌≡◌, ◌⊎◌, ℕ, zero, suc, ◌+◌, ◌-◌, ◌≤◌, ◌==◌, ◌&&◌, nat_lt, Bool, true, false, if◌then◌else◌, List, [], ◌∷◌, ◌++◌, Option, Some}
 
 pub data Fuse : Type 0 where
   -- the device has no fuse, or says nothing of it
@@ -49,3 +49,26 @@ pub record CountsCall (old new : Fuse) (fails : Option Bool) (Failed : Type 0) :
 pub record FailsByFuse (was is : Bool) (fuse : Fuse) (Failed : Type 0) : Type 0 where
   pub stays : was ≡ true → is ≡ true
   pub cause : was ≡ true → Failed → fuse ≡ Left 0
+
+-- after an append that went well, where an append makes four calls
+abbrev pub after_append : Fuse → Fuse
+after_append Untold = Untold
+after_append Unset = Unset
+after_append (Left n) = Left (n - 4)
+
+-- a fuse with fewer calls left than an append makes
+abbrev pub is_short : Fuse → Bool
+is_short Untold = false
+is_short Unset = false
+is_short (Left n) = nat_lt n 4
+
+-- a fuse that burns in an append keeps its record where the last call but one, which opens the record's gate, was made, and the image keeps
+-- what is pending
+abbrev pub keeps_record : Fuse → ℕ → Bool
+keeps_record Untold image = false
+keeps_record Unset image = false
+keeps_record (Left n) image = n == 3 && image == 1
+
+-- the records after an append in which a fuse burnt
+abbrev pub appended_by : Fuse → ℕ → List (List ℕ) → List ℕ → List (List ℕ)
+appended_by fuse image records body = if keeps_record fuse image then records ++ body ∷ [] else records

@@ -9,6 +9,11 @@ abbrev pub fuse_of : Option SetFuse → Fuse
 fuse_of None = Unset
 fuse_of (Some fuse) = Left fuse.calls
 
+-- what a fuse makes of pending writes; 0 where none is set
+abbrev pub image_of : Option SetFuse → ℕ
+image_of None = 0
+image_of (Some fuse) = fuse.image
+
 -- the next call fails: the fuse has no call left, or the call has the number that is to fail
 abbrev pub will_fail : Fuse → ℕ → ℕ → Bool
 will_fail (Left zero) calls failing = true

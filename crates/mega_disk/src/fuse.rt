@@ -1,7 +1,7 @@
 //! A fuse that lets a device make so many calls more, and then fail.
-ghost use Rattle.std.specs.Prelude.{◌≡◌, ◌+◌, ◌≤◌, ◌==◌, ◌↔◌, IsSome, IfSome};
-ghost use Rattle.mega_disk.specs.Fuse.{Left, after_call};
-ghost use Rattle.mega_disk.specs.MemDisk.{fuse_of};
+ghost use Rattle.std.specs.Prelude.{◌≡◌, ◌+◌, ◌≤◌, ◌==◌, ◌↔◌, true, false, IsSome, IfSome, None};
+ghost use Rattle.mega_disk.specs.Fuse.{Left, LowersBy, Burns, Unset, after_append, after_call, is_short, keeps_record};
+ghost use Rattle.mega_disk.specs.MemDisk.{fuse_of, image_of};
 ghost use Rattle.mega_disk.specs.Meters.{one_more};
 
 /// A fuse: the calls that it has left, and what a crash then leaves of pending writes.
@@ -43,5 +43,31 @@ pub(crate) fn count(calls: &mut u64, failing: u64) -> bool
             failing == number
         }
         None => false,
+    }
+}
+
+/// Counts the four calls of an append. Where fewer are left the fuse burns in it, and it is told whether the record is kept all
+/// the same.
+pub(crate) fn spend_append(fuse: &mut Option<SetFuse>) -> Option<bool>
+    ensures lowered { result ≡ None → fuse_of fuse.new ≡ after_append (fuse_of fuse.old) }
+    ensures lowers { result ≡ None → LowersBy 4 (fuse_of fuse.old) (fuse_of fuse.new) }
+    ensures image { result ≡ None → image_of fuse.new ≡ image_of fuse.old }
+    ensures enough { result ≡ None → is_short (fuse_of fuse.old) ≡ false }
+    ensures short { IfSome result (λ kept. is_short (fuse_of fuse.old) ≡ true) }
+    ensures burnt { IfSome result (λ kept. fuse_of fuse.new ≡ Unset) }
+    ensures burns { IfSome result (λ kept. Burns (fuse_of fuse.old) (fuse_of fuse.new)) }
+    ensures kept { IfSome result (λ kept. kept ≡ keeps_record (fuse_of fuse.old) (image_of fuse.old)) }
+{
+    match fuse {
+        Some(set) if set.calls >= 4 => {
+            set.calls -= 4;
+            None
+        }
+        Some(set) => {
+            let kept = set.calls == 3 && set.image == 1;
+            *fuse = None;
+            Some(kept)
+        }
+        None => None,
     }
 }

@@ -2,7 +2,7 @@
 ghost use Rattle.std.specs.Prelude.{◌≡◌, ◌⊎◌, ◌≤◌, ◌<◌, ◌+◌, ◌^◌, ◌↔◌, ◌++◌, ◌∷◌, [], List, ℕ, Bool, true, false, length, IfOk, OnOk, OnErr};
 ghost use Rattle.mega_base.specs.Causes.{Rose};
 ghost use Rattle.mega_disk.specs.Images.{Only, LeavesOnly, SameImages};
-ghost use Rattle.mega_disk.specs.Fuse.{Fuse, LowersBy, MayBurn, Burns, set_to};
+ghost use Rattle.mega_disk.specs.Fuse.{Fuse, LowersBy, MayBurn, Burns, Unset, after_append, appended_by, is_short, set_to};
 ghost use Rattle.mega_disk.specs.RecordLists.{IsBeforeOrAfter, IsOldOrReplaced};
 
 use mega_base::{Bytes, NoMemory};
@@ -58,6 +58,12 @@ pub trait Records {
     /// Whether nothing but its fuse makes the device fail.
     ghost fails_by_fuse: { Self → Bool };
 
+    /// Whether such a list tells what a fuse makes of an append: it makes four calls, and nothing else that a list does makes one.
+    ghost by_four: { Bool };
+
+    /// What a set fuse makes of pending writes, where that is told.
+    ghost fuse_image: { Self → ℕ };
+
     /// The number of records.
     ghost count_of: { Self → ℕ };
 
@@ -97,6 +103,12 @@ pub trait Records {
         ensures may_burn { MayBurn (fuse_left self.old) (fuse_left self.new) }
         ensures burns { fails_by_fuse self.old ≡ true → result ≡ Err RecordError.DiskFault → Burns (fuse_left self.old) (fuse_left self.new) }
         ensures by_fuse { fails_by_fuse self.old ≡ true → fails_by_fuse self.new ≡ true }
+        ensures four { by_four ≡ true → OnOk result (fuse_left self.new ≡ after_append (fuse_left self.old)) }
+        ensures image { by_four ≡ true → OnOk result (fuse_image self.new ≡ fuse_image self.old) }
+        ensures enough { by_four ≡ true → OnOk result (is_short (fuse_left self.old) ≡ false) }
+        ensures short { by_four ≡ true → result ≡ Err RecordError.DiskFault → is_short (fuse_left self.old) ≡ true }
+        ensures burnt { by_four ≡ true → result ≡ Err RecordError.DiskFault → fuse_left self.new ≡ Unset }
+        ensures kept { by_four ≡ true → result ≡ Err RecordError.DiskFault → list self.new ≡ appended_by (fuse_left self.old) (fuse_image self.old) (list self.old) body.now }
         ensures opened { opened self.new ≡ opened self.old };
 
     /// The number of records in the list.
@@ -114,6 +126,7 @@ pub trait Records {
         ensures due { is_due self.new ≡ is_due self.old }
         ensures faults { faults self.new ≡ faults self.old }
         ensures fuse { fuse_left self.new ≡ fuse_left self.old }
+        ensures image { fuse_image self.new ≡ fuse_image self.old }
         ensures by_fuse { fails_by_fuse self.new ≡ fails_by_fuse self.old };
 
     /// Sets a fuse on the device, as `Disk::fuse` does.
@@ -126,6 +139,7 @@ pub trait Records {
         ensures due { is_due self.new ≡ is_due self.old }
         ensures faults { faults self.new ≡ faults self.old }
         ensures fuse { fuse_left self.new ≡ set_to calls (fuse_left self.old) }
+        ensures image { by_four ≡ true → fuse_image self.new ≡ image }
         ensures by_fuse { fails_by_fuse self.new ≡ fails_by_fuse self.old };
 
     /// Whether the list is to be replaced by a shorter one.

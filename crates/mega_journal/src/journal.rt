@@ -113,6 +113,10 @@ impl<D: Disk> Records for Journal<D> {
 
     ghost fails_by_fuse = { λ j. D.fails_by_fuse j.disk };
 
+    ghost by_four = { false };
+
+    ghost fuse_image = { λ _. 0 };
+
     ghost count_of = { λ j. j.count };
 
     ghost opened = { λ j. j.opened.items };

@@ -1,12 +1,15 @@
 -- What is of a group alone: of longer logs, of shorter ones, and in what a read sees.
-use Rattle.std.proofs.Common.{◌≡◌, ◌≤◌, ℕ, List, ◌∷◌, ◌++◌, take, Option, Some, None, sym, ap, ◌∙◌, subst, [], refl}
+use Rattle.std.proofs.Common.{◌≡◌, ◌≤◌, ℕ, zero, suc, List, ◌∷◌, ◌++◌, length, take, drop, Option, Some, None, sym, ap, ◌∙◌, subst, [], refl, append_assoc}
+use Rattle.std.proofs.Math.Seq.{take-append_seam}
+use Rattle.std.proofs.lemmas.List.{take-append-drop}
 use Rattle.std.proofs.lemmas.Grind.{flat_map-append}
 use Rattle.mega_base.specs.declared.names.GroupId.{GroupId}
 use Rattle.mega_base.specs.declared.values.Row.{Row}
 use Rattle.mega_entry.specs.declared.content.Content.{Content}
+use Rattle.mega_entry.specs.declared.content.Write.{Write}
 use Rattle.mega_disk.specs.VersionMaps.{Versions, or_else}
 use Rattle.mega_schema.specs.declared.schema.Schema.{Schema}
-use Rattle.mega_index.specs.Rows.{after, no_rows}
+use Rattle.mega_index.specs.Rows.{after, no_rows, written}
 use Rattle.mega_outcome.specs.Answers.{rows_at}
 use Rattle.mega_outcome.specs.Group.{AgreeIn}
 use Rattle.mega_outcome.specs.Outcome.{batch_outcome, entry_cuts, outcome}
@@ -41,9 +44,23 @@ front_unwritten key log longer more begins unwritten =
     ∙ ap (λ (entries : List Content). last_write key (writes_of entries)) (sym begins)
     ∙ unwritten)
 
+-- what a log wrote first, a longer one wrote first
+front_writes : (count : ℕ) (log longer more : List Content) → longer ≡ log ++ more → take (length (take count (writes_of log))) (writes_of longer) ≡ take count (writes_of log)
+front_writes count log longer more begins =
+    ap (λ (entries : List Content). take (length front) (writes_of entries)) begins
+    ∙ ap (take (length front)) (flat_map-append (λ (entry : Content). entry.writes) log more
+    ∙ ap (λ (writes : List Write). writes ++ writes_of more) (sym (take-append-drop count (writes_of log))) ∙ append_assoc front (drop count (writes_of log)) (writes_of more))
+    ∙ take-append_seam front (drop count (writes_of log) ++ writes_of more)
+  where
+    front : List Write
+    front = take count (writes_of log)
+
 pub shorter_owns : (schema : Schema) (log longer more : GroupLogs) → ((group : GroupId) → longer group ≡ log group ++ more group) → HasOwnRows schema longer → HasOwnRows schema log
 shorter_owns schema log longer more begins owns = record {
   own = λ group i n values key named other apart. front_unwritten key (log other) (longer other) (more other) (begins other) (owns.own group i n values key named other apart);
+  named = λ group key n count row of there.
+      owns.named group key n (length (take count (writes_of (log group)))) row of
+      (ap (λ (writes : List Write). written writes no_rows key) (front_writes count (log group) (longer group) (more group) (begins group)) ∙ there);
 }
 
 pub owned_before : (schema : Schema) (one : Met) (met : List Met) → HasOwnRows schema (log_of (one ∷ met)) → HasOwnRows schema (log_of met)
@@ -54,7 +71,11 @@ owned_before_all schema items met = shorter_owns schema (log_of met) (log_of (on
 
 -- a node that met nothing
 pub owned_first : (schema : Schema) → HasOwnRows schema (log_of [])
-owned_first schema = record { own = λ group i n values key named other apart. refl }
+owned_first schema = record { own = λ group i n values key named other apart. refl; named = λ group key n count row of there. absurd (nothing count key row there) }
+  where
+    nothing : (count : ℕ) (key : List ℕ) (row : Row) → written (take count []) no_rows key ≡ Some row → ⊥
+    nothing zero key row there = cc
+    nothing (suc count) key row there = cc
 
 pub owned_same_logs : (schema : Schema) (old new : List Met) → SameLogs old new → HasOwnRows schema (log_of old) → HasOwnRows schema (log_of new)
 owned_same_logs schema old new same owns = subst (λ (log : GroupLogs). HasOwnRows schema log) (sym (λ i group. same.logs group i)) owns

@@ -1,5 +1,5 @@
 -- A run of a cluster: its tape is the opening starts, and then one piece for each event.
-use Rattle.std.specs.Prelude.{◌≡◌, ℕ, zero, suc, ◌+◌, ◌/◌, ◌==◌, ◌&&◌, ◌||◌, Bool, true, false, not, if◌then◌else◌, nat_le, nat_lt, List, [], ◌∷◌, ◌++◌, map, filter, flat_map, fold, Option, Some, None, is_some}
+use Rattle.std.specs.Prelude.{◌≡◌, ℕ, zero, suc, ◌+◌, ◌*◌, ◌/◌, ◌==◌, ◌&&◌, ◌||◌, Bool, true, false, not, if◌then◌else◌, nat_le, nat_lt, List, [], ◌∷◌, ◌++◌, map, filter, flat_map, fold, Option, Some, None, is_some}
 use Rattle.std.specs.List.{list_any}
 use Rattle.mega_base.specs.declared.names.Epoch.{Epoch}
 use Rattle.mega_base.specs.declared.names.GroupId.{GroupId}
@@ -173,6 +173,10 @@ abbrev pub fate_of : Standing → ℕ → Calls → Fate → Fate
 fate_of now me calls cut =
     if may_become calls (now.log_fuse me) (now.data_fuse me) cut then cut else (if calls.appends && is_burning (now.log_fuse me) then CutByLog AsItWas else Whole)
 
+-- the same of what is said for these calls
+abbrev pub fate_by : Standing → ℕ → (Calls → Fate) → Calls → Fate
+fate_by now me cut calls = fate_of now me calls (cut calls)
+
 -- a fuse after an append
 abbrev pub after_append : Option Fuse → Option Fuse
 after_append None = None
@@ -235,10 +239,10 @@ met_in s met (Take message) = Takes message
 met_in s met (Begin request text) = Begins (op_of s met) text
 
 -- an event at a node, by what fuses may make of it
-abbrev pub at_node : Cluster → Meanings → Standing → ℕ → List Item → Event → Fate → Standing
+abbrev pub at_node : Cluster → Meanings → Standing → ℕ → List Item → Event → (Calls → Fate) → Standing
 at_node c h now me own event cut =
     fated c now me own (met_in (setting c h me) (now.node me).met event) (step (setting c h me) (now.node me) event) (replies_in c me (now.node me).met event)
-    (fate_of now me (calls_of c h now me event (step (setting c h me) (now.node me) event)) cut)
+    (fate_by now me cut (calls_of c h now me event (step (setting c h me) (now.node me) event)))
 
 -- a start counts itself on its log by one record, shows what it owes, and applies all
 abbrev pub started_records : Standing → ℕ → ℕ → ℕ
@@ -272,6 +276,12 @@ fated_start c h now me Whole =
 fated_start c h now me (CutByLog left) = cut_start now me left (set_at now.log_fuse me None) now.data_fuse
 fated_start c h now me (CutByData left) = cut_start now me left (log_fuse_after now me (is_kept left)) (set_at now.data_fuse me None)
 
+-- the cuts of fuses that fail at the append which they name, and at no call before: its record is kept where the call that opens the record's
+-- gate was the last that went well, and the image keeps what is pending; a fuse of the data device never burns
+abbrev pub left_by : Option Fuse → Left
+left_by None = AsItWas
+left_by (Some fuse) = if fuse.calls == 4 * fuse.appended + 3 && fuse.image == 1 then Recorded else AsItWas
+
 -- which nodes are up
 abbrev pub up : Standing → ℕ → Bool
 up now node = is_up (now.node node).met
@@ -280,14 +290,17 @@ up now node = is_up (now.node node).met
 abbrev pub marked : Standing → Item → Standing
 marked now item = record now { tape = item ∷ now.tape }
 
--- what fuses cut: what may become of each step and start, told by the tape before it
+-- what fuses cut: what may become of each step and start, told by how the run stands before it, by the node, and by how that calls its devices
 abbrev pub Cuts : Type 0
-Cuts = List Item → Fate
+Cuts = Standing → ℕ → Calls → Fate
+
+abbrev pub by_fuse : Cuts
+by_fuse now me calls = if calls.appends && is_burning (now.log_fuse me) then CutByLog (left_by (now.log_fuse me)) else Whole
 
 -- message k is handed to its receiver
 abbrev pub handed : Cluster → Meanings → Cuts → Standing → ℕ → Option Message → Standing
 handed c h cuts now number None = now
-handed c h cuts now number (Some message) = at_node c h now message.to (Taken number ∷ []) (Take message) (cuts now.tape)
+handed c h cuts now number (Some message) = at_node c h now message.to (Taken number ∷ []) (Take message) (cuts now message.to)
 
 abbrev pub delivered : Cluster → Meanings → Cuts → Standing → ℕ → Standing
 delivered c h cuts now number = handed c h cuts now number (message_of now.tape number)
@@ -314,15 +327,15 @@ fused now me calls image Data = record now { data_fuse = set_at now.data_fuse me
 
 -- what an event leads to
 abbrev pub after_event : Cluster → Meanings → Cuts → Standing → WorldEvent → Standing
-after_event c h cuts now (TickEvent node clock) = at_node c h now node.0 (shown node.0 (Ticks clock)) (Tick clock) (cuts now.tape)
+after_event c h cuts now (TickEvent node clock) = at_node c h now node.0 (shown node.0 (Ticks clock)) (Tick clock) (cuts now node.0)
 after_event c h cuts now (Deliver message) = delivered c h cuts now message
 after_event c h cuts now (Drop message) = marked now (Dropped message)
 after_event c h cuts now (Drain most) = drained c h cuts now most
 after_event c h cuts now (CrashEvent node) = crashes now node.0
-after_event c h cuts now (StartEvent node) = fated_start c h now node.0 (fate_of now node.0 (start_calls c node.0) (cuts now.tape))
+after_event c h cuts now (StartEvent node) = fated_start c h now node.0 (fate_by now node.0 (cuts now node.0) (start_calls c node.0))
 after_event c h cuts now (FuseEvent node calls image device) = fused now node.0 calls image device
 after_event c h cuts now (BeginEvent node request text) =
-    at_node c h now node.0 (shown node.0 (Begins (op_of (setting c h node.0) (now.node node.0).met) text)) (Begin request text) (cuts now.tape)
+    at_node c h now node.0 (shown node.0 (Begins (op_of (setting c h node.0) (now.node node.0).met) text)) (Begin request text) (cuts now node.0)
 
 -- a list of no bytes
 abbrev pub is_empty : List ℕ → Bool

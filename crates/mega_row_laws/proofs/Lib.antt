@@ -1,5 +1,7 @@
 pub mod Reading
+pub mod Entries
 pub mod Keys
+pub mod Naming
 pub mod Writing
 pub mod Decided
 pub mod Nodes

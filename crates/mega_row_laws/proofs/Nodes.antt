@@ -27,6 +27,7 @@ use Rattle.mega_run_laws.proofs.Events.{each_append}
 use Rattle.mega_run_laws.proofs.Runs.{run_written}
 use Rattle.mega_run_laws.proofs.Turns.{Known, each_on}
 use Rattle.mega_row_laws.proofs.Keys.{KeyOf, one_group}
+use Rattle.mega_row_laws.proofs.Naming.{WriteOf, key_of_write, row_named}
 use Rattle.mega_row_laws.proofs.Writing.{WritesIn, entry_writes}
 use Rattle.mega_row_laws.proofs.Decided.{run_told}
 
@@ -47,9 +48,10 @@ own_logs : (s : Schema) → IsDeclared s → (log : GroupLogs) → ((group : Gro
 own_logs s d log each = record {
   own = λ group i n values key names other apart.
       unwritten key (writes_of (log other))
-      (each_on (λ (write : Write). KeyOf s other.key write.key) (λ (write : Write). same_key write.key key ≡ false)
-      (λ write of. not_key write.key key (λ same. apart (same_groups group other (one_group s d group.key other.key i n values key names (subst (KeyOf s other.key) same of)))))
-      (writes_of (log other)) (all_writes (λ (write : Write). KeyOf s other.key write.key) (log other) (each other)));
+      (each_on (WriteOf s other.key) (λ (write : Write). same_key write.key key ≡ false)
+      (λ write of. not_key write.key key (λ same. apart (same_groups group other (one_group s d group.key other.key i n values key names (subst (KeyOf s other.key) same (key_of_write s other.key write of))))))
+      (writes_of (log other)) (all_writes (WriteOf s other.key) (log other) (each other)));
+  named = λ group key n count row of there. row_named s d group.key key n count row (writes_of (log group)) (all_writes (WriteOf s group.key) (log group) (each group)) of there;
 }
 
 -- ---- tapes

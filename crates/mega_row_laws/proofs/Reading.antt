@@ -59,7 +59,7 @@ root_length true ks (a ∷ b ∷ marked) vs left h =
     ap length (sym parts.0) ∙ (values_pass ks marked (r.0).0 (r.0).1 r.1).count
 
 -- what is read where the key values of a root were spelled is alike
-root_reread : (s : Bool) (ks : List Kind) (vs ws : List Value) (rest left : List ℕ) → AreOf ks vs → root_at s ks ((scatter_of s vs ++ spell_all vs) ++ rest) ≡ Ok (ws, left) → RereadAll vs ws rest left
+pub root_reread : (s : Bool) (ks : List Kind) (vs ws : List Value) (rest left : List ℕ) → AreOf ks vs → root_at s ks ((scatter_of s vs ++ spell_all vs) ++ rest) ≡ Ok (ws, left) → RereadAll vs ws rest left
 unfolding root_at marks_at scattered
 root_reread false ks vs ws rest left h e = values_reread ks vs ws rest left h e
 root_reread true ks vs ws rest left h e =
@@ -69,17 +69,17 @@ root_reread true ks vs ws rest left h e =
     values_reread ks vs ws rest left h (r.1 ∙ (λ i. Ok (parts.0 i, parts.1 i)))
 
 -- a first byte, the root's key values, of which the group is, and the table's number
-record ReadParts (shape : Shape) (key group : List ℕ) : Type 0 where
-  head : List ℕ
-  root : List Value
-  left : List ℕ
-  rest : List ℕ
-  first_is : key ≡ shape.space ∷ head
-  root_is : root_at shape.scatter shape.root_kinds head ≡ Ok (root, left)
-  table_is : left ≡ shape.table ∷ rest
-  group_is : group ≡ group_bytes shape root
+pub record ReadParts (shape : Shape) (key group : List ℕ) : Type 0 where
+  pub head : List ℕ
+  pub root : List Value
+  pub left : List ℕ
+  pub rest : List ℕ
+  pub first_is : key ≡ shape.space ∷ head
+  pub root_is : root_at shape.scatter shape.root_kinds head ≡ Ok (root, left)
+  pub table_is : left ≡ shape.table ∷ rest
+  pub group_is : group ≡ group_bytes shape root
 
-read_parts : (shape : Shape) (key group : List ℕ) (values : List Value) → read_key_of shape key ≡ Ok values → group_key_of shape (root_part shape values) ≡ Ok group → ReadParts shape key group
+pub read_parts : (shape : Shape) (key group : List ℕ) (values : List Value) → read_key_of shape key ≡ Ok values → group_key_of shape (root_part shape values) ≡ Ok group → ReadParts shape key group
 unfolding key_front_at
 read_parts shape key group values read is =
     let r = read_front shape key values read in
@@ -103,13 +103,13 @@ read_parts shape key group values read is =
 
 -- ---- the root of a table
 
-record RootOf (s : Schema) (t : Table) : Type 0 where
-  root : Table
-  numbered_is : numbered s.tables t.root ≡ Some root
-  is_root : is_root_table root ≡ true
-  scatter_is : t.scatter ≡ root.scatter
+pub record RootOf (s : Schema) (t : Table) : Type 0 where
+  pub root : Table
+  pub numbered_is : numbered s.tables t.root ≡ Some root
+  pub is_root : is_root_table root ≡ true
+  pub scatter_is : t.scatter ≡ root.scatter
 
-root_of : (s : Schema) → IsDeclared s → (n : ℕ) (t : Table) → numbered s.tables n ≡ Some t → RootOf s t
+pub root_of : (s : Schema) → IsDeclared s → (n : ℕ) (t : Table) → numbered s.tables n ≡ Some t → RootOf s t
 root_of s d n t at = by (is_root_table t) refl
   where
     by : (b : Bool) → is_root_table t ≡ b → RootOf s t
@@ -121,14 +121,14 @@ one_numbered s n m t u at there same = let e : Some t ≡ Some u = sym at ∙ ap
 
 -- ---- a key that is spelled and read
 
-same_first : (x y : ℕ) (xs ys : List ℕ) → x ∷ xs ≡ y ∷ ys → x ≡ y
+pub same_first : (x y : ℕ) (xs ys : List ℕ) → x ∷ xs ≡ y ∷ ys → x ≡ y
 same_first x y xs ys h = cc
 
-neither : (a b : Bool) → a || b ≡ false → a ≡ false
+pub neither : (a b : Bool) → a || b ≡ false → a ≡ false
 neither true b h = cc
 neither false b h = refl
 
-differ : false ≡ true → ⊥
+pub differ : false ≡ true → ⊥
 differ h = cc
 
 -- it is of one table

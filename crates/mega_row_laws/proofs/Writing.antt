@@ -9,7 +9,8 @@ use Rattle.mega_entry.specs.Entries.{entry_text}
 use Rattle.mega_schema.specs.declared.schema.Table.{Table}
 use Rattle.mega_schema.specs.declared.schema.Schema.{Schema}
 use Rattle.mega_index.specs.Rows.{Rows, Listed, same_key, row_under, no_rows, written, after, list_after}
-use Rattle.mega_index.specs.Fits.{numbered}
+use Rattle.mega_index.specs.Cells.{key_values}
+use Rattle.mega_index.specs.Fits.{group_of, numbered, stands_in}
 use Rattle.mega_index.specs.Entries.{local_entries}
 use Rattle.mega_index.specs.LocalWrites.{fresh, gone, index_writes, index_writes_in, is_row}
 use Rattle.mega_index.specs.Fitted.{table_of, is_kept, kept_write, fitted_writes, most_bytes}
@@ -32,16 +33,16 @@ use Rattle.mega_tape_laws.specs.Indexed.{IsDeclared}
 use Rattle.mega_tape_laws.specs.Places.{In}
 use Rattle.mega_tape_laws.specs.Writes.{OwnEntry, Usage, enters, fills, handles, runs, runs_all}
 use Rattle.mega_tape_laws.proofs.Placed.{key_apart, under}
-use Rattle.mega_tape_laws.proofs.RowKeys.{of_table}
+use Rattle.mega_tape_laws.proofs.RowKeys.{IsKeyOf, OfTable, Standing, group_is, group_of_key, of_ok, of_table, standing}
 use Rattle.mega_tape_laws.proofs.Replacing.{bind_turn, change_replaces}
 use Rattle.mega_run_laws.specs.Vouched.{Each}
 use Rattle.mega_run_laws.proofs.Events.{each_append}
 use Rattle.mega_run_laws.proofs.Turns.{each_on}
-use Rattle.mega_row_laws.proofs.Keys.{KeyOf, a_read, a_spelled, an_entry}
+use Rattle.mega_row_laws.proofs.Naming.{WriteOf, a_deletion, a_named, of_entry}
 
--- all of these writes are under keys of the group
+-- all of these writes are such as the group's entries make
 abbrev pub WritesIn : Schema → List ℕ → List Write → Type 0
-WritesIn s group writes = Each (λ (write : Write). KeyOf s group write.key) writes
+WritesIn s group writes = Each (WriteOf s group) writes
 
 -- ---- the writes of index entries
 
@@ -59,31 +60,35 @@ all_under all [] among = tt
 all_under all (e ∷ es) among = (in_under all e (among e (inl refl)), all_under all es (λ d i. among d (inr i)))
 
 module _ (s : Schema) (group : List ℕ) where
-  entries_in : (n : ℕ) (t : Table) (row : Option Row) → numbered s.tables n ≡ Some t → Each (λ (e : List ℕ × Row). KeyOf s group e.0) (local_entries s n t row)
+  -- a write of any row, or of none, under the key of an index entry
+  abbrev AnyWrite : List ℕ × Row → Type 0
+  AnyWrite e = (now : Option Row) → WriteOf s group (record { key = e.0; row = now })
+
+  entries_in : (n : ℕ) (t : Table) (row : Option Row) → numbered s.tables n ≡ Some t → Each AnyWrite (local_entries s n t row)
   entries_in n t row at =
-      each_on (λ (e : List ℕ × Row). under (local_entries s n t row) e.0 ≡ None → ⊥) (λ (e : List ℕ × Row). KeyOf s group e.0) (λ e some. an_entry n t row at some)
+      each_on (λ (e : List ℕ × Row). under (local_entries s n t row) e.0 ≡ None → ⊥) AnyWrite (λ e some now. of_entry n t row at some)
       (local_entries s n t row) (all_under (local_entries s n t row) (local_entries s n t row) (λ e i. i))
 
-  gone_in : (new es : Listed) → Each (λ (e : List ℕ × Row). KeyOf s group e.0) es → WritesIn s group (gone new es)
+  gone_in : (new es : Listed) → Each AnyWrite es → WritesIn s group (gone new es)
   gone_in new [] h = tt
   gone_in new (e ∷ es) h = by (is_none (row_under new e.0)) (gone_in new es h.1)
     where
       by : (b : Bool) → WritesIn s group (gone new es) → WritesIn s group (cond b (record { key = e.0; row = None } ∷ []) [] ++ gone new es)
-      by true more = (h.0, more)
+      by true more = (h.0 None, more)
       by false more = more
 
-  fresh_in : (old es : Listed) → Each (λ (e : List ℕ × Row). KeyOf s group e.0) es → WritesIn s group (fresh old es)
+  fresh_in : (old es : Listed) → Each AnyWrite es → WritesIn s group (fresh old es)
   fresh_in old [] h = tt
   fresh_in old (e ∷ es) h = by (is_row (row_under old e.0) e.1) (fresh_in old es h.1)
     where
       by : (b : Bool) → WritesIn s group (fresh old es) → WritesIn s group (cond b [] (record { key = e.0; row = Some e.1 } ∷ []) ++ fresh old es)
       by true more = more
-      by false more = (h.0, more)
+      by false more = (h.0 (Some e.1), more)
 
   index_in : (n : ℕ) (t : Table) (old new : Option Row) → numbered s.tables n ≡ Some t → WritesIn s group (index_writes s n old new)
   index_in n t old new at =
       subst (λ o. WritesIn s group (index_writes_in s n o old new)) (sym at)
-      (each_append (λ (write : Write). KeyOf s group write.key) (gone (local_entries s n t new) (local_entries s n t old)) (fresh (local_entries s n t old) (local_entries s n t new))
+      (each_append (WriteOf s group) (gone (local_entries s n t new) (local_entries s n t old)) (fresh (local_entries s n t old) (local_entries s n t new))
       (gone_in (local_entries s n t new) (local_entries s n t old) (entries_in n t old at))
       (fresh_in (local_entries s n t old) (local_entries s n t new) (entries_in n t new at)))
 
@@ -92,7 +97,7 @@ module _ (s : Schema) (group : List ℕ) where
   change_in : (rows : Rows) (i : ℕ) (c : Change) (writes : List Write) → change s group rows i c ≡ Ok writes → WritesIn s group writes
   change_in rows i c writes h =
       let r = change_replaces s group rows i writes c h in
-      subst (WritesIn s group) r.is (a_spelled r.number r.table r.values r.numbered_is r.own r.of_group, index_in r.number r.table (rows r.key) r.new r.numbered_is)
+      subst (WritesIn s group) r.is (a_named r.number r.table r.values r.numbered_is r.own r.of_group, index_in r.number r.table (rows r.key) r.new r.numbered_is)
 
   changes_in : (rows : Rows) (i : ℕ) (cs : List Change) (writes : List Write) → all_changes s group rows i cs ≡ Ok writes → WritesIn s group writes
   changes_in rows i [] writes h = let same : [] ≡ writes = cc in subst (WritesIn s group) same tt
@@ -101,7 +106,7 @@ module _ (s : Schema) (group : List ℕ) where
       let b = bind_turn (all_changes s group (written a.0 rows) (i + 1) cs) (λ others. Ok (a.0 ++ others)) writes a.2 in
       let same : a.0 ++ b.0 ≡ writes = (let e = b.2 in cc) in
       subst (WritesIn s group) same
-      (each_append (λ (write : Write). KeyOf s group write.key) a.0 b.0 (change_in rows i c a.0 a.1) (changes_in (written a.0 rows) (i + 1) cs b.0 b.1))
+      (each_append (WriteOf s group) a.0 b.0 (change_in rows i c a.0 a.1) (changes_in (written a.0 rows) (i + 1) cs b.0 b.1))
 
   outcome_writes : (rows : Rows) (transaction : Transaction) (done : Done) → outcome_in s group transaction rows ≡ Ok done → WritesIn s group done.writes
   outcome_writes rows transaction done h =
@@ -131,7 +136,7 @@ module _ (s : Schema) (group : List ℕ) where
         where
           tested : (t : Bool) → WritesIn s group (if t then left_out b (TooLarge (batch_length (taken b done))) else taken b done).writes
           tested true = before
-          tested false = each_append (λ (write : Write). KeyOf s group write.key) b.writes done.writes before (outcome_writes (written b.writes rows) transaction done is)
+          tested false = each_append (WriteOf s group) b.writes done.writes before (outcome_writes (written b.writes rows) transaction done is)
 
   batch_writes : (rows : Rows) (transactions : List Transaction) (b : Batch) → WritesIn s group b.writes → WritesIn s group (fold (with_next s group rows) b transactions).writes
   batch_writes rows [] b before = before
@@ -139,23 +144,36 @@ module _ (s : Schema) (group : List ℕ) where
 
   -- ---- what a handler writes
 
+  standing_of : (n : ℕ) (t : Table) (key : List ℕ) (row : Row) → Standing s n t key row → IsKeyOf s n t group key → group_of s n t (key_values t.primary row) ≡ Ok group
+  standing_of n t key row st is =
+      let own = group_of_key s n t (key_values t.primary row) key st.own in
+      own ∙ ap Ok (sym (ap of_ok own) ∙ group_is s n t group key row st is)
+
+  put_in : (n : ℕ) (write : Write) (r : OfTable s group write.key n) (o : Option Row) → write.row ≡ o → is_kept s n write ≡ true → WriteOf s group write
+  put_in n write r None is kept = a_deletion n r.table r.numbered_is r.is_key is
+  put_in n write r (Some row) is kept =
+      let stood : stands_in s n (Some r.table) write.key row ≡ true =
+      ap (λ o. stands_in s n o write.key row) (sym r.numbered_is) ∙ ap (λ o. is_kept s n (record { key = write.key; row = o })) (sym is) ∙ kept in
+      let st = standing s n r.table write.key row stood in
+      a_named n r.table (key_values r.table.primary row) r.numbered_is st.own (standing_of n r.table write.key row st r.is_key)
+
   kept_in : IsDeclared s → (seen : Rows) (write : Write) → WritesIn s group (kept_write s (table_of s group write.key) seen write)
   kept_in d seen write = by (table_of s group write.key) refl
     where
-      tested : (n : ℕ) → table_of s group write.key ≡ Some n → (b : Bool) → WritesIn s group (if b then write ∷ index_writes s n (seen write.key) write.row else [])
-      tested n at false = tt
-      tested n at true =
+      tested : (n : ℕ) → table_of s group write.key ≡ Some n → (b : Bool) → is_kept s n write ≡ b → WritesIn s group (if b then write ∷ index_writes s n (seen write.key) write.row else [])
+      tested n at false kept = tt
+      tested n at true kept =
           let r = of_table s group write.key n d.most at in
-          (a_read n r.table r.numbered_is r.is_key, index_in n r.table (seen write.key) write.row r.numbered_is)
+          (put_in n write r write.row refl kept, index_in n r.table (seen write.key) write.row r.numbered_is)
 
       by : (o : Option ℕ) → table_of s group write.key ≡ o → WritesIn s group (kept_write s o seen write)
       by None at = tt
-      by (Some n) at = tested n at (is_kept s n write)
+      by (Some n) at = tested n at (is_kept s n write) refl
 
   fitted_in : IsDeclared s → (seen : Rows) (writes : List Write) → WritesIn s group (fitted_writes s group seen writes)
   fitted_in d seen [] = tt
   fitted_in d seen (write ∷ writes) =
-      each_append (λ (w : Write). KeyOf s group w.key) (kept_write s (table_of s group write.key) seen write) (fitted_writes s group (written (kept_write s (table_of s group write.key) seen write) seen) writes)
+      each_append (WriteOf s group) (kept_write s (table_of s group write.key) seen write) (fitted_writes s group (written (kept_write s (table_of s group write.key) seen write) seen) writes)
       (kept_in d seen write) (fitted_in d (written (kept_write s (table_of s group write.key) seen write) seen) writes)
 
 -- ---- entries

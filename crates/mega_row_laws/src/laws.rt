@@ -19,7 +19,8 @@ ghost use Rattle.mega_tape_laws.specs.Indexed.{IsDeclared};
 ghost use Rattle.mega_tape_laws.specs.Writes.{Usage};
 ghost use Rattle.mega_run_laws.specs.Usages.{Fits, FitsOne};
 
-/// In every run the rows that items of a group can name are written by that group's own entries alone, on the tape and at every node. The
+/// In every run the rows that items of a group can name are written by that group's own entries alone, and these leave rows of its tables
+/// only under keys that its items can name, on the tape and at every node. The
 /// schema is one that was declared (`a_root_that_is_none_mixes_groups` says why). Each text means the request that
 /// begins with it, and the handlers of each event are there at some moment.
 pub fn runs_have_own_rows()

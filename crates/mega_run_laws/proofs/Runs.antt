@@ -9,10 +9,10 @@ use Rattle.mega_wire.specs.declared.message.Message.{Message}
 use Rattle.mega_schedule.specs.declared.world_event.WorldEvent.{WorldEvent}
 use Rattle.mega_schedule.specs.declared.world_event.WorldEvent.TheVariants.{Tick as TickEvent, Deliver, Drop, Drain, Crash as CrashEvent, Start as StartEvent, Fuse as FuseEvent, Begin as BeginEvent}
 use Rattle.mega_transcript.specs.declared.item.Item.{Item}
-use Rattle.mega_transcript.specs.declared.item.Item.TheVariants.{Taken, Dropped, Start, Tick as TickItem, Begin as BeginItem, Crash, Cut as CutItem}
+use Rattle.mega_transcript.specs.declared.item.Item.TheVariants.{Sent, Taken, Dropped, Start, Tick as TickItem, Begin as BeginItem, Crash, Cut as CutItem}
 use Rattle.mega_promises.specs.Items.{number, shown}
 use Rattle.mega_promises.specs.Messages.{is_deliverable, is_dropped, message_of, next_delivery, receiver_up}
-use Rattle.mega_promises.specs.Runs.{Cuts, CutByData, CutByLog, Fate, Fuse, Happening, IsRun, Left, Standing, Whole, after_event, at_node, because, calls_of, crashes, cut_start, cut_step, delivered, drained, fate_of, fated, fated_start, goes_on, handed, is_durable, is_kept, log_fuse_after, marked, nothing_yet, opening, owes, receiver_down, records_left, refusal, set_at, setting, start_calls, started_records, unless_none, unless_refused, up, whole_start, whole_step, with_item, with_items}
+use Rattle.mega_promises.specs.Runs.{Calls, CutByData, CutByLog, Cuts, Fate, Fuse, Happening, IsRun, Left, Standing, Whole, after_event, at_node, because, calls_of, crashes, cut_start, cut_step, delivered, drained, fate_by, fated, fated_start, goes_on, handed, is_durable, is_kept, log_fuse_after, marked, new_fuse, nothing_yet, opening, owes, receiver_down, records_left, refusal, set_at, setting, start_calls, started_records, unless_none, unless_refused, up, whole_start, whole_step, with_item, with_items}
 use Rattle.mega_transcript.specs.Tape.{is_sent, is_taken}
 use Rattle.mega_rules.specs.Met.{Met, Answers, Applies, Begins, Crashes, Starts, Takes, Ticks, Unsends}
 use Rattle.mega_rules.specs.Members.{has_rows, is_node, nodes}
@@ -67,7 +67,7 @@ at_self f me x = ap (λ t. cond t x (f me)) (number_self me)
 at_other : {X : Type 0} (f : ℕ → X) (me : ℕ) (x : X) (v : ℕ) → (me == v) ≡ false → set_at f me x v ≡ f v
 at_other f me x v h = ap (λ t. cond t x (f v)) h
 
-starts_plain : (s : Setting) (met : List Met) → Each IsPlain (start_notes s met)
+pub starts_plain : (s : Setting) (met : List Met) → Each IsPlain (start_notes s met)
 starts_plain s met = if_rows (has_rows s.cluster s.me)
   where
     note_plain : (group : GroupId) → Each IsPlain (start_note met group)
@@ -356,7 +356,7 @@ fated_start_good users c h now me (CutByData left) g = cut_start_good users c no
 
 handed_good : (users : Users) → (c : Cluster) (h : Meanings) → (users.fits → Brought users.usage h) → (cuts : Cuts) (now : Standing) (j : ℕ) (o : Option Message) → message_of now.tape j ≡ o → receiver_up (up now) o ≡ true → Good users c now → Good users c (handed c h cuts now j o)
 handed_good users c h brought cuts now j None is r g = g
-handed_good users c h brought cuts now j (Some m) is r g = fated_good users c now m.to (Taken j) (Takes m) made (reply_to c m.to (now.node m.to).met m) (fate_of now m.to (calls_of c h now m.to (Take m) made) (cuts now.tape)) g (λ n. refl) (own_taken c now.tape j m (now.node m.to).met) (λ x other. tt)
+handed_good users c h brought cuts now j (Some m) is r g = fated_good users c now m.to (Taken j) (Takes m) made (reply_to c m.to (now.node m.to).met m) (fate_by now m.to (cuts now m.to) (calls_of c h now m.to (Take m) made)) g (λ n. refl) (own_taken c now.tape j m (now.node m.to).met) (λ x other. tt)
     (owes_notes c tape2 m.to made.notes (map Unsends (reply_to c m.to (now.node m.to).met m)) (each_note_on c (Taken j ∷ now.tape) tape2 (λ item s. inr s) m.to made.notes next.1)
     (owes_reply c tape2 m.to (now.node m.to).met m (record { made = (g.node m.to).made; decides = λ h' n e d. inr (inr ((g.node m.to).known h' n e d)) }) (record { number = j; sent = inr (inr (stands_sent now.tape j m is)); taken = inr (inl refl) })))
     (whole_good users s now (Taken j) (Takes m) made g (λ n. refl) next)
@@ -373,8 +373,8 @@ handed_good users c h brought cuts now j (Some m) is r g = fated_good users c no
     next : StepNext users s now (set_at now.node m.to made.node) (Taken j) (Takes m) made
     next = take_next users s brought now (set_at now.node m.to made.node) j m g r (stands_sent now.tape j m is)
 
-tick_good : (users : Users) → (c : Cluster) (h : Meanings) → (users.fits → Brought users.usage h) → (now : Standing) (me clock : ℕ) (cut : Fate) → is_up (now.node me).met ≡ true → Good users c now → Good users c (at_node c h now me (shown me (Ticks clock)) (Tick clock) cut)
-tick_good users c h brought now me clock cut r g = fated_good users c now me (TickItem (number me) clock) (Ticks clock) made [] (fate_of now me (calls_of c h now me (Tick clock) made) cut) g (λ n. refl) (own_tick c now.tape me clock (now.node me).met) (λ x other. tt)
+tick_good : (users : Users) → (c : Cluster) (h : Meanings) → (users.fits → Brought users.usage h) → (now : Standing) (me clock : ℕ) (cut : Calls → Fate) → is_up (now.node me).met ≡ true → Good users c now → Good users c (at_node c h now me (shown me (Ticks clock)) (Tick clock) cut)
+tick_good users c h brought now me clock cut r g = fated_good users c now me (TickItem (number me) clock) (Ticks clock) made [] (fate_by now me cut (calls_of c h now me (Tick clock) made)) g (λ n. refl) (own_tick c now.tape me clock (now.node me).met) (λ x other. tt)
     (owes_notes c (Crash (number me) ∷ TickItem (number me) clock ∷ now.tape) me made.notes [] (each_note_on c (TickItem (number me) clock ∷ now.tape) (Crash (number me) ∷ TickItem (number me) clock ∷ now.tape) (λ item s. inr s) me made.notes next.1) tt)
     (whole_good users s now (TickItem (number me) clock) (Ticks clock) made g (λ n. refl) next)
   where
@@ -387,9 +387,9 @@ tick_good users c h brought now me clock cut r g = fated_good users c now me (Ti
     next : StepNext users s now (set_at now.node me made.node) (TickItem (number me) clock) (Ticks clock) made
     next = ticked_next users s brought now (set_at now.node me made.node) clock g r
 
-begin_good : (users : Users) → (c : Cluster) (h : Meanings) → (users.fits → Brought users.usage h) → (now : Standing) (me : ℕ) (request : Request) (text : List ℕ) (cut : Fate) → (users.fits → (users.usage).meaning text ≡ Some request) → is_up (now.node me).met ≡ true → Good users c now
+begin_good : (users : Users) → (c : Cluster) (h : Meanings) → (users.fits → Brought users.usage h) → (now : Standing) (me : ℕ) (request : Request) (text : List ℕ) (cut : Calls → Fate) → (users.fits → (users.usage).meaning text ≡ Some request) → is_up (now.node me).met ≡ true → Good users c now
     → Good users c (at_node c h now me (shown me (Begins (op_of (setting c h me) (now.node me).met) text)) (Begin request text) cut)
-begin_good users c h brought now me request text cut means r g = fated_good users c now me (BeginItem id text) (Begins id text) made [] (fate_of now me (calls_of c h now me (Begin request text) made) cut) g (λ n. refl) (own_begin c now.tape id text (now.node me).met (never_asked users s now g) (never_begun users s now g)) (begins_other users s now text g)
+begin_good users c h brought now me request text cut means r g = fated_good users c now me (BeginItem id text) (Begins id text) made [] (fate_by now me cut (calls_of c h now me (Begin request text) made)) g (λ n. refl) (own_begin c now.tape id text (now.node me).met (never_asked users s now g) (never_begun users s now g)) (begins_other users s now text g)
     (owes_notes c (Crash (number me) ∷ BeginItem id text ∷ now.tape) me made.notes [] (each_note_on c (BeginItem id text ∷ now.tape) (Crash (number me) ∷ BeginItem id text ∷ now.tape) (λ item s. inr s) me made.notes next.1) tt)
     (whole_good users s now (BeginItem id text) (Begins id text) made g (λ n. refl) next)
   where
@@ -467,19 +467,19 @@ delivered_good users c h brought cuts now j (Some m) is r g = handed_good users 
 event_good : (users : Users) → (c : Cluster) (h : Meanings) → (users.fits → Brought users.usage h) → (cuts : Cuts) (now : Standing) (event : WorldEvent) → (users.fits → IsMeant users.usage event) → refusal c now event ≡ None → Good users c now → Good users c (after_event c h cuts now event)
 event_good users c h brought cuts now (TickEvent node clock) meant r g =
     let second = (not_because (not (is_node c node.0)) 6 _ r).1 in let third = (not_because (not (up now node.0)) 1 _ second).0 in
-    tick_good users c h brought now node.0 clock (cuts now.tape) (not_false (up now node.0) third) g
+    tick_good users c h brought now node.0 clock (cuts now node.0) (not_false (up now node.0) third) g
 event_good users c h brought cuts now (Deliver j) meant r g =
     let second = (not_because (not (is_sent now.tape j)) 3 _ r).1 in let third = (not_because (is_dropped now.tape j) 4 _ second).1 in
     delivered_good users c h brought cuts now j (message_of now.tape j) refl (not_because (receiver_down now (message_of now.tape j)) 1 None third).0 g
 event_good users c h brought cuts now (Drop j) meant r g = marked_good users c now (Dropped j) (tape_item c now.tape (Dropped j) tt (λ x q. refl) (λ v q. refl) (λ x. refl) tt (λ schema usage. tt)) (λ x. refl) (λ schema usage. tt) (λ x. refl) g
 event_good users c h brought cuts now (Drain most) meant r g = drained_good users c h brought cuts most now g
 event_good users c h brought cuts now (CrashEvent node) meant r g = crashes_good users c now node.0 g
-event_good users c h brought cuts now (StartEvent node) meant r g = fated_start_good users c h now node.0 (fate_of now node.0 (start_calls c node.0) (cuts now.tape)) g
+event_good users c h brought cuts now (StartEvent node) meant r g = fated_start_good users c h now node.0 (fate_by now node.0 (cuts now node.0) (start_calls c node.0)) g
 event_good users c h brought cuts now (FuseEvent node calls image Log) meant r g = record { lawful = g.lawful; node = g.node; starts = g.starts; polls = g.polls; written = g.written; unbegun = g.unbegun; answered = g.answered; unfailed = g.unfailed; fresh = g.fresh; unasked = g.unasked; worn = g.worn; owes = g.owes; owed = g.owed }
 event_good users c h brought cuts now (FuseEvent node calls image Data) meant r g = record { lawful = g.lawful; node = g.node; starts = g.starts; polls = g.polls; written = g.written; unbegun = g.unbegun; answered = g.answered; unfailed = g.unfailed; fresh = g.fresh; unasked = g.unasked; worn = g.worn; owes = g.owes; owed = g.owed }
 event_good users c h brought cuts now (BeginEvent node request text) meant r g =
     let second = (not_because (not (is_node c node.0)) 6 _ r).1 in let third = (not_because (not (up now node.0)) 1 _ second).0 in
-    begin_good users c h brought now node.0 request text (cuts now.tape) meant (not_false (up now node.0) third) g
+    begin_good users c h brought now node.0 request text (cuts now node.0) meant (not_false (up now node.0) third) g
 
 run_good : (users : Users) → (c : Cluster) (cuts : Cuts) (events : List Happening) (now : Standing) → (users.fits → Fits users.usage events) → Good users c now → Good users c (goes_on c cuts now events)
 run_good users c cuts [] now fits g = g
@@ -514,7 +514,7 @@ run_stands : (users : Users) → (c : Cluster) (first : Meanings) (events : List
 run_stands users c first events tape run fits = run_good users c run.cuts events (opening c first) fits (opened_good users c first (nodes c) nothing_yet (nothing_good users c))
 
 -- of any events, whatever was meant
-nobody : Users
+pub nobody : Users
 nobody = record { usage = record { meaning = λ text. None; handlers = λ moment. [] }; fits = ⊥ }
 
 no_fits : (events : List Happening) → nobody.fits → Fits nobody.usage events
@@ -538,3 +538,94 @@ run_answered c usage first events tape run fits = record {
   writes = run_written c usage first events tape run fits;
   answered = subst (AreAnswered c.schema usage) (sym run.tape_is) ((run_stands (record { usage = usage; fits = Fits usage events }) c first events tape run (λ f. f)).answered fits);
 }
+
+-- ---- what every run keeps
+
+-- an item that no node meets
+abbrev pub IsMark : Item → Type 0
+IsMark (Dropped number) = Unit {0}
+IsMark CutItem = Unit {0}
+IsMark _ = ⊥
+
+-- what each kind of event keeps of a good standing, whatever becomes of its step
+pub record Keeps (c : Cluster) (Q : Standing → Type 0) : Type 0 where
+  pub ticks : (h : Meanings) (now : Standing) (me clock : ℕ) (cut : Calls → Fate) → Good nobody c now → is_up (now.node me).met ≡ true → Q now → Q (at_node c h now me (shown me (Ticks clock)) (Tick clock) cut)
+  pub takes : (h : Meanings) (now : Standing) (j : ℕ) (m : Message) (cut : Calls → Fate) → Good nobody c now → is_up (now.node m.to).met ≡ true → Stands (Sent j m) now.tape → Q now
+      → Q (at_node c h now m.to (Taken j ∷ []) (Take m) cut)
+  pub begins : (h : Meanings) (now : Standing) (me : ℕ) (request : Request) (text : List ℕ) (cut : Calls → Fate) → Good nobody c now → is_up (now.node me).met ≡ true → Q now
+      → Q (at_node c h now me (shown me (Begins (op_of (setting c h me) (now.node me).met) text)) (Begin request text) cut)
+  pub starts : (h : Meanings) (now : Standing) (me : ℕ) (fate : Fate) → Good nobody c now → Q now → Q (fated_start c h now me fate)
+  pub crash : (now : Standing) (me : ℕ) → Good nobody c now → Q now → Q (crashes now me)
+  pub marks : (now : Standing) (item : Item) → IsMark item → Good nobody c now → Q now → Q (marked now item)
+  pub fuses : (now : Standing) (log_fuse data_fuse : ℕ → Option Fuse) → Q now
+      → Q (record { tape = now.tape; node = now.node; log_fuse = log_fuse; data_fuse = data_fuse; starts = now.starts; records = now.records; owed = now.owed })
+
+none_brought : (h : Meanings) → nobody.fits → Brought (nobody.usage) h
+unfolding nobody
+none_brought h f = absurd f
+
+none_meant : (event : WorldEvent) → nobody.fits → IsMeant (nobody.usage) event
+unfolding nobody
+none_meant event f = absurd f
+
+module _ (c : Cluster) (Q : Standing → Type 0) (k : Keeps c Q) where
+  handed_kept : (h : Meanings) (cuts : Cuts) (now : Standing) (j : ℕ) (o : Option Message) → message_of now.tape j ≡ o → receiver_up (up now) o ≡ true → Good nobody c now → Q now → Q (handed c h cuts now j o)
+  handed_kept h cuts now j None is r g q = q
+  handed_kept h cuts now j (Some m) is r g q = (k.takes) h now j m (cuts now m.to) g r (stands_sent now.tape j m is) q
+
+  deliverable_kept : (h : Meanings) (cuts : Cuts) (now : Standing) (j : ℕ) → next_delivery (up now) now.tape ≡ Some j → Good nobody c now → Q now → Q (delivered c h cuts now j)
+  deliverable_kept h cuts now j e g q = handed_kept h cuts now j (message_of now.tape j) refl
+      (both_true (not (is_taken now.tape j) && not (is_dropped now.tape j)) (receiver_up (up now) (message_of now.tape j)) (found (is_deliverable (up now) now.tape) _ j e)).1 g q
+
+  drained_kept : (h : Meanings) (cuts : Cuts) (most : ℕ) (now : Standing) → Good nobody c now → Q now → Q (drained c h cuts now most)
+  drained_kept h cuts zero now g q = go (next_delivery (up now) now.tape)
+    where
+      go : (o : Option ℕ) → Q (unless_none now (λ j. marked now CutItem) o)
+      go None = q
+      go (Some j) = (k.marks) now CutItem tt g q
+  drained_kept h cuts (suc most) now g q = go (next_delivery (up now) now.tape) refl (λ j. drained_kept h cuts most (delivered c h cuts now j))
+    where
+      go : (o : Option ℕ) → next_delivery (up now) now.tape ≡ o
+          → ((j : ℕ) → Good nobody c (delivered c h cuts now j) → Q (delivered c h cuts now j) → Q (drained c h cuts (delivered c h cuts now j) most))
+          → Q (unless_none now (λ j. drained c h cuts (delivered c h cuts now j) most) o)
+      go None e more = q
+      go (Some j) e more = more j (deliverable_good nobody c h (none_brought h) cuts now j e g) (deliverable_kept h cuts now j e g q)
+
+  down_kept : (h : Meanings) (cuts : Cuts) (now : Standing) (j : ℕ) (o : Option Message) → message_of now.tape j ≡ o → receiver_down now o ≡ false → Good nobody c now → Q now → Q (handed c h cuts now j o)
+  down_kept h cuts now j None is r g q = q
+  down_kept h cuts now j (Some m) is r g q = handed_kept h cuts now j (Some m) is (not_false (up now m.to) r) g q
+
+  event_kept : (h : Meanings) (cuts : Cuts) (now : Standing) (event : WorldEvent) → refusal c now event ≡ None → Good nobody c now → Q now → Q (after_event c h cuts now event)
+  event_kept h cuts now (TickEvent node clock) r g q =
+      let second = (not_because (not (is_node c node.0)) 6 _ r).1 in let third = (not_because (not (up now node.0)) 1 _ second).0 in
+      (k.ticks) h now node.0 clock (cuts now node.0) g (not_false (up now node.0) third) q
+  event_kept h cuts now (Deliver j) r g q =
+      let second = (not_because (not (is_sent now.tape j)) 3 _ r).1 in let third = (not_because (is_dropped now.tape j) 4 _ second).1 in
+      down_kept h cuts now j (message_of now.tape j) refl (not_because (receiver_down now (message_of now.tape j)) 1 None third).0 g q
+  event_kept h cuts now (Drop j) r g q = (k.marks) now (Dropped j) tt g q
+  event_kept h cuts now (Drain most) r g q = drained_kept h cuts most now g q
+  event_kept h cuts now (CrashEvent node) r g q = (k.crash) now node.0 g q
+  event_kept h cuts now (StartEvent node) r g q = (k.starts) h now node.0 (fate_by now node.0 (cuts now node.0) (start_calls c node.0)) g q
+  event_kept h cuts now (FuseEvent node calls image Log) r g q = (k.fuses) now (set_at now.log_fuse node.0 (new_fuse calls image)) now.data_fuse q
+  event_kept h cuts now (FuseEvent node calls image Data) r g q = (k.fuses) now now.log_fuse (set_at now.data_fuse node.0 (new_fuse calls image)) q
+  event_kept h cuts now (BeginEvent node request text) r g q =
+      let second = (not_because (not (is_node c node.0)) 6 _ r).1 in let third = (not_because (not (up now node.0)) 1 _ second).0 in
+      (k.begins) h now node.0 request text (cuts now node.0) g (not_false (up now node.0) third) q
+
+  all_kept : (cuts : Cuts) (events : List Happening) (now : Standing) → Good nobody c now → Q now → Q (goes_on c cuts now events)
+  all_kept cuts [] now g q = q
+  all_kept cuts (one ∷ events) now g q = go (refusal c now one.event) refl (all_kept cuts events)
+    where
+      go : (o : Option ℕ) → refusal c now one.event ≡ o → ((next : Standing) → Good nobody c next → Q next → Q (goes_on c cuts next events))
+          → Q (goes_on c cuts (unless_refused now (after_event c one.handlers cuts now one.event) o) events)
+      go None r more = more (after_event c one.handlers cuts now one.event)
+          (event_good nobody c one.handlers (none_brought one.handlers) cuts now one.event (none_meant one.event) r g) (event_kept one.handlers cuts now one.event r g q)
+      go (Some why) r more = more now g q
+
+  opened_kept : (h : Meanings) (those : List ℕ) (now : Standing) → Good nobody c now → Q now → Q (fold (λ now me. fated_start c h now me Whole) now those)
+  opened_kept h [] now g q = q
+  opened_kept h (me ∷ those) now g q = opened_kept h those (fated_start c h now me Whole) (start_good nobody c h now me g) ((k.starts) h now me Whole g q)
+
+  -- what each event keeps, and held at first, holds of every run
+  pub run_keeps : (first : Meanings) (events : List Happening) (tape : List Item) → (run : IsRun c first events tape) → Q nothing_yet → Q (goes_on c run.cuts (opening c first) events)
+  run_keeps first events tape run q = all_kept run.cuts events (opening c first) (opened_good nobody c first (nodes c) nothing_yet (nothing_good nobody c)) (opened_kept first (nodes c) nothing_yet (nothing_good nobody c) q)

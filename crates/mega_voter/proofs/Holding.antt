@@ -24,7 +24,7 @@ use Rattle.mega_wal.proofs.Greatest.{marks_same}
 use Rattle.mega_wal.proofs.Loading.{reverse_onto}
 use Rattle.mega_rules.specs.Met.{Met, Starts, Sends, Unsends}
 use Rattle.mega_rules.specs.Clock.{start_of}
-use Rattle.mega_voter.specs.Holding.{Agrees, GoesOn, HoldsMet, Recalls, starts_after}
+use Rattle.mega_voter.specs.Holding.{Agrees, GoesOn, HoldsIf, HoldsMet, Recalls, starts_after}
 use Rattle.mega_voter.specs.Journal.{item_of, journal_of, without_starts}
 use Rattle.mega_voter.specs.Telling.{AreHonest, Tells}
 use Rattle.mega_voter.proofs.Opened.{granted_without, slots_without, starts_is, starts_most}
@@ -179,6 +179,12 @@ leaves_flushed moment since old new records items each few leaves starts before 
     found_is : (found : List (List ℕ)) → IsBeforeOrAfter records (record_text items) found → HoldsMet found starts before ⊎ HoldsMet found (starts_after items starts) met
     found_is found (inl is) = inl (subst (λ one. HoldsMet one starts before) (sym is) holds)
     found_is found (inr is) = inr (subst (λ one. HoldsMet one (starts_after items starts) met) (sym is) (holds_with records items starts before met each few holds goes))
+
+-- ---- where a fuse burns in the append
+pub cut_flushed : (keeps : Bool) (old new : List (List ℕ)) (items : List JournalItem) → All IsItem items → length items ≤ 1000 → new ≡ cond keeps (old ++ record_text items ∷ []) old
+    → (starts : ℕ) (before met : List Met) → HoldsMet old starts before → GoesOn items starts before met → HoldsIf keeps new items starts before met
+cut_flushed true old new items each few is starts before met holds goes = subst (λ one. HoldsMet one (starts_after items starts) met) (sym is) (holds_with old items starts before met each few holds goes)
+cut_flushed false old new items each few is starts before met holds goes = subst (λ one. HoldsMet one starts before) (sym is) holds
 
 -- ---- one record in place of all
 pub holds_replaced : (kept : Kept) (body : List ℕ) → Represents kept (history_of (body ∷ [])) → first_bad (body ∷ []) ≡ None

@@ -34,4 +34,5 @@ pub record SameStore {R : Type 0} (store : Ghosts R) (old new : R) : Type 0 wher
   pub due : store.is_due new ≡ store.is_due old
   pub faults : store.faults new ≡ store.faults old
   pub fuse : store.fuse_left new ≡ store.fuse_left old
+  pub image : store.fuse_image new ≡ store.fuse_image old
   pub by_fuse : store.fails_by_fuse new ≡ store.fails_by_fuse old

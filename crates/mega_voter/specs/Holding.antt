@@ -50,6 +50,11 @@ pub record GoesOn (items : List JournalItem) (starts : ℕ) (before met : List M
   pub later : start_of met ≤ starts_after items starts
   pub honest : AreHonest met
 
+-- records that hold what was met, where the record of these items is kept, and else what was met before
+abbrev pub HoldsIf : Bool → List (List ℕ) → List JournalItem → ℕ → List Met → List Met → Type 0
+HoldsIf true records items starts before met = HoldsMet records (starts_after items starts) met
+HoldsIf false records items starts before met = HoldsMet records starts before
+
 -- an item that is no start
 abbrev pub is_no_start : Met → Bool
 is_no_start (Starts start) = false

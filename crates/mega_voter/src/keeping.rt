@@ -1,7 +1,7 @@
 //! The logs of a voter over their records: opened, flushed, compacted.
 
 ghost use Rattle.std.specs.Prelude.{◌≡◌, ◌⊎◌, ◌+◌, ◌<◌, ◌≤◌, ◌^◌, ◌∷◌, [], ℕ, List, All, length, None, true, false, IsOk, IfOk, IfErr, OnOk, OnErr, MatchResult};
-ghost use Rattle.mega_disk.specs.Fuse.{LowersBy, set_to};
+ghost use Rattle.mega_disk.specs.Fuse.{LowersBy, Unset, after_append, is_short, keeps_record, set_to};
 ghost use Rattle.mega_disk.specs.Images.{LeavesOnly, SameImages};
 ghost use Rattle.mega_wal.specs.Compaction.{IsOfFormat, compacted_text};
 ghost use Rattle.mega_wal.specs.Items.{IsItem, record_text};
@@ -10,7 +10,7 @@ ghost use Rattle.mega_wal.specs.Records.{first_bad, flushed, history_of};
 ghost use Rattle.mega_rules.specs.Clock.{start_of};
 ghost use Rattle.mega_rules.specs.Met.{Met};
 ghost use Rattle.mega_voter.specs.Faring.{LogFares, SameStore, failed_by};
-ghost use Rattle.mega_voter.specs.Holding.{GoesOn, HoldsMet, Recalls, starts_after};
+ghost use Rattle.mega_voter.specs.Holding.{GoesOn, HoldsIf, HoldsMet, Recalls, starts_after};
 ghost use Rattle.mega_voter.specs.Telling.{Tells};
 
 use crate::voter::Voter;
@@ -39,7 +39,7 @@ impl<R: Records> Voter<R> {
 
     /// Makes one record of what is staged, and appends it; where nothing is staged it appends nothing. After any fault but
     /// `Full` and `NoMemory` the records are to be opened anew.
-    #[tactic(auto, using(crate::proofs::Holding::holds_flushed, crate::proofs::Holding::leaves_flushed))]
+    #[tactic(auto, using(crate::proofs::Holding::holds_flushed, crate::proofs::Holding::leaves_flushed, crate::proofs::Holding::cut_flushed))]
     pub fn flush(&mut self, alloc: Global) -> Result<(), LogFault>
         requires few { length self.old.logs.staged.items ≤ 1000 }
         requires each { All IsItem self.old.logs.staged.items }
@@ -57,6 +57,15 @@ impl<R: Records> Voter<R> {
         ensures not_counted { OnErr result (R.count_of self.new.logs.records ≡ R.count_of self.old.logs.records) }
         ensures still_open { OnOk result (R.is_spent self.new.logs.records ≡ R.is_spent self.old.logs.records) }
         ensures not_spent { OnOk result (0 < length self.old.logs.staged.items → R.is_spent self.old.logs.records ≡ false) }
+        ensures four { R.by_four ≡ true → OnOk result (0 < length self.old.logs.staged.items → R.fuse_left self.new.logs.records ≡ after_append (R.fuse_left self.old.logs.records)) }
+        ensures image { R.by_four ≡ true → OnOk result (R.fuse_image self.new.logs.records ≡ R.fuse_image self.old.logs.records) }
+        ensures enough { R.by_four ≡ true → OnOk result (0 < length self.old.logs.staged.items → is_short (R.fuse_left self.old.logs.records) ≡ false) }
+        ensures short { R.by_four ≡ true → result ≡ Err LogFault.DiskFault → is_short (R.fuse_left self.old.logs.records) ≡ true }
+        ensures burnt { R.by_four ≡ true → result ≡ Err LogFault.DiskFault → R.fuse_left self.new.logs.records ≡ Unset }
+
+        // Where the fuse burns, the records are those from before, or these with the one record, as the fuse says.
+        ensures cut { R.by_four ≡ true → R.is_told ≡ true → result ≡ Err LogFault.DiskFault → (starts : ℕ) (before met : List Met) → HoldsMet (R.list self.old.logs.records) starts before → GoesOn self.old.logs.staged.items starts before met →
+            HoldsIf (keeps_record (R.fuse_left self.old.logs.records) (R.fuse_image self.old.logs.records)) (R.list self.new.logs.records) self.old.logs.staged.items starts before met }
         ensures lowers { OnOk result (0 < length self.old.logs.staged.items → LowersBy 4 (R.fuse_left self.old.logs.records) (R.fuse_left self.new.logs.records)) }
         ensures fares { LogFares R.Records (R.length_with self.old.logs.records (length (record_text self.old.logs.staged.items))) (failed_by result) self.old.logs.records self.new.logs.records }
     {
@@ -116,6 +125,7 @@ impl<R: Records> Voter<R> {
         ensures due { R.is_due self.new.logs.records ≡ R.is_due self.old.logs.records }
         ensures faults { R.faults self.new.logs.records ≡ R.faults self.old.logs.records }
         ensures fuse { R.fuse_left self.new.logs.records ≡ set_to calls (R.fuse_left self.old.logs.records) }
+        ensures image { R.by_four ≡ true → R.fuse_image self.new.logs.records ≡ image }
         ensures by_fuse { R.fails_by_fuse self.new.logs.records ≡ R.fails_by_fuse self.old.logs.records }
     {
         self.logs.fuse(calls, image);

@@ -1,7 +1,7 @@
 //! Makes one record of what is staged, or of all that is kept.
 ghost use Rattle.std.specs.Prelude.{◌≡◌, ◌⊎◌, ◌+◌, ◌<◌, ◌≤◌, ◌^◌, ◌++◌, ◌∷◌, [], true, false, All, length, reverse, Err, IsOk, IfOk, OnOk, OnErr};
 ghost use Rattle.mega_base.specs.Causes.{Rose};
-ghost use Rattle.mega_disk.specs.Fuse.{Burns, LowersBy, MayBurn, set_to};
+ghost use Rattle.mega_disk.specs.Fuse.{Burns, LowersBy, MayBurn, Unset, after_append, appended_by, is_short, set_to};
 ghost use Rattle.mega_disk.specs.Images.{LeavesOnly, SameImages};
 ghost use Rattle.mega_disk.specs.RecordLists.{IsBeforeOrAfter, IsOldOrReplaced};
 ghost use Rattle.mega_wal.specs.Compaction.{IsOfFormat, compacted, compacted_text, if_short};
@@ -54,6 +54,12 @@ fn append<R: Records>(alloc: Global, records: &mut R, body: &[u8]) -> Result<(),
     ensures may_burn { MayBurn (R.fuse_left records.old) (R.fuse_left records.new) }
     ensures burns { R.fails_by_fuse records.old ≡ true → result ≡ Err LogFault.DiskFault → Burns (R.fuse_left records.old) (R.fuse_left records.new) }
     ensures by_fuse { R.fails_by_fuse records.old ≡ true → R.fails_by_fuse records.new ≡ true }
+    ensures four { R.by_four ≡ true → OnOk result (R.fuse_left records.new ≡ after_append (R.fuse_left records.old)) }
+    ensures image { R.by_four ≡ true → OnOk result (R.fuse_image records.new ≡ R.fuse_image records.old) }
+    ensures enough { R.by_four ≡ true → OnOk result (is_short (R.fuse_left records.old) ≡ false) }
+    ensures short { R.by_four ≡ true → result ≡ Err LogFault.DiskFault → is_short (R.fuse_left records.old) ≡ true }
+    ensures burnt { R.by_four ≡ true → result ≡ Err LogFault.DiskFault → R.fuse_left records.new ≡ Unset }
+    ensures kept { R.by_four ≡ true → result ≡ Err LogFault.DiskFault → R.list records.new ≡ appended_by (R.fuse_left records.old) (R.fuse_image records.old) (R.list records.old) body.now }
     ensures opened { R.opened records.new ≡ R.opened records.old }
 {
     match records.append(alloc, body) {
@@ -159,6 +165,12 @@ impl<R: Records> Logs<R> {
         ensures may_burn { MayBurn (R.fuse_left self.old.records) (R.fuse_left self.new.records) }
         ensures burns { R.fails_by_fuse self.old.records ≡ true → result ≡ Err LogFault.DiskFault → Burns (R.fuse_left self.old.records) (R.fuse_left self.new.records) }
         ensures by_fuse { R.fails_by_fuse self.old.records ≡ true → R.fails_by_fuse self.new.records ≡ true }
+        ensures four { R.by_four ≡ true → OnOk result (0 < length self.old.staged.items → R.fuse_left self.new.records ≡ after_append (R.fuse_left self.old.records)) }
+        ensures image { R.by_four ≡ true → OnOk result (R.fuse_image self.new.records ≡ R.fuse_image self.old.records) }
+        ensures enough { R.by_four ≡ true → OnOk result (0 < length self.old.staged.items → is_short (R.fuse_left self.old.records) ≡ false) }
+        ensures short { R.by_four ≡ true → result ≡ Err LogFault.DiskFault → is_short (R.fuse_left self.old.records) ≡ true }
+        ensures burnt { R.by_four ≡ true → result ≡ Err LogFault.DiskFault → R.fuse_left self.new.records ≡ Unset }
+        ensures written { R.by_four ≡ true → result ≡ Err LogFault.DiskFault → R.list self.new.records ≡ appended_by (R.fuse_left self.old.records) (R.fuse_image self.old.records) (R.list self.old.records) (record_text self.old.staged.items) }
         ensures opened { R.opened self.new.records ≡ R.opened self.old.records }
     {
         if let [] = self.staged.as_slice() {
@@ -215,6 +227,7 @@ impl<R: Records> Logs<R> {
         ensures due { R.is_due self.new.records ≡ R.is_due self.old.records }
         ensures faults { R.faults self.new.records ≡ R.faults self.old.records }
         ensures fuse { R.fuse_left self.new.records ≡ set_to calls (R.fuse_left self.old.records) }
+        ensures image { R.by_four ≡ true → R.fuse_image self.new.records ≡ image }
         ensures by_fuse { R.fails_by_fuse self.new.records ≡ R.fails_by_fuse self.old.records }
     {
         self.records.fuse(calls, image);

@@ -99,6 +99,7 @@ impl<R: Records> Logs<R> {
         ensures due { MatchResult result (λ logs. R.is_due logs.records ≡ R.is_due records) (λ refused. R.is_due refused.1 ≡ R.is_due records) }
         ensures faults { MatchResult result (λ logs. R.faults logs.records ≡ R.faults records) (λ refused. R.faults refused.1 ≡ R.faults records) }
         ensures fuse { MatchResult result (λ logs. R.fuse_left logs.records ≡ R.fuse_left records) (λ refused. R.fuse_left refused.1 ≡ R.fuse_left records) }
+        ensures image { MatchResult result (λ logs. R.fuse_image logs.records ≡ R.fuse_image records) (λ refused. R.fuse_image refused.1 ≡ R.fuse_image records) }
         ensures by_fuse { MatchResult result (λ logs. R.fails_by_fuse logs.records ≡ R.fails_by_fuse records) (λ refused. R.fails_by_fuse refused.1 ≡ R.fails_by_fuse records) }
     {
         let mut records = records;

@@ -1,7 +1,6 @@
-use Rattle.std.proofs.Common.{◌≡◌, ◌∙◌, ℕ, ◌≤◌, Some, sym, ap, subst, refl, arith}
+use Rattle.std.proofs.Common.{◌≡◌, ◌∙◌, ℕ, ◌≤◌, sym, ap, subst, refl, arith}
 use Rattle.mega_cluster.specs.declared.cluster.Cluster.{Cluster}
 use Rattle.mega_outcome.specs.declared.request.Request.{Request}
-use Rattle.mega_outcome.specs.declared.transaction.Transaction.{Transaction}
 use Rattle.mega_outcome.specs.Answers.{rows_at as versions_at}
 use Rattle.mega_outcome.specs.Outcome.{outcome}
 use Rattle.mega_replica.specs.Following.{progress_at}
@@ -13,6 +12,8 @@ use Rattle.mega_node_laws.proofs.Logs.{log_is}
 use Rattle.mega_node_laws.proofs.Owned.{outcome_is}
 use Rattle.mega_actions.specs.Showing.{at_once, shown}
 use Rattle.mega_actions.specs.Stands.{setting}
+use Rattle.mega_view.specs.Shows.{Shows}
+use Rattle.mega_actions.proofs.Logged.{shows_log, shows_stored}
 use Rattle.mega_actions.proofs.Shown.{answered_at_once, stored_outcome}
 use Rattle.mega_actions.proofs.answering.answer_now.Goals as goal
 
@@ -40,10 +41,14 @@ returns-clause-exact g c told me h leases now r =
     ∙ c.in_ok-answer.ensures.exact told s group (snapshot_rows now group) (snapshot_listed now group) same of
     (λ txn is.
     subst (λ (cluster : Cluster). outcome cluster.schema txn (versions_at version at) ≡ outcome cluster.schema txn (snapshot_rows now group)) (sym c.cluster.ensures)
-    (ap (λ (p : ℕ). outcome schema txn (versions_at version p)) (place ∙ applied_is) ∙ outcome_is version progress (log_of now.met) now.stored schema group position r.follows r.owned le txn is)))
+    (ap (λ (p : ℕ). outcome schema txn (versions_at version p)) (place ∙ applied_is) ∙ outcome_is version progress (log_of now.met) now.stored schema group position r.follows r.owned le txn is))
+    (coe 1 0 (i. Shows (c.cluster.ensures i).schema group (versions_at version ((place ∙ applied_is) i)) (snapshot_listed now group))
+    (shows_log schema version progress (log_of now.met) now.stored group r.follows r.owned position le)))
     (λ place.
     ap (λ (request : Request). shown s request applied (stored_rows now group) (stored_listed now group)) (sym c.in-Read.is)
     ∙ c.in_ok-answer.ensures.exact told s group (stored_rows now group) (stored_listed now group) same of
     (λ txn is.
     subst (λ (cluster : Cluster). outcome cluster.schema txn (versions_at version at) ≡ outcome cluster.schema txn (stored_rows now group)) (sym c.cluster.ensures)
-    (ap (λ (p : ℕ). outcome schema txn (versions_at version p)) (place ∙ prefix_is) ∙ stored_outcome version progress (log_of now.met) now.stored schema group r.follows r.owned txn is)))
+    (ap (λ (p : ℕ). outcome schema txn (versions_at version p)) (place ∙ prefix_is) ∙ stored_outcome version progress (log_of now.met) now.stored schema group r.follows r.owned txn is))
+    (coe 1 0 (i. Shows (c.cluster.ensures i).schema group (versions_at version ((place ∙ prefix_is) i)) (stored_listed now group))
+    (shows_stored schema version progress (log_of now.met) now.stored group r.follows r.owned)))

@@ -1,5 +1,4 @@
-use Rattle.std.proofs.Common.{◌≡◌, ◌∙◌, sym, ap, subst}
-use Rattle.mega_disk.specs.VersionMaps.{SameVersions}
+use Rattle.std.proofs.Common.{◌∙◌, sym, ap, subst}
 use Rattle.mega_replica.specs.Following.{progress_at}
 use Rattle.mega_rules.specs.Clock.{clock_of}
 use Rattle.mega_rules.specs.Operations.{Now}

@@ -1,0 +1,9 @@
+pub mod Tapes
+pub mod Rounds
+pub mod Walk
+pub mod Reading
+pub mod Turns
+pub mod Settle
+pub mod Steps
+pub mod Runs
+pub mod Behind

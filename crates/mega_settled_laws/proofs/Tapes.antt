@@ -1,0 +1,191 @@
+-- Earlier moments of a tape, and what was asked of cells on it.
+use Rattle.std.proofs.Common.{◌≡◌, inr, ℕ, ◌+◌, ◌==◌, ◌&&◌, ◌||◌, Bool, true, false, not, cond, List, [], ◌∷◌, ◌++◌, flat_map, map, refl, sym, ap, ◌∙◌, subst}
+use Rattle.mega_base.specs.declared.names.OpId.{OpId}
+use Rattle.mega_cluster.specs.declared.cluster.Cluster.{Cluster}
+use Rattle.mega_wire.specs.declared.message.Message.{Message}
+use Rattle.mega_wire.specs.declared.message.Body.{Body}
+use Rattle.mega_wire.specs.declared.message.Body.TheVariants.{Dead, Unheld}
+use Rattle.mega_wal.specs.Same.{same_op}
+use Rattle.mega_transcript.specs.declared.item.Item.{Item}
+use Rattle.mega_transcript.specs.declared.item.Item.TheVariants.{Sent, Unsafe}
+use Rattle.mega_promises.specs.Items.{shown}
+use Rattle.mega_promises.specs.Messages.{is_unsafe}
+use Rattle.mega_promises.specs.Promises.{Stands}
+use Rattle.mega_promises.specs.Runs.{breaks, with_item, with_items}
+use Rattle.mega_propose.specs.Members.{has, joined, without}
+use Rattle.mega_rules.specs.Met.{Met, Starts, Crashes, Ticks, Begins, Takes, Sends, Unsends, Grants, Lapses, Counts, Forgets, Serves, Loses, Validates, Invalidates, Decides, Applies, Answers}
+use Rattle.mega_rules.specs.Operations.{Node}
+use Rattle.mega_tape_laws.proofs.Ballots.{number_is}
+use Rattle.mega_run_laws.specs.Vouched.{Each, sent}
+use Rattle.mega_run_laws.proofs.Sending.{Stood}
+use Rattle.mega_settled_laws.specs.Covering.{Earlier, asks_about, has_asked_about}
+
+-- ---- moments
+
+pub now_is : (tape : List Item) → Earlier tape tape
+now_is tape = record { later = []; is = refl }
+
+pub one_later : (moment tape : List Item) (item : Item) → Earlier moment tape → Earlier moment (item ∷ tape)
+one_later moment tape item e = record { later = item ∷ e.later; is = ap (λ t. item ∷ t) e.is }
+
+regrouped : (a b c : List Item) → a ++ (b ++ c) ≡ (a ++ b) ++ c
+regrouped [] b c = refl
+regrouped (x ∷ a) b c = ap (λ t. x ∷ t) (regrouped a b c)
+
+pub then_later : (one two three : List Item) → Earlier one two → Earlier two three → Earlier one three
+then_later one two three a b = record { later = b.later ++ a.later; is = b.is ∙ ap (λ t. b.later ++ t) a.is ∙ regrouped b.later a.later one }
+
+stood_behind : (later moment : List Item) (item : Item) → Stands item moment → Stands item (later ++ moment)
+stood_behind [] moment item s = s
+stood_behind (one ∷ later) moment item s = inr (stood_behind later moment item s)
+
+pub earlier_stood : (moment tape : List Item) → Earlier moment tape → Stood moment tape
+earlier_stood moment tape e item s = subst (Stands item) (sym e.is) (stood_behind e.later moment item s)
+
+pub sent_later : (n : ℕ) (ms : List Message) (tape : List Item) → Earlier tape (sent n ms tape)
+sent_later n [] tape = now_is tape
+sent_later n (m ∷ ms) tape = then_later tape (Sent n m ∷ tape) (sent (n + 1) ms (Sent n m ∷ tape)) (one_later tape tape (Sent n m) (now_is tape)) (sent_later (n + 1) ms (Sent n m ∷ tape))
+
+module _ (c : Cluster) (nodes : ℕ → Node) where
+  item_later : (tape : List Item) (item : Item) → Earlier tape (with_item c nodes tape item)
+  item_later tape item = by (breaks c nodes item && not (is_unsafe tape))
+    where
+      by : (t : Bool) → Earlier tape (cond t (Unsafe ∷ item ∷ tape) (item ∷ tape))
+      by true = one_later tape (item ∷ tape) Unsafe (one_later tape tape item (now_is tape))
+      by false = one_later tape tape item (now_is tape)
+
+  pub items_later : (items tape : List Item) → Earlier tape (with_items c nodes tape items)
+  items_later [] tape = now_is tape
+  items_later (item ∷ items) tape = then_later tape (with_item c nodes tape item) (with_items c nodes (with_item c nodes tape item) items) (item_later tape item) (items_later items (with_item c nodes tape item))
+
+-- ---- what was asked
+
+-- messages that ask a cell about a node
+abbrev pub asks_in : List Message → OpId → ℕ → Bool
+asks_in [] op node = false
+asks_in (m ∷ ms) op node = asks_about op node m.body || asks_in ms op node
+
+-- a message of a node's own: it answers nothing for a cell, and where it asks a cell about a node it is of this operation
+abbrev pub OfDead : OpId → Body → Type 0
+OfDead op (Dead asking cell about) = asking ≡ op
+OfDead op (Unheld asking cell about) = ⊥
+OfDead op _ = Unit {0}
+
+pub record Mine (op : OpId) (m : Message) : Type 0 where
+  pub from : m.from ≡ op.node.0
+  pub of : OfDead op m.body
+
+either_false : (a b : Bool) → a ≡ false → b ≡ false → (a || b) ≡ false
+either_false true b h k = h
+either_false false b h k = k
+
+pub neither : (a b : Bool) → (a || b) ≡ false → (a ≡ false) × (b ≡ false)
+neither true b h = cc
+neither false b h = (refl, h)
+
+pub asks_both : (xs ys : List Message) (op : OpId) (node : ℕ) → asks_in xs op node ≡ false → asks_in ys op node ≡ false → asks_in (xs ++ ys) op node ≡ false
+asks_both [] ys op node h k = k
+asks_both (m ∷ xs) ys op node h k = let parts = neither (asks_about op node m.body) (asks_in xs op node) h in
+    either_false (asks_about op node m.body) (asks_in (xs ++ ys) op node) parts.0 (asks_both xs ys op node parts.1 k)
+
+pub asks_map : {X : Type 0} (f : X → Message) (op : OpId) (node : ℕ) → ((x : X) → asks_about op node (f x).body ≡ false) → (xs : List X) → asks_in (map f xs) op node ≡ false
+asks_map f op node h [] = refl
+asks_map f op node h (x ∷ xs) = either_false (asks_about op node (f x).body) (asks_in (map f xs) op node) (h x) (asks_map f op node h xs)
+
+pub mine_map : {X : Type 0} (op : OpId) (f : X → Message) → ((x : X) → Mine op (f x)) → (xs : List X) → Each (Mine op) (map f xs)
+mine_map op f h [] = tt
+mine_map op f h (x ∷ xs) = (h x, mine_map op f h xs)
+
+pub each_both : {X : Type 0} (P : X → Type 0) (xs ys : List X) → Each P xs → Each P ys → Each P (xs ++ ys)
+each_both P [] ys a b = b
+each_both P (x ∷ xs) ys a b = (a.0, each_both P xs ys a.1 b)
+
+-- another operation's messages ask nothing for this one
+apart_about : (op x : OpId) (node : ℕ) (body : Body) → same_op op x ≡ false → OfDead op body → asks_about x node body ≡ false
+apart_about op x node (Dead asking cell about) apart of = first_false (same_op asking x) (about.0 == node) (ap (λ y. same_op y x) of ∙ apart)
+  where
+    first_false : (a b : Bool) → a ≡ false → (a && b) ≡ false
+    first_false true b h = cc
+    first_false false b h = refl
+apart_about op x node _ apart of = refl
+
+pub asks_apart : (op x : OpId) (node : ℕ) (ms : List Message) → same_op op x ≡ false → Each (Mine op) ms → asks_in ms x node ≡ false
+asks_apart op x node [] apart mine = refl
+asks_apart op x node (m ∷ ms) apart mine = either_false (asks_about x node m.body) (asks_in ms x node) (apart_about op x node m.body apart (mine.0).of) (asks_apart op x node ms apart mine.1)
+
+pub asked_sent : (n : ℕ) (ms : List Message) (tape : List Item) (op : OpId) (node : ℕ) → asks_in ms op node ≡ false → has_asked_about tape op node ≡ false → has_asked_about (sent n ms tape) op node ≡ false
+asked_sent n [] tape op node h k = k
+asked_sent n (m ∷ ms) tape op node h k = let parts = neither (asks_about op node m.body) (asks_in ms op node) h in
+    asked_sent (n + 1) ms (Sent n m ∷ tape) op node parts.1 (either_false (asks_about op node m.body) (has_asked_about tape op node) parts.0 k)
+
+-- an item that sends nothing
+abbrev pub IsSilent : Item → Type 0
+IsSilent (Sent key m) = ⊥
+IsSilent _ = Unit {0}
+
+silent_asked : (tape : List Item) (item : Item) (op : OpId) (node : ℕ) → IsSilent item → has_asked_about (item ∷ tape) op node ≡ has_asked_about tape op node
+silent_asked tape (Sent key m) op node h = absurd h
+silent_asked tape _ op node h = refl
+
+pub shown_silent : (me : ℕ) (one : Met) → Each IsSilent (shown me one)
+shown_silent me (Starts start) = (tt, tt)
+shown_silent me Crashes = (tt, tt)
+shown_silent me (Ticks now) = (tt, tt)
+shown_silent me (Begins op text) = (tt, tt)
+shown_silent me (Takes message) = tt
+shown_silent me (Sends message) = tt
+shown_silent me (Unsends message) = (tt, tt)
+shown_silent me (Grants node epoch) = (tt, tt)
+shown_silent me (Lapses node epoch) = (tt, tt)
+shown_silent me (Counts cell epoch) = (tt, tt)
+shown_silent me (Forgets cell epoch) = (tt, tt)
+shown_silent me (Serves epoch) = (tt, tt)
+shown_silent me (Loses epoch) = (tt, tt)
+shown_silent me (Validates group position) = (tt, tt)
+shown_silent me (Invalidates group position) = (tt, tt)
+shown_silent me (Decides group position entry) = (tt, tt)
+shown_silent me (Applies group position) = (tt, tt)
+shown_silent me (Answers op answer) = (tt, tt)
+
+pub notes_silent : (me : ℕ) (notes : List Met) → Each IsSilent (flat_map (shown me) notes)
+notes_silent me [] = tt
+notes_silent me (one ∷ notes) = each_both IsSilent (shown me one) (flat_map (shown me) notes) (shown_silent me one) (notes_silent me notes)
+
+module _ (c : Cluster) (nodes : ℕ → Node) where
+  item_asked : (tape : List Item) (item : Item) (op : OpId) (node : ℕ) → IsSilent item → has_asked_about (with_item c nodes tape item) op node ≡ has_asked_about tape op node
+  item_asked tape item op node silent = by (breaks c nodes item && not (is_unsafe tape))
+    where
+      by : (t : Bool) → has_asked_about (cond t (Unsafe ∷ item ∷ tape) (item ∷ tape)) op node ≡ has_asked_about tape op node
+      by true = silent_asked tape item op node silent
+      by false = silent_asked tape item op node silent
+
+  pub items_asked : (items tape : List Item) (op : OpId) (node : ℕ) → Each IsSilent items → has_asked_about (with_items c nodes tape items) op node ≡ has_asked_about tape op node
+  items_asked [] tape op node silent = refl
+  items_asked (item ∷ items) tape op node silent = items_asked items (with_item c nodes tape item) op node silent.1 ∙ item_asked tape item op node silent.0
+
+-- ---- nodes in lists
+
+has_append : (node : ℕ) (a b : List ℕ) → has node (a ++ b) ≡ false → (has node a ≡ false) × (has node b ≡ false)
+has_append node [] b h = (refl, h)
+has_append node (x ∷ a) b h =
+    let parts = neither (x == node) (has node (a ++ b)) h in
+    let rest = has_append node a b parts.1 in
+    (either_false (x == node) (has node a) parts.0 rest.0, rest.1)
+
+apart_of : (node x : ℕ) (a : List ℕ) → has node a ≡ false → has x a ≡ true → (x == node) ≡ false
+apart_of node x a h k = by (x == node) refl
+  where
+    by : (t : Bool) → (x == node) ≡ t → t ≡ false
+    by false e = refl
+    by true e = absurd (let clashing = sym k ∙ ap (λ y. has y a) (number_is x node e) ∙ h in cc)
+
+without_has : (node : ℕ) (a b : List ℕ) → has node a ≡ false → has node (without a b) ≡ false → has node b ≡ false
+without_has node a [] h k = refl
+without_has node a (x ∷ b) h k = by (has x a) refl (without_has node a b h) k
+  where
+    by : (t : Bool) → has x a ≡ t → (has node (without a b) ≡ false → has node b ≡ false) → has node (cond (not t) (x ∷ without a b) (without a b)) ≡ false → ((x == node) || has node b) ≡ false
+    by true e rest k = either_false (x == node) (has node b) (apart_of node x a h e) (rest k)
+    by false e rest k = let parts = neither (x == node) (has node (without a b)) k in either_false (x == node) (has node b) parts.0 (rest parts.1)
+
+pub joined_has : (node : ℕ) (a b : List ℕ) → has node (joined a b) ≡ false → (has node a ≡ false) × (has node b ≡ false)
+joined_has node a b h = let parts = has_append node a (without a b) h in (parts.0, without_has node a b parts.0 parts.1)

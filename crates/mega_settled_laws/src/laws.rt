@@ -1,0 +1,21 @@
+//! Laws of what settles an entry, as contracts of functions that do nothing.
+
+ghost use Rattle.std.specs.Prelude.{List};
+ghost use Rattle.mega_base.specs.declared.names.NodeId.{NodeId as Node};
+ghost use Rattle.mega_cluster.specs.declared.cluster.Cluster.{Cluster};
+ghost use Rattle.mega_entry.specs.declared.content.Content.{Content};
+ghost use Rattle.mega_handler.specs.Named.{Meanings};
+ghost use Rattle.mega_transcript.specs.declared.item.Item.{Item};
+ghost use Rattle.mega_transcript.specs.declared.item.Item.TheVariants.{Decide};
+ghost use Rattle.mega_promises.specs.Moments.{StoodOn};
+ghost use Rattle.mega_promises.specs.Runs.{Happening, IsRun};
+ghost use Rattle.mega_tape_laws.specs.Places.{Place};
+ghost use Rattle.mega_settled_laws.specs.Covering.{WasCovered};
+
+/// In every run a decision stands behind what settled its entry (CIDR 2011, write algorithm): an operation heard a majority accept it at one ballot,
+/// and of each full node that it accepted at that ballot, that it is invalidated there, or that a majority of the cells, asked only after those
+/// acceptances, hold nothing for it.
+pub fn each_decision_stands_behind_what_settled_it()
+    ensures { (c : Cluster) (first : Meanings) (events : List Happening) (tape : List Item) → IsRun c first events tape → (node : Node) (p : Place) (e : Content) (before : List Item) →
+        StoodOn (Decide node p.group p.position e) before tape → WasCovered c before p e }
+{}

@@ -1,0 +1,7 @@
+mod Numbers
+pub mod Lists
+mod RowKeys
+mod Ranges
+mod Adding
+mod Scanned
+mod Listed

@@ -1,0 +1,4 @@
+pub mod Keys
+pub mod TableRows
+pub mod Shows
+pub mod Scanning
