@@ -4,4 +4,6 @@ pub mod Going
 pub mod Upheld
 pub mod Appending
 pub mod AtStart
+pub mod Granting
+pub mod Owing
 pub mod Stepping

@@ -11,11 +11,12 @@ use Rattle.mega_wire.specs.declared.message.Body.{Body}
 use Rattle.mega_wire.specs.declared.message.Body.TheVariants.{Where, Accept, Prepare, Invalidate, Dead, Fetch, Acquire, Top, Accepted, Refused, Promise, Invalidated, Held, Unheld, Decide, Have, HaveNot, Granted, Past, Request, Reply}
 use Rattle.mega_wire.specs.declared.message.Message.{Message}
 use Rattle.mega_rules.specs.Logs.{log_of}
-use Rattle.mega_rules.specs.Met.{Met, Unsends}
+use Rattle.mega_rules.specs.Met.{Met, Crashes, Unsends}
 use Rattle.mega_rules.specs.Operations.{Node as RuleNode, Setting}
 use Rattle.mega_rules.specs.Replies.{answer_to, reply_message, reply_to, where_served}
 use Rattle.mega_rules.specs.Steps.{Event, Step as RuleStep, step}
-use Rattle.mega_node_laws.specs.Acted.{acted_on}
+use Rattle.mega_leases.specs.Opening.{AreOwed}
+use Rattle.mega_node_laws.specs.Acted.{acted_on, own_item}
 use Rattle.mega_node_laws.specs.Own.{HasOwnRows}
 use Rattle.mega_core.specs.declared.node.Node.{Node}
 use Rattle.mega_core.specs.declared.step.Step.{Step}
@@ -26,10 +27,14 @@ use Rattle.mega_core.proofs.Staged.{nothing_staged}
 use Rattle.mega_promises.specs.Runs.{is_durable, owes, replies_in}
 use Rattle.mega_voter.specs.Faring.{LogFares}
 use Rattle.mega_durable.specs.declared.cut.Cut.{Cut}
-use Rattle.mega_durable.specs.Cut.{LogWent}
+use Rattle.mega_durable.specs.Cut.{IsOwedBy, IsTakenFrom, LogWent}
+use Rattle.mega_durable.specs.declared.fault.UpFault.{UpFault}
+use Rattle.mega_durable.specs.declared.fault.UpFault.TheVariants.{Step as Failed, Cut as CutOff, Log}
+use Rattle.mega_durable.specs.Granted.{KeepsGrants}
 use Rattle.mega_durable.specs.Replying.{owed_by, replies_at}
 use Rattle.mega_durable.specs.Standing.{IsPlacedAt, IsUp, MayHappen, records_in, setting_of}
 use Rattle.mega_durable.specs.Stepped.{HasStepped}
+use Rattle.mega_durable.proofs.Owing.{cut_owed, step_keeps}
 use Rattle.mega_durable.proofs.Noted.{HasParts, step_parts}
 
 -- ---- a step in memory alone
@@ -38,15 +43,20 @@ pub stepped_now : {R V : Type 0} (store : Ghosts R) (version : V → Versions) (
     → (StandsFor version h old node → HasOwnRows (setting_of old h).cluster.schema (log_of (acted_on (setting_of old h) node event)) → IsPlacedAt (setting_of old h) node event → StandsFor version h mid (step (setting_of old h) node event).node)
     → (StandsFor version h old node → HasOwnRows (setting_of old h).cluster.schema (log_of (acted_on (setting_of old h) node event)) → IsPlacedAt (setting_of old h) node event
     → Stages old.replica.voter.logs.staged.items node.met node.met → Stages mid.replica.voter.logs.staged.items node.met (step (setting_of old h) node event).node.met)
-    → records_in mid ≡ records_in old → HasStepped store version h mid (setting_of old h) node event (records_in old)
-stepped_now store version h old mid node event up may stands stages same = record {
+    → records_in mid ≡ records_in old → mid.replica.members ≡ old.replica.members → mid.replica.me ≡ old.replica.me → HasStepped store version h mid (setting_of old h) node event (records_in old)
+stepped_now store version h old mid node event up may stands stages same members me = record {
   stands = stands up.stands may.owned may.placed;
   stages = stages up.stands may.owned may.placed (subst (λ (items : List JournalItem). Stages items node.met node.met) (sym up.empty) (nothing_staged node.met));
   formed = may.formed;
   same = same;
   ready = up.ready;
   holds = up.holds;
+  granted = coe 0 1 (i. KeepsGrants (sym members i) (sym me i) (step (setting_of old h) node event).node.met) (step_keeps (setting_of old h) node event up.stands.leased.least up.granted);
 }
+
+pub may_owe : {R V : Type 0} (store : Ghosts R) (version : V → Versions) (h : Meanings) (one : Node R V) (node : RuleNode) (event : Event) → IsUp store version h one node
+    → AreOwed (owes (step (setting_of one h) node event) (replies_in one.replica.members one.replica.me node.met event)) (Crashes ∷ own_item (setting_of one h) node event ∷ node.met)
+may_owe store version h one node event up = cut_owed (setting_of one h) node event up.stands.leased.least up.granted
 
 -- ---- whether a node replies follows from its role
 served_once : (me to : ℕ) (is_served : Bool) (reply : Body) → cond {A = ℕ} is_served 1 0 ≡ length (reply_message me to (where_served is_served reply))
@@ -89,6 +99,13 @@ owed_is s node event made cut count notes sends is taken =
 
     first : cut.replies ≡ replies_in s.cluster s.me node.met event
     first = taken.1 ∙ ((λ i. take count ((sends ∙ parts.sends) i)) ∙ take_at (replies_in s.cluster s.me node.met event) parts.rest count (sym is))
+
+pub owed_from : (s : Setting) (node : RuleNode) (event : Event) (made : Step) (count : ℕ) (refused : UpFault) → map met_of made.notes ≡ (step s node event).notes → made.sends ≡ (step s node event).sends
+    → count ≡ length (replies_in s.cluster s.me node.met event) → AreOwed (owes (step s node event) (replies_in s.cluster s.me node.met event)) (Crashes ∷ own_item s node event ∷ node.met)
+    → IsTakenFrom made count refused → IsOwedBy s node event refused
+owed_from s node event made count (Failed fault) notes sends is may taken = absurd taken
+owed_from s node event made count (CutOff cut) notes sends is may taken = (owed_is s node event made cut count notes sends is taken, may)
+owed_from s node event made count (Log fault) notes sends is may apart = apart
 
 -- ---- a log that nothing was done to
 burns_not : (fuse : Fuse) → MayBurn fuse fuse

@@ -7,8 +7,8 @@ use Rattle.mega_wal.specs.declared.answers.LogFault.TheVariants.{DiskFault}
 use Rattle.mega_rules.specs.Clock.{start_of}
 use Rattle.mega_rules.specs.Met.{Met, Crashes}
 use Rattle.mega_rules.specs.Operations.{Node as RuleNode, Setting}
-use Rattle.mega_rules.specs.Steps.{Event, Step as RuleStep, onto, step}
-use Rattle.mega_wire.specs.declared.message.Message.{Message}
+use Rattle.mega_rules.specs.Steps.{Event, onto, step}
+use Rattle.mega_leases.specs.Opening.{AreOwed}
 use Rattle.mega_voter.specs.Faring.{LogFares}
 use Rattle.mega_voter.specs.Holding.{HoldsMet}
 use Rattle.mega_node_laws.specs.Acted.{own_item}
@@ -36,11 +36,13 @@ HoldsCutStart starts met found left = HoldsMet found (if is_kept left then start
 abbrev pub MayLeaveStart : ℕ → List Met → List (List ℕ) → Type 0
 MayLeaveStart starts met found = (left : Left) × HoldsCutStart starts met found left
 
--- what is handed back of a step that was cut off is what the next start owes, where its record was kept
-abbrev pub IsOwedBy : RuleStep → List Message → UpFault → Type 0
-IsOwedBy made replies (up.Step fault) = Unit {0}
-IsOwedBy made replies (up.Cut cut) = owed_by cut ≡ owes made replies
-IsOwedBy made replies (up.Log fault) = fault ≢ DiskFault
+-- what is handed back of a step that was cut off is what the next start owes, where its record was kept, and it may be owed
+abbrev pub IsOwedBy : Setting → RuleNode → Event → UpFault → Type 0
+IsOwedBy s node event (up.Step fault) = Unit {0}
+IsOwedBy s node event (up.Cut cut) =
+    (owed_by cut ≡ owes (step s node event) (replies_in s.cluster s.me node.met event))
+    × AreOwed (owes (step s node event) (replies_in s.cluster s.me node.met event)) (Crashes ∷ own_item s node event ∷ node.met)
+IsOwedBy s node event (up.Log fault) = fault ≢ DiskFault
 
 -- it is taken from what the step gives, of which so many messages are replies; nothing else comes of the log here
 abbrev pub IsTakenFrom : Step → ℕ → UpFault → Type 0

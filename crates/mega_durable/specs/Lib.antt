@@ -1,3 +1,4 @@
+pub mod Granted
 pub mod Standing
 pub mod Replying
 pub mod Cut

@@ -19,6 +19,7 @@ use Rattle.mega_actions.specs.Stands.{setting}
 use Rattle.mega_core.specs.declared.node.Node.{Node}
 use Rattle.mega_core.specs.Placed.{IsPlaced}
 use Rattle.mega_core.specs.Standing.{StandsFor}
+use Rattle.mega_durable.specs.Granted.{KeepsGrants}
 
 -- the records of a node, and its setting
 abbrev pub records_in : {R V : Type 0} → Node R V → R
@@ -27,12 +28,14 @@ records_in one = one.replica.voter.logs.records
 abbrev pub setting_of : {R V : Type 0} → Node R V → Meanings → Setting
 setting_of one h = setting one.replica.members one.replica.me h
 
--- a node that is up: it stands for that of the rules, nothing is staged, its records are open, and they hold what the node met
+-- a node that is up: it stands for that of the rules, nothing is staged, its records are open, and they hold what the node met; and its lock
+-- cell keeps what was granted last
 pub record IsUp {R V : Type 0} (store : Ghosts R) (version : V → Versions) (h : Meanings) (one : Node R V) (node : RuleNode) : Type 0 where
   pub stands : StandsFor version h one node
   pub empty : one.replica.voter.logs.staged.items ≡ []
   pub ready : store.is_spent (records_in one) ≡ false
   pub holds : HoldsMet (store.list (records_in one)) (start_of node.met) node.met
+  pub granted : KeepsGrants one.replica.members one.replica.me node.met
 
 -- a decision that a message brings is at a position from 1 on
 abbrev pub IsPlacedAt : Setting → RuleNode → Event → Type 0

@@ -12,6 +12,7 @@ use Rattle.mega_voter.specs.Journal.{journal_of}
 use Rattle.mega_core.specs.declared.node.Node.{Node}
 use Rattle.mega_core.specs.Staging.{Stages}
 use Rattle.mega_core.specs.Standing.{StandsFor}
+use Rattle.mega_durable.specs.Granted.{KeepsGrants}
 use Rattle.mega_durable.specs.Standing.{IsUp, MayHappen, records_in, setting_of}
 
 -- of each node of the rules under which a node is up, and at which the event may happen
@@ -31,6 +32,7 @@ pub record HasStepped {R V : Type 0} (store : Ghosts R) (version : V → Version
   pub same : records_in one ≡ was
   pub ready : store.is_spent was ≡ false
   pub holds : HoldsMet (store.list was) (start_of node.met) node.met
+  pub granted : KeepsGrants one.replica.members one.replica.me (step s node event).node.met
 
 -- of each such step that the node took
 abbrev pub AtStep : {R V : Type 0} → Ghosts R → (V → Versions) → Node R V → (Meanings → Setting → RuleNode → Event → R → Type 0) → Type 0

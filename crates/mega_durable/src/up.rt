@@ -10,7 +10,7 @@ ghost use Rattle.mega_replica.specs.Faring.{Fares};
 ghost use Rattle.mega_actions.specs.Built.{is_built};
 ghost use Rattle.mega_core.specs.declared.fault.StepFault.TheVariants.{Late, Stranger, Unbuilt};
 ghost use Rattle.mega_core.specs.Notes.{met_of};
-ghost use Rattle.mega_promises.specs.Runs.{appends, replies_in};
+ghost use Rattle.mega_promises.specs.Runs.{appends};
 ghost use Rattle.mega_durable.specs.declared.fault.UpFault.TheVariants.{Step as Failed};
 ghost use Rattle.mega_durable.specs.Cut.{IsOwedBy, LogWent, MayLeave, failed_by, log_failed_by};
 ghost use Rattle.mega_durable.specs.Standing.{IsUp, records_in};
@@ -45,7 +45,7 @@ impl<R: Records, V: Versions> Up<R, V> {
         // A crash at any moment of the step leaves what the run's step leaves that is cut off.
         ensures cut { R.is_told ≡ true → AtEach R.Records V.version self.old.node (Take message.now) (λ h s node. LeavesOnly R.moment R.opened_since (records_in self.old.node) (records_in self.new.node) (MayLeave s node (Take message.now))) }
 
-        ensures owed { IfErr result (λ refused. AtEach R.Records V.version self.old.node (Take message.now) (λ h s node. IsOwedBy (step s node (Take message.now)) (replies_in s.cluster s.me node.met (Take message.now)) refused)) }
+        ensures owed { IfErr result (λ refused. AtEach R.Records V.version self.old.node (Take message.now) (λ h s node. IsOwedBy s node (Take message.now) refused)) }
 
         ensures built { result ≢ Err (Failed Unbuilt) }
         ensures stranger { result ≡ Err (Failed Stranger) → IsByStranger message.now.from message.now.body }
@@ -77,7 +77,7 @@ impl<R: Records, V: Versions> Up<R, V> {
         // A crash at any moment of the step leaves what the run's step leaves that is cut off.
         ensures cut { R.is_told ≡ true → AtEach R.Records V.version self.old.node (Begin request text.now) (λ h s node. LeavesOnly R.moment R.opened_since (records_in self.old.node) (records_in self.new.node) (MayLeave s node (Begin request text.now))) }
 
-        ensures owed { IfErr result (λ refused. AtEach R.Records V.version self.old.node (Begin request text.now) (λ h s node. IsOwedBy (step s node (Begin request text.now)) (replies_in s.cluster s.me node.met (Begin request text.now)) refused)) }
+        ensures owed { IfErr result (λ refused. AtEach R.Records V.version self.old.node (Begin request text.now) (λ h s node. IsOwedBy s node (Begin request text.now) refused)) }
 
         ensures unbuilt { result ≡ Err (Failed Unbuilt) → is_built request ≡ false }
         ensures stranger { result ≢ Err (Failed Stranger) }
@@ -107,7 +107,7 @@ impl<R: Records, V: Versions> Up<R, V> {
         // A crash at any moment of the step leaves what the run's step leaves that is cut off.
         ensures cut { R.is_told ≡ true → AtEach R.Records V.version self.old.node (Tick now) (λ h s node. LeavesOnly R.moment R.opened_since (records_in self.old.node) (records_in self.new.node) (MayLeave s node (Tick now))) }
 
-        ensures owed { IfErr result (λ refused. AtEach R.Records V.version self.old.node (Tick now) (λ h s node. IsOwedBy (step s node (Tick now)) (replies_in s.cluster s.me node.met (Tick now)) refused)) }
+        ensures owed { IfErr result (λ refused. AtEach R.Records V.version self.old.node (Tick now) (λ h s node. IsOwedBy s node (Tick now) refused)) }
 
         ensures built { result ≢ Err (Failed Unbuilt) }
         ensures stranger { result ≢ Err (Failed Stranger) }

@@ -37,6 +37,7 @@ returns-in-Ok-clause-state g c = λ seen h s node event was stepped.
       ready = c.in-Ok.ensures.still_open ∙ (ap g.R.Records.is_spent stepped.same ∙ stepped.ready);
       holds = step_holds s node event staged (g.R.Records.list c.flush.new.self.logs.records) stepped.stages
           (c.in-Ok.ensures.holds seen (start_of node.met) node.met (step s node event).node.met before (step_goes s node event staged stepped.stages stepped.stands.tells.honest));
+      granted = stepped.granted;
     }
 
 pub returns-in-Ok-clause-appended : goal.returns-in-Ok-clause-appended

@@ -11,8 +11,10 @@ use Rattle.mega_core.specs.declared.note.Note.{Note}
 use Rattle.mega_core.specs.Notes.{met_of}
 use Rattle.mega_core.proofs.Anew.{owed_no_start}
 use Rattle.mega_durable.specs.Cut.{LogWent, MayLeaveStart}
+use Rattle.mega_durable.specs.Granted.{KeepsGrants}
 use Rattle.mega_durable.specs.Standing.{records_in}
 use Rattle.mega_durable.proofs.AtStart.{started_holds}
+use Rattle.mega_durable.proofs.Owing.{start_keeps}
 use Rattle.mega_durable.proofs.up.Up.start.Goals as goal
 
 pub kept-requires : goal.kept-requires
@@ -30,6 +32,7 @@ returns-in-Ok-in-Ok-clause-state g c = λ seen h starts met owed may none.
       ready = c.in-Ok-in-Ok.ensures.ready ∙ (ap g.R.Records.is_spent c.in-Ok.ensures.records ∙ may.ready);
       holds = started_holds s starts met owed _ are few
           (c.in-Ok-in-Ok.ensures.holds seen starts (onto owed met) (onto owed (Starts (starts + 1) ∷ met)) before (start_goes_on starts met owed are few may.recalls.later may.recalls.honest).0);
+      granted = coe 0 1 (i. KeepsGrants (sym (c.in-Ok-in-Ok.ensures.members ∙ c.in-Ok.ensures.members) i) (sym (c.in-Ok-in-Ok.ensures.me ∙ c.in-Ok.ensures.me) i) (start s (starts + 1) owed met).met) (start_keeps s (starts + 1) met owed may.owes);
     }
 
 pub returns-in-Ok-in-Ok-clause-notes : goal.returns-in-Ok-in-Ok-clause-notes

@@ -19,7 +19,7 @@ keep-requires g c =
     let up = c.requires.known.1.1.1 in
     let may = c.requires.known.1.1.2 in
     let old = c.args.self.now.node in
-    (h, (setting_of old h, (node, (Take c.args.message.now, (records_in old, stepped_now g.R.Records g.V.Versions.version h old c.take.new.self node (Take c.args.message.now) up may (c.in-Ok.ensures.state told h node) (c.in-Ok.ensures.staged told h node node.met) c.in-Ok.ensures.records)))))
+    (h, (setting_of old h, (node, (Take c.args.message.now, (records_in old, stepped_now g.R.Records g.V.Versions.version h old c.take.new.self node (Take c.args.message.now) up may (c.in-Ok.ensures.state told h node) (c.in-Ok.ensures.staged told h node node.met) c.in-Ok.ensures.records c.in-Ok.ensures.members c.in-Ok.ensures.me)))))
 
 pub returns-in-Ok-in-Ok-clause-notes : goal.returns-in-Ok-in-Ok-clause-notes
 returns-in-Ok-in-Ok-clause-notes g c = λ h node up may.
@@ -33,28 +33,28 @@ pub returns-in-Ok-in-Ok-clause-state : goal.returns-in-Ok-in-Ok-clause-state
 returns-in-Ok-in-Ok-clause-state g c = λ seen h node up may.
     let told = c.requires.known.0 in
     let old = c.args.self.now.node in
-    let stepped = stepped_now g.R.Records g.V.Versions.version h old c.take.new.self node (Take c.args.message.now) up may (c.in-Ok.ensures.state told h node) (c.in-Ok.ensures.staged told h node node.met) c.in-Ok.ensures.records in
+    let stepped = stepped_now g.R.Records g.V.Versions.version h old c.take.new.self node (Take c.args.message.now) up may (c.in-Ok.ensures.state told h node) (c.in-Ok.ensures.staged told h node node.met) c.in-Ok.ensures.records c.in-Ok.ensures.members c.in-Ok.ensures.me in
     c.in-Ok-in-Ok.ensures.state seen h (setting_of old h) node (Take c.args.message.now) (records_in old) stepped
 
 pub returns-in-Ok-in-Ok-clause-appended : goal.returns-in-Ok-in-Ok-clause-appended
 returns-in-Ok-in-Ok-clause-appended g c = λ h node up may.
     let told = c.requires.known.0 in
     let old = c.args.self.now.node in
-    let stepped = stepped_now g.R.Records g.V.Versions.version h old c.take.new.self node (Take c.args.message.now) up may (c.in-Ok.ensures.state told h node) (c.in-Ok.ensures.staged told h node node.met) c.in-Ok.ensures.records in
+    let stepped = stepped_now g.R.Records g.V.Versions.version h old c.take.new.self node (Take c.args.message.now) up may (c.in-Ok.ensures.state told h node) (c.in-Ok.ensures.staged told h node node.met) c.in-Ok.ensures.records c.in-Ok.ensures.members c.in-Ok.ensures.me in
     c.in-Ok-in-Ok.ensures.appended h (setting_of old h) node (Take c.args.message.now) (records_in old) stepped
 
 pub returns-in-Ok-in-Ok-clause-cut : goal.returns-in-Ok-in-Ok-clause-cut
 returns-in-Ok-in-Ok-clause-cut g c = λ seen h node up may.
     let told = c.requires.known.0 in
     let old = c.args.self.now.node in
-    let stepped = stepped_now g.R.Records g.V.Versions.version h old c.take.new.self node (Take c.args.message.now) up may (c.in-Ok.ensures.state told h node) (c.in-Ok.ensures.staged told h node node.met) c.in-Ok.ensures.records in
+    let stepped = stepped_now g.R.Records g.V.Versions.version h old c.take.new.self node (Take c.args.message.now) up may (c.in-Ok.ensures.state told h node) (c.in-Ok.ensures.staged told h node node.met) c.in-Ok.ensures.records c.in-Ok.ensures.members c.in-Ok.ensures.me in
     c.in-Ok-in-Ok.ensures.cut seen h (setting_of old h) node (Take c.args.message.now) (records_in old) stepped
 
 pub returns-in-Ok-in-Err-clause-cut : goal.returns-in-Ok-in-Err-clause-cut
 returns-in-Ok-in-Err-clause-cut g c = λ seen h node up may.
     let told = c.requires.known.0 in
     let old = c.args.self.now.node in
-    let stepped = stepped_now g.R.Records g.V.Versions.version h old c.take.new.self node (Take c.args.message.now) up may (c.in-Ok.ensures.state told h node) (c.in-Ok.ensures.staged told h node node.met) c.in-Ok.ensures.records in
+    let stepped = stepped_now g.R.Records g.V.Versions.version h old c.take.new.self node (Take c.args.message.now) up may (c.in-Ok.ensures.state told h node) (c.in-Ok.ensures.staged told h node node.met) c.in-Ok.ensures.records c.in-Ok.ensures.members c.in-Ok.ensures.me in
     c.in-Ok-in-Err.ensures.cut seen h (setting_of old h) node (Take c.args.message.now) (records_in old) stepped
 
 pub returns-in-Err-clause-cut : goal.returns-in-Err-clause-cut
