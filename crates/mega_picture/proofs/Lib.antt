@@ -1,0 +1,9 @@
+pub mod Banding
+pub mod Drawing
+pub mod Ending
+pub mod Escaping
+pub mod Flawing
+pub mod Indexing
+pub mod Numbering
+pub mod Paging
+pub mod Quoting

@@ -1,0 +1,25 @@
+//! A picture of a run: the items of a transcript as one page of SVG, time downwards, a lane for each node.
+#![tactic(auto)]
+
+mod arrow_names;
+mod arrow_texts;
+mod arrows;
+mod bands;
+mod drawable;
+mod escape;
+mod groups;
+mod journeys;
+mod kinds;
+mod labels;
+mod mark_texts;
+mod marks;
+mod page;
+mod page_notes;
+mod sheet;
+mod style;
+mod told;
+mod validity;
+
+pub use drawable::{Flaw, flaw_of};
+pub use page::put_page;
+pub use told::{MOST, Told};

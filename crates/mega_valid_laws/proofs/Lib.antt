@@ -1,0 +1,4 @@
+pub mod Orders
+pub mod Epochs
+pub mod Joint
+pub mod Decided
