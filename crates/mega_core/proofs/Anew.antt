@@ -3,6 +3,7 @@ use Rattle.std.proofs.Common.{◌≡◌, ℕ, ◌+◌, ◌==◌, ◌<◌, ◌≤
 use Rattle.std.specs.List.{All, list_all}
 use Rattle.std.specs.Prelude.{take, sum_by}
 use Rattle.std.proofs.lemmas.List.{append_assoc, length-append, take_all}
+use Rattle.std.proofs.lemmas.List.Sums.{sum_by-cons}
 use Rattle.std.proofs.lemmas.List.Elements.{All-append, All-cons, All-head, All-nil, All-tail, All-weaker}
 use Rattle.mega_base.specs.declared.names.GroupId.{GroupId}
 use Rattle.mega_cluster.specs.declared.cluster.Cluster.{Cluster}
@@ -10,8 +11,10 @@ use Rattle.mega_disk.specs.VersionMaps.{Versions}
 use Rattle.mega_entry.specs.declared.content.Content.{Content}
 use Rattle.mega_handler.specs.Named.{Meanings}
 use Rattle.mega_wal.specs.declared.item.JournalItem.{JournalItem}
+use Rattle.mega_wal.specs.declared.item.JournalItem.TheVariants.{Start as StartItem}
 use Rattle.mega_wal.specs.declared.kept.Kept.{Kept}
-use Rattle.mega_wal.specs.History.{after_grant, after_lapse}
+use Rattle.mega_wal.specs.History.{after_grant, after_lapse, granted_of}
+use Rattle.mega_wal.specs.Kept.{slot_of}
 use Rattle.mega_wal.specs.Same.{same_group}
 use Rattle.mega_wal.proofs.Greatest.{marks_same}
 use Rattle.mega_wal.proofs.Sames.{same_group_equal}
@@ -29,11 +32,11 @@ use Rattle.mega_rules.specs.Members.{has_rows, is_node}
 use Rattle.mega_rules.specs.Met.{Met, Applies, Begins, Decides, Grants, Lapses, Starts, Unsends}
 use Rattle.mega_rules.specs.Operations.{Setting}
 use Rattle.mega_rules.specs.Steps.{apply_all, onto, start, start_items, start_note, start_notes}
-use Rattle.mega_voter.specs.Holding.{Agrees, Recalls, is_no_start}
-use Rattle.mega_voter.specs.Journal.{journal_of}
+use Rattle.mega_voter.specs.Holding.{Agrees, GoesOn, Recalls, is_no_start}
+use Rattle.mega_voter.specs.Journal.{journal_of, without_starts}
 use Rattle.mega_voter.specs.Telling.{Tells}
 use Rattle.mega_voter.proofs.Begun.{start_goes_on}
-use Rattle.mega_voter.proofs.Holding.{agree_without}
+use Rattle.mega_voter.proofs.Opened.{granted_without, slots_without}
 use Rattle.mega_node_laws.specs.About.{IsAbout}
 use Rattle.mega_node_laws.proofs.Ending.{onto_append}
 use Rattle.mega_node_laws.proofs.Logs.{log_after, log_is}
@@ -94,7 +97,8 @@ grant_on (item ∷ owed) one two node same = grant_on owed (item ∷ one) (item 
 
 all_written : (log : List Content) → sum_by (λ (entry : Content). length entry.writes) log ≡ length (writes_of log)
 all_written [] = refl
-all_written (entry ∷ log) = ap (λ n. length entry.writes + n) (all_written log) ∙ sym (length-append entry.writes (writes_of log))
+all_written (entry ∷ log) =
+    sum_by-cons (λ (entry : Content). length entry.writes) entry log ∙ (ap (λ n. length entry.writes + n) (all_written log) ∙ sym (length-append entry.writes (writes_of log)))
 
 pub read_all : (met : List Met) (group : GroupId) (count : ℕ) → after_read (prefix_of met group) (log_of met group) count ≡ max count (apply_all met group)
 read_all met group count =
@@ -161,6 +165,12 @@ notes_quiet s met = by (has_rows s.cluster s.me)
 
 -- ---- the start beside what was met before it
 
+agree_without : (one two : List JournalItem) → without_starts one ≡ without_starts two → Agrees one two
+agree_without one two same = record {
+  slots = λ group n. slots_without one group n ∙ (ap (λ rest. slot_of rest group n) same ∙ sym (slots_without two group n));
+  granted = λ node. granted_without one node ∙ (ap (λ rest. granted_of rest node) same ∙ sym (granted_without two node));
+}
+
 log_in_same : (one two : List JournalItem) → Agrees one two → (group : GroupId) → log_in one group ≡ log_in two group
 log_in_same one two same group = λ i. entries_from (λ n. (same.slots group n i).decided) ((marks_same one two same.slots group i).prefix) 1
 
@@ -171,6 +181,7 @@ logs_beside kept starts met owed are few recalls group =
     ∙ (log_in_same (journal_of (onto owed (Starts (starts + 1) ∷ met))) (journal_of (onto owed met)) (agree_without (journal_of (onto owed (Starts (starts + 1) ∷ met))) (journal_of (onto owed met)) goes.journal) group
     ∙ sym (log_is (onto owed met) group))
   where
+    goes : GoesOn (StartItem ∷ []) starts (onto owed met) (onto owed (Starts (starts + 1) ∷ met))
     goes = (start_goes_on starts met owed are few recalls.later recalls.honest).0
 
 -- ---- the node is that of the rules

@@ -1,6 +1,6 @@
 -- What is staged, one thing that is met after another.
 use Rattle.std.proofs.Common.{◌≡◌, ℕ, List, [], ◌∷◌, ◌++◌, map, append-nil, Option, Some, None, refl, sym, ap, subst, ◌∙◌}
-use Rattle.std.specs.Prelude.{reverse, option_to_list}
+use Rattle.std.specs.Prelude.{reverse, option_to_list, Result, Ok, Err, OnOk}
 use Rattle.std.specs.List.{All, cons_option}
 use Rattle.std.proofs.lemmas.List.{reverse-append}
 use Rattle.std.proofs.lemmas.List.Elements.{All-head, All-tail, All-weaker}
@@ -23,6 +23,11 @@ use Rattle.mega_leases.specs.declared.note.Note.TheVariants as note
 use Rattle.mega_leases.specs.Notes.{met_of}
 use Rattle.mega_core.specs.Staging.{Stages}
 use Rattle.mega_core.proofs.Silent.{IsMute}
+
+-- a fact of what a call leaves at Ok leads to another
+pub on_ok : {T E X Y : Type 0} (result : Result T E) → OnOk result X → (X → Y) → OnOk result Y
+on_ok (Ok made) x f = f x
+on_ok (Err fault) x f = tt
 
 -- ---- an item more
 without_append : (items more : List JournalItem) → without_starts (items ++ more) ≡ without_starts items ++ without_starts more

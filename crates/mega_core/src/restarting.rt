@@ -195,7 +195,8 @@ fn apply_where_kept<R: Records, V: Versions>(
     ensures notes { IfOk result (λ notes. (h : Meanings) (met : List Met) → Tells voter.now.logs.kept met → map met_of notes ≡ start_notes (setting cluster.now me h) met) }
 {
     if has_rows(cluster, me) {
-        return apply_all(alloc, voter, rows);
+        let notes = apply_all(alloc, voter, rows)?;
+        return Ok(notes);
     }
     Ok(Items::new(alloc))
 }

@@ -19,6 +19,7 @@ use Rattle.mega_leases.specs.Opening.{AreOwed}
 use Rattle.mega_node_laws.specs.Acted.{acted_on, own_item}
 use Rattle.mega_node_laws.specs.Own.{HasOwnRows}
 use Rattle.mega_core.specs.declared.node.Node.{Node}
+use Rattle.mega_core.specs.declared.note.Note.{Note}
 use Rattle.mega_core.specs.declared.step.Step.{Step}
 use Rattle.mega_core.specs.Notes.{met_of}
 use Rattle.mega_core.specs.Staging.{Stages}
@@ -85,6 +86,16 @@ replies_once c me met from (Granted cell epoch clock) = refl
 replies_once c me met from (Past cell epoch greatest) = refl
 replies_once c me met from (Request token json) = refl
 replies_once c me met from (Reply token text) = refl
+
+-- ---- the notes that are kept on the log
+pub kept_notes : (notes : List Note) → map met_of (filter (λ note. is_durable (met_of note)) notes) ≡ filter is_durable (map met_of notes)
+kept_notes [] = refl
+kept_notes (note ∷ notes) = by (is_durable (met_of note)) (kept_notes notes)
+  where
+    by : (test : Bool) → map met_of (filter (λ note. is_durable (met_of note)) notes) ≡ filter is_durable (map met_of notes)
+        → map met_of (cond test (note ∷ filter (λ note. is_durable (met_of note)) notes) (filter (λ note. is_durable (met_of note)) notes)) ≡ cond test (met_of note ∷ filter is_durable (map met_of notes)) (filter is_durable (map met_of notes))
+    by true rest = ap (λ (items : List Met). met_of note ∷ items) rest
+    by false rest = rest
 
 -- ---- what is handed back of a step that is cut off
 pub owed_is : (s : Setting) (node : RuleNode) (event : Event) (made : Step) (cut : Cut) (count : ℕ) → map met_of made.notes ≡ (step s node event).notes → made.sends ≡ (step s node event).sends

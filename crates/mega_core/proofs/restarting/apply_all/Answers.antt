@@ -16,7 +16,7 @@ loop-group-init g c = record {
   all = λ met tells follows.
       subst (AppliedSo (g.V.Versions.version c.args.rows.now.rows) (progress_at c.args.rows.now.progress) met) (sym (c.into_iter-group-iterator.ensures.into_iter_gives.0 ∙ c.in_ok-groups.ensures met tells))
       (applied_first (g.V.Versions.version c.args.rows.now.rows) (progress_at c.args.rows.now.progress) met follows);
-  notes = λ met tells. ap (flat_map (start_note met)) (c.into_iter-group-iterator.ensures.into_iter_gives.0 ∙ c.in_ok-groups.ensures met tells);
+  notes = λ met tells. (λ i. map met_of (c.new-notes.ensures i) ++ flat_map (start_note met) ((c.into_iter-group-iterator.ensures.into_iter_gives.0 ∙ c.in_ok-groups.ensures met tells) i));
 }
 
 pub loop-group-preserved : goal.loop-group-preserved
@@ -24,7 +24,7 @@ loop-group-preserved g c = record {
   count = one_less (into_iter_items c.loop-group.group-iterator) (into_iter_items c.next.new.self) c.in-Some.group (into_iter_len c.loop-group.group-iterator) (into_iter_len c.next.new.self) c.loop-group.invariant.count c.in-Some.ensures.steps.0 c.in-Some.ensures.steps.1;
   all = λ met tells follows.
       let old = c.loop-group.rows in
-      let new = c.apply-position.new.rows in
+      let new = c.apply.new.rows in
       applied_next (g.V.Versions.version old.rows) (progress_at old.progress) (g.V.Versions.version new.rows) (progress_at new.progress) met c.in-Some.group (into_iter_items c.next.new.self)
       (λ counts. c.in_ok-position.ensures.follows met counts tells)
       (subst (AppliedSo (g.V.Versions.version old.rows) (progress_at old.progress) met) c.in-Some.ensures.steps.0 (c.loop-group.invariant.all met tells follows));

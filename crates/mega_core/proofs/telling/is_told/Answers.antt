@@ -1,8 +1,15 @@
-use Rattle.std.proofs.Common.{◌∙◌, Bool, cond, None, ap}
+use Rattle.std.proofs.Common.{◌∙◌, ◌∷◌, Bool, cond, List, None, ap, map, refl, subst}
 use Rattle.mega_cluster.specs.declared.cluster.Cluster.{Cluster}
 use Rattle.mega_rules.specs.Members.{is_voter}
+use Rattle.mega_rules.specs.Met.{Met, Takes}
 use Rattle.mega_rules.specs.Replies.{reply_message}
+use Rattle.mega_rules.specs.Steps.{onto}
+use Rattle.mega_leases.specs.declared.note.Note.{Note}
+use Rattle.mega_leases.specs.Notes.{met_of}
+use Rattle.mega_actions.specs.Stands.{setting}
+use Rattle.mega_core.specs.Staging.{Stages}
 use Rattle.mega_core.specs.Taking.{or_reply, vote_reply}
+use Rattle.mega_core.proofs.Staged.{silent_staged}
 use Rattle.mega_core.proofs.Replied.{replied}
 use Rattle.mega_core.proofs.telling.is_told.Goals as goal
 
@@ -14,3 +21,10 @@ returns-clause-sends g c = λ met tells leased.
     let mine = c.in_ok-mine.ensures met tells ∙ ap (λ (t : Bool). cond t (vote_reply met m.body) None) votes in
     let told = c.in_ok-told.ensures.reply r.members r.me met leased in
     c.in_ok-sends.ensures ∙ ap (reply_message r.me m.from) ((λ i. or_reply (mine i) (told i)) ∙ replied r.members r.me met m.from m.body)
+
+pub returns-clause-staged : goal.returns-clause-staged
+returns-clause-staged g c = λ h before met leased stages.
+    let r = c.args.replica.now in
+    let m = c.args.message.now in
+    subst (λ (notes : List Met). Stages c.keep_notes.new.voter.logs.staged.items before (onto notes (Takes m ∷ met))) (ap (λ (notes : List Note). map met_of notes) c.as_slice.ensures ∙ c.in_ok-told.ensures.notes (setting r.members r.me h) met leased)
+    (c.in_ok-keep_notes.ensures.staged before (Takes m ∷ met) (silent_staged r.voter.logs.staged.items before met (Takes m) refl stages))

@@ -16,10 +16,10 @@ pub returns-clause-state : goal.returns-clause-state
 returns-clause-state g c = λ h starts met owed are recalls none.
     let cluster = c.args.cluster in
     let me = c.args.me in
-    let kept = c.begins-start.new.voter.logs.kept in
+    let kept = c.begins.new.voter.logs.kept in
     let leases = c.leases-leases.result in
-    let version = g.V.Versions.version c.apply_where_kept-notes.new.rows.rows in
-    let progress = progress_at c.apply_where_kept-notes.new.rows.progress in
+    let version = g.V.Versions.version c.apply_where_kept.new.rows.rows in
+    let progress = progress_at c.apply_where_kept.new.rows.progress in
     let members_is : c.in_ok-members.members ≡ cluster = c.in_ok-members.ensures in
     let now = onto owed (Starts (starts + 1) ∷ met) in
     let tells = c.in_ok-start.ensures.told starts met owed are recalls in
