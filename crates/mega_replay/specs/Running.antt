@@ -21,7 +21,7 @@ use Rattle.mega_line_laws.specs.Meanings.{meaning_in}
 
 -- no fuse is set, so nothing is cut
 abbrev pub uncut : Cuts
-uncut tape = Whole
+uncut now me calls = Whole
 
 -- how a cluster stands after these events: its nodes as the header has them, and each event on what those before it left
 abbrev pub stood : Cluster → List Happening → Standing

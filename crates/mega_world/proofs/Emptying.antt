@@ -82,12 +82,12 @@ whole_owned c h now me own event owned other = by (me == other) refl (owned othe
 handed_owned : (c : Cluster) (h : Meanings) (cuts : Cuts) (now : Standing) (number : ℕ) (message : Option Message) → HasNoFuses now → AreOwned c (handed c h cuts now number message) → AreOwned c now
 handed_owned c h cuts now number None none owned = owned
 handed_owned c h cuts now number (Some message) none owned =
-    whole_owned c h now message.to (Taken number ∷ []) (Take message) (subst (AreOwned c) (steps_whole c h now message.to (Taken number ∷ []) (Take message) (cuts now.tape) none) owned)
+    whole_owned c h now message.to (Taken number ∷ []) (Take message) (subst (AreOwned c) (steps_whole c h now message.to (Taken number ∷ []) (Take message) (cuts now message.to) none) owned)
 
 handed_unfused : (c : Cluster) (h : Meanings) (cuts : Cuts) (now : Standing) (number : ℕ) (message : Option Message) → HasNoFuses now → HasNoFuses (handed c h cuts now number message)
 handed_unfused c h cuts now number None none = none
 handed_unfused c h cuts now number (Some message) none =
-    subst HasNoFuses (sym (steps_whole c h now message.to (Taken number ∷ []) (Take message) (cuts now.tape) none))
+    subst HasNoFuses (sym (steps_whole c h now message.to (Taken number ∷ []) (Take message) (cuts now message.to) none))
     (still_unfused c now message.to (Taken number ∷ []) (step (setting c h message.to) (now.node message.to) (Take message)) none)
 
 cut_owned : (c : Cluster) (now : Standing) (next : Option ℕ) → AreOwned c (unless_none now (λ number. marked now Cut) next) → AreOwned c now

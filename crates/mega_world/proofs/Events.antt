@@ -21,7 +21,7 @@ use Rattle.mega_world.proofs.Plain.{steps_whole, with_step}
 -- a delivery is a whole step of the receiver
 pub delivers : (c : Cluster) (h : Meanings) (cuts : Cuts) (now : Standing) (number : ℕ) (message : Message) → HasNoFuses now → message_of now.tape number ≡ Some message
     → after_event c h cuts now (Deliver number) ≡ whole_step c now message.to (Taken number ∷ []) (step (setting c h message.to) (now.node message.to) (Take message))
-delivers c h cuts now number message none is = ap (handed c h cuts now number) is ∙ steps_whole c h now message.to (Taken number ∷ []) (Take message) (cuts now.tape) none
+delivers c h cuts now number message none is = ap (handed c h cuts now number) is ∙ steps_whole c h now message.to (Taken number ∷ []) (Take message) (cuts now message.to) none
 
 -- what a whole step shows, oldest first in three pieces: the event's own items, the notes, and the messages with the next numbers
 pub step_shows : (c : Cluster) (now : Standing) (me : ℕ) (own : List Item) (made : Step) → ((node : ℕ → Node) (t : List Item) → with_items c node t own ≡ onto own t)
@@ -33,7 +33,7 @@ pub begins : (c : Cluster) (h : Meanings) (cuts : Cuts) (now : Standing) (node :
     → after_event c h cuts now (BeginEvent node request text)
     ≡ whole_step c now node.0 (shown node.0 (Begins (op_of (setting c h node.0) (now.node node.0).met) text)) (step (setting c h node.0) (now.node node.0) (Begin request text))
 begins c h cuts now node request text none =
-    steps_whole c h now node.0 (shown node.0 (Begins (op_of (setting c h node.0) (now.node node.0).met) text)) (Begin request text) (cuts now.tape) none
+    steps_whole c h now node.0 (shown node.0 (Begins (op_of (setting c h node.0) (now.node node.0).met) text)) (Begin request text) (cuts now node.0) none
 
 -- a drain goes on with the next message, or is over
 pub drains_on : (c : Cluster) (h : Meanings) (cuts : Cuts) (now : Standing) (number most : ℕ) → next_delivery (up now) now.tape ≡ Some number

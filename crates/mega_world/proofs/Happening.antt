@@ -319,7 +319,7 @@ begun_lined c h cuts now node request text op old mid items here after made r so
 
 pub ticks : (c : Cluster) (h : Meanings) (cuts : Cuts) (now : Standing) (node : NodeId) (clock : ℕ) → HasNoFuses now
     → after_event c h cuts now (TickEvent node clock) ≡ whole_step c now node.0 (TickItem (number node.0) clock ∷ []) (step (setting c h node.0) (now.node node.0) (Tick clock))
-ticks c h cuts now node clock none = steps_whole c h now node.0 (TickItem (number node.0) clock ∷ []) (Tick clock) (cuts now.tape) none
+ticks c h cuts now node clock none = steps_whole c h now node.0 (TickItem (number node.0) clock ∷ []) (Tick clock) (cuts now node.0) none
 
 ticked_own : (c : Cluster) (me clock : ℕ) → AreOwn c (TickItem (number me) clock ∷ [])
 ticked_own c me clock = record {

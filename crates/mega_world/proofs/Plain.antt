@@ -44,11 +44,11 @@ is_whole now me calls cut none =
     by (CutByLog left) = ap (λ t. cond t (CutByLog AsItWas) Whole) (never calls.appends)
     by (CutByData left) = ap (λ t. cond t (CutByLog AsItWas) Whole) (never calls.appends)
 
-pub steps_whole : (c : Cluster) (h : Meanings) (now : Standing) (me : ℕ) (own : List Item) (event : Event) (cut : Fate) → HasNoFuses now
+pub steps_whole : (c : Cluster) (h : Meanings) (now : Standing) (me : ℕ) (own : List Item) (event : Event) (cut : Calls → Fate) → HasNoFuses now
     → at_node c h now me own event cut ≡ whole_step c now me own (step (setting c h me) (now.node me) event)
 steps_whole c h now me own event cut none =
     ap (fated c now me own (met_in (setting c h me) (now.node me).met event) (step (setting c h me) (now.node me) event) (replies_in c me (now.node me).met event))
-    (is_whole now me (calls_of c h now me event (step (setting c h me) (now.node me) event)) cut none)
+    (is_whole now me (calls_of c h now me event (step (setting c h me) (now.node me) event)) (cut (calls_of c h now me event (step (setting c h me) (now.node me) event))) none)
 
 -- and none is set afterwards
 pub still_unfused : (c : Cluster) (now : Standing) (me : ℕ) (own : List Item) (made : Step) → HasNoFuses now → HasNoFuses (whole_step c now me own made)
