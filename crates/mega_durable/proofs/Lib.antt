@@ -7,3 +7,5 @@ pub mod AtStart
 pub mod Granting
 pub mod Owing
 pub mod Stepping
+pub mod Burning
+pub mod Refusing

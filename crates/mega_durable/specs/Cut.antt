@@ -1,9 +1,10 @@
 -- What a step or a start leaves that is cut off, and what the log's fuse makes of a call.
-use Rattle.std.specs.Prelude.{◌≡◌, ◌≢◌, ℕ, ◌+◌, if◌then◌else◌, List, [], ◌∷◌, filter, map, take, Result, Ok, Err, Option, Some, None}
+use Rattle.std.specs.Prelude.{◌≡◌, ◌≢◌, ℕ, ◌+◌, ◌&&◌, Bool, true, false, if◌then◌else◌, List, [], ◌∷◌, filter, map, take, Result, Ok, Err, Option, Some, None}
 use Rattle.mega_disk.specs.declared.records.Records.{Ghosts}
+use Rattle.mega_disk.specs.Fuse.{Unset, after_append, is_short, keeps_record}
 use Rattle.mega_disk.specs.declared.versions.StoreError.{StoreError}
 use Rattle.mega_wal.specs.declared.answers.LogFault.{LogFault}
-use Rattle.mega_wal.specs.declared.answers.LogFault.TheVariants.{DiskFault}
+use Rattle.mega_wal.specs.declared.answers.LogFault.TheVariants.{BadRecord, DiskFault, Full, NoMemory, Spent}
 use Rattle.mega_rules.specs.Clock.{start_of}
 use Rattle.mega_rules.specs.Met.{Met, Crashes}
 use Rattle.mega_rules.specs.Operations.{Node as RuleNode, Setting}
@@ -15,7 +16,7 @@ use Rattle.mega_node_laws.specs.Acted.{own_item}
 use Rattle.mega_core.specs.declared.step.Step.{Step}
 use Rattle.mega_core.specs.Faults.{of_store}
 use Rattle.mega_core.specs.Notes.{met_of}
-use Rattle.mega_promises.specs.Runs.{Left, is_durable, is_kept, owes, replies_in}
+use Rattle.mega_promises.specs.Runs.{AsItWas, Left, Recorded, appends, is_durable, is_kept, owes, replies_in}
 use Rattle.mega_durable.specs.declared.fault.UpFault.{UpFault}
 use Rattle.mega_durable.specs.declared.fault.UpFault.TheVariants as up
 use Rattle.mega_durable.specs.Replying.{owed_by}
@@ -35,6 +36,37 @@ HoldsCutStart starts met found left = HoldsMet found (if is_kept left then start
 
 abbrev pub MayLeaveStart : ℕ → List Met → List (List ℕ) → Type 0
 MayLeaveStart starts met found = (left : Left) × HoldsCutStart starts met found left
+
+-- what the log's fuse leaves of an append that it cuts
+abbrev pub left_of : {R : Type 0} → Ghosts R → R → Left
+left_of store records = if keeps_record (store.fuse_left records) (store.fuse_image records) then Recorded else AsItWas
+
+-- a step that is whole, and appends or appends nothing: the fuse had an append left where it appends, and counts its calls
+pub record IsWhole {R : Type 0} (store : Ghosts R) (appends : Bool) (old new : R) : Type 0 where
+  pub long : (appends && is_short (store.fuse_left old)) ≡ false
+  pub fuse : store.fuse_left new ≡ (if appends then after_append (store.fuse_left old) else store.fuse_left old)
+  pub image : store.fuse_image new ≡ store.fuse_image old
+
+-- a step that its log's fuse cuts appends a record, of which the fuse had not all calls left, and the fuse is burnt
+pub record IsBurnt {R : Type 0} (store : Ghosts R) (appends : Bool) (old new : R) : Type 0 where
+  pub appending : appends ≡ true
+  pub short : is_short (store.fuse_left old) ≡ true
+  pub gone : store.fuse_left new ≡ Unset
+
+-- the same, with what the records hold then
+pub record IsCut {R : Type 0} (store : Ghosts R) (s : Setting) (node : RuleNode) (event : Event) (old new : R) : Type 0 where
+  pub burnt : IsBurnt store (appends (step s node event)) old new
+  pub holds : HoldsCut s node event (store.list new) (left_of store old)
+
+pub record IsCutStart {R : Type 0} (store : Ghosts R) (starts : ℕ) (met : List Met) (old new : R) : Type 0 where
+  pub burnt : IsBurnt store true old new
+  pub holds : HoldsCutStart starts met (store.list new) (left_of store old)
+
+-- where the log's fuse cut a step, its records hold what the node met and owes
+abbrev pub IsCutBy : {R : Type 0} → Ghosts R → Setting → RuleNode → Event → R → R → UpFault → Type 0
+IsCutBy store s node event old new (up.Step fault) = Unit {0}
+IsCutBy store s node event old new (up.Cut cut) = IsCut store s node event old new
+IsCutBy store s node event old new (up.Log fault) = Unit {0}
 
 -- what is handed back of a step that was cut off is what the next start owes, where its record was kept, and it may be owed
 abbrev pub IsOwedBy : Setting → RuleNode → Event → UpFault → Type 0
@@ -57,11 +89,22 @@ failed_by (Err (up.Step fault)) = of_store fault
 failed_by (Err (up.Cut cut)) = None
 failed_by (Err (up.Log fault)) = None
 
+abbrev pub log_fault_in : UpFault → Option LogFault
+log_fault_in (up.Step fault) = None
+log_fault_in (up.Cut cut) = Some DiskFault
+log_fault_in (up.Log fault) = Some fault
+
 abbrev pub log_failed_by : {T : Type 0} → Result T UpFault → Option LogFault
 log_failed_by (Ok made) = None
-log_failed_by (Err (up.Step fault)) = None
-log_failed_by (Err (up.Cut cut)) = Some DiskFault
-log_failed_by (Err (up.Log fault)) = Some fault
+log_failed_by (Err refused) = log_fault_in refused
+
+-- the device failed
+abbrev pub is_cut : LogFault → Bool
+is_cut DiskFault = true
+is_cut (Full length) = false
+is_cut Spent = false
+is_cut (BadRecord number) = false
+is_cut NoMemory = false
 
 -- the device of the log only went on, and if the record was not kept it was for what is said of it; the file would have some length with it
 abbrev pub LogWent : {R : Type 0} → Ghosts R → Option LogFault → R → R → Type 0

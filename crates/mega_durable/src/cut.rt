@@ -4,6 +4,7 @@ ghost use Rattle.mega_leases.specs.Notes.{met_of as leases_met};
 ghost use Rattle.mega_core.specs.Notes.{met_of};
 ghost use Rattle.mega_promises.specs.Runs.{is_durable};
 
+use mega_actions::{Answered, Valid};
 use mega_base::Items;
 use mega_core::{Note, Step};
 use mega_wire::Message;
@@ -24,6 +25,22 @@ fn is_kept(note: &mega_leases::Note) -> bool
     matches!(note, Note::Grants { .. } | Note::Lapses { .. })
 }
 
+/// Whether it is kept on the log that a group became valid: it is not.
+fn is_valid_kept(valid: &Valid) -> bool
+    ensures { result ≡ is_durable valid.now }
+{
+    let _position = valid.position;
+    false
+}
+
+/// Whether an answer is kept on the log: it is not.
+fn is_answer_kept(answered: &Answered) -> bool
+    ensures { result ≡ is_durable answered.now }
+{
+    let _op = answered.op;
+    false
+}
+
 /// Whether a note is kept on the log.
 fn is_durable(note: &Note) -> bool
     ensures { result ≡ is_durable (met_of note.now) }
@@ -32,8 +49,8 @@ fn is_durable(note: &Note) -> bool
         Note::OfLeases(note) => is_kept(note),
         Note::Decided { .. } => true,
         Note::Applied { .. } => false,
-        Note::MadeValid(_) => false,
-        Note::Answered(_) => false,
+        Note::MadeValid(valid) => is_valid_kept(valid),
+        Note::Answered(answered) => is_answer_kept(answered),
     }
 }
 
@@ -56,7 +73,7 @@ fn first(sends: Items<Message>, count: usize) -> Items<Message>
 }
 
 /// What the next start owes of a step that was cut off, and that sends so many replies before all else.
-pub(crate) fn cut(step: Step, replies: usize) -> Cut
+pub(crate) fn handed_back(step: Step, replies: usize) -> Cut
     ensures notes { map met_of result.notes ≡ filter is_durable (map met_of step.notes) }
     ensures replies { result.replies ≡ take replies step.sends }
 {

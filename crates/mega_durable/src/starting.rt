@@ -7,15 +7,17 @@ ghost use Rattle.mega_rules.specs.Met.{Met, Starts};
 ghost use Rattle.mega_rules.specs.Steps.{onto, start, start_notes};
 ghost use Rattle.mega_rules.specs.Operations.{Node as RuleNode};
 ghost use Rattle.mega_voter.specs.Holding.{GoesOn, HoldsMet, starts_after};
+ghost use Rattle.mega_wal.specs.declared.answers.LogFault.TheVariants.{DiskFault};
 ghost use Rattle.mega_wal.specs.declared.item.JournalItem.TheVariants.{Start as StartItem};
 ghost use Rattle.mega_actions.specs.Stands.{setting};
 ghost use Rattle.mega_core.specs.Notes.{met_of};
 ghost use Rattle.mega_core.specs.Served.{IsServed};
 ghost use Rattle.mega_core.specs.Standing.{StandsFor};
-ghost use Rattle.mega_durable.specs.Cut.{LogWent, MayLeaveStart};
+ghost use Rattle.mega_durable.specs.Cut.{IsCutStart, IsWhole, LogWent, MayLeaveStart};
 ghost use Rattle.mega_durable.specs.Standing.{IsUp, records_in};
-ghost use Rattle.mega_durable.specs.Starting.{AtEachStart, AtStarts, IsRefused, LeavesStart};
+ghost use Rattle.mega_durable.specs.Starting.{AtEachStart, AtStarts, IsCutOff, IsRefused, LeavesStart, refused_by};
 
+use crate::keeping::is_cut;
 use crate::up::Up;
 use mega_actions::Replica;
 use mega_base::Items;
@@ -70,6 +72,8 @@ fn kept<R: Records + Drop, V: Versions + Drop>(
     ensures counted { IfOk result (λ started. R.count_of (records_in started.up.node) ≡ R.count_of (records_in made.node) + 1) }
     ensures cut { R.is_told ≡ true → R.is_spent (records_in made.node) ≡ false → MatchResult result (λ started. AtStarts R.Records (records_in made.node) (λ starts met. LeavesOnly R.moment R.opened_since (records_in made.node) (records_in started.up.node) (MayLeaveStart starts met)))
         (λ refused. AtStarts R.Records (records_in made.node) (λ starts met. LeavesOnly R.moment R.opened_since (records_in made.node) refused.1 (MayLeaveStart starts met))) }
+    ensures whole { R.by_four ≡ true → IfOk result (λ started. IsWhole R.Records true (records_in made.node) (records_in started.up.node)) }
+    ensures burnt { R.is_told ≡ true → R.by_four ≡ true → IfErr result (λ refused. refused.0 ≡ DiskFault → AtStarts R.Records (records_in made.node) (λ starts met. IsCutStart R.Records starts met (records_in made.node) refused.1)) }
     ensures went { MatchResult result (λ started. LogWent R.Records None (records_in made.node) (records_in started.up.node)) (λ refused. LogWent R.Records (Some refused.0) (records_in made.node) refused.1) }
     ensures start { IfOk result (λ started. started.start ≡ made.start) }
     ensures notes { IfOk result (λ started. started.notes ≡ made.notes) }
@@ -89,6 +93,16 @@ fn kept<R: Records + Drop, V: Versions + Drop>(
             Err((fault, into_records(node)))
         }
     }
+}
+
+/// Why a node did not start whose record of the start was not kept.
+fn refused<R: Records>(fault: LogFault, records: R) -> NotStarted<R>
+    ensures { result ≡ refused_by fault records }
+{
+    if is_cut(fault) {
+        return NotStarted::Cut { records };
+    }
+    NotStarted::Log { fault, records }
 }
 
 impl<R: Records + Drop, V: Versions + Drop> Up<R, V> {
@@ -114,6 +128,10 @@ impl<R: Records + Drop, V: Versions + Drop> Up<R, V> {
         ensures cut { R.is_told ≡ true → MatchResult result (λ made. AtEachStart R.Records voter (λ h starts met owed. LeavesOnly R.moment R.opened_since voter.logs.records (records_in made.up.node) (MayLeaveStart starts (onto owed met))))
             (λ refused. AtEachStart R.Records voter (λ h starts met owed. LeavesStart R.Records starts (onto owed met) voter.logs.records refused)) }
 
+        // The log's fuse cuts the start exactly where it has no append left for it.
+        ensures whole { R.by_four ≡ true → IfOk result (λ made. IsWhole R.Records true voter.logs.records (records_in made.up.node)) }
+        ensures burnt { R.is_told ≡ true → R.by_four ≡ true → IfErr result (λ refused. AtEachStart R.Records voter (λ h starts met owed. IsCutOff R.Records starts (onto owed met) voter.logs.records refused)) }
+
         ensures went { MatchResult result (λ made. LogWent R.Records None voter.logs.records (records_in made.up.node)) (λ refused. IsRefused R.Records voter refused) }
         ensures members { IfOk result (λ made. made.up.node.replica.members ≡ cluster) }
         ensures me { IfOk result (λ made. made.up.node.replica.me ≡ me) }
@@ -129,8 +147,7 @@ impl<R: Records + Drop, V: Versions + Drop> Up<R, V> {
         };
         match kept(alloc, made) {
             Ok(started) => Ok(started),
-            Err((LogFault::DiskFault, records)) => Err(NotStarted::Cut { records }),
-            Err((fault, records)) => Err(NotStarted::Log { fault, records }),
+            Err((fault, records)) => Err(refused(fault, records)),
         }
     }
 

@@ -12,7 +12,7 @@ ghost use Rattle.mega_core.specs.declared.fault.StepFault.TheVariants.{Late, Str
 ghost use Rattle.mega_core.specs.Notes.{met_of};
 ghost use Rattle.mega_promises.specs.Runs.{appends};
 ghost use Rattle.mega_durable.specs.declared.fault.UpFault.TheVariants.{Step as Failed};
-ghost use Rattle.mega_durable.specs.Cut.{IsOwedBy, LogWent, MayLeave, failed_by, log_failed_by};
+ghost use Rattle.mega_durable.specs.Cut.{IsCutBy, IsOwedBy, IsWhole, LogWent, MayLeave, failed_by, log_failed_by};
 ghost use Rattle.mega_durable.specs.Standing.{IsUp, records_in};
 ghost use Rattle.mega_durable.specs.Stepped.{AtEach, IsSome};
 
@@ -45,6 +45,9 @@ impl<R: Records, V: Versions> Up<R, V> {
         // A crash at any moment of the step leaves what the run's step leaves that is cut off.
         ensures cut { R.is_told ≡ true → AtEach R.Records V.version self.old.node (Take message.now) (λ h s node. LeavesOnly R.moment R.opened_since (records_in self.old.node) (records_in self.new.node) (MayLeave s node (Take message.now))) }
 
+        // The log's fuse cuts the step exactly where it has no append left for it.
+        ensures whole { R.by_four ≡ true → OnOk result (AtEach R.Records V.version self.old.node (Take message.now) (λ h s node. IsWhole R.Records (appends (step s node (Take message.now))) (records_in self.old.node) (records_in self.new.node))) }
+        ensures burnt { R.is_told ≡ true → R.by_four ≡ true → IfErr result (λ refused. AtEach R.Records V.version self.old.node (Take message.now) (λ h s node. IsCutBy R.Records s node (Take message.now) (records_in self.old.node) (records_in self.new.node) refused)) }
         ensures owed { IfErr result (λ refused. AtEach R.Records V.version self.old.node (Take message.now) (λ h s node. IsOwedBy s node (Take message.now) refused)) }
 
         ensures built { result ≢ Err (Failed Unbuilt) }
@@ -77,6 +80,9 @@ impl<R: Records, V: Versions> Up<R, V> {
         // A crash at any moment of the step leaves what the run's step leaves that is cut off.
         ensures cut { R.is_told ≡ true → AtEach R.Records V.version self.old.node (Begin request text.now) (λ h s node. LeavesOnly R.moment R.opened_since (records_in self.old.node) (records_in self.new.node) (MayLeave s node (Begin request text.now))) }
 
+        // The log's fuse cuts the step exactly where it has no append left for it.
+        ensures whole { R.by_four ≡ true → OnOk result (AtEach R.Records V.version self.old.node (Begin request text.now) (λ h s node. IsWhole R.Records (appends (step s node (Begin request text.now))) (records_in self.old.node) (records_in self.new.node))) }
+        ensures burnt { R.is_told ≡ true → R.by_four ≡ true → IfErr result (λ refused. AtEach R.Records V.version self.old.node (Begin request text.now) (λ h s node. IsCutBy R.Records s node (Begin request text.now) (records_in self.old.node) (records_in self.new.node) refused)) }
         ensures owed { IfErr result (λ refused. AtEach R.Records V.version self.old.node (Begin request text.now) (λ h s node. IsOwedBy s node (Begin request text.now) refused)) }
 
         ensures unbuilt { result ≡ Err (Failed Unbuilt) → is_built request ≡ false }
@@ -107,6 +113,9 @@ impl<R: Records, V: Versions> Up<R, V> {
         // A crash at any moment of the step leaves what the run's step leaves that is cut off.
         ensures cut { R.is_told ≡ true → AtEach R.Records V.version self.old.node (Tick now) (λ h s node. LeavesOnly R.moment R.opened_since (records_in self.old.node) (records_in self.new.node) (MayLeave s node (Tick now))) }
 
+        // The log's fuse cuts the step exactly where it has no append left for it.
+        ensures whole { R.by_four ≡ true → OnOk result (AtEach R.Records V.version self.old.node (Tick now) (λ h s node. IsWhole R.Records (appends (step s node (Tick now))) (records_in self.old.node) (records_in self.new.node))) }
+        ensures burnt { R.is_told ≡ true → R.by_four ≡ true → IfErr result (λ refused. AtEach R.Records V.version self.old.node (Tick now) (λ h s node. IsCutBy R.Records s node (Tick now) (records_in self.old.node) (records_in self.new.node) refused)) }
         ensures owed { IfErr result (λ refused. AtEach R.Records V.version self.old.node (Tick now) (λ h s node. IsOwedBy s node (Tick now) refused)) }
 
         ensures built { result ≢ Err (Failed Unbuilt) }
@@ -130,6 +139,7 @@ impl<R: Records, V: Versions> Up<R, V> {
     pub fn fuse(&mut self, calls: u64, image: u8)
         ensures state { (h : Meanings) (node : RuleNode) → IsUp R.Records V.version h self.old.node node → IsUp R.Records V.version h self.new.node node }
         ensures fuse { R.fuse_left (records_in self.new.node) ≡ set_to calls (R.fuse_left (records_in self.old.node)) }
+        ensures image { R.by_four ≡ true → R.fuse_image (records_in self.new.node) ≡ image }
         ensures same { SameImages R.moment R.may_open R.opened_since (records_in self.old.node) (records_in self.new.node) }
         ensures count { R.count_of (records_in self.new.node) ≡ R.count_of (records_in self.old.node) }
         ensures faults { R.faults (records_in self.new.node) ≡ R.faults (records_in self.old.node) }

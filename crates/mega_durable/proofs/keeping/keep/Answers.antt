@@ -1,17 +1,25 @@
-use Rattle.std.proofs.Common.{◌≡◌, ◌∙◌, ◌+◌, ℕ, List, [], ap, length, subst, sym}
+use Rattle.std.proofs.Common.{◌≡◌, ◌∙◌, ◌+◌, ◌∷◌, ℕ, List, [], Option, Err, ap, length, subst, sym}
+use Rattle.std.proofs.lemmas.Bool.{false≢true}
 use Rattle.mega_disk.specs.Images.{LeavesOnly}
+use Rattle.mega_disk.specs.Fuse.{keeps_record}
+use Rattle.mega_wal.specs.declared.answers.LogFault.{LogFault}
 use Rattle.mega_wal.specs.declared.item.JournalItem.{JournalItem}
 use Rattle.mega_wal.specs.declared.kept.Kept.{Kept}
 use Rattle.mega_wal.specs.Items.{record_text}
+use Rattle.mega_rules.specs.Met.{Crashes}
 use Rattle.mega_rules.specs.Clock.{start_of}
-use Rattle.mega_rules.specs.Steps.{step}
+use Rattle.mega_rules.specs.Steps.{onto, step}
 use Rattle.mega_replica.specs.Following.{progress_at}
 use Rattle.mega_voter.specs.Holding.{HoldsMet}
+use Rattle.mega_node_laws.specs.Acted.{own_item}
 use Rattle.mega_actions.specs.Stands.{setting}
 use Rattle.mega_core.specs.Represents.{Represents}
-use Rattle.mega_durable.specs.Cut.{MayLeave}
+use Rattle.mega_promises.specs.Runs.{appends, owes, replies_in}
+use Rattle.mega_durable.specs.Cut.{IsCut, IsWhole, LogWent, MayLeave}
 use Rattle.mega_durable.specs.Standing.{records_in}
 use Rattle.mega_durable.proofs.Appending.{step_appends}
+use Rattle.mega_durable.proofs.Burning.{burnt_is, cut_holds, whole_is}
+use Rattle.mega_durable.proofs.Refusing.{cut_by}
 use Rattle.mega_durable.proofs.Upheld.{leaves_weaker, left_by_record, step_cut, step_each, step_few, step_goes, step_holds}
 use Rattle.mega_durable.proofs.keeping.keep.Goals as goal
 
@@ -54,16 +62,6 @@ returns-in-Ok-clause-cut g c = λ seen h s node event was stepped.
     subst (λ (one : _). LeavesOnly g.R.Records.moment g.R.Records.opened_since one new (MayLeave s node event)) stepped.same
     (leaves_weaker g.R.Records.moment g.R.Records.opened_since (records_in mid) new _ (MayLeave s node event) (λ found. left_by_record s node event staged found stepped.stages) leaves)
 
-pub returns-in-Err-DiskFault-clause-cut : goal.returns-in-Err-DiskFault-clause-cut
-returns-in-Err-DiskFault-clause-cut g c = λ seen h s node event was stepped.
-    let mid = c.args.node.now in
-    let staged = mid.replica.voter.logs.staged.items in
-    let new = c.flush.new.self.logs.records in
-    let before = subst (λ (one : _). HoldsMet (g.R.Records.list one) (start_of node.met) node.met) (sym stepped.same) stepped.holds in
-    let leaves = c.in-Err-DiskFault.ensures.any_moment seen (ap g.R.Records.is_spent stepped.same ∙ stepped.ready) (start_of node.met) node.met _ before (step_cut s node event staged stepped.stages stepped.stands.tells.honest) in
-    subst (λ (one : _). LeavesOnly g.R.Records.moment g.R.Records.opened_since one new (MayLeave s node event)) stepped.same
-    (leaves_weaker g.R.Records.moment g.R.Records.opened_since (records_in mid) new _ (MayLeave s node event) (λ found. left_by_record s node event staged found stepped.stages) leaves)
-
 pub returns-in-Err-clause-cut : goal.returns-in-Err-clause-cut
 returns-in-Err-clause-cut g c = λ seen h s node event was stepped.
     let mid = c.args.node.now in
@@ -77,8 +75,30 @@ returns-in-Err-clause-cut g c = λ seen h s node event was stepped.
 pub returns-in-Ok-clause-went : goal.returns-in-Ok-clause-went
 returns-in-Ok-clause-went g c = (length (record_text c.args.node.now.replica.voter.logs.staged.items), c.in-Ok.ensures.fares)
 
-pub returns-in-Err-DiskFault-clause-went : goal.returns-in-Err-DiskFault-clause-went
-returns-in-Err-DiskFault-clause-went g c = (length (record_text c.args.node.now.replica.voter.logs.staged.items), c.in-Err-DiskFault.ensures.fares)
-
 pub returns-in-Err-clause-went : goal.returns-in-Err-clause-went
-returns-in-Err-clause-went g c = (length (record_text c.args.node.now.replica.voter.logs.staged.items), c.in-Err.ensures.fares)
+returns-in-Err-clause-went g c =
+    let staged = c.args.node.now.replica.voter.logs.staged.items in
+    subst (λ (one : Option LogFault). LogWent g.R.Records one (records_in c.args.node.now) c.flush.new.self.logs.records) (sym c.not_kept.ensures.cause) (length (record_text staged), c.in-Err.ensures.fares)
+
+pub returns-in-Ok-clause-whole : goal.returns-in-Ok-clause-whole
+returns-in-Ok-clause-whole g c = λ four h s node event was stepped.
+    let staged = c.args.node.now.replica.voter.logs.staged.items in
+    let new = c.flush.new.self.logs.records in
+    subst (λ (one : _). IsWhole g.R.Records (appends (step s node event)) one new) stepped.same
+    (whole_is g.R.Records (appends (step s node event)) staged (records_in c.args.node.now) new (step_appends s node event staged stepped.stages)
+    (c.in-Ok.ensures.four four) (c.in-Ok.ensures.enough four) (c.in-Ok.ensures.image four) (λ none. (c.in-Ok.ensures.nothing none).1))
+
+pub returns-in-Err-clause-burnt : goal.returns-in-Err-clause-burnt
+returns-in-Err-clause-burnt g c = λ seen four h s node event was stepped.
+    let mid = c.args.node.now in
+    let staged = mid.replica.voter.logs.staged.items in
+    let new = c.flush.new.self.logs.records in
+    let before = subst (λ (one : _). HoldsMet (g.R.Records.list one) (start_of node.met) node.met) (sym stepped.same) stepped.holds in
+    cut_by g.R.Records s node event was new c.in-Err.fault c.not_kept.result c.not_kept.ensures.cause (λ is.
+    subst (λ (one : _). IsCut g.R.Records s node event one new) stepped.same (record {
+      burnt = burnt_is g.R.Records (appends (step s node event)) staged (records_in mid) new (step_appends s node event staged stepped.stages)
+          (λ none. false≢true (c.in-Err.ensures.nothing none).0) (c.in-Err.ensures.short four (ap Err is)) (c.in-Err.ensures.burnt four (ap Err is));
+      holds = cut_holds s node event staged (g.R.Records.list new) (keeps_record (g.R.Records.fuse_left (records_in mid)) (g.R.Records.fuse_image (records_in mid))) stepped.stages
+          (c.in-Err.ensures.cut four seen (ap Err is) (start_of node.met) node.met (onto (owes (step s node event) (replies_in s.cluster s.me node.met event)) (Crashes ∷ own_item s node event ∷ node.met)) before
+          (step_cut s node event staged stepped.stages stepped.stands.tells.honest));
+    }))

@@ -1,5 +1,9 @@
-use Rattle.std.proofs.Common.{◌≡◌, ◌≤◌, ◌+◌, ◌∷◌, [], List, ap, length, refl, subst, sym, ◌∙◌, arith}
+use Rattle.std.proofs.Common.{◌≡◌, ◌≤◌, ◌+◌, ◌∷◌, [], List, Err, true, ap, length, refl, subst, sym, ◌∙◌, arith}
 use Rattle.std.specs.List.{All}
+use Rattle.std.specs.Prelude.{Some}
+use Rattle.std.proofs.lemmas.Bool.{false≢true}
+use Rattle.mega_disk.specs.Fuse.{keeps_record}
+use Rattle.mega_disk.specs.Images.{LeavesOnly}
 use Rattle.std.proofs.lemmas.List.Elements.{All-cons, All-nil}
 use Rattle.mega_wal.specs.declared.item.JournalItem.{JournalItem}
 use Rattle.mega_wal.specs.declared.item.JournalItem.TheVariants.{Start}
@@ -10,9 +14,10 @@ use Rattle.mega_replica.specs.Following.{progress_at}
 use Rattle.mega_voter.specs.Holding.{GoesOn, HoldsMet, starts_after}
 use Rattle.mega_actions.specs.Stands.{setting}
 use Rattle.mega_core.specs.Represents.{Represents}
-use Rattle.mega_durable.specs.Cut.{MayLeaveStart}
+use Rattle.mega_durable.specs.Cut.{IsCutStart, IsWhole, LogWent, MayLeaveStart}
 use Rattle.mega_durable.specs.Standing.{records_in}
 use Rattle.mega_durable.proofs.AtStart.{left_by_start, same_goes}
+use Rattle.mega_durable.proofs.Burning.{burnt_is, cut_start_holds, whole_is}
 use Rattle.mega_durable.proofs.Upheld.{leaves_weaker}
 use Rattle.mega_durable.proofs.starting.kept.Goals as goal
 
@@ -44,11 +49,30 @@ returns-in-Ok-clause-cut g c = λ seen ready starts met few holds.
 
 pub returns-in-Err-clause-cut : goal.returns-in-Err-clause-cut
 returns-in-Err-clause-cut g c = λ seen ready starts met few holds.
-    leaves_weaker g.R.Records.moment g.R.Records.opened_since (records_in c.args.made.node) c.flush.new.self.logs.records _ (MayLeaveStart starts met) (λ found. left_by_start starts met _ found c.requires.one few)
-    (c.in-Err.ensures.any_moment seen ready starts met met holds (same_goes starts met _ c.requires.one few holds.later holds.honest))
+    subst (λ (one : _). LeavesOnly g.R.Records.moment g.R.Records.opened_since (records_in c.args.made.node) one (MayLeaveStart starts met)) (sym c.into_records.ensures)
+    (leaves_weaker g.R.Records.moment g.R.Records.opened_since (records_in c.args.made.node) c.flush.new.self.logs.records _ (MayLeaveStart starts met) (λ found. left_by_start starts met _ found c.requires.one few)
+    (c.in-Err.ensures.any_moment seen ready starts met met holds (same_goes starts met _ c.requires.one few holds.later holds.honest)))
 
 pub returns-in-Ok-clause-went : goal.returns-in-Ok-clause-went
 returns-in-Ok-clause-went g c = (length (record_text c.args.made.node.replica.voter.logs.staged.items), c.in-Ok.ensures.fares)
 
 pub returns-in-Err-clause-went : goal.returns-in-Err-clause-went
-returns-in-Err-clause-went g c = (length (record_text c.args.made.node.replica.voter.logs.staged.items), c.in-Err.ensures.fares)
+returns-in-Err-clause-went g c =
+    subst (λ (one : _). LogWent g.R.Records (Some c.in-Err.fault) (records_in c.args.made.node) one) (sym c.into_records.ensures) (length (record_text c.args.made.node.replica.voter.logs.staged.items), c.in-Err.ensures.fares)
+
+pub returns-in-Ok-clause-whole : goal.returns-in-Ok-clause-whole
+returns-in-Ok-clause-whole g c = λ four.
+    whole_is g.R.Records true c.args.made.node.replica.voter.logs.staged.items (records_in c.args.made.node) c.flush.new.self.logs.records (ap (λ (items : List JournalItem). length (flushed items)) c.requires.one)
+    (c.in-Ok.ensures.four four) (c.in-Ok.ensures.enough four) (c.in-Ok.ensures.image four) (λ none. (c.in-Ok.ensures.nothing none).1)
+
+pub returns-in-Err-clause-burnt : goal.returns-in-Err-clause-burnt
+returns-in-Err-clause-burnt g c = λ seen four is starts met few holds.
+    let old = records_in c.args.made.node in
+    let new = c.flush.new.self.logs.records in
+    let staged = c.args.made.node.replica.voter.logs.staged.items in
+    subst (λ (one : _). IsCutStart g.R.Records starts met old one) (sym c.into_records.ensures) (record {
+      burnt = burnt_is g.R.Records true staged old new (ap (λ (items : List JournalItem). length (flushed items)) c.requires.one)
+          (λ none. false≢true (c.in-Err.ensures.nothing none).0) (c.in-Err.ensures.short four (ap Err is)) (c.in-Err.ensures.burnt four (ap Err is));
+      holds = cut_start_holds starts met staged (g.R.Records.list new) (keeps_record (g.R.Records.fuse_left old) (g.R.Records.fuse_image old)) c.requires.one few
+          (c.in-Err.ensures.cut four seen (ap Err is) starts met met holds (same_goes starts met staged c.requires.one few holds.later holds.honest));
+    })

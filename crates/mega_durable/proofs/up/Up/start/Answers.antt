@@ -1,4 +1,4 @@
-use Rattle.std.proofs.Common.{◌≡◌, ◌∙◌, ◌<◌, ◌+◌, ◌∷◌, ◌++◌, [], ℕ, List, ap, map, refl, subst, sym}
+use Rattle.std.proofs.Common.{None, Some, true, ◌≡◌, ◌∙◌, ◌<◌, ◌+◌, ◌∷◌, ◌++◌, [], ℕ, List, ap, map, refl, subst, sym}
 use Rattle.mega_disk.specs.Images.{LeavesOnly}
 use Rattle.mega_wal.specs.declared.item.JournalItem.{JournalItem}
 use Rattle.mega_wal.specs.declared.item.JournalItem.TheVariants.{Start}
@@ -10,31 +10,70 @@ use Rattle.mega_actions.specs.Stands.{setting}
 use Rattle.mega_core.specs.declared.note.Note.{Note}
 use Rattle.mega_core.specs.Notes.{met_of}
 use Rattle.mega_core.proofs.Anew.{owed_no_start}
-use Rattle.mega_durable.specs.Cut.{LogWent, MayLeaveStart}
+use Rattle.mega_durable.specs.Cut.{IsCutStart, IsWhole, LogWent, MayLeaveStart}
+use Rattle.mega_durable.specs.Starting.{IsCutOff, IsRefused, LeavesStart}
 use Rattle.mega_durable.specs.Granted.{KeepsGrants}
 use Rattle.mega_durable.specs.Standing.{records_in}
 use Rattle.mega_durable.proofs.AtStart.{started_holds}
+use Rattle.mega_durable.proofs.Refusing.{start_cut, start_leaves, start_went}
 use Rattle.mega_durable.proofs.Owing.{start_keeps}
 use Rattle.mega_durable.proofs.up.Up.start.Goals as goal
 
 pub kept-requires : goal.kept-requires
-kept-requires g c = c.in-Ok.ensures.staged ∙ ap (λ (items : List JournalItem). items ++ Start ∷ []) c.requires.flushed
+kept-requires g c = record { one = c.in-Ok.ensures.staged ∙ ap (λ (items : List JournalItem). items ++ Start ∷ []) c.requires.flushed }
 
-pub returns-in-Ok-in-Ok-clause-state : goal.returns-in-Ok-in-Ok-clause-state
-returns-in-Ok-in-Ok-clause-state g c = λ seen h starts met owed may none.
+pub returns-in-Ok-kept-clause-state : goal.returns-in-Ok-kept-clause-state
+returns-in-Ok-kept-clause-state g c = λ seen h starts met owed may none.
     let s = setting c.args.cluster c.args.me h in
     let few : starts < 4294967295 = subst (λ n. n < 4294967295) may.recalls.counted c.in-Ok.ensures.few in
     let are = owed_no_start owed met may.owes in
     let before = subst (λ (one : _). HoldsMet (g.R.Records.list one) starts (onto owed met)) (sym c.in-Ok.ensures.records) may.holds in
     record {
-      stands = c.in-Ok-in-Ok.ensures.stands h (start s (starts + 1) owed met) (c.in-Ok.ensures.state h starts met owed may.owes may.recalls none);
-      empty = c.in-Ok-in-Ok.ensures.empty;
-      ready = c.in-Ok-in-Ok.ensures.ready ∙ (ap g.R.Records.is_spent c.in-Ok.ensures.records ∙ may.ready);
+      stands = c.in-Ok-kept.ensures.stands h (start s (starts + 1) owed met) (c.in-Ok.ensures.state h starts met owed may.owes may.recalls none);
+      empty = c.in-Ok-kept.ensures.empty;
+      ready = c.in-Ok-kept.ensures.ready ∙ (ap g.R.Records.is_spent c.in-Ok.ensures.records ∙ may.ready);
       holds = started_holds s starts met owed _ are few
-          (c.in-Ok-in-Ok.ensures.holds seen starts (onto owed met) (onto owed (Starts (starts + 1) ∷ met)) before (start_goes_on starts met owed are few may.recalls.later may.recalls.honest).0);
-      granted = coe 0 1 (i. KeepsGrants (sym (c.in-Ok-in-Ok.ensures.members ∙ c.in-Ok.ensures.members) i) (sym (c.in-Ok-in-Ok.ensures.me ∙ c.in-Ok.ensures.me) i) (start s (starts + 1) owed met).met) (start_keeps s (starts + 1) met owed may.owes);
+          (c.in-Ok-kept.ensures.holds seen starts (onto owed met) (onto owed (Starts (starts + 1) ∷ met)) before (start_goes_on starts met owed are few may.recalls.later may.recalls.honest).0);
+      granted = coe 0 1 (i. KeepsGrants (sym (c.in-Ok-kept.ensures.members ∙ c.in-Ok.ensures.members) i) (sym (c.in-Ok-kept.ensures.me ∙ c.in-Ok.ensures.me) i) (start s (starts + 1) owed met).met) (start_keeps s (starts + 1) met owed may.owes);
     }
 
-pub returns-in-Ok-in-Ok-clause-notes : goal.returns-in-Ok-in-Ok-clause-notes
-returns-in-Ok-in-Ok-clause-notes g c = λ h starts met owed may.
-    ap (λ (notes : List Note). map met_of notes) c.in-Ok-in-Ok.ensures.notes ∙ c.in-Ok.ensures.notes h starts met owed may.owes may.recalls
+pub returns-in-Ok-kept-clause-notes : goal.returns-in-Ok-kept-clause-notes
+returns-in-Ok-kept-clause-notes g c = λ h starts met owed may.
+    ap (λ (notes : List Note). map met_of notes) c.in-Ok-kept.ensures.notes ∙ c.in-Ok.ensures.notes h starts met owed may.owes may.recalls
+
+pub returns-in-Ok-kept-clause-cut : goal.returns-in-Ok-kept-clause-cut
+returns-in-Ok-kept-clause-cut g c = λ seen h starts met owed may.
+    let few : starts < 4294967295 = subst (λ n. n < 4294967295) may.recalls.counted c.in-Ok.ensures.few in
+    let before = subst (λ (one : _). HoldsMet (g.R.Records.list one) starts (onto owed met)) (sym c.in-Ok.ensures.records) may.holds in
+    subst (λ (one : _). LeavesOnly g.R.Records.moment g.R.Records.opened_since one (records_in c.in-Ok-kept.started.up.node) (MayLeaveStart starts (onto owed met))) c.in-Ok.ensures.records
+    (c.in-Ok-kept.ensures.cut seen (ap g.R.Records.is_spent c.in-Ok.ensures.records ∙ may.ready) starts (onto owed met) few before)
+
+pub returns-in-Ok-kept-clause-went : goal.returns-in-Ok-kept-clause-went
+returns-in-Ok-kept-clause-went g c = subst (λ (one : _). LogWent g.R.Records None one (records_in c.in-Ok-kept.started.up.node)) c.in-Ok.ensures.records c.in-Ok-kept.ensures.went
+
+pub returns-in-Ok-kept-clause-whole : goal.returns-in-Ok-kept-clause-whole
+returns-in-Ok-kept-clause-whole g c = λ four. subst (λ (one : _). IsWhole g.R.Records true one (records_in c.in-Ok-kept.started.up.node)) c.in-Ok.ensures.records (c.in-Ok-kept.ensures.whole four)
+
+pub returns-in-Err-kept-clause-cut : goal.returns-in-Err-kept-clause-cut
+returns-in-Err-kept-clause-cut g c = λ seen h starts met owed may.
+    let few : starts < 4294967295 = subst (λ n. n < 4294967295) may.recalls.counted c.in-Ok.ensures.few in
+    let before = subst (λ (one : _). HoldsMet (g.R.Records.list one) starts (onto owed met)) (sym c.in-Ok.ensures.records) may.holds in
+    subst (λ (one : _). LeavesStart g.R.Records starts (onto owed met) c.args.voter.logs.records one) (sym c.refused.ensures)
+    (start_leaves g.R.Records starts (onto owed met) c.args.voter.logs.records c.in-Err-kept.records c.in-Err-kept.fault
+    (subst (λ (one : _). LeavesOnly g.R.Records.moment g.R.Records.opened_since one c.in-Err-kept.records (MayLeaveStart starts (onto owed met))) c.in-Ok.ensures.records
+    (c.in-Err-kept.ensures.cut seen (ap g.R.Records.is_spent c.in-Ok.ensures.records ∙ may.ready) starts (onto owed met) few before)))
+
+pub returns-in-Err-kept-clause-burnt : goal.returns-in-Err-kept-clause-burnt
+returns-in-Err-kept-clause-burnt g c = λ seen four h starts met owed may.
+    let few : starts < 4294967295 = subst (λ n. n < 4294967295) may.recalls.counted c.in-Ok.ensures.few in
+    let before = subst (λ (one : _). HoldsMet (g.R.Records.list one) starts (onto owed met)) (sym c.in-Ok.ensures.records) may.holds in
+    subst (λ (one : _). IsCutOff g.R.Records starts (onto owed met) c.args.voter.logs.records one) (sym c.refused.ensures)
+    (start_cut g.R.Records starts (onto owed met) c.args.voter.logs.records c.in-Err-kept.records c.in-Err-kept.fault
+    (λ is. subst (λ (one : _). IsCutStart g.R.Records starts (onto owed met) one c.in-Err-kept.records) c.in-Ok.ensures.records
+    (c.in-Err-kept.ensures.burnt seen four is starts (onto owed met) few before)))
+
+pub returns-in-Err-kept-clause-went : goal.returns-in-Err-kept-clause-went
+returns-in-Err-kept-clause-went g c =
+    subst (IsRefused g.R.Records c.args.voter) (sym c.refused.ensures)
+    (start_went g.R.Records c.args.voter c.in-Err-kept.records c.in-Err-kept.fault
+    (subst (λ (one : _). LogWent g.R.Records (Some c.in-Err-kept.fault) one c.in-Err-kept.records) c.in-Ok.ensures.records c.in-Err-kept.ensures.went))

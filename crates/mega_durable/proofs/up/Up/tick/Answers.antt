@@ -1,13 +1,14 @@
-use Rattle.std.proofs.Common.{◌≡◌, ◌∙◌, ◌+◌, List, ap, map, refl, subst, sym}
+use Rattle.std.proofs.Common.{Err, ◌≡◌, ◌∙◌, ◌+◌, List, ap, map, refl, subst, sym}
 use Rattle.mega_disk.specs.Images.{LeavesOnly}
 use Rattle.mega_rules.specs.Steps.{Tick, step}
 use Rattle.mega_replica.specs.Faring.{Fares}
 use Rattle.mega_core.specs.declared.step.Step.{Step}
 use Rattle.mega_core.specs.Notes.{met_of}
-use Rattle.mega_durable.specs.Cut.{LogWent, MayLeave}
+use Rattle.mega_durable.specs.Cut.{LogWent, MayLeave, log_fault_in}
 use Rattle.mega_durable.specs.Standing.{records_in, setting_of}
 use Rattle.mega_durable.specs.Stepped.{HasStepped}
-use Rattle.mega_durable.proofs.Stepping.{owed_is, same_went, stepped_now}
+use Rattle.mega_durable.proofs.Refusing.{kept_fares, same_step}
+use Rattle.mega_durable.proofs.Stepping.{may_owe, owed_from, same_went, stepped_now}
 use Rattle.mega_durable.proofs.Upheld.{as_it_was, leaves_same}
 use Rattle.mega_durable.proofs.up.Up.tick.Goals as goal
 
@@ -19,43 +20,43 @@ keep-requires g c =
     let up = c.requires.known.1.1.1 in
     let may = c.requires.known.1.1.2 in
     let old = c.args.self.now.node in
-    (h, (setting_of old h, (node, (Tick c.args.now, (records_in old, stepped_now g.R.Records g.V.Versions.version h old c.tick.new.self node (Tick c.args.now) up may (λ stands owned placed. c.in-Ok.ensures.state told h node stands owned) (λ stands owned placed. c.in-Ok.ensures.staged told h node node.met stands owned) c.in-Ok.ensures.records c.in-Ok.ensures.members c.in-Ok.ensures.me)))))
+    record { known = (h, (setting_of old h, (node, (Tick c.args.now, (records_in old, stepped_now g.R.Records g.V.Versions.version h old c.tick.new.self node (Tick c.args.now) up may (λ stands owned placed. c.in-Ok.ensures.state told h node stands owned) (λ stands owned placed. c.in-Ok.ensures.staged told h node node.met stands owned) c.in-Ok.ensures.records c.in-Ok.ensures.members c.in-Ok.ensures.me))))) }
 
-pub returns-in-Ok-in-Ok-clause-notes : goal.returns-in-Ok-in-Ok-clause-notes
-returns-in-Ok-in-Ok-clause-notes g c = λ h node up may.
-    ap (λ (made : Step). map met_of made.notes) c.in-Ok-in-Ok.ensures.step ∙ c.in-Ok.ensures.notes c.requires.known.0 h node up.stands may.owned
+pub returns-in-Ok-keep-clause-notes : goal.returns-in-Ok-keep-clause-notes
+returns-in-Ok-keep-clause-notes g c = λ h node up may.
+    ap (λ (made : Step). map met_of made.notes) c.in-Ok-keep.ensures.step ∙ c.in-Ok.ensures.notes c.requires.known.0 h node up.stands may.owned
 
-pub returns-in-Ok-in-Ok-clause-sends : goal.returns-in-Ok-in-Ok-clause-sends
-returns-in-Ok-in-Ok-clause-sends g c = λ h node up may.
-    ap (λ (made : Step). made.sends) c.in-Ok-in-Ok.ensures.step ∙ c.in-Ok.ensures.sends c.requires.known.0 h node up.stands may.owned
+pub returns-in-Ok-keep-clause-sends : goal.returns-in-Ok-keep-clause-sends
+returns-in-Ok-keep-clause-sends g c = λ h node up may.
+    ap (λ (made : Step). made.sends) c.in-Ok-keep.ensures.step ∙ c.in-Ok.ensures.sends c.requires.known.0 h node up.stands may.owned
 
-pub returns-in-Ok-in-Ok-clause-state : goal.returns-in-Ok-in-Ok-clause-state
-returns-in-Ok-in-Ok-clause-state g c = λ seen h node up may.
+pub returns-in-Ok-keep-clause-state : goal.returns-in-Ok-keep-clause-state
+returns-in-Ok-keep-clause-state g c = λ seen h node up may.
     let told = c.requires.known.0 in
     let old = c.args.self.now.node in
     let stepped = stepped_now g.R.Records g.V.Versions.version h old c.tick.new.self node (Tick c.args.now) up may (λ stands owned placed. c.in-Ok.ensures.state told h node stands owned) (λ stands owned placed. c.in-Ok.ensures.staged told h node node.met stands owned) c.in-Ok.ensures.records c.in-Ok.ensures.members c.in-Ok.ensures.me in
-    c.in-Ok-in-Ok.ensures.state seen h (setting_of old h) node (Tick c.args.now) (records_in old) stepped
+    c.in-Ok-keep.ensures.state seen h (setting_of old h) node (Tick c.args.now) (records_in old) stepped
 
-pub returns-in-Ok-in-Ok-clause-appended : goal.returns-in-Ok-in-Ok-clause-appended
-returns-in-Ok-in-Ok-clause-appended g c = λ h node up may.
+pub returns-in-Ok-keep-clause-appended : goal.returns-in-Ok-keep-clause-appended
+returns-in-Ok-keep-clause-appended g c = λ h node up may.
     let told = c.requires.known.0 in
     let old = c.args.self.now.node in
     let stepped = stepped_now g.R.Records g.V.Versions.version h old c.tick.new.self node (Tick c.args.now) up may (λ stands owned placed. c.in-Ok.ensures.state told h node stands owned) (λ stands owned placed. c.in-Ok.ensures.staged told h node node.met stands owned) c.in-Ok.ensures.records c.in-Ok.ensures.members c.in-Ok.ensures.me in
-    c.in-Ok-in-Ok.ensures.appended h (setting_of old h) node (Tick c.args.now) (records_in old) stepped
+    c.in-Ok-keep.ensures.appended h (setting_of old h) node (Tick c.args.now) (records_in old) stepped
 
-pub returns-in-Ok-in-Ok-clause-cut : goal.returns-in-Ok-in-Ok-clause-cut
-returns-in-Ok-in-Ok-clause-cut g c = λ seen h node up may.
+pub returns-in-Ok-keep-clause-cut : goal.returns-in-Ok-keep-clause-cut
+returns-in-Ok-keep-clause-cut g c = λ seen h node up may.
     let told = c.requires.known.0 in
     let old = c.args.self.now.node in
     let stepped = stepped_now g.R.Records g.V.Versions.version h old c.tick.new.self node (Tick c.args.now) up may (λ stands owned placed. c.in-Ok.ensures.state told h node stands owned) (λ stands owned placed. c.in-Ok.ensures.staged told h node node.met stands owned) c.in-Ok.ensures.records c.in-Ok.ensures.members c.in-Ok.ensures.me in
-    c.in-Ok-in-Ok.ensures.cut seen h (setting_of old h) node (Tick c.args.now) (records_in old) stepped
+    c.in-Ok-keep.ensures.cut seen h (setting_of old h) node (Tick c.args.now) (records_in old) stepped
 
-pub returns-in-Ok-in-Err-clause-cut : goal.returns-in-Ok-in-Err-clause-cut
-returns-in-Ok-in-Err-clause-cut g c = λ seen h node up may.
+pub returns-in-Err-keep-clause-cut : goal.returns-in-Err-keep-clause-cut
+returns-in-Err-keep-clause-cut g c = λ seen h node up may.
     let told = c.requires.known.0 in
     let old = c.args.self.now.node in
     let stepped = stepped_now g.R.Records g.V.Versions.version h old c.tick.new.self node (Tick c.args.now) up may (λ stands owned placed. c.in-Ok.ensures.state told h node stands owned) (λ stands owned placed. c.in-Ok.ensures.staged told h node node.met stands owned) c.in-Ok.ensures.records c.in-Ok.ensures.members c.in-Ok.ensures.me in
-    c.in-Ok-in-Err.ensures.cut seen h (setting_of old h) node (Tick c.args.now) (records_in old) stepped
+    c.in-Err-keep.ensures.cut seen h (setting_of old h) node (Tick c.args.now) (records_in old) stepped
 
 pub returns-in-Err-clause-cut : goal.returns-in-Err-clause-cut
 returns-in-Err-clause-cut g c = λ seen h node up may.
@@ -63,11 +64,40 @@ returns-in-Err-clause-cut g c = λ seen h node up may.
     leaves_same g.R.Records (records_in old) (records_in c.tick.new.self) (MayLeave (setting_of old h) node (Tick c.args.now)) (g.met.R.Records.only (records_in old) seen up.ready) (g.met.R.Records.only_now (records_in old)) c.in-Err.ensures.records
     (as_it_was (setting_of old h) node (Tick c.args.now) (g.R.Records.list (records_in old)) up.holds)
 
-pub returns-in-Ok-in-Ok-clause-went : goal.returns-in-Ok-in-Ok-clause-went
-returns-in-Ok-in-Ok-clause-went g c = subst (λ (one : _). LogWent g.R.Records _ one (records_in c.keep.new.node)) c.in-Ok.ensures.records c.in-Ok-in-Ok.ensures.went
+pub returns-in-Ok-keep-clause-went : goal.returns-in-Ok-keep-clause-went
+returns-in-Ok-keep-clause-went g c = subst (λ (one : _). LogWent g.R.Records _ one (records_in c.keep.new.node)) c.in-Ok.ensures.records c.in-Ok-keep.ensures.went
 
-pub returns-in-Ok-in-Err-clause-went : goal.returns-in-Ok-in-Err-clause-went
-returns-in-Ok-in-Err-clause-went g c = subst (λ (one : _). LogWent g.R.Records _ one (records_in c.keep.new.node)) c.in-Ok.ensures.records c.in-Ok-in-Err.ensures.went
+pub returns-in-Err-keep-clause-went : goal.returns-in-Err-keep-clause-went
+returns-in-Err-keep-clause-went g c = subst (λ (one : _). LogWent g.R.Records (log_fault_in c.in-Err-keep.fault) one (records_in c.keep.new.node)) c.in-Ok.ensures.records c.in-Err-keep.ensures.went
 
 pub returns-in-Err-clause-went : goal.returns-in-Err-clause-went
 returns-in-Err-clause-went g c = same_went g.R.Records (records_in c.args.self.now.node) (records_in c.tick.new.self) c.in-Err.ensures.records
+
+pub returns-in-Ok-keep-clause-whole : goal.returns-in-Ok-keep-clause-whole
+returns-in-Ok-keep-clause-whole g c = λ four h node up may.
+    let told = c.requires.known.0 in
+    let old = c.args.self.now.node in
+    let stepped = stepped_now g.R.Records g.V.Versions.version h old c.tick.new.self node (Tick c.args.now) up may (λ stands owned placed. c.in-Ok.ensures.state told h node stands owned) (λ stands owned placed. c.in-Ok.ensures.staged told h node node.met stands owned) c.in-Ok.ensures.records c.in-Ok.ensures.members c.in-Ok.ensures.me in
+    c.in-Ok-keep.ensures.whole four h (setting_of old h) node (Tick c.args.now) (records_in old) stepped
+
+pub returns-in-Err-keep-clause-burnt : goal.returns-in-Err-keep-clause-burnt
+returns-in-Err-keep-clause-burnt g c = λ seen four h node up may.
+    let told = c.requires.known.0 in
+    let old = c.args.self.now.node in
+    let stepped = stepped_now g.R.Records g.V.Versions.version h old c.tick.new.self node (Tick c.args.now) up may (λ stands owned placed. c.in-Ok.ensures.state told h node stands owned) (λ stands owned placed. c.in-Ok.ensures.staged told h node node.met stands owned) c.in-Ok.ensures.records c.in-Ok.ensures.members c.in-Ok.ensures.me in
+    c.in-Err-keep.ensures.burnt seen four h (setting_of old h) node (Tick c.args.now) (records_in old) stepped
+
+pub returns-in-Err-keep-clause-owed : goal.returns-in-Err-keep-clause-owed
+returns-in-Err-keep-clause-owed g c = λ h node up may.
+    let told = c.requires.known.0 in
+    let old = c.args.self.now.node in
+    owed_from (setting_of old h) node (Tick c.args.now) c.in-Ok.step 0 c.in-Err-keep.fault (c.in-Ok.ensures.notes told h node up.stands may.owned) (c.in-Ok.ensures.sends told h node up.stands may.owned)
+    refl
+    (may_owe g.R.Records g.V.Versions.version h old node (Tick c.args.now) up) c.in-Err-keep.ensures.owed
+
+pub returns-in-Err-keep-clause-fares : goal.returns-in-Err-keep-clause-fares
+returns-in-Err-keep-clause-fares g c =
+    kept_fares g.V.Versions c.args.self.now.node.replica.rows.rows c.tick.new.self.replica.rows c.keep.new.node.replica.rows c.in-Ok.step 0 c.in-Err-keep.fault c.in-Err-keep.ensures.owed c.in-Err-keep.ensures.rows c.in-Ok.ensures.fares
+
+pub returns-in-Err-clause-built : goal.returns-in-Err-clause-built
+returns-in-Err-clause-built g c = λ is. c.in-Err.ensures.built (ap Err (same_step _ _ is)) c.requires.known.1.0 c.requires.known.1.1.0 c.requires.known.1.1.1.stands
