@@ -23,7 +23,7 @@ use Rattle.mega_rules.specs.Steps.{Begin, Event, Step, Take, Tick, crashed, op_o
 use Rattle.mega_promises.specs.Items.{number, numbered, shown}
 use Rattle.mega_promises.specs.Messages.{is_unsafe, message_of, next_delivery}
 use Rattle.mega_promises.specs.Promises.{Stands, StoodBefore}
-use Rattle.mega_promises.specs.Runs.{CutByData, CutByLog, Cuts, Fate, Happening, IsRun, Standing, Whole, after_event, at_node, breaks, calls_of, delivered, drained, fate_of, fated, fated_start, goes_on, handed, marked, met_in, nothing_yet, opening, refusal, replies_in, set_at, setting, start_calls, unless_none, unless_refused, up, whole_step, with_item, with_items}
+use Rattle.mega_promises.specs.Runs.{Calls, CutByData, CutByLog, Cuts, Fate, Happening, IsRun, Standing, Whole, after_event, at_node, breaks, calls_of, delivered, drained, fate_by, fated, fated_start, goes_on, handed, marked, met_in, nothing_yet, opening, refusal, replies_in, set_at, setting, start_calls, unless_none, unless_refused, up, whole_step, with_item, with_items}
 use Rattle.mega_tape_laws.specs.Lawful.{Heard, message}
 use Rattle.mega_tape_laws.specs.Places.{In}
 use Rattle.mega_run_laws.proofs.Noted.{with_append}
@@ -161,9 +161,9 @@ module _ (c : Cluster) where
   fated_behind now me own met made replies (CutByData left) silent tell h =
       more c (set_at now.node me (crashed (record { met = met ∷ (now.node me).met; open_operations = []; stored = (now.node me).stored }))) (own ++ shown me Crashes) now.tape (silent_both own (shown me Crashes) silent (tt, tt)) h
 
-  at_behind : (h : Meanings) (now : Standing) (me : ℕ) (own : List Item) (event : Event) (cut : Fate) → AreSilent own → AreBehind now.tape → AreBehind (at_node c h now me own event cut).tape
+  at_behind : (h : Meanings) (now : Standing) (me : ℕ) (own : List Item) (event : Event) (cut : Calls → Fate) → AreSilent own → AreBehind now.tape → AreBehind (at_node c h now me own event cut).tape
   at_behind h now me own event cut silent behind =
-      fated_behind now me own (met_in (setting c h me) (now.node me).met event) made (replies_in c me (now.node me).met event) (fate_of now me (calls_of c h now me event made) cut) silent (step_tells (setting c h me) (now.node me) event) behind
+      fated_behind now me own (met_in (setting c h me) (now.node me).met event) made (replies_in c me (now.node me).met event) (fate_by now me cut (calls_of c h now me event made)) silent (step_tells (setting c h me) (now.node me) event) behind
     where
       made : Step
       made = step (setting c h me) (now.node me) event
@@ -181,7 +181,7 @@ module _ (c : Cluster) where
 
   handed_behind : (h : Meanings) (cuts : Cuts) (now : Standing) (j : ℕ) (o : Option Message) → AreBehind now.tape → AreBehind (handed c h cuts now j o).tape
   handed_behind h cuts now j None behind = behind
-  handed_behind h cuts now j (Some m) behind = at_behind h now m.to (Taken j ∷ []) (Take m) (cuts now.tape) (tt, tt) behind
+  handed_behind h cuts now j (Some m) behind = at_behind h now m.to (Taken j ∷ []) (Take m) (cuts now m.to) (tt, tt) behind
 
   drained_behind : (h : Meanings) (cuts : Cuts) (most : ℕ) (now : Standing) → AreBehind now.tape → AreBehind (drained c h cuts now most).tape
   drained_behind h cuts zero now behind = by (next_delivery (up now) now.tape)
@@ -196,16 +196,16 @@ module _ (c : Cluster) where
       by (Some j) again = again j
 
   event_behind : (h : Meanings) (cuts : Cuts) (now : Standing) (event : WorldEvent) → AreBehind now.tape → AreBehind (after_event c h cuts now event).tape
-  event_behind h cuts now (TickEvent node clock) behind = at_behind h now node.0 (shown node.0 (Ticks clock)) (Tick clock) (cuts now.tape) (tt, tt) behind
+  event_behind h cuts now (TickEvent node clock) behind = at_behind h now node.0 (shown node.0 (Ticks clock)) (Tick clock) (cuts now node.0) (tt, tt) behind
   event_behind h cuts now (Deliver j) behind = handed_behind h cuts now j (message_of now.tape j) behind
   event_behind h cuts now (Drop j) behind = (tt, behind)
   event_behind h cuts now (Drain most) behind = drained_behind h cuts most now behind
   event_behind h cuts now (CrashEvent node) behind = (tt, behind)
-  event_behind h cuts now (StartEvent node) behind = start_behind h now node.0 (fate_of now node.0 (start_calls c node.0) (cuts now.tape)) behind
+  event_behind h cuts now (StartEvent node) behind = start_behind h now node.0 (fate_by now node.0 (cuts now node.0) (start_calls c node.0)) behind
   event_behind h cuts now (FuseEvent node calls image Log) behind = behind
   event_behind h cuts now (FuseEvent node calls image Data) behind = behind
   event_behind h cuts now (BeginEvent node request text) behind =
-      at_behind h now node.0 (shown node.0 (Begins (op_of (setting c h node.0) (now.node node.0).met) text)) (Begin request text) (cuts now.tape) (tt, tt) behind
+      at_behind h now node.0 (shown node.0 (Begins (op_of (setting c h node.0) (now.node node.0).met) text)) (Begin request text) (cuts now node.0) (tt, tt) behind
 
   unless_behind : (now next : Standing) (o : Option ℕ) → AreBehind now.tape → AreBehind next.tape → AreBehind (unless_refused now next o).tape
   unless_behind now next None a b = b

@@ -17,7 +17,7 @@ use Rattle.mega_rules.specs.Met.{Begins, Ticks}
 use Rattle.mega_rules.specs.Steps.{Begin, Take, Tick, op_of}
 use Rattle.mega_promises.specs.Items.{shown}
 use Rattle.mega_promises.specs.Messages.{is_deliverable, is_dropped, message_of, next_delivery, receiver_up}
-use Rattle.mega_promises.specs.Runs.{Cuts, Happening, IsRun, Standing, Whole, after_event, because, delivered, drained, fate_of, fated_start, goes_on, handed, marked, nothing_yet, opening, receiver_down, refusal, setting, start_calls, unless_none, unless_refused, up}
+use Rattle.mega_promises.specs.Runs.{Cuts, Happening, IsRun, Standing, Whole, after_event, because, delivered, drained, fate_by, fated_start, goes_on, handed, marked, nothing_yet, opening, receiver_down, refusal, setting, start_calls, unless_none, unless_refused, up}
 use Rattle.mega_format_laws.specs.Histories.{IsCluster}
 use Rattle.mega_format_laws.specs.Requests.{AreHandlers}
 use Rattle.mega_format_laws.specs.Rounds.{Each}
@@ -37,8 +37,8 @@ marked_reached c now item is reached held = let f = reached held.1 in record { n
 handed_reached : (c : Cluster) (h : Meanings) (cuts : Cuts) (now : Standing) (j : ℕ) (o : Option Message) → IsCluster c → AreHandlers h → message_of now.tape j ≡ o → receiver_up (up now) o ≡ true → Reached c now → Reached c (handed c h cuts now j o)
 handed_reached c h cuts now j None cluster handlers is receives reached = reached
 handed_reached c h cuts now j (Some m) cluster handlers is receives reached = λ held.
-    let f = reached (at_back HoldsItem c h now m.to (Taken j ∷ []) (Take m) (cuts now.tape) held) in
-    at_formed c h now m.to (Taken j ∷ []) (Take m) (cuts now.tape) cluster handlers f (f.members m.to receives) (message_formed c.schema now.tape j m f.items is) (tt, tt)
+    let f = reached (at_back HoldsItem c h now m.to (Taken j ∷ []) (Take m) (cuts now m.to) held) in
+    at_formed c h now m.to (Taken j ∷ []) (Take m) (cuts now m.to) cluster handlers f (f.members m.to receives) (message_formed c.schema now.tape j m f.items is) (tt, tt)
 
 both_true : (a b : Bool) → (a && b) ≡ true → (a ≡ true) × (b ≡ true)
 both_true true b h = (refl, h)
@@ -88,7 +88,7 @@ delivered_reached c h cuts now j (Some m) cluster handlers is r reached = handed
 event_reached : (c : Cluster) (h : Meanings) (cuts : Cuts) (now : Standing) (event : WorldEvent) → IsCluster c → AreHandlers h → IsAsked event → refusal c now event ≡ None → Reached c now → Reached c (after_event c h cuts now event)
 event_reached c h cuts now (TickEvent node clock) cluster handlers asked r reached = λ held.
     let first = not_because (not (is_node c node.0)) 6 _ r in
-    at_formed c h now node.0 (shown node.0 (Ticks clock)) (Tick clock) (cuts now.tape) cluster handlers (reached (at_back HoldsItem c h now node.0 (shown node.0 (Ticks clock)) (Tick clock) (cuts now.tape) held)) (not_false (is_node c node.0) first.0) asked (tt, tt)
+    at_formed c h now node.0 (shown node.0 (Ticks clock)) (Tick clock) (cuts now node.0) cluster handlers (reached (at_back HoldsItem c h now node.0 (shown node.0 (Ticks clock)) (Tick clock) (cuts now node.0) held)) (not_false (is_node c node.0) first.0) asked (tt, tt)
 event_reached c h cuts now (Deliver j) cluster handlers asked r reached =
     let second = (not_because (not (is_sent now.tape j)) 3 _ r).1 in let third = (not_because (is_dropped now.tape j) 4 _ second).1 in
     delivered_reached c h cuts now j (message_of now.tape j) cluster handlers refl (not_because (receiver_down now (message_of now.tape j)) 1 None third).0 reached
@@ -97,13 +97,13 @@ event_reached c h cuts now (Drain most) cluster handlers asked r reached = drain
 event_reached c h cuts now (CrashEvent node) cluster handlers asked r reached = λ held. crash_reached c now node.0 (reached held.1)
 event_reached c h cuts now (StartEvent node) cluster handlers asked r reached =
     let first = not_because (not (is_node c node.0)) 6 _ r in
-    start_reached c h now node.0 (fate_of now node.0 (start_calls c node.0) (cuts now.tape)) (not_false (is_node c node.0) first.0) reached
+    start_reached c h now node.0 (fate_by now node.0 (cuts now node.0) (start_calls c node.0)) (not_false (is_node c node.0) first.0) reached
 event_reached c h cuts now (FuseEvent node calls image Log) cluster handlers asked r reached = λ held. let f = reached held in record { nodes = f.nodes; marks = f.marks; owed = f.owed; members = f.members; items = f.items }
 event_reached c h cuts now (FuseEvent node calls image Data) cluster handlers asked r reached = λ held. let f = reached held in record { nodes = f.nodes; marks = f.marks; owed = f.owed; members = f.members; items = f.items }
 event_reached c h cuts now (BeginEvent node request text) cluster handlers asked r reached = λ held.
     let first = not_because (not (is_node c node.0)) 6 _ r in
-    at_formed c h now node.0 (shown node.0 (Begins (op_of (setting c h node.0) (now.node node.0).met) text)) (Begin request text) (cuts now.tape) cluster handlers
-    (reached (at_back HoldsItem c h now node.0 (shown node.0 (Begins (op_of (setting c h node.0) (now.node node.0).met) text)) (Begin request text) (cuts now.tape) held)) (not_false (is_node c node.0) first.0) asked.0 (asked.1, tt)
+    at_formed c h now node.0 (shown node.0 (Begins (op_of (setting c h node.0) (now.node node.0).met) text)) (Begin request text) (cuts now node.0) cluster handlers
+    (reached (at_back HoldsItem c h now node.0 (shown node.0 (Begins (op_of (setting c h node.0) (now.node node.0).met) text)) (Begin request text) (cuts now node.0) held)) (not_false (is_node c node.0) first.0) asked.0 (asked.1, tt)
 
 events_reached : (c : Cluster) (cuts : Cuts) (events : List Happening) (now : Standing) → IsCluster c → AreFormed events → Reached c now → Reached c (goes_on c cuts now events)
 events_reached c cuts [] now cluster formed reached = reached

@@ -20,7 +20,7 @@ use Rattle.mega_rules.specs.Members.{is_node}
 use Rattle.mega_rules.specs.Operations.{Node, Setting}
 use Rattle.mega_rules.specs.Steps.{Begin, Event, Step, Take, Tick, crashed, onto, start, start_items, start_notes, step}
 use Rattle.mega_promises.specs.Items.{number, numbered, shown}
-use Rattle.mega_promises.specs.Runs.{CutByData, CutByLog, Fate, Fuse, Left, Standing, Whole, at_node, calls_of, crashes, cut_start, cut_step, fate_of, fated, fated_start, is_durable, is_kept, met_in, owes, replies_in, set_at, setting, whole_start, whole_step}
+use Rattle.mega_promises.specs.Runs.{Calls, CutByData, CutByLog, Fate, Fuse, Left, Standing, Whole, at_node, calls_of, crashes, cut_start, cut_step, fate_by, fated, fated_start, is_durable, is_kept, met_in, owes, replies_in, set_at, setting, whole_start, whole_step}
 use Rattle.mega_format_laws.specs.Histories.{IsCluster, IsItem, IsMet}
 use Rattle.mega_format_laws.specs.Nodes.{IsEvent, IsNode, IsStep}
 use Rattle.mega_format_laws.specs.Requests.{AreHandlers}
@@ -159,10 +159,10 @@ replies_formed c me met (Take message) member is asked = reply_formed c me met m
 replies_formed c me met (Tick now) member is asked = tt
 replies_formed c me met (Begin request text) member is asked = tt
 
-pub at_formed : (c : Cluster) (h : Meanings) (now : Standing) (me : ℕ) (own : List Item) (event : Event) (cut : Fate) → IsCluster c → AreHandlers h → Formed c now → is_node c me ≡ true → IsEvent event → Each (IsSpelled c.schema) own
+pub at_formed : (c : Cluster) (h : Meanings) (now : Standing) (me : ℕ) (own : List Item) (event : Event) (cut : Calls → Fate) → IsCluster c → AreHandlers h → Formed c now → is_node c me ≡ true → IsEvent event → Each (IsSpelled c.schema) own
     → Formed c (at_node c h now me own event cut)
 at_formed c h now me own event cut cluster handlers f member asked spelled =
-    fated_formed c now me own (met_in s (now.node me).met event) made (replies_in c me (now.node me).met event) (fate_of now me (calls_of c h now me event made) cut) f member is (made_marks s (now.node me) event (f.marks me)) (own_marks s (now.node me).met event (f.marks me))
+    fated_formed c now me own (met_in s (now.node me).met event) made (replies_in c me (now.node me).met event) (fate_by now me cut (calls_of c h now me event made)) f member is (made_marks s (now.node me) event (f.marks me)) (own_marks s (now.node me).met event (f.marks me))
     (each_pair IsItem (IsSaid c.schema) made.notes is.notes (step_said s (now.node me) event (f.marks me))) spelled (own_formed s (now.node me).met event asked)
     (replies_formed c me (now.node me).met event (is_member c me cluster member) (f.nodes me).met asked)
   where
@@ -181,10 +181,10 @@ fated_back P c now me own met made replies Whole h = with_back P c (set_at now.n
 fated_back P c now me own met made replies (CutByLog left) h = with_back P c (set_at now.node me (crashed (record { met = met ∷ (now.node me).met; open_operations = []; stored = (now.node me).stored }))) now.tape (own ++ shown me Crashes) h
 fated_back P c now me own met made replies (CutByData left) h = with_back P c (set_at now.node me (crashed (record { met = met ∷ (now.node me).met; open_operations = []; stored = (now.node me).stored }))) now.tape (own ++ shown me Crashes) h
 
-pub at_back : (P : Item → Type 0) (c : Cluster) (h : Meanings) (now : Standing) (me : ℕ) (own : List Item) (event : Event) (cut : Fate) → Each P (at_node c h now me own event cut).tape → Each P now.tape
+pub at_back : (P : Item → Type 0) (c : Cluster) (h : Meanings) (now : Standing) (me : ℕ) (own : List Item) (event : Event) (cut : Calls → Fate) → Each P (at_node c h now me own event cut).tape → Each P now.tape
 at_back P c h now me own event cut all =
     fated_back P c now me own (met_in (setting c h me) (now.node me).met event) (step (setting c h me) (now.node me) event) (replies_in c me (now.node me).met event)
-    (fate_of now me (calls_of c h now me event (step (setting c h me) (now.node me) event)) cut) all
+    (fate_by now me cut (calls_of c h now me event (step (setting c h me) (now.node me) event))) all
 
 -- ---- crashes and starts
 

@@ -106,7 +106,7 @@ acquire cell = record { from = 1; to = cell; body = Acquire cell (record { start
 bytes_of : (cell : ℕ) → list_all (λ b. nat_lt b 256) (message_text (acquire cell)) ≡ true → IsBytes (message_text (acquire cell))
 bytes_of cell h = bytes_are (message_text (acquire cell)) h
 
-each_held : Each HoldsItem (goes_on cluster (λ tape. Whole) (opening cluster []) (map happens (tick 1 10 ∷ []))).tape
+each_held : Each HoldsItem (goes_on cluster (λ now me calls. Whole) (opening cluster []) (map happens (tick 1 10 ∷ []))).tape
 unfolding number_text acquire
 each_held = (
   (omega arith, bytes_of 3 refl),
@@ -128,5 +128,5 @@ each_held = (
   ),
 )
 
-pub held : All HoldsItem (goes_on cluster (λ tape. Whole) (opening cluster []) (map happens (tick 1 10 ∷ []))).tape
-held = all_of_each HoldsItem (goes_on cluster (λ tape. Whole) (opening cluster []) (map happens (tick 1 10 ∷ []))).tape each_held
+pub held : All HoldsItem (goes_on cluster (λ now me calls. Whole) (opening cluster []) (map happens (tick 1 10 ∷ []))).tape
+held = all_of_each HoldsItem (goes_on cluster (λ now me calls. Whole) (opening cluster []) (map happens (tick 1 10 ∷ []))).tape each_held

@@ -14,5 +14,5 @@ pub fn a_tick_meets_the_premises()
     ensures formed { IsCluster cluster }
     ensures named { IsNamed cluster.schema }
     ensures asked { AreFormed (map happens (tick 1 10 ∷ [])) }
-    ensures held { All HoldsItem (goes_on cluster (λ tape. Whole) (opening cluster []) (map happens (tick 1 10 ∷ []))).tape }
+    ensures held { All HoldsItem (goes_on cluster (λ now me calls. Whole) (opening cluster []) (map happens (tick 1 10 ∷ []))).tape }
 {}

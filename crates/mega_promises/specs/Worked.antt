@@ -286,7 +286,7 @@ sends_in node g (Decided other at n entry) = by (other.0 == node && same_group a
 sends_in node g _ = None
 
 abbrev pub sends_decided : List Happening → List ℕ
-sends_decided events = filter_map (sends_in 1 second) (reverse (goes_on cluster (λ tape. Whole) (opening cluster []) events).tape)
+sends_decided events = filter_map (sends_in 1 second) (reverse (goes_on cluster (λ now me calls. Whole) (opening cluster []) events).tape)
 
 -- a batch: a put, a transaction that wants the user to be gone, and a read
 abbrev pub empty_txn : Transaction

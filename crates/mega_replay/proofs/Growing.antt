@@ -16,7 +16,7 @@ use Rattle.mega_rules.specs.Operations.{Node}
 use Rattle.mega_rules.specs.Steps.{Begin, Event, Step, Take, Tick, crashed, op_of, start, start_items, step}
 use Rattle.mega_promises.specs.Items.{numbered, shown}
 use Rattle.mega_promises.specs.Messages.{is_unsafe, message_of, next_delivery}
-use Rattle.mega_promises.specs.Runs.{Cuts, CutByData, CutByLog, Fate, Standing, Whole, after_event, at_node, breaks, calls_of, delivered, drained, fate_of, fated, fated_start, handed, marked, met_in, replies_in, set_at, setting, start_calls, unless_none, up, with_item, with_items}
+use Rattle.mega_promises.specs.Runs.{Calls, CutByData, CutByLog, Cuts, Fate, Standing, Whole, after_event, at_node, breaks, calls_of, delivered, drained, fate_by, fated, fated_start, handed, marked, met_in, replies_in, set_at, setting, start_calls, unless_none, up, with_item, with_items}
 
 abbrev pub Adds : List Item → List Item → Type 0
 Adds before after = (added : List Item) × (after ≡ added ++ before)
@@ -42,10 +42,10 @@ fate_adds c now me own met made replies (CutByLog left) =
 fate_adds c now me own met made replies (CutByData left) =
     items_add c (set_at now.node me (crashed (record { met = met ∷ (now.node me).met; open_operations = []; stored = (now.node me).stored }))) (own ++ shown me Crashes) now.tape
 
-node_adds : (c : Cluster) (h : Meanings) (now : Standing) (me : ℕ) (own : List Item) (event : Event) (fate : Fate) → Adds now.tape (at_node c h now me own event fate).tape
+node_adds : (c : Cluster) (h : Meanings) (now : Standing) (me : ℕ) (own : List Item) (event : Event) (fate : Calls → Fate) → Adds now.tape (at_node c h now me own event fate).tape
 node_adds c h now me own event fate =
     fate_adds c now me own (met_in (setting c h me) (now.node me).met event) (step (setting c h me) (now.node me) event) (replies_in c me (now.node me).met event)
-    (fate_of now me (calls_of c h now me event (step (setting c h me) (now.node me) event)) fate)
+    (fate_by now me fate (calls_of c h now me event (step (setting c h me) (now.node me) event)))
 
 start_adds : (c : Cluster) (h : Meanings) (now : Standing) (me : ℕ) (fate : Fate) → Adds now.tape (fated_start c h now me fate).tape
 start_adds c h now me Whole =
@@ -56,7 +56,7 @@ start_adds c h now me (CutByData left) = (flat_map (shown me) (Crashes ∷ []), 
 
 hand_adds : (c : Cluster) (h : Meanings) (cuts : Cuts) (now : Standing) (number : ℕ) (message : Option Message) → Adds now.tape (handed c h cuts now number message).tape
 hand_adds c h cuts now number None = ([], refl)
-hand_adds c h cuts now number (Some message) = node_adds c h now message.to (Taken number ∷ []) (Take message) (cuts now.tape)
+hand_adds c h cuts now number (Some message) = node_adds c h now message.to (Taken number ∷ []) (Take message) (cuts now message.to)
 
 delivery_adds : (c : Cluster) (h : Meanings) (cuts : Cuts) (now : Standing) (number : ℕ) → Adds now.tape (delivered c h cuts now number).tape
 delivery_adds c h cuts now number = hand_adds c h cuts now number (message_of now.tape number)
@@ -80,12 +80,12 @@ fuse_adds c h cuts now node calls image Log = ([], refl)
 fuse_adds c h cuts now node calls image Data = ([], refl)
 
 pub event_adds : (c : Cluster) (h : Meanings) (cuts : Cuts) (now : Standing) (event : WorldEvent) → Adds now.tape (after_event c h cuts now event).tape
-event_adds c h cuts now (TickEvent node clock) = node_adds c h now node.0 (shown node.0 (Ticks clock)) (Tick clock) (cuts now.tape)
+event_adds c h cuts now (TickEvent node clock) = node_adds c h now node.0 (shown node.0 (Ticks clock)) (Tick clock) (cuts now node.0)
 event_adds c h cuts now (Deliver number) = delivery_adds c h cuts now number
 event_adds c h cuts now (Drop number) = (Dropped number ∷ [], refl)
 event_adds c h cuts now (Drain most) = drain_adds c h cuts most now
 event_adds c h cuts now (CrashEvent node) = (flat_map (shown node.0) (Crashes ∷ []), refl)
-event_adds c h cuts now (StartEvent node) = start_adds c h now node.0 (fate_of now node.0 (start_calls c node.0) (cuts now.tape))
+event_adds c h cuts now (StartEvent node) = start_adds c h now node.0 (fate_by now node.0 (cuts now node.0) (start_calls c node.0))
 event_adds c h cuts now (FuseEvent node calls image device) = fuse_adds c h cuts now node.0 calls image device
 event_adds c h cuts now (BeginEvent node request text) =
-    node_adds c h now node.0 (shown node.0 (Begins (op_of (setting c h node.0) (now.node node.0).met) text)) (Begin request text) (cuts now.tape)
+    node_adds c h now node.0 (shown node.0 (Begins (op_of (setting c h node.0) (now.node node.0).met) text)) (Begin request text) (cuts now node.0)

@@ -22,7 +22,7 @@ use Rattle.mega_rules.specs.Steps.{Begin, Step, Take, Tick, onto, op_of, start_i
 use Rattle.mega_promises.specs.Items.{number, numbered, shown}
 use Rattle.mega_promises.specs.Messages.{is_unsafe, message_of, next_delivery}
 use Rattle.mega_promises.specs.Promises.{Stands}
-use Rattle.mega_promises.specs.Runs.{Cuts, CutByData, CutByLog, Fate, Fuse, Happening, Left, Standing, Whole, after_event, at_node, breaks, calls_of, crashes, cut_step, delivered, drained, fate_of, fated, fated_start, goes_on, handed, is_kept, marked, nothing_yet, opening, owes, refusal, replies_in, set_at, setting, start_calls, unless_none, unless_refused, up, whole_start, whole_step, with_item, with_items}
+use Rattle.mega_promises.specs.Runs.{Calls, CutByData, CutByLog, Cuts, Fate, Fuse, Happening, Left, Standing, Whole, after_event, at_node, breaks, calls_of, crashes, cut_step, delivered, drained, fate_by, fated, fated_start, goes_on, handed, is_kept, marked, nothing_yet, opening, owes, refusal, replies_in, set_at, setting, start_calls, unless_none, unless_refused, up, whole_start, whole_step, with_item, with_items}
 use Rattle.mega_tape_laws.specs.Places.{In}
 use Rattle.mega_node_laws.proofs.Ending.{step_met}
 use Rattle.mega_run_laws.proofs.Sending.{Stood}
@@ -148,22 +148,22 @@ module _ (c : Cluster) where
       cut_told now me own first left (cond (is_kept left) (owes made replies) []) (set_at now.log_fuse me None) now.data_fuse none told
   fated_told now me own first made replies (CutByData left) none is told = cut_told now me own first left [] now.log_fuse (set_at now.data_fuse me None) none told
 
-  tick_told : (h : Meanings) (now : Standing) (me clock : ℕ) (cut : Fate) → Told now → Told (at_node c h now me (shown me (Ticks clock)) (Tick clock) cut)
+  tick_told : (h : Meanings) (now : Standing) (me clock : ℕ) (cut : Calls → Fate) → Told now → Told (at_node c h now me (shown me (Ticks clock)) (Tick clock) cut)
   tick_told h now me clock cut told =
       let made = step (setting c h me) (now.node me) (Tick clock) in
-      fated_told now me (shown me (Ticks clock)) (Ticks clock) made [] (fate_of now me (calls_of c h now me (Tick clock) made) cut) (λ g n. refl) (step_met (setting c h me) (now.node me) (Tick clock)) told
+      fated_told now me (shown me (Ticks clock)) (Ticks clock) made [] (fate_by now me cut (calls_of c h now me (Tick clock) made)) (λ g n. refl) (step_met (setting c h me) (now.node me) (Tick clock)) told
 
-  take_told : (h : Meanings) (now : Standing) (me : ℕ) (own : List Item) (message : Message) (cut : Fate) → Told now → Told (at_node c h now me own (Take message) cut)
+  take_told : (h : Meanings) (now : Standing) (me : ℕ) (own : List Item) (message : Message) (cut : Calls → Fate) → Told now → Told (at_node c h now me own (Take message) cut)
   take_told h now me own message cut told =
       let made = step (setting c h me) (now.node me) (Take message) in
-      fated_told now me own (Takes message) made (replies_in c me (now.node me).met (Take message)) (fate_of now me (calls_of c h now me (Take message) made) cut) (λ g n. refl) (step_met (setting c h me) (now.node me) (Take message)) told
+      fated_told now me own (Takes message) made (replies_in c me (now.node me).met (Take message)) (fate_by now me cut (calls_of c h now me (Take message) made)) (λ g n. refl) (step_met (setting c h me) (now.node me) (Take message)) told
 
-  begin_told : (h : Meanings) (now : Standing) (me : ℕ) (request : Request) (text : List ℕ) (cut : Fate) → Told now
+  begin_told : (h : Meanings) (now : Standing) (me : ℕ) (request : Request) (text : List ℕ) (cut : Calls → Fate) → Told now
       → Told (at_node c h now me (shown me (Begins (op_of (setting c h me) (now.node me).met) text)) (Begin request text) cut)
   begin_told h now me request text cut told =
       let made = step (setting c h me) (now.node me) (Begin request text) in
       let own = Begins (op_of (setting c h me) (now.node me).met) text in
-      fated_told now me (shown me own) own made [] (fate_of now me (calls_of c h now me (Begin request text) made) cut) (λ g n. refl) (step_met (setting c h me) (now.node me) (Begin request text)) told
+      fated_told now me (shown me own) own made [] (fate_by now me cut (calls_of c h now me (Begin request text) made)) (λ g n. refl) (step_met (setting c h me) (now.node me) (Begin request text)) told
 
   -- ---- starts and crashes
 
@@ -193,7 +193,7 @@ module _ (c : Cluster) where
 
   handed_told : (h : Meanings) (cuts : Cuts) (now : Standing) (k : ℕ) (o : Option Message) → Told now → Told (handed c h cuts now k o)
   handed_told h cuts now k None told = told
-  handed_told h cuts now k (Some message) told = take_told h now message.to (Taken k ∷ []) message (cuts now.tape) told
+  handed_told h cuts now k (Some message) told = take_told h now message.to (Taken k ∷ []) message (cuts now message.to) told
 
   drained_told : (h : Meanings) (cuts : Cuts) (most : ℕ) (now : Standing) → Told now → Told (drained c h cuts now most)
   drained_told h cuts zero now told = by (next_delivery (up now) now.tape)
@@ -209,15 +209,15 @@ module _ (c : Cluster) where
       by (Some k) more = more k
 
   event_told : (h : Meanings) (cuts : Cuts) (now : Standing) (event : WorldEvent) → Told now → Told (after_event c h cuts now event)
-  event_told h cuts now (TickEvent node clock) told = tick_told h now node.0 clock (cuts now.tape) told
+  event_told h cuts now (TickEvent node clock) told = tick_told h now node.0 clock (cuts now node.0) told
   event_told h cuts now (Deliver message) told = handed_told h cuts now message (message_of now.tape message) told
   event_told h cuts now (Drop message) told = marked_told now (Dropped message) told
   event_told h cuts now (Drain most) told = drained_told h cuts most now told
   event_told h cuts now (CrashEvent node) told = crash_told now node.0 told
-  event_told h cuts now (StartEvent node) told = fated_start_told h now node.0 (fate_of now node.0 (start_calls c node.0) (cuts now.tape)) told
+  event_told h cuts now (StartEvent node) told = fated_start_told h now node.0 (fate_by now node.0 (cuts now node.0) (start_calls c node.0)) told
   event_told h cuts now (FuseEvent node calls image Log) told = told
   event_told h cuts now (FuseEvent node calls image Data) told = told
-  event_told h cuts now (BeginEvent node request text) told = begin_told h now node.0 request text (cuts now.tape) told
+  event_told h cuts now (BeginEvent node request text) told = begin_told h now node.0 request text (cuts now node.0) told
 
   unless_told : (now next : Standing) (o : Option ℕ) → Told now → Told next → Told (unless_refused now next o)
   unless_told now next None told then = then

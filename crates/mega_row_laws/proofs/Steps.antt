@@ -1,5 +1,5 @@
 -- In every run the operations of a step act on logs whose rows are each group's own.
-use Rattle.std.proofs.Common.{◌≡◌, not, ℕ, cond, Bool, true, false, List, [], ◌∷◌, ◌++◌, length, refl, ap, ◌∙◌, subst, arith, Option, Some, None}
+use Rattle.std.proofs.Common.{◌≡◌, not, ℕ, cond, Bool, true, false, List, [], ◌∷◌, ◌++◌, length, refl, sym, ap, ◌∙◌, ◌≤◌, subst, arith, Option, Some, None}
 use Rattle.std.proofs.lemmas.List.Sums.{fold-append}
 use Rattle.mega_base.specs.declared.names.NodeId.{NodeId}
 use Rattle.mega_cluster.specs.declared.cluster.Cluster.{Cluster}
@@ -48,7 +48,7 @@ refusal_fused c now me calls image (BeginEvent node request text) = refl
 -- an event that comes next is not refused, and is a step of a node with this item of its own
 record Comes (c : Cluster) (h : Meanings) (now : Standing) (me : ℕ) (own : Standing → List Item) (event : Event) (one : WorldEvent) : Type 0 where
   allowed : refusal c now one ≡ None
-  leads : (cuts : Cuts) (ready : Standing) → ready.tape ≡ now.tape → after_event c h cuts ready one ≡ at_node c h ready me (own ready) event (cuts ready.tape)
+  leads : (cuts : Cuts) (ready : Standing) → ready.tape ≡ now.tape → after_event c h cuts ready one ≡ at_node c h ready me (own ready) event (cuts ready me)
 
 module _ (c : Cluster) (usage : Usage) (declared : IsDeclared c.schema) (first : Meanings) (cuts : Cuts) (events : List Happening) (fits : Fits usage events) where
   abbrev now : Standing
@@ -93,7 +93,7 @@ module _ (c : Cluster) (usage : Usage) (declared : IsDeclared c.schema) (first :
       whole : (ready : Standing) → ready.tape ≡ now.tape → is_burning (ready.log_fuse me) ≡ false → after_event c h later ready one ≡ whole_step c ready me (own ready) (step (setting c h me) (ready.node me) event)
       whole ready same free =
           comes.leads later ready same
-          ∙ step_whole c h ready me (own ready) event (later ready.tape) (ap later same ∙ behind_is (length now.tape) cuts now.tape (omega arith)) free
+          ∙ step_whole c h ready me (own ready) event (later ready me) (behind_is (length now.tape) cuts ready me (subst (λ (tape : List Item). length now.tape ≤ length tape) (sym same) (omega arith))) free
 
       fuse : Happening
       fuse = record { handlers = h; event = FuseEvent (record { 0 = me }) 4 0 Log }

@@ -15,7 +15,7 @@ use Rattle.mega_rules.specs.Operations.{Node}
 use Rattle.mega_rules.specs.Steps.{Begin, Event, Step, Take, Tick, onto, op_of, start, start_items, start_notes, step}
 use Rattle.mega_promises.specs.Items.{numbered, shown}
 use Rattle.mega_promises.specs.Messages.{is_unsafe, message_of, next_delivery}
-use Rattle.mega_promises.specs.Runs.{AsItWas, Calls, Cuts, CutByData, CutByLog, Fate, Fuse, Happening, Standing, Whole, after_append, after_event, appends, at_node, because, breaks, calls_of, delivered, drained, fate_of, fated, fated_start, goes_on, handed, is_burning, is_kept, marked, met_in, new_fuse, nothing_yet, opening, refusal, replies_in, set_at, setting, start_calls, unless_none, unless_refused, up, whole_step, with_item, with_items}
+use Rattle.mega_promises.specs.Runs.{AsItWas, Calls, CutByData, CutByLog, Cuts, Fate, Fuse, Happening, Standing, Whole, after_append, after_event, appends, at_node, because, breaks, calls_of, delivered, drained, fate_by, fate_of, fated, fated_start, goes_on, handed, is_burning, is_kept, marked, met_in, new_fuse, nothing_yet, opening, refusal, replies_in, set_at, setting, start_calls, unless_none, unless_refused, up, whole_step, with_item, with_items}
 
 -- ---- a step that nothing cuts
 
@@ -27,7 +27,7 @@ is_whole now me calls free = by calls.appends (is_burning (now.log_fuse me)) fre
     by true false none = refl
     by false b none = refl
 
-pub step_whole : (c : Cluster) (h : Meanings) (now : Standing) (me : ℕ) (own : List Item) (event : Event) (cut : Fate) → cut ≡ Whole → is_burning (now.log_fuse me) ≡ false
+pub step_whole : (c : Cluster) (h : Meanings) (now : Standing) (me : ℕ) (own : List Item) (event : Event) (cut : Calls → Fate) → cut ≡ (λ calls. Whole) → is_burning (now.log_fuse me) ≡ false
     → at_node c h now me own event cut ≡ whole_step c now me own (step (setting c h me) (now.node me) event)
 step_whole c h now me own event cut is free =
     ap (at_node c h now me own event) is
@@ -69,10 +69,10 @@ module _ (c : Cluster) where
       let a = length-append own (shown me Crashes) in
       omega (arith, some, more, a)
 
-  node_longer : (h : Meanings) (now : Standing) (me : ℕ) (own : List Item) (event : Event) (cut : Fate) → 1 ≤ length own → suc (length now.tape) ≤ length (at_node c h now me own event cut).tape
+  node_longer : (h : Meanings) (now : Standing) (me : ℕ) (own : List Item) (event : Event) (cut : Calls → Fate) → 1 ≤ length own → suc (length now.tape) ≤ length (at_node c h now me own event cut).tape
   node_longer h now me own event cut some =
       fated_longer now me own (met_in (setting c h me) (now.node me).met event) (step (setting c h me) (now.node me) event) (replies_in c me (now.node me).met event)
-      (fate_of now me (calls_of c h now me event (step (setting c h me) (now.node me) event)) cut) some
+      (fate_by now me cut (calls_of c h now me event (step (setting c h me) (now.node me) event))) some
 
   start_longer : (h : Meanings) (now : Standing) (me : ℕ) (fate : Fate) → suc (length now.tape) ≤ length (fated_start c h now me fate).tape
   start_longer h now me Whole =
@@ -88,7 +88,7 @@ module _ (c : Cluster) where
 
   handed_longer : (h : Meanings) (cuts : Cuts) (now : Standing) (k : ℕ) (o : Option Message) → length now.tape ≤ length (handed c h cuts now k o).tape
   handed_longer h cuts now k None = omega arith
-  handed_longer h cuts now k (Some message) = let more = node_longer h now message.to (Taken k ∷ []) (Take message) (cuts now.tape) (omega arith) in omega (arith, more)
+  handed_longer h cuts now k (Some message) = let more = node_longer h now message.to (Taken k ∷ []) (Take message) (cuts now message.to) (omega arith) in omega (arith, more)
 
   drained_longer : (h : Meanings) (cuts : Cuts) (most : ℕ) (now : Standing) → length now.tape ≤ length (drained c h cuts now most).tape
   drained_longer h cuts zero now = by (next_delivery (up now) now.tape)
@@ -108,16 +108,16 @@ module _ (c : Cluster) where
       by (Some k) more = more k
 
   event_longer : (h : Meanings) (cuts : Cuts) (now : Standing) (event : WorldEvent) → length now.tape ≤ length (after_event c h cuts now event).tape
-  event_longer h cuts now (TickEvent node clock) = let more = node_longer h now node.0 (shown node.0 (Ticks clock)) (Tick clock) (cuts now.tape) (omega arith) in omega (arith, more)
+  event_longer h cuts now (TickEvent node clock) = let more = node_longer h now node.0 (shown node.0 (Ticks clock)) (Tick clock) (cuts now node.0) (omega arith) in omega (arith, more)
   event_longer h cuts now (Deliver k) = handed_longer h cuts now k (message_of now.tape k)
   event_longer h cuts now (Drop k) = omega arith
   event_longer h cuts now (Drain most) = drained_longer h cuts most now
   event_longer h cuts now (CrashEvent node) = omega arith
-  event_longer h cuts now (StartEvent node) = let more = start_longer h now node.0 (fate_of now node.0 (start_calls c node.0) (cuts now.tape)) in omega (arith, more)
+  event_longer h cuts now (StartEvent node) = let more = start_longer h now node.0 (fate_by now node.0 (cuts now node.0) (start_calls c node.0)) in omega (arith, more)
   event_longer h cuts now (FuseEvent node calls image Log) = omega arith
   event_longer h cuts now (FuseEvent node calls image Data) = omega arith
   event_longer h cuts now (BeginEvent node request text) =
-      let more = node_longer h now node.0 (shown node.0 (Begins (op_of (setting c h node.0) (now.node node.0).met) text)) (Begin request text) (cuts now.tape) (omega arith) in omega (arith, more)
+      let more = node_longer h now node.0 (shown node.0 (Begins (op_of (setting c h node.0) (now.node node.0).met) text)) (Begin request text) (cuts now node.0) (omega arith) in omega (arith, more)
 
   unless_longer : (now next : Standing) (o : Option ℕ) → length now.tape ≤ length next.tape → length now.tape ≤ length (unless_refused now next o).tape
   unless_longer now next None le = le
@@ -136,23 +136,23 @@ module _ (c : Cluster) where
 -- ---- what is cut on shorter tapes is cut still, and nothing on longer ones
 
 abbrev pub until : ℕ → Cuts → Cuts
-until long cuts tape = cond (nat_lt (length tape) long) (cuts tape) Whole
+until long cuts now me calls = cond (nat_lt (length now.tape) long) (cuts now me calls) Whole
 
-before_is : (long : ℕ) (cuts : Cuts) (tape : List Item) → length tape < long → until long cuts tape ≡ cuts tape
-before_is long cuts tape less = ap (λ t. cond t (cuts tape) Whole) (lt-ltb (length tape) long less)
+before_is : (long : ℕ) (cuts : Cuts) (now : Standing) (me : ℕ) → length now.tape < long → until long cuts now me ≡ cuts now me
+before_is long cuts now me less = ap (λ t calls. cond t (cuts now me calls) Whole) (lt-ltb (length now.tape) long less)
 
-pub behind_is : (long : ℕ) (cuts : Cuts) (tape : List Item) → long ≤ length tape → until long cuts tape ≡ Whole
-behind_is long cuts tape le = ap (λ t. cond t (cuts tape) Whole) (le-ltb (length tape) long le)
+pub behind_is : (long : ℕ) (cuts : Cuts) (now : Standing) (me : ℕ) → long ≤ length now.tape → until long cuts now me ≡ (λ calls. Whole)
+behind_is long cuts now me le = ap (λ t calls. cond t (cuts now me calls) Whole) (le-ltb (length now.tape) long le)
 
 module _ (c : Cluster) (long : ℕ) (cuts : Cuts) where
-  cut_same : (now : Standing) (next : Fate → Standing) → suc (length now.tape) ≤ length (next (cuts now.tape)).tape → length (next (cuts now.tape)).tape ≤ long
-      → next (until long cuts now.tape) ≡ next (cuts now.tape)
-  cut_same now next grows le = ap next (before_is long cuts now.tape (omega (arith, grows, le)))
+  cut_same : (now : Standing) (me : ℕ) (next : (Calls → Fate) → Standing) → suc (length now.tape) ≤ length (next (cuts now me)).tape → length (next (cuts now me)).tape ≤ long
+      → next (until long cuts now me) ≡ next (cuts now me)
+  cut_same now me next grows le = ap next (before_is long cuts now me (omega (arith, grows, le)))
 
   handed_same : (h : Meanings) (now : Standing) (k : ℕ) (o : Option Message) → length (handed c h cuts now k o).tape ≤ long → handed c h (until long cuts) now k o ≡ handed c h cuts now k o
   handed_same h now k None le = refl
   handed_same h now k (Some message) le =
-      cut_same now (at_node c h now message.to (Taken k ∷ []) (Take message)) (node_longer c h now message.to (Taken k ∷ []) (Take message) (cuts now.tape) (omega arith)) le
+      cut_same now message.to (at_node c h now message.to (Taken k ∷ []) (Take message)) (node_longer c h now message.to (Taken k ∷ []) (Take message) (cuts now message.to) (omega arith)) le
 
   drained_same : (h : Meanings) (most : ℕ) (now : Standing) → length (drained c h cuts now most).tape ≤ long → drained c h (until long cuts) now most ≡ drained c h cuts now most
   drained_same h zero now le = refl
@@ -170,18 +170,18 @@ module _ (c : Cluster) (long : ℕ) (cuts : Cuts) where
 
   event_same : (h : Meanings) (now : Standing) (event : WorldEvent) → length (after_event c h cuts now event).tape ≤ long → after_event c h (until long cuts) now event ≡ after_event c h cuts now event
   event_same h now (TickEvent node clock) le =
-      cut_same now (at_node c h now node.0 (shown node.0 (Ticks clock)) (Tick clock)) (node_longer c h now node.0 (shown node.0 (Ticks clock)) (Tick clock) (cuts now.tape) (omega arith)) le
+      cut_same now node.0 (at_node c h now node.0 (shown node.0 (Ticks clock)) (Tick clock)) (node_longer c h now node.0 (shown node.0 (Ticks clock)) (Tick clock) (cuts now node.0) (omega arith)) le
   event_same h now (Deliver k) le = handed_same h now k (message_of now.tape k) le
   event_same h now (Drop k) le = refl
   event_same h now (Drain most) le = drained_same h most now le
   event_same h now (CrashEvent node) le = refl
   event_same h now (StartEvent node) le =
-      cut_same now (λ cut. fated_start c h now node.0 (fate_of now node.0 (start_calls c node.0) cut)) (start_longer c h now node.0 (fate_of now node.0 (start_calls c node.0) (cuts now.tape))) le
+      cut_same now node.0 (λ cut. fated_start c h now node.0 (fate_by now node.0 cut (start_calls c node.0))) (start_longer c h now node.0 (fate_by now node.0 (cuts now node.0) (start_calls c node.0))) le
   event_same h now (FuseEvent node calls image Log) le = refl
   event_same h now (FuseEvent node calls image Data) le = refl
   event_same h now (BeginEvent node request text) le =
-      cut_same now (at_node c h now node.0 (shown node.0 (Begins (op_of (setting c h node.0) (now.node node.0).met) text)) (Begin request text))
-      (node_longer c h now node.0 (shown node.0 (Begins (op_of (setting c h node.0) (now.node node.0).met) text)) (Begin request text) (cuts now.tape) (omega arith)) le
+      cut_same now node.0 (at_node c h now node.0 (shown node.0 (Begins (op_of (setting c h node.0) (now.node node.0).met) text)) (Begin request text))
+      (node_longer c h now node.0 (shown node.0 (Begins (op_of (setting c h node.0) (now.node node.0).met) text)) (Begin request text) (cuts now node.0) (omega arith)) le
 
   unless_same : (now next other : Standing) (o : Option ℕ) → length (unless_refused now next o).tape ≤ long → (length next.tape ≤ long → other ≡ next) → unless_refused now other o ≡ unless_refused now next o
   unless_same now next other None le same = same le
@@ -216,10 +216,10 @@ module _ (c : Cluster) where
   fated_nodes now me own first made replies (CutByLog left) nodes = fuse_at now.log_fuse me None nodes (λ none. refl)
   fated_nodes now me own first made replies (CutByData left) nodes = nodes
 
-  node_nodes : (h : Meanings) (now : Standing) (me : ℕ) (own : List Item) (event : Event) (cut : Fate) → SetAtNodes c now.log_fuse → SetAtNodes c (at_node c h now me own event cut).log_fuse
+  node_nodes : (h : Meanings) (now : Standing) (me : ℕ) (own : List Item) (event : Event) (cut : Calls → Fate) → SetAtNodes c now.log_fuse → SetAtNodes c (at_node c h now me own event cut).log_fuse
   node_nodes h now me own event cut nodes =
       fated_nodes now me own (met_in (setting c h me) (now.node me).met event) (step (setting c h me) (now.node me) event) (replies_in c me (now.node me).met event)
-      (fate_of now me (calls_of c h now me event (step (setting c h me) (now.node me) event)) cut) nodes
+      (fate_by now me cut (calls_of c h now me event (step (setting c h me) (now.node me) event))) nodes
 
   start_nodes : (h : Meanings) (now : Standing) (me : ℕ) (fate : Fate) → SetAtNodes c now.log_fuse → SetAtNodes c (fated_start c h now me fate).log_fuse
   start_nodes h now me Whole nodes = fuse_at now.log_fuse me (after_append (now.log_fuse me)) nodes (appended true (now.log_fuse me))
@@ -228,7 +228,7 @@ module _ (c : Cluster) where
 
   handed_nodes : (h : Meanings) (cuts : Cuts) (now : Standing) (k : ℕ) (o : Option Message) → SetAtNodes c now.log_fuse → SetAtNodes c (handed c h cuts now k o).log_fuse
   handed_nodes h cuts now k None nodes = nodes
-  handed_nodes h cuts now k (Some message) nodes = node_nodes h now message.to (Taken k ∷ []) (Take message) (cuts now.tape) nodes
+  handed_nodes h cuts now k (Some message) nodes = node_nodes h now message.to (Taken k ∷ []) (Take message) (cuts now message.to) nodes
 
   drained_nodes : (h : Meanings) (cuts : Cuts) (most : ℕ) (now : Standing) → SetAtNodes c now.log_fuse → SetAtNodes c (drained c h cuts now most).log_fuse
   drained_nodes h cuts zero now nodes = by (next_delivery (up now) now.tape)
@@ -253,16 +253,16 @@ module _ (c : Cluster) where
 
   event_nodes : (h : Meanings) (cuts : Cuts) (now : Standing) (event : WorldEvent) (o : Option ℕ) → refusal c now event ≡ o → SetAtNodes c now.log_fuse → SetAtNodes c (unless_refused now (after_event c h cuts now event) o).log_fuse
   event_nodes h cuts now event (Some why) is nodes = nodes
-  event_nodes h cuts now (TickEvent node clock) None is nodes = node_nodes h now node.0 (shown node.0 (Ticks clock)) (Tick clock) (cuts now.tape) nodes
+  event_nodes h cuts now (TickEvent node clock) None is nodes = node_nodes h now node.0 (shown node.0 (Ticks clock)) (Tick clock) (cuts now node.0) nodes
   event_nodes h cuts now (Deliver k) None is nodes = handed_nodes h cuts now k (message_of now.tape k) nodes
   event_nodes h cuts now (Drop k) None is nodes = nodes
   event_nodes h cuts now (Drain most) None is nodes = drained_nodes h cuts most now nodes
   event_nodes h cuts now (CrashEvent node) None is nodes = nodes
-  event_nodes h cuts now (StartEvent node) None is nodes = start_nodes h now node.0 (fate_of now node.0 (start_calls c node.0) (cuts now.tape)) nodes
+  event_nodes h cuts now (StartEvent node) None is nodes = start_nodes h now node.0 (fate_by now node.0 (cuts now node.0) (start_calls c node.0)) nodes
   event_nodes h cuts now (FuseEvent node calls image Log) None is nodes = fused_nodes now node.0 calls image (is_node c node.0) refl is nodes
   event_nodes h cuts now (FuseEvent node calls image Data) None is nodes = nodes
   event_nodes h cuts now (BeginEvent node request text) None is nodes =
-      node_nodes h now node.0 (shown node.0 (Begins (op_of (setting c h node.0) (now.node node.0).met) text)) (Begin request text) (cuts now.tape) nodes
+      node_nodes h now node.0 (shown node.0 (Begins (op_of (setting c h node.0) (now.node node.0).met) text)) (Begin request text) (cuts now node.0) nodes
 
   goes_on_nodes : (cuts : Cuts) (events : List Happening) (now : Standing) → SetAtNodes c now.log_fuse → SetAtNodes c (goes_on c cuts now events).log_fuse
   goes_on_nodes cuts [] now nodes = nodes

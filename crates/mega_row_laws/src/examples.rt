@@ -19,7 +19,7 @@ pub fn a_put_meets_the_premises()
     ensures declared { IsDeclared named_cluster.schema }
     ensures fits { Fits asks_put (map happens (put_at 1 ∷ Deliver 1 ∷ [])) }
     ensures begins { refusal named_cluster (opening named_cluster []) (put_at 1) ≡ None }
-    ensures takes { refusal named_cluster (goes_on named_cluster (λ tape. Whole) (opening named_cluster []) (map happens (put_at 1 ∷ []))) (Deliver 1) ≡ None }
+    ensures takes { refusal named_cluster (goes_on named_cluster (λ now me calls. Whole) (opening named_cluster []) (map happens (put_at 1 ∷ []))) (Deliver 1) ≡ None }
 {}
 
 /// Where the root of a table is no root, an item of one group names a key under which a transaction of another group writes.

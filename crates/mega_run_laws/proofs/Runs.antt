@@ -12,7 +12,7 @@ use Rattle.mega_transcript.specs.declared.item.Item.{Item}
 use Rattle.mega_transcript.specs.declared.item.Item.TheVariants.{Taken, Dropped, Start, Tick as TickItem, Begin as BeginItem, Crash, Cut as CutItem}
 use Rattle.mega_promises.specs.Items.{number, shown}
 use Rattle.mega_promises.specs.Messages.{is_deliverable, is_dropped, message_of, next_delivery, receiver_up}
-use Rattle.mega_promises.specs.Runs.{Cuts, CutByData, CutByLog, Fate, Fuse, Happening, IsRun, Left, Standing, Whole, after_event, at_node, because, calls_of, crashes, cut_start, cut_step, delivered, drained, fate_of, fated, fated_start, goes_on, handed, is_durable, is_kept, log_fuse_after, marked, nothing_yet, opening, owes, receiver_down, records_left, refusal, set_at, setting, start_calls, started_records, unless_none, unless_refused, up, whole_start, whole_step, with_item, with_items}
+use Rattle.mega_promises.specs.Runs.{Calls, CutByData, CutByLog, Cuts, Fate, Fuse, Happening, IsRun, Left, Standing, Whole, after_event, at_node, because, calls_of, crashes, cut_start, cut_step, delivered, drained, fate_by, fated, fated_start, goes_on, handed, is_durable, is_kept, log_fuse_after, marked, nothing_yet, opening, owes, receiver_down, records_left, refusal, set_at, setting, start_calls, started_records, unless_none, unless_refused, up, whole_start, whole_step, with_item, with_items}
 use Rattle.mega_transcript.specs.Tape.{is_sent, is_taken}
 use Rattle.mega_rules.specs.Met.{Met, Answers, Applies, Begins, Crashes, Starts, Takes, Ticks, Unsends}
 use Rattle.mega_rules.specs.Members.{has_rows, is_node, nodes}
@@ -356,7 +356,7 @@ fated_start_good users c h now me (CutByData left) g = cut_start_good users c no
 
 handed_good : (users : Users) → (c : Cluster) (h : Meanings) → (users.fits → Brought users.usage h) → (cuts : Cuts) (now : Standing) (j : ℕ) (o : Option Message) → message_of now.tape j ≡ o → receiver_up (up now) o ≡ true → Good users c now → Good users c (handed c h cuts now j o)
 handed_good users c h brought cuts now j None is r g = g
-handed_good users c h brought cuts now j (Some m) is r g = fated_good users c now m.to (Taken j) (Takes m) made (reply_to c m.to (now.node m.to).met m) (fate_of now m.to (calls_of c h now m.to (Take m) made) (cuts now.tape)) g (λ n. refl) (own_taken c now.tape j m (now.node m.to).met) (λ x other. tt)
+handed_good users c h brought cuts now j (Some m) is r g = fated_good users c now m.to (Taken j) (Takes m) made (reply_to c m.to (now.node m.to).met m) (fate_by now m.to (cuts now m.to) (calls_of c h now m.to (Take m) made)) g (λ n. refl) (own_taken c now.tape j m (now.node m.to).met) (λ x other. tt)
     (owes_notes c tape2 m.to made.notes (map Unsends (reply_to c m.to (now.node m.to).met m)) (each_note_on c (Taken j ∷ now.tape) tape2 (λ item s. inr s) m.to made.notes next.1)
     (owes_reply c tape2 m.to (now.node m.to).met m (record { made = (g.node m.to).made; decides = λ h' n e d. inr (inr ((g.node m.to).known h' n e d)) }) (record { number = j; sent = inr (inr (stands_sent now.tape j m is)); taken = inr (inl refl) })))
     (whole_good users s now (Taken j) (Takes m) made g (λ n. refl) next)
@@ -373,8 +373,8 @@ handed_good users c h brought cuts now j (Some m) is r g = fated_good users c no
     next : StepNext users s now (set_at now.node m.to made.node) (Taken j) (Takes m) made
     next = take_next users s brought now (set_at now.node m.to made.node) j m g r (stands_sent now.tape j m is)
 
-tick_good : (users : Users) → (c : Cluster) (h : Meanings) → (users.fits → Brought users.usage h) → (now : Standing) (me clock : ℕ) (cut : Fate) → is_up (now.node me).met ≡ true → Good users c now → Good users c (at_node c h now me (shown me (Ticks clock)) (Tick clock) cut)
-tick_good users c h brought now me clock cut r g = fated_good users c now me (TickItem (number me) clock) (Ticks clock) made [] (fate_of now me (calls_of c h now me (Tick clock) made) cut) g (λ n. refl) (own_tick c now.tape me clock (now.node me).met) (λ x other. tt)
+tick_good : (users : Users) → (c : Cluster) (h : Meanings) → (users.fits → Brought users.usage h) → (now : Standing) (me clock : ℕ) (cut : Calls → Fate) → is_up (now.node me).met ≡ true → Good users c now → Good users c (at_node c h now me (shown me (Ticks clock)) (Tick clock) cut)
+tick_good users c h brought now me clock cut r g = fated_good users c now me (TickItem (number me) clock) (Ticks clock) made [] (fate_by now me cut (calls_of c h now me (Tick clock) made)) g (λ n. refl) (own_tick c now.tape me clock (now.node me).met) (λ x other. tt)
     (owes_notes c (Crash (number me) ∷ TickItem (number me) clock ∷ now.tape) me made.notes [] (each_note_on c (TickItem (number me) clock ∷ now.tape) (Crash (number me) ∷ TickItem (number me) clock ∷ now.tape) (λ item s. inr s) me made.notes next.1) tt)
     (whole_good users s now (TickItem (number me) clock) (Ticks clock) made g (λ n. refl) next)
   where
@@ -387,9 +387,9 @@ tick_good users c h brought now me clock cut r g = fated_good users c now me (Ti
     next : StepNext users s now (set_at now.node me made.node) (TickItem (number me) clock) (Ticks clock) made
     next = ticked_next users s brought now (set_at now.node me made.node) clock g r
 
-begin_good : (users : Users) → (c : Cluster) (h : Meanings) → (users.fits → Brought users.usage h) → (now : Standing) (me : ℕ) (request : Request) (text : List ℕ) (cut : Fate) → (users.fits → (users.usage).meaning text ≡ Some request) → is_up (now.node me).met ≡ true → Good users c now
+begin_good : (users : Users) → (c : Cluster) (h : Meanings) → (users.fits → Brought users.usage h) → (now : Standing) (me : ℕ) (request : Request) (text : List ℕ) (cut : Calls → Fate) → (users.fits → (users.usage).meaning text ≡ Some request) → is_up (now.node me).met ≡ true → Good users c now
     → Good users c (at_node c h now me (shown me (Begins (op_of (setting c h me) (now.node me).met) text)) (Begin request text) cut)
-begin_good users c h brought now me request text cut means r g = fated_good users c now me (BeginItem id text) (Begins id text) made [] (fate_of now me (calls_of c h now me (Begin request text) made) cut) g (λ n. refl) (own_begin c now.tape id text (now.node me).met (never_asked users s now g) (never_begun users s now g)) (begins_other users s now text g)
+begin_good users c h brought now me request text cut means r g = fated_good users c now me (BeginItem id text) (Begins id text) made [] (fate_by now me cut (calls_of c h now me (Begin request text) made)) g (λ n. refl) (own_begin c now.tape id text (now.node me).met (never_asked users s now g) (never_begun users s now g)) (begins_other users s now text g)
     (owes_notes c (Crash (number me) ∷ BeginItem id text ∷ now.tape) me made.notes [] (each_note_on c (BeginItem id text ∷ now.tape) (Crash (number me) ∷ BeginItem id text ∷ now.tape) (λ item s. inr s) me made.notes next.1) tt)
     (whole_good users s now (BeginItem id text) (Begins id text) made g (λ n. refl) next)
   where
@@ -467,19 +467,19 @@ delivered_good users c h brought cuts now j (Some m) is r g = handed_good users 
 event_good : (users : Users) → (c : Cluster) (h : Meanings) → (users.fits → Brought users.usage h) → (cuts : Cuts) (now : Standing) (event : WorldEvent) → (users.fits → IsMeant users.usage event) → refusal c now event ≡ None → Good users c now → Good users c (after_event c h cuts now event)
 event_good users c h brought cuts now (TickEvent node clock) meant r g =
     let second = (not_because (not (is_node c node.0)) 6 _ r).1 in let third = (not_because (not (up now node.0)) 1 _ second).0 in
-    tick_good users c h brought now node.0 clock (cuts now.tape) (not_false (up now node.0) third) g
+    tick_good users c h brought now node.0 clock (cuts now node.0) (not_false (up now node.0) third) g
 event_good users c h brought cuts now (Deliver j) meant r g =
     let second = (not_because (not (is_sent now.tape j)) 3 _ r).1 in let third = (not_because (is_dropped now.tape j) 4 _ second).1 in
     delivered_good users c h brought cuts now j (message_of now.tape j) refl (not_because (receiver_down now (message_of now.tape j)) 1 None third).0 g
 event_good users c h brought cuts now (Drop j) meant r g = marked_good users c now (Dropped j) (tape_item c now.tape (Dropped j) tt (λ x q. refl) (λ v q. refl) (λ x. refl) tt (λ schema usage. tt)) (λ x. refl) (λ schema usage. tt) (λ x. refl) g
 event_good users c h brought cuts now (Drain most) meant r g = drained_good users c h brought cuts most now g
 event_good users c h brought cuts now (CrashEvent node) meant r g = crashes_good users c now node.0 g
-event_good users c h brought cuts now (StartEvent node) meant r g = fated_start_good users c h now node.0 (fate_of now node.0 (start_calls c node.0) (cuts now.tape)) g
+event_good users c h brought cuts now (StartEvent node) meant r g = fated_start_good users c h now node.0 (fate_by now node.0 (cuts now node.0) (start_calls c node.0)) g
 event_good users c h brought cuts now (FuseEvent node calls image Log) meant r g = record { lawful = g.lawful; node = g.node; starts = g.starts; polls = g.polls; written = g.written; unbegun = g.unbegun; answered = g.answered; unfailed = g.unfailed; fresh = g.fresh; unasked = g.unasked; worn = g.worn; owes = g.owes; owed = g.owed }
 event_good users c h brought cuts now (FuseEvent node calls image Data) meant r g = record { lawful = g.lawful; node = g.node; starts = g.starts; polls = g.polls; written = g.written; unbegun = g.unbegun; answered = g.answered; unfailed = g.unfailed; fresh = g.fresh; unasked = g.unasked; worn = g.worn; owes = g.owes; owed = g.owed }
 event_good users c h brought cuts now (BeginEvent node request text) meant r g =
     let second = (not_because (not (is_node c node.0)) 6 _ r).1 in let third = (not_because (not (up now node.0)) 1 _ second).0 in
-    begin_good users c h brought now node.0 request text (cuts now.tape) meant (not_false (up now node.0) third) g
+    begin_good users c h brought now node.0 request text (cuts now node.0) meant (not_false (up now node.0) third) g
 
 run_good : (users : Users) → (c : Cluster) (cuts : Cuts) (events : List Happening) (now : Standing) → (users.fits → Fits users.usage events) → Good users c now → Good users c (goes_on c cuts now events)
 run_good users c cuts [] now fits g = g

@@ -10,4 +10,4 @@ then_reads = map happens (tick 1 10 ∷ drain ∷ put_at 1 ∷ drain ∷ read_at
 
 -- how a run stands after these events, where no fuse cuts
 abbrev pub stands_after : List Happening → Standing
-stands_after events = goes_on cluster (λ tape. Whole) (opening cluster []) events
+stands_after events = goes_on cluster (λ now me calls. Whole) (opening cluster []) events

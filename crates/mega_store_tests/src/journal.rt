@@ -1,6 +1,6 @@
 //! A journal over devices that stop at any call, and over any bytes.
 use mega_base::Bytes;
-use mega_disk::{Disk, FileDisk, MemDisk, RecordError, Records};
+use mega_disk::{Disk, FileDisk, MemDisk, MemRecords, RecordError, Records};
 use mega_journal::Journal;
 use std::alloc::Global;
 use std::fs;
@@ -157,6 +157,42 @@ fn any_bytes_open_to_what_the_format_says(rt: HostRuntime) -> Result<(), Fail> {
         let mut disk = device(alloc, bytes.as_slice())?;
         let found = records_on(alloc, &mut disk)?;
         assert_eq!(rt; found.len(), count_by_the_format(bytes.as_slice()));
+    }
+    Ok(())
+}
+
+/// How many of three appends are acknowledged before the fuse burns.
+fn appended<R: Records>(alloc: Global, records: &mut R, calls: u64, image: u8) -> u64 {
+    records.fuse(calls, image);
+    let mut count = 0u64;
+    for _ in 0..3u8 {
+        if records.append(alloc, b"body").is_err() {
+            return count;
+        }
+        count = count.saturating_add(1);
+    }
+    count
+}
+
+#[test]
+fn a_list_in_memory_is_cut_as_a_chain_is(rt: HostRuntime) -> Result<(), Fail> {
+    let alloc = rt.alloc();
+    for calls in 0..13u64 {
+        for image in 0..3u8 {
+            let mut list = MemRecords::new(alloc);
+            let count = appended(alloc, &mut list, calls, image);
+            list.reopen()?;
+            let kept = list.take_opened();
+            let mut disk = MemDisk::new(alloc);
+            let Ok(mut journal) = Journal::open(alloc, &mut disk) else {
+                return Ok(());
+            };
+            assert_eq!(rt; appended(alloc, &mut journal, calls, image), count);
+            drop(journal);
+            disk.fuse(1000, 0);
+            let found = records_on(alloc, &mut disk)?;
+            assert_eq!(rt; found.len(), kept.len(), "{calls} {image}");
+        }
     }
     Ok(())
 }
