@@ -1,5 +1,6 @@
 -- The fault of a world where a node of it did not step.
-use Rattle.std.specs.Prelude.{Option, Some, None}
+use Rattle.std.specs.Prelude.{◌≡◌, Option, Some, None}
+use Rattle.mega_core.specs.Faults.{of_store}
 use Rattle.mega_core.specs.declared.fault.StepFault.{StepFault}
 use Rattle.mega_core.specs.declared.fault.StepFault.TheVariants as step
 use Rattle.mega_wal.specs.declared.answers.LogFault.{LogFault}
@@ -37,3 +38,9 @@ abbrev pub not_made_of : UpFault → Option NotMade
 not_made_of (up.Step fault) = as_fault (fault_of fault)
 not_made_of (up.Cut cut) = Some (not_made.Cut cut)
 not_made_of (up.Log fault) = as_fault (log_fault_of fault)
+
+-- what rows in memory, and records in memory that are open, do not rule out
+abbrev pub CanComeHere : UpFault → Type 0
+CanComeHere (up.Step fault) = of_store fault ≡ None
+CanComeHere (up.Cut cut) = Unit {0}
+CanComeHere (up.Log fault) = fault ≡ log.NoMemory

@@ -1,6 +1,7 @@
 pub mod Carries
 pub mod Faults
 pub mod Formed
+pub mod Fusing
 pub mod Kept
 pub mod Lapses
 pub mod Least
@@ -8,6 +9,8 @@ pub mod Locking
 pub mod LogFuses
 pub mod Members
 pub mod Opening
+pub mod Owing
+pub mod Restarting
 pub mod Showing
 pub mod Shown
 pub mod Stands

@@ -1,8 +1,9 @@
 -- How a world and its tape stand to a run of its cluster.
-use Rattle.std.specs.Prelude.{◌≡◌, List, None}
+use Rattle.std.specs.Prelude.{◌≡◌, ℕ, List, None}
 use Rattle.mega_cluster.specs.declared.cluster.Cluster.{Cluster}
 use Rattle.mega_handler.specs.Named.{Meanings}
 use Rattle.mega_schedule.specs.declared.world_event.WorldEvent.{WorldEvent}
+use Rattle.mega_schedule.specs.declared.world_event.WorldEvent.TheVariants.{Deliver}
 use Rattle.mega_transcript.specs.declared.item.Item.{Item}
 use Rattle.mega_transcript.specs.Tape.{newest}
 use Rattle.mega_core.specs.Served.{IsServed}
@@ -43,3 +44,12 @@ pub record MayCome (world : World) (items : List Item) (event : WorldEvent) : Ty
   pub now : Standing
   pub at : IsAt cluster world items now
   pub sound : refusal cluster now event ≡ None → IsSound cluster handlers now event
+
+-- there is a run at which the world stands, in which the delivery of this message is sound and not refused
+pub record IsAllowed (world : World) (items : List Item) (number : ℕ) : Type 0 where
+  pub cluster : Cluster
+  pub handlers : Meanings
+  pub now : Standing
+  pub at : IsAt cluster world items now
+  pub sound : IsSound cluster handlers now (Deliver number)
+  pub allowed : refusal cluster now (Deliver number) ≡ None

@@ -1,5 +1,5 @@
 -- What becomes of a step of a node that is up: it makes it whole, or its log's fuse cuts it off.
-use Rattle.std.specs.Prelude.{◌≡◌, ℕ, ◌&&◌, true, false, if◌then◌else◌, List, [], ◌∷◌, map, Option, Some, None}
+use Rattle.std.specs.Prelude.{◌≡◌, ℕ, ◌&&◌, true, false, if◌then◌else◌, List, [], map, Option, Result, Ok, Err}
 use Rattle.mega_cluster.specs.declared.cluster.Cluster.{Cluster}
 use Rattle.mega_disk.specs.Fuse.{Unset}
 use Rattle.mega_disk.specs.MemDisk.{fuse_of}
@@ -15,11 +15,13 @@ use Rattle.mega_durable.specs.Replying.{owed_by}
 use Rattle.mega_durable.specs.Standing.{MayHappen}
 use Rattle.mega_promises.specs.Runs.{Fuse, Standing, after_append, appends, cut_step, is_burning, is_kept, left_by, met_in, owes, replies_in, set_at, setting, whole_step}
 use Rattle.mega_world.specs.declared.member.Member.{Member}
+use Rattle.mega_world.specs.declared.not_made.NotMade.{NotMade}
+use Rattle.mega_world.specs.declared.not_made.NotMade.TheVariants as not_made
 use Rattle.mega_world.specs.declared.place.Place.{Place}
 use Rattle.mega_world.specs.declared.stepping.Stepped.{Stepped}
 use Rattle.mega_world.specs.declared.stepping.Stepped.TheVariants as stepped
 use Rattle.mega_world.specs.Kept.{AreNodes}
-use Rattle.mega_world.specs.LogFuses.{IsFused}
+use Rattle.mega_world.specs.LogFuses.{IsFused, run_fuse}
 use Rattle.mega_world.specs.Members.{IsMember, records_of}
 
 -- of each node of the rules which this node may be, with this fuse of the run on its log, and at which the event may happen
@@ -50,7 +52,14 @@ pub record WasCut (c : Cluster) (h : Meanings) (me : ℕ) (ruled : RuleNode) (ev
   pub burning : is_burning fuse ≡ true
   pub holds : HoldsCut (setting c h me) ruled event (records_of member).list.items (left_by fuse)
   pub gone : fuse_of (records_of member).fuse ≡ Unset
+  pub was : run_fuse member.fuse ≡ fuse
   pub owed : owed_by cut ≡ owes (step (setting c h me) ruled event) (replies_in c me ruled.met event)
+
+-- what of this is so of a step that the node made, or did not make
+abbrev pub Outcome : Cluster → Meanings → ℕ → RuleNode → Event → Option Fuse → Member → Result Step NotMade → Type 0
+Outcome c h me ruled event fuse member (Ok made) = MadeStep c me (step (setting c h me) ruled event) fuse member made
+Outcome c h me ruled event fuse member (Err (not_made.Cut cut)) = WasCut c h me ruled event fuse member cut
+Outcome c h me ruled event fuse member (Err (not_made.Fault fault)) = Unit {0}
 
 -- of the nodes of each run at which the event may happen to this node
 abbrev pub AtEachRun : List Place → ℕ → Event → (Cluster → Meanings → Standing → Type 0) → Type 0

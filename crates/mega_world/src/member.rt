@@ -1,17 +1,16 @@
 //! A node of a world that is up, over logs and rows in memory, with the fuse on its log.
-ghost use Rattle.std.specs.Prelude.{◌≡◌, ◌≢◌, ◌⊎◌, ℕ, false, IfErr, IfOk, Err};
+ghost use Rattle.std.specs.Prelude.{◌≡◌, ◌≢◌, ◌⊎◌, ◌+◌, ℕ, Err, Option};
 ghost use Rattle.mega_actions.specs.Built.{is_built};
 ghost use Rattle.mega_cluster.specs.declared.cluster.Cluster.{Cluster};
-ghost use Rattle.mega_durable.specs.declared.cut.Cut.{Cut as CutOff};
 ghost use Rattle.mega_leases.specs.Taking.{IsByStranger, IsLate};
 ghost use Rattle.mega_rules.specs.Operations.{Node as RuleNode};
-ghost use Rattle.mega_rules.specs.Steps.{Begin, Take, Tick, step};
-ghost use Rattle.mega_promises.specs.Runs.{new_fuse, setting};
+ghost use Rattle.mega_rules.specs.Steps.{Begin, Take, Tick};
+ghost use Rattle.mega_promises.specs.Runs.{Fuse, after_append, new_fuse};
 ghost use Rattle.mega_world.specs.declared.fault.WorldFault.TheVariants.{Limit, Refused, Unbuilt};
-ghost use Rattle.mega_world.specs.declared.not_made.NotMade.TheVariants.{Cut, Fault};
-ghost use Rattle.mega_world.specs.LogFuses.{IsFused};
+ghost use Rattle.mega_world.specs.declared.not_made.NotMade.TheVariants.{Fault};
+ghost use Rattle.mega_world.specs.LogFuses.{HasRoom, IsFused, run_fuse};
 ghost use Rattle.mega_world.specs.Members.{IsMember, records_of};
-ghost use Rattle.mega_world.specs.Stepping.{AtEachNode, IsSome, MadeStep, WasCut};
+ghost use Rattle.mega_world.specs.Stepping.{AtEachNode, IsSome, Outcome};
 
 use crate::log_fuse::{LogFuse, after_append};
 use crate::not_made::{NotMade, not_made};
@@ -46,8 +45,7 @@ impl Member {
     /// The node takes a message.
     pub(crate) fn take(&mut self, alloc: Global, message: &Message) -> Result<Step, NotMade>
         requires known { IsSome self.old (Take message.now) }
-        ensures made { IfOk result (λ made. AtEachNode self.old (Take message.now) (λ c h me ruled fuse. MadeStep c me (step (setting c h me) ruled (Take message.now)) fuse self.new made)) }
-        ensures cut { IfErr result (λ refused. (cut : CutOff) → refused ≡ Cut cut → AtEachNode self.old (Take message.now) (λ c h me ruled fuse. WasCut c h me ruled (Take message.now) fuse self.new cut)) }
+        ensures made { AtEachNode self.old (Take message.now) (λ c h me ruled fuse. Outcome c h me ruled (Take message.now) fuse self.new result) }
         ensures unbuilt { result ≡ Err (Fault Unbuilt) → (c : Cluster) (me : ℕ) (ruled : RuleNode) → IsMember c me self.old ruled → IsByStranger message.now.from message.now.body ⊎ IsLate c message.now.body }
         ensures served { (why : ℕ) → result ≢ Err (Fault (Refused why)) }
         ensures limited { result ≢ Err (Fault Limit) }
@@ -70,8 +68,7 @@ impl Member {
         text: &Text,
     ) -> Result<Step, NotMade>
         requires known { IsSome self.old (Begin request text.now) }
-        ensures made { IfOk result (λ made. AtEachNode self.old (Begin request text.now) (λ c h me ruled fuse. MadeStep c me (step (setting c h me) ruled (Begin request text.now)) fuse self.new made)) }
-        ensures cut { IfErr result (λ refused. (cut : CutOff) → refused ≡ Cut cut → AtEachNode self.old (Begin request text.now) (λ c h me ruled fuse. WasCut c h me ruled (Begin request text.now) fuse self.new cut)) }
+        ensures made { AtEachNode self.old (Begin request text.now) (λ c h me ruled fuse. Outcome c h me ruled (Begin request text.now) fuse self.new result) }
         ensures unbuilt { result ≡ Err (Fault Unbuilt) → is_built request ≡ false }
         ensures served { (why : ℕ) → result ≢ Err (Fault (Refused why)) }
         ensures limited { result ≢ Err (Fault Limit) }
@@ -89,8 +86,7 @@ impl Member {
     /// The clock of the node shows a time.
     pub(crate) fn tick(&mut self, alloc: Global, clock: u64) -> Result<Step, NotMade>
         requires known { IsSome self.old (Tick clock) }
-        ensures made { IfOk result (λ made. AtEachNode self.old (Tick clock) (λ c h me ruled fuse. MadeStep c me (step (setting c h me) ruled (Tick clock)) fuse self.new made)) }
-        ensures cut { IfErr result (λ refused. (cut : CutOff) → refused ≡ Cut cut → AtEachNode self.old (Tick clock) (λ c h me ruled fuse. WasCut c h me ruled (Tick clock) fuse self.new cut)) }
+        ensures made { AtEachNode self.old (Tick clock) (λ c h me ruled fuse. Outcome c h me ruled (Tick clock) fuse self.new result) }
         ensures built { result ≢ Err (Fault Unbuilt) }
         ensures served { (why : ℕ) → result ≢ Err (Fault (Refused why)) }
         ensures limited { result ≢ Err (Fault Limit) }
