@@ -38,7 +38,7 @@ use Rattle.mega_wire.specs.declared.message.Message.{Message}
 use Rattle.mega_rules.specs.Examples.{cluster, from_to, group, put, schema, user}
 use Rattle.mega_promises.specs.Promises.{log_of}
 use Rattle.mega_promises.specs.Served.{Asks, Got, Line, OfClient, OfNode, Peer, Put as PutOut, Served, Turn, Wish, given, served, served_start}
-use Rattle.mega_promises.specs.Runs.{Fate, Happening, Standing, Whole, goes_on, opening}
+use Rattle.mega_promises.specs.Runs.{Fate, Happening, Standing, Whole, by_fuse, goes_on, opening}
 
 -- the events of a schedule
 
@@ -81,17 +81,21 @@ happens event = record { handlers = []; event = event }
 
 -- the items of a run, oldest first, where this becomes of each step that a fuse may cut
 abbrev pub run_on : Cluster → Fate → List WorldEvent → List Item
-run_on c fate events = reverse (goes_on c (λ tape. fate) (opening c []) (map happens events)).tape
+run_on c fate events = reverse (goes_on c (λ now me calls. fate) (opening c []) (map happens events)).tape
 
 abbrev pub run : List WorldEvent → List Item
 run events = run_on cluster Whole events
+
+-- the same under fuses that fail at the append which they name
+abbrev pub run_by_fuse : List WorldEvent → List Item
+run_by_fuse events = reverse (goes_on cluster by_fuse (opening cluster []) (map happens events)).tape
 
 -- how three nodes stand on each of whose logs 4,096 records are due, and after these events, where this becomes of each step
 abbrev pub due : Standing
 due = record (opening cluster []) { records = λ me. 4096 }
 
 abbrev pub due_after : Fate → List WorldEvent → Standing
-due_after fate events = goes_on cluster (λ tape. fate) due (map happens events)
+due_after fate events = goes_on cluster (λ now me calls. fate) due (map happens events)
 
 -- a node with due records starts again, and a fuse with no calls is set on its log; then its clock ticks
 abbrev pub compacting : List WorldEvent

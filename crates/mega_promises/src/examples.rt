@@ -23,7 +23,7 @@ ghost use Rattle.mega_promises.specs.Records.{record_line};
 ghost use Rattle.hex.specs.Hex.{encode_lower};
 ghost use Rattle.mega_rules.specs.Examples.{cluster, entry_of, from_to, group, schema};
 ghost use Rattle.mega_promises.specs.Runs.{AsItWas, Compacted, CutByData, CutByLog, Recorded, Whole};
-ghost use Rattle.mega_promises.specs.Worked.{Asked, Lapses, Learned, Loses, Proposed, Serves, Unsafe, Unsent, Valid, answers, asked_by, begin, changing, find_john, first_mark, front_of, gone, indexed, john, old_answers, second, sends_decided, story, committed_at, conflict_at, crash, drain, fuse_log, epoch, filling, forged, crashes, compacting, due_after, fuse_data, ids_decided, lines_given, lines_of, marks, mixed, op, own, put_at, quiet, read_at, read_through, replies, run, run_on, short_log, start, strange, three, tick, told};
+ghost use Rattle.mega_promises.specs.Worked.{Asked, Lapses, Learned, Loses, Proposed, Serves, Unsafe, Unsent, Valid, answers, asked_by, begin, changing, find_john, first_mark, front_of, gone, indexed, john, old_answers, second, sends_decided, story, committed_at, conflict_at, crash, drain, fuse_log, epoch, filling, forged, crashes, compacting, due_after, fuse_data, ids_decided, lines_given, lines_of, marks, mixed, op, own, put_at, quiet, read_at, read_through, replies, run, run_by_fuse, run_on, short_log, start, strange, three, tick, told};
 
 /// One put, and the delivery of its fourteen messages in order: three starts, and 36 items more.
 #[tactic(auto, unfolding(mega_base::specs::Codec::number_text))]
@@ -75,6 +75,14 @@ pub fn a_lost_record_is_not_shown()
 #[tactic(auto, unfolding(mega_base::specs::Codec::number_text))]
 pub fn an_image_keeps_a_record()
     ensures { marks (run_on cluster (CutByLog Recorded) (put_at 1 ∷ Drain 8 ∷ fuse_log 2 3 0 ∷ Deliver 9 ∷ start 2 ∷ Deliver 9 ∷ drain ∷ [])) ≡ [] }
+{}
+
+/// A fuse of three calls cuts the first append, and keeps its record where the image is 1; one of seven lets that append through.
+#[tactic(auto, unfolding(mega_base::specs::Codec::number_text))]
+pub fn a_fuse_cuts_the_append_that_it_names()
+    ensures kept { marks (run_by_fuse (put_at 1 ∷ Drain 8 ∷ fuse_log 2 3 1 ∷ Deliver 9 ∷ start 2 ∷ Deliver 9 ∷ drain ∷ [])) ≡ Unsent 2 ∷ [] }
+    ensures lost { marks (run_by_fuse (put_at 1 ∷ Drain 8 ∷ fuse_log 2 1 2 ∷ Deliver 9 ∷ start 2 ∷ Deliver 9 ∷ drain ∷ [])) ≡ [] }
+    ensures later { crashes (run_by_fuse (put_at 1 ∷ Drain 8 ∷ fuse_log 2 7 1 ∷ Deliver 9 ∷ [])) ≡ [] }
 {}
 
 /// A start adds a record and compacts none. A tick that appends nothing compacts what is due, and is cut there: the log keeps the old list
