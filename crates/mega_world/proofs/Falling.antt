@@ -1,10 +1,11 @@
 -- A world one of whose nodes went down.
-use Rattle.std.proofs.Common.{◌≡◌, ℕ, ◌-◌, ◌≤◌, ◌==◌, ◌++◌, ◌∷◌, [], Bool, true, false, not, cond, List, length, set, None, refl, sym, ap, ◌∙◌, subst, arith}
+use Rattle.std.proofs.Common.{◌≡◌, ℕ, ◌-◌, ◌≤◌, ◌==◌, ◌++◌, ◌∷◌, [], Bool, true, false, cond, List, length, set, None, refl, sym, ap, ◌∙◌, subst, arith}
 use Rattle.std.proofs.lemmas.Bool.Decides.{nat_tests}
 use Rattle.mega_base.specs.declared.names.Epoch.{Epoch}
 use Rattle.mega_base.specs.declared.names.NodeId.{NodeId}
 use Rattle.mega_cluster.specs.declared.cluster.Cluster.{Cluster}
 use Rattle.mega_handler.specs.Named.{Meanings}
+use Rattle.mega_leases.specs.Opening.{AreOwed}
 use Rattle.mega_schedule.specs.declared.world_event.WorldEvent.TheVariants.{Crash as CrashEvent}
 use Rattle.mega_transcript.specs.declared.item.Item.{Item}
 use Rattle.mega_transcript.specs.declared.item.Item.TheVariants.{Crash}
@@ -12,24 +13,72 @@ use Rattle.mega_transcript.specs.Tape.{newest}
 use Rattle.mega_transcript.proofs.Tapes.{newest-append}
 use Rattle.mega_format_laws.specs.Nodes.{IsNode}
 use Rattle.mega_member_laws.specs.Nodes.{StaysWithin}
-use Rattle.mega_rules.specs.Met.{Crashes}
-use Rattle.mega_rules.specs.Steps.{crashed}
-use Rattle.mega_promises.specs.Runs.{Cuts, Standing, after_event, because, has_lapsed, set_at}
+use Rattle.mega_rules.specs.Clock.{is_up, start_of}
+use Rattle.mega_rules.specs.Met.{Crashes, Met}
+use Rattle.mega_rules.specs.Operations.{Node}
+use Rattle.mega_rules.specs.Steps.{crashed, onto}
+use Rattle.mega_voter.specs.Holding.{HoldsMet}
+use Rattle.mega_promises.specs.Runs.{Standing, after_event, by_fuse, crashes, has_lapsed, set_at}
+use Rattle.mega_world.specs.declared.member.Member.{Member}
+use Rattle.mega_world.specs.declared.place.Place.{Place}
 use Rattle.mega_world.specs.declared.place.Place.TheVariants.{Down}
 use Rattle.mega_world.specs.declared.world.World.{World}
 use Rattle.mega_world.specs.Carries.{Carries}
+use Rattle.mega_world.specs.Kept.{AreNodes, IsFallen, owed_of}
 use Rattle.mega_world.specs.Lapses.{KnowsLeases}
-use Rattle.mega_world.specs.Members.{AreMembers}
+use Rattle.mega_world.specs.LogFuses.{IsFused}
+use Rattle.mega_world.specs.Locking.{KeepsLocks, RunsLocks}
+use Rattle.mega_world.specs.Members.{records_of}
 use Rattle.mega_world.specs.Stands.{IsAt}
 use Rattle.mega_world.proofs.Carrying.{shown_on}
-use Rattle.mega_world.proofs.Joining.{joined}
+use Rattle.mega_world.proofs.Holding.{owed_crashed}
+use Rattle.mega_world.proofs.Joining.{at_other, at_own, nodes_on}
+use Rattle.mega_world.proofs.Outcomes.{StandsAt}
 
-pub fallen_at : (c : Cluster) (h : Meanings) (cuts : Cuts) (now : Standing) (node : NodeId) (old new : World) (items after : List Item) → IsAt c old items now → 1 ≤ node.0 → node.0 ≤ length old.places.items
-    → new.places.items ≡ set old.places.items (node.0 - 1) Down → new.mail ≡ old.mail → new.safety ≡ old.safety → after ≡ items ++ Crash node ∷ [] → IsAt c new after (after_event c h cuts now (CrashEvent node))
-fallen_at c h cuts now node old new items after r least most places mail safety is = record {
-  nodes = subst (λ ps. AreMembers c ps (set_at now.node node.0 (crashed (now.node node.0)))) (sym places) (joined c old.places.items now.node node.0 Down (crashed (now.node node.0)) r.nodes least most refl);
+-- a crash is met, and is nothing that records hold
+crashed_holds : (records : List (List ℕ)) (starts : ℕ) (met : List Met) → HoldsMet records starts met → HoldsMet records starts (Crashes ∷ met)
+crashed_holds records starts met holds = record { good = holds.good; agrees = holds.agrees; counted = holds.counted; later = holds.later; honest = (tt, holds.honest) }
+
+pub falls_down : (c : Cluster) (places : List Place) (now : Standing) (me : ℕ) (member : Member) → AreNodes c places now → 1 ≤ me → me ≤ length places → StandsAt c places now me member
+    → AreNodes c (set places (me - 1) (Down (record { records = records_of member; fuse = member.fuse; owed = None }))) (crashes now me)
+falls_down c places now me member all least most stands =
+    nodes_on c places me (Down (record { records = records_of member; fuse = member.fuse; owed = None })) (crashed (now.node me)) now (crashes now me) all least most refl refl
+    (λ other apart. record { starts = refl; owed = refl; ruled = at_other now.node me other (crashed (now.node me)) apart; fuse = refl })
+    (record {
+      holds = subst (λ (owed : List Met). HoldsMet (records_of member).list.items (now.starts me) (onto owed (Crashes ∷ (now.node me).met))) (sym stands.settled.unowed)
+          (subst (λ (starts : ℕ). HoldsMet (records_of member).list.items starts (Crashes ∷ (now.node me).met)) (sym stands.settled.started)
+          (crashed_holds (records_of member).list.items (start_of (now.node me).met) (now.node me).met stands.is.holds));
+      owes = sym stands.settled.unowed;
+      fused = stands.settled.fused;
+    })
+
+-- what a crash leaves of a run
+crash_locks : (c : Cluster) (now : Standing) (me : ℕ) → RunsLocks c now → RunsLocks c (crashes now me)
+crash_locks c now me locks = record {
+  up_keep = λ other. keep_by other (me == other);
+  unowed = λ other. none_by other (me == other);
+  owe = λ other. owe_by other (me == other) refl;
+}
+  where
+    keep_by : (other : ℕ) (t : Bool) → is_up (cond t (crashed (now.node me)) (now.node other)).met ≡ true → KeepsLocks c other (cond t (crashed (now.node me)) (now.node other)).met
+    keep_by other true is = let no : ⊥ = cc in absurd no
+    keep_by other false is = locks.up_keep other is
+
+    none_by : (other : ℕ) (t : Bool) → is_up (cond t (crashed (now.node me)) (now.node other)).met ≡ true → now.owed other ≡ []
+    none_by other true is = let no : ⊥ = cc in absurd no
+    none_by other false is = locks.unowed other is
+
+    owe_by : (other : ℕ) (t : Bool) → (me == other) ≡ t → AreOwed (now.owed other) (cond t (crashed (now.node me)) (now.node other)).met
+    owe_by other true same = let e : me ≡ other = grind (arith, nat_tests) in subst (λ (n : ℕ). AreOwed (now.owed n) (Crashes ∷ (now.node me).met)) e (owed_crashed (now.owed me) (now.node me).met (locks.owe me))
+    owe_by other false off = locks.owe other
+
+pub fallen_at : (c : Cluster) (h : Meanings) (now : Standing) (node : NodeId) (old new : World) (items after : List Item) → IsAt c old items now
+    → AreNodes c new.places.items (crashes now node.0) → new.cluster ≡ old.cluster → new.mail ≡ old.mail → new.safety ≡ old.safety → after ≡ items ++ Crash node ∷ [] → IsAt c new after (after_event c h by_fuse now (CrashEvent node))
+fallen_at c h now node old new items after r nodes cluster mail safety is = record {
+  cluster = cluster ∙ r.cluster;
+  served = r.served;
+  nodes = nodes;
   mail = subst (λ m. Carries m (Crash node ∷ now.tape)) (sym mail) (shown_on old.mail node.0 Crashes now.tape r.mail);
-  unfused = record { of_log = r.unfused.of_log; of_data = r.unfused.of_data };
   tape = ap newest is ∙ newest-append items (Crash node) ∙ ap (λ t. Crash node ∷ t) r.tape;
   leases = subst (λ s. KnowsLeases s (set_at now.node node.0 (crashed (now.node node.0))) (Crash node ∷ now.tape)) (sym safety) (record {
     lapses = record { each = λ cell other epoch. r.leases.lapses.each cell other epoch ∙ lapsed cell other epoch (node.0 == cell) refl };
@@ -39,13 +88,16 @@ fallen_at c h cuts now node old new items after r least most places mail safety 
     cluster = r.formed.cluster;
     lease = r.formed.lease;
     nodes = λ me. node_by me (node.0 == me);
+    owed = r.formed.owed;
     messages = r.formed.messages;
   };
   within = record {
     cells = r.within.cells;
     nodes = λ me. stays_by me (node.0 == me);
+    owed = r.within.owed;
     messages = r.within.messages;
   };
+  locks = crash_locks c now node.0 r.locks;
 }
   where
     lapsed : (cell other : ℕ) (epoch : Epoch) (t : Bool) → (node.0 == cell) ≡ t → has_lapsed (now.node cell).met other epoch ≡ has_lapsed (cond t (crashed (now.node node.0)) (now.node cell)).met other epoch
@@ -59,14 +111,3 @@ fallen_at c h cuts now node old new items after r least most places mail safety 
     stays_by : (me : ℕ) (t : Bool) → StaysWithin c (cond t (crashed (now.node node.0)) (now.node me))
     stays_by me true = record { met = (tt, (r.within.nodes node.0).met); open_operations = tt }
     stays_by me false = r.within.nodes me
-
--- ---- why a node does not start
-
-pub unstarted : (there up : Bool) → because (not there) 6 (because up 2 None) ≡ None → (there ≡ true) × (up ≡ false)
-unstarted true true none = cc
-unstarted true false none = (refl, refl)
-unstarted false up none = cc
-
-pub unfused : (there : Bool) → because (not there) 6 None ≡ None → there ≡ true
-unfused true none = refl
-unfused false none = cc
