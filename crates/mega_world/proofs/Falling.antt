@@ -6,7 +6,7 @@ use Rattle.mega_base.specs.declared.names.NodeId.{NodeId}
 use Rattle.mega_cluster.specs.declared.cluster.Cluster.{Cluster}
 use Rattle.mega_handler.specs.Named.{Meanings}
 use Rattle.mega_leases.specs.Opening.{AreOwed}
-use Rattle.mega_schedule.specs.declared.world_event.WorldEvent.TheVariants.{Crash as CrashEvent}
+use Rattle.mega_schedule.specs.declared.world_event.WorldEvent.TheVariants.{Crash as CrashEvent, Start as StartEvent}
 use Rattle.mega_transcript.specs.declared.item.Item.{Item}
 use Rattle.mega_transcript.specs.declared.item.Item.TheVariants.{Crash}
 use Rattle.mega_transcript.specs.Tape.{newest}
@@ -24,13 +24,16 @@ use Rattle.mega_world.specs.declared.place.Place.{Place}
 use Rattle.mega_world.specs.declared.place.Place.TheVariants.{Down}
 use Rattle.mega_world.specs.declared.world.World.{World}
 use Rattle.mega_world.specs.Carries.{Carries}
-use Rattle.mega_world.specs.Kept.{AreNodes, IsFallen, owed_of}
+use Rattle.mega_world.specs.Formed.{IsFormed}
+use Rattle.mega_world.specs.Kept.{AreNodes}
 use Rattle.mega_world.specs.Lapses.{KnowsLeases}
-use Rattle.mega_world.specs.LogFuses.{IsFused}
 use Rattle.mega_world.specs.Locking.{KeepsLocks, RunsLocks}
 use Rattle.mega_world.specs.Members.{records_of}
+use Rattle.mega_world.specs.Restarting.{StaysDown}
 use Rattle.mega_world.specs.Stands.{IsAt}
+use Rattle.mega_world.specs.Within.{RunsWithin}
 use Rattle.mega_world.proofs.Carrying.{shown_on}
+use Rattle.mega_world.proofs.Fates.{start_cut}
 use Rattle.mega_world.proofs.Holding.{owed_crashed}
 use Rattle.mega_world.proofs.Joining.{at_other, at_own, nodes_on}
 use Rattle.mega_world.proofs.Outcomes.{StandsAt}
@@ -72,12 +75,18 @@ crash_locks c now me locks = record {
     owe_by other true same = let e : me ≡ other = grind (arith, nat_tests) in subst (λ (n : ℕ). AreOwed (now.owed n) (Crashes ∷ (now.node me).met)) e (owed_crashed (now.owed me) (now.node me).met (locks.owe me))
     owe_by other false off = locks.owe other
 
-pub fallen_at : (c : Cluster) (h : Meanings) (now : Standing) (node : NodeId) (old new : World) (items after : List Item) → IsAt c old items now
-    → AreNodes c new.places.items (crashes now node.0) → new.cluster ≡ old.cluster → new.mail ≡ old.mail → new.safety ≡ old.safety → after ≡ items ++ Crash node ∷ [] → IsAt c new after (after_event c h by_fuse now (CrashEvent node))
-fallen_at c h now node old new items after r nodes cluster mail safety is = record {
-  cluster = cluster ∙ r.cluster;
-  served = r.served;
-  nodes = nodes;
+-- all but the nodes, in a run in which a node crashes
+record CrashedSo (c : Cluster) (new : World) (after : List Item) (later : Standing) : Type 0 where
+  mail : Carries new.mail later.tape
+  tape : newest after ≡ later.tape
+  leases : KnowsLeases new.safety later.node later.tape
+  formed : IsFormed c later
+  within : RunsWithin c later
+  locks : RunsLocks c later
+
+crashed_so : (c : Cluster) (now : Standing) (node : NodeId) (old new : World) (items after : List Item) → IsAt c old items now → new.mail ≡ old.mail → new.safety ≡ old.safety → after ≡ items ++ Crash node ∷ []
+    → CrashedSo c new after (crashes now node.0)
+crashed_so c now node old new items after r mail safety is = record {
   mail = subst (λ m. Carries m (Crash node ∷ now.tape)) (sym mail) (shown_on old.mail node.0 Crashes now.tape r.mail);
   tape = ap newest is ∙ newest-append items (Crash node) ∙ ap (λ t. Crash node ∷ t) r.tape;
   leases = subst (λ s. KnowsLeases s (set_at now.node node.0 (crashed (now.node node.0))) (Crash node ∷ now.tape)) (sym safety) (record {
@@ -111,3 +120,35 @@ fallen_at c h now node old new items after r nodes cluster mail safety is = reco
     stays_by : (me : ℕ) (t : Bool) → StaysWithin c (cond t (crashed (now.node node.0)) (now.node me))
     stays_by me true = record { met = (tt, (r.within.nodes node.0).met); open_operations = tt }
     stays_by me false = r.within.nodes me
+
+pub fallen_at : (c : Cluster) (h : Meanings) (now : Standing) (node : NodeId) (old new : World) (items after : List Item) → IsAt c old items now
+    → AreNodes c new.places.items (crashes now node.0) → new.cluster ≡ old.cluster → new.mail ≡ old.mail → new.safety ≡ old.safety → after ≡ items ++ Crash node ∷ [] → IsAt c new after (after_event c h by_fuse now (CrashEvent node))
+fallen_at c h now node old new items after r nodes cluster mail safety is =
+    let so = crashed_so c now node old new items after r mail safety is in record {
+      cluster = cluster ∙ r.cluster;
+      served = r.served;
+      nodes = nodes;
+      mail = so.mail;
+      tape = so.tape;
+      leases = so.leases;
+      formed = so.formed;
+      within = so.within;
+      locks = so.locks;
+    }
+
+-- a node whose start was cut off is down as before, and shows the crash
+pub stayed_at : (c : Cluster) (h : Meanings) (now : Standing) (node : NodeId) (old new : World) (items after : List Item) → IsAt c old items now
+    → StaysDown c now node.0 new.places.items → new.cluster ≡ old.cluster → new.mail ≡ old.mail → new.safety ≡ old.safety → after ≡ items ++ Crash node ∷ [] → IsAt c new after (after_event c h by_fuse now (StartEvent node))
+stayed_at c h now node old new items after r stays cluster mail safety is =
+    let so = crashed_so c now node old new items after r mail safety is in
+    subst (IsAt c new after) (sym (start_cut c h now node.0 stays.burning)) (record {
+      cluster = cluster ∙ r.cluster;
+      served = r.served;
+      nodes = stays.nodes;
+      mail = so.mail;
+      tape = so.tape;
+      leases = record { lapses = so.leases.lapses; told = so.leases.told };
+      formed = record { cluster = so.formed.cluster; lease = so.formed.lease; nodes = so.formed.nodes; owed = so.formed.owed; messages = so.formed.messages };
+      within = record { cells = so.within.cells; nodes = so.within.nodes; owed = so.within.owed; messages = so.within.messages };
+      locks = record { up_keep = so.locks.up_keep; unowed = so.locks.unowed; owe = so.locks.owe };
+    })

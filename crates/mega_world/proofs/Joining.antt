@@ -130,7 +130,7 @@ pub record Alike (now later : Standing) (other : ℕ) : Type 0 where
   pub ruled : later.node other ≡ now.node other
   pub fuse : later.log_fuse other ≡ now.log_fuse other
 
-kept_on : (places : List Place) (me : ℕ) (place : Place) (now later : Standing) → AreKept places now.starts now.owed now.node now.log_fuse → 1 ≤ me → me ≤ length places
+pub kept_on : (places : List Place) (me : ℕ) (place : Place) (now later : Standing) → AreKept places now.starts now.owed now.node now.log_fuse → 1 ≤ me → me ≤ length places
     → ((other : ℕ) → (me == other) ≡ false → Alike now later other) → IsKept place (later.starts me) (later.owed me) (later.node me).met (later.log_fuse me)
     → AreKept (set places (me - 1) place) later.starts later.owed later.node later.log_fuse
 kept_on places me place now later was least most same here = record { each = λ i p is. by i p (me - 1 == i) refl (sym (get_set places (me - 1) i place (omega (arith, least, most))) ∙ is) }

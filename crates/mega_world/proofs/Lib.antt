@@ -1,3 +1,4 @@
+pub mod Again
 pub mod Breaking
 pub mod Carrying
 pub mod Emptying
@@ -7,6 +8,7 @@ pub mod Falling
 pub mod Fates
 pub mod Finding
 pub mod Forming
+pub mod Fused
 pub mod Fuses
 pub mod Happening
 pub mod Holding
@@ -19,9 +21,10 @@ pub mod Noted
 pub mod Opened
 pub mod Outcomes
 pub mod Owed
-pub mod Plain
 pub mod Placing
+pub mod Plain
 pub mod Quieted
+pub mod Reopened
 pub mod Sending
 pub mod Staying
 pub mod Stepped

@@ -1,5 +1,5 @@
 //! A node of a world that is up, over logs and rows in memory, with the fuse on its log.
-ghost use Rattle.std.specs.Prelude.{◌≡◌, ◌≢◌, ◌⊎◌, ◌+◌, ℕ, Err, Option};
+ghost use Rattle.std.specs.Prelude.{◌≡◌, ◌≢◌, ◌⊎◌, ◌+◌, ℕ, Err, Option, false};
 ghost use Rattle.mega_actions.specs.Built.{is_built};
 ghost use Rattle.mega_cluster.specs.declared.cluster.Cluster.{Cluster};
 ghost use Rattle.mega_leases.specs.Taking.{IsByStranger, IsLate};
