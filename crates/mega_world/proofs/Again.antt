@@ -1,7 +1,7 @@
 -- A node that starts again: what its records held before, and what its cluster's run keeps.
 use Rattle.std.proofs.Common.{◌≡◌, ℕ, ◌+◌, ◌-◌, ◌≤◌, ◌==◌, ◌++◌, ◌∷◌, [], Bool, true, false, cond, List, length, flat_map, nat_lt, set, Option, Some, None, refl, sym, ap, ◌∙◌, subst, arith}
 use Rattle.std.proofs.lemmas.Bool.Decides.{nat_tests}
-use Rattle.std.specs.List.{All}
+use Rattle.std.specs.List.{All, slice_get}
 use Rattle.std.proofs.lemmas.List.Elements.{All-append, All-cons, All-head, All-nil, All-tail}
 use Rattle.mega_base.specs.declared.names.Epoch.{Epoch}
 use Rattle.mega_base.specs.declared.names.GroupId.{GroupId}
@@ -27,7 +27,6 @@ use Rattle.mega_world.specs.declared.place.Place.{Place}
 use Rattle.mega_world.specs.declared.place.Place.TheVariants.{Up, Down}
 use Rattle.mega_world.specs.declared.log_fuse.LogFuse.{LogFuse}
 use Rattle.mega_world.specs.Kept.{AreNodes, IsFallen, owed_of}
-use Rattle.mega_world.specs.Locking.{KeepsLocks}
 use Rattle.mega_world.specs.LogFuses.{IsFused}
 use Rattle.mega_world.specs.Members.{records_of}
 use Rattle.mega_world.specs.Restarting.{Opens, StaysDown, started}
@@ -36,8 +35,7 @@ use Rattle.mega_world.specs.declared.starting.Begun.{Begun}
 use Rattle.mega_world.proofs.Fuses.{fused_gone}
 use Rattle.mega_world.proofs.Joining.{at_other, at_own, nodes_on}
 use Rattle.mega_world.proofs.Lapsing.{lapsed_on}
-use Rattle.mega_world.proofs.Locked.{IsQuiet, quiet_keeps, start_keeps}
-use Rattle.mega_world.proofs.Quieted.{if_quiet}
+use Rattle.mega_world.proofs.Holding.{owed_crashed}
 
 -- ---- a crash behind what is owed changes nothing that records hold
 holds_beside : (records : List (List ℕ)) (starts : ℕ) (one two : List Met) → Beside one two → start_of one ≡ start_of two → HoldsMet records starts two → HoldsMet records starts one
@@ -121,25 +119,16 @@ pub record Plain (old new : List Met) : Type 0 where
   pub start : start_of new ≡ start_of old
   pub lapsed : (node : ℕ) (epoch : Epoch) → has_lapsed new node epoch ≡ has_lapsed old node epoch
 
+abbrev is_applying : Met → Bool
+is_applying (Applies group position) = true
+is_applying _ = false
+
+abbrev IsQuiet : Met → Type 0
+IsQuiet one = is_applying one ≡ true
+
 plain_one : (one : Met) (met : List Met) → IsQuiet one → Plain met (one ∷ met)
-plain_one (Begins op text) met quiet = record { up = λ was. was; start = refl; lapsed = λ other at. refl }
-plain_one (Sends message) met quiet = record { up = λ was. was; start = refl; lapsed = λ other at. refl }
-plain_one (Unsends message) met quiet = record { up = λ was. was; start = refl; lapsed = λ other at. refl }
-plain_one (Counts cell epoch) met quiet = record { up = λ was. was; start = refl; lapsed = λ other at. refl }
-plain_one (Forgets cell epoch) met quiet = record { up = λ was. was; start = refl; lapsed = λ other at. refl }
-plain_one (Serves epoch) met quiet = record { up = λ was. was; start = refl; lapsed = λ other at. refl }
-plain_one (Loses epoch) met quiet = record { up = λ was. was; start = refl; lapsed = λ other at. refl }
-plain_one (Validates group position) met quiet = record { up = λ was. was; start = refl; lapsed = λ other at. refl }
-plain_one (Invalidates group position) met quiet = record { up = λ was. was; start = refl; lapsed = λ other at. refl }
-plain_one (Decides group position entry) met quiet = record { up = λ was. was; start = refl; lapsed = λ other at. refl }
 plain_one (Applies group position) met quiet = record { up = λ was. was; start = refl; lapsed = λ other at. refl }
-plain_one (Answers op answer) met quiet = record { up = λ was. was; start = refl; lapsed = λ other at. refl }
-plain_one (Starts start) met quiet = let none : ⊥ = cc in absurd none
-plain_one Crashes met quiet = let none : ⊥ = cc in absurd none
-plain_one (Ticks now) met quiet = let none : ⊥ = cc in absurd none
-plain_one (Takes message) met quiet = let none : ⊥ = cc in absurd none
-plain_one (Grants node epoch) met quiet = let none : ⊥ = cc in absurd none
-plain_one (Lapses node epoch) met quiet = let none : ⊥ = cc in absurd none
+plain_one _ met quiet = let none : ⊥ = cc in absurd none
 
 pub plain_all : (items met : List Met) → All IsQuiet items → Plain met (onto items met)
 plain_all [] met quiet = record { up = λ was. was; start = refl; lapsed = λ node epoch. refl }
@@ -158,6 +147,10 @@ applied_quiet known (group ∷ groups) = All-append IsQuiet (start_note known gr
     by : (t : Bool) → All IsQuiet (cond t (Applies group (prefix_of known group) ∷ []) [])
     by true = All-cons IsQuiet (Applies group (prefix_of known group)) [] refl (All-nil IsQuiet)
     by false = All-nil IsQuiet
+
+if_quiet : (t : Bool) (notes : List Met) → All IsQuiet notes → All IsQuiet (cond t notes [])
+if_quiet true notes quiet = quiet
+if_quiet false notes quiet = All-nil IsQuiet
 
 pub notes_quiet : (s : Setting) (known : List Met) → All IsQuiet (start_notes s known)
 notes_quiet s known = if_quiet (has_rows s.cluster s.me) (flat_map (start_note known) (groups_of known)) (applied_quiet known (groups_of known))
@@ -188,22 +181,17 @@ started_lapsed s number owed met node epoch =
     ∙ (plain_all (start_notes s (onto owed (Starts number ∷ met))) (onto owed (Starts number ∷ met)) (notes_quiet s (onto owed (Starts number ∷ met)))).lapsed node epoch
     ∙ lapsed_alike owed (Starts number ∷ met) met (λ other at. refl) node epoch
 
-pub started_keeps : (c : Cluster) (h : Meanings) (me number : ℕ) (owed met : List Met) → AreOwed owed met → KeepsLocks c me (start (setting c h me) number owed met).met
-started_keeps c h me number owed met are =
-    subst (KeepsLocks c me) (sym (start_met (setting c h me) number owed met))
-    (quiet_keeps c me (start_notes (setting c h me) (onto owed (Starts number ∷ met))) (onto owed (Starts number ∷ met)) (notes_quiet (setting c h me) (onto owed (Starts number ∷ met))) (start_keeps c me number owed met are))
-
 -- ---- the nodes once one started
-pub begins_at : (c : Cluster) (now : Standing) (me : ℕ) (places : List Place) (fallen : Fallen) (begun : Begun) → AreNodes c places now → 1 ≤ me → me ≤ length places → AreOwed (now.owed me) (now.node me).met
+pub begins_at : (c : Cluster) (now : Standing) (me : ℕ) (places : List Place) (fallen : Fallen) (begun : Begun) → AreNodes c places now → 1 ≤ me → me ≤ length places
     → IsFallen fallen (now.starts me) (now.owed me) (now.node me).met (now.log_fuse me) → BeginsSo c me (now.starts me) (now.owed me) (now.node me).met (now.log_fuse me) fallen.owed begun
     → Opens c now me (set places (me - 1) (Up begun.member)) (record { start = begun.start; owed = begun.owed; notes = begun.notes })
-begins_at c now me places fallen begun all least most are is begins = record {
+begins_at c now me places fallen begun all least most is begins = record {
   long = begins.long;
   number = begins.number;
   owed = ap owed_of begins.owes ∙ is.owes;
   notes = begins.notes;
   nodes = λ h. nodes_on c places me (Up begun.member) (start (setting c h me) (now.starts me + 1) (now.owed me) (now.node me).met) now (started c h now me) all least most
-      (begins.is h, started_up (setting c h me) (now.starts me + 1) (now.owed me) (now.node me).met are) refl
+      (begins.is h, started_up (setting c h me) (now.starts me + 1) (now.owed me) (now.node me).met is.follows) refl
       (λ other apart. record {
         starts = at_other now.starts me other (now.starts me + 1) apart;
         owed = at_other now.owed me other [] apart;
@@ -211,17 +199,17 @@ begins_at c now me places fallen begun all least most are is begins = record {
         fuse = at_other now.log_fuse me other (after_append (now.log_fuse me)) apart;
       })
       (record {
-        started = at_own now.starts me (now.starts me + 1) ∙ sym (started_number (setting c h me) (now.starts me + 1) (now.owed me) (now.node me).met are);
+        started = at_own now.starts me (now.starts me + 1) ∙ sym (started_number (setting c h me) (now.starts me + 1) (now.owed me) (now.node me).met is.follows);
         unowed = at_own now.owed me [];
         fused = subst (IsFused begun.member.fuse (records_of begun.member)) (sym (at_own now.log_fuse me (after_append (now.log_fuse me)))) begins.fused;
       });
 }
 
 -- or its start was cut off
-pub stays_at : (c : Cluster) (now : Standing) (me : ℕ) (places : List Place) (was fallen : Fallen) → AreNodes c places now → 1 ≤ me → me ≤ length places → AreOwed (now.owed me) (now.node me).met
+pub stays_at : (c : Cluster) (now : Standing) (me : ℕ) (places : List Place) (was fallen : Fallen) → AreNodes c places now → 1 ≤ me → me ≤ length places
     → IsFallen was (now.starts me) (now.owed me) (now.node me).met (now.log_fuse me) → FallsAgain (now.starts me) (now.owed me) (now.node me).met (now.log_fuse me) was.owed fallen
     → StaysDown c now me (set places (me - 1) (Down fallen))
-stays_at c now me places was fallen all least most are is again = record {
+stays_at c now me places was fallen all least most is again = record {
   burning = again.burning;
   nodes = nodes_on c places me (Down fallen) (crashed (now.node me)) now (cut_start now me (left_by (now.log_fuse me)) (set_at now.log_fuse me None) now.data_fuse) all least most refl refl
       (λ other apart. record {
@@ -231,8 +219,9 @@ stays_at c now me places was fallen all least most are is again = record {
         fuse = at_other now.log_fuse me other None apart;
       })
       (record {
+        follows = owed_crashed (now.owed me) (now.node me).met is.follows;
         holds = subst (λ (n : ℕ). HoldsMet fallen.records.list.items n (onto (now.owed me) (Crashes ∷ (now.node me).met))) (sym (at_own now.starts me counts))
-            (again_holds fallen.records.list.items counts (now.owed me) (now.node me).met are again.holds);
+            (again_holds fallen.records.list.items counts (now.owed me) (now.node me).met is.follows again.holds);
         owes = ap owed_of again.owes ∙ is.owes;
         fused = subst (IsFused fallen.fuse fallen.records) (sym (at_own now.log_fuse me None)) (subst (λ (f : Option LogFuse). IsFused f fallen.records None) (sym again.unset) (fused_gone fallen.records again.gone));
       });
@@ -240,3 +229,10 @@ stays_at c now me places was fallen all least most are is again = record {
   where
     counts : ℕ
     counts = cond (is_kept (left_by (now.log_fuse me))) (now.starts me + 1) (now.starts me)
+
+-- what stands in the place of a node that is down
+pub fallen_at_place : (c : Cluster) (places : List Place) (now : Standing) (me : ℕ) (place : Place) (fallen : Fallen) → AreNodes c places now → 1 ≤ me → slice_get places (me - 1) ≡ Some place → place ≡ Down fallen
+    → IsFallen fallen (now.starts me) (now.owed me) (now.node me).met (now.log_fuse me)
+fallen_at_place c places now me place fallen all least there down =
+    let e : me - 1 + 1 ≡ me = omega (arith, least) in
+    subst (λ (n : ℕ). IsFallen fallen (now.starts n) (now.owed n) (now.node n).met (now.log_fuse n)) e (all.kept.each (me - 1) (Down fallen) (there ∙ ap Some down))

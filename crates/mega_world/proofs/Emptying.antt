@@ -38,7 +38,6 @@ dropped_at c h now number old new items after r cluster places safety carries is
   leases = subst (λ (s : Safety). KnowsLeases s now.node (Dropped number ∷ now.tape)) (sym safety) (record { lapses = r.leases.lapses; told = r.leases.told });
   formed = record { cluster = r.formed.cluster; lease = r.formed.lease; nodes = r.formed.nodes; owed = r.formed.owed; messages = r.formed.messages };
   within = record { cells = r.within.cells; nodes = r.within.nodes; owed = r.within.owed; messages = r.within.messages };
-  locks = record { up_keep = r.locks.up_keep; unowed = r.locks.unowed; owe = r.locks.owe };
 }
 
 -- a drain that is cut
@@ -52,7 +51,6 @@ cut_at c now world items after r is = record {
   leases = record { lapses = r.leases.lapses; told = r.leases.told };
   formed = record { cluster = r.formed.cluster; lease = r.formed.lease; nodes = r.formed.nodes; owed = r.formed.owed; messages = r.formed.messages };
   within = record { cells = r.within.cells; nodes = r.within.nodes; owed = r.within.owed; messages = r.within.messages };
-  locks = record { up_keep = r.locks.up_keep; unowed = r.locks.unowed; owe = r.locks.owe };
 }
 
 -- ---- a drain, delivery by delivery

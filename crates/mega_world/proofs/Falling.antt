@@ -1,6 +1,7 @@
 -- A world one of whose nodes went down.
-use Rattle.std.proofs.Common.{◌≡◌, ℕ, ◌-◌, ◌≤◌, ◌==◌, ◌++◌, ◌∷◌, [], Bool, true, false, cond, List, length, set, None, refl, sym, ap, ◌∙◌, subst, arith}
+use Rattle.std.proofs.Common.{◌≡◌, ℕ, ◌-◌, ◌≤◌, ◌==◌, ◌++◌, ◌∷◌, [], Bool, true, false, cond, List, length, set, Some, None, refl, sym, ap, ◌∙◌, subst, arith}
 use Rattle.std.proofs.lemmas.Bool.Decides.{nat_tests}
+use Rattle.std.specs.List.{slice_get}
 use Rattle.mega_base.specs.declared.names.Epoch.{Epoch}
 use Rattle.mega_base.specs.declared.names.NodeId.{NodeId}
 use Rattle.mega_cluster.specs.declared.cluster.Cluster.{Cluster}
@@ -13,7 +14,7 @@ use Rattle.mega_transcript.specs.Tape.{newest}
 use Rattle.mega_transcript.proofs.Tapes.{newest-append}
 use Rattle.mega_format_laws.specs.Nodes.{IsNode}
 use Rattle.mega_member_laws.specs.Nodes.{StaysWithin}
-use Rattle.mega_rules.specs.Clock.{is_up, start_of}
+use Rattle.mega_rules.specs.Clock.{start_of}
 use Rattle.mega_rules.specs.Met.{Crashes, Met}
 use Rattle.mega_rules.specs.Operations.{Node}
 use Rattle.mega_rules.specs.Steps.{crashed, onto}
@@ -21,22 +22,20 @@ use Rattle.mega_voter.specs.Holding.{HoldsMet}
 use Rattle.mega_promises.specs.Runs.{Standing, after_event, by_fuse, crashes, has_lapsed, set_at}
 use Rattle.mega_world.specs.declared.member.Member.{Member}
 use Rattle.mega_world.specs.declared.place.Place.{Place}
-use Rattle.mega_world.specs.declared.place.Place.TheVariants.{Down}
+use Rattle.mega_world.specs.declared.place.Place.TheVariants.{Down, Up}
 use Rattle.mega_world.specs.declared.world.World.{World}
 use Rattle.mega_world.specs.Carries.{Carries}
 use Rattle.mega_world.specs.Formed.{IsFormed}
 use Rattle.mega_world.specs.Kept.{AreNodes}
 use Rattle.mega_world.specs.Lapses.{KnowsLeases}
-use Rattle.mega_world.specs.Locking.{KeepsLocks, RunsLocks}
-use Rattle.mega_world.specs.Members.{records_of}
+use Rattle.mega_world.specs.Members.{is_up_at, records_of}
 use Rattle.mega_world.specs.Restarting.{StaysDown}
 use Rattle.mega_world.specs.Stands.{IsAt}
 use Rattle.mega_world.specs.Within.{RunsWithin}
 use Rattle.mega_world.proofs.Carrying.{shown_on}
 use Rattle.mega_world.proofs.Fates.{start_cut}
-use Rattle.mega_world.proofs.Holding.{owed_crashed}
 use Rattle.mega_world.proofs.Joining.{at_other, at_own, nodes_on}
-use Rattle.mega_world.proofs.Outcomes.{StandsAt}
+use Rattle.mega_world.proofs.Outcomes.{StandsAt, stands_at, up_at}
 
 -- a crash is met, and is nothing that records hold
 crashed_holds : (records : List (List ℕ)) (starts : ℕ) (met : List Met) → HoldsMet records starts met → HoldsMet records starts (Crashes ∷ met)
@@ -48,32 +47,13 @@ falls_down c places now me member all least most stands =
     nodes_on c places me (Down (record { records = records_of member; fuse = member.fuse; owed = None })) (crashed (now.node me)) now (crashes now me) all least most refl refl
     (λ other apart. record { starts = refl; owed = refl; ruled = at_other now.node me other (crashed (now.node me)) apart; fuse = refl })
     (record {
+      follows = subst (λ (owed : List Met). AreOwed owed (Crashes ∷ (now.node me).met)) (sym stands.settled.unowed) tt;
       holds = subst (λ (owed : List Met). HoldsMet (records_of member).list.items (now.starts me) (onto owed (Crashes ∷ (now.node me).met))) (sym stands.settled.unowed)
           (subst (λ (starts : ℕ). HoldsMet (records_of member).list.items starts (Crashes ∷ (now.node me).met)) (sym stands.settled.started)
           (crashed_holds (records_of member).list.items (start_of (now.node me).met) (now.node me).met stands.is.holds));
       owes = sym stands.settled.unowed;
       fused = stands.settled.fused;
     })
-
--- what a crash leaves of a run
-crash_locks : (c : Cluster) (now : Standing) (me : ℕ) → RunsLocks c now → RunsLocks c (crashes now me)
-crash_locks c now me locks = record {
-  up_keep = λ other. keep_by other (me == other);
-  unowed = λ other. none_by other (me == other);
-  owe = λ other. owe_by other (me == other) refl;
-}
-  where
-    keep_by : (other : ℕ) (t : Bool) → is_up (cond t (crashed (now.node me)) (now.node other)).met ≡ true → KeepsLocks c other (cond t (crashed (now.node me)) (now.node other)).met
-    keep_by other true is = let no : ⊥ = cc in absurd no
-    keep_by other false is = locks.up_keep other is
-
-    none_by : (other : ℕ) (t : Bool) → is_up (cond t (crashed (now.node me)) (now.node other)).met ≡ true → now.owed other ≡ []
-    none_by other true is = let no : ⊥ = cc in absurd no
-    none_by other false is = locks.unowed other is
-
-    owe_by : (other : ℕ) (t : Bool) → (me == other) ≡ t → AreOwed (now.owed other) (cond t (crashed (now.node me)) (now.node other)).met
-    owe_by other true same = let e : me ≡ other = grind (arith, nat_tests) in subst (λ (n : ℕ). AreOwed (now.owed n) (Crashes ∷ (now.node me).met)) e (owed_crashed (now.owed me) (now.node me).met (locks.owe me))
-    owe_by other false off = locks.owe other
 
 -- all but the nodes, in a run in which a node crashes
 record CrashedSo (c : Cluster) (new : World) (after : List Item) (later : Standing) : Type 0 where
@@ -82,7 +62,6 @@ record CrashedSo (c : Cluster) (new : World) (after : List Item) (later : Standi
   leases : KnowsLeases new.safety later.node later.tape
   formed : IsFormed c later
   within : RunsWithin c later
-  locks : RunsLocks c later
 
 crashed_so : (c : Cluster) (now : Standing) (node : NodeId) (old new : World) (items after : List Item) → IsAt c old items now → new.mail ≡ old.mail → new.safety ≡ old.safety → after ≡ items ++ Crash node ∷ []
     → CrashedSo c new after (crashes now node.0)
@@ -106,7 +85,6 @@ crashed_so c now node old new items after r mail safety is = record {
     owed = r.within.owed;
     messages = r.within.messages;
   };
-  locks = crash_locks c now node.0 r.locks;
 }
   where
     lapsed : (cell other : ℕ) (epoch : Epoch) (t : Bool) → (node.0 == cell) ≡ t → has_lapsed (now.node cell).met other epoch ≡ has_lapsed (cond t (crashed (now.node node.0)) (now.node cell)).met other epoch
@@ -133,7 +111,6 @@ fallen_at c h now node old new items after r nodes cluster mail safety is =
       leases = so.leases;
       formed = so.formed;
       within = so.within;
-      locks = so.locks;
     }
 
 -- a node whose start was cut off is down as before, and shows the crash
@@ -150,5 +127,15 @@ stayed_at c h now node old new items after r stays cluster mail safety is =
       leases = record { lapses = so.leases.lapses; told = so.leases.told };
       formed = record { cluster = so.formed.cluster; lease = so.formed.lease; nodes = so.formed.nodes; owed = so.formed.owed; messages = so.formed.messages };
       within = record { cells = so.within.cells; nodes = so.within.nodes; owed = so.within.owed; messages = so.within.messages };
-      locks = record { up_keep = so.locks.up_keep; unowed = so.locks.unowed; owe = so.locks.owe };
     })
+
+-- a node that is up goes down
+pub crashes_at : (c : Cluster) (h : Meanings) (now : Standing) (node : NodeId) (old new : World) (items after : List Item) → IsAt c old items now → 1 ≤ node.0 → node.0 ≤ length old.places.items → is_up_at old.places.items node.0 ≡ true
+    → ((member : Member) → slice_get old.places.items (node.0 - 1) ≡ Some (Up member) → new.places.items ≡ set old.places.items (node.0 - 1) (Down (record { records = records_of member; fuse = member.fuse; owed = None })))
+    → new.cluster ≡ old.cluster → new.mail ≡ old.mail → new.safety ≡ old.safety → after ≡ items ++ Crash node ∷ [] → IsAt c new after (after_event c h by_fuse now (CrashEvent node))
+crashes_at c h now node old new items after r least most up falls cluster mail safety is =
+    let found = up_at old.places.items node.0 least most up in
+    let stands = stands_at c old.places.items now node.0 (node.0 - 1) (Up found.0) found.0 r.nodes refl least found.1 refl in
+    fallen_at c h now node old new items after r
+    (subst (λ (ps : List Place). AreNodes c ps (crashes now node.0)) (sym (falls found.0 found.1)) (falls_down c old.places.items now node.0 found.0 r.nodes least most stands))
+    cluster mail safety is

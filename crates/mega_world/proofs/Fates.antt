@@ -1,16 +1,21 @@
 -- What events lead to under fuses that fail at the append which they name.
-use Rattle.std.proofs.Common.{◌≡◌, ℕ, ◌+◌, ◌++◌, ◌∷◌, [], ◌&&◌, cond, Bool, true, false, List, None, refl, sym, ap, ◌∙◌}
+use Rattle.std.proofs.Common.{◌≡◌, ℕ, ◌+◌, ◌++◌, ◌∷◌, [], ◌&&◌, cond, Bool, true, false, List, Some, None, refl, subst, sym, ap, ◌∙◌}
 use Rattle.mega_cluster.specs.declared.cluster.Cluster.{Cluster}
 use Rattle.mega_handler.specs.Named.{Meanings}
+use Rattle.mega_schedule.specs.declared.world_event.WorldEvent.TheVariants.{Deliver}
+use Rattle.mega_wire.specs.declared.message.Message.{Message}
 use Rattle.mega_transcript.specs.declared.item.Item.{Item}
-use Rattle.mega_transcript.specs.declared.item.Item.TheVariants.{Crash}
+use Rattle.mega_transcript.specs.declared.item.Item.TheVariants.{Crash, Taken}
 use Rattle.mega_transcript.specs.Tape.{onto}
 use Rattle.mega_rules.specs.Met.{Crashes}
 use Rattle.mega_rules.specs.Operations.{Node}
-use Rattle.mega_rules.specs.Steps.{Event, step}
+use Rattle.mega_rules.specs.Steps.{Event, Take, step}
 use Rattle.mega_promises.specs.Items.{number, shown}
-use Rattle.mega_promises.specs.Runs.{CutByLog, Standing, Whole, appends, at_node, by_fuse, calls_of, cut_start, fate_by, fated, fated_start, is_burning, left_by, met_in, replies_in, set_at, setting, start_calls, whole_step, with_items}
+use Rattle.mega_promises.specs.Messages.{message_of}
+use Rattle.mega_promises.specs.Runs.{CutByLog, Standing, Whole, after_event, appends, at_node, by_fuse, calls_of, cut_start, fate_by, fated, fated_start, handed, is_burning, left_by, met_in, replies_in, set_at, setting, start_calls, whole_step, with_items}
 use Rattle.mega_world.specs.Restarting.{started}
+use Rattle.mega_world.specs.declared.world.World.{World}
+use Rattle.mega_world.specs.Stands.{IsAt}
 use Rattle.mega_world.specs.Stepping.{cut_off}
 use Rattle.mega_world.proofs.Fuses.{fated as fate_is}
 use Rattle.mega_world.proofs.Plain.{with_append}
@@ -38,3 +43,8 @@ start_cut c h now me burning = ap (fated_start c h now me) (fate_is now me (star
 pub cut_tape : (c : Cluster) (h : Meanings) (now : Standing) (me : ℕ) (own : List Item) (event : Event) → ((node : ℕ → Node) (t : List Item) → with_items c node t own ≡ onto own t)
     → (cut_off c h now me own event).tape ≡ Crash (number me) ∷ onto own now.tape
 cut_tape c h now me own event plain = with_append c (cut_off c h now me own event).node own (shown me Crashes) now.tape ∙ ap (λ t. Crash (number me) ∷ t) (plain (cut_off c h now me own event).node now.tape)
+
+-- a delivery is a step of its receiver
+pub handed_is : (c : Cluster) (h : Meanings) (now : Standing) (number_of : ℕ) (message : Message) (world : World) (items : List Item) → message_of now.tape number_of ≡ Some message
+    → IsAt c world items (at_node c h now message.to (Taken number_of ∷ []) (Take message) (by_fuse now message.to)) → IsAt c world items (after_event c h by_fuse now (Deliver number_of))
+handed_is c h now number_of message world items is here = subst (IsAt c world items) (sym (ap (handed c h by_fuse now number_of) is)) here

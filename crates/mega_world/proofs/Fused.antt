@@ -1,5 +1,5 @@
 -- A fuse is set on the log of one node of a world.
-use Rattle.std.proofs.Common.{◌≡◌, ℕ, ◌-◌, ◌≤◌, ◌==◌, Bool, true, false, cond, List, length, set, Some, is_some, refl, sym, ap, ◌∙◌, subst, arith}
+use Rattle.std.proofs.Common.{◌≡◌, ℕ, ◌+◌, ◌-◌, ◌≤◌, ◌==◌, Bool, true, false, cond, List, length, set, Some, is_some, refl, sym, ap, ◌∙◌, subst, arith}
 use Rattle.std.proofs.lemmas.Bool.Decides.{nat_tests}
 use Rattle.std.specs.List.{slice_get}
 use Rattle.mega_cluster.specs.declared.cluster.Cluster.{Cluster}
@@ -19,7 +19,7 @@ use Rattle.mega_world.specs.Lapses.{KnowsLeases}
 
 use Rattle.mega_world.specs.Members.{AreMembers, member_in}
 use Rattle.mega_world.specs.Stands.{IsAt}
-use Rattle.mega_world.proofs.Joining.{IsPlace, at_other, at_own, kept_on, joined, member_is, member_up}
+use Rattle.mega_world.proofs.Joining.{IsPlace, at_other, at_own, kept_on, joined, member_is, member_up, place_at}
 
 same_all : {X : Type 0} (f : ℕ → X) (me : ℕ) → set_at f me (f me) ≡ f
 same_all f me = λ i other. by other (me == other) refl i
@@ -68,7 +68,6 @@ fused_at c now me calls image Log old new items r nodes cluster mail safety = re
   leases = subst (λ s. KnowsLeases s now.node now.tape) (sym safety) r.leases;
   formed = record { cluster = r.formed.cluster; lease = r.formed.lease; nodes = r.formed.nodes; owed = r.formed.owed; messages = r.formed.messages };
   within = record { cells = r.within.cells; nodes = r.within.nodes; owed = r.within.owed; messages = r.within.messages };
-  locks = record { up_keep = r.locks.up_keep; unowed = r.locks.unowed; owe = r.locks.owe };
 }
 fused_at c now me calls image Data old new items r nodes cluster mail safety = record {
   cluster = cluster ∙ r.cluster;
@@ -79,8 +78,11 @@ fused_at c now me calls image Data old new items r nodes cluster mail safety = r
   leases = subst (λ s. KnowsLeases s now.node now.tape) (sym safety) r.leases;
   formed = record { cluster = r.formed.cluster; lease = r.formed.lease; nodes = r.formed.nodes; owed = r.formed.owed; messages = r.formed.messages };
   within = record { cells = r.within.cells; nodes = r.within.nodes; owed = r.within.owed; messages = r.within.messages };
-  locks = record { up_keep = r.locks.up_keep; unowed = r.locks.unowed; owe = r.locks.owe };
 }
 
 pub data_nodes : (c : Cluster) (places : List Place) (now : Standing) (me calls image : ℕ) → AreNodes c places now → AreNodes c places (fused now me calls image Data)
 data_nodes c places now me calls image all = record { members = all.members; kept = all.kept }
+
+pub log_nodes : (c : Cluster) (places new : List Place) (now : Standing) (me calls image : ℕ) → AreNodes c places now → 1 ≤ me → me ≤ length places
+    → ((was : Place) → slice_get places (me - 1) ≡ Some was → SetsFuseAt calls image places (me - 1) was new) → AreNodes c new (fused now me calls image Log)
+log_nodes c places new now me calls image all least most sets = let at = place_at places me least most in fuses_at c places new now me calls image at.0 all least most at.1 (sets at.0 at.1)

@@ -19,7 +19,6 @@ use Rattle.mega_transcript.specs.declared.item.Item.TheVariants.{Begin as BeginI
 use Rattle.mega_transcript.specs.Lines.{HasLine}
 use Rattle.mega_transcript.specs.Tape.{newest, onto, sent_count}
 use Rattle.mega_transcript.proofs.Tapes.{newest-append, onto-append}
-use Rattle.mega_rules.specs.Clock.{is_up}
 use Rattle.mega_rules.specs.Members.{is_node}
 use Rattle.mega_rules.specs.Met.{Begins, Crashes, Met, Ticks}
 use Rattle.mega_rules.specs.Operations.{Node as RuleNode, Setting}
@@ -50,7 +49,6 @@ use Rattle.mega_world.proofs.Carrying.{shown_on}
 use Rattle.mega_world.proofs.Events.{step_shows}
 use Rattle.mega_world.proofs.Fates.{cut_tape, step_cut, step_whole}
 use Rattle.mega_world.proofs.Forming.{formed_on, is_member, made_formed}
-use Rattle.mega_world.proofs.Holding.{locks_cut, locks_on}
 use Rattle.mega_world.proofs.Lapsing.{step_lapsed}
 use Rattle.mega_world.proofs.Lining.{notes_lines, sent_lines}
 use Rattle.mega_world.proofs.Owed.{if_kept, owes_formed, owes_within}
@@ -129,7 +127,6 @@ stepped_is c now me own ruled old mid items here made r is lapses makes ready = 
 -- an event of a node: its step and its own item are of the format, and stay within the cluster
 pub record IsFit (c : Cluster) (h : Meanings) (now : Standing) (me : ℕ) (event : Event) : Type 0 where
   pub there : is_node c me ≡ true
-  pub up : is_up (now.node me).met ≡ true
   pub asked : IsEvent event
   pub taken : EventWithin c event
   pub formed : IsStep (step (setting c h me) (now.node me) event)
@@ -149,7 +146,6 @@ shown_at c h now me own event old mid new items here after made r is fit makes r
   leases = subst (KnowsLeases new.safety (set_at now.node me ruled.node)) tape shows.leases;
   formed = formed_on c now me own ruled r.formed fit.formed (is.messages now.tape) (step_shows c now me own ruled is.plain);
   within = within_on c now me own ruled r.within fit.within (is.messages now.tape) (step_shows c now me own ruled is.plain);
-  locks = locks_on c h now me own event fit.there fit.up r.locks;
 }
   where
     ruled : RuleStep
@@ -204,7 +200,6 @@ crashed_at c h now me own event old mid new items here after r is fit falls read
     owed = λ other. owing_by other (me == other);
     messages = λ n message sent. r.within.messages n message (sym (is.messages now.tape n) ∙ sym (ap (λ t. message_of t n) tape) ∙ sent);
   };
-  locks = locks_cut c h now me own event fit.there fit.up r.locks;
 }
   where
     next : RuleNode

@@ -1,6 +1,8 @@
 pub mod Again
+pub mod Anew
 pub mod Breaking
 pub mod Carrying
+pub mod Due
 pub mod Emptying
 pub mod Events
 pub mod Failing
@@ -16,16 +18,15 @@ pub mod Joining
 pub mod Lapsing
 pub mod Least
 pub mod Lining
-pub mod Locked
 pub mod Noted
 pub mod Opened
 pub mod Outcomes
 pub mod Owed
 pub mod Placing
 pub mod Plain
-pub mod Quieted
 pub mod Reopened
 pub mod Sending
+pub mod Showed
 pub mod Staying
 pub mod Stepped
 pub mod Within

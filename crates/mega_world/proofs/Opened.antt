@@ -7,7 +7,6 @@ use Rattle.std.specs.List.{range_with_len, slice_get}
 use Rattle.mega_base.specs.declared.names.Epoch.{Epoch}
 use Rattle.mega_cluster.specs.declared.cluster.Cluster.{Cluster}
 use Rattle.mega_handler.specs.Named.{Meanings}
-use Rattle.mega_leases.specs.Opening.{AreOwed}
 use Rattle.mega_transcript.specs.declared.item.Item.{Item}
 use Rattle.mega_transcript.specs.declared.item.Item.TheVariants.{Start}
 use Rattle.mega_transcript.specs.Tape.{newest}
@@ -15,7 +14,7 @@ use Rattle.mega_transcript.proofs.Tapes.{newest-append}
 use Rattle.mega_rules.specs.Clock.{is_up, start_of}
 use Rattle.mega_rules.specs.Logs.{groups_of}
 use Rattle.mega_rules.specs.Members.{has_rows}
-use Rattle.mega_rules.specs.Met.{Met, Starts}
+use Rattle.mega_rules.specs.Met.{Starts}
 use Rattle.mega_rules.specs.Operations.{Node as RuleNode, Setting}
 use Rattle.mega_rules.specs.Steps.{onto, start, start_items, start_note, start_notes}
 use Rattle.mega_format_laws.specs.Histories.{IsCluster, IsMet}
@@ -37,13 +36,11 @@ use Rattle.mega_world.specs.declared.place.Place.{Place}
 use Rattle.mega_world.specs.declared.place.Place.TheVariants.{Up, Down}
 use Rattle.mega_world.specs.declared.member.Member.{Member}
 use Rattle.mega_world.specs.Kept.{AreNodes, IsKept}
-use Rattle.mega_world.specs.Locking.{KeepsLocks, RunsLocks}
 use Rattle.mega_world.specs.LogFuses.{IsFused}
 use Rattle.mega_world.specs.Members.{IsMember, is_up_at, member_in, member_of, records_of}
 use Rattle.mega_world.specs.Opening.{AreStarted, IsFirst, IsStarted, first_starts}
 use Rattle.mega_world.specs.Within.{RunsWithin}
 use Rattle.mega_world.proofs.Joining.{member_is}
-use Rattle.mega_world.proofs.Locked.{start_keeps}
 
 -- ---- the first start of a node
 
@@ -219,20 +216,6 @@ opening_formed c h formed lease = record {
     by : (t : Bool) (me : ℕ) → IsNode (cond t (start (setting c h me) 1 [] []) empty_node)
     by true me = started (setting c h me) 1 [] [] (omega arith, omega arith) tt tt
     by false me = record { met = tt; open_operations = tt }
-
-pub opening_locks : (c : Cluster) (h : Meanings) → RunsLocks c (opening c h)
-opening_locks c h = record {
-  up_keep = λ me up. subst (λ (n : RuleNode). KeepsLocks c me n.met) (sym (o.node_is me)) (by (is_among (length c.nodes) me) me);
-  unowed = λ me up. o.unowed me;
-  owe = λ me. subst (λ (owed : List Met). AreOwed owed ((opening c h).node me).met) (sym (o.unowed me)) tt;
-}
-  where
-    o : Opened c h (length c.nodes) (opening c h)
-    o = opening_opened c h
-
-    by : (t : Bool) (me : ℕ) → KeepsLocks c me (cond t (start (setting c h me) 1 [] []) empty_node).met
-    by true me = subst (λ (items : List Met). KeepsLocks c me (onto items [])) (sym (first_items (setting c h me))) (start_keeps c me 1 [] [] tt)
-    by false me = record { each = λ is_one node number. refl }
 
 pub opening_within : (c : Cluster) (h : Meanings) → c.cells ≤ length c.nodes → RunsWithin c (opening c h)
 opening_within c h few = record {

@@ -1,25 +1,28 @@
 -- A world one of whose nodes started again stands as the run does afterwards.
-use Rattle.std.proofs.Common.{◌≡◌, ℕ, ◌+◌, ◌==◌, ◌≤◌, ◌++◌, ◌∷◌, [], Bool, true, false, cond, List, flat_map, Some, refl, sym, ap, ◌∙◌, subst, append_assoc, arith}
+use Rattle.std.proofs.Common.{◌≡◌, ℕ, ◌+◌, ◌==◌, ◌≤◌, ◌++◌, ◌∷◌, [], Bool, true, false, cond, List, flat_map, nat_lt, refl, sym, ap, ◌∙◌, subst, append_assoc, arith}
 use Rattle.std.proofs.lemmas.Bool.Decides.{nat_tests}
+use Rattle.std.specs.List.{All}
 use Rattle.mega_base.specs.Names.{IsU32}
+use Rattle.mega_base.specs.declared.names.GroupId.{GroupId}
 use Rattle.mega_base.specs.declared.names.Epoch.{Epoch}
 use Rattle.mega_base.specs.declared.names.NodeId.{NodeId}
 use Rattle.mega_cluster.specs.declared.cluster.Cluster.{Cluster}
 use Rattle.mega_handler.specs.Named.{Meanings}
-use Rattle.mega_leases.specs.Opening.{AreOwed}
 use Rattle.mega_schedule.specs.declared.world_event.WorldEvent.TheVariants.{Start as StartEvent}
 use Rattle.mega_transcript.specs.declared.item.Item.{Item}
 use Rattle.mega_transcript.specs.declared.item.Item.TheVariants.{Start}
+use Rattle.mega_transcript.specs.Lines.{HasLine}
 use Rattle.mega_transcript.specs.Tape.{newest}
 use Rattle.mega_format_laws.specs.Histories.{IsMet}
 use Rattle.mega_format_laws.specs.Nodes.{IsNode}
 use Rattle.mega_format_laws.proofs.Steps.{started as started_formed}
 use Rattle.mega_member_laws.specs.Nodes.{MetWithin, StaysWithin}
 use Rattle.mega_member_laws.proofs.Steps.{started as started_within}
-use Rattle.mega_rules.specs.Clock.{is_up}
-use Rattle.mega_rules.specs.Met.{Met, Starts}
-use Rattle.mega_rules.specs.Operations.{Node}
-use Rattle.mega_rules.specs.Steps.{onto, start, start_items, start_notes}
+use Rattle.mega_rules.specs.Logs.{groups_of, prefix_of}
+use Rattle.mega_rules.specs.Members.{has_rows}
+use Rattle.mega_rules.specs.Met.{Applies, Met, Starts}
+use Rattle.mega_rules.specs.Operations.{Node, Setting}
+use Rattle.mega_rules.specs.Steps.{onto, start, start_items, start_note, start_notes}
 use Rattle.mega_promises.specs.Items.{number, shown}
 use Rattle.mega_promises.specs.Runs.{Standing, after_event, by_fuse, has_lapsed, set_at, setting, with_items}
 use Rattle.mega_world.specs.declared.place.Place.{Place}
@@ -28,14 +31,14 @@ use Rattle.mega_world.specs.declared.world.World.{World}
 use Rattle.mega_world.specs.Carries.{Carries}
 use Rattle.mega_world.specs.Kept.{AreNodes, owed_of}
 use Rattle.mega_world.specs.Lapses.{KnowsLeases}
-use Rattle.mega_world.specs.Locking.{KeepsLocks}
 use Rattle.mega_world.specs.Owing.{IsOwing, ShowsStart}
 use Rattle.mega_world.specs.Restarting.{Opens, started}
 use Rattle.mega_world.specs.Shown.{notes_shown}
 use Rattle.mega_world.specs.Stands.{IsAt}
-use Rattle.mega_world.proofs.Again.{started_keeps, started_lapsed}
+use Rattle.mega_world.proofs.Again.{started_lapsed}
 use Rattle.mega_world.proofs.Carrying.{notes_same, same_on}
 use Rattle.mega_world.proofs.Fates.{start_whole}
+use Rattle.mega_world.proofs.Lining.{notes_lines}
 
 flat_both : (me : ℕ) (xs ys : List Met) → flat_map (shown me) (xs ++ ys) ≡ flat_map (shown me) xs ++ flat_map (shown me) ys
 flat_both me [] ys = refl
@@ -93,11 +96,6 @@ reopened_at c h now node old mid new items after opening r opens small cluster m
     owed = λ other. owing_by other (me == other);
     messages = λ n message sent. r.within.messages n message (sym ((notes_same c (started c h now me).node me items_of now.tape).message n) ∙ sent);
   };
-  locks = record {
-    up_keep = λ other. keep_by other (me == other) refl;
-    unowed = λ other. none_by other (me == other);
-    owe = λ other. owe_by other (me == other);
-  };
 })
   where
     me : ℕ
@@ -131,14 +129,24 @@ reopened_at c h now node old mid new items after opening r opens small cluster m
     owing_by other true = tt
     owing_by other false = r.within.owed other
 
-    keep_by : (other : ℕ) (t : Bool) → (me == other) ≡ t → is_up (cond t first (now.node other)).met ≡ true → KeepsLocks c other (cond t first (now.node other)).met
-    keep_by other true same up = let e : me ≡ other = grind (arith, nat_tests) in subst (λ (n : ℕ). KeepsLocks c n first.met) e (started_keeps c h me (now.starts me + 1) (now.owed me) (now.node me).met (r.locks.owe me))
-    keep_by other false off up = r.locks.up_keep other up
+-- what it shows has lines
+pub reopened_lined : (c : Cluster) (now : Standing) (me : ℕ) (old mid : World) (items after : List Item) (opening : Shown) → IsAt c old items now → Opens c now me mid.places.items opening
+    → (All HasLine items → All HasLine (flat_map (shown me) (owed_of opening.owed)) → All HasLine (notes_shown me opening.notes) → All HasLine after) → All HasLine items → All HasLine after
+reopened_lined c now me old mid items after opening r opens lines lined =
+    lines lined (subst (λ owed. All HasLine (flat_map (shown me) owed)) (sym opens.owed) (notes_lines me (now.owed me) (r.formed.owed me)))
+    (subst (λ notes. All HasLine (flat_map (shown me) notes)) (sym (opens.notes [])) (notes_lines me (start_notes (setting c [] me) (onto (now.owed me) (Starts (now.starts me + 1) ∷ (now.node me).met))) (start_formed (setting c [] me) (onto (now.owed me) (Starts (now.starts me + 1) ∷ (now.node me).met)))))
+  where
+    applied_formed : (known : List Met) (groups : List GroupId) → IsMet (flat_map (start_note known) groups)
+    applied_formed known [] = tt
+    applied_formed known (group ∷ groups) = by (nat_lt 0 (prefix_of known group)) (applied_formed known groups)
+      where
+        by : (t : Bool) → IsMet (flat_map (start_note known) groups) → IsMet (cond t (Applies group (prefix_of known group) ∷ []) [] ++ flat_map (start_note known) groups)
+        by true rest = (tt, rest)
+        by false rest = rest
 
-    none_by : (other : ℕ) (t : Bool) → is_up (cond t first (now.node other)).met ≡ true → cond t [] (now.owed other) ≡ []
-    none_by other true up = refl
-    none_by other false up = r.locks.unowed other up
+    either_formed : (t : Bool) (notes : List Met) → IsMet notes → IsMet (cond t notes [])
+    either_formed true notes formed = formed
+    either_formed false notes formed = tt
 
-    owe_by : (other : ℕ) (t : Bool) → AreOwed (cond t [] (now.owed other)) (cond t first (now.node other)).met
-    owe_by other true = tt
-    owe_by other false = r.locks.owe other
+    start_formed : (s : Setting) (known : List Met) → IsMet (start_notes s known)
+    start_formed s known = either_formed (has_rows s.cluster s.me) (flat_map (start_note known) (groups_of known)) (applied_formed known (groups_of known))

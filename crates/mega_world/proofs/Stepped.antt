@@ -1,11 +1,11 @@
 -- One node of a world makes a step.
-use Rattle.std.proofs.Common.{◌≡◌, ℕ, ◌+◌, ◌-◌, ◌≤◌, ◌&&◌, min, cond, Bool, true, false, List, [], get_or, length, map, Option, Some, refl, sym, ap, ◌∙◌, subst, arith}
+use Rattle.std.proofs.Common.{◌≡◌, ℕ, ◌+◌, ◌-◌, ◌≤◌, ◌&&◌, min, cond, Bool, true, false, List, [], ◌∷◌, get_or, length, map, Option, Some, refl, sym, ap, ◌∙◌, subst, arith}
 use Rattle.std.proofs.lemmas.Option.{slice_get_read}
 use Rattle.std.specs.List.{slice_get}
 use Rattle.mega_base.specs.declared.names.OpId.{OpId}
 use Rattle.mega_cluster.specs.declared.cluster.Cluster.{Cluster}
 use Rattle.mega_disk.specs.declared.mem_records.MemRecords.{MemRecords}
-use Rattle.mega_disk.specs.Fuse.{after_append as less, is_short}
+use Rattle.mega_disk.specs.Fuse.{Unset, after_append as less, is_short, keeps_record}
 use Rattle.mega_disk.specs.MemDisk.{fuse_of, image_of}
 use Rattle.mega_rows.specs.declared.rows.VersionedRows.{VersionedRows}
 use Rattle.mega_handler.specs.Named.{Meanings}
@@ -13,25 +13,31 @@ use Rattle.mega_wire.specs.declared.message.Body.{Body}
 use Rattle.mega_voter.specs.Holding.{HoldsMet}
 use Rattle.mega_voter.specs.Telling.{Tells}
 use Rattle.mega_actions.specs.Stands.{setting as at_node}
+use Rattle.mega_leases.specs.Opening.{AreOwed}
 use Rattle.mega_leases.specs.Taking.{IsLate}
 use Rattle.mega_rules.specs.Clock.{begun_of, start_of}
-use Rattle.mega_rules.specs.Met.{Met}
+use Rattle.mega_rules.specs.Met.{Crashes, Met}
 use Rattle.mega_rules.specs.Operations.{Node as RuleNode, Setting}
 use Rattle.mega_rules.specs.Steps.{Event, op_of, step}
 use Rattle.mega_replica.specs.Following.{progress_at}
+use Rattle.mega_node_laws.specs.Acted.{own_item}
 use Rattle.mega_core.specs.declared.node.Node.{Node}
 use Rattle.mega_core.specs.declared.step.Step.{Step}
 use Rattle.mega_core.specs.Notes.{met_of}
 use Rattle.mega_core.specs.Represents.{Represents}
 use Rattle.mega_core.specs.Standing.{StandsFor}
+use Rattle.mega_durable.specs.declared.cut.Cut.{Cut}
+use Rattle.mega_durable.specs.Cut.{HoldsCut}
+use Rattle.mega_durable.specs.Replying.{owed_by}
+use Rattle.mega_durable.specs.Granted.{KeepsGrants}
 use Rattle.mega_durable.specs.Standing.{MayHappen}
-use Rattle.mega_promises.specs.Runs.{Fuse, after_append, appends, is_burning, setting}
+use Rattle.mega_promises.specs.Runs.{AsItWas, Fuse, Recorded, after_append, appends, is_burning, owes, replies_in, setting}
 use Rattle.mega_world.specs.declared.log_fuse.LogFuse.{LogFuse}
 use Rattle.mega_world.specs.declared.member.Member.{Member}
 use Rattle.mega_world.specs.LogFuses.{HasRoom, IsFused, run_fuse}
 use Rattle.mega_world.specs.Members.{IsMember, IsTold, node_in, records_of, version_of}
-use Rattle.mega_world.specs.Stepping.{MadeStep}
-use Rattle.mega_world.proofs.Fuses.{fused_more, fused_same, short_is}
+use Rattle.mega_world.specs.Stepping.{MadeStep, WasCut}
+use Rattle.mega_world.proofs.Fuses.{fused_more, fused_same, leaves, short_is}
 
 -- the handlers do not matter to what is told
 any_handlers : (c : Cluster) (me : ℕ) (g h : Meanings) (node : Node MemRecords VersionedRows) (ruled : RuleNode) → IsTold c g me node ruled → IsTold c h me node ruled
@@ -46,6 +52,7 @@ pub record IsHere (h : Meanings) (node : Node MemRecords VersionedRows) (ruled :
   pub empty : node.replica.voter.logs.staged.items ≡ []
   pub ready : node.replica.voter.logs.records.spent ≡ false
   pub holds : HoldsMet node.replica.voter.logs.records.list.items (start_of ruled.met) ruled.met
+  pub granted : KeepsGrants node.replica.members node.replica.me ruled.met
 
 pub is_here : (c : Cluster) (h : Meanings) (me : ℕ) (member : Member) (ruled : RuleNode) → IsMember c me member ruled → IsHere h (node_in member) ruled
 is_here c h me member ruled one = record {
@@ -54,6 +61,7 @@ is_here c h me member ruled one = record {
   empty = one.empty;
   ready = one.ready;
   holds = one.holds;
+  granted = one.granted;
 }
 
 pub as_member : (c : Cluster) (h : Meanings) (me : ℕ) (member : Member) (ruled : RuleNode) → (node_in member).replica.members ≡ c → (node_in member).replica.me ≡ me → IsHere h (node_in member) ruled → IsMember c me member ruled
@@ -66,6 +74,7 @@ as_member c h me member ruled members number here = record {
   empty = here.empty;
   ready = here.ready;
   holds = here.holds;
+  granted = here.granted;
 }
 
 -- the log's fuse had an append left where one was made, and counts its calls
@@ -127,6 +136,37 @@ made_step c h me ruled fuse member stepped made event one fused may steps counts
 
     whole : IsWhole (appends (step (setting c h me) ruled event)) (records_of member) (records_of stepped)
     whole = subst (λ (s : Setting). IsWhole (appends (step s ruled event)) (records_of member) (records_of stepped)) (sym own) (steps.whole h ruled here its)
+
+-- ---- or its log's fuse cut it off
+pub record CutSo (s : Setting) (ruled : RuleNode) (event : Event) (old new : MemRecords) (cut : Cut) : Type 0 where
+  pub appending : appends (step s ruled event) ≡ true
+  pub short : is_short (fuse_of old.fuse) ≡ true
+  pub gone : fuse_of new.fuse ≡ Unset
+  pub holds : HoldsCut s ruled event new.list.items (cond (keeps_record (fuse_of old.fuse) (image_of old.fuse)) Recorded AsItWas)
+  pub owed : owed_by cut ≡ owes (step s ruled event) (replies_in s.cluster s.me ruled.met event)
+  pub follows : AreOwed (owes (step s ruled event) (replies_in s.cluster s.me ruled.met event)) (Crashes ∷ own_item s ruled event ∷ ruled.met)
+
+pub was_cut : (c : Cluster) (h : Meanings) (me : ℕ) (ruled : RuleNode) (fuse : Option Fuse) (member stepped : Member) (cut : Cut) (event : Event) → IsMember c me member ruled → IsFused member.fuse (records_of member) fuse
+    → MayHappen (setting c h me) ruled event → stepped.fuse ≡ member.fuse
+    → (IsHere h (node_in member) ruled → MayHappen (at_node (node_in member).replica.members (node_in member).replica.me h) ruled event
+    → CutSo (at_node (node_in member).replica.members (node_in member).replica.me h) ruled event (records_of member) (records_of stepped) cut)
+    → WasCut c h me ruled event fuse stepped cut
+was_cut c h me ruled fuse member stepped cut event one fused may same says = record {
+  appending = so.appending;
+  burning = sym (short_is fuse fused.unburnt) ∙ sym (ap is_short fused.left) ∙ so.short;
+  holds = subst (HoldsCut (setting c h me) ruled event (records_of stepped).list.items) (leaves (records_of member) fuse fused.left fused.image fused.unburnt) so.holds;
+  gone = so.gone;
+  was = ap run_fuse same ∙ fused.kept_is;
+  follows = so.follows;
+  owed = so.owed;
+}
+  where
+    own : setting c h me ≡ at_node (node_in member).replica.members (node_in member).replica.me h
+    own = own_setting c h me member ruled one
+
+    so : CutSo (setting c h me) ruled event (records_of member) (records_of stepped) cut
+    so = subst (λ (s : Setting). CutSo s ruled event (records_of member) (records_of stepped) cut) (sym own)
+        (says (is_here c h me member ruled one) (subst (λ (s : Setting). MayHappen s ruled event) own may))
 
 -- the node at a place of a list, counted from 1
 pub found : {X : Type 0} (xs : List X) (i me : ℕ) (x : X) → i ≡ me - 1 → 1 ≤ me → me ≤ length xs → x ≡ get_or xs i x → slice_get xs i ≡ Some x

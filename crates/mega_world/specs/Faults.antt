@@ -1,16 +1,11 @@
 -- The fault of a world where a node of it did not step.
-use Rattle.std.specs.Prelude.{◌≡◌, Option, Some, None}
-use Rattle.mega_core.specs.Faults.{of_store}
+use Rattle.std.specs.Prelude.{Option, Some, None}
 use Rattle.mega_core.specs.declared.fault.StepFault.{StepFault}
 use Rattle.mega_core.specs.declared.fault.StepFault.TheVariants as step
 use Rattle.mega_wal.specs.declared.answers.LogFault.{LogFault}
 use Rattle.mega_wal.specs.declared.answers.LogFault.TheVariants as log
-use Rattle.mega_durable.specs.declared.fault.UpFault.{UpFault}
-use Rattle.mega_durable.specs.declared.fault.UpFault.TheVariants as up
 use Rattle.mega_world.specs.declared.fault.WorldFault.{WorldFault}
 use Rattle.mega_world.specs.declared.fault.WorldFault.TheVariants.{NoMemory, Unbuilt}
-use Rattle.mega_world.specs.declared.not_made.NotMade.{NotMade}
-use Rattle.mega_world.specs.declared.not_made.NotMade.TheVariants as not_made
 
 -- none stands for what only a device of rows does, since a world keeps its rows in memory
 abbrev pub fault_of : StepFault → Option WorldFault
@@ -29,18 +24,3 @@ log_fault_of (log.Full n) = None
 log_fault_of log.Spent = None
 log_fault_of (log.BadRecord n) = None
 log_fault_of log.NoMemory = Some NoMemory
-
-abbrev as_fault : Option WorldFault → Option NotMade
-as_fault None = None
-as_fault (Some fault) = Some (not_made.Fault fault)
-
-abbrev pub not_made_of : UpFault → Option NotMade
-not_made_of (up.Step fault) = as_fault (fault_of fault)
-not_made_of (up.Cut cut) = Some (not_made.Cut cut)
-not_made_of (up.Log fault) = as_fault (log_fault_of fault)
-
--- what rows in memory, and records in memory that are open, do not rule out
-abbrev pub CanComeHere : UpFault → Type 0
-CanComeHere (up.Step fault) = of_store fault ≡ None
-CanComeHere (up.Cut cut) = Unit {0}
-CanComeHere (up.Log fault) = fault ≡ log.NoMemory

@@ -1,6 +1,7 @@
 -- What each node of a world keeps that outlives its crash: its records, what its next start owes, and the fuse on its log.
 use Rattle.std.specs.Prelude.{◌≡◌, ℕ, ◌+◌, List, [], slice_get, Option, Some, None}
 use Rattle.mega_cluster.specs.declared.cluster.Cluster.{Cluster}
+use Rattle.mega_leases.specs.Opening.{AreOwed}
 use Rattle.mega_rules.specs.Clock.{start_of}
 use Rattle.mega_rules.specs.Met.{Met}
 use Rattle.mega_rules.specs.Operations.{Node as RuleNode}
@@ -27,8 +28,9 @@ pub record IsSettled (member : Member) (starts : ℕ) (owed met : List Met) (fus
   pub unowed : owed ≡ []
   pub fused : IsFused member.fuse (records_of member) fuse
 
--- what a node left that is down: it holds what it met and owes, and how often it started
+-- what a node left that is down: it holds what it met and owes, which may be owed, and how often it started
 pub record IsFallen (fallen : Fallen) (starts : ℕ) (owed met : List Met) (fuse : Option Fuse) : Type 0 where
+  pub follows : AreOwed owed met
   pub holds : HoldsMet fallen.records.list.items starts (onto owed met)
   pub owes : owed_of fallen.owed ≡ owed
   pub fused : IsFused fallen.fuse fallen.records fuse

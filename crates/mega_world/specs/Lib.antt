@@ -5,7 +5,6 @@ pub mod Fusing
 pub mod Kept
 pub mod Lapses
 pub mod Least
-pub mod Locking
 pub mod LogFuses
 pub mod Members
 pub mod Opening

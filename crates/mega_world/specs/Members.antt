@@ -12,6 +12,7 @@ use Rattle.mega_replica.specs.Following.{progress_at}
 use Rattle.mega_voter.specs.Holding.{HoldsMet}
 use Rattle.mega_core.specs.declared.node.Node.{Node}
 use Rattle.mega_core.specs.Represents.{Represents}
+use Rattle.mega_durable.specs.Granted.{KeepsGrants}
 use Rattle.mega_promises.specs.Runs.{setting}
 use Rattle.mega_world.specs.declared.member.Member.{Member}
 use Rattle.mega_world.specs.declared.place.Place.{Place}
@@ -47,7 +48,7 @@ IsTold c h me node ruled =
     Represents (setting c h me) node.replica.voter.logs.kept node.replica.leases (version_of node.replica.rows.rows) (progress_at node.replica.rows.progress) node.open node.begun ruled
 
 -- the node of this number of a cluster, which a node of the rules tells of, whatever handlers are there: nothing of it waits to be kept, and
--- its records, which are open, hold what it met
+-- its records, which are open, hold what it met, and its lock cell keeps what it granted last
 pub record IsMember (c : Cluster) (me : ℕ) (member : Member) (ruled : RuleNode) : Type 0 where
   pub members : (node_in member).replica.members ≡ c
   pub number : (node_in member).replica.me ≡ me
@@ -55,6 +56,7 @@ pub record IsMember (c : Cluster) (me : ℕ) (member : Member) (ruled : RuleNode
   pub empty : (node_in member).replica.voter.logs.staged.items ≡ []
   pub ready : (records_of member).spent ≡ false
   pub holds : HoldsMet (records_of member).list.items (start_of ruled.met) ruled.met
+  pub granted : KeepsGrants (node_in member).replica.members (node_in member).replica.me ruled.met
 
 -- all nodes of a cluster in their places, in order, up where the rules have them so
 pub record AreMembers (c : Cluster) (places : List Place) (ruled : ℕ → RuleNode) : Type 0 where

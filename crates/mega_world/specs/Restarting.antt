@@ -2,7 +2,6 @@
 use Rattle.std.specs.Prelude.{◌≡◌, ℕ, ◌-◌, ◌+◌, List, [], ◌∷◌, map, set, Option, Some, None, true, false}
 use Rattle.mega_cluster.specs.declared.cluster.Cluster.{Cluster}
 use Rattle.mega_handler.specs.Named.{Meanings}
-use Rattle.mega_leases.specs.Opening.{AreOwed}
 use Rattle.mega_rules.specs.Met.{Starts}
 use Rattle.mega_rules.specs.Steps.{onto, start, start_items, start_notes}
 use Rattle.mega_core.specs.Notes.{met_of}
@@ -12,10 +11,9 @@ use Rattle.mega_world.specs.declared.restarting.Shown.{Shown}
 use Rattle.mega_world.specs.Kept.{AreNodes, owed_of}
 
 -- there is a run whose nodes these are
-pub record AreStartable (c : Cluster) (places : List Place) (me : ℕ) : Type 0 where
+pub record AreStartable (c : Cluster) (places : List Place) : Type 0 where
   pub now : Standing
   pub nodes : AreNodes c places now
-  pub follows : AreOwed (now.owed me) (now.node me).met
 
 abbrev pub started : Cluster → Meanings → Standing → ℕ → Standing
 started c h now me =
@@ -34,10 +32,10 @@ pub record StaysDown (c : Cluster) (now : Standing) (me : ℕ) (places : List Pl
   pub burning : is_burning (now.log_fuse me) ≡ true
   pub nodes : AreNodes c places (cut_start now me (left_by (now.log_fuse me)) (set_at now.log_fuse me None) now.data_fuse)
 
-abbrev OpensOr : Cluster → Standing → ℕ → List Place → Option Shown → Type 0
+abbrev pub OpensOr : Cluster → Standing → ℕ → List Place → Option Shown → Type 0
 OpensOr c now me places None = StaysDown c now me places
 OpensOr c now me places (Some shown) = Opens c now me places shown
 
 -- so of each run whose nodes these were
 abbrev pub Reopens : Cluster → ℕ → List Place → List Place → Option Shown → Type 0
-Reopens c me old new shown = (now : Standing) → AreNodes c old now → AreOwed (now.owed me) (now.node me).met → OpensOr c now me new shown
+Reopens c me old new shown = (now : Standing) → AreNodes c old now → OpensOr c now me new shown

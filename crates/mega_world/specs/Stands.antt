@@ -13,7 +13,6 @@ use Rattle.mega_world.specs.Carries.{Carries}
 use Rattle.mega_world.specs.Formed.{IsFormed, IsSound}
 use Rattle.mega_world.specs.Kept.{AreNodes}
 use Rattle.mega_world.specs.Lapses.{KnowsLeases}
-use Rattle.mega_world.specs.Locking.{RunsLocks}
 use Rattle.mega_world.specs.Within.{RunsWithin}
 
 -- the nodes, up or down, with all that they keep, what is carried between them, the tape, and what tells whether leases are safe are those of
@@ -27,7 +26,6 @@ pub record IsAt (c : Cluster) (world : World) (items : List Item) (now : Standin
   pub leases : KnowsLeases world.safety now.node now.tape
   pub formed : IsFormed c now
   pub within : RunsWithin c now
-  pub locks : RunsLocks c now
 
 -- there is a run at which the world stands, and the event is sound in it
 pub record IsDue (world : World) (items : List Item) (event : WorldEvent) : Type 0 where

@@ -22,17 +22,18 @@ use Rattle.mega_world.specs.Members.{IsMember, records_of}
 
 -- of each history that a node that is down may have, and each fuse of the run on its log
 abbrev pub AtEachFallen : Fallen → (ℕ → List Met → List Met → Option Fuse → Type 0) → Type 0
-AtEachFallen fallen Is = (starts : ℕ) (owed met : List Met) (fuse : Option Fuse) → AreOwed owed met → IsFallen fallen starts owed met fuse → Is starts owed met fuse
+AtEachFallen fallen Is = (starts : ℕ) (owed met : List Met) (fuse : Option Fuse) → IsFallen fallen starts owed met fuse → Is starts owed met fuse
 
 -- the same of logs that were opened anew, with a fuse that is kept beside them
 pub record IsOpened (voter : Voter MemRecords) (kept : Option LogFuse) (starts : ℕ) (owed met : List Met) (fuse : Option Fuse) : Type 0 where
+  pub follows : AreOwed owed met
   pub recalls : Recalls voter.logs.kept starts (onto owed met)
   pub ready : voter.logs.records.spent ≡ false
   pub holds : HoldsMet voter.logs.records.list.items starts (onto owed met)
   pub fused : IsFused kept voter.logs.records fuse
 
 abbrev pub AtEachOpened : Voter MemRecords → Option LogFuse → (ℕ → List Met → List Met → Option Fuse → Type 0) → Type 0
-AtEachOpened voter kept Is = (starts : ℕ) (owed met : List Met) (fuse : Option Fuse) → AreOwed owed met → IsOpened voter kept starts owed met fuse → Is starts owed met fuse
+AtEachOpened voter kept Is = (starts : ℕ) (owed met : List Met) (fuse : Option Fuse) → IsOpened voter kept starts owed met fuse → Is starts owed met fuse
 
 -- there is such a history
 pub record IsStartable (fallen : Fallen) : Type 0 where
@@ -40,7 +41,6 @@ pub record IsStartable (fallen : Fallen) : Type 0 where
   pub owed : List Met
   pub met : List Met
   pub fuse : Option Fuse
-  pub follows : AreOwed owed met
   pub is : IsFallen fallen starts owed met fuse
 
 -- the node is up, and the fuse had an append left

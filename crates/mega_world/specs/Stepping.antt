@@ -1,10 +1,13 @@
 -- What becomes of a step of a node that is up: it makes it whole, or its log's fuse cuts it off.
-use Rattle.std.specs.Prelude.{◌≡◌, ℕ, ◌&&◌, true, false, if◌then◌else◌, List, [], map, Option, Some, None, Result, Ok, Err}
+use Rattle.std.specs.Prelude.{◌≡◌, ℕ, ◌&&◌, true, false, if◌then◌else◌, List, [], ◌∷◌, map, Option, Some, None, Result, Ok, Err}
 use Rattle.mega_cluster.specs.declared.cluster.Cluster.{Cluster}
 use Rattle.mega_disk.specs.Fuse.{Unset}
 use Rattle.mega_disk.specs.MemDisk.{fuse_of}
 use Rattle.mega_handler.specs.Named.{Meanings}
 use Rattle.mega_transcript.specs.declared.item.Item.{Item}
+use Rattle.mega_leases.specs.Opening.{AreOwed}
+use Rattle.mega_node_laws.specs.Acted.{own_item}
+use Rattle.mega_rules.specs.Met.{Crashes}
 use Rattle.mega_rules.specs.Operations.{Node as RuleNode}
 use Rattle.mega_rules.specs.Steps.{Event, Step as RuleStep, step}
 use Rattle.mega_core.specs.declared.step.Step.{Step}
@@ -53,6 +56,7 @@ pub record WasCut (c : Cluster) (h : Meanings) (me : ℕ) (ruled : RuleNode) (ev
   pub holds : HoldsCut (setting c h me) ruled event (records_of member).list.items (left_by fuse)
   pub gone : fuse_of (records_of member).fuse ≡ Unset
   pub was : run_fuse member.fuse ≡ fuse
+  pub follows : AreOwed (owes (step (setting c h me) ruled event) (replies_in c me ruled.met event)) (Crashes ∷ own_item (setting c h me) ruled event ∷ ruled.met)
   pub owed : owed_by cut ≡ owes (step (setting c h me) ruled event) (replies_in c me ruled.met event)
 
 -- what of this is so of a step that the node made, or did not make

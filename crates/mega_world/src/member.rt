@@ -12,12 +12,13 @@ ghost use Rattle.mega_world.specs.LogFuses.{HasRoom, IsFused, run_fuse};
 ghost use Rattle.mega_world.specs.Members.{IsMember, records_of};
 ghost use Rattle.mega_world.specs.Stepping.{AtEachNode, IsSome, Outcome};
 
+use crate::fault::{fault_of, log_fault_of};
 use crate::log_fuse::{LogFuse, after_append};
-use crate::not_made::{NotMade, not_made};
+use crate::not_made::NotMade;
 use mega_base::Text;
 use mega_core::Step;
 use mega_disk::MemRecords;
-use mega_durable::Up;
+use mega_durable::{Up, UpFault};
 use mega_outcome::Request;
 use mega_rows::VersionedRows;
 use mega_wire::Message;
@@ -56,7 +57,9 @@ impl Member {
                 self.fuse = counted(self.fuse, before, self.up.node.replica.voter.records());
                 Ok(made)
             }
-            Err(fault) => Err(not_made(fault)),
+            Err(UpFault::Cut(cut)) => Err(NotMade::Cut(cut)),
+            Err(UpFault::Step(fault)) => Err(NotMade::Fault(fault_of(fault))),
+            Err(UpFault::Log(fault)) => Err(NotMade::Fault(log_fault_of(fault))),
         }
     }
 
@@ -79,7 +82,9 @@ impl Member {
                 self.fuse = counted(self.fuse, before, self.up.node.replica.voter.records());
                 Ok(made)
             }
-            Err(fault) => Err(not_made(fault)),
+            Err(UpFault::Cut(cut)) => Err(NotMade::Cut(cut)),
+            Err(UpFault::Step(fault)) => Err(NotMade::Fault(fault_of(fault))),
+            Err(UpFault::Log(fault)) => Err(NotMade::Fault(log_fault_of(fault))),
         }
     }
 
@@ -97,7 +102,9 @@ impl Member {
                 self.fuse = counted(self.fuse, before, self.up.node.replica.voter.records());
                 Ok(made)
             }
-            Err(fault) => Err(not_made(fault)),
+            Err(UpFault::Cut(cut)) => Err(NotMade::Cut(cut)),
+            Err(UpFault::Step(fault)) => Err(NotMade::Fault(fault_of(fault))),
+            Err(UpFault::Log(fault)) => Err(NotMade::Fault(log_fault_of(fault))),
         }
     }
 

@@ -1,5 +1,5 @@
 //! A node of the world starts again, or its log's fuse cuts the start off.
-ghost use Rattle.std.specs.Prelude.{◌≡◌, ◌≢◌, ◌≤◌, ℕ, length, IfNone, IfOk, OnOk, Err, Some, None, true, false};
+ghost use Rattle.std.specs.Prelude.{◌≡◌, ◌≢◌, ◌≤◌, ◌-◌, ℕ, List, length, set, IfNone, IfOk, IfSome, OnOk, Err, Some, None, true, false};
 ghost use Rattle.std.specs.Prelude.{All};
 ghost use Rattle.mega_cluster.specs.declared.cluster.Cluster.{Cluster as ClusterValue};
 ghost use Rattle.mega_core.specs.Served.{IsServed};
@@ -9,13 +9,16 @@ ghost use Rattle.mega_schedule.specs.declared.world_event.WorldEvent.TheVariants
 ghost use Rattle.mega_transcript.specs.Lines.{HasLine};
 ghost use Rattle.mega_promises.specs.Runs.{Standing, after_event, by_fuse, refusal};
 ghost use Rattle.mega_world.specs.declared.fault.WorldFault.TheVariants.{Limit, Refused, Unbuilt};
-ghost use Rattle.mega_leases.specs.Opening.{AreOwed};
-ghost use Rattle.mega_world.specs.Kept.{AreNodes};
+ghost use Rattle.mega_base.specs.Names.{IsU32};
+ghost use Rattle.mega_world.specs.declared.place.Place.{Place as PlaceValue};
+ghost use Rattle.mega_world.specs.Kept.{AreNodes, IsFallen};
 ghost use Rattle.mega_world.specs.Members.{AreMembers, is_up_at};
-ghost use Rattle.mega_world.specs.Restarting.{AreStartable, Reopens};
+ghost use Rattle.mega_world.specs.Restarting.{AreStartable, OpensOr, Reopens};
+ghost use Rattle.mega_world.specs.Starting.{AtEachFallen, IsStartable};
 ghost use Rattle.mega_world.specs.Stands.{IsAt, IsDue, MayCome};
 ghost use Rattle.mega_world.specs.Unbuilt.{IsPastLast};
 
+use crate::fallen::Fallen;
 use crate::fault::WorldFault;
 use crate::place::Place;
 use crate::places::{is_node, is_up, put_place, take_place};
@@ -52,28 +55,26 @@ fn refusal(places: &[Place], node: NodeId) -> Option<u8>
     None
 }
 
-/// The node of a number, which is down, starts, and this is shown; or its log's fuse cuts the start off.
-fn start_at(
+/// A node that is down as this starts in the place of its number, and this is shown; or its log's fuse cuts the start off.
+fn restarted(
     alloc: Global,
     places: &mut Vec<Place>,
     cluster: Cluster,
     me: u8,
+    fallen: Fallen,
 ) -> Result<Option<Shown>, WorldFault>
     requires least { 1 ≤ me }
     requires most { me ≤ length places.old.items }
-    requires down { is_up_at places.old.items me ≡ false }
     requires served { IsServed cluster }
     requires member { is_node cluster me ≡ true }
-    requires known { AreStartable cluster places.old.items me }
-    ensures reopens { IfOk result (λ shown. Reopens cluster me places.old.items places.new.items shown) }
-    ensures limit { result ≡ Err Limit → (now : Standing) → AreNodes cluster places.old.items now → AreOwed (now.owed me) (now.node me).met → now.starts me ≡ 4294967295 }
+    requires known { IsStartable fallen }
+    ensures reopens { IfOk result (λ shown. (now : Standing) (was : List PlaceValue) → AreNodes cluster was now → me ≤ length was → ((place : PlaceValue) → set places.old.items (me - 1) place ≡ set was (me - 1) place) →
+        IsFallen fallen (now.starts me) (now.owed me) (now.node me).met (now.log_fuse me) → OpensOr cluster now me places.new.items shown) }
+    ensures small { IfOk result (IfSome (λ shown. IsU32 shown.start)) }
+    ensures limit { result ≡ Err Limit → AtEachFallen fallen (λ starts owed met fuse. starts ≡ 4294967295) }
     ensures built { result ≢ Err Unbuilt }
     ensures served { (why : ℕ) → result ≢ Err (Refused why) }
 {
-    let fallen = match take_place(alloc, places, me) {
-        Place::Down(fallen) => fallen,
-        Place::Up(_) => unreachable!(),
-    };
     match fallen.start(alloc, cluster, me) {
         Ok(begun) => {
             let Begun {
@@ -91,6 +92,34 @@ fn start_at(
         }
         Err(NotBegun::Limit) => Err(WorldFault::Limit),
         Err(NotBegun::NoMemory) => Err(WorldFault::NoMemory),
+    }
+}
+
+/// The node of a number, which is down, starts, and this is shown; or its log's fuse cuts the start off.
+fn start_at(
+    alloc: Global,
+    places: &mut Vec<Place>,
+    cluster: Cluster,
+    me: u8,
+) -> Result<Option<Shown>, WorldFault>
+    requires least { 1 ≤ me }
+    requires most { me ≤ length places.old.items }
+    requires down { is_up_at places.old.items me ≡ false }
+    requires served { IsServed cluster }
+    requires member { is_node cluster me ≡ true }
+    requires known { AreStartable cluster places.old.items }
+    ensures reopens { IfOk result (λ shown. Reopens cluster me places.old.items places.new.items shown) }
+    ensures small { IfOk result (IfSome (λ shown. IsU32 shown.start)) }
+    ensures limit { result ≡ Err Limit → (now : Standing) → AreNodes cluster places.old.items now → now.starts me ≡ 4294967295 }
+    ensures built { result ≢ Err Unbuilt }
+    ensures served { (why : ℕ) → result ≢ Err (Refused why) }
+{
+    match take_place(alloc, places, me) {
+        Place::Down(fallen) => match restarted(alloc, places, cluster, me, fallen) {
+            Ok(shown) => Ok(shown),
+            Err(fault) => Err(fault),
+        },
+        Place::Up(_) => unreachable!(),
     }
 }
 

@@ -117,7 +117,10 @@ impl Fallen {
             owed,
         } = self;
         match opened(alloc, records) {
-            Ok(voter) => started(alloc, cluster, me, voter, fuse, owed),
+            Ok(voter) => match started(alloc, cluster, me, voter, fuse, owed) {
+                Ok(begun) => Ok(begun),
+                Err(refused) => Err(refused),
+            },
             Err(_refused) => Err(NotBegun::NoMemory),
         }
     }

@@ -76,11 +76,16 @@ pub(crate) fn take_at(
     ensures served { (why : ℕ) → result ≢ Err (Refused why) }
     ensures limited { result ≢ Err Limit }
 {
-    let made = match &mut places[usize::from(message.to) - 1] {
-        Place::Up(member) => member.take(alloc, message),
+    match &mut places[usize::from(message.to) - 1] {
+        Place::Up(member) => {
+            let made = member.take(alloc, message);
+            match settled(alloc, places, message.to, made) {
+                Ok(one) => Ok(one),
+                Err(fault) => Err(fault),
+            }
+        }
         Place::Down(_) => unreachable!(),
-    };
-    settled(alloc, places, message.to, made)
+    }
 }
 
 /// The id of the operation that begins next at a node.
@@ -113,16 +118,16 @@ pub(crate) fn begin_at(
     ensures served { (why : ℕ) → result ≢ Err (Refused why) }
     ensures limited { result ≢ Err Limit }
 {
-    let (op, made) = match &mut places[usize::from(me) - 1] {
+    match &mut places[usize::from(me) - 1] {
         Place::Up(member) => {
             let op = op_of(member);
-            (op, member.begin(alloc, request, text))
+            let made = member.begin(alloc, request, text);
+            match settled(alloc, places, me, made) {
+                Ok(one) => Ok((op, one)),
+                Err(fault) => Err(fault),
+            }
         }
         Place::Down(_) => unreachable!(),
-    };
-    match settled(alloc, places, me, made) {
-        Ok(one) => Ok((op, one)),
-        Err(fault) => Err(fault),
     }
 }
 
@@ -142,9 +147,14 @@ pub(crate) fn tick_at(
     ensures served { (why : ℕ) → result ≢ Err (Refused why) }
     ensures limited { result ≢ Err Limit }
 {
-    let made = match &mut places[usize::from(me) - 1] {
-        Place::Up(member) => member.tick(alloc, clock),
+    match &mut places[usize::from(me) - 1] {
+        Place::Up(member) => {
+            let made = member.tick(alloc, clock);
+            match settled(alloc, places, me, made) {
+                Ok(one) => Ok(one),
+                Err(fault) => Err(fault),
+            }
+        }
         Place::Down(_) => unreachable!(),
-    };
-    settled(alloc, places, me, made)
+    }
 }
