@@ -70,7 +70,7 @@ fn restarted(
     requires known { IsStartable fallen }
     ensures reopens { IfOk result (λ shown. (now : Standing) (was : List PlaceValue) → AreNodes cluster was now → me ≤ length was → ((place : PlaceValue) → set places.old.items (me - 1) place ≡ set was (me - 1) place) →
         IsFallen fallen (now.starts me) (now.owed me) (now.node me).met (now.log_fuse me) → OpensOr cluster now me places.new.items shown) }
-    ensures small { IfOk result (IfSome (λ shown. IsU32 shown.start)) }
+    ensures small { IfOk result (λ shown. IfSome shown (λ one. IsU32 one.start)) }
     ensures limit { result ≡ Err Limit → AtEachFallen fallen (λ starts owed met fuse. starts ≡ 4294967295) }
     ensures built { result ≢ Err Unbuilt }
     ensures served { (why : ℕ) → result ≢ Err (Refused why) }
@@ -109,7 +109,7 @@ fn start_at(
     requires member { is_node cluster me ≡ true }
     requires known { AreStartable cluster places.old.items }
     ensures reopens { IfOk result (λ shown. Reopens cluster me places.old.items places.new.items shown) }
-    ensures small { IfOk result (IfSome (λ shown. IsU32 shown.start)) }
+    ensures small { IfOk result (λ shown. IfSome shown (λ one. IsU32 one.start)) }
     ensures limit { result ≡ Err Limit → (now : Standing) → AreNodes cluster places.old.items now → now.starts me ≡ 4294967295 }
     ensures built { result ≢ Err Unbuilt }
     ensures served { (why : ℕ) → result ≢ Err (Refused why) }
