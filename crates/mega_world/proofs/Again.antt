@@ -78,24 +78,24 @@ IsNoCrash Crashes = ⊥
 IsNoCrash _ = Unit {0}
 
 up_more : (item : Met) (met : List Met) → IsNoCrash item → is_up met ≡ true → is_up (item ∷ met) ≡ true
-up_more (Starts start) met no up = refl
-up_more Crashes met no up = absurd no
-up_more (Ticks now) met no up = up
-up_more (Begins op text) met no up = up
-up_more (Takes message) met no up = up
-up_more (Sends message) met no up = up
-up_more (Unsends message) met no up = up
-up_more (Grants other epoch) met no up = up
-up_more (Lapses other epoch) met no up = up
-up_more (Counts cell epoch) met no up = up
-up_more (Forgets cell epoch) met no up = up
-up_more (Serves epoch) met no up = up
-up_more (Loses epoch) met no up = up
-up_more (Validates group position) met no up = up
-up_more (Invalidates group position) met no up = up
-up_more (Decides group position entry) met no up = up
-up_more (Applies group position) met no up = up
-up_more (Answers op answer) met no up = up
+up_more (Starts count) met ok up = refl
+up_more Crashes met ok up = absurd ok
+up_more (Ticks now) met ok up = up
+up_more (Begins op text) met ok up = up
+up_more (Takes message) met ok up = up
+up_more (Sends message) met ok up = up
+up_more (Unsends message) met ok up = up
+up_more (Grants other epoch) met ok up = up
+up_more (Lapses other epoch) met ok up = up
+up_more (Counts cell epoch) met ok up = up
+up_more (Forgets cell epoch) met ok up = up
+up_more (Serves epoch) met ok up = up
+up_more (Loses epoch) met ok up = up
+up_more (Validates group position) met ok up = up
+up_more (Invalidates group position) met ok up = up
+up_more (Decides group position entry) met ok up = up
+up_more (Applies group position) met ok up = up
+up_more (Answers op answer) met ok up = up
 
 owed_up : (owed known met : List Met) → AreOwed owed known → is_up met ≡ true → is_up (onto owed met) ≡ true
 owed_up [] known met are up = up

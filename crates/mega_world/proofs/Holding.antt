@@ -1,12 +1,13 @@
 -- What a node met has texts on its log, and a crash leaves what is owed.
 use Rattle.std.proofs.Common.{◌≡◌, ℕ, ◌-◌, ◌==◌, cond, Bool, true, false, List, [], ◌∷◌, Option, Some, None, refl, ap, ◌∙◌, arith}
 use Rattle.std.specs.List.{All, cons_option}
+use Rattle.std.specs.Option.{option_to_list}
 use Rattle.std.proofs.lemmas.List.Elements.{All-cons, All-head, All-nil}
 use Rattle.mega_leases.specs.Opening.{AreOwed}
 use Rattle.mega_wal.specs.declared.item.JournalItem.{JournalItem}
 use Rattle.mega_wal.specs.History.{after_grant as granted_of, after_lapse as lapsed_of}
 use Rattle.mega_wal.specs.Items.{IsItem as IsKeptItem}
-use Rattle.mega_voter.specs.Journal.{item_of, journal_of}
+use Rattle.mega_voter.specs.Journal.{item_in, item_of, journal_of}
 use Rattle.mega_voter.proofs.Told.{sent_fits}
 use Rattle.mega_rules.specs.Clock.{start_of}
 use Rattle.mega_rules.specs.Locks.{last_grant}
@@ -14,13 +15,17 @@ use Rattle.mega_rules.specs.Met.{Met, Starts, Crashes, Ticks, Begins, Takes, Sen
 use Rattle.mega_format_laws.specs.Histories.{IsItem, IsMet}
 
 -- ---- what a node met has texts on its log
+listed : (item : Option JournalItem) → All IsKeptItem (option_to_list item) → All IsKeptItem (cons_option item [])
+listed None each = each
+listed (Some item) each = each
+
 front_item : (one : Met) (before : List Met) → IsItem one → All IsKeptItem (cons_option (item_of before one) [])
 front_item (Starts start) before is = All-cons IsKeptItem _ [] (small start (start_of before) is) (All-nil IsKeptItem)
   where
     small : (a b : ℕ) → IsItem (Starts a) → IsItem (Starts (a - b))
     small a b is = let low = is.1 in (omega arith, omega (arith, low))
-front_item (Sends message) before is = sent_fits message.body is.body
-front_item (Unsends message) before is = sent_fits message.body is.body
+front_item (Sends message) before is = listed (item_in message.body) (sent_fits message.body is.body)
+front_item (Unsends message) before is = listed (item_in message.body) (sent_fits message.body is.body)
 front_item (Grants node epoch) before is = All-cons IsKeptItem _ [] is (All-nil IsKeptItem)
 front_item (Lapses node epoch) before is = All-cons IsKeptItem _ [] is (All-nil IsKeptItem)
 front_item (Decides group position entry) before is = All-cons IsKeptItem _ [] is (All-nil IsKeptItem)

@@ -44,6 +44,6 @@ owes_within c me met event made is within taken step_is =
     each_both (ItemWithin c) (filter is_durable made.notes) (map Unsends (replies_in c me met event)) (each_filter (ItemWithin c) is_durable made.notes step_is.notes)
     (unsent_within c (replies_in c me met event) (replies_within c me met event is within taken))
 
-pub if_kept : {P : List Met → Type 0} (k : Bool) (owed : List Met) → P owed → P [] → P (cond k owed [])
-if_kept true owed has none = has
-if_kept false owed has none = none
+pub if_kept : (P : List Met → Type 0) (k : Bool) (owed : List Met) → P owed → P [] → P (cond k owed [])
+if_kept P true owed has none = has
+if_kept P false owed has none = none

@@ -25,13 +25,13 @@ start-requires-clause-known c = record {
   is = record { follows = tt; holds = nothing_held c.new.result c.new.ensures.empty; owes = refl; fused = record { kept_is = refl; left = c.new.ensures.unset; image = tt; unburnt = tt } };
 }
 
-pub returns-in-Ok-start-clause-node : goal.returns-in-Ok-start-clause-node
-returns-in-Ok-start-clause-node c h =
+pub returns-in-Ok-clause-node : goal.returns-in-Ok-clause-node
+returns-in-Ok-clause-node c h =
     let is : IsFallen (record { records = c.new.result; fuse = None; owed = None }) 0 [] [] None = record {
       follows = tt;
       holds = nothing_held c.new.result c.new.ensures.empty;
       owes = refl;
       fused = record { kept_is = refl; left = c.new.ensures.unset; image = tt; unburnt = tt };
     } in
-    let begins = c.in-Ok-start.ensures.begun 0 [] [] None is in
-    record { is = subst (λ (k : Cluster). IsMember k c.args.me c.in-Ok-start.member (start (setting k h c.args.me) 1 [] [])) c.in_ok-own.ensures (begins.is h); fused = begins.fused }
+    let begins = c.in-Ok.ensures.begun 0 [] [] None is in
+    record { is = subst (λ (k : Cluster). IsMember k c.args.me c.in-Ok.member (start (setting k h c.args.me) 1 [] [])) c.in_ok-own.ensures (begins.is h); fused = begins.fused }

@@ -14,5 +14,5 @@ returns-in-Ok-clause-reopens c now was all most same is =
 pub returns-in-Err-Cut-clause-reopens : goal.returns-in-Err-Cut-clause-reopens
 returns-in-Err-Cut-clause-reopens c now was all most same is =
     let me = c.args.me in
-    subst (λ ps. StaysDown c.args.cluster now me ps) (sym (c.put_place.ensures ∙ same (Down c.in-Err-Cut.fallen)))
+    subst (λ ps. StaysDown c.args.cluster now me ps) (sym (c.put_place-in-Err-Cut.ensures ∙ same (Down c.in-Err-Cut.fallen)))
     (stays_at c.args.cluster now me was c.args.fallen c.in-Err-Cut.fallen all c.requires.least most is (c.in-Err-Cut.ensures.cut c.in-Err-Cut.fallen c.in-Err-Cut.field-0-is (now.starts me) (now.owed me) (now.node me).met (now.log_fuse me) is))

@@ -14,8 +14,8 @@ returns-in-Ok-clause-begun c starts owed met run is =
 
 pub returns-in-Err-Cut-clause-cut : goal.returns-in-Err-Cut-clause-cut
 returns-in-Err-Cut-clause-cut c fallen same starts owed met run is =
-    let burnt = c.in-Err-Cut.ensures.burnt refl refl [] starts met owed (record { owes = is.follows; recalls = is.recalls; ready = is.ready; holds = is.holds }) in
+    let burnt = rw c.in-Err-Cut.field-0-is at (c.in-Err-Cut.ensures.burnt refl refl [] starts met owed (record { owes = is.follows; recalls = is.recalls; ready = is.ready; holds = is.holds })) in
     cut_over c.args.voter c.args.fuse c.args.owed starts owed met run c.in-Err-Cut.records fallen is (cc) burnt.burnt.short burnt.burnt.gone burnt.holds
 
 pub returns-in-Err-StartsFull-clause-limit : goal.returns-in-Err-StartsFull-clause-limit
-returns-in-Err-StartsFull-clause-limit c limit starts owed met run is = sym is.recalls.counted ∙ c.in-Err-StartsFull.ensures.went.0
+returns-in-Err-StartsFull-clause-limit c limit starts owed met run is = sym is.recalls.counted ∙ (rw c.in-Err-StartsFull.field-0-is at c.in-Err-StartsFull.ensures.went).0

@@ -1,7 +1,7 @@
 use Rattle.std.proofs.Common.{◌≡◌, ◌-◌, ◌∙◌, ap, refl, set, subst, sym, Err}
 use Rattle.mega_rules.specs.Steps.{Begin}
 use Rattle.mega_world.specs.declared.place.Place.TheVariants.{Up}
-use Rattle.mega_world.proofs.Joining.{length_of_set, not_down}
+use Rattle.mega_world.proofs.Joining.{not_down}
 use Rattle.mega_world.proofs.Outcomes.{stands_at}
 use Rattle.mega_world.proofs.Stepped.{found}
 use Rattle.mega_world.proofs.stepping.begin_at.Goals as goal
@@ -46,4 +46,4 @@ unreachable-requires c =
     let i = c.from.result - 1 in
     let at = ap (λ n. n - 1) c.from.ensures in
     let there = found places i me c.index_mut.result.now at c.requires.least c.requires.most c.index_mut.ensures.value in
-    not_down places me i c.index_mut.result.now c.in-Down.fallen at c.requires.least there c.in-Down.is c.requires.up
+    not_down places me i c.index_mut.result.now c.in-Down.field-0 at c.requires.least there c.in-Down.is c.requires.up

@@ -11,4 +11,4 @@ use Rattle.mega_world.proofs.Showed.{none_owed, owed_kept, owed_shown}
 use Rattle.mega_world.proofs.world.World.show_owed.Goals as goal
 
 pub returns-in-None-clause-shown : goal.returns-in-None-clause-shown
-returns-in-None-clause-shown c cluster was ruled owing = none_owed cluster c.args.self.now c.args.me was ruled (newest c.args.tape.now.items) owing
+returns-in-None-clause-shown c cluster was ruled owing = none_owed cluster c.args.self.now c.args.me was ruled (newest c.args.tape.now.items) (rw c.in-None.is at owing)
