@@ -1,8 +1,9 @@
 -- What a start owed is shown, one after another.
-use Rattle.std.proofs.Common.{◌≡◌, ℕ, ◌==◌, cond, Bool, true, false, List, [], ◌∷◌, ◌++◌, map, flat_map, Option, Some, None, refl, sym, ap, ◌∙◌, subst, append_assoc, arith}
+use Rattle.std.proofs.Common.{◌≡◌, ◌×◌, ℕ, ◌==◌, cond, Bool, true, false, List, [], ◌∷◌, ◌++◌, map, flat_map, Option, Some, None, refl, sym, ap, ◌∙◌, subst, append_assoc, arith}
 use Rattle.std.proofs.lemmas.Bool.Decides.{nat_tests}
 use Rattle.std.specs.BTreeSet.{BTreeSet}
 use Rattle.std.specs.List.{All}
+use Rattle.std.proofs.lemmas.List.Elements.{All-cons, All-head, All-nil, All-tail}
 use Rattle.mega_base.specs.declared.names.Epoch.{Epoch}
 use Rattle.mega_cluster.specs.declared.cluster.Cluster.{Cluster}
 use Rattle.mega_wire.specs.declared.message.Message.{Message}
@@ -132,3 +133,11 @@ start_shown c old mid new me opening ruled items here owed after is shows cluste
       ∙ sym (with_append c ruled (Start (number me) opening.start ∷ flat_map (shown me) (owed_of opening.owed)) (notes_shown me opening.notes) (newest items));
   leases = leases;
 }
+
+-- what is owed has lines where its notes and its replies have
+both_lined : (xs ys : List Item) → All HasLine (xs ++ ys) → All HasLine xs × All HasLine ys
+both_lined [] ys each = (All-nil HasLine, each)
+both_lined (x ∷ xs) ys each = let rest = both_lined xs ys (All-tail HasLine x (xs ++ ys) each) in (All-cons HasLine x xs (All-head HasLine x (xs ++ ys) each) rest.0, rest.1)
+
+pub owed_lined : (me : ℕ) (cut : Cut) → All HasLine (flat_map (shown me) (owed_by cut)) → All HasLine (notes_shown me cut.notes) × All HasLine (flat_map (shown me) (map Unsends cut.replies))
+owed_lined me cut each = both_lined (notes_shown me cut.notes) (flat_map (shown me) (map Unsends cut.replies)) (subst (All HasLine) (flat_two me (map met_of cut.notes) (map Unsends cut.replies)) each)
