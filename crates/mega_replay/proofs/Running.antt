@@ -1,17 +1,19 @@
 -- The run of the events that lines spell: it is a run, it keeps what laws of runs say, and its events are of the format.
-use Rattle.std.proofs.Common.{◌≡◌, ℕ, ◌+◌, Option, Some, None, Ok, List, [], ◌∷◌, ◌++◌, length, refl, sym, ◌∙◌, ap, subst}
+use Rattle.std.proofs.Common.{◌≡◌, ℕ, zero, suc, ◌+◌, Option, Some, None, Ok, List, [], ◌∷◌, ◌++◌, length, refl, sym, ◌∙◌, ap, subst}
+use Rattle.std.proofs.lemmas.List.Sums.{fold-append}
 use Rattle.mega_cluster.specs.declared.cluster.Cluster.{Cluster}
 use Rattle.mega_handler.specs.Named.{Meanings}
 use Rattle.mega_schedule.specs.declared.world_event.WorldEvent.{WorldEvent}
 use Rattle.mega_schedule.specs.declared.world_event.WorldEvent.TheVariants.{Tick, Deliver, Drop, Drain, Crash, Start, Fuse, Begin}
 use Rattle.mega_schedule.specs.Events.{event_of}
+use Rattle.mega_wire.specs.declared.message.Message.{Message}
 use Rattle.mega_transcript.specs.declared.item.Item.{Item}
 use Rattle.mega_transcript.specs.Tape.{newest}
-use Rattle.mega_rules.specs.Logs.{log_of}
-use Rattle.mega_node_laws.specs.Own.{HasOwnRows}
-use Rattle.mega_promises.specs.Runs.{Happening, IsRun, Standing, after_event, goes_on, opening, refusal, unless_refused}
+use Rattle.mega_rules.specs.Steps.{Begin as BeginStep, Take, Tick as TickStep}
+use Rattle.mega_promises.specs.Messages.{message_of, next_delivery}
+use Rattle.mega_promises.specs.Runs.{Happening, IsRun, Standing, after_event, by_fuse, delivered, goes_on, opening, refusal, unless_refused, up}
 use Rattle.mega_world.specs.declared.world.World.{World}
-use Rattle.mega_world.specs.Formed.{IsAsked, IsSound}
+use Rattle.mega_world.specs.Formed.{IfNext, IsAsked, IsSound, Owns, OwnsDelivered, OwnsDrained, OwnsStep, OwnsTaken}
 use Rattle.mega_world.specs.Stands.{IsAt}
 use Rattle.mega_tape_laws.specs.Indexed.{IsDeclared}
 use Rattle.mega_tape_laws.proofs.Agreement.{agreement}
@@ -19,25 +21,27 @@ use Rattle.mega_tape_laws.proofs.Answered.{serial}
 use Rattle.mega_tape_laws.proofs.IndexLogs.{indexed, rows_fit}
 use Rattle.mega_tape_laws.proofs.Sending.{messages}
 use Rattle.mega_run_laws.specs.Usages.{Fits, FitsOne, IsMeant}
+use Rattle.mega_run_laws.proofs.Events.{each_append}
 use Rattle.mega_run_laws.proofs.Indexing.{asks_values}
 use Rattle.mega_run_laws.proofs.Runs.{run_answered, run_lawful, run_written}
-use Rattle.mega_row_laws.proofs.Nodes.{node_owns}
+use Rattle.mega_row_laws.proofs.Draining.{next_allowed}
+use Rattle.mega_row_laws.proofs.Steps.{begin_owns, take_owns, tick_owns}
 use Rattle.mega_cause_laws.proofs.Told.{run_causes}
 use Rattle.mega_line_laws.proofs.Asking.{clock_asked, request_asked}
 use Rattle.mega_line_laws.proofs.Again.{means}
 use Rattle.mega_line_laws.specs.Meanings.{meaning_in}
 use Rattle.mega_replay.specs.Meanings.{usage}
-use Rattle.mega_replay.specs.Running.{AllHappen, Happens, Replayed, Went, in_turn, stood, uncut}
+use Rattle.mega_replay.specs.Running.{AllHappen, Happens, Replayed, Went, in_turn, stood}
 use Rattle.mega_replay.proofs.Growing.{event_adds}
 use Rattle.mega_replay.proofs.Holding.{means_values}
 
 -- the run over events, the newest first, is that over the events in order
-turned : (c : Cluster) (events rest : List Happening) → goes_on c uncut (opening c []) (in_turn events rest) ≡ goes_on c uncut (stood c events) rest
+turned : (c : Cluster) (events rest : List Happening) → goes_on c by_fuse (opening c []) (in_turn events rest) ≡ goes_on c by_fuse (stood c events) rest
 turned c [] rest = refl
 turned c (one ∷ events) rest = turned c events (one ∷ rest)
 
 is_run : (c : Cluster) (events : List Happening) → IsRun c [] (in_turn events []) (stood c events).tape
-is_run c events = record { cuts = uncut; tape_is = ap (λ (now : Standing). now.tape) (sym (turned c events [])) }
+is_run c events = record { cuts = by_fuse; tape_is = ap (λ (now : Standing). now.tape) (sym (turned c events [])) }
 
 -- each text means its request
 meant : (c : Cluster) (number : ℕ) (line : List ℕ) (event : WorldEvent) → event_of c.schema number line ≡ Ok event → IsMeant (usage c.schema) event
@@ -70,6 +74,7 @@ replayed c lines events declared happen =
     record {
       happen = happen;
       run = run;
+      by_fuses = run.tape_is;
       agree = agreement c (stood c events).tape (run_lawful c [] (in_turn events []) (stood c events).tape run);
       serial = serial c (usage c.schema) (stood c events).tape (run_answered c (usage c.schema) [] (in_turn events []) (stood c events).tape run fits);
       messages = messages c (usage c.schema) tape [] (λ moment. refl) writes;
@@ -80,8 +85,8 @@ replayed c lines events declared happen =
 
 -- what an event leads to, where it is not refused
 pub went_on : (c : Cluster) (events : List Happening) (handlers : Meanings) (event : WorldEvent) → refusal c (stood c events) event ≡ None
-    → stood c (record { handlers = handlers; event = event } ∷ events) ≡ after_event c handlers uncut (stood c events) event
-went_on c events handlers event allowed = ap (unless_refused (stood c events) (after_event c handlers uncut (stood c events) event)) allowed
+    → stood c (record { handlers = handlers; event = event } ∷ events) ≡ after_event c handlers by_fuse (stood c events) event
+went_on c events handlers event allowed = ap (unless_refused (stood c events) (after_event c handlers by_fuse (stood c events) event)) allowed
 
 asked : (c : Cluster) (number : ℕ) (line : List ℕ) (event : WorldEvent) → event_of c.schema number line ≡ Ok event → IsAsked event
 asked c number line (Begin node request text) spelled = request_asked c.schema number line node request text spelled
@@ -93,22 +98,69 @@ asked c number line (Crash node) spelled = tt
 asked c number line (Start node) spelled = tt
 asked c number line (Fuse node calls image device) spelled = tt
 
+-- the steps of what comes next act on rows of each group's own
+module _ (c : Cluster) (declared : IsDeclared c.schema) where
+  owns_delivered : (done : List Happening) (number : ℕ) (now : Standing) → Fits (usage c.schema) done → goes_on c by_fuse (opening c []) done ≡ now → refusal c now (Deliver number) ≡ None → OwnsDelivered c [] now number
+  owns_delivered done number now fits is allowed = by (message_of now.tape number) refl
+    where
+      by : (found : Option Message) → message_of now.tape number ≡ found → OwnsTaken c [] now found
+      by None none = tt
+      by (Some message) some =
+          subst (λ (at : Standing). OwnsStep c [] at message.to (Take message)) is
+          (take_owns c (usage c.schema) declared [] by_fuse done fits [] number message (record { brought = record { moment = []; is = refl }; meant = tt })
+          (subst (λ (at : Standing). refusal c at (Deliver number) ≡ None) (sym is) allowed) (ap (λ (at : Standing). message_of at.tape number) is ∙ some))
+
+  one_more : (done : List Happening) (number : ℕ) (now : Standing) → goes_on c by_fuse (opening c []) done ≡ now → refusal c now (Deliver number) ≡ None
+      → goes_on c by_fuse (opening c []) (done ++ record { handlers = []; event = Deliver number } ∷ []) ≡ delivered c [] by_fuse now number
+  one_more done number now is allowed =
+      fold-append (λ at one. unless_refused at (after_event c one.handlers by_fuse at one.event) (refusal c at one.event)) (opening c []) done (record { handlers = []; event = Deliver number } ∷ [])
+      ∙ ap (λ at. goes_on c by_fuse at (record { handlers = []; event = Deliver number } ∷ [])) is
+      ∙ ap (unless_refused now (delivered c [] by_fuse now number)) allowed
+
+  owns_drained : (most : ℕ) (done : List Happening) (now : Standing) → Fits (usage c.schema) done → goes_on c by_fuse (opening c []) done ≡ now → OwnsDrained c [] most now
+  owns_drained zero done now fits is = tt
+  owns_drained (suc most) done now fits is = by (next_delivery (up now) now.tape) refl (owns_drained most)
+    where
+      next : ℕ → Happening
+      next number = record { handlers = []; event = Deliver number }
+
+      by : (found : Option ℕ) → next_delivery (up now) now.tape ≡ found
+          → ((more : List Happening) (at : Standing) → Fits (usage c.schema) more → goes_on c by_fuse (opening c []) more ≡ at → OwnsDrained c [] most at)
+          → IfNext (λ number. OwnsDelivered c [] now number × OwnsDrained c [] most (delivered c [] by_fuse now number)) found
+      by None none rest = tt
+      by (Some number) some rest =
+          let allowed = next_allowed c now number some in (
+            owns_delivered done number now fits is allowed,
+            rest (done ++ next number ∷ []) (delivered c [] by_fuse now number)
+            (each_append (FitsOne (usage c.schema)) done (next number ∷ []) fits (record { brought = record { moment = []; is = refl }; meant = tt }, tt)) (one_more done number now is allowed),
+          )
+
+  owns : (done : List Happening) (now : Standing) (event : WorldEvent) → Fits (usage c.schema) done → FitsOne (usage c.schema) (record { handlers = []; event = event }) → goes_on c by_fuse (opening c []) done ≡ now → refusal c now event ≡ None
+      → Owns c [] now event
+  owns done now (Tick node clock) fits first is allowed =
+      subst (λ (at : Standing). OwnsStep c [] at node.0 (TickStep clock)) is
+      (tick_owns c (usage c.schema) declared [] by_fuse done fits [] node clock first (subst (λ (at : Standing). refusal c at (Tick node clock) ≡ None) (sym is) allowed))
+  owns done now (Begin node request text) fits first is allowed =
+      subst (λ (at : Standing). OwnsStep c [] at node.0 (BeginStep request text)) is
+      (begin_owns c (usage c.schema) declared [] by_fuse done fits [] node request text first (subst (λ (at : Standing). refusal c at (Begin node request text) ≡ None) (sym is) allowed))
+  owns done now (Deliver number) fits first is allowed = owns_delivered done number now fits is allowed
+  owns done now (Drain most) fits first is allowed = owns_drained most done now fits is
+  owns done now (Drop message) fits first is allowed = tt
+  owns done now (Crash node) fits first is allowed = tt
+  owns done now (Start node) fits first is allowed = tt
+  owns done now (Fuse node calls image device) fits first is allowed = tt
+
 pub sound : (c : Cluster) (lines : List (List ℕ)) (events : List Happening) (number : ℕ) (line : List ℕ) (event : WorldEvent) → IsDeclared c.schema → AllHappen c lines events → event_of c.schema number line ≡ Ok event
-    → refusal c (stood c events) event ≡ None → IsSound c [] uncut (stood c events) event
+    → refusal c (stood c events) event ≡ None → IsSound c [] (stood c events) event
 sound c lines events number line event declared happen spelled allowed =
-    let one : Happening = record { handlers = []; event = event } in
-    let first : FitsOne (usage c.schema) one = record { brought = record { moment = []; is = refl }; meant = meant c number line event spelled } in
-    let fits = fits_turned c lines events (one ∷ []) happen (first, tt) in
-    record {
+    let first : FitsOne (usage c.schema) (record { handlers = []; event = event }) = record { brought = record { moment = []; is = refl }; meant = meant c number line event spelled } in record {
       handlers = tt;
       asked = asked c number line event spelled;
-      own = λ me.
-          subst (λ (now : Standing). HasOwnRows c.schema (log_of (now.node me).met)) (turned c (one ∷ events) [] ∙ went_on c events [] event allowed)
-          (node_owns c (usage c.schema) [] uncut (in_turn (one ∷ events) []) me declared fits);
+      own = owns c declared (in_turn events []) (stood c events) event (fits_turned c lines events [] happen tt) first (turned c events []) allowed;
     }
 
 pub went : (c : Cluster) (number : ℕ) (line : List ℕ) (events : List Happening) (event : WorldEvent) (world : World) (items : List Item) → event_of c.schema number line ≡ Ok event → refusal c (stood c events) event ≡ None
-    → IsAt c world items (after_event c [] uncut (stood c events) event) → Went c number line events world items
+    → IsAt c world items (after_event c [] by_fuse (stood c events) event) → Went c number line events world items
 went c number line events event world items spelled allowed here = record {
   one = record { handlers = []; event = event };
   happens = record { spelled = spelled; unhandled = refl; allowed = allowed };
@@ -118,5 +170,5 @@ went c number line events event world items spelled allowed here = record {
 pub line_adds : (c : Cluster) (number : ℕ) (line : List ℕ) (events : List Happening) (world : World) (items : List Item) → Went c number line events world items
     → (added : List Item) × (newest items ≡ added ++ (stood c events).tape)
 line_adds c number line events world items went =
-    let more = event_adds c went.one.handlers uncut (stood c events) went.one.event in
+    let more = event_adds c went.one.handlers by_fuse (stood c events) went.one.event in
     (more.0, went.here.tape ∙ ap (λ (now : Standing). now.tape) (went_on c events went.one.handlers went.one.event went.happens.allowed) ∙ more.1)

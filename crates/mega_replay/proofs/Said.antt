@@ -5,10 +5,10 @@ use Rattle.mega_cluster.specs.declared.cluster.Cluster.{Cluster}
 use Rattle.mega_io.specs.Pieces.{AppendsFront}
 use Rattle.mega_promises.specs.Runs.{Standing}
 use Rattle.mega_schedule.specs.Events.{event_of}
-use Rattle.mega_replay.specs.LastLines.{header_line, schedule_line, unbuilt_line, refused_line}
+use Rattle.mega_replay.specs.LastLines.{header_line, schedule_line, unbuilt_line, limit_line, refused_line}
 use Rattle.mega_replay.specs.Progress.{Writes, WritesFront}
-use Rattle.mega_replay.specs.Replaying.{HasParts, IsRefused, IsUnbuilt, StopsAt}
-use Rattle.mega_replay.specs.Known.{InputDone, InputBegun, InputBroken, InputCut, InputNoEvent, InputRefused, InputUnbuilt}
+use Rattle.mega_replay.specs.Replaying.{HasParts, IsRefused, IsUnbuilt, IsPastLast, StopsAt}
+use Rattle.mega_replay.specs.Known.{InputDone, InputBegun, InputBroken, InputCut, InputNoEvent, InputRefused, InputUnbuilt, InputPastLast}
 use Rattle.mega_replay.proofs.Progress.{all_held, as_front, last_held, some_held, whole_held}
 
 abbrev pub Follows : (List ℕ → Type 0) → (List ℕ → Type 0) → Type 0
@@ -48,6 +48,11 @@ unbuilt_said None number Says Then follows unbuilt = tt
 unbuilt_said (Some input) number Says Then follows (c, lines, headed, s) =
     (c, lines, headed, stops_said c lines number (λ line now. IsUnbuilt c number line now) Says Then follows s)
 
+pub limit_said : (known : Option (List ℕ)) (number : ℕ) (Says Then : List ℕ → Type 0) → Follows Says Then → InputPastLast known number Says → InputPastLast known number Then
+limit_said None number Says Then follows limit = tt
+limit_said (Some input) number Says Then follows (c, lines, headed, s) =
+    (c, lines, headed, stops_said c lines number (λ line now. IsPastLast c number line now) Says Then follows s)
+
 -- all lines are some first lines
 done_begun : (known : Option (List ℕ)) (Says : List ℕ → Type 0) → InputDone known Says → InputBegun known Says
 done_begun None Says done = tt
@@ -72,7 +77,11 @@ refused_cut (Some input) number why Says refused = inr (inr (inr (inl (number, w
 
 unbuilt_cut : (known : Option (List ℕ)) (number : ℕ) (Says : List ℕ → Type 0) → InputUnbuilt known number (λ text. Says (text ++ unbuilt_line number)) → InputCut known Says
 unbuilt_cut None number Says unbuilt = tt
-unbuilt_cut (Some input) number Says unbuilt = inr (inr (inr (inr (number, unbuilt))))
+unbuilt_cut (Some input) number Says unbuilt = inr (inr (inr (inr (inl (number, unbuilt)))))
+
+limit_cut : (known : Option (List ℕ)) (number : ℕ) (Says : List ℕ → Type 0) → InputPastLast known number (λ text. Says (text ++ limit_line number)) → InputCut known Says
+limit_cut None number Says limit = tt
+limit_cut (Some input) number Says limit = inr (inr (inr (inr (inr (number, limit)))))
 
 -- what waited was written
 pub done_held : (known before mid after : Option (List ℕ)) (waiting : List ℕ) → InputDone known (Writes before mid waiting) → Appends mid after waiting → InputDone known (Appends before after)
@@ -113,6 +122,11 @@ pub unbuilt_held : (known before mid after : Option (List ℕ)) (waiting : List 
 unbuilt_held known before mid after waiting number stops written =
     unbuilt_said known number (Writes before mid waiting) (λ text. Appends before after (text ++ unbuilt_line number)) (whole_line before mid after waiting (unbuilt_line number) written) stops
 
+pub limit_held : (known before mid after : Option (List ℕ)) (waiting : List ℕ) (number : ℕ) → InputPastLast known number (Writes before mid waiting) → Appends mid after (waiting ++ limit_line number)
+    → InputPastLast known number (λ text. Appends before after (text ++ limit_line number))
+limit_held known before mid after waiting number stops written =
+    limit_said known number (Writes before mid waiting) (λ text. Appends before after (text ++ limit_line number)) (whole_line before mid after waiting (limit_line number) written) stops
+
 pub broken_front : (known before mid after : Option (List ℕ)) (waiting : List ℕ) (rule : ℕ) → InputBroken known rule (Writes before mid waiting) → AppendsFront mid after (waiting ++ header_line rule) → InputCut known (AppendsFront before after)
 broken_front known before mid after waiting rule stops written =
     broken_cut known rule (AppendsFront before after)
@@ -135,6 +149,12 @@ pub unbuilt_front : (known before mid after : Option (List ℕ)) (waiting : List
 unbuilt_front known before mid after waiting number stops written =
     unbuilt_cut known number (AppendsFront before after)
     (unbuilt_said known number (Writes before mid waiting) (λ text. AppendsFront before after (text ++ unbuilt_line number)) (some_line before mid after waiting (unbuilt_line number) written) stops)
+
+pub limit_front : (known before mid after : Option (List ℕ)) (waiting : List ℕ) (number : ℕ) → InputPastLast known number (Writes before mid waiting) → AppendsFront mid after (waiting ++ limit_line number)
+    → InputCut known (AppendsFront before after)
+limit_front known before mid after waiting number stops written =
+    limit_cut known number (AppendsFront before after)
+    (limit_said known number (Writes before mid waiting) (λ text. AppendsFront before after (text ++ limit_line number)) (some_line before mid after waiting (limit_line number) written) stops)
 
 -- a front of what waited was written
 pub begun_front : (known before mid after : Option (List ℕ)) (waiting : List ℕ) → InputBegun known (WritesFront before mid waiting) → AppendsFront mid after (waiting ++ []) → InputCut known (AppendsFront before after)

@@ -4,24 +4,25 @@ use Rattle.std.specs.Io.KnownBytes.{Appends}
 use Rattle.mega_base.specs.Causes.{Rose}
 use Rattle.mega_io.specs.Pieces.{AppendsFront}
 use Rattle.mega_replay.specs.declared.status.Stop.{Stop}
-use Rattle.mega_replay.specs.declared.status.Stop.TheVariants.{Header, Schedule, Refused, Unbuilt, Source, Sink, NoMemory}
+use Rattle.mega_replay.specs.declared.status.Stop.TheVariants.{Header, Schedule, Refused, Unbuilt, Limit, Source, Sink, NoMemory}
 use Rattle.mega_replay.specs.LastLines.{last_line}
-use Rattle.mega_replay.specs.Known.{InputBegun, InputBroken, InputCut, InputNoEvent, InputRefused, InputUnbuilt}
+use Rattle.mega_replay.specs.Known.{InputBegun, InputBroken, InputCut, InputNoEvent, InputRefused, InputUnbuilt, InputPastLast}
 use Rattle.mega_replay.specs.Progress.{Writes, WritesFront}
 use Rattle.mega_replay.specs.Statuses.{IsReplayStatus, status_of}
 use Rattle.mega_replay.specs.Stops.{IsTold}
-use Rattle.mega_replay.proofs.Said.{begun_front, begun_held, broken_front, none_front, refused_front, unbuilt_front}
+use Rattle.mega_replay.proofs.Said.{begun_front, begun_held, broken_front, none_front, refused_front, unbuilt_front, limit_front}
 
 pub stop_front : (stop : Stop) (known before mid after : Option (List ℕ)) (waiting : List ℕ) → ((rule : ℕ) → stop ≡ Header rule → InputBroken known rule (Writes before mid waiting))
     → ((at reason : ℕ) → stop ≡ Schedule at reason → InputNoEvent known at reason (Writes before mid waiting)) → ((at why : ℕ) → stop ≡ Refused at why → InputRefused known at why (Writes before mid waiting))
-    → ((at : ℕ) → stop ≡ Unbuilt at → InputUnbuilt known at (Writes before mid waiting)) → InputBegun known (WritesFront before mid waiting) → AppendsFront mid after (waiting ++ last_line stop) → InputCut known (AppendsFront before after)
-stop_front (Header rule) known before mid after waiting header none refused unbuilt begun written = broken_front known before mid after waiting rule (header rule refl) written
-stop_front (Schedule at reason) known before mid after waiting header none refused unbuilt begun written = none_front known before mid after waiting at reason (none at reason refl) written
-stop_front (Refused at why) known before mid after waiting header none refused unbuilt begun written = refused_front known before mid after waiting at why (refused at why refl) written
-stop_front (Unbuilt at) known before mid after waiting header none refused unbuilt begun written = unbuilt_front known before mid after waiting at (unbuilt at refl) written
-stop_front Source known before mid after waiting header none refused unbuilt begun written = begun_front known before mid after waiting begun written
-stop_front Sink known before mid after waiting header none refused unbuilt begun written = begun_front known before mid after waiting begun written
-stop_front NoMemory known before mid after waiting header none refused unbuilt begun written = begun_front known before mid after waiting begun written
+    → ((at : ℕ) → stop ≡ Unbuilt at → InputUnbuilt known at (Writes before mid waiting)) → ((at : ℕ) → stop ≡ Limit at → InputPastLast known at (Writes before mid waiting)) → InputBegun known (WritesFront before mid waiting) → AppendsFront mid after (waiting ++ last_line stop) → InputCut known (AppendsFront before after)
+stop_front (Header rule) known before mid after waiting header none refused unbuilt limit begun written = broken_front known before mid after waiting rule (header rule refl) written
+stop_front (Schedule at reason) known before mid after waiting header none refused unbuilt limit begun written = none_front known before mid after waiting at reason (none at reason refl) written
+stop_front (Refused at why) known before mid after waiting header none refused unbuilt limit begun written = refused_front known before mid after waiting at why (refused at why refl) written
+stop_front (Unbuilt at) known before mid after waiting header none refused unbuilt limit begun written = unbuilt_front known before mid after waiting at (unbuilt at refl) written
+stop_front (Limit at) known before mid after waiting header none refused unbuilt limit begun written = limit_front known before mid after waiting at (limit at refl) written
+stop_front Source known before mid after waiting header none refused unbuilt limit begun written = begun_front known before mid after waiting begun written
+stop_front Sink known before mid after waiting header none refused unbuilt limit begun written = begun_front known before mid after waiting begun written
+stop_front NoMemory known before mid after waiting header none refused unbuilt limit begun written = begun_front known before mid after waiting begun written
 
 -- the last line of a stop that is told was written
 pub told_stop : (result stop one : Stop) (mid after : Option (List ℕ)) (waiting : List ℕ) → result ≡ one → IsTold one → (IsTold result → (result ≡ stop) × Appends mid after (waiting ++ last_line stop))
@@ -43,6 +44,7 @@ header_by (Header rule) Tells is said = (rule, said rule refl)
 header_by (Schedule line reason) Tells is said = absurd (omega arith)
 header_by (Refused line why) Tells is said = absurd (omega arith)
 header_by (Unbuilt line) Tells is said = absurd (omega arith)
+header_by (Limit line) Tells is said = absurd (omega arith)
 header_by Source Tells is said = absurd (omega arith)
 header_by Sink Tells is said = absurd (omega arith)
 header_by NoMemory Tells is said = absurd (omega arith)
@@ -53,6 +55,7 @@ refused_by (Schedule line reason) None Tells is none said = inl (line, reason, n
 refused_by (Refused line why) None Tells is none said = inr (line, why, said line why refl)
 refused_by (Header rule) None Tells is none said = absurd (omega arith)
 refused_by (Unbuilt line) None Tells is none said = absurd (omega arith)
+refused_by (Limit line) None Tells is none said = absurd (omega arith)
 refused_by Source None Tells is none said = absurd (omega arith)
 refused_by Sink None Tells is none said = absurd (omega arith)
 refused_by NoMemory None Tells is none said = absurd (omega arith)
@@ -65,6 +68,17 @@ unbuilt_by (Refused line why) Tells is said = absurd (omega arith)
 unbuilt_by Source Tells is said = absurd (omega arith)
 unbuilt_by Sink Tells is said = absurd (omega arith)
 unbuilt_by NoMemory Tells is said = absurd (omega arith)
+unbuilt_by (Limit line) Tells is said = absurd (omega arith)
+
+pub limit_by : (stop : Stop) (Tells : ℕ → Type 0) → status_of stop ≡ 10 → ((line : ℕ) → stop ≡ Limit line → Tells line) → (line : ℕ) × Tells line
+limit_by (Limit line) Tells is said = (line, said line refl)
+limit_by (Header rule) Tells is said = absurd (omega arith)
+limit_by (Schedule line reason) Tells is said = absurd (omega arith)
+limit_by (Refused line why) Tells is said = absurd (omega arith)
+limit_by Source Tells is said = absurd (omega arith)
+limit_by Sink Tells is said = absurd (omega arith)
+limit_by NoMemory Tells is said = absurd (omega arith)
+limit_by (Unbuilt line) Tells is said = absurd (omega arith)
 
 pub source_by : (stop : Stop) → status_of stop ≡ 5 → stop ≡ Source
 source_by Source is = refl
@@ -72,6 +86,7 @@ source_by (Header rule) is = absurd (omega arith)
 source_by (Schedule line reason) is = absurd (omega arith)
 source_by (Refused line why) is = absurd (omega arith)
 source_by (Unbuilt line) is = absurd (omega arith)
+source_by (Limit line) is = absurd (omega arith)
 source_by Sink is = absurd (omega arith)
 source_by NoMemory is = absurd (omega arith)
 
@@ -81,6 +96,7 @@ sink_by (Header rule) is = absurd (omega arith)
 sink_by (Schedule line reason) is = absurd (omega arith)
 sink_by (Refused line why) is = absurd (omega arith)
 sink_by (Unbuilt line) is = absurd (omega arith)
+sink_by (Limit line) is = absurd (omega arith)
 sink_by Source is = absurd (omega arith)
 sink_by NoMemory is = absurd (omega arith)
 
@@ -88,7 +104,8 @@ pub status_known : (stop : Stop) → IsReplayStatus (status_of stop)
 status_known (Header rule) = inr (inl refl)
 status_known (Schedule line reason) = inr (inr (inl refl))
 status_known (Refused line why) = inr (inr (inl refl))
-status_known (Unbuilt line) = inr (inr (inr (inl refl)))
-status_known Source = inr (inr (inr (inr (inl refl))))
-status_known Sink = inr (inr (inr (inr (inr (inl refl)))))
-status_known NoMemory = inr (inr (inr (inr (inr (inr refl)))))
+status_known (Limit line) = inr (inr (inr (inl refl)))
+status_known (Unbuilt line) = inr (inr (inr (inr (inl refl))))
+status_known Source = inr (inr (inr (inr (inr (inl refl)))))
+status_known Sink = inr (inr (inr (inr (inr (inr (inl refl))))))
+status_known NoMemory = inr (inr (inr (inr (inr (inr (inr refl))))))

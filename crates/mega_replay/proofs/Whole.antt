@@ -2,8 +2,8 @@
 use Rattle.std.proofs.Common.{◌≡◌, ◌⊎◌, ℕ, inl, inr, Option, Some, None, List, [], Err}
 use Rattle.mega_cluster.specs.declared.cluster.Cluster.{Cluster}
 use Rattle.mega_schedule.specs.Events.{event_of}
-use Rattle.mega_replay.specs.Known.{InputBegun, InputBroken, InputDone, InputNoEvent, InputRefused, InputUnbuilt, IsBroken, IsHeaded, LeftIsBegun, LeftIsDone, LeftStops}
-use Rattle.mega_replay.specs.Replaying.{IsRefused, IsUnbuilt}
+use Rattle.mega_replay.specs.Known.{InputBegun, InputBroken, InputDone, InputNoEvent, InputRefused, InputUnbuilt, InputPastLast, IsBroken, IsHeaded, LeftIsBegun, LeftIsDone, LeftStops}
+use Rattle.mega_replay.specs.Replaying.{IsRefused, IsUnbuilt, IsPastLast}
 use Rattle.mega_io.specs.TextLines.{lines_of}
 
 pub input_done : (a b : Option (List ℕ)) (c : Cluster) (Says : List ℕ → Type 0) → IsHeaded a b c → LeftIsDone c b Says → InputDone a Says
@@ -38,3 +38,8 @@ pub input_unbuilt : (a b : Option (List ℕ)) (c : Cluster) (at : ℕ) (Says : L
 input_unbuilt None b c at Says headed stops = tt
 input_unbuilt (Some a) None c at Says headed stops = absurd headed
 input_unbuilt (Some a) (Some b) c at Says headed stops = (c, lines_of b, headed, stops)
+
+pub input_limit : (a b : Option (List ℕ)) (c : Cluster) (at : ℕ) (Says : List ℕ → Type 0) → IsHeaded a b c → LeftStops c b at (λ line now. IsPastLast c at line now) Says → InputPastLast a at Says
+input_limit None b c at Says headed stops = tt
+input_limit (Some a) None c at Says headed stops = absurd headed
+input_limit (Some a) (Some b) c at Says headed stops = (c, lines_of b, headed, stops)

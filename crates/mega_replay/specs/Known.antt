@@ -9,7 +9,7 @@ use Rattle.mega_promises.specs.Runs.{Happening, Standing}
 use Rattle.mega_world.specs.declared.world.World.{World}
 use Rattle.mega_replay.specs.Headings.{heading_of, lines_behind, text_before}
 use Rattle.mega_replay.specs.Running.{Went}
-use Rattle.mega_replay.specs.Replaying.{IsDone, IsBegun, StopsAt, InputIsDone, InputIsBegun, InputIsBroken, InputIsNoEvent, InputIsRefused, InputIsUnbuilt, InputIsCut}
+use Rattle.mega_replay.specs.Replaying.{IsDone, IsBegun, StopsAt, InputIsDone, InputIsBegun, InputIsBroken, InputIsNoEvent, InputIsRefused, InputIsUnbuilt, InputIsPastLast, InputIsCut}
 
 -- this is so of what is told
 abbrev pub Told : Option (List ℕ) → (List ℕ → Type 0) → Type 0
@@ -93,6 +93,9 @@ InputRefused input number why Says = Told input (λ input. InputIsRefused input 
 
 abbrev pub InputUnbuilt : Option (List ℕ) → ℕ → (List ℕ → Type 0) → Type 0
 InputUnbuilt input number Says = Told input (λ input. InputIsUnbuilt input number Says)
+
+abbrev pub InputPastLast : Option (List ℕ) → ℕ → (List ℕ → Type 0) → Type 0
+InputPastLast input number Says = Told input (λ input. InputIsPastLast input number Says)
 
 abbrev pub InputCut : Option (List ℕ) → (List ℕ → Type 0) → Type 0
 InputCut input Says = Told input (λ input. InputIsCut input Says)

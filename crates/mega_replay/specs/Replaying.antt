@@ -4,11 +4,11 @@ use Rattle.mega_cluster.specs.declared.cluster.Cluster.{Cluster}
 use Rattle.mega_schedule.specs.declared.world_event.WorldEvent.{WorldEvent}
 use Rattle.mega_schedule.specs.Events.{event_of}
 use Rattle.mega_promises.specs.Runs.{Happening, Standing, refusal}
-use Rattle.mega_world.specs.Unbuilt.{IsUnbuilt as IsUnbuiltEvent}
+use Rattle.mega_world.specs.Unbuilt.{IsPastLast as IsPastLastEvent, IsUnbuilt as IsUnbuiltEvent}
 use Rattle.mega_replay.specs.Headings.{heading_of}
-use Rattle.mega_replay.specs.Running.{Replayed, stood, uncut}
+use Rattle.mega_replay.specs.Running.{Replayed, stood}
 use Rattle.mega_replay.specs.Texts.{told}
-use Rattle.mega_replay.specs.LastLines.{header_line, refused_line, schedule_line, unbuilt_line}
+use Rattle.mega_replay.specs.LastLines.{header_line, refused_line, schedule_line, unbuilt_line, limit_line}
 
 -- these lines, newest first, and then the others
 abbrev pub in_order : List (List ℕ) → List (List ℕ) → List (List ℕ)
@@ -21,11 +21,17 @@ pub record IsRefused (c : Cluster) (number : ℕ) (line : List ℕ) (now : Stand
   pub spelled : event_of c.schema number line ≡ Ok event
   pub refused : refusal c now event ≡ Some why
 
--- it spells an event that is not served yet, where the run does not refuse it
+-- it spells an event that is not served yet
 pub record IsUnbuilt (c : Cluster) (number : ℕ) (line : List ℕ) (now : Standing) : Type 0 where
   pub event : WorldEvent
   pub spelled : event_of c.schema number line ≡ Ok event
-  pub unserved : refusal c now event ≡ None → IsUnbuiltEvent c [] uncut now event
+  pub unserved : IsUnbuiltEvent event
+
+-- it spells the start of a node that is down and that started 4,294,967,295 times
+pub record IsPastLast (c : Cluster) (number : ℕ) (line : List ℕ) (now : Standing) : Type 0 where
+  pub event : WorldEvent
+  pub spelled : event_of c.schema number line ≡ Ok event
+  pub past : IsPastLastEvent c now event
 
 -- all lines of the schedule were done, and this is said of the text of their tape
 pub record IsDone (c : Cluster) (lines : List (List ℕ)) (Says : List ℕ → Type 0) : Type 0 where
@@ -70,6 +76,9 @@ StopsRefused c lines number why Says = StopsAt c lines number (λ line now. IsRe
 abbrev pub StopsUnbuilt : Cluster → List (List ℕ) → ℕ → (List ℕ → Type 0) → Type 0
 StopsUnbuilt c lines number Says = StopsAt c lines number (λ line now. IsUnbuilt c number line now) Says
 
+abbrev pub StopsPastLast : Cluster → List (List ℕ) → ℕ → (List ℕ → Type 0) → Type 0
+StopsPastLast c lines number Says = StopsAt c lines number (λ line now. IsPastLast c number line now) Says
+
 -- the input is a header, that reads as a cluster, and a schedule, and this is so of them
 abbrev pub HasParts : List ℕ → (Cluster → List (List ℕ) → Type 0) → Type 0
 HasParts input IsSo = (c : Cluster) × (schedule : List (List ℕ)) × (heading_of input ≡ Ok (c, schedule)) × IsSo c schedule
@@ -94,6 +103,9 @@ InputIsRefused input number why Says = HasParts input (λ c lines. StopsRefused 
 abbrev pub InputIsUnbuilt : List ℕ → ℕ → (List ℕ → Type 0) → Type 0
 InputIsUnbuilt input number Says = HasParts input (λ c lines. StopsUnbuilt c lines number Says)
 
+abbrev pub InputIsPastLast : List ℕ → ℕ → (List ℕ → Type 0) → Type 0
+InputIsPastLast input number Says = HasParts input (λ c lines. StopsPastLast c lines number Says)
+
 -- this is said of no text, or some first lines were done
 abbrev pub InputIsBegun : List ℕ → (List ℕ → Type 0) → Type 0
 InputIsBegun input Says = Says [] ⊎ HasParts input (λ c lines. IsBegun c lines Says)
@@ -106,3 +118,4 @@ InputIsCut input Says =
     ⊎ ((number : ℕ) × (reason : ℕ) × InputIsNoEvent input number reason (λ text. Says (text ++ schedule_line number reason)))
     ⊎ ((number : ℕ) × (why : ℕ) × InputIsRefused input number why (λ text. Says (text ++ refused_line number why)))
     ⊎ ((number : ℕ) × InputIsUnbuilt input number (λ text. Says (text ++ unbuilt_line number)))
+    ⊎ ((number : ℕ) × InputIsPastLast input number (λ text. Says (text ++ limit_line number)))

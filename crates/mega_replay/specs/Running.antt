@@ -12,21 +12,18 @@ use Rattle.mega_transcript.specs.declared.item.Item.TheVariants.{Answer as Answe
 use Rattle.mega_promises.specs.Causes.{HasCause}
 use Rattle.mega_promises.specs.Moments.{StoodOn}
 use Rattle.mega_promises.specs.Promises.{Agree, AreMessages, IsSerial, asked_for, log_of}
-use Rattle.mega_promises.specs.Runs.{Cuts, Happening, IsRun, Standing, Whole, after_event, opening, refusal, unless_refused}
+use Rattle.mega_promises.specs.Runs.{Happening, IsRun, Standing, after_event, by_fuse, goes_on, opening, refusal, unless_refused}
 use Rattle.mega_tape_laws.specs.Indexed.{AreRows, IsDeclared, IsIndexed}
 use Rattle.mega_cause_laws.specs.Told.{is_told}
 use Rattle.mega_world.specs.declared.world.World.{World}
 use Rattle.mega_world.specs.Stands.{IsAt}
 use Rattle.mega_line_laws.specs.Meanings.{meaning_in}
 
--- no fuse is set, so nothing is cut
-abbrev pub uncut : Cuts
-uncut now me calls = Whole
-
--- how a cluster stands after these events: its nodes as the header has them, and each event on what those before it left
+-- how a cluster stands after these events: its nodes as the header has them, and each event on what those before it left; a fuse on a log
+-- cuts the append that it names
 abbrev pub stood : Cluster → List Happening → Standing
 stood c [] = opening c []
-stood c (one ∷ earlier) = unless_refused (stood c earlier) (after_event c one.handlers uncut (stood c earlier) one.event) (refusal c (stood c earlier) one.event)
+stood c (one ∷ earlier) = unless_refused (stood c earlier) (after_event c one.handlers by_fuse (stood c earlier) one.event) (refusal c (stood c earlier) one.event)
 
 -- the line of this number spells the event under the schema of the cluster, and it is not refused; no handlers are there
 pub record Happens (c : Cluster) (number : ℕ) (line : List ℕ) (now : Standing) (one : Happening) : Type 0 where
@@ -52,13 +49,14 @@ HaveCauses c tape =
     (op : OpId) (request : Request) (answer : Answer) (before : List Item) → StoodOn (Answered op answer) before tape → asked_for (meaning_in c.schema) before op ≡ Some request
     → is_told request answer ≡ true → HasCause c (meaning_in c.schema) [] before op answer
 
--- the lines' events happen, and the tape is a run of the cluster over them, in order: so what nodes decided at one position is one entry; an
+-- the lines' events happen, and the tape is a run of the cluster over them, in order, in which a fuse on a log cuts the append that it names: so what nodes decided at one position is one entry; an
 -- entry with the id of an operation is what that came to over the entries below, and answers are as of one thread; messages between groups
 -- are entered and handled once, in order; answers that a log tells have their causes; and what stands in a log under keys that are no row keys is what the local indexes have over the
 -- tables' rows, each of which fits and stands under its own key
 pub record Replayed (c : Cluster) (lines : List (List ℕ)) (events : List Happening) : Type 0 where
   pub happen : AllHappen c lines events
   pub run : IsRun c [] (in_turn events []) (stood c events).tape
+  pub by_fuses : (stood c events).tape ≡ (goes_on c by_fuse (opening c []) (in_turn events [])).tape
   pub agree : Agree (stood c events).tape
   pub serial : IsSerial c.schema (meaning_in c.schema) (stood c events).tape
   pub messages : AreMessages c.schema [] (stood c events).tape

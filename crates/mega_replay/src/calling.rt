@@ -3,8 +3,8 @@ ghost use Rattle.std.specs.Prelude.{◌≡◌, ◌≤◌, ◌⊎◌, ◌++◌, �
 ghost use Rattle.std.specs.Io.KnownBytes.{Appends, IsAtEnd};
 ghost use Rattle.mega_base.specs.Causes.{Rose};
 ghost use Rattle.mega_io.specs.Pieces.{AppendsFront};
-ghost use Rattle.mega_replay.specs.LastLines.{header_line, schedule_line, refused_line, unbuilt_line, last_line, usage_line};
-ghost use Rattle.mega_replay.specs.Known.{InputDone, InputBegun, InputBroken, InputNoEvent, InputRefused, InputUnbuilt, InputCut};
+ghost use Rattle.mega_replay.specs.LastLines.{header_line, schedule_line, refused_line, unbuilt_line, limit_line, last_line, usage_line};
+ghost use Rattle.mega_replay.specs.Known.{InputDone, InputBegun, InputBroken, InputNoEvent, InputRefused, InputUnbuilt, InputPastLast, InputCut};
 ghost use Rattle.mega_replay.specs.Statuses.{IsCutStatus, IsDrawn, IsReplayStatus, IsStatus};
 ghost use Rattle.mega_gen.specs.Generated.{generated};
 ghost use Rattle.mega_words.specs.Commands.{command_of};
@@ -27,8 +27,8 @@ const USAGE: &str =
 /// Runs the program on its words, and gives the status with which it ends: 0 where the input was read
 /// to its end and every line was an event that happened, or where all lines were drawn; 2 where the words are no form; 3 where the
 /// header breaks a rule; 4 where a line is no event, or its event is refused; 5 and 6 where the source
-/// or the sink failed; 8 for want of memory; 11 where a line is not served yet. With 0 the
-/// text of all lines was written; with 3, 4 and 11 that of what came before, and then the last line;
+/// or the sink failed; 8 for want of memory; 10 where a line starts a node that started 4,294,967,295 times; 11 where a line is not
+/// served yet. With 0 the text of all lines was written; with 3, 4, 10 and 11 that of what came before, and then the last line, which 10 has not;
 /// with 5 that of the lines that were done, where the sink took it; with 6 and 8 a front of such a text.
 pub fn run<I: Source, O: Sink>(alloc: Global, words: &[Text], input: &mut I, out: &mut O) -> u8
     ensures unformed { result ≡ 2 → command_of words.now ≡ None }
@@ -43,6 +43,7 @@ pub fn run<I: Source, O: Sink>(alloc: Global, words: &[Text], input: &mut I, out
     ensures header { result ≡ 3 → (rule : ℕ) × InputBroken (I.left input.old) rule (λ text. Appends (O.held out.old) (O.held out.new) (text ++ header_line rule)) }
     ensures refused { result ≡ 4 → ((line : ℕ) × (reason : ℕ) × InputNoEvent (I.left input.old) line reason (λ text. Appends (O.held out.old) (O.held out.new) (text ++ schedule_line line reason))) ⊎ ((line : ℕ) × (why : ℕ) × InputRefused (I.left input.old) line why (λ text. Appends (O.held out.old) (O.held out.new) (text ++ refused_line line why))) }
     ensures unbuilt { result ≡ 11 → (line : ℕ) × InputUnbuilt (I.left input.old) line (λ text. Appends (O.held out.old) (O.held out.new) (text ++ unbuilt_line line)) }
+    ensures limit { result ≡ 10 → (line : ℕ) × InputPastLast (I.left input.old) line (λ text. Appends (O.held out.old) (O.held out.new) (text ++ limit_line line)) }
     ensures broken { result ≡ 5 → InputBegun (I.left input.old) (Appends (O.held out.old) (O.held out.new)) ⊎ Rose (O.faults out.old) (O.faults out.new) }
     ensures cut { command_of words.now ≡ Some Replay → IsCutStatus result → InputCut (I.left input.old) (AppendsFront (O.held out.old) (O.held out.new)) }
     ensures source { result ≡ 5 → Rose (I.faults input.old) (I.faults input.new) }
@@ -82,6 +83,7 @@ fn replay_all<I: Source, O: Sink>(alloc: Global, input: &mut I, out: &mut O) -> 
     ensures header { result ≡ 3 → (rule : ℕ) × InputBroken (I.left input.old) rule (λ text. Appends (O.held out.old) (O.held out.new) (text ++ header_line rule)) }
     ensures refused { result ≡ 4 → ((line : ℕ) × (reason : ℕ) × InputNoEvent (I.left input.old) line reason (λ text. Appends (O.held out.old) (O.held out.new) (text ++ schedule_line line reason))) ⊎ ((line : ℕ) × (why : ℕ) × InputRefused (I.left input.old) line why (λ text. Appends (O.held out.old) (O.held out.new) (text ++ refused_line line why))) }
     ensures unbuilt { result ≡ 11 → (line : ℕ) × InputUnbuilt (I.left input.old) line (λ text. Appends (O.held out.old) (O.held out.new) (text ++ unbuilt_line line)) }
+    ensures limit { result ≡ 10 → (line : ℕ) × InputPastLast (I.left input.old) line (λ text. Appends (O.held out.old) (O.held out.new) (text ++ limit_line line)) }
     ensures broken { result ≡ 5 → InputBegun (I.left input.old) (Appends (O.held out.old) (O.held out.new)) ⊎ Rose (O.faults out.old) (O.faults out.new) }
     ensures cut { IsCutStatus result → InputCut (I.left input.old) (AppendsFront (O.held out.old) (O.held out.new)) }
     ensures source { result ≡ 5 → Rose (I.faults input.old) (I.faults input.new) }
@@ -118,6 +120,7 @@ fn transcribe<I: Source, O: Sink>(alloc: Global, input: &mut I, out: &mut O) -> 
     ensures none { (at reason : ℕ) → result ≡ Err (Stop.Schedule at reason) → InputNoEvent (I.left input.old) at reason (λ text. Appends (O.held out.old) (O.held out.new) (text ++ schedule_line at reason)) }
     ensures refused { (at why : ℕ) → result ≡ Err (Stop.Refused at why) → InputRefused (I.left input.old) at why (λ text. Appends (O.held out.old) (O.held out.new) (text ++ refused_line at why)) }
     ensures unbuilt { (at : ℕ) → result ≡ Err (Stop.Unbuilt at) → InputUnbuilt (I.left input.old) at (λ text. Appends (O.held out.old) (O.held out.new) (text ++ unbuilt_line at)) }
+    ensures limit { (at : ℕ) → result ≡ Err (Stop.Limit at) → InputPastLast (I.left input.old) at (λ text. Appends (O.held out.old) (O.held out.new) (text ++ limit_line at)) }
     ensures broken { result ≡ Err Stop.Source → InputBegun (I.left input.old) (Appends (O.held out.old) (O.held out.new)) ⊎ Rose (O.faults out.old) (O.faults out.new) }
     ensures cut { OnErr result (InputCut (I.left input.old) (AppendsFront (O.held out.old) (O.held out.new))) }
     ensures source { result ≡ Err Stop.Source → Rose (I.faults input.old) (I.faults input.new) }

@@ -7,8 +7,8 @@ ghost use Rattle.mega_schedule.specs.Events.{event_of};
 ghost use Rattle.mega_promises.specs.Runs.{Happening};
 ghost use Rattle.mega_replay.specs.Progress.{Writes, WritesFront};
 ghost use Rattle.mega_replay.specs.Running.{StandsAfter, IsStanding, Went, stood};
-ghost use Rattle.mega_replay.specs.Replaying.{IsRefused, IsUnbuilt};
-ghost use Rattle.mega_replay.specs.Known.{Follows, Ends, StopsNext, LeftIsDone, LeftIsBegun, LeftStops, CutsLine, IsRead, InputDone, InputBegun, InputBroken, InputNoEvent, InputRefused, InputUnbuilt};
+ghost use Rattle.mega_replay.specs.Replaying.{IsRefused, IsUnbuilt, IsPastLast};
+ghost use Rattle.mega_replay.specs.Known.{Follows, Ends, StopsNext, LeftIsDone, LeftIsBegun, LeftStops, CutsLine, IsRead, InputDone, InputBegun, InputBroken, InputNoEvent, InputRefused, InputUnbuilt, InputPastLast};
 ghost use Rattle.mega_replay.specs.Stops.{IsBeforeWriting, IsScheduleStop};
 
 use crate::happening::take_line;
@@ -49,6 +49,7 @@ fn do_line<I: Source, O: Sink>(
     ensures end { result ≡ Ok false → Ends (prepend_known reader.old (I.left input.old)) × IsAtEnd (I.left input.new) }
     ensures none { (at reason : ℕ) → result ≡ Err (Stop.Schedule at reason) → (at ≡ number) × StopsNext (prepend_known reader.old (I.left input.old)) (λ line. event_of (cluster.now).schema number line ≡ Err reason) }
     ensures unbuilt { (at : ℕ) → result ≡ Err (Stop.Unbuilt at) → (done : List (List ℕ)) (events : List Happening) → StandsAfter cluster.now done events world.old tape.old.items → (at ≡ number) × StopsNext (prepend_known reader.old (I.left input.old)) (λ line. IsUnbuilt cluster.now number line (stood cluster.now events)) }
+    ensures limit { (at : ℕ) → result ≡ Err (Stop.Limit at) → (done : List (List ℕ)) (events : List Happening) → StandsAfter cluster.now done events world.old tape.old.items → (at ≡ number) × StopsNext (prepend_known reader.old (I.left input.old)) (λ line. IsPastLast cluster.now number line (stood cluster.now events)) }
     ensures refused { (at why : ℕ) → result ≡ Err (Stop.Refused at why) → (done : List (List ℕ)) (events : List Happening) → StandsAfter cluster.now done events world.old tape.old.items → (at ≡ number) × StopsNext (prepend_known reader.old (I.left input.old)) (λ line. IsRefused cluster.now number line (stood cluster.now events) why) }
     ensures kept { IfErr result (λ stop. IsBeforeWriting stop → (O.held out.new ≡ O.held out.old) × (waiting.new ≡ waiting.old)) }
     ensures cut { OnErr result ((done : List (List ℕ)) (events : List Happening) → StandsAfter cluster.now done events world.old tape.old.items → CutsLine cluster.now number (prepend_known reader.old (I.left input.old)) (prepend_known reader.new (I.left input.new)) line.new events world.new tape.old.items tape.new.items (WritesFront (O.held out.old) (O.held out.new) waiting.new) waiting.old) }
@@ -97,6 +98,7 @@ fn run_lines<I: Source, O: Sink>(
     ensures end { OnOk result (IsAtEnd (I.left input.new)) }
     ensures none { (at reason : ℕ) → result ≡ Err (Stop.Schedule at reason) → (first : Option (List ℕ)) → Writes first (O.held out.old) waiting.old (text_of (cluster.now).schema tape.old.items) → LeftStops cluster.now (prepend_known reader.old (I.left input.old)) at (λ line now. event_of (cluster.now).schema at line ≡ Err reason) (Writes first (O.held out.new) waiting.new) }
     ensures unbuilt { (at : ℕ) → result ≡ Err (Stop.Unbuilt at) → (first : Option (List ℕ)) → Writes first (O.held out.old) waiting.old (text_of (cluster.now).schema tape.old.items) → LeftStops cluster.now (prepend_known reader.old (I.left input.old)) at (λ line now. IsUnbuilt cluster.now at line now) (Writes first (O.held out.new) waiting.new) }
+    ensures limit { (at : ℕ) → result ≡ Err (Stop.Limit at) → (first : Option (List ℕ)) → Writes first (O.held out.old) waiting.old (text_of (cluster.now).schema tape.old.items) → LeftStops cluster.now (prepend_known reader.old (I.left input.old)) at (λ line now. IsPastLast cluster.now at line now) (Writes first (O.held out.new) waiting.new) }
     ensures refused { (at why : ℕ) → result ≡ Err (Stop.Refused at why) → (first : Option (List ℕ)) → Writes first (O.held out.old) waiting.old (text_of (cluster.now).schema tape.old.items) → LeftStops cluster.now (prepend_known reader.old (I.left input.old)) at (λ line now. IsRefused cluster.now at line now why) (Writes first (O.held out.new) waiting.new) }
     ensures broken { result ≡ Err Stop.Source → (first : Option (List ℕ)) → Writes first (O.held out.old) waiting.old (text_of (cluster.now).schema tape.old.items) → LeftIsBegun cluster.now (prepend_known reader.old (I.left input.old)) (Writes first (O.held out.new) waiting.new) }
     ensures cut { OnErr result ((first : Option (List ℕ)) → Writes first (O.held out.old) waiting.old (text_of (cluster.now).schema tape.old.items) → LeftIsBegun cluster.now (prepend_known reader.old (I.left input.old)) (WritesFront first (O.held out.new) waiting.new)) }
@@ -154,6 +156,7 @@ fn run_schedule<I: Source, O: Sink>(
     ensures end { OnOk result (IsAtEnd (I.left input.new)) }
     ensures none { (at reason : ℕ) → result ≡ Err (Stop.Schedule at reason) → LeftStops cluster.now (prepend_known reader.old (I.left input.old)) at (λ line now. event_of (cluster.now).schema at line ≡ Err reason) (Writes (O.held out.old) (O.held out.new) waiting.new) }
     ensures unbuilt { (at : ℕ) → result ≡ Err (Stop.Unbuilt at) → LeftStops cluster.now (prepend_known reader.old (I.left input.old)) at (λ line now. IsUnbuilt cluster.now at line now) (Writes (O.held out.old) (O.held out.new) waiting.new) }
+    ensures limit { (at : ℕ) → result ≡ Err (Stop.Limit at) → LeftStops cluster.now (prepend_known reader.old (I.left input.old)) at (λ line now. IsPastLast cluster.now at line now) (Writes (O.held out.old) (O.held out.new) waiting.new) }
     ensures refused { (at why : ℕ) → result ≡ Err (Stop.Refused at why) → LeftStops cluster.now (prepend_known reader.old (I.left input.old)) at (λ line now. IsRefused cluster.now at line now why) (Writes (O.held out.old) (O.held out.new) waiting.new) }
     ensures broken { result ≡ Err Stop.Source → LeftIsBegun cluster.now (prepend_known reader.old (I.left input.old)) (Writes (O.held out.old) (O.held out.new) waiting.new) }
     ensures cut { OnErr result (LeftIsBegun cluster.now (prepend_known reader.old (I.left input.old)) (WritesFront (O.held out.old) (O.held out.new) waiting.new)) }
@@ -195,6 +198,7 @@ pub fn replay<I: Source, O: Sink>(
     ensures header { (rule : ℕ) → result ≡ Err (Stop.Header rule) → InputBroken (I.left input.old) rule (Writes (O.held out.old) (O.held out.new) waiting.new) }
     ensures none { (at reason : ℕ) → result ≡ Err (Stop.Schedule at reason) → InputNoEvent (I.left input.old) at reason (Writes (O.held out.old) (O.held out.new) waiting.new) }
     ensures unbuilt { (at : ℕ) → result ≡ Err (Stop.Unbuilt at) → InputUnbuilt (I.left input.old) at (Writes (O.held out.old) (O.held out.new) waiting.new) }
+    ensures limit { (at : ℕ) → result ≡ Err (Stop.Limit at) → InputPastLast (I.left input.old) at (Writes (O.held out.old) (O.held out.new) waiting.new) }
     ensures refused { (at why : ℕ) → result ≡ Err (Stop.Refused at why) → InputRefused (I.left input.old) at why (Writes (O.held out.old) (O.held out.new) waiting.new) }
     ensures broken { result ≡ Err Stop.Source → InputBegun (I.left input.old) (Writes (O.held out.old) (O.held out.new) waiting.new) }
     ensures cut { OnErr result (InputBegun (I.left input.old) (WritesFront (O.held out.old) (O.held out.new) waiting.new)) }

@@ -16,6 +16,8 @@ pub enum Stop {
     Refused { line: u64, why: u8 },
     /// The header or this line uses what the program does not have.
     Unbuilt { line: u64 },
+    /// This line starts a node that started 4,294,967,295 times.
+    Limit { line: u64 },
     /// A call of the source failed.
     Source,
     /// A call of the sink failed.
@@ -39,6 +41,7 @@ impl Stop {
             Stop::Source => 5,
             Stop::Sink => 6,
             Stop::NoMemory => 8,
+            Stop::Limit { .. } => 10,
             Stop::Unbuilt { .. } => 11,
         }
     }
@@ -66,7 +69,7 @@ impl Stop {
                 let told = format!(in alloc; "unbuilt {line}\n")?;
                 out.extend_from_slice(told.as_bytes())
             }
-            Stop::Source | Stop::Sink | Stop::NoMemory => Ok(()),
+            Stop::Limit { .. } | Stop::Source | Stop::Sink | Stop::NoMemory => Ok(()),
         }
     }
 }

@@ -1,35 +1,72 @@
 -- A world one of whose nodes went down.
-use Rattle.std.proofs.Common.{◌≡◌, ℕ, ◌-◌, ◌≤◌, ◌==◌, ◌++◌, ◌∷◌, [], Bool, true, false, not, cond, List, length, set, None, refl, sym, ap, ◌∙◌, subst, arith}
+use Rattle.std.proofs.Common.{◌≡◌, ℕ, ◌-◌, ◌≤◌, ◌==◌, ◌++◌, ◌∷◌, [], Bool, true, false, cond, List, length, set, Some, None, refl, sym, ap, ◌∙◌, subst, arith}
 use Rattle.std.proofs.lemmas.Bool.Decides.{nat_tests}
+use Rattle.std.specs.List.{slice_get}
 use Rattle.mega_base.specs.declared.names.Epoch.{Epoch}
 use Rattle.mega_base.specs.declared.names.NodeId.{NodeId}
 use Rattle.mega_cluster.specs.declared.cluster.Cluster.{Cluster}
 use Rattle.mega_handler.specs.Named.{Meanings}
-use Rattle.mega_schedule.specs.declared.world_event.WorldEvent.TheVariants.{Crash as CrashEvent}
+use Rattle.mega_leases.specs.Opening.{AreOwed}
+use Rattle.mega_schedule.specs.declared.world_event.WorldEvent.TheVariants.{Crash as CrashEvent, Start as StartEvent}
 use Rattle.mega_transcript.specs.declared.item.Item.{Item}
 use Rattle.mega_transcript.specs.declared.item.Item.TheVariants.{Crash}
 use Rattle.mega_transcript.specs.Tape.{newest}
 use Rattle.mega_transcript.proofs.Tapes.{newest-append}
 use Rattle.mega_format_laws.specs.Nodes.{IsNode}
 use Rattle.mega_member_laws.specs.Nodes.{StaysWithin}
-use Rattle.mega_rules.specs.Met.{Crashes}
-use Rattle.mega_rules.specs.Steps.{crashed}
-use Rattle.mega_promises.specs.Runs.{Cuts, Standing, after_event, because, has_lapsed, set_at}
-use Rattle.mega_world.specs.declared.place.Place.TheVariants.{Down}
+use Rattle.mega_rules.specs.Clock.{start_of}
+use Rattle.mega_rules.specs.Met.{Crashes, Met}
+use Rattle.mega_rules.specs.Operations.{Node}
+use Rattle.mega_rules.specs.Steps.{crashed, onto}
+use Rattle.mega_voter.specs.Holding.{HoldsMet}
+use Rattle.mega_promises.specs.Runs.{Standing, after_event, by_fuse, crashes, has_lapsed, set_at}
+use Rattle.mega_world.specs.declared.member.Member.{Member}
+use Rattle.mega_world.specs.declared.place.Place.{Place}
+use Rattle.mega_world.specs.declared.place.Place.TheVariants.{Down, Up}
 use Rattle.mega_world.specs.declared.world.World.{World}
 use Rattle.mega_world.specs.Carries.{Carries}
+use Rattle.mega_world.specs.Formed.{IsFormed}
+use Rattle.mega_world.specs.Kept.{AreNodes}
 use Rattle.mega_world.specs.Lapses.{KnowsLeases}
-use Rattle.mega_world.specs.Members.{AreMembers}
+use Rattle.mega_world.specs.Members.{is_up_at, records_of}
+use Rattle.mega_world.specs.Restarting.{StaysDown}
 use Rattle.mega_world.specs.Stands.{IsAt}
+use Rattle.mega_world.specs.Within.{RunsWithin}
 use Rattle.mega_world.proofs.Carrying.{shown_on}
-use Rattle.mega_world.proofs.Joining.{joined}
+use Rattle.mega_world.proofs.Fates.{start_cut}
+use Rattle.mega_world.proofs.Joining.{at_other, at_own, nodes_on}
+use Rattle.mega_world.proofs.Outcomes.{StandsAt, stands_at, up_at}
 
-pub fallen_at : (c : Cluster) (h : Meanings) (cuts : Cuts) (now : Standing) (node : NodeId) (old new : World) (items after : List Item) → IsAt c old items now → 1 ≤ node.0 → node.0 ≤ length old.places.items
-    → new.places.items ≡ set old.places.items (node.0 - 1) Down → new.mail ≡ old.mail → new.safety ≡ old.safety → after ≡ items ++ Crash node ∷ [] → IsAt c new after (after_event c h cuts now (CrashEvent node))
-fallen_at c h cuts now node old new items after r least most places mail safety is = record {
-  nodes = subst (λ ps. AreMembers c ps (set_at now.node node.0 (crashed (now.node node.0)))) (sym places) (joined c old.places.items now.node node.0 Down (crashed (now.node node.0)) r.nodes least most refl);
+-- a crash is met, and is nothing that records hold
+crashed_holds : (records : List (List ℕ)) (starts : ℕ) (met : List Met) → HoldsMet records starts met → HoldsMet records starts (Crashes ∷ met)
+crashed_holds records starts met holds = record { good = holds.good; agrees = holds.agrees; counted = holds.counted; later = holds.later; honest = (tt, holds.honest) }
+
+pub falls_down : (c : Cluster) (places : List Place) (now : Standing) (me : ℕ) (member : Member) → AreNodes c places now → 1 ≤ me → me ≤ length places → StandsAt c places now me member
+    → AreNodes c (set places (me - 1) (Down (record { records = records_of member; fuse = member.fuse; owed = None }))) (crashes now me)
+falls_down c places now me member all least most stands =
+    nodes_on c places me (Down (record { records = records_of member; fuse = member.fuse; owed = None })) (crashed (now.node me)) now (crashes now me) all least most refl refl
+    (λ other apart. record { starts = refl; owed = refl; ruled = at_other now.node me other (crashed (now.node me)) apart; fuse = refl })
+    (record {
+      follows = subst (λ (owed : List Met). AreOwed owed (Crashes ∷ (now.node me).met)) (sym stands.settled.unowed) tt;
+      holds = subst (λ (owed : List Met). HoldsMet (records_of member).list.items (now.starts me) (onto owed (Crashes ∷ (now.node me).met))) (sym stands.settled.unowed)
+          (subst (λ (starts : ℕ). HoldsMet (records_of member).list.items starts (Crashes ∷ (now.node me).met)) (sym stands.settled.started)
+          (crashed_holds (records_of member).list.items (start_of (now.node me).met) (now.node me).met stands.is.holds));
+      owes = sym stands.settled.unowed;
+      fused = stands.settled.fused;
+    })
+
+-- all but the nodes, in a run in which a node crashes
+record CrashedSo (c : Cluster) (new : World) (after : List Item) (later : Standing) : Type 0 where
+  mail : Carries new.mail later.tape
+  tape : newest after ≡ later.tape
+  leases : KnowsLeases new.safety later.node later.tape
+  formed : IsFormed c later
+  within : RunsWithin c later
+
+crashed_so : (c : Cluster) (now : Standing) (node : NodeId) (old new : World) (items after : List Item) → IsAt c old items now → new.mail ≡ old.mail → new.safety ≡ old.safety → after ≡ items ++ Crash node ∷ []
+    → CrashedSo c new after (crashes now node.0)
+crashed_so c now node old new items after r mail safety is = record {
   mail = subst (λ m. Carries m (Crash node ∷ now.tape)) (sym mail) (shown_on old.mail node.0 Crashes now.tape r.mail);
-  unfused = record { of_log = r.unfused.of_log; of_data = r.unfused.of_data };
   tape = ap newest is ∙ newest-append items (Crash node) ∙ ap (λ t. Crash node ∷ t) r.tape;
   leases = subst (λ s. KnowsLeases s (set_at now.node node.0 (crashed (now.node node.0))) (Crash node ∷ now.tape)) (sym safety) (record {
     lapses = record { each = λ cell other epoch. r.leases.lapses.each cell other epoch ∙ lapsed cell other epoch (node.0 == cell) refl };
@@ -39,11 +76,13 @@ fallen_at c h cuts now node old new items after r least most places mail safety 
     cluster = r.formed.cluster;
     lease = r.formed.lease;
     nodes = λ me. node_by me (node.0 == me);
+    owed = r.formed.owed;
     messages = r.formed.messages;
   };
   within = record {
     cells = r.within.cells;
     nodes = λ me. stays_by me (node.0 == me);
+    owed = r.within.owed;
     messages = r.within.messages;
   };
 }
@@ -60,13 +99,43 @@ fallen_at c h cuts now node old new items after r least most places mail safety 
     stays_by me true = record { met = (tt, (r.within.nodes node.0).met); open_operations = tt }
     stays_by me false = r.within.nodes me
 
--- ---- why a node does not start
+pub fallen_at : (c : Cluster) (h : Meanings) (now : Standing) (node : NodeId) (old new : World) (items after : List Item) → IsAt c old items now
+    → AreNodes c new.places.items (crashes now node.0) → new.cluster ≡ old.cluster → new.mail ≡ old.mail → new.safety ≡ old.safety → after ≡ items ++ Crash node ∷ [] → IsAt c new after (after_event c h by_fuse now (CrashEvent node))
+fallen_at c h now node old new items after r nodes cluster mail safety is =
+    let so = crashed_so c now node old new items after r mail safety is in record {
+      cluster = cluster ∙ r.cluster;
+      served = r.served;
+      nodes = nodes;
+      mail = so.mail;
+      tape = so.tape;
+      leases = so.leases;
+      formed = so.formed;
+      within = so.within;
+    }
 
-pub unstarted : (there up : Bool) → because (not there) 6 (because up 2 None) ≡ None → (there ≡ true) × (up ≡ false)
-unstarted true true none = cc
-unstarted true false none = (refl, refl)
-unstarted false up none = cc
+-- a node whose start was cut off is down as before, and shows the crash
+pub stayed_at : (c : Cluster) (h : Meanings) (now : Standing) (node : NodeId) (old new : World) (items after : List Item) → IsAt c old items now
+    → StaysDown c now node.0 new.places.items → new.cluster ≡ old.cluster → new.mail ≡ old.mail → new.safety ≡ old.safety → after ≡ items ++ Crash node ∷ [] → IsAt c new after (after_event c h by_fuse now (StartEvent node))
+stayed_at c h now node old new items after r stays cluster mail safety is =
+    let so = crashed_so c now node old new items after r mail safety is in
+    subst (IsAt c new after) (sym (start_cut c h now node.0 stays.burning)) (record {
+      cluster = cluster ∙ r.cluster;
+      served = r.served;
+      nodes = stays.nodes;
+      mail = so.mail;
+      tape = so.tape;
+      leases = record { lapses = so.leases.lapses; told = so.leases.told };
+      formed = record { cluster = so.formed.cluster; lease = so.formed.lease; nodes = so.formed.nodes; owed = so.formed.owed; messages = so.formed.messages };
+      within = record { cells = so.within.cells; nodes = so.within.nodes; owed = so.within.owed; messages = so.within.messages };
+    })
 
-pub unfused : (there : Bool) → because (not there) 6 None ≡ None → there ≡ true
-unfused true none = refl
-unfused false none = cc
+-- a node that is up goes down
+pub crashes_at : (c : Cluster) (h : Meanings) (now : Standing) (node : NodeId) (old new : World) (items after : List Item) → IsAt c old items now → 1 ≤ node.0 → node.0 ≤ length old.places.items → is_up_at old.places.items node.0 ≡ true
+    → ((member : Member) → slice_get old.places.items (node.0 - 1) ≡ Some (Up member) → new.places.items ≡ set old.places.items (node.0 - 1) (Down (record { records = records_of member; fuse = member.fuse; owed = None })))
+    → new.cluster ≡ old.cluster → new.mail ≡ old.mail → new.safety ≡ old.safety → after ≡ items ++ Crash node ∷ [] → IsAt c new after (after_event c h by_fuse now (CrashEvent node))
+crashes_at c h now node old new items after r least most up falls cluster mail safety is =
+    let found = up_at old.places.items node.0 least most up in
+    let stands = stands_at c old.places.items now node.0 (node.0 - 1) (Up found.0) found.0 r.nodes refl least found.1 refl in
+    fallen_at c h now node old new items after r
+    (subst (λ (ps : List Place). AreNodes c ps (crashes now node.0)) (sym (falls found.0 found.1)) (falls_down c old.places.items now node.0 found.0 r.nodes least most stands))
+    cluster mail safety is

@@ -61,6 +61,7 @@ formed_on c now me own made formed step_is same shows = record {
   cluster = formed.cluster;
   lease = formed.lease;
   nodes = λ other. by (me == other) other;
+  owed = formed.owed;
   messages = step_all IsMessage c (set_at now.node me made.node) me own now.tape (whole_step c now me own made).tape made.notes made.sends formed.messages step_is.sends same shows;
 }
   where

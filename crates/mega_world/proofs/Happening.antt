@@ -2,7 +2,7 @@
 use Rattle.std.proofs.Common.{◌≡◌, ◌⊎◌, ℕ, ◌+◌, ◌==◌, ◌≤◌, cond, Bool, true, false, List, [], ◌∷◌, ◌++◌, map, flat_map, length, Some, inl, inr, refl, sym, ap, ◌∙◌, subst, arith}
 use Rattle.std.proofs.lemmas.Bool.Decides.{nat_tests}
 use Rattle.std.specs.List.{All}
-use Rattle.std.proofs.lemmas.List.Elements.{All-append, All-cons, All-nil}
+use Rattle.std.proofs.lemmas.List.Elements.{All-append, All-cons, All-nil, All-push}
 use Rattle.mega_base.specs.Codec.{IsBetween}
 use Rattle.mega_base.specs.declared.names.Epoch.{Epoch}
 use Rattle.mega_base.specs.declared.names.NodeId.{NodeId}
@@ -14,47 +14,45 @@ use Rattle.mega_wire.specs.declared.message.Message.{Message}
 use Rattle.mega_wire.specs.declared.message.Body.{Body}
 use Rattle.mega_wire.specs.declared.message.Body.TheVariants.{Where, Top, Accept, Accepted, Refused, Prepare, Promise, Invalidate, Invalidated, Dead, Held, Unheld, Decide, Fetch, Have, HaveNot, Acquire, Granted, Past, Request as Requested, Reply}
 use Rattle.mega_wire.specs.Messages.{IsBody, greatest_from, kind_of, least_from}
-use Rattle.mega_outcome.specs.declared.request.Request.{Request}
-use Rattle.mega_schedule.specs.declared.world_event.WorldEvent.TheVariants.{Deliver, Begin as BeginEvent, Tick as TickEvent}
 use Rattle.mega_transcript.specs.declared.item.Item.{Item}
-use Rattle.mega_transcript.specs.declared.item.Item.TheVariants.{Begin as BeginItem, Taken, Tick as TickItem}
+use Rattle.mega_transcript.specs.declared.item.Item.TheVariants.{Begin as BeginItem, Crash, Taken, Tick as TickItem}
 use Rattle.mega_transcript.specs.Lines.{HasLine}
 use Rattle.mega_transcript.specs.Tape.{newest, onto, sent_count}
-use Rattle.mega_transcript.proofs.Tapes.{onto-append}
-use Rattle.mega_rules.specs.Logs.{log_of}
+use Rattle.mega_transcript.proofs.Tapes.{newest-append, onto-append}
 use Rattle.mega_rules.specs.Members.{is_node}
-use Rattle.mega_rules.specs.Met.{Begins, Ticks}
+use Rattle.mega_rules.specs.Met.{Begins, Crashes, Met, Ticks}
 use Rattle.mega_rules.specs.Operations.{Node as RuleNode, Setting}
-use Rattle.mega_rules.specs.Steps.{Begin, Step as RuleStep, Take, op_of, onto as met_onto, step, Tick}
-use Rattle.mega_node_laws.specs.Acted.{acted_on, decision_in}
-use Rattle.mega_node_laws.specs.Own.{HasOwnRows}
-use Rattle.mega_format_laws.specs.Nodes.{IsStep}
-use Rattle.mega_member_laws.specs.Nodes.{StepWithin}
-use Rattle.mega_promises.specs.Items.{numbered, shown, number}
+use Rattle.mega_rules.specs.Steps.{Begin, Event, Step as RuleStep, Take, Tick, crashed, op_of, onto as met_onto, step}
+use Rattle.mega_format_laws.specs.Histories.{IsItem, IsMet}
+use Rattle.mega_format_laws.specs.Nodes.{IsEvent, IsNode, IsStep}
+use Rattle.mega_member_laws.specs.Nodes.{EventWithin, ItemWithin, MetWithin, StaysWithin, StepWithin}
+use Rattle.mega_promises.specs.Items.{number, numbered, shown}
 use Rattle.mega_promises.specs.Messages.{is_unsafe, message_of}
-use Rattle.mega_promises.specs.Runs.{Cuts, Standing, after_event, has_lapsed, set_at, setting, whole_step, with_items}
-use Rattle.mega_world.specs.declared.mail.Mail.{Mail}
-use Rattle.mega_world.specs.Carries.{Carries}
-use Rattle.mega_world.specs.Plain.{HasNoFuses}
-use Rattle.mega_world.proofs.Carrying.{shown_on}
-use Rattle.mega_world.proofs.Events.{begins, delivers, step_shows}
+use Rattle.mega_promises.specs.Runs.{Standing, at_node, by_fuse, has_lapsed, is_kept, left_by, met_in, owes, replies_in, set_at, setting, whole_step, with_items}
 use Rattle.mega_core.specs.declared.step.Step.{Step}
 use Rattle.mega_core.specs.Notes.{met_of}
-use Rattle.mega_core.specs.Placed.{IsPlaced}
+use Rattle.mega_world.specs.declared.mail.Mail.{Mail}
 use Rattle.mega_world.specs.declared.safety.Safety.{Safety}
+use Rattle.mega_world.specs.declared.stepping.Stepped.{Stepped}
+use Rattle.mega_world.specs.declared.stepping.Stepped.TheVariants as stepped
 use Rattle.mega_world.specs.declared.world.World.{World}
-use Rattle.mega_world.specs.Formed.{IsFormed, IsSound}
+use Rattle.mega_world.specs.Carries.{Carries}
+use Rattle.mega_world.specs.Formed.{IsFormed}
+use Rattle.mega_world.specs.Kept.{AreNodes}
 use Rattle.mega_world.specs.Lapses.{KnowsLeases}
-use Rattle.mega_world.specs.Members.{AreMembers, Makes}
-use Rattle.mega_world.specs.Showing.{IsShown, IsStepped}
+use Rattle.mega_world.specs.Showing.{IsShown, IsStepped, LinesStep, ShowsCrash, ShowsStep}
 use Rattle.mega_world.specs.Shown.{notes_shown}
 use Rattle.mega_world.specs.Stands.{IsAt}
-use Rattle.mega_world.proofs.Forming.{formed_on, made_formed}
+use Rattle.mega_world.specs.Stepping.{Comes, Falls, Makes, cut_off}
+use Rattle.mega_world.specs.Within.{RunsWithin}
+use Rattle.mega_world.proofs.Carrying.{shown_on}
+use Rattle.mega_world.proofs.Events.{step_shows}
+use Rattle.mega_world.proofs.Fates.{cut_tape, step_cut, step_whole}
+use Rattle.mega_world.proofs.Forming.{formed_on, is_member, made_formed}
 use Rattle.mega_world.proofs.Lapsing.{step_lapsed}
 use Rattle.mega_world.proofs.Lining.{notes_lines, sent_lines}
-use Rattle.mega_world.proofs.Owning.{owned_by_step}
-use Rattle.mega_world.proofs.Placing.{placed}
-use Rattle.mega_world.proofs.Plain.{steps_whole, still_unfused, with_append, with_sent}
+use Rattle.mega_world.proofs.Owed.{if_kept, owes_formed, owes_within}
+use Rattle.mega_world.proofs.Plain.{with_append, with_sent}
 use Rattle.mega_world.proofs.Within.{made_within, within_on}
 
 -- an event's own items: they are no messages', show nothing of leases, and have lines
@@ -86,6 +84,7 @@ begun_own c s node me text = record {
 -- a world one of whose nodes stepped, with the event's own items on the tape
 pub record IsReady (now : Standing) (own : List Item) (old mid : World) (items here : List Item) : Type 0 where
   pub added : here ≡ items ++ own
+  pub cluster : mid.cluster ≡ old.cluster
   pub carries : Carries mid.mail (onto own now.tape)
   pub safety : mid.safety ≡ old.safety
 
@@ -110,11 +109,11 @@ shown_tape c now me own here after made ruled is tape notes sends shows =
     next = set_at now.node me ruled.node
 
 -- before the step is shown
-stepped : (c : Cluster) (now : Standing) (me : ℕ) (own : List Item) (ruled : RuleStep) (old mid : World) (items here : List Item) (made : Step) → IsAt c old items now → AreOwn c own
+stepped_is : (c : Cluster) (now : Standing) (me : ℕ) (own : List Item) (ruled : RuleStep) (old mid : World) (items here : List Item) (made : Step) → IsAt c old items now → AreOwn c own
     → ((node : ℕ) (epoch : Epoch) → has_lapsed ruled.node.met node epoch ≡ has_lapsed (met_onto ruled.notes (now.node me).met) node epoch)
-    → Makes c mid.places.items now.node me made ruled → IsReady now own old mid items here → IsStepped c mid me made.notes now.node (set_at now.node me ruled.node) (newest here)
-stepped c now me own ruled old mid items here made r is lapses makes ready = record {
-  nodes = makes.members;
+    → Makes c now me ruled mid.places.items made → IsReady now own old mid items here → IsStepped c mid me made.notes now.node (set_at now.node me ruled.node) (newest here)
+stepped_is c now me own ruled old mid items here made r is lapses makes ready = record {
+  nodes = (makes.nodes own).members;
   lapsed = λ cell node epoch. by (me == cell) cell node epoch;
   leases = subst (KnowsLeases mid.safety now.node) (sym (here_tape now own items here r.tape ready.added))
       (subst (λ (s : Safety). KnowsLeases s now.node (onto own now.tape)) (sym ready.safety) (record { lapses = r.leases.lapses; told = r.leases.told ∙ sym (is.safe now.tape) }));
@@ -125,88 +124,140 @@ stepped c now me own ruled old mid items here made r is lapses makes ready = rec
     by true cell node epoch = lapses node epoch ∙ ap (λ notes. has_lapsed (met_onto notes (now.node me).met) node epoch) (sym makes.notes)
     by false cell node epoch = refl
 
--- a world that showed a step
-pub shown_at : (c : Cluster) (now : Standing) (me : ℕ) (own : List Item) (ruled : RuleStep) (old mid new : World) (items here after : List Item) (made : Step)
-    → IsAt c old items now → AreOwn c own → IsStep ruled → StepWithin c ruled
-    → ((node : ℕ) (epoch : Epoch) → has_lapsed ruled.node.met node epoch ≡ has_lapsed (met_onto ruled.notes (now.node me).met) node epoch)
-    → Makes c mid.places.items now.node me made ruled → IsReady now own old mid items here
-    → (IsStepped c mid me made.notes now.node (set_at now.node me ruled.node) (newest here) → IsShown c mid new me made (set_at now.node me ruled.node) here after)
-    → IsAt c new after (whole_step c now me own ruled)
-shown_at c now me own ruled old mid new items here after made r is formed within lapses makes ready show = record {
-  nodes = subst (λ ps. AreMembers c ps.items (set_at now.node me ruled.node)) (sym shows.places) makes.members;
+-- an event of a node: its step and its own item are of the format, and stay within the cluster
+pub record IsFit (c : Cluster) (h : Meanings) (now : Standing) (me : ℕ) (event : Event) : Type 0 where
+  pub there : is_node c me ≡ true
+  pub asked : IsEvent event
+  pub taken : EventWithin c event
+  pub formed : IsStep (step (setting c h me) (now.node me) event)
+  pub within : StepWithin c (step (setting c h me) (now.node me) event)
+
+-- a world that showed a step that is whole
+shown_at : (c : Cluster) (h : Meanings) (now : Standing) (me : ℕ) (own : List Item) (event : Event) (old mid new : World) (items here after : List Item) (made : Step)
+    → IsAt c old items now → AreOwn c own → IsFit c h now me event → Makes c now me (step (setting c h me) (now.node me) event) mid.places.items made → IsReady now own old mid items here
+    → ((was ruled : ℕ → RuleNode) → IsStepped c mid me made.notes was ruled (newest here) → IsShown c mid new me made ruled here after)
+    → IsAt c new after (whole_step c now me own (step (setting c h me) (now.node me) event))
+shown_at c h now me own event old mid new items here after made r is fit makes ready show = record {
+  cluster = shows.cluster ∙ ready.cluster ∙ r.cluster;
+  served = r.served;
+  nodes = subst (λ ps. AreNodes c ps.items (whole_step c now me own ruled)) (sym shows.places) (makes.nodes own);
   mail = subst (Carries new.mail) tape shows.carries;
-  unfused = still_unfused c now me own ruled r.unfused;
   tape = tape;
   leases = subst (KnowsLeases new.safety (set_at now.node me ruled.node)) tape shows.leases;
-  formed = formed_on c now me own ruled r.formed formed (is.messages now.tape) (step_shows c now me own ruled is.plain);
-  within = within_on c now me own ruled r.within within (is.messages now.tape) (step_shows c now me own ruled is.plain);
+  formed = formed_on c now me own ruled r.formed fit.formed (is.messages now.tape) (step_shows c now me own ruled is.plain);
+  within = within_on c now me own ruled r.within fit.within (is.messages now.tape) (step_shows c now me own ruled is.plain);
 }
   where
+    ruled : RuleStep
+    ruled = step (setting c h me) (now.node me) event
+
     shows : IsShown c mid new me made (set_at now.node me ruled.node) here after
-    shows = show (stepped c now me own ruled old mid items here made r is lapses makes ready)
+    shows = show now.node (set_at now.node me ruled.node) (stepped_is c now me own ruled old mid items here made r is (step_lapsed (setting c h me) (now.node me) event) makes ready)
 
     tape : newest after ≡ (whole_step c now me own ruled).tape
     tape = shown_tape c now me own here after made ruled is (here_tape now own items here r.tape ready.added) makes.notes makes.sends shows.tape
 
--- what it shows has lines
-pub shown_lined : (c : Cluster) (now : Standing) (me : ℕ) (own : List Item) (ruled : RuleStep) (old mid : World) (items here after : List Item) (made : Step) → AreOwn c own → IsStep ruled → map met_of made.notes ≡ ruled.notes → made.sends ≡ ruled.sends
-    → IsReady now own old mid items here
-    → ((before : List Item) → Carries mid.mail before → All HasLine here → All HasLine (notes_shown me made.notes) → All HasLine (numbered (sent_count before + 1) made.sends) → All HasLine after)
-    → All HasLine items → All HasLine after
-shown_lined c now me own ruled old mid items here after made is formed notes sends ready lines lined =
+-- a step that was cut off
+own_formed : (c : Cluster) (h : Meanings) (me : ℕ) (met : List Met) (event : Event) → IsEvent event → IsItem (met_in (setting c h me) met event)
+own_formed c h me met (Tick clock) asked = asked
+own_formed c h me met (Take message) asked = asked
+own_formed c h me met (Begin request text) asked = tt
+
+own_within : (c : Cluster) (h : Meanings) (me : ℕ) (met : List Met) (event : Event) → EventWithin c event → ItemWithin c (met_in (setting c h me) met event)
+own_within c h me met (Tick clock) taken = tt
+own_within c h me met (Take message) taken = taken
+own_within c h me met (Begin request text) taken = tt
+
+own_lapses : (c : Cluster) (h : Meanings) (me : ℕ) (met : List Met) (event : Event) (node : ℕ) (epoch : Epoch) → has_lapsed (Crashes ∷ met_in (setting c h me) met event ∷ met) node epoch ≡ has_lapsed met node epoch
+own_lapses c h me met (Tick clock) node epoch = refl
+own_lapses c h me met (Take message) node epoch = refl
+own_lapses c h me met (Begin request text) node epoch = refl
+
+crashed_at : (c : Cluster) (h : Meanings) (now : Standing) (me : ℕ) (own : List Item) (event : Event) (old mid new : World) (items here after : List Item)
+    → IsAt c old items now → AreOwn c own → IsFit c h now me event → Falls c h now me event mid.places.items → IsReady now own old mid items here → ShowsCrash mid new me here after
+    → IsAt c new after (cut_off c h now me own event)
+crashed_at c h now me own event old mid new items here after r is fit falls ready shows = record {
+  cluster = ap (λ (w : World). w.cluster) shows.world ∙ ready.cluster ∙ r.cluster;
+  served = r.served;
+  nodes = subst (λ (w : World). AreNodes c w.places.items (cut_off c h now me own event)) (sym shows.world) (falls.nodes own);
+  mail = subst (λ (w : World). Carries w.mail (cut_off c h now me own event).tape) (sym shows.world) (subst (Carries mid.mail) (sym tape) (shown_on mid.mail me Crashes (onto own now.tape) ready.carries));
+  tape = ap newest shows.tape ∙ newest-append here (Crash (number me)) ∙ ap (λ t. Crash (number me) ∷ t) (here_tape now own items here r.tape ready.added) ∙ sym tape;
+  leases = subst (λ (w : World). KnowsLeases w.safety next_nodes (cut_off c h now me own event).tape) (sym shows.world)
+      (subst (λ (s : Safety). KnowsLeases s next_nodes (cut_off c h now me own event).tape) (sym ready.safety) (record {
+        lapses = record { each = λ cell node epoch. r.leases.lapses.each cell node epoch ∙ lapsed cell node epoch (me == cell) refl };
+        told = r.leases.told ∙ sym (is.safe now.tape) ∙ sym (ap is_unsafe tape);
+      }));
+  formed = record {
+    cluster = r.formed.cluster;
+    lease = r.formed.lease;
+    nodes = λ other. node_by other (me == other);
+    owed = λ other. owed_by other (me == other);
+    messages = λ n message sent. r.formed.messages n message (sym (is.messages now.tape n) ∙ sym (ap (λ t. message_of t n) tape) ∙ sent);
+  };
+  within = record {
+    cells = r.within.cells;
+    nodes = λ other. stays_by other (me == other);
+    owed = λ other. owing_by other (me == other);
+    messages = λ n message sent. r.within.messages n message (sym (is.messages now.tape n) ∙ sym (ap (λ t. message_of t n) tape) ∙ sent);
+  };
+}
+  where
+    next : RuleNode
+    next = crashed (record { met = met_in (setting c h me) (now.node me).met event ∷ (now.node me).met; open_operations = []; stored = (now.node me).stored })
+
+    next_nodes : ℕ → RuleNode
+    next_nodes = set_at now.node me next
+
+    owing : List Met
+    owing = owes (step (setting c h me) (now.node me) event) (replies_in c me (now.node me).met event)
+
+    tape : (cut_off c h now me own event).tape ≡ Crash (number me) ∷ onto own now.tape
+    tape = cut_tape c h now me own event is.plain
+
+    lapsed : (cell other : ℕ) (epoch : Epoch) (t : Bool) → (me == cell) ≡ t → has_lapsed (now.node cell).met other epoch ≡ has_lapsed (cond t next (now.node cell)).met other epoch
+    lapsed cell other epoch true same = let e : me ≡ cell = grind (arith, nat_tests) in ap (λ k. has_lapsed (now.node k).met other epoch) (sym e) ∙ sym (own_lapses c h me (now.node me).met event other epoch)
+    lapsed cell other epoch false apart = refl
+
+    node_by : (other : ℕ) (t : Bool) → IsNode (cond t next (now.node other))
+    node_by other true = record { met = (tt, (own_formed c h me (now.node me).met event fit.asked, (r.formed.nodes me).met)); open_operations = tt }
+    node_by other false = r.formed.nodes other
+
+    owed_by : (other : ℕ) (t : Bool) → IsMet (cond t (cond (is_kept (left_by (now.log_fuse me))) owing []) (now.owed other))
+    owed_by other true =
+        if_kept IsMet (is_kept (left_by (now.log_fuse me))) owing
+        (owes_formed c me (now.node me).met event (step (setting c h me) (now.node me) event) (is_member c me r.formed.cluster fit.there) (r.formed.nodes me).met fit.asked fit.formed) tt
+    owed_by other false = r.formed.owed other
+
+    stays_by : (other : ℕ) (t : Bool) → StaysWithin c (cond t next (now.node other))
+    stays_by other true = record { met = (tt, (own_within c h me (now.node me).met event fit.taken, (r.within.nodes me).met)); open_operations = tt }
+    stays_by other false = r.within.nodes other
+
+    owing_by : (other : ℕ) (t : Bool) → MetWithin c (cond t (cond (is_kept (left_by (now.log_fuse me))) owing []) (now.owed other))
+    owing_by other true =
+        if_kept (MetWithin c) (is_kept (left_by (now.log_fuse me))) owing
+        (owes_within c me (now.node me).met event (step (setting c h me) (now.node me) event) fit.there (r.within.nodes me).met fit.taken fit.within) tt
+    owing_by other false = r.within.owed other
+
+-- ---- so a world stands after an event of a node, whatever its fuse made of the step
+pub came_at : (c : Cluster) (h : Meanings) (now : Standing) (me : ℕ) (own : List Item) (event : Event) (old mid new : World) (items here after : List Item) (made : Stepped)
+    → IsAt c old items now → AreOwn c own → IsFit c h now me event → Comes c h now me event mid.places.items made → IsReady now own old mid items here → ShowsStep c mid new me made here after
+    → IsAt c new after (at_node c h now me own event (by_fuse now me))
+came_at c h now me own event old mid new items here after (stepped.Made made) r is fit comes ready shows =
+    subst (IsAt c new after) (sym (step_whole c h now me own event comes.long)) (shown_at c h now me own event old mid new items here after made r is fit comes ready shows)
+came_at c h now me own event old mid new items here after stepped.Cut r is fit comes ready shows =
+    subst (IsAt c new after) (sym (step_cut c h now me own event comes.short)) (crashed_at c h now me own event old mid new items here after r is fit comes ready shows)
+
+-- and what it shows has lines
+pub came_lined : (c : Cluster) (h : Meanings) (now : Standing) (me : ℕ) (own : List Item) (event : Event) (old mid : World) (items here after : List Item) (made : Stepped)
+    → AreOwn c own → IsFit c h now me event → Comes c h now me event mid.places.items made → IsReady now own old mid items here → LinesStep mid me made here after → All HasLine items → All HasLine after
+came_lined c h now me own event old mid items here after (stepped.Made made) is fit comes ready lines lined =
     lines (onto own now.tape) ready.carries (subst (All HasLine) (sym ready.added) (All-append HasLine items own lined is.lines))
-    (subst (λ ns. All HasLine (flat_map (shown me) ns)) (sym notes) (notes_lines me ruled.notes formed.notes))
-    (subst (λ ms. All HasLine (numbered (sent_count (onto own now.tape) + 1) ms)) (sym sends) (sent_lines (sent_count (onto own now.tape) + 1) ruled.sends formed.sends))
+    (subst (λ ns. All HasLine (flat_map (shown me) ns)) (sym comes.notes) (notes_lines me (step (setting c h me) (now.node me) event).notes fit.formed.notes))
+    (subst (λ ms. All HasLine (numbered (sent_count (onto own now.tape) + 1) ms)) (sym comes.sends) (sent_lines (sent_count (onto own now.tape) + 1) (step (setting c h me) (now.node me) event).sends fit.formed.sends))
+came_lined c h now me own event old mid items here after stepped.Cut is fit comes ready lines lined =
+    lines (subst (All HasLine) (sym ready.added) (All-append HasLine items own lined is.lines))
 
 -- ---- a delivery
-
--- what is made by a step is what stands at its node then
-own_here : (c : Cluster) (now : Standing) (me : ℕ) (own : List Item) (ruled : RuleStep) → HasOwnRows c.schema (log_of ((whole_step c now me own ruled).node me).met) → HasOwnRows c.schema (log_of ruled.node.met)
-own_here c now me own ruled owned =
-    let same : (me == me) ≡ true = grind (arith, nat_tests) in subst (λ (b : Bool). HasOwnRows c.schema (log_of (cond b ruled.node (now.node me)).met)) same owned
-
-pub taken_owned : (c : Cluster) (h : Meanings) (cuts : Cuts) (world : World) (items : List Item) (now : Standing) (number : ℕ) (message : Message) → IsAt c world items now → IsSound c h cuts now (Deliver number)
-    → message_of now.tape number ≡ Some message → HasOwnRows c.schema (log_of (acted_on (setting c h message.to) (now.node message.to) (Take message)))
-taken_owned c h cuts world items now number message r sound is =
-    owned_by_step c.schema (setting c h message.to) (now.node message.to) (Take message)
-    (own_here c now message.to (Taken number ∷ []) (step (setting c h message.to) (now.node message.to) (Take message))
-    (subst (λ (after : Standing). HasOwnRows c.schema (log_of (after.node message.to).met)) (delivers c h cuts now number message r.unfused is) (sound.own message.to)))
-
-pub taken_formed : (c : Cluster) (h : Meanings) (cuts : Cuts) (world : World) (items : List Item) (now : Standing) (number : ℕ) (message : Message) → IsAt c world items now → IsSound c h cuts now (Deliver number)
-    → message_of now.tape number ≡ Some message → is_node c message.to ≡ true → IsStep (step (setting c h message.to) (now.node message.to) (Take message))
-taken_formed c h cuts world items now number message r sound is there =
-    made_formed c h now message.to (Take message) r.formed sound.handlers there (r.formed.messages number message is)
-
-pub taken_placed : (c : Cluster) (h : Meanings) (cuts : Cuts) (world : World) (items : List Item) (now : Standing) (number : ℕ) (message : Message) → IsAt c world items now → IsSound c h cuts now (Deliver number)
-    → message_of now.tape number ≡ Some message → is_node c message.to ≡ true → IsPlaced (decision_in (setting c h message.to) (now.node message.to) message)
-taken_placed c h cuts world items now number message r sound is there =
-    placed (setting c h message.to) (now.node message.to) message (taken_formed c h cuts world items now number message r sound is there).notes
-
-pub delivered_at : (c : Cluster) (h : Meanings) (cuts : Cuts) (now : Standing) (number : ℕ) (message : Message) (old mid new : World) (items here after : List Item) (made : Step)
-    → IsAt c old items now → IsSound c h cuts now (Deliver number) → message_of now.tape number ≡ Some message → is_node c message.to ≡ true
-    → Makes c mid.places.items now.node message.to made (step (setting c h message.to) (now.node message.to) (Take message)) → IsReady now (Taken number ∷ []) old mid items here
-    → ((was ruled : ℕ → RuleNode) → IsStepped c mid message.to made.notes was ruled (newest here) → IsShown c mid new message.to made ruled here after)
-    → IsAt c new after (after_event c h cuts now (Deliver number))
-delivered_at c h cuts now number message old mid new items here after made r sound is there makes ready show =
-    subst (IsAt c new after) (sym (delivers c h cuts now number message r.unfused is))
-    (shown_at c now message.to (Taken number ∷ []) made_step old mid new items here after made r (taken_own c number)
-    (taken_formed c h cuts old items now number message r sound is there) (made_within c h now message.to (Take message) r.within there (r.within.messages number message is))
-    (step_lapsed (setting c h message.to) (now.node message.to) (Take message)) makes ready
-    (show now.node (set_at now.node message.to made_step.node)))
-  where
-    made_step : RuleStep
-    made_step = step (setting c h message.to) (now.node message.to) (Take message)
-
-pub delivered_lined : (c : Cluster) (h : Meanings) (cuts : Cuts) (now : Standing) (number : ℕ) (message : Message) (old mid : World) (items here after : List Item) (made : Step)
-    → IsAt c old items now → IsSound c h cuts now (Deliver number) → message_of now.tape number ≡ Some message → is_node c message.to ≡ true
-    → Makes c mid.places.items now.node message.to made (step (setting c h message.to) (now.node message.to) (Take message)) → IsReady now (Taken number ∷ []) old mid items here
-    → ((before : List Item) → Carries mid.mail before → All HasLine here → All HasLine (notes_shown message.to made.notes) → All HasLine (numbered (sent_count before + 1) made.sends) → All HasLine after)
-    → All HasLine items → All HasLine after
-delivered_lined c h cuts now number message old mid items here after made r sound is there makes ready lines lined =
-    shown_lined c now message.to (Taken number ∷ []) (step (setting c h message.to) (now.node message.to) (Take message)) old mid items here after made (taken_own c number)
-    (taken_formed c h cuts old items now number message r sound is there) makes.notes makes.sends ready lines lined
-
--- no message of the format is a stranger's
 no_stranger : (from : ℕ) (body : Body) → IsBetween (least_from (kind_of body)) (greatest_from (kind_of body)) from → IsBody body → IsByStranger from body → ⊥
 no_stranger from (Acquire cell epoch clock) from_is body_is (inl low) = let least : 1 ≤ from = from_is.0 in omega (arith, least, low)
 no_stranger from (Acquire cell epoch clock) from_is body_is (inr high) = let most : from ≤ 9 = from_is.1 in omega (arith, most, high)
@@ -261,67 +312,11 @@ pub delivery_built : (c : Cluster) (now : Standing) (number : ℕ) (message : Me
 delivery_built c now number message formed is (inl stranger) = let m = formed.messages number message is in no_stranger message.from message.body m.from m.body stranger
 delivery_built c now number message formed is (inr late) = let m = formed.messages number message is in not_late c message.body formed.lease m.body late
 
--- ---- a beginning
-
+-- ---- where a node is one of the cluster
 pub is_there : (c : Cluster) (world : World) (items : List Item) (now : Standing) (me : ℕ) → IsAt c world items now → 1 ≤ me → me ≤ length world.places.items → is_node c me ≡ true
-is_there c world items now me r least most = let count = r.nodes.count in grind (arith, nat_tests)
+is_there c world items now me r least most = let count = r.nodes.members.count in grind (arith, nat_tests)
 
-pub begun_owned : (c : Cluster) (h : Meanings) (cuts : Cuts) (world : World) (items : List Item) (now : Standing) (node : NodeId) (request : Request) (text : List ℕ) → IsAt c world items now
-    → IsSound c h cuts now (BeginEvent node request text) → HasOwnRows c.schema (log_of (acted_on (setting c h node.0) (now.node node.0) (Begin request text)))
-begun_owned c h cuts world items now node request text r sound =
-    owned_by_step c.schema (setting c h node.0) (now.node node.0) (Begin request text)
-    (own_here c now node.0 (shown node.0 (Begins (op_of (setting c h node.0) (now.node node.0).met) text)) (step (setting c h node.0) (now.node node.0) (Begin request text))
-    (subst (λ (after : Standing). HasOwnRows c.schema (log_of (after.node node.0).met)) (begins c h cuts now node request text r.unfused) (sound.own node.0)))
-
-begun_formed : (c : Cluster) (h : Meanings) (cuts : Cuts) (world : World) (items : List Item) (now : Standing) (node : NodeId) (request : Request) (text : List ℕ) → IsAt c world items now
-    → IsSound c h cuts now (BeginEvent node request text) → is_node c node.0 ≡ true → IsStep (step (setting c h node.0) (now.node node.0) (Begin request text))
-begun_formed c h cuts world items now node request text r sound there = made_formed c h now node.0 (Begin request text) r.formed sound.handlers there sound.asked
-
--- what is carried tells the item of the beginning too
-begun_ready : (c : Cluster) (h : Meanings) (cuts : Cuts) (now : Standing) (node : NodeId) (text : List ℕ) (op : OpId) (old mid : World) (items here : List Item) → Carries old.mail now.tape
-    → op ≡ op_of (setting c h node.0) (now.node node.0).met → here ≡ items ++ BeginItem op text ∷ [] → mid.mail ≡ old.mail → mid.safety ≡ old.safety
-    → IsReady now (shown node.0 (Begins (op_of (setting c h node.0) (now.node node.0).met) text)) old mid items here
-begun_ready c h cuts now node text op old mid items here carries named is mail safety = record {
-  added = is ∙ ap (λ (one : OpId). items ++ BeginItem one text ∷ []) named;
-  carries = subst (λ (m : Mail). Carries m (BeginItem (op_of (setting c h node.0) (now.node node.0).met) text ∷ now.tape)) (sym mail)
-      (shown_on old.mail 0 (Begins (op_of (setting c h node.0) (now.node node.0).met) text) now.tape carries);
-  safety = safety;
-}
-
-pub begun_at : (c : Cluster) (h : Meanings) (cuts : Cuts) (now : Standing) (node : NodeId) (request : Request) (text : List ℕ) (op : OpId) (old mid new : World) (items here after : List Item) (made : Step)
-    → IsAt c old items now → IsSound c h cuts now (BeginEvent node request text) → is_node c node.0 ≡ true → op ≡ op_of (setting c h node.0) (now.node node.0).met
-    → Makes c mid.places.items now.node node.0 made (step (setting c h node.0) (now.node node.0) (Begin request text))
-    → here ≡ items ++ BeginItem op text ∷ [] → mid.mail ≡ old.mail → mid.safety ≡ old.safety
-    → ((was ruled : ℕ → RuleNode) → IsStepped c mid node.0 made.notes was ruled (newest here) → IsShown c mid new node.0 made ruled here after) → IsAt c new after (after_event c h cuts now (BeginEvent node request text))
-begun_at c h cuts now node request text op old mid new items here after made r sound there named makes is mail safety show =
-    subst (IsAt c new after) (sym (begins c h cuts now node request text r.unfused))
-    (shown_at c now node.0 (shown node.0 (Begins (op_of (setting c h node.0) (now.node node.0).met) text)) made_step old mid new items here after made r
-    (begun_own c (setting c h node.0) (now.node node.0) node.0 text) (begun_formed c h cuts old items now node request text r sound there)
-    (made_within c h now node.0 (Begin request text) r.within there tt)
-    (step_lapsed (setting c h node.0) (now.node node.0) (Begin request text)) makes (begun_ready c h cuts now node text op old mid items here r.mail named is mail safety)
-    (show now.node (set_at now.node node.0 made_step.node)))
-  where
-    made_step : RuleStep
-    made_step = step (setting c h node.0) (now.node node.0) (Begin request text)
-
-pub begun_lined : (c : Cluster) (h : Meanings) (cuts : Cuts) (now : Standing) (node : NodeId) (request : Request) (text : List ℕ) (op : OpId) (old mid : World) (items here after : List Item) (made : Step)
-    → IsAt c old items now → IsSound c h cuts now (BeginEvent node request text) → is_node c node.0 ≡ true → op ≡ op_of (setting c h node.0) (now.node node.0).met
-    → Makes c mid.places.items now.node node.0 made (step (setting c h node.0) (now.node node.0) (Begin request text))
-    → here ≡ items ++ BeginItem op text ∷ [] → mid.mail ≡ old.mail → mid.safety ≡ old.safety
-    → ((before : List Item) → Carries mid.mail before → All HasLine here → All HasLine (notes_shown node.0 made.notes) → All HasLine (numbered (sent_count before + 1) made.sends) → All HasLine after)
-    → All HasLine items → All HasLine after
-begun_lined c h cuts now node request text op old mid items here after made r sound there named makes is mail safety lines lined =
-    shown_lined c now node.0 (shown node.0 (Begins (op_of (setting c h node.0) (now.node node.0).met) text)) (step (setting c h node.0) (now.node node.0) (Begin request text)) old mid items here after made
-    (begun_own c (setting c h node.0) (now.node node.0) node.0 text) (begun_formed c h cuts old items now node request text r sound there) makes.notes makes.sends
-    (begun_ready c h cuts now node text op old mid items here r.mail named is mail safety) lines lined
-
--- ---- a tick
-
-pub ticks : (c : Cluster) (h : Meanings) (cuts : Cuts) (now : Standing) (node : NodeId) (clock : ℕ) → HasNoFuses now
-    → after_event c h cuts now (TickEvent node clock) ≡ whole_step c now node.0 (TickItem (number node.0) clock ∷ []) (step (setting c h node.0) (now.node node.0) (Tick clock))
-ticks c h cuts now node clock none = steps_whole c h now node.0 (TickItem (number node.0) clock ∷ []) (Tick clock) (cuts now node.0) none
-
-ticked_own : (c : Cluster) (me clock : ℕ) → AreOwn c (TickItem (number me) clock ∷ [])
+pub ticked_own : (c : Cluster) (me clock : ℕ) → AreOwn c (TickItem (number me) clock ∷ [])
 ticked_own c me clock = record {
   plain = λ node t. refl;
   silent = λ t. refl;
@@ -329,45 +324,3 @@ ticked_own c me clock = record {
   messages = λ t n. refl;
   lines = All-cons HasLine (TickItem (number me) clock) [] tt (All-nil HasLine);
 }
-
-pub ticked_owned : (c : Cluster) (h : Meanings) (cuts : Cuts) (world : World) (items : List Item) (now : Standing) (node : NodeId) (clock : ℕ) → IsAt c world items now → IsSound c h cuts now (TickEvent node clock)
-    → HasOwnRows c.schema (log_of (acted_on (setting c h node.0) (now.node node.0) (Tick clock)))
-ticked_owned c h cuts world items now node clock r sound =
-    owned_by_step c.schema (setting c h node.0) (now.node node.0) (Tick clock)
-    (own_here c now node.0 (TickItem (number node.0) clock ∷ []) (step (setting c h node.0) (now.node node.0) (Tick clock))
-    (subst (λ (after : Standing). HasOwnRows c.schema (log_of (after.node node.0).met)) (ticks c h cuts now node clock r.unfused) (sound.own node.0)))
-
-ticked_formed : (c : Cluster) (h : Meanings) (cuts : Cuts) (world : World) (items : List Item) (now : Standing) (node : NodeId) (clock : ℕ) → IsAt c world items now → IsSound c h cuts now (TickEvent node clock)
-    → is_node c node.0 ≡ true → IsStep (step (setting c h node.0) (now.node node.0) (Tick clock))
-ticked_formed c h cuts world items now node clock r sound there = made_formed c h now node.0 (Tick clock) r.formed sound.handlers there sound.asked
-
-ticked_ready : (now : Standing) (me clock : ℕ) (old mid : World) (items here : List Item) → Carries old.mail now.tape → here ≡ items ++ TickItem (number me) clock ∷ [] → mid.mail ≡ old.mail → mid.safety ≡ old.safety
-    → IsReady now (TickItem (number me) clock ∷ []) old mid items here
-ticked_ready now me clock old mid items here carries is mail safety = record {
-  added = is;
-  carries = subst (λ (m : Mail). Carries m (TickItem (number me) clock ∷ now.tape)) (sym mail) (shown_on old.mail me (Ticks clock) now.tape carries);
-  safety = safety;
-}
-
-pub ticked_at : (c : Cluster) (h : Meanings) (cuts : Cuts) (now : Standing) (node : NodeId) (clock : ℕ) (old mid new : World) (items here after : List Item) (made : Step)
-    → IsAt c old items now → IsSound c h cuts now (TickEvent node clock) → is_node c node.0 ≡ true → Makes c mid.places.items now.node node.0 made (step (setting c h node.0) (now.node node.0) (Tick clock))
-    → here ≡ items ++ TickItem (number node.0) clock ∷ [] → mid.mail ≡ old.mail → mid.safety ≡ old.safety
-    → ((was ruled : ℕ → RuleNode) → IsStepped c mid node.0 made.notes was ruled (newest here) → IsShown c mid new node.0 made ruled here after) → IsAt c new after (after_event c h cuts now (TickEvent node clock))
-ticked_at c h cuts now node clock old mid new items here after made r sound there makes is mail safety show =
-    subst (IsAt c new after) (sym (ticks c h cuts now node clock r.unfused))
-    (shown_at c now node.0 (TickItem (number node.0) clock ∷ []) made_step old mid new items here after made r
-    (ticked_own c node.0 clock) (ticked_formed c h cuts old items now node clock r sound there)
-    (made_within c h now node.0 (Tick clock) r.within there tt)
-    (step_lapsed (setting c h node.0) (now.node node.0) (Tick clock)) makes (ticked_ready now node.0 clock old mid items here r.mail is mail safety) (show now.node (set_at now.node node.0 made_step.node)))
-  where
-    made_step : RuleStep
-    made_step = step (setting c h node.0) (now.node node.0) (Tick clock)
-
-pub ticked_lined : (c : Cluster) (h : Meanings) (cuts : Cuts) (now : Standing) (node : NodeId) (clock : ℕ) (old mid : World) (items here after : List Item) (made : Step)
-    → IsAt c old items now → IsSound c h cuts now (TickEvent node clock) → is_node c node.0 ≡ true → Makes c mid.places.items now.node node.0 made (step (setting c h node.0) (now.node node.0) (Tick clock))
-    → here ≡ items ++ TickItem (number node.0) clock ∷ [] → mid.mail ≡ old.mail → mid.safety ≡ old.safety
-    → ((before : List Item) → Carries mid.mail before → All HasLine here → All HasLine (notes_shown node.0 made.notes) → All HasLine (numbered (sent_count before + 1) made.sends) → All HasLine after)
-    → All HasLine items → All HasLine after
-ticked_lined c h cuts now node clock old mid items here after made r sound there makes is mail safety lines lined =
-    shown_lined c now node.0 (TickItem (number node.0) clock ∷ []) (step (setting c h node.0) (now.node node.0) (Tick clock)) old mid items here after made
-    (ticked_own c node.0 clock) (ticked_formed c h cuts old items now node clock r sound there) makes.notes makes.sends (ticked_ready now node.0 clock old mid items here r.mail is mail safety) lines lined

@@ -123,7 +123,7 @@ kept_all lapses met cell all so = subst (λ here. AreLapsesOf lapses (set_at met
 
 -- ---- a step lets just what it notes lapse
 
-lapsed_on : (items old new : List Met) → ((node : ℕ) (epoch : Epoch) → has_lapsed new node epoch ≡ has_lapsed old node epoch) → (node : ℕ) (epoch : Epoch) → has_lapsed (onto items new) node epoch ≡ has_lapsed (onto items old) node epoch
+pub lapsed_on : (items old new : List Met) → ((node : ℕ) (epoch : Epoch) → has_lapsed new node epoch ≡ has_lapsed old node epoch) → (node : ℕ) (epoch : Epoch) → has_lapsed (onto items new) node epoch ≡ has_lapsed (onto items old) node epoch
 lapsed_on [] old new same node epoch = same node epoch
 lapsed_on (one ∷ items) old new same node epoch =
     lapsed_on items (one ∷ old) (one ∷ new) (λ n e. lapsed_more one new n e ∙ ap (λ t. laps one n e || t) (same n e) ∙ sym (lapsed_more one old n e)) node epoch

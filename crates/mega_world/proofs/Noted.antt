@@ -77,8 +77,9 @@ pub shown_whole : (c : Cluster) (old new : World) (me : ℕ) (made : Step) (was 
     → newest noted ≡ with_items c ruled (newest items) (notes_shown me made.notes) → KnowsLeases safety ruled (newest noted)
     → ((before : List Item) → Carries old.mail before → Carries new.mail (onto (numbered (sent_count before + 1) made.sends) before))
     → ((before : List Item) → Carries old.mail before → after ≡ noted ++ numbered (sent_count before + 1) made.sends)
-    → new.places ≡ old.places → new.safety ≡ safety → IsShown c old new me made ruled items after
-shown_whole c old new me made was ruled items noted after safety stepped tape leases carried shows places same = record {
+    → new.cluster ≡ old.cluster → new.places ≡ old.places → new.safety ≡ safety → IsShown c old new me made ruled items after
+shown_whole c old new me made was ruled items noted after safety stepped tape leases carried shows cluster places same = record {
+  cluster = cluster;
   places = places;
   tape = whole ∙ ap (onto sent) tape ∙ sym (with_sent c ruled (sent_count (newest items) + 1) made.sends (with_items c ruled (newest items) (notes_shown me made.notes)))
       ∙ sym (with_append c ruled (notes_shown me made.notes) sent (newest items));

@@ -1,7 +1,7 @@
 -- A node that is up stays so through its steps.
 use Rattle.mega_coordinator.specs.History.{epoch_after}
 use Rattle.mega_locks.specs.History.{lapse_for, nodes}
-use Rattle.std.proofs.Common.{◌≡◌, ℕ, nat_lt, nat_le, ◌&&◌, ◌==◌, Bool, true, false, cond, List, [], ◌∷◌, ◌++◌, map, flat_map, Option, Some, None, refl, fold, filter}
+use Rattle.std.proofs.Common.{◌≡◌, ℕ, nat_lt, nat_le, ◌&&◌, ◌==◌, Bool, true, false, cond, List, [], ◌∷◌, ◌++◌, map, flat_map, Option, Some, None, refl, fold, filter, ◌∙◌}
 use Rattle.std.specs.List.{All}
 use Rattle.std.proofs.lemmas.List.Elements.{All-append, All-cons, All-head, All-nil, All-push, All-tail}
 use Rattle.mega_base.specs.declared.names.Epoch.{Epoch}
@@ -24,7 +24,7 @@ use Rattle.mega_rules.specs.Met.{Met, Starts, Crashes, Ticks, Begins, Takes, Sen
 use Rattle.mega_rules.specs.Operations.{Node, Now, Setting}
 use Rattle.mega_rules.specs.Acting.{validated_by}
 use Rattle.mega_rules.specs.Replies.{reply_to}
-use Rattle.mega_rules.specs.Steps.{Begin, Decision, Heard, Take, all_act, applied_at, apply_note, apply_notes, at_first, at_open, decision_note, first_settled, hears_message, if_new, new_operation, news, onto, op_of, refusal, step, step_of, stored_after, taken, told_decision, told_notes, unless_refused, Tick, background, lapse_notes, lease_notes, portion_of, ticked}
+use Rattle.mega_rules.specs.Steps.{Begin, Decision, Event, Heard, Take, all_act, applied_at, apply_note, apply_notes, at_first, at_open, decision_note, first_settled, hears_message, if_new, new_operation, news, onto, op_of, refusal, step, step_of, stored_after, taken, told_decision, told_notes, unless_refused, Tick, background, lapse_notes, lease_notes, portion_of, ticked}
 use Rattle.mega_node_laws.proofs.Ending.{all_heard, taken_by}
 use Rattle.mega_node_laws.proofs.Lasting.{IsHeard, Lasts, all_act_it, begun_it, all_ticked_it}
 
@@ -37,29 +37,36 @@ is_turning _ = false
 abbrev IsSteady : Met → Type 0
 IsSteady one = is_turning one ≡ false
 
-steady_up : (one : Met) (met : List Met) → IsSteady one → is_up met ≡ true → is_up (one ∷ met) ≡ true
-steady_up (Starts start) met steady was = refl
-steady_up Crashes met steady was = cc
-steady_up (Ticks now) met steady was = was
-steady_up (Begins op text) met steady was = was
-steady_up (Takes message) met steady was = was
-steady_up (Sends message) met steady was = was
-steady_up (Unsends message) met steady was = was
-steady_up (Grants other epoch) met steady was = was
-steady_up (Lapses other epoch) met steady was = was
-steady_up (Counts cell epoch) met steady was = was
-steady_up (Forgets cell epoch) met steady was = was
-steady_up (Serves epoch) met steady was = was
-steady_up (Loses epoch) met steady was = was
-steady_up (Validates group position) met steady was = was
-steady_up (Invalidates group position) met steady was = was
-steady_up (Decides group position entry) met steady was = was
-steady_up (Applies group position) met steady was = was
-steady_up (Answers op answer) met steady was = was
+-- a node that is up stays so, in the same start
+pub record Stays (old new : List Met) : Type 0 where
+  pub up : is_up old ≡ true → is_up new ≡ true
+  pub start : start_of new ≡ start_of old
 
-all_steady_up : (items met : List Met) → All IsSteady items → is_up met ≡ true → is_up (onto items met) ≡ true
-all_steady_up [] met steady was = was
-all_steady_up (one ∷ items) met steady was = all_steady_up items (one ∷ met) (All-tail IsSteady one items steady) (steady_up one met (All-head IsSteady one items steady) was)
+steady_up : (one : Met) (met : List Met) → IsSteady one → Stays met (one ∷ met)
+steady_up (Starts start) met steady = let no : ⊥ = cc in absurd no
+steady_up Crashes met steady = let no : ⊥ = cc in absurd no
+steady_up (Ticks now) met steady = record { up = λ was. was; start = refl }
+steady_up (Begins op text) met steady = record { up = λ was. was; start = refl }
+steady_up (Takes message) met steady = record { up = λ was. was; start = refl }
+steady_up (Sends message) met steady = record { up = λ was. was; start = refl }
+steady_up (Unsends message) met steady = record { up = λ was. was; start = refl }
+steady_up (Grants other epoch) met steady = record { up = λ was. was; start = refl }
+steady_up (Lapses other epoch) met steady = record { up = λ was. was; start = refl }
+steady_up (Counts cell epoch) met steady = record { up = λ was. was; start = refl }
+steady_up (Forgets cell epoch) met steady = record { up = λ was. was; start = refl }
+steady_up (Serves epoch) met steady = record { up = λ was. was; start = refl }
+steady_up (Loses epoch) met steady = record { up = λ was. was; start = refl }
+steady_up (Validates group position) met steady = record { up = λ was. was; start = refl }
+steady_up (Invalidates group position) met steady = record { up = λ was. was; start = refl }
+steady_up (Decides group position entry) met steady = record { up = λ was. was; start = refl }
+steady_up (Applies group position) met steady = record { up = λ was. was; start = refl }
+steady_up (Answers op answer) met steady = record { up = λ was. was; start = refl }
+
+all_steady_up : (items met : List Met) → All IsSteady items → Stays met (onto items met)
+all_steady_up [] met steady = record { up = λ was. was; start = refl }
+all_steady_up (one ∷ items) met steady =
+    let first = steady_up one met (All-head IsSteady one items steady) in
+    let rest = all_steady_up items (one ∷ met) (All-tail IsSteady one items steady) in record { up = λ was. rest.up (first.up was); start = rest.start ∙ first.start }
 
 -- what operations note as they act
 record Quiet (now : Now) : Type 0 where
@@ -154,25 +161,29 @@ sent_steady [] = All-nil IsSteady
 sent_steady (m ∷ sends) = All-cons IsSteady (Sends m) (map Sends sends) refl (sent_steady sends)
 
 -- a step as it ends
+stays_on : (old mid new : List Met) → Stays old mid → Stays mid new → Stays old new
+stays_on old mid new one two = record { up = λ was. two.up (one.up was); start = two.start ∙ one.start }
+
 ends_up : (node : Node) (own : Met) (locks durable applies : List Met) (sends : List Message) (now : Now) → IsSteady own → All IsSteady locks → All IsSteady durable → All IsSteady applies → Quiet now
-    → is_up node.met ≡ true → is_up (step_of node own locks durable applies sends now).node.met ≡ true
-ends_up node own locks durable applies sends now first locked lasting applied quiet was =
-    all_steady_up (map Sends sends) (onto notes (own ∷ node.met)) (sent_steady sends)
+    → Stays node.met (step_of node own locks durable applies sends now).node.met
+ends_up node own locks durable applies sends now first locked lasting applied quiet =
+    stays_on node.met (onto notes (own ∷ node.met)) (onto (map Sends sends) (onto notes (own ∷ node.met)))
+    (stays_on node.met (own ∷ node.met) (onto notes (own ∷ node.met)) (steady_up own node.met first)
     (all_steady_up notes (own ∷ node.met)
     (All-append IsSteady (((locks ++ durable) ++ applies) ++ now.valid) now.answers
     (All-append IsSteady ((locks ++ durable) ++ applies) now.valid
-    (All-append IsSteady (locks ++ durable) applies (All-append IsSteady locks durable locked lasting) applied) quiet.valid) quiet.answers)
-    (steady_up own node.met first was))
+    (All-append IsSteady (locks ++ durable) applies (All-append IsSteady locks durable locked lasting) applied) quiet.valid) quiet.answers)))
+    (all_steady_up (map Sends sends) (onto notes (own ∷ node.met)) (sent_steady sends))
   where
     notes : List Met
     notes = (((locks ++ durable) ++ applies) ++ now.valid) ++ now.answers
 
 taken_up : (s : Setting) (node : Node) (m : Message) (ts : List Heard) (d : Option Decision) (reply told_news : List Message) → All (IsHeard ⊥) ts
-    → is_up node.met ≡ true → is_up (taken s node m (told_notes s node.met m.from m.body) ts d reply told_news).node.met ≡ true
-taken_up s node m ts d reply told_news heard was =
+    → Stays node.met (taken s node m (told_notes s node.met m.from m.body) ts d reply told_news).node.met
+taken_up s node m ts d reply told_news heard =
     ends_up node (Takes m) told (decision_note d) (apply_notes s node.met node.stored now.met now.stored) ((reply ++ told_news) ++ now.sends) now
     refl (told_steady s node.met m.from m.body) (decision_steady d) (apply_notes_steady s node.met node.stored now.met now.stored)
-    (all_act_it Quiet ⊥ quiet_lasts s ts (at_first base (stored_after s base node.stored d)) heard (record { valid = All-nil IsSteady; answers = All-nil IsSteady })) was
+    (all_act_it Quiet ⊥ quiet_lasts s ts (at_first base (stored_after s base node.stored d)) heard (record { valid = All-nil IsSteady; answers = All-nil IsSteady }))
   where
     told : List Met
     told = told_notes s node.met m.from m.body
@@ -183,20 +194,20 @@ taken_up s node m ts d reply told_news heard was =
     now : Now
     now = all_act s (at_first base (stored_after s base node.stored d)) ts
 
-taken_by_up : (s : Setting) (node : Node) (m : Message) (ts : List Heard) (told : Option Decision) → All (IsHeard ⊥) ts → is_up node.met ≡ true → is_up (taken_by s node m ts told).node.met ≡ true
-taken_by_up s node m ts (Some d) heard was = taken_up s node m ts (if_new node.met (Some d)) (reply_to s.cluster s.me node.met m) [] heard was
-taken_by_up s node m ts None heard was =
-    taken_up s node m ts (if_new node.met (first_settled ts)) (reply_to s.cluster s.me node.met m) (news s (if_new node.met (first_settled ts))) heard was
+taken_by_up : (s : Setting) (node : Node) (m : Message) (ts : List Heard) (told : Option Decision) → All (IsHeard ⊥) ts → Stays node.met (taken_by s node m ts told).node.met
+taken_by_up s node m ts (Some d) heard = taken_up s node m ts (if_new node.met (Some d)) (reply_to s.cluster s.me node.met m) [] heard
+taken_by_up s node m ts None heard =
+    taken_up s node m ts (if_new node.met (first_settled ts)) (reply_to s.cluster s.me node.met m) (news s (if_new node.met (first_settled ts))) heard
 
-pub take_up : (s : Setting) (node : Node) (m : Message) → is_up node.met ≡ true → is_up (step s node (Take m)).node.met ≡ true
-take_up s node m was = taken_by_up s node m (map (hears_message s (clock_of node.met) m) node.open_operations) (told_decision m.body) (all_heard s (clock_of node.met) m node.open_operations) was
+take_up : (s : Setting) (node : Node) (m : Message) → Stays node.met (step s node (Take m)).node.met
+take_up s node m = taken_by_up s node m (map (hears_message s (clock_of node.met) m) node.open_operations) (told_decision m.body) (all_heard s (clock_of node.met) m node.open_operations)
 
-pub begin_up : (s : Setting) (node : Node) (request : Request) (text : List ℕ) → is_up node.met ≡ true → is_up (step s node (Begin request text)).node.met ≡ true
-begin_up s node request text was =
+begin_up : (s : Setting) (node : Node) (request : Request) (text : List ℕ) → Stays node.met (step s node (Begin request text)).node.met
+begin_up s node request text =
     ends_up node (Begins (op_of s node.met) text) [] [] (apply_notes s node.met node.stored now.met now.stored) now.sends now
     refl (All-nil IsSteady) (All-nil IsSteady) (apply_notes_steady s node.met node.stored now.met now.stored)
     (begun_it Quiet ⊥ quiet_lasts s (at_open (at_first base node.stored) node.open_operations) (new_operation (op_of s node.met) request (clock_of node.met)) (refusal s node request)
-    (record { valid = All-nil IsSteady; answers = All-nil IsSteady })) was
+    (record { valid = All-nil IsSteady; answers = All-nil IsSteady }))
   where
     base : List Met
     base = Begins (op_of s node.met) text ∷ node.met
@@ -236,15 +247,20 @@ leases_steady s met clock =
     (forget_steady (epoch_after (start_of met) s.cluster.cells (coordinator_calls s.cluster met)) (filter (is_cell_in (tick_told s.cluster met clock).forgot) (cells s.cluster)))
     (lost_steady (tick_told s.cluster met clock).lost))
 
-pub tick_up : (s : Setting) (node : Node) (clock : ℕ) → is_up node.met ≡ true → is_up (step s node (Tick clock)).node.met ≡ true
-tick_up s node clock was =
+tick_up : (s : Setting) (node : Node) (clock : ℕ) → Stays node.met (step s node (Tick clock)).node.met
+tick_up s node clock =
     ends_up node (Ticks clock) (lease_notes s node.met clock) (lapse_notes s node.met clock) (apply_notes s node.met node.stored acc.met acc.stored)
     ((acquires_at s.cluster s.me node.met clock ++ acc.sends) ++ background s node.met clock) acc
     refl (leases_steady s node.met clock) (lapses_steady s node.met clock) (apply_notes_steady s node.met node.stored acc.met acc.stored)
-    (all_ticked_it Quiet ⊥ quiet_lasts s clock node.open_operations (at_first base (portion_of s node.met node.stored)) (λ impossible. absurd impossible) (record { valid = All-nil IsSteady; answers = All-nil IsSteady })) was
+    (all_ticked_it Quiet ⊥ quiet_lasts s clock node.open_operations (at_first base (portion_of s node.met node.stored)) (λ impossible. absurd impossible) (record { valid = All-nil IsSteady; answers = All-nil IsSteady }))
   where
     base : List Met
     base = onto (lapse_notes s node.met clock) (onto (lease_notes s node.met clock) (Ticks clock ∷ node.met))
 
     acc : Now
     acc = fold (ticked s clock) (at_first base (portion_of s node.met node.stored)) node.open_operations
+
+pub stays_up : (s : Setting) (node : Node) (event : Event) → Stays node.met (step s node event).node.met
+stays_up s node (Tick clock) = tick_up s node clock
+stays_up s node (Take message) = take_up s node message
+stays_up s node (Begin request text) = begin_up s node request text

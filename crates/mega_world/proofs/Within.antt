@@ -26,6 +26,7 @@ pub within_on : (c : Cluster) (now : Standing) (me : ℕ) (own : List Item) (mad
 within_on c now me own made within stays same shows = record {
   cells = within.cells;
   nodes = λ other. by (me == other) other;
+  owed = within.owed;
   messages = step_all (IsWithin c) c (set_at now.node me made.node) me own now.tape (whole_step c now me own made).tape made.notes made.sends within.messages stays.sends same shows;
 }
   where

@@ -2,6 +2,8 @@
 use Rattle.std.specs.Prelude.{Option, Some, None}
 use Rattle.mega_core.specs.declared.fault.StepFault.{StepFault}
 use Rattle.mega_core.specs.declared.fault.StepFault.TheVariants as step
+use Rattle.mega_wal.specs.declared.answers.LogFault.{LogFault}
+use Rattle.mega_wal.specs.declared.answers.LogFault.TheVariants as log
 use Rattle.mega_world.specs.declared.fault.WorldFault.{WorldFault}
 use Rattle.mega_world.specs.declared.fault.WorldFault.TheVariants.{NoMemory, Unbuilt}
 
@@ -14,3 +16,11 @@ fault_of step.Unbuilt = Some Unbuilt
 fault_of step.Stranger = Some Unbuilt
 fault_of step.Late = Some Unbuilt
 fault_of step.NoMemory = Some NoMemory
+
+-- none stands for what records in memory that are open never do
+abbrev pub log_fault_of : LogFault → Option WorldFault
+log_fault_of log.DiskFault = None
+log_fault_of (log.Full n) = None
+log_fault_of log.Spent = None
+log_fault_of (log.BadRecord n) = None
+log_fault_of log.NoMemory = Some NoMemory

@@ -1,24 +1,27 @@
 -- What the format of messages can hold, of a run and of an event.
-use Rattle.std.specs.Prelude.{◌≡◌, ◌≤◌, ℕ, Some}
+use Rattle.std.specs.Prelude.{◌≡◌, ◌≤◌, ℕ, zero, suc, Option, Some, None}
 use Rattle.mega_cluster.specs.declared.cluster.Cluster.{Cluster}
 use Rattle.mega_handler.specs.Named.{Meanings}
+use Rattle.mega_node_laws.specs.Acted.{acted_on}
 use Rattle.mega_node_laws.specs.Own.{HasOwnRows}
 use Rattle.mega_wire.specs.declared.message.Message.{Message}
 use Rattle.mega_wire.specs.Messages.{IsMessage}
 use Rattle.mega_schedule.specs.declared.world_event.WorldEvent.{WorldEvent}
-use Rattle.mega_schedule.specs.declared.world_event.WorldEvent.TheVariants.{Begin as BeginEvent, Tick as TickEvent}
+use Rattle.mega_schedule.specs.declared.world_event.WorldEvent.TheVariants.{Begin as BeginEvent, Deliver, Drain, Tick as TickEvent}
 use Rattle.mega_rules.specs.Logs.{log_of}
-use Rattle.mega_format_laws.specs.Histories.{IsClock, IsCluster}
+use Rattle.mega_rules.specs.Steps.{Begin, Event, Take, Tick}
+use Rattle.mega_format_laws.specs.Histories.{IsClock, IsCluster, IsMet}
 use Rattle.mega_format_laws.specs.Nodes.{IsNode}
 use Rattle.mega_format_laws.specs.Requests.{AreHandlers, IsRequest}
-use Rattle.mega_promises.specs.Messages.{message_of}
-use Rattle.mega_promises.specs.Runs.{Cuts, Standing, after_event}
+use Rattle.mega_promises.specs.Messages.{message_of, next_delivery}
+use Rattle.mega_promises.specs.Runs.{Standing, by_fuse, delivered, setting, up}
 
--- the cluster, what its nodes met and what they sent are of the format, and a lease is no longer than a header has it
+-- the cluster, what its nodes met and owe and what they sent are of the format, and a lease is no longer than a header has it
 pub record IsFormed (c : Cluster) (now : Standing) : Type 0 where
   pub cluster : IsCluster c
   pub lease : c.lease ≤ 1000000000
   pub nodes : (me : ℕ) → IsNode (now.node me)
+  pub owed : (me : ℕ) → IsMet (now.owed me)
   pub messages : (number : ℕ) (message : Message) → message_of now.tape number ≡ Some message → IsMessage message
 
 abbrev pub IsAsked : WorldEvent → Type 0
@@ -26,8 +29,36 @@ IsAsked (TickEvent node clock) = IsClock clock
 IsAsked (BeginEvent node request text) = IsRequest request
 IsAsked _ = Unit {0}
 
--- an event whose clock, request and handlers are of the format, and after which each node's groups have rows of their own
-pub record IsSound (c : Cluster) (h : Meanings) (cuts : Cuts) (now : Standing) (event : WorldEvent) : Type 0 where
+-- each group's rows are its own in the logs on which the operations of a step act
+abbrev pub OwnsStep : Cluster → Meanings → Standing → ℕ → Event → Type 0
+OwnsStep c h now me event = HasOwnRows c.schema (log_of (acted_on (setting c h me) (now.node me) event))
+
+-- so it is in the step of a delivery, and in each that a drain makes
+abbrev pub OwnsTaken : Cluster → Meanings → Standing → Option Message → Type 0
+OwnsTaken c h now None = Unit {0}
+OwnsTaken c h now (Some message) = OwnsStep c h now message.to (Take message)
+
+abbrev pub OwnsDelivered : Cluster → Meanings → Standing → ℕ → Type 0
+OwnsDelivered c h now number = OwnsTaken c h now (message_of now.tape number)
+
+abbrev pub IfNext : (ℕ → Type 0) → Option ℕ → Type 0
+IfNext Is None = Unit {0}
+IfNext Is (Some number) = Is number
+
+abbrev pub OwnsDrained : Cluster → Meanings → ℕ → Standing → Type 0
+OwnsDrained c h zero now = Unit {0}
+OwnsDrained c h (suc most) now =
+    IfNext (λ number. OwnsDelivered c h now number × OwnsDrained c h most (delivered c h by_fuse now number)) (next_delivery (up now) now.tape)
+
+abbrev pub Owns : Cluster → Meanings → Standing → WorldEvent → Type 0
+Owns c h now (TickEvent node clock) = OwnsStep c h now node.0 (Tick clock)
+Owns c h now (BeginEvent node request text) = OwnsStep c h now node.0 (Begin request text)
+Owns c h now (Deliver number) = OwnsDelivered c h now number
+Owns c h now (Drain most) = OwnsDrained c h most now
+Owns c h now _ = Unit {0}
+
+-- an event whose clock, request and handlers are of the format, and whose steps act on logs in which each group has rows of its own
+pub record IsSound (c : Cluster) (h : Meanings) (now : Standing) (event : WorldEvent) : Type 0 where
   pub handlers : AreHandlers h
   pub asked : IsAsked event
-  pub own : (me : ℕ) → HasOwnRows c.schema (log_of ((after_event c h cuts now event).node me).met)
+  pub own : Owns c h now event

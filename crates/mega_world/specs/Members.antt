@@ -1,20 +1,20 @@
--- How the places of a world stand to the nodes of a run.
-use Rattle.std.specs.Prelude.{◌≡◌, ℕ, ◌+◌, ◌-◌, ◌==◌, Bool, if◌then◌else◌, List, [], length, slice_get, map, Option, Some, None, is_some}
+-- How the nodes of a world that are up stand to the nodes of a run.
+use Rattle.std.specs.Prelude.{◌≡◌, ℕ, ◌-◌, ◌==◌, Bool, false, if◌then◌else◌, List, [], length, slice_get, Option, Some, None, is_some}
 use Rattle.mega_cluster.specs.declared.cluster.Cluster.{Cluster}
 use Rattle.mega_disk.specs.VersionMaps.{Versions}
 use Rattle.mega_disk.specs.declared.mem_records.MemRecords.{MemRecords}
 use Rattle.mega_rows.specs.declared.rows.VersionedRows.{VersionedRows}
 use Rattle.mega_rows.specs.Lines.{version_in}
 use Rattle.mega_handler.specs.Named.{Meanings}
-use Rattle.mega_rules.specs.Clock.{is_up}
+use Rattle.mega_rules.specs.Clock.{is_up, start_of}
 use Rattle.mega_rules.specs.Operations.{Node as RuleNode}
-use Rattle.mega_rules.specs.Steps.{Step as RuleStep, start}
 use Rattle.mega_replica.specs.Following.{progress_at}
+use Rattle.mega_voter.specs.Holding.{HoldsMet}
 use Rattle.mega_core.specs.declared.node.Node.{Node}
-use Rattle.mega_core.specs.declared.step.Step.{Step}
-use Rattle.mega_core.specs.Notes.{met_of}
 use Rattle.mega_core.specs.Represents.{Represents}
-use Rattle.mega_promises.specs.Runs.{set_at, setting}
+use Rattle.mega_durable.specs.Granted.{KeepsGrants}
+use Rattle.mega_promises.specs.Runs.{setting}
+use Rattle.mega_world.specs.declared.member.Member.{Member}
 use Rattle.mega_world.specs.declared.place.Place.{Place}
 use Rattle.mega_world.specs.declared.place.Place.TheVariants.{Up, Down}
 
@@ -22,15 +22,18 @@ use Rattle.mega_world.specs.declared.place.Place.TheVariants.{Up, Down}
 abbrev pub version_of : VersionedRows → Versions
 version_of rows = version_in rows.lines
 
--- a node whose logs and rows are in memory
-abbrev pub Member : Type 0
-Member = Node MemRecords VersionedRows
+-- the node itself, over logs and rows in memory, and its records
+abbrev pub node_in : Member → Node MemRecords VersionedRows
+node_in member = member.up.node
+
+abbrev pub records_of : Member → MemRecords
+records_of member = (node_in member).replica.voter.logs.records
 
 -- the node in a place, while it is up
 abbrev pub member_in : Option Place → Option Member
 member_in None = None
-member_in (Some (Up node)) = Some node
-member_in (Some Down) = None
+member_in (Some (Up member)) = Some member
+member_in (Some (Down fallen)) = None
 
 -- the node of a number, counted from 1, while it is up
 abbrev pub member_of : List Place → ℕ → Option Member
@@ -39,29 +42,24 @@ member_of places me = if me == 0 then None else member_in (slice_get places (me 
 abbrev pub is_up_at : List Place → ℕ → Bool
 is_up_at places me = is_some (member_of places me)
 
--- the node of this number of a cluster, which a node of the rules tells of, whatever handlers are there
-pub record IsMember (c : Cluster) (me : ℕ) (node : Member) (ruled : RuleNode) : Type 0 where
-  pub members : node.replica.members ≡ c
-  pub number : node.replica.me ≡ me
-  pub told : (h : Meanings) → Represents (setting c h me) node.replica.voter.logs.kept node.replica.leases (version_of node.replica.rows.rows) (progress_at node.replica.rows.progress) node.open node.begun ruled
+-- what a node keeps is told by a node of the rules, in this cluster and under this number
+abbrev pub IsTold : Cluster → Meanings → ℕ → Node MemRecords VersionedRows → RuleNode → Type 0
+IsTold c h me node ruled =
+    Represents (setting c h me) node.replica.voter.logs.kept node.replica.leases (version_of node.replica.rows.rows) (progress_at node.replica.rows.progress) node.open node.begun ruled
+
+-- the node of this number of a cluster, which a node of the rules tells of, whatever handlers are there: nothing of it waits to be kept, and
+-- its records, which are open, hold what it met, and its lock cell keeps what it granted last
+pub record IsMember (c : Cluster) (me : ℕ) (member : Member) (ruled : RuleNode) : Type 0 where
+  pub members : (node_in member).replica.members ≡ c
+  pub number : (node_in member).replica.me ≡ me
+  pub told : (h : Meanings) → IsTold c h me (node_in member) ruled
+  pub empty : (node_in member).replica.voter.logs.staged.items ≡ []
+  pub ready : (records_of member).spent ≡ false
+  pub holds : HoldsMet (records_of member).list.items (start_of ruled.met) ruled.met
+  pub granted : KeepsGrants (node_in member).replica.members (node_in member).replica.me ruled.met
 
 -- all nodes of a cluster in their places, in order, up where the rules have them so
 pub record AreMembers (c : Cluster) (places : List Place) (ruled : ℕ → RuleNode) : Type 0 where
   pub count : length places ≡ length c.nodes
-  pub each : (me : ℕ) (node : Member) → member_of places me ≡ Some node → IsMember c me node (ruled me)
+  pub each : (me : ℕ) (member : Member) → member_of places me ≡ Some member → IsMember c me member (ruled me)
   pub up_are : (me : ℕ) → is_up (ruled me).met ≡ is_up_at places me
-
--- a node that is up, started once, and met nothing yet
-abbrev pub IsStarted : Cluster → ℕ → Place → Type 0
-IsStarted c me (Up node) = (h : Meanings) → IsMember c me node (start (setting c h me) 1 [] [])
-IsStarted c me Down = ⊥
-
--- all of these are so
-pub record AreStarted (c : Cluster) (places : List Place) : Type 0 where
-  pub each : (i : ℕ) (place : Place) → slice_get places i ≡ Some place → IsStarted c (i + 1) place
-
--- a node made this step: it notes and sends what the rules say, and the nodes are those of the rules afterwards
-pub record Makes (c : Cluster) (places : List Place) (before : ℕ → RuleNode) (me : ℕ) (made : Step) (ruled : RuleStep) : Type 0 where
-  pub notes : map met_of made.notes ≡ ruled.notes
-  pub sends : made.sends ≡ ruled.sends
-  pub members : AreMembers c places (set_at before me ruled.node)

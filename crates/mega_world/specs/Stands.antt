@@ -1,24 +1,53 @@
 -- How a world and its tape stand to a run of its cluster.
-use Rattle.std.specs.Prelude.{◌≡◌, List}
+use Rattle.std.specs.Prelude.{◌≡◌, ℕ, List, None}
 use Rattle.mega_cluster.specs.declared.cluster.Cluster.{Cluster}
+use Rattle.mega_handler.specs.Named.{Meanings}
+use Rattle.mega_schedule.specs.declared.world_event.WorldEvent.{WorldEvent}
+use Rattle.mega_schedule.specs.declared.world_event.WorldEvent.TheVariants.{Deliver}
 use Rattle.mega_transcript.specs.declared.item.Item.{Item}
 use Rattle.mega_transcript.specs.Tape.{newest}
-use Rattle.mega_promises.specs.Runs.{Standing}
+use Rattle.mega_core.specs.Served.{IsServed}
+use Rattle.mega_promises.specs.Runs.{Standing, refusal}
 use Rattle.mega_world.specs.declared.world.World.{World}
 use Rattle.mega_world.specs.Carries.{Carries}
-use Rattle.mega_world.specs.Formed.{IsFormed}
+use Rattle.mega_world.specs.Formed.{IsFormed, IsSound}
+use Rattle.mega_world.specs.Kept.{AreNodes}
 use Rattle.mega_world.specs.Lapses.{KnowsLeases}
-use Rattle.mega_world.specs.Members.{AreMembers}
-use Rattle.mega_world.specs.Plain.{HasNoFuses}
 use Rattle.mega_world.specs.Within.{RunsWithin}
 
--- the nodes, up or down, what is carried between them, the tape, and what tells whether leases are safe are those of the run, in which no
--- fuse is set
+-- the nodes, up or down, with all that they keep, what is carried between them, the tape, and what tells whether leases are safe are those of
+-- the run
 pub record IsAt (c : Cluster) (world : World) (items : List Item) (now : Standing) : Type 0 where
-  pub nodes : AreMembers c world.places.items now.node
+  pub cluster : world.cluster ≡ c
+  pub served : IsServed c
+  pub nodes : AreNodes c world.places.items now
   pub mail : Carries world.mail now.tape
-  pub unfused : HasNoFuses now
   pub tape : newest items ≡ now.tape
   pub leases : KnowsLeases world.safety now.node now.tape
   pub formed : IsFormed c now
   pub within : RunsWithin c now
+
+-- there is a run at which the world stands, and the event is sound in it
+pub record IsDue (world : World) (items : List Item) (event : WorldEvent) : Type 0 where
+  pub cluster : Cluster
+  pub handlers : Meanings
+  pub now : Standing
+  pub at : IsAt cluster world items now
+  pub sound : IsSound cluster handlers now event
+
+-- there is a run at which the world stands, and the event is sound in it where it is not refused
+pub record MayCome (world : World) (items : List Item) (event : WorldEvent) : Type 0 where
+  pub cluster : Cluster
+  pub handlers : Meanings
+  pub now : Standing
+  pub at : IsAt cluster world items now
+  pub sound : refusal cluster now event ≡ None → IsSound cluster handlers now event
+
+-- there is a run at which the world stands, in which the delivery of this message is sound and not refused
+pub record IsAllowed (world : World) (items : List Item) (number : ℕ) : Type 0 where
+  pub cluster : Cluster
+  pub handlers : Meanings
+  pub now : Standing
+  pub at : IsAt cluster world items now
+  pub sound : IsSound cluster handlers now (Deliver number)
+  pub allowed : refusal cluster now (Deliver number) ≡ None

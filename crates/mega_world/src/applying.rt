@@ -3,13 +3,12 @@ ghost use Rattle.std.specs.Prelude.{◌≡◌, ℕ, OnOk, Err, Some, None};
 ghost use Rattle.std.specs.Prelude.{All};
 ghost use Rattle.mega_cluster.specs.declared.cluster.Cluster.{Cluster};
 ghost use Rattle.mega_handler.specs.Named.{Meanings};
-ghost use Rattle.mega_schedule.specs.declared.world_event.WorldEvent.TheVariants.{Deliver};
 ghost use Rattle.mega_transcript.specs.Lines.{HasLine};
-ghost use Rattle.mega_promises.specs.Runs.{Cuts, Standing, after_event, refusal};
-ghost use Rattle.mega_world.specs.declared.fault.WorldFault.TheVariants.{Refused, Unbuilt};
+ghost use Rattle.mega_promises.specs.Runs.{Standing, after_event, by_fuse, refusal};
+ghost use Rattle.mega_world.specs.declared.fault.WorldFault.TheVariants.{Limit, Refused, Unbuilt};
 ghost use Rattle.mega_world.specs.Formed.{IsSound};
-ghost use Rattle.mega_world.specs.Stands.{IsAt};
-ghost use Rattle.mega_world.specs.Unbuilt.{IsUnbuilt};
+ghost use Rattle.mega_world.specs.Stands.{IsAt, MayCome};
+ghost use Rattle.mega_world.specs.Unbuilt.{IsPastLast, IsUnbuilt};
 
 use crate::fault::WorldFault;
 use crate::world::World;
@@ -26,17 +25,17 @@ impl World {
         event: WorldEvent,
         tape: &mut Tape,
     ) -> Result<(), WorldFault>
-        ensures state { OnOk result ((c : Cluster) (h : Meanings) (cuts : Cuts) (now : Standing) → IsAt c self.old tape.old.items now → IsSound c h cuts now event →
-            IsAt c self.new tape.new.items (after_event c h cuts now event)) }
-        ensures lines { OnOk result ((c : Cluster) (h : Meanings) (cuts : Cuts) (now : Standing) → IsAt c self.old tape.old.items now → IsSound c h cuts now event →
+        requires known { MayCome self.old tape.old.items event }
+        ensures state { OnOk result ((c : Cluster) (h : Meanings) (now : Standing) → IsAt c self.old tape.old.items now → IsSound c h now event →
+            IsAt c self.new tape.new.items (after_event c h by_fuse now event)) }
+        ensures lines { OnOk result ((c : Cluster) (h : Meanings) (now : Standing) → IsAt c self.old tape.old.items now → IsSound c h now event →
             All HasLine tape.old.items → All HasLine tape.new.items) }
         ensures happens { OnOk result ((c : Cluster) (now : Standing) → IsAt c self.old tape.old.items now → refusal c now event ≡ None) }
         ensures refused { (why : ℕ) → result ≡ Err (Refused why) → (c : Cluster) (now : Standing) → IsAt c self.old tape.old.items now → refusal c now event ≡ Some why }
         ensures world { (why : ℕ) → result ≡ Err (Refused why) → self.new ≡ self.old }
         ensures tape { (why : ℕ) → result ≡ Err (Refused why) → tape.new.items ≡ tape.old.items }
-        ensures unbuilt { result ≡ Err Unbuilt → (c : Cluster) (h : Meanings) (cuts : Cuts) (now : Standing) → IsAt c self.old tape.old.items now → IsSound c h cuts now event →
-            IsUnbuilt c h cuts now event }
-        ensures allowed { result ≡ Err Unbuilt → (number : ℕ) → event ≡ Deliver number → (c : Cluster) (now : Standing) → IsAt c self.old tape.old.items now → refusal c now event ≡ None }
+        ensures unbuilt { result ≡ Err Unbuilt → IsUnbuilt event }
+        ensures limit { result ≡ Err Limit → (c : Cluster) (now : Standing) → IsAt c self.old tape.old.items now → IsPastLast c now event }
     {
         match event {
             WorldEvent::Deliver { message } => self.deliver(alloc, message, tape),
@@ -48,9 +47,14 @@ impl World {
             WorldEvent::Drop { message } => self.drop_message(message, tape),
             WorldEvent::Drain { most } => self.drain(alloc, most, tape),
             WorldEvent::Tick { node, now } => self.tick(alloc, node, now, tape),
-            WorldEvent::Crash { node } => self.crash(node, tape),
-            WorldEvent::Start { node } => Err(self.start(node)),
-            WorldEvent::Fuse { node, .. } => Err(self.fuse(node)),
+            WorldEvent::Crash { node } => self.crash(alloc, node, tape),
+            WorldEvent::Start { node } => self.start(alloc, node, tape),
+            WorldEvent::Fuse {
+                node,
+                calls,
+                image,
+                device,
+            } => self.fuse(node, calls, image, device),
         }
     }
 }

@@ -6,11 +6,11 @@ ghost use Rattle.mega_handler.specs.Named.{Meanings};
 ghost use Rattle.mega_schedule.specs.declared.world_event.WorldEvent.TheVariants as event;
 ghost use Rattle.mega_transcript.specs.Lines.{HasLine};
 ghost use Rattle.mega_actions.specs.Built.{is_built};
-ghost use Rattle.mega_promises.specs.Runs.{Cuts, Standing, after_event, is_empty, names_nothing, refusal};
-ghost use Rattle.mega_world.specs.declared.fault.WorldFault.TheVariants.{Refused, Unbuilt};
+ghost use Rattle.mega_promises.specs.Runs.{Standing, after_event, by_fuse, is_empty, names_nothing, refusal};
+ghost use Rattle.mega_world.specs.declared.fault.WorldFault.TheVariants.{Limit, Refused, Unbuilt};
 ghost use Rattle.mega_world.specs.Formed.{IsSound};
 ghost use Rattle.mega_world.specs.Members.{AreMembers, is_up_at};
-ghost use Rattle.mega_world.specs.Stands.{IsAt};
+ghost use Rattle.mega_world.specs.Stands.{IsAt, IsDue, MayCome};
 
 use crate::fault::WorldFault;
 use crate::place::Place;
@@ -79,15 +79,17 @@ impl World {
         text: Text,
         tape: &mut Tape,
     ) -> Result<(), WorldFault>
-        ensures state { OnOk result ((c : Cluster) (h : Meanings) (cuts : Cuts) (now : Standing) → IsAt c self.old tape.old.items now → IsSound c h cuts now (event.Begin node request text) →
-            IsAt c self.new tape.new.items (after_event c h cuts now (event.Begin node request text))) }
-        ensures lines { OnOk result ((c : Cluster) (h : Meanings) (cuts : Cuts) (now : Standing) → IsAt c self.old tape.old.items now → IsSound c h cuts now (event.Begin node request text) →
+        requires known { MayCome self.old tape.old.items (event.Begin node request text) }
+        ensures state { OnOk result ((c : Cluster) (h : Meanings) (now : Standing) → IsAt c self.old tape.old.items now → IsSound c h now (event.Begin node request text) →
+            IsAt c self.new tape.new.items (after_event c h by_fuse now (event.Begin node request text))) }
+        ensures lines { OnOk result ((c : Cluster) (h : Meanings) (now : Standing) → IsAt c self.old tape.old.items now → IsSound c h now (event.Begin node request text) →
             All HasLine tape.old.items → All HasLine tape.new.items) }
         ensures happens { OnOk result ((c : Cluster) (now : Standing) → IsAt c self.old tape.old.items now → refusal c now (event.Begin node request text) ≡ None) }
         ensures refused { (why : ℕ) → result ≡ Err (Refused why) → (c : Cluster) (now : Standing) → IsAt c self.old tape.old.items now → refusal c now (event.Begin node request text) ≡ Some why }
         ensures world { (why : ℕ) → result ≡ Err (Refused why) → self.new ≡ self.old }
         ensures tape { (why : ℕ) → result ≡ Err (Refused why) → tape.new.items ≡ tape.old.items }
         ensures unbuilt { result ≡ Err Unbuilt → is_built request ≡ false }
+        ensures limited { result ≢ Err Limit }
     {
         match refusal(self.places.as_slice(), node, &request) {
             Some(why) => Err(WorldFault::Refused { why }),
@@ -107,19 +109,21 @@ impl World {
         requires least { 1 ≤ node.0 }
         requires most { node.0 ≤ length self.old.places.items }
         requires up { is_up_at self.old.places.items node.0 ≡ true }
-        ensures state { OnOk result ((c : Cluster) (h : Meanings) (cuts : Cuts) (now : Standing) → IsAt c self.old tape.old.items now → IsSound c h cuts now (event.Begin node request text) →
-            IsAt c self.new tape.new.items (after_event c h cuts now (event.Begin node request text))) }
-        ensures lines { OnOk result ((c : Cluster) (h : Meanings) (cuts : Cuts) (now : Standing) → IsAt c self.old tape.old.items now → IsSound c h cuts now (event.Begin node request text) →
+        requires known { IsDue self.old tape.old.items (event.Begin node request text) }
+        ensures state { OnOk result ((c : Cluster) (h : Meanings) (now : Standing) → IsAt c self.old tape.old.items now → IsSound c h now (event.Begin node request text) →
+            IsAt c self.new tape.new.items (after_event c h by_fuse now (event.Begin node request text))) }
+        ensures lines { OnOk result ((c : Cluster) (h : Meanings) (now : Standing) → IsAt c self.old tape.old.items now → IsSound c h now (event.Begin node request text) →
             All HasLine tape.old.items → All HasLine tape.new.items) }
         ensures served { (why : ℕ) → result ≢ Err (Refused why) }
         ensures unbuilt { result ≡ Err Unbuilt → is_built request ≡ false }
+        ensures limited { result ≢ Err Limit }
     {
         let (op, made) = match begin_at(alloc, &mut self.places, node.0, request, &text) {
             Ok(begun) => begun,
             Err(fault) => return Err(fault),
         };
         tape.items.push(Item::Begin { op, text })?;
-        self.show(alloc, node.0, made, tape)?;
+        self.show_step(alloc, node.0, made, tape)?;
         Ok(())
     }
 }

@@ -1,13 +1,13 @@
 //! A node goes down.
-ghost use Rattle.std.specs.Prelude.{◌≡◌, ◌≢◌, ◌≤◌, ℕ, length, IfNone, OnOk, Err, Some, None};
+ghost use Rattle.std.specs.Prelude.{◌≡◌, ◌≢◌, ◌≤◌, ℕ, length, IfNone, OnOk, Err, Some, None, true};
 ghost use Rattle.std.specs.Prelude.{All};
 ghost use Rattle.mega_cluster.specs.declared.cluster.Cluster.{Cluster};
 ghost use Rattle.mega_handler.specs.Named.{Meanings};
 ghost use Rattle.mega_schedule.specs.declared.world_event.WorldEvent.TheVariants as event;
 ghost use Rattle.mega_transcript.specs.Lines.{HasLine};
-ghost use Rattle.mega_promises.specs.Runs.{Cuts, Standing, after_event, refusal};
-ghost use Rattle.mega_world.specs.declared.fault.WorldFault.TheVariants.{Refused, Unbuilt};
-ghost use Rattle.mega_world.specs.Members.{AreMembers};
+ghost use Rattle.mega_promises.specs.Runs.{Standing, after_event, by_fuse, refusal};
+ghost use Rattle.mega_world.specs.declared.fault.WorldFault.TheVariants.{Limit, Refused, Unbuilt};
+ghost use Rattle.mega_world.specs.Members.{AreMembers, is_up_at};
 ghost use Rattle.mega_world.specs.Stands.{IsAt};
 
 use crate::fault::WorldFault;
@@ -16,11 +16,13 @@ use crate::places::{is_node, is_up, take_down};
 use crate::world::World;
 use mega_base::{NoMemory, NodeId};
 use mega_transcript::{Item, Tape};
+use std::alloc::Global;
 
 /// Why a node does not go down: 6, there is no such node; 1, it is down.
 fn refusal(places: &[Place], node: NodeId) -> Option<u8>
     ensures least { IfNone result (1 ≤ node.0) }
     ensures most { IfNone result (node.0 ≤ length places.now) }
+    ensures up { IfNone result (is_up_at places.now node.0 ≡ true) }
     ensures value { (c : Cluster) (now : Standing) → AreMembers c places.now now.node → result ≡ refusal c now (event.Crash node) }
 {
     if !is_node(places.len(), node.0) {
@@ -34,35 +36,47 @@ fn refusal(places: &[Place], node: NodeId) -> Option<u8>
 
 impl World {
     /// A node goes down, with its open operations and all that it counted, unless that is refused.
-    pub(crate) fn crash(&mut self, node: NodeId, tape: &mut Tape) -> Result<(), WorldFault>
-        ensures state { OnOk result ((c : Cluster) (h : Meanings) (cuts : Cuts) (now : Standing) → IsAt c self.old tape.old.items now →
-            IsAt c self.new tape.new.items (after_event c h cuts now (event.Crash node))) }
+    pub(crate) fn crash(
+        &mut self,
+        alloc: Global,
+        node: NodeId,
+        tape: &mut Tape,
+    ) -> Result<(), WorldFault>
+        ensures state { OnOk result ((c : Cluster) (h : Meanings) (now : Standing) → IsAt c self.old tape.old.items now →
+            IsAt c self.new tape.new.items (after_event c h by_fuse now (event.Crash node))) }
         ensures lines { OnOk result (All HasLine tape.old.items → All HasLine tape.new.items) }
         ensures happens { OnOk result ((c : Cluster) (now : Standing) → IsAt c self.old tape.old.items now → refusal c now (event.Crash node) ≡ None) }
         ensures refused { (why : ℕ) → result ≡ Err (Refused why) → (c : Cluster) (now : Standing) → IsAt c self.old tape.old.items now → refusal c now (event.Crash node) ≡ Some why }
         ensures world { (why : ℕ) → result ≡ Err (Refused why) → self.new ≡ self.old }
         ensures tape { (why : ℕ) → result ≡ Err (Refused why) → tape.new.items ≡ tape.old.items }
         ensures built { result ≢ Err Unbuilt }
+        ensures limited { result ≢ Err Limit }
     {
         match refusal(self.places.as_slice(), node) {
             Some(why) => Err(WorldFault::Refused { why }),
             None => {
-                self.crashes(node, tape)?;
+                self.crashes(alloc, node, tape)?;
                 Ok(())
             }
         }
     }
 
     /// A node that is there goes down.
-    fn crashes(&mut self, node: NodeId, tape: &mut Tape) -> Result<(), NoMemory>
+    fn crashes(
+        &mut self,
+        alloc: Global,
+        node: NodeId,
+        tape: &mut Tape,
+    ) -> Result<(), NoMemory>
         requires least { 1 ≤ node.0 }
         requires most { node.0 ≤ length self.old.places.items }
-        ensures state { OnOk result ((c : Cluster) (h : Meanings) (cuts : Cuts) (now : Standing) → IsAt c self.old tape.old.items now →
-            IsAt c self.new tape.new.items (after_event c h cuts now (event.Crash node))) }
+        requires up { is_up_at self.old.places.items node.0 ≡ true }
+        ensures state { OnOk result ((c : Cluster) (h : Meanings) (now : Standing) → IsAt c self.old tape.old.items now →
+            IsAt c self.new tape.new.items (after_event c h by_fuse now (event.Crash node))) }
         ensures lines { OnOk result (All HasLine tape.old.items → All HasLine tape.new.items) }
     {
         tape.items.push(Item::Crash { node })?;
-        take_down(&mut self.places, node.0);
+        take_down(alloc, &mut self.places, node.0);
         Ok(())
     }
 }

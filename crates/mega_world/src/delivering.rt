@@ -7,12 +7,12 @@ ghost use Rattle.mega_schedule.specs.declared.world_event.WorldEvent.TheVariants
 ghost use Rattle.mega_transcript.specs.Lines.{HasLine};
 ghost use Rattle.mega_transcript.specs.Tape.{is_sent};
 ghost use Rattle.mega_promises.specs.Messages.{message_of};
-ghost use Rattle.mega_promises.specs.Runs.{Cuts, Standing, after_event, refusal, up};
+ghost use Rattle.mega_promises.specs.Runs.{Standing, after_event, by_fuse, refusal, up};
 ghost use Rattle.mega_world.specs.Carries.{Carries};
-ghost use Rattle.mega_world.specs.declared.fault.WorldFault.TheVariants.{Refused, Unbuilt};
+ghost use Rattle.mega_world.specs.declared.fault.WorldFault.TheVariants.{Limit, Refused, Unbuilt};
 ghost use Rattle.mega_world.specs.Formed.{IsSound};
 ghost use Rattle.mega_world.specs.Members.{is_up_at};
-ghost use Rattle.mega_world.specs.Stands.{IsAt};
+ghost use Rattle.mega_world.specs.Stands.{IsAllowed, IsAt, MayCome};
 
 use crate::fault::WorldFault;
 use crate::mail::Mail;
@@ -52,12 +52,14 @@ impl World {
         number: u64,
         tape: &mut Tape,
     ) -> Result<(), WorldFault>
-        ensures state { OnOk result ((c : Cluster) (h : Meanings) (cuts : Cuts) (now : Standing) → IsAt c self.old tape.old.items now → IsSound c h cuts now (event.Deliver number) →
-            IsAt c self.new tape.new.items (after_event c h cuts now (event.Deliver number))) }
-        ensures lines { OnOk result ((c : Cluster) (h : Meanings) (cuts : Cuts) (now : Standing) → IsAt c self.old tape.old.items now → IsSound c h cuts now (event.Deliver number) →
+        requires known { IsAllowed self.old tape.old.items number }
+        ensures state { OnOk result ((c : Cluster) (h : Meanings) (now : Standing) → IsAt c self.old tape.old.items now → IsSound c h now (event.Deliver number) →
+            IsAt c self.new tape.new.items (after_event c h by_fuse now (event.Deliver number))) }
+        ensures lines { OnOk result ((c : Cluster) (h : Meanings) (now : Standing) → IsAt c self.old tape.old.items now → IsSound c h now (event.Deliver number) →
             All HasLine tape.old.items → All HasLine tape.new.items) }
         ensures served { (why : ℕ) → result ≢ Err (Refused why) }
-        ensures built { result ≡ Err Unbuilt → (c : Cluster) (now : Standing) → IsAt c self.old tape.old.items now → refusal c now (event.Deliver number) ≡ None → ⊥ }
+        ensures built { result ≢ Err Unbuilt }
+        ensures limited { result ≢ Err Limit }
     {
         let message = match sent_to(&self.mail, self.places.as_slice(), number) {
             Some(message) => message,
@@ -70,7 +72,7 @@ impl World {
         };
         self.mail.take(number);
         tape.items.push(Item::Taken { number })?;
-        self.show(alloc, me, made, tape)?;
+        self.show_step(alloc, me, made, tape)?;
         Ok(())
     }
 
@@ -81,16 +83,17 @@ impl World {
         number: u64,
         tape: &mut Tape,
     ) -> Result<(), WorldFault>
-        ensures state { OnOk result ((c : Cluster) (h : Meanings) (cuts : Cuts) (now : Standing) → IsAt c self.old tape.old.items now → IsSound c h cuts now (event.Deliver number) →
-            IsAt c self.new tape.new.items (after_event c h cuts now (event.Deliver number))) }
-        ensures lines { OnOk result ((c : Cluster) (h : Meanings) (cuts : Cuts) (now : Standing) → IsAt c self.old tape.old.items now → IsSound c h cuts now (event.Deliver number) →
+        requires known { MayCome self.old tape.old.items (event.Deliver number) }
+        ensures state { OnOk result ((c : Cluster) (h : Meanings) (now : Standing) → IsAt c self.old tape.old.items now → IsSound c h now (event.Deliver number) →
+            IsAt c self.new tape.new.items (after_event c h by_fuse now (event.Deliver number))) }
+        ensures lines { OnOk result ((c : Cluster) (h : Meanings) (now : Standing) → IsAt c self.old tape.old.items now → IsSound c h now (event.Deliver number) →
             All HasLine tape.old.items → All HasLine tape.new.items) }
         ensures happens { OnOk result ((c : Cluster) (now : Standing) → IsAt c self.old tape.old.items now → refusal c now (event.Deliver number) ≡ None) }
         ensures refused { (why : ℕ) → result ≡ Err (Refused why) → (c : Cluster) (now : Standing) → IsAt c self.old tape.old.items now → refusal c now (event.Deliver number) ≡ Some why }
         ensures world { (why : ℕ) → result ≡ Err (Refused why) → self.new ≡ self.old }
         ensures tape { (why : ℕ) → result ≡ Err (Refused why) → tape.new.items ≡ tape.old.items }
-        ensures built { result ≡ Err Unbuilt → (c : Cluster) (now : Standing) → IsAt c self.old tape.old.items now → ⊥ }
-        ensures allowed { result ≡ Err Unbuilt → (c : Cluster) (now : Standing) → IsAt c self.old tape.old.items now → refusal c now (event.Deliver number) ≡ None }
+        ensures built { result ≢ Err Unbuilt }
+        ensures limited { result ≢ Err Limit }
     {
         match self.mail.delivery_refusal(self.places.as_slice(), number) {
             Some(why) => Err(WorldFault::Refused { why }),

@@ -5,10 +5,10 @@ ghost use Rattle.mega_cluster.specs.declared.cluster.Cluster.{Cluster};
 ghost use Rattle.mega_handler.specs.Named.{Meanings};
 ghost use Rattle.mega_schedule.specs.declared.world_event.WorldEvent.TheVariants as event;
 ghost use Rattle.mega_transcript.specs.Lines.{HasLine};
-ghost use Rattle.mega_promises.specs.Runs.{Cuts, Standing, after_event};
-ghost use Rattle.mega_world.specs.declared.fault.WorldFault.TheVariants.{Refused, Unbuilt};
+ghost use Rattle.mega_promises.specs.Runs.{Standing, after_event, by_fuse};
+ghost use Rattle.mega_world.specs.declared.fault.WorldFault.TheVariants.{Limit, Refused, Unbuilt};
 ghost use Rattle.mega_world.specs.Formed.{IsSound};
-ghost use Rattle.mega_world.specs.Stands.{IsAt};
+ghost use Rattle.mega_world.specs.Stands.{IsAt, IsDue};
 
 use crate::fault::WorldFault;
 use crate::world::World;
@@ -23,12 +23,14 @@ impl World {
         most: u64,
         tape: &mut Tape,
     ) -> Result<(), WorldFault>
-        ensures state { OnOk result ((c : Cluster) (h : Meanings) (cuts : Cuts) (now : Standing) → IsAt c self.old tape.old.items now → IsSound c h cuts now (event.Drain most) →
-            IsAt c self.new tape.new.items (after_event c h cuts now (event.Drain most))) }
-        ensures lines { OnOk result ((c : Cluster) (h : Meanings) (cuts : Cuts) (now : Standing) → IsAt c self.old tape.old.items now → IsSound c h cuts now (event.Drain most) →
+        requires known { IsDue self.old tape.old.items (event.Drain most) }
+        ensures state { OnOk result ((c : Cluster) (h : Meanings) (now : Standing) → IsAt c self.old tape.old.items now → IsSound c h now (event.Drain most) →
+            IsAt c self.new tape.new.items (after_event c h by_fuse now (event.Drain most))) }
+        ensures lines { OnOk result ((c : Cluster) (h : Meanings) (now : Standing) → IsAt c self.old tape.old.items now → IsSound c h now (event.Drain most) →
             All HasLine tape.old.items → All HasLine tape.new.items) }
         ensures served { (why : ℕ) → result ≢ Err (Refused why) }
-        ensures built { result ≡ Err Unbuilt → (c : Cluster) (h : Meanings) (cuts : Cuts) (now : Standing) → IsAt c self.old tape.old.items now → IsSound c h cuts now (event.Drain most) → ⊥ }
+        ensures built { result ≢ Err Unbuilt }
+        ensures limited { result ≢ Err Limit }
     {
         for _turn in 0..most {
             let number = match self.mail.next_delivery(self.places.as_slice()) {

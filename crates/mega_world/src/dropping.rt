@@ -5,8 +5,8 @@ ghost use Rattle.mega_cluster.specs.declared.cluster.Cluster.{Cluster};
 ghost use Rattle.mega_handler.specs.Named.{Meanings};
 ghost use Rattle.mega_schedule.specs.declared.world_event.WorldEvent.TheVariants as event;
 ghost use Rattle.mega_transcript.specs.Lines.{HasLine};
-ghost use Rattle.mega_promises.specs.Runs.{Cuts, Standing, after_event, refusal};
-ghost use Rattle.mega_world.specs.declared.fault.WorldFault.TheVariants.{Refused, Unbuilt};
+ghost use Rattle.mega_promises.specs.Runs.{Standing, after_event, by_fuse, refusal};
+ghost use Rattle.mega_world.specs.declared.fault.WorldFault.TheVariants.{Limit, Refused, Unbuilt};
 ghost use Rattle.mega_world.specs.Stands.{IsAt};
 
 use crate::fault::WorldFault;
@@ -16,14 +16,15 @@ use mega_transcript::{Item, Tape};
 impl World {
     /// The message of a number is never delivered from now on.
     pub(crate) fn drop_message(&mut self, number: u64, tape: &mut Tape) -> Result<(), WorldFault>
-        ensures state { OnOk result ((c : Cluster) (h : Meanings) (cuts : Cuts) (now : Standing) → IsAt c self.old tape.old.items now →
-            IsAt c self.new tape.new.items (after_event c h cuts now (event.Drop number))) }
+        ensures state { OnOk result ((c : Cluster) (h : Meanings) (now : Standing) → IsAt c self.old tape.old.items now →
+            IsAt c self.new tape.new.items (after_event c h by_fuse now (event.Drop number))) }
         ensures lines { OnOk result (All HasLine tape.old.items → All HasLine tape.new.items) }
         ensures happens { OnOk result ((c : Cluster) (now : Standing) → IsAt c self.old tape.old.items now → refusal c now (event.Drop number) ≡ None) }
         ensures refused { (why : ℕ) → result ≡ Err (Refused why) → (c : Cluster) (now : Standing) → IsAt c self.old tape.old.items now → refusal c now (event.Drop number) ≡ Some why }
         ensures world { (why : ℕ) → result ≡ Err (Refused why) → self.new ≡ self.old }
         ensures tape { (why : ℕ) → result ≡ Err (Refused why) → tape.new.items ≡ tape.old.items }
         ensures built { result ≢ Err Unbuilt }
+        ensures limited { result ≢ Err Limit }
     {
         match self.mail.drop_refusal(number) {
             Some(why) => Err(WorldFault::Refused { why }),

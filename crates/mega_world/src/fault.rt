@@ -1,10 +1,11 @@
 //! Why an event does not happen in a world.
 ghost use Rattle.std.specs.Prelude.{◌≡◌, Some, None};
 ghost use Rattle.mega_core.specs.Faults.{of_store};
-ghost use Rattle.mega_world.specs.Faults.{fault_of};
+ghost use Rattle.mega_world.specs.Faults.{fault_of, log_fault_of};
 
 use mega_base::NoMemory;
 use mega_core::StepFault;
+use mega_wal::LogFault;
 
 /// Why an event did not happen.
 #[derive(Clone, Copy, PartialEq, Eq, Debug, Drop)]
@@ -13,8 +14,10 @@ pub enum WorldFault {
     /// dropped; 1, the node, or the message's receiver, is down; 2, the node to be started is up; 5, its clock showed a later time; 7,
     /// the request names no group or index.
     Refused { why: u8 },
-    /// A start, a fuse or such a request is not served yet. After this and all that follow the world is not used again.
+    /// Such a request is not served yet. After this and all that follow the world is not used again.
     Unbuilt,
+    /// A node that started 4,294,967,295 times was to start again.
+    Limit,
     /// An allocation was refused.
     NoMemory,
 }
@@ -40,5 +43,19 @@ pub(crate) fn fault_of(fault: StepFault) -> WorldFault
         StepFault::DiskFault | StepFault::Full { .. } | StepFault::BadRecord { .. } => {
             unreachable!()
         }
+    }
+}
+
+/// The fault of a world where the log of a node did not keep a record, whose device did not fail.
+pub(crate) fn log_fault_of(fault: LogFault) -> WorldFault
+    requires { fault ≡ LogFault.NoMemory }
+    ensures { log_fault_of fault ≡ Some result }
+{
+    match fault {
+        LogFault::NoMemory => WorldFault::NoMemory,
+        LogFault::DiskFault
+        | LogFault::Full { .. }
+        | LogFault::Spent
+        | LogFault::BadRecord { .. } => unreachable!(),
     }
 }

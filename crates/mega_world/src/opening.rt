@@ -6,43 +6,42 @@ ghost use Rattle.mega_transcript.specs.Lines.{HasLine};
 ghost use Rattle.mega_transcript.specs.Tape.{newest};
 ghost use Rattle.mega_core.specs.Served.{IsServed};
 ghost use Rattle.mega_rules.specs.Members.{is_node};
-ghost use Rattle.mega_rules.specs.Steps.{start};
-ghost use Rattle.mega_promises.specs.Runs.{opening, setting};
+ghost use Rattle.mega_promises.specs.Runs.{opening};
 ghost use Rattle.mega_world.specs.declared.fault.WorldFault.TheVariants.{NoMemory as OutOfMemory};
 ghost use Rattle.mega_world.specs.declared.place.Place.TheVariants.{Up};
-ghost use Rattle.mega_world.specs.Members.{AreStarted, IsMember};
-ghost use Rattle.mega_world.specs.Opening.{first_starts};
+ghost use Rattle.mega_world.specs.Opening.{AreStarted, IsFirst, first_starts};
 ghost use Rattle.mega_world.specs.Stands.{IsAt};
 
-use crate::fault::{WorldFault, fault_of};
+use crate::fallen::Fallen;
+use crate::fault::WorldFault;
 use crate::mail::Mail;
-use crate::place::{Member, Place};
+use crate::member::Member;
+use crate::place::Place;
 use crate::safety::Safety;
+use crate::starting::Begun;
 use crate::world::World;
 use mega_base::{Copied, NoMemory, NodeId};
 use mega_cluster::Cluster;
-use mega_core::Node;
 use mega_disk::MemRecords;
-use mega_rows::VersionedRows;
 use mega_transcript::{Item, Tape};
-use mega_wal::Logs;
 use std::alloc::Global;
 
 /// A node of a cluster at its first start, over logs and rows in memory that hold nothing.
 fn started(alloc: Global, cluster: &Cluster, me: u8) -> Result<Member, WorldFault>
     requires served { IsServed cluster.now }
     requires member { is_node cluster.now me ≡ true }
-    ensures node { IfOk result (λ node. (h : Meanings) → IsMember cluster.now me node (start (setting cluster.now h me) 1 [] [])) }
+    ensures node { IfOk result (λ member. (h : Meanings) → IsFirst cluster.now h me member) }
     ensures only { OnErr result (result ≡ Err OutOfMemory) }
 {
     let own = cluster.copy(alloc)?;
-    let logs = match Logs::open(alloc, MemRecords::new(alloc)) {
-        Ok(logs) => logs,
-        Err(_refused) => return Err(WorldFault::NoMemory),
+    let nothing = Fallen {
+        records: MemRecords::new(alloc),
+        fuse: None,
+        owed: None,
     };
-    match Node::start(alloc, own, me, logs, VersionedRows::new(alloc)) {
-        Ok(node) => Ok(node),
-        Err(fault) => Err(fault_of(fault)),
+    match nothing.start(alloc, own, me) {
+        Ok(Begun { member, .. }) => Ok(member),
+        Err(_refused) => Err(WorldFault::NoMemory),
     }
 }
 
@@ -96,11 +95,13 @@ impl World {
         ensures lines { OnOk result (All HasLine tape.new.items) }
         ensures only { OnErr result (result ≡ Err OutOfMemory) }
     {
+        let own = cluster.copy(alloc)?;
         let places = match start_all(alloc, cluster, tape) {
             Ok(places) => places,
             Err(fault) => return Err(fault),
         };
         Ok(World {
+            cluster: own,
             places,
             mail: Mail::new(alloc),
             safety: Safety::new(alloc),

@@ -1,12 +1,22 @@
 //! The places of all nodes of a cluster, in order, asked by number.
-ghost use Rattle.std.specs.Prelude.{◌≡◌, ◌≤◌, ◌-◌, length, set, true};
+ghost use Rattle.std.specs.Prelude.{◌≡◌, ◌≤◌, ◌-◌, Some, None, if◌then◌else◌, length, set, slice_get, true};
 ghost use Rattle.std.specs.Option.{option_copied};
 ghost use Rattle.mega_cluster.specs.declared.cluster.Cluster.{Cluster};
 ghost use Rattle.mega_rules.specs.Members.{is_node};
-ghost use Rattle.mega_world.specs.declared.place.Place.TheVariants.{Down};
-ghost use Rattle.mega_world.specs.Members.{is_up_at, member_in, member_of};
+ghost use Rattle.mega_promises.specs.Runs.{is_kept, left_by};
+ghost use Rattle.mega_world.specs.declared.member.Member.{Member as MemberValue};
+ghost use Rattle.mega_world.specs.declared.place.Place.{Place as PlaceValue};
+ghost use Rattle.mega_world.specs.declared.place.Place.TheVariants.{Down, Up};
+ghost use Rattle.mega_world.specs.LogFuses.{run_fuse};
+ghost use Rattle.mega_world.specs.Members.{is_up_at, member_in, member_of, records_of};
 
-use crate::place::{Member, Place};
+use crate::fallen::Fallen;
+use crate::log_fuse::keeps_record;
+use crate::member::Member;
+use crate::place::Place;
+use mega_disk::MemRecords;
+use mega_durable::Cut;
+use std::alloc::Global;
 use std::mem;
 
 /// The node in a place, while it is up.
@@ -14,8 +24,8 @@ fn member_in(place: Option<&Place>) -> Option<&Member>
     ensures { option_copied result ≡ member_in (option_copied place.entry) }
 {
     match place {
-        Some(Place::Up(node)) => Some(node),
-        Some(Place::Down) => None,
+        Some(Place::Up(member)) => Some(member),
+        Some(Place::Down(_)) => None,
         None => None,
     }
 }
@@ -46,12 +56,95 @@ pub(crate) fn is_node(nodes: usize, node: u8) -> bool
     1 <= node && usize::from(node) <= nodes
 }
 
-/// The node of a number goes down, and is let go.
-pub(crate) fn take_down(places: &mut Vec<Place>, me: u8)
+/// What stands in a place of no node.
+fn nobody(alloc: Global) -> Place {
+    Place::Down(Fallen {
+        records: MemRecords::new(alloc),
+        fuse: None,
+        owed: None,
+    })
+}
+
+/// What stands in a place, of which nothing is left there.
+pub(crate) fn take_place(alloc: Global, places: &mut Vec<Place>, me: u8) -> Place
     requires least { 1 ≤ me }
     requires most { me ≤ length places.old.items }
-    ensures { places.new.items ≡ set places.old.items (me - 1) Down }
+    ensures found { slice_get places.old.items (me - 1) ≡ Some result }
+    ensures left { (place : PlaceValue) → set places.new.items (me - 1) place ≡ set places.old.items (me - 1) place }
+    ensures count { length places.new.items ≡ length places.old.items }
 {
-    let was = mem::replace(&mut places[usize::from(me) - 1], Place::Down);
+    mem::replace(&mut places[usize::from(me) - 1], nobody(alloc))
+}
+
+/// Puts what stands there now into a place.
+pub(crate) fn put_place(places: &mut Vec<Place>, me: u8, place: Place)
+    requires least { 1 ≤ me }
+    requires most { me ≤ length places.old.items }
+    ensures { places.new.items ≡ set places.old.items (me - 1) place }
+{
+    let was = mem::replace(&mut places[usize::from(me) - 1], place);
     drop(was);
+}
+
+/// What a node leaves that goes down.
+fn fallen(place: Place) -> Fallen
+    ensures { (member : MemberValue) → place ≡ Up member → result ≡ record { records = records_of member; fuse = member.fuse; owed = None } }
+{
+    match place {
+        Place::Up(member) => {
+            let Member { up, fuse } = member;
+            Fallen {
+                records: up.crash(),
+                fuse,
+                owed: None,
+            }
+        }
+        Place::Down(fallen) => fallen,
+    }
+}
+
+/// What a node leaves whose step its log's fuse cut off: the fuse is burnt, and this is owed where it kept the step's record.
+fn cut_off(place: Place, cut: Cut) -> Fallen
+    ensures { (member : MemberValue) → place ≡ Up member → result ≡ record { records = records_of member; fuse = None; owed = if is_kept (left_by (run_fuse member.fuse)) then Some cut else None } }
+{
+    match place {
+        Place::Up(member) => {
+            let Member { up, fuse } = member;
+            let records = up.crash();
+            if keeps_record(fuse) {
+                return Fallen {
+                    records,
+                    fuse: None,
+                    owed: Some(cut),
+                };
+            }
+            Fallen {
+                records,
+                fuse: None,
+                owed: None,
+            }
+        }
+        Place::Down(fallen) => fallen,
+    }
+}
+
+/// The node of a number, which is up, goes down.
+pub(crate) fn take_down(alloc: Global, places: &mut Vec<Place>, me: u8)
+    requires least { 1 ≤ me }
+    requires most { me ≤ length places.old.items }
+    ensures { (member : MemberValue) → slice_get places.old.items (me - 1) ≡ Some (Up member) → places.new.items ≡ set places.old.items (me - 1) (Down (record { records = records_of member; fuse = member.fuse; owed = None })) }
+{
+    let place = take_place(alloc, places, me);
+    put_place(places, me, Place::Down(fallen(place)));
+}
+
+/// The node of a number, whose step its log's fuse cut off, goes down.
+pub(crate) fn cut_down(alloc: Global, places: &mut Vec<Place>, me: u8, cut: Cut)
+    requires least { 1 ≤ me }
+    requires most { me ≤ length places.old.items }
+    ensures { (member : MemberValue) → slice_get places.old.items (me - 1) ≡ Some (Up member) →
+        places.new.items ≡ set places.old.items (me - 1) (Down (record { records = records_of member; fuse = None; owed = if is_kept (left_by (run_fuse member.fuse)) then Some cut else None })) }
+{
+    let place = take_place(alloc, places, me);
+    put_place(places, me, Place::Down(cut_off(place, cut)));
 }

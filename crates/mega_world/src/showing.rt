@@ -14,15 +14,16 @@ ghost use Rattle.mega_promises.specs.Runs.{with_items};
 ghost use Rattle.mega_world.specs.Carries.{Carries};
 ghost use Rattle.mega_world.specs.Lapses.{KnowsLeases};
 ghost use Rattle.mega_world.specs.Members.{AreMembers};
-ghost use Rattle.mega_world.specs.Showing.{IsShown, IsStepped};
+ghost use Rattle.mega_world.specs.Showing.{IsShown, IsStepped, LinesStep, ShowsStep};
 ghost use Rattle.mega_world.specs.Shown.{notes_shown};
 
 use crate::judging::breaks_first;
 use crate::noting::item_of;
 use crate::place::Place;
 use crate::safety::{Safety, keep_lapses};
+use crate::stepping::Stepped;
 use crate::world::World;
-use mega_base::{Items, NoMemory};
+use mega_base::{Items, NoMemory, NodeId};
 use mega_core::{Note, Step};
 use mega_transcript::{Item, Tape};
 use std::alloc::Global;
@@ -63,7 +64,7 @@ fn put(
 }
 
 /// The notes of a node come onto the tape.
-fn put_all(
+pub(crate) fn put_all(
     me: u8,
     notes: Items<Note>,
     places: &[Place],
@@ -101,5 +102,28 @@ impl World {
         put_all(me, notes, self.places.as_slice(), &mut self.safety, tape)?;
         self.mail.send_all(alloc, sends, tape)?;
         Ok(())
+    }
+
+    /// What a step that is whole makes comes onto the tape, and of one that was cut off the crash.
+    pub(crate) fn show_step(
+        &mut self,
+        alloc: Global,
+        me: u8,
+        made: Stepped,
+        tape: &mut Tape,
+    ) -> Result<(), NoMemory>
+        ensures shown { OnOk result ((c : Cluster) → ShowsStep c self.old self.new me made tape.old.items tape.new.items) }
+        ensures lines { OnOk result (LinesStep self.old me made tape.old.items tape.new.items) }
+    {
+        match made {
+            Stepped::Made(step) => {
+                self.show(alloc, me, step, tape)?;
+                Ok(())
+            }
+            Stepped::Cut => {
+                tape.items.push(Item::Crash { node: NodeId(me) })?;
+                Ok(())
+            }
+        }
     }
 }

@@ -1,56 +1,98 @@
-//! A node of the world takes a message, begins an operation or ticks.
-ghost use Rattle.std.specs.Prelude.{◌≡◌, ◌≢◌, ◌⊎◌, ◌≤◌, ℕ, true, false, length, IfOk, Err};
+//! A node of the world takes a message, begins an operation or ticks: its step is whole, or its log's fuse cuts it off.
+ghost use Rattle.std.specs.Prelude.{◌≡◌, ◌≢◌, ◌⊎◌, ◌≤◌, ◌-◌, ℕ, List, true, false, length, set, IfOk, Err};
 ghost use Rattle.mega_cluster.specs.declared.cluster.Cluster.{Cluster};
 ghost use Rattle.mega_handler.specs.Named.{Meanings};
-ghost use Rattle.mega_node_laws.specs.Acted.{acted_on, decision_in};
-ghost use Rattle.mega_node_laws.specs.Own.{HasOwnRows};
 ghost use Rattle.mega_leases.specs.Taking.{IsByStranger, IsLate};
 ghost use Rattle.mega_actions.specs.Built.{is_built};
-ghost use Rattle.mega_rules.specs.Logs.{log_of};
 ghost use Rattle.mega_rules.specs.Operations.{Node as RuleNode};
-ghost use Rattle.mega_rules.specs.Steps.{Begin, Take, Tick, op_of, step};
-ghost use Rattle.mega_core.specs.Placed.{IsPlaced};
-ghost use Rattle.mega_promises.specs.Runs.{setting};
-ghost use Rattle.mega_world.specs.declared.fault.WorldFault.TheVariants.{Refused, Unbuilt};
-ghost use Rattle.mega_world.specs.Members.{AreMembers, IsMember, Makes, is_up_at};
+ghost use Rattle.mega_rules.specs.Steps.{Begin, Event as RuleEvent, Take, Tick, op_of};
+ghost use Rattle.mega_rules.specs.Clock.{is_up};
+ghost use Rattle.mega_promises.specs.Runs.{Standing, setting};
+ghost use Rattle.mega_world.specs.declared.fault.WorldFault.{WorldFault as FaultValue};
+ghost use Rattle.mega_world.specs.declared.fault.WorldFault.TheVariants.{Limit, Refused, Unbuilt};
+ghost use Rattle.mega_world.specs.declared.member.Member.{Member as MemberValue};
+ghost use Rattle.mega_world.specs.declared.not_made.NotMade.TheVariants as not_made;
+ghost use Rattle.mega_world.specs.declared.place.Place.{Place as PlaceValue};
+ghost use Rattle.mega_world.specs.declared.place.Place.TheVariants.{Up};
+ghost use Rattle.mega_world.specs.Kept.{AreNodes};
+ghost use Rattle.mega_world.specs.Members.{IsMember, is_up_at};
+ghost use Rattle.mega_world.specs.Stepping.{AtEachRun, Comes, IsRunning, Outcome};
 
-use crate::fault::{WorldFault, fault_of};
-use crate::place::{Member, Place};
+use crate::fault::WorldFault;
+use crate::member::Member;
+use crate::not_made::NotMade;
+use crate::place::Place;
+use crate::places::cut_down;
 use mega_base::{NodeId, OpId, Text};
 use mega_core::Step;
 use mega_outcome::Request;
 use mega_wire::Message;
 use std::alloc::Global;
 
+/// What became of a step of a node.
+#[derive(Drop)]
+pub enum Stepped {
+    /// The node made it.
+    Made(Step),
+    /// Its log's fuse cut it off, and the node is down.
+    Cut,
+}
+
+/// What becomes of a step that the node of a number, which is up, made or did not make.
+fn settled(
+    alloc: Global,
+    places: &mut Vec<Place>,
+    me: u8,
+    made: Result<Step, NotMade>,
+) -> Result<Stepped, WorldFault>
+    requires least { 1 ≤ me }
+    requires most { me ≤ length places.old.items }
+    ensures comes { IfOk result (λ one. (c : Cluster) (h : Meanings) (now : Standing) (event : RuleEvent) (was : List PlaceValue) (member : MemberValue) → AreNodes c was now → is_up (now.node me).met ≡ true → me ≤ length was →
+        places.old.items ≡ set was (me - 1) (Up member) → Outcome c h me (now.node me) event (now.log_fuse me) member made → Comes c h now me event places.new.items one) }
+    ensures fault { (fault : FaultValue) → result ≡ Err fault → made ≡ Err (not_made.Fault fault) }
+{
+    match made {
+        Ok(step) => Ok(Stepped::Made(step)),
+        Err(NotMade::Fault(fault)) => Err(fault),
+        Err(NotMade::Cut(cut)) => {
+            cut_down(alloc, places, me, cut);
+            Ok(Stepped::Cut)
+        }
+    }
+}
+
 /// The node to which a message goes, which is up, takes it.
 pub(crate) fn take_at(
     alloc: Global,
     places: &mut Vec<Place>,
     message: &Message,
-) -> Result<Step, WorldFault>
+) -> Result<Stepped, WorldFault>
     requires least { 1 ≤ message.now.to }
     requires most { message.now.to ≤ length places.old.items }
     requires up { is_up_at places.old.items message.now.to ≡ true }
-    ensures made { IfOk result (λ made. (c : Cluster) (h : Meanings) (ruled : ℕ → RuleNode) → AreMembers c places.old.items ruled →
-        HasOwnRows c.schema (log_of (acted_on (setting c h message.now.to) (ruled message.now.to) (Take message.now))) → IsPlaced (decision_in (setting c h message.now.to) (ruled message.now.to) message.now) →
-        Makes c places.new.items ruled message.now.to made (step (setting c h message.now.to) (ruled message.now.to) (Take message.now))) }
-    ensures unbuilt { result ≡ Err Unbuilt → (c : Cluster) (ruled : ℕ → RuleNode) → AreMembers c places.old.items ruled →
-        IsByStranger message.now.from message.now.body ⊎ IsLate c message.now.body }
+    requires known { IsRunning places.old.items message.now.to (Take message.now) }
+    ensures made { IfOk result (λ one. AtEachRun places.old.items message.now.to (Take message.now) (λ c h now. Comes c h now message.now.to (Take message.now) places.new.items one)) }
+    ensures unbuilt { result ≡ Err Unbuilt → (c : Cluster) (now : Standing) → AreNodes c places.old.items now → IsByStranger message.now.from message.now.body ⊎ IsLate c message.now.body }
     ensures served { (why : ℕ) → result ≢ Err (Refused why) }
+    ensures limited { result ≢ Err Limit }
 {
     match &mut places[usize::from(message.to) - 1] {
-        Place::Up(node) => match node.take(alloc, message) {
-            Ok(made) => Ok(made),
-            Err(fault) => Err(fault_of(fault)),
-        },
-        Place::Down => unreachable!(),
+        Place::Up(member) => {
+            let made = member.take(alloc, message);
+            match settled(alloc, places, message.to, made) {
+                Ok(one) => Ok(one),
+                Err(fault) => Err(fault),
+            }
+        }
+        Place::Down(_) => unreachable!(),
     }
 }
 
 /// The id of the operation that begins next at a node.
-fn op_of(node: &Member) -> OpId
-    ensures { (c : Cluster) (h : Meanings) (me : ℕ) (ruled : RuleNode) → IsMember c me node.now ruled → result ≡ op_of (setting c h me) ruled.met }
+fn op_of(member: &Member) -> OpId
+    ensures { (c : Cluster) (h : Meanings) (me : ℕ) (ruled : RuleNode) → IsMember c me member.now ruled → result ≡ op_of (setting c h me) ruled.met }
 {
+    let node = &member.up.node;
     OpId {
         node: NodeId(node.replica.me),
         start: node.replica.voter.start(),
@@ -65,26 +107,27 @@ pub(crate) fn begin_at(
     me: u8,
     request: Request,
     text: &Text,
-) -> Result<(OpId, Step), WorldFault>
+) -> Result<(OpId, Stepped), WorldFault>
     requires least { 1 ≤ me }
     requires most { me ≤ length places.old.items }
     requires up { is_up_at places.old.items me ≡ true }
-    ensures id { IfOk result (λ begun. (c : Cluster) (h : Meanings) (ruled : ℕ → RuleNode) → AreMembers c places.old.items ruled → begun.0 ≡ op_of (setting c h me) (ruled me).met) }
-    ensures made { IfOk result (λ begun. (c : Cluster) (h : Meanings) (ruled : ℕ → RuleNode) → AreMembers c places.old.items ruled →
-        HasOwnRows c.schema (log_of (acted_on (setting c h me) (ruled me) (Begin request text.now))) →
-        Makes c places.new.items ruled me begun.1 (step (setting c h me) (ruled me) (Begin request text.now))) }
+    requires known { IsRunning places.old.items me (Begin request text.now) }
+    ensures id { IfOk result (λ begun. (c : Cluster) (h : Meanings) (now : Standing) → AreNodes c places.old.items now → begun.0 ≡ op_of (setting c h me) (now.node me).met) }
+    ensures made { IfOk result (λ begun. AtEachRun places.old.items me (Begin request text.now) (λ c h now. Comes c h now me (Begin request text.now) places.new.items begun.1)) }
     ensures unbuilt { result ≡ Err Unbuilt → is_built request ≡ false }
     ensures served { (why : ℕ) → result ≢ Err (Refused why) }
+    ensures limited { result ≢ Err Limit }
 {
     match &mut places[usize::from(me) - 1] {
-        Place::Up(node) => {
-            let op = op_of(node);
-            match node.begin(alloc, request, text) {
-                Ok(made) => Ok((op, made)),
-                Err(fault) => Err(fault_of(fault)),
+        Place::Up(member) => {
+            let op = op_of(member);
+            let made = member.begin(alloc, request, text);
+            match settled(alloc, places, me, made) {
+                Ok(one) => Ok((op, one)),
+                Err(fault) => Err(fault),
             }
         }
-        Place::Down => unreachable!(),
+        Place::Down(_) => unreachable!(),
     }
 }
 
@@ -94,21 +137,24 @@ pub(crate) fn tick_at(
     places: &mut Vec<Place>,
     me: u8,
     clock: u64,
-) -> Result<Step, WorldFault>
+) -> Result<Stepped, WorldFault>
     requires least { 1 ≤ me }
     requires most { me ≤ length places.old.items }
     requires up { is_up_at places.old.items me ≡ true }
-    ensures made { IfOk result (λ made. (c : Cluster) (h : Meanings) (ruled : ℕ → RuleNode) → AreMembers c places.old.items ruled →
-        HasOwnRows c.schema (log_of (acted_on (setting c h me) (ruled me) (Tick clock))) →
-        Makes c places.new.items ruled me made (step (setting c h me) (ruled me) (Tick clock))) }
-    ensures built { result ≡ Err Unbuilt → (c : Cluster) (ruled : ℕ → RuleNode) → AreMembers c places.old.items ruled → ⊥ }
+    requires known { IsRunning places.old.items me (Tick clock) }
+    ensures made { IfOk result (λ one. AtEachRun places.old.items me (Tick clock) (λ c h now. Comes c h now me (Tick clock) places.new.items one)) }
+    ensures built { result ≢ Err Unbuilt }
     ensures served { (why : ℕ) → result ≢ Err (Refused why) }
+    ensures limited { result ≢ Err Limit }
 {
     match &mut places[usize::from(me) - 1] {
-        Place::Up(node) => match node.tick(alloc, clock) {
-            Ok(made) => Ok(made),
-            Err(fault) => Err(fault_of(fault)),
-        },
-        Place::Down => unreachable!(),
+        Place::Up(member) => {
+            let made = member.tick(alloc, clock);
+            match settled(alloc, places, me, made) {
+                Ok(one) => Ok(one),
+                Err(fault) => Err(fault),
+            }
+        }
+        Place::Down(_) => unreachable!(),
     }
 }

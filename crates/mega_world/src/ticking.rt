@@ -7,11 +7,11 @@ ghost use Rattle.mega_schedule.specs.declared.world_event.WorldEvent.TheVariants
 ghost use Rattle.mega_transcript.specs.Lines.{HasLine};
 ghost use Rattle.mega_rules.specs.Clock.{clock_of};
 ghost use Rattle.mega_rules.specs.Operations.{Node as RuleNode};
-ghost use Rattle.mega_promises.specs.Runs.{Cuts, Standing, after_event, refusal};
-ghost use Rattle.mega_world.specs.declared.fault.WorldFault.TheVariants.{Refused, Unbuilt};
+ghost use Rattle.mega_promises.specs.Runs.{Standing, after_event, by_fuse, refusal};
+ghost use Rattle.mega_world.specs.declared.fault.WorldFault.TheVariants.{Limit, Refused, Unbuilt};
 ghost use Rattle.mega_world.specs.Formed.{IsSound};
 ghost use Rattle.mega_world.specs.Members.{AreMembers, is_up_at};
-ghost use Rattle.mega_world.specs.Stands.{IsAt};
+ghost use Rattle.mega_world.specs.Stands.{IsAt, IsDue, MayCome};
 
 use crate::fault::WorldFault;
 use crate::place::Place;
@@ -27,7 +27,7 @@ fn clock_of(places: &[Place], me: u8) -> u64
     ensures { (c : Cluster) (ruled : ℕ → RuleNode) → AreMembers c places.now ruled → is_up_at places.now me ≡ true → result ≡ clock_of (ruled me).met }
 {
     match member_of(places, usize::from(me)) {
-        Some(node) => node.replica.leases.now(),
+        Some(member) => member.up.node.replica.leases.now(),
         None => 0,
     }
 }
@@ -60,15 +60,17 @@ impl World {
         clock: u64,
         tape: &mut Tape,
     ) -> Result<(), WorldFault>
-        ensures state { OnOk result ((c : Cluster) (h : Meanings) (cuts : Cuts) (now : Standing) → IsAt c self.old tape.old.items now → IsSound c h cuts now (event.Tick node clock) →
-            IsAt c self.new tape.new.items (after_event c h cuts now (event.Tick node clock))) }
-        ensures lines { OnOk result ((c : Cluster) (h : Meanings) (cuts : Cuts) (now : Standing) → IsAt c self.old tape.old.items now → IsSound c h cuts now (event.Tick node clock) →
+        requires known { MayCome self.old tape.old.items (event.Tick node clock) }
+        ensures state { OnOk result ((c : Cluster) (h : Meanings) (now : Standing) → IsAt c self.old tape.old.items now → IsSound c h now (event.Tick node clock) →
+            IsAt c self.new tape.new.items (after_event c h by_fuse now (event.Tick node clock))) }
+        ensures lines { OnOk result ((c : Cluster) (h : Meanings) (now : Standing) → IsAt c self.old tape.old.items now → IsSound c h now (event.Tick node clock) →
             All HasLine tape.old.items → All HasLine tape.new.items) }
         ensures happens { OnOk result ((c : Cluster) (now : Standing) → IsAt c self.old tape.old.items now → refusal c now (event.Tick node clock) ≡ None) }
         ensures refused { (why : ℕ) → result ≡ Err (Refused why) → (c : Cluster) (now : Standing) → IsAt c self.old tape.old.items now → refusal c now (event.Tick node clock) ≡ Some why }
         ensures world { (why : ℕ) → result ≡ Err (Refused why) → self.new ≡ self.old }
         ensures tape { (why : ℕ) → result ≡ Err (Refused why) → tape.new.items ≡ tape.old.items }
-        ensures built { result ≡ Err Unbuilt → (c : Cluster) (now : Standing) → IsAt c self.old tape.old.items now → ⊥ }
+        ensures built { result ≢ Err Unbuilt }
+        ensures limited { result ≢ Err Limit }
     {
         match refusal(self.places.as_slice(), node, clock) {
             Some(why) => Err(WorldFault::Refused { why }),
@@ -87,19 +89,21 @@ impl World {
         requires least { 1 ≤ node.0 }
         requires most { node.0 ≤ length self.old.places.items }
         requires up { is_up_at self.old.places.items node.0 ≡ true }
-        ensures state { OnOk result ((c : Cluster) (h : Meanings) (cuts : Cuts) (now : Standing) → IsAt c self.old tape.old.items now → IsSound c h cuts now (event.Tick node clock) →
-            IsAt c self.new tape.new.items (after_event c h cuts now (event.Tick node clock))) }
-        ensures lines { OnOk result ((c : Cluster) (h : Meanings) (cuts : Cuts) (now : Standing) → IsAt c self.old tape.old.items now → IsSound c h cuts now (event.Tick node clock) →
+        requires known { IsDue self.old tape.old.items (event.Tick node clock) }
+        ensures state { OnOk result ((c : Cluster) (h : Meanings) (now : Standing) → IsAt c self.old tape.old.items now → IsSound c h now (event.Tick node clock) →
+            IsAt c self.new tape.new.items (after_event c h by_fuse now (event.Tick node clock))) }
+        ensures lines { OnOk result ((c : Cluster) (h : Meanings) (now : Standing) → IsAt c self.old tape.old.items now → IsSound c h now (event.Tick node clock) →
             All HasLine tape.old.items → All HasLine tape.new.items) }
         ensures served { (why : ℕ) → result ≢ Err (Refused why) }
-        ensures built { result ≡ Err Unbuilt → (c : Cluster) (now : Standing) → IsAt c self.old tape.old.items now → ⊥ }
+        ensures built { result ≢ Err Unbuilt }
+        ensures limited { result ≢ Err Limit }
     {
         let made = match tick_at(alloc, &mut self.places, node.0, clock) {
             Ok(made) => made,
             Err(fault) => return Err(fault),
         };
         tape.items.push(Item::Tick { node, now: clock })?;
-        self.show(alloc, node.0, made, tape)?;
+        self.show_step(alloc, node.0, made, tape)?;
         Ok(())
     }
 }

@@ -1,8 +1,8 @@
 use Rattle.std.proofs.Common.{◌≡◌, ℕ, List, ◌++◌, ◌∙◌, Err, ap, sym}
 use Rattle.std.specs.Io.KnownBytes.{Appends}
-use Rattle.mega_replay.specs.LastLines.{header_line, refused_line, schedule_line, unbuilt_line}
-use Rattle.mega_replay.specs.Known.{InputBroken, InputNoEvent, InputRefused, InputUnbuilt}
-use Rattle.mega_replay.proofs.Stopped.{header_by, refused_by, sink_by, source_by, status_known, unbuilt_by}
+use Rattle.mega_replay.specs.LastLines.{header_line, refused_line, schedule_line, unbuilt_line, limit_line}
+use Rattle.mega_replay.specs.Known.{InputBroken, InputNoEvent, InputRefused, InputUnbuilt, InputPastLast}
+use Rattle.mega_replay.proofs.Stopped.{header_by, refused_by, sink_by, source_by, status_known, unbuilt_by, limit_by}
 use Rattle.mega_replay.proofs.calling.replay_all.Goals as goal
 
 pub returns-in-Err-clause-header : goal.returns-in-Err-clause-header
@@ -20,6 +20,11 @@ pub returns-in-Err-clause-unbuilt : goal.returns-in-Err-clause-unbuilt
 returns-in-Err-clause-unbuilt g c is =
     unbuilt_by c.in-Err.stop (λ line. InputUnbuilt (g.I.Source.left c.args.input.now) line (λ text. Appends (g.O.Sink.held c.args.out.now) (g.O.Sink.held c.transcribe.new.out) (text ++ unbuilt_line line)))
     (sym c.status.ensures ∙ is) (λ line stop. c.in-Err.ensures.unbuilt line (ap Err stop))
+
+pub returns-in-Err-clause-limit : goal.returns-in-Err-clause-limit
+returns-in-Err-clause-limit g c is =
+    limit_by c.in-Err.stop (λ line. InputPastLast (g.I.Source.left c.args.input.now) line (λ text. Appends (g.O.Sink.held c.args.out.now) (g.O.Sink.held c.transcribe.new.out) (text ++ limit_line line)))
+    (sym c.status.ensures ∙ is) (λ line stop. c.in-Err.ensures.limit line (ap Err stop))
 
 pub returns-in-Err-clause-broken : goal.returns-in-Err-clause-broken
 returns-in-Err-clause-broken g c is = c.in-Err.ensures.broken (ap Err (source_by c.in-Err.stop (sym c.status.ensures ∙ is)))

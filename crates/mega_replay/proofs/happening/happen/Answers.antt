@@ -1,6 +1,6 @@
 use Rattle.std.proofs.Common.{ℕ, ◌≡◌, [], Some, None, Err, ap, subst, sym}
 use Rattle.mega_promises.specs.Runs.{refusal}
-use Rattle.mega_replay.specs.Running.{stood, uncut}
+use Rattle.mega_replay.specs.Running.{stood}
 use Rattle.mega_replay.proofs.Running.{sound, went}
 use Rattle.mega_replay.proofs.happening.happen.Goals as goal
 
@@ -11,7 +11,7 @@ returns-in-Ok-clause-state c done events after =
     let line = c.args.line.now in
     let allowed = c.in-Ok.ensures.happens cluster (stood cluster events) after.here in
     went cluster number line events c.args.event c.apply.new.self c.apply.new.tape.items c.requires.spelled allowed
-    (c.in-Ok.ensures.state cluster [] uncut (stood cluster events) after.here (sound cluster done events number line c.args.event after.declared after.happen c.requires.spelled allowed))
+    (c.in-Ok.ensures.state cluster [] (stood cluster events) after.here (sound cluster done events number line c.args.event after.declared after.happen c.requires.spelled allowed))
 
 pub returns-in-Ok-clause-lines : goal.returns-in-Ok-clause-lines
 returns-in-Ok-clause-lines c =
@@ -20,7 +20,7 @@ returns-in-Ok-clause-lines c =
     let events = c.requires.standing.1 in
     let after = c.requires.standing.2 in
     let allowed = c.in-Ok.ensures.happens cluster (stood cluster events) after.here in
-    c.in-Ok.ensures.lines cluster [] uncut (stood cluster events) after.here (sound cluster done events c.args.number c.args.line.now c.args.event after.declared after.happen c.requires.spelled allowed) c.requires.lines
+    c.in-Ok.ensures.lines cluster [] (stood cluster events) after.here (sound cluster done events c.args.number c.args.line.now c.args.event after.declared after.happen c.requires.spelled allowed) c.requires.lines
 
 pub returns-in-Err-Refused-clause-refused : goal.returns-in-Err-Refused-clause-refused
 returns-in-Err-Refused-clause-refused c at why is done events after =
@@ -32,20 +32,36 @@ returns-in-Err-Refused-clause-refused c at why is done events after =
     )
 
 pub returns-in-Err-Unbuilt-clause-unbuilt : goal.returns-in-Err-Unbuilt-clause-unbuilt
-returns-in-Err-Unbuilt-clause-unbuilt c at is done events after =
+returns-in-Err-Unbuilt-clause-unbuilt c at is done events after = (
+  cc,
+  record { event = c.args.event; spelled = c.requires.spelled; unserved = c.in-Err-Unbuilt.ensures.unbuilt (ap Err c.in-Err-Unbuilt.field-0-is) },
+)
+
+pub returns-in-Err-Limit-clause-limit : goal.returns-in-Err-Limit-clause-limit
+returns-in-Err-Limit-clause-limit c at is done events after =
     let cluster = c.args.cluster.now in (
       cc,
-      record {
-        event = c.args.event;
-        spelled = c.requires.spelled;
-        unserved = λ allowed.
-            c.in-Err-Unbuilt.ensures.unbuilt (ap Err c.in-Err-Unbuilt.field-0-is) cluster [] uncut (stood cluster events) after.here
-            (sound cluster done events c.args.number c.args.line.now c.args.event after.declared after.happen c.requires.spelled allowed);
-      },
+      record { event = c.args.event; spelled = c.requires.spelled; past = c.in-Err-Limit.ensures.limit (ap Err c.in-Err-Limit.field-0-is) cluster (stood cluster events) after.here },
     )
+
+pub apply-requires : goal.apply-requires
+apply-requires c =
+    let cluster = c.args.cluster.now in
+    let done = c.requires.standing.0 in
+    let events = c.requires.standing.1 in
+    let after = c.requires.standing.2 in record {
+      cluster = cluster;
+      handlers = [];
+      now = stood cluster events;
+      at = after.here;
+      sound = λ allowed. sound cluster done events c.args.number c.args.line.now c.args.event after.declared after.happen c.requires.spelled allowed;
+    }
 
 pub returns-in-Ok-clause-refused : goal.returns-in-Ok-clause-refused
 returns-in-Ok-clause-refused c at why is done events after = let none : ⊥ = cc in absurd none
 
 pub returns-in-Ok-clause-unbuilt : goal.returns-in-Ok-clause-unbuilt
 returns-in-Ok-clause-unbuilt c at is done events after = let none : ⊥ = cc in absurd none
+
+pub returns-in-Ok-clause-limit : goal.returns-in-Ok-clause-limit
+returns-in-Ok-clause-limit c at is done events after = let none : ⊥ = cc in absurd none

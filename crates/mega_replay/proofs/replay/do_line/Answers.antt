@@ -1,7 +1,7 @@
 use Rattle.std.proofs.Common.{◌≡◌, ℕ, Ok, Err, ap, inl}
 use Rattle.mega_schedule.specs.Events.{event_of}
-use Rattle.mega_replay.specs.declared.status.Stop.TheVariants.{Refused, Schedule, Unbuilt}
-use Rattle.mega_replay.specs.Replaying.{IsRefused, IsUnbuilt}
+use Rattle.mega_replay.specs.declared.status.Stop.TheVariants.{Refused, Schedule, Unbuilt, Limit}
+use Rattle.mega_replay.specs.Replaying.{IsRefused, IsUnbuilt, IsPastLast}
 use Rattle.mega_replay.specs.Running.{stood}
 use Rattle.mega_replay.proofs.Progress.{waits_front}
 use Rattle.mega_replay.proofs.Steps.{long_stops, stops_next}
@@ -29,6 +29,12 @@ returns-in-Err-take_line-clause-unbuilt g c at is done events after =
     let stop_is : c.in-Err-take_line.stop ≡ Unbuilt at = cc in
     let unbuilt = c.in-Err-take_line.ensures.unbuilt at (ap Err stop_is) done events after in
     (unbuilt.0, stops_next _ _ (λ line. IsUnbuilt c.args.cluster.now c.args.number line (stood c.args.cluster.now events)) _ (c.in-Ok-Line.ensures.line (ap Ok c.in-Ok-Line.field-0-is)) (rw c.as_slice.ensures at unbuilt.1))
+
+pub returns-in-Err-take_line-clause-limit : goal.returns-in-Err-take_line-clause-limit
+returns-in-Err-take_line-clause-limit g c at is done events after =
+    let stop_is : c.in-Err-take_line.stop ≡ Limit at = cc in
+    let limit = c.in-Err-take_line.ensures.limit at (ap Err stop_is) done events after in
+    (limit.0, stops_next _ _ (λ line. IsPastLast c.args.cluster.now c.args.number line (stood c.args.cluster.now events)) _ (c.in-Ok-Line.ensures.line (ap Ok c.in-Ok-Line.field-0-is)) (rw c.as_slice.ensures at limit.1))
 
 pub returns-in-Ok-Long-clause-cut : goal.returns-in-Ok-Long-clause-cut
 returns-in-Ok-Long-clause-cut g c done events after = inl (waits_front _ _)

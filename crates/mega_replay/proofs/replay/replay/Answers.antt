@@ -5,7 +5,7 @@ use Rattle.mega_replay.specs.declared.status.Stop.TheVariants.{Header}
 use Rattle.mega_replay.specs.Progress.{Writes, WritesFront}
 use Rattle.mega_replay.specs.Known.{IsBroken, IsHeaded}
 use Rattle.mega_replay.proofs.Progress.{all_lost, nothing_written}
-use Rattle.mega_replay.proofs.Whole.{input_begun, input_broken, input_done, input_no_event, input_refused, input_unbegun, input_unbuilt}
+use Rattle.mega_replay.proofs.Whole.{input_begun, input_broken, input_done, input_no_event, input_refused, input_unbegun, input_unbuilt, input_limit}
 use Rattle.mega_replay.proofs.replay.replay.Goals as goal
 
 pub returns-in-Err-clause-cut : goal.returns-in-Err-clause-cut
@@ -41,3 +41,10 @@ returns-clause-unbuilt g c at is =
     let left = prepend_known c.read_header.new.reader (g.I.Source.left c.read_header.new.input) in
     input_unbuilt (g.I.Source.left c.args.input.now) left c.in-Ok-read_header.cluster at (Writes (g.O.Sink.held c.args.out.now) (g.O.Sink.held c.run_schedule.new.out) c.run_schedule.new.waiting)
     (subst (λ known. IsHeaded known left c.in-Ok-read_header.cluster) fresh c.in-Ok-read_header.ensures.headed) (c.run_schedule.ensures.unbuilt at is)
+
+pub returns-clause-limit : goal.returns-clause-limit
+returns-clause-limit g c at is =
+    let fresh = ap (λ read. prepend_known read (g.I.Source.left c.args.input.now)) c.in-Ok.ensures ∙ prepend_known-nil (g.I.Source.left c.args.input.now) in
+    let left = prepend_known c.read_header.new.reader (g.I.Source.left c.read_header.new.input) in
+    input_limit (g.I.Source.left c.args.input.now) left c.in-Ok-read_header.cluster at (Writes (g.O.Sink.held c.args.out.now) (g.O.Sink.held c.run_schedule.new.out) c.run_schedule.new.waiting)
+    (subst (λ known. IsHeaded known left c.in-Ok-read_header.cluster) fresh c.in-Ok-read_header.ensures.headed) (c.run_schedule.ensures.limit at is)

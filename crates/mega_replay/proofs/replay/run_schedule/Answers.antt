@@ -29,3 +29,10 @@ returns-clause-unbuilt g c at is =
     let items = c.opened.new.tape.items in
     let fresh = subst (λ (xs : List ℕ). Writes before (g.O.Sink.held c.write_from.new.out) c.write_from.new.waiting (xs ++ text_of (c.args.cluster.now).schema items)) c.requires.none_waits c.in-Ok-write_from.ensures.text in
     c.run_lines.ensures.unbuilt at is before fresh
+
+pub returns-clause-limit : goal.returns-clause-limit
+returns-clause-limit g c at is =
+    let before = g.O.Sink.held c.args.out.now in
+    let items = c.opened.new.tape.items in
+    let fresh = subst (λ (xs : List ℕ). Writes before (g.O.Sink.held c.write_from.new.out) c.write_from.new.waiting (xs ++ text_of (c.args.cluster.now).schema items)) c.requires.none_waits c.in-Ok-write_from.ensures.text in
+    c.run_lines.ensures.limit at is before fresh

@@ -1,11 +1,13 @@
-use Rattle.std.proofs.Common.{◌≡◌, true, Err, ap, subst, sym}
+use Rattle.std.proofs.Common.{◌≡◌, None, [], refl, subst, sym, true}
 use Rattle.mega_cluster.specs.declared.cluster.Cluster.{Cluster}
 use Rattle.mega_core.specs.Served.{IsServed}
 use Rattle.mega_rules.specs.Members.{is_node}
-use Rattle.mega_wal.specs.Kept.{Represents}
-use Rattle.mega_wal.specs.Records.{history_of}
-use Rattle.mega_world.proofs.Failing.{no_rows_yet, only_memory}
-use Rattle.mega_world.proofs.Starting.{first_member}
+use Rattle.mega_rules.specs.Steps.{start}
+use Rattle.mega_promises.specs.Runs.{setting}
+use Rattle.mega_world.specs.declared.fallen.Fallen.{Fallen}
+use Rattle.mega_world.specs.Kept.{IsFallen}
+use Rattle.mega_world.specs.Members.{IsMember}
+use Rattle.mega_world.proofs.Anew.{nothing_held}
 use Rattle.mega_world.proofs.opening.started.Goals as goal
 
 pub start-requires-clause-served : goal.start-requires-clause-served
@@ -14,16 +16,22 @@ start-requires-clause-served c = subst IsServed (sym c.in_ok-own.ensures) c.requ
 pub start-requires-clause-member : goal.start-requires-clause-member
 start-requires-clause-member c = subst (λ (k : Cluster). is_node k c.args.me ≡ true) (sym c.in_ok-own.ensures) c.requires.member
 
-pub returns-in-Ok-start-clause-node : goal.returns-in-Ok-start-clause-node
-returns-in-Ok-start-clause-node c h =
-    first_member c.args.cluster.now c.in_ok-own.own h c.args.me c.in-Ok-start.node c.in_ok-own.ensures c.in-Ok-start.ensures.members c.in-Ok-start.ensures.me
-    (λ g. c.in-Ok-start.ensures.state g (subst (λ bodies. Represents c.in-Ok.logs.kept (history_of bodies)) c.new.ensures.opened c.in-Ok.ensures.state) c.new-2.ensures.empty)
+pub start-requires-clause-known : goal.start-requires-clause-known
+start-requires-clause-known c = record {
+  starts = 0;
+  owed = [];
+  met = [];
+  fuse = None;
+  is = record { follows = tt; holds = nothing_held c.new.result c.new.ensures.empty; owes = refl; fused = record { kept_is = refl; left = c.new.ensures.unset; image = tt; unburnt = tt } };
+}
 
-pub fault_of-requires : goal.fault_of-requires
-fault_of-requires c = no_rows_yet c.in-Err-start.fault c.in-Err-start.ensures.only
-
-pub returns-in-Err-start-clause-only : goal.returns-in-Err-start-clause-only
-returns-in-Err-start-clause-only c =
-    ap Err (only_memory c.in-Err-start.fault c.fault_of.result c.in-Err-start.ensures.only
-    (λ is. c.in-Err-start.ensures.unbuilt is (subst (λ bodies. Represents c.in-Ok.logs.kept (history_of bodies)) c.new.ensures.opened c.in-Ok.ensures.state))
-    c.fault_of.ensures)
+pub returns-in-Ok-clause-node : goal.returns-in-Ok-clause-node
+returns-in-Ok-clause-node c h =
+    let is : IsFallen (record { records = c.new.result; fuse = None; owed = None }) 0 [] [] None = record {
+      follows = tt;
+      holds = nothing_held c.new.result c.new.ensures.empty;
+      owes = refl;
+      fused = record { kept_is = refl; left = c.new.ensures.unset; image = tt; unburnt = tt };
+    } in
+    let begins = c.in-Ok.ensures.begun 0 [] [] None is in
+    record { is = subst (λ (k : Cluster). IsMember k c.args.me c.in-Ok.member (start (setting k h c.args.me) 1 [] [])) c.in_ok-own.ensures (begins.is h); fused = begins.fused }

@@ -1,46 +1,39 @@
-use Rattle.std.proofs.Common.{◌≡◌, ◌-◌, ◌∙◌, [], Err, Some, ap, refl, set, subst, sym}
-use Rattle.mega_rules.specs.Operations.{Node as RuleNode, Setting}
-use Rattle.mega_rules.specs.Steps.{Tick, step}
-use Rattle.mega_promises.specs.Runs.{setting}
-use Rattle.mega_world.specs.declared.fault.WorldFault.TheVariants.{Unbuilt}
+use Rattle.std.proofs.Common.{◌≡◌, ◌-◌, ◌∙◌, ap, refl, set, subst, sym, Err}
+use Rattle.mega_rules.specs.Steps.{Tick}
 use Rattle.mega_world.specs.declared.place.Place.TheVariants.{Up}
-use Rattle.mega_world.specs.Members.{Makes}
-use Rattle.mega_world.proofs.Joining.{member_up}
-use Rattle.mega_world.proofs.Staying.{tick_up}
-use Rattle.mega_world.proofs.Stepped.{Steps, found, makes_step, told_own, unbuilt_by}
+use Rattle.mega_world.proofs.Joining.{not_down}
+use Rattle.mega_world.proofs.Outcomes.{stands_at}
+use Rattle.mega_world.proofs.Stepped.{found}
 use Rattle.mega_world.proofs.stepping.tick_at.Goals as goal
 
-pub returns-in-Ok-clause-made : goal.returns-in-Ok-clause-made
-returns-in-Ok-clause-made c cluster h ruled all own =
-    let i = c.from.result - 1 in
+pub tick-made-requires : goal.tick-made-requires
+tick-made-requires c =
+    let k = c.requires.known in
     let me = c.args.me in
     let places = c.args.places.now.items in
-    let node = c.in-Up.node in
+    let i = c.from.result - 1 in
     let at = ap (λ n. n - 1) c.from.ensures in
-    let there = member_up places me i c.index_mut.result.now node at c.requires.least (found places i me c.index_mut.result.now at c.requires.least c.requires.most c.index_mut.ensures.value) c.in-Up.is in
-    let wanted : Setting → RuleNode → Type 0 = λ s n. Unit {0} in
-    let steps : Steps wanted node c.tick.new.self c.in-Ok.made (Tick c.args.clock) = record {
-      notes = λ g one told its known. c.in-Ok.ensures.notes refl g one told its;
-      sends = λ g one told its known. c.in-Ok.ensures.sends refl g one told its;
-      told = λ g one told its known. c.in-Ok.ensures.state refl g one told its;
-      members = c.in-Ok.ensures.members;
-      me = c.in-Ok.ensures.me;
-    } in
-    subst (λ k. Makes cluster (set places k (Up c.tick.new.self)) ruled me c.in-Ok.made (step (setting cluster h me) (ruled me) (Tick c.args.clock))) (sym at)
-    (makes_step wanted cluster h places ruled me node c.tick.new.self c.in-Ok.made (Tick c.args.clock) c.requires.least c.requires.most there all own tt
-    (tick_up (setting cluster h me) (ruled me) c.args.clock (all.up_are me ∙ c.requires.up)) steps)
+    let there = found places i me c.index_mut.result.now at c.requires.least c.requires.most c.index_mut.ensures.value in
+    let stands = stands_at k.cluster places k.now me i c.index_mut.result.now c.in-Up.member k.nodes at c.requires.least there c.in-Up.is in
+    record { known = record { cluster = k.cluster; handlers = k.handlers; me = me; ruled = k.now.node me; is = stands.is; may = k.may } }
 
-pub returns-in-Err-clause-built : goal.returns-in-Err-clause-built
-returns-in-Err-clause-built c unbuilt cluster ruled all =
-    let i = c.from.result - 1 in
+pub returns-in-Ok-clause-made : goal.returns-in-Ok-clause-made
+returns-in-Ok-clause-made c cluster h now all may =
     let me = c.args.me in
     let places = c.args.places.now.items in
-    let node = c.in-Up.node in
+    let i = c.from.result - 1 in
     let at = ap (λ n. n - 1) c.from.ensures in
-    let there = member_up places me i c.index_mut.result.now node at c.requires.least (found places i me c.index_mut.result.now at c.requires.least c.requires.most c.index_mut.ensures.value) c.in-Up.is in
-    let one = all.each me node there in
-    let is : c.fault_of.result ≡ Unbuilt = cc in
-    unbuilt_by c.in-Err.fault (c.fault_of.ensures ∙ ap Some is)
-    (λ same. absurd (c.in-Err.ensures.built (ap Err same) [] (ruled me) (told_own cluster [] me node (ruled me) one)))
-    (λ same. absurd (c.in-Err.ensures.stranger (ap Err same)))
-    (λ same. absurd (c.in-Err.ensures.late (ap Err same)))
+    let there = found places i me c.index_mut.result.now at c.requires.least c.requires.most c.index_mut.ensures.value in
+    let stands = stands_at cluster places now me i c.index_mut.result.now c.in-Up.member all at c.requires.least there c.in-Up.is in
+    c.in-Ok.ensures.comes cluster h now (Tick c.args.clock) places c.tick-made.new.self all (all.members.up_are me ∙ c.requires.up) c.requires.most
+    (ap (λ k. set places k (Up c.tick-made.new.self)) at)
+    (c.tick-made.ensures.made cluster h me (now.node me) (now.log_fuse me) stands.is stands.settled.fused may)
+
+pub unreachable-requires : goal.unreachable-requires
+unreachable-requires c =
+    let me = c.args.me in
+    let places = c.args.places.now.items in
+    let i = c.from.result - 1 in
+    let at = ap (λ n. n - 1) c.from.ensures in
+    let there = found places i me c.index_mut.result.now at c.requires.least c.requires.most c.index_mut.ensures.value in
+    not_down places me i c.index_mut.result.now c.in-Down.field-0 at c.requires.least there c.in-Down.is c.requires.up

@@ -5,7 +5,7 @@ use Rattle.mega_world.proofs.ticking.clock_of.Goals as goal
 pub returns-in-Some : goal.returns-in-Some
 returns-in-Some c cluster ruled all up =
     let me = c.args.me in
-    let told = (all.each me c.in-Some.node.now (ap (λ k. member_of c.args.places.now k) (sym c.from.ensures) ∙ sym c.in-Some.ensures)).told [] in
+    let told = (all.each me c.in-Some.member.now (ap (λ k. member_of c.args.places.now k) (sym c.from.ensures) ∙ sym c.in-Some.ensures)).told [] in
     c.now.ensures cluster me (ruled me).met told.leased
 
 pub returns-in-None : goal.returns-in-None

@@ -1,27 +1,49 @@
 use Rattle.std.proofs.Common.{refl}
-use Rattle.mega_world.proofs.Happening.{begun_at, begun_lined, begun_owned, is_there}
+use Rattle.mega_rules.specs.Met.{Begins}
+use Rattle.mega_rules.specs.Steps.{Begin, op_of}
+use Rattle.mega_promises.specs.Items.{shown}
+use Rattle.mega_promises.specs.Runs.{setting}
+use Rattle.mega_world.proofs.Due.{begin_fit, begin_ready, may_happen}
+use Rattle.mega_world.proofs.Happening.{begun_own, came_at, came_lined, is_there}
 use Rattle.mega_world.proofs.world.World.begins.Goals as goal
 
+pub begin_at-requires-clause-known : goal.begin_at-requires-clause-known
+begin_at-requires-clause-known c =
+    let k = c.requires.known in
+    let node = c.args.node in
+    let there = is_there k.cluster c.args.self.now c.args.tape.now.items k.now node.0 k.at c.requires.least c.requires.most in
+    let fit = begin_fit k.cluster k.handlers c.args.self.now c.args.tape.now.items k.now node c.args.request c.args.text k.at k.sound there in record {
+      cluster = k.cluster;
+      handlers = k.handlers;
+      now = k.now;
+      nodes = k.at.nodes;
+      may = may_happen k.cluster k.handlers k.now node.0 (Begin c.args.request c.args.text) fit k.sound.own;
+    }
+
 pub returns-clause-state : goal.returns-clause-state
-returns-clause-state c cluster h cuts now r sound =
+returns-clause-state c cluster h now r sound =
     let old = c.args.self.now in
     let items = c.args.tape.now.items in
     let node = c.args.node in
+    let text = c.args.text in
     let there = is_there cluster old items now node.0 r c.requires.least c.requires.most in
-    let owned = begun_owned cluster h cuts old items now node c.args.request c.args.text r sound in
-    let makes = c.in-Ok.ensures.made cluster h now.node r.nodes owned in
-    let named = c.in-Ok.ensures.id cluster h now.node r.nodes in
-    begun_at cluster h cuts now node c.args.request c.args.text c.in-Ok.begun.0 old (record { places = c.begin_at.new.places; mail = old.mail; safety = old.safety }) c.show.new.self items c.push.new.self c.show.new.tape.items c.in-Ok.begun.1
-    r sound there named makes c.in_ok-push.ensures.ok refl refl (c.in_ok-show.ensures.shown cluster)
+    let fit = begin_fit cluster h old items now node c.args.request text r sound there in
+    let comes = c.in-Ok.ensures.made cluster h now r.nodes (may_happen cluster h now node.0 (Begin c.args.request text) fit sound.own) in
+    let mid = record old { places = c.begin_at.new.places } in
+    came_at cluster h now node.0 (shown node.0 (Begins (op_of (setting cluster h node.0) (now.node node.0).met) text)) (Begin c.args.request text) old mid c.show_step.new.self items c.push.new.self c.show_step.new.tape.items c.in-Ok.begun.1 r
+    (begun_own cluster (setting cluster h node.0) (now.node node.0) node.0 text) fit comes
+    (begin_ready cluster h now node text c.in-Ok.begun.0 old mid items c.push.new.self r.mail (c.in-Ok.ensures.id cluster h now r.nodes) c.in_ok-push.ensures.ok refl refl refl) (c.in_ok-show_step.ensures.shown cluster)
 
 pub returns-clause-lines : goal.returns-clause-lines
-returns-clause-lines c cluster h cuts now r sound lined =
+returns-clause-lines c cluster h now r sound =
     let old = c.args.self.now in
     let items = c.args.tape.now.items in
     let node = c.args.node in
+    let text = c.args.text in
     let there = is_there cluster old items now node.0 r c.requires.least c.requires.most in
-    let owned = begun_owned cluster h cuts old items now node c.args.request c.args.text r sound in
-    let makes = c.in-Ok.ensures.made cluster h now.node r.nodes owned in
-    let named = c.in-Ok.ensures.id cluster h now.node r.nodes in
-    begun_lined cluster h cuts now node c.args.request c.args.text c.in-Ok.begun.0 old (record { places = c.begin_at.new.places; mail = old.mail; safety = old.safety }) items c.push.new.self c.show.new.tape.items c.in-Ok.begun.1
-    r sound there named makes c.in_ok-push.ensures.ok refl refl c.in_ok-show.ensures.lines lined
+    let fit = begin_fit cluster h old items now node c.args.request text r sound there in
+    let comes = c.in-Ok.ensures.made cluster h now r.nodes (may_happen cluster h now node.0 (Begin c.args.request text) fit sound.own) in
+    let mid = record old { places = c.begin_at.new.places } in
+    came_lined cluster h now node.0 (shown node.0 (Begins (op_of (setting cluster h node.0) (now.node node.0).met) text)) (Begin c.args.request text) old mid items c.push.new.self c.show_step.new.tape.items c.in-Ok.begun.1
+    (begun_own cluster (setting cluster h node.0) (now.node node.0) node.0 text) fit comes
+    (begin_ready cluster h now node text c.in-Ok.begun.0 old mid items c.push.new.self r.mail (c.in-Ok.ensures.id cluster h now r.nodes) c.in_ok-push.ensures.ok refl refl refl) c.in_ok-show_step.ensures.lines

@@ -1,8 +1,8 @@
 use Rattle.std.proofs.Common.{refl}
-use Rattle.mega_world.proofs.Falling.{fallen_at}
+use Rattle.mega_world.proofs.Falling.{crashes_at}
 use Rattle.mega_world.proofs.world.World.crashes.Goals as goal
 
 pub returns-clause-state : goal.returns-clause-state
-returns-clause-state c cluster h cuts now r =
+returns-clause-state c cluster h now r =
     let old = c.args.self.now in
-    fallen_at cluster h cuts now c.args.node old (record { places = c.take_down.new.places; mail = old.mail; safety = old.safety }) c.args.tape.now.items c.push.new.self r c.requires.least c.requires.most c.take_down.ensures refl refl c.in_ok-push.ensures.ok
+    crashes_at cluster h now c.args.node old (record old { places = c.take_down.new.places }) c.args.tape.now.items c.push.new.self r c.requires.least c.requires.most c.requires.up c.take_down.ensures refl refl refl c.in_ok-push.ensures.ok

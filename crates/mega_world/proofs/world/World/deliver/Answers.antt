@@ -6,7 +6,7 @@ use Rattle.mega_world.proofs.world.World.deliver.Goals as goal
 pub returns-in-Some-clause-refused : goal.returns-in-Some-clause-refused
 returns-in-Some-clause-refused c why is cluster now r =
     let same : c.in-Some.why ≡ why = cc in
-    sym (c.in-Some.ensures cluster now r.mail (λ me. r.nodes.up_are me ∙ ap (λ (ps : List Place). is_up_at ps me) (sym c.as_slice.ensures.value))) ∙ ap Some same
+    sym (c.in-Some.ensures cluster now r.mail (λ me. r.nodes.members.up_are me ∙ ap (λ (ps : List Place). is_up_at ps me) (sym c.as_slice.ensures.value))) ∙ ap Some same
 
 anyway : {T E : Type 0} (r : Result T E) (P : Type 0) → P → OnOk r P
 anyway (Ok x) P p = p
@@ -14,11 +14,16 @@ anyway (Err e) P p = tt
 
 pub returns-in-None-clause-happens : goal.returns-in-None-clause-happens
 returns-in-None-clause-happens c =
-    anyway c.hand.result _ (λ cluster now r. sym (c.in-None.ensures cluster now r.mail (λ me. r.nodes.up_are me ∙ ap (λ (ps : List Place). is_up_at ps me) (sym c.as_slice.ensures.value))))
+    anyway c.hand.result _ (λ cluster now r. sym (c.in-None.ensures cluster now r.mail (λ me. r.nodes.members.up_are me ∙ ap (λ (ps : List Place). is_up_at ps me) (sym c.as_slice.ensures.value))))
 
-pub returns-in-None-clause-built : goal.returns-in-None-clause-built
-returns-in-None-clause-built c unbuilt cluster now r =
-    c.hand.ensures.built unbuilt cluster now r (sym (c.in-None.ensures cluster now r.mail (λ me. r.nodes.up_are me ∙ ap (λ (ps : List Place). is_up_at ps me) (sym c.as_slice.ensures.value))))
-
-pub returns-in-None-clause-allowed : goal.returns-in-None-clause-allowed
-returns-in-None-clause-allowed c unbuilt cluster now r = sym (c.in-None.ensures cluster now r.mail (λ me. r.nodes.up_are me ∙ ap (λ (ps : List Place). is_up_at ps me) (sym c.as_slice.ensures.value)))
+pub hand-requires : goal.hand-requires
+hand-requires c =
+    let k = c.requires.known in
+    let allowed = sym (c.in-None.ensures k.cluster k.now k.at.mail (λ me. k.at.nodes.members.up_are me ∙ ap (λ (ps : List Place). is_up_at ps me) (sym c.as_slice.ensures.value))) in record { known = record {
+      cluster = k.cluster;
+      handlers = k.handlers;
+      now = k.now;
+      at = k.at;
+      sound = k.sound allowed;
+      allowed = allowed;
+    } }

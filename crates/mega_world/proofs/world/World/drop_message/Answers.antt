@@ -7,8 +7,8 @@ pub returns-in-Some-clause-refused : goal.returns-in-Some-clause-refused
 returns-in-Some-clause-refused c why is cluster now r = let same : c.in-Some.why ≡ why = cc in sym (c.in-Some.ensures cluster now r.mail) ∙ ap Some same
 
 pub returns-in_ok-push-in-None-clause-state : goal.returns-in_ok-push-in-None-clause-state
-returns-in_ok-push-in-None-clause-state c cluster h cuts now r =
-    dropped_at cluster h cuts now c.args.number c.args.self.now (record { places = c.args.self.now.places; mail = c.drops.new.self; safety = c.args.self.now.safety }) c.args.tape.now.items c.push.new.self r refl refl
+returns-in_ok-push-in-None-clause-state c cluster h now r =
+    dropped_at cluster h now c.args.number c.args.self.now (record c.args.self.now { mail = c.drops.new.self }) c.args.tape.now.items c.push.new.self r refl refl refl
     (c.in_ok-drops-in-None.ensures now.tape r.mail (drop_sent cluster now c.args.number (sym (c.in-None.ensures cluster now r.mail)))) c.in_ok-push-in-None.ensures.ok
 
 pub returns-in_ok-push-in-None-clause-happens : goal.returns-in_ok-push-in-None-clause-happens

@@ -1,4 +1,6 @@
-use Rattle.mega_world.proofs.Starting.{cells_few, opening_formed, opening_leases, opening_mail, opening_members, opening_tape, opening_unfused, opening_within}
+use Rattle.std.proofs.Common.{◌∙◌, subst, sym}
+use Rattle.mega_core.specs.Served.{IsServed}
+use Rattle.mega_world.proofs.Opened.{cells_few, opening_formed, opening_leases, opening_mail, opening_nodes, opening_tape, opening_within}
 use Rattle.mega_world.proofs.world.World.new.Goals as goal
 
 pub start_all-requires-clause-served : goal.start_all-requires-clause-served
@@ -8,9 +10,10 @@ start_all-requires-clause-served c =
 pub returns-clause-state : goal.returns-clause-state
 returns-clause-state c h =
     let cluster = c.args.cluster.now in record {
-      nodes = opening_members cluster h c.in-Ok.places.items c.in-Ok.ensures.count c.in-Ok.ensures.nodes;
+      cluster = c.in_ok-own.ensures;
+      served = record { few = c.requires.few; cells = c.requires.cells; housed = c.requires.housed; fits = c.requires.fits; lease = c.requires.lease; limit = c.requires.limit };
+      nodes = opening_nodes cluster h c.in-Ok.places.items c.in-Ok.ensures.count c.in-Ok.ensures.nodes;
       mail = opening_mail cluster h c.new.result c.new.ensures;
-      unfused = opening_unfused cluster h;
       tape = opening_tape cluster h c.start_all.new.tape.items c.in-Ok.ensures.tape;
       leases = opening_leases cluster h c.new-2.result c.new-2.ensures.lapses c.new-2.ensures.told;
       formed = opening_formed cluster h (record { nodes = c.requires.few; cells = cells_few cluster.cells c.requires.cells; limit = c.requires.limit }) c.requires.lease;

@@ -15,8 +15,8 @@ returns-clause-shown c cluster was ruled stepped =
     let lapses = c.keep_lapses.new.lapses in
     let knows = kept_of cluster old c.args.me c.args.made.notes was ruled (newest items) lapses stepped c.in_ok-keep_lapses.ensures in
     let up = subst (λ places. AreMembers cluster places ruled) (sym c.as_slice.ensures.value) stepped.nodes in
-    shown_whole cluster old (record { places = old.places; mail = c.send_all.new.self; safety = c.put_all.new.safety }) c.args.me c.args.made was ruled items c.put_all.new.tape.items c.send_all.new.tape.items c.put_all.new.safety stepped
-    (c.in_ok-put_all.ensures.tape cluster ruled up knows) (c.in_ok-put_all.ensures.leases cluster ruled up knows) c.in_ok-send_all.ensures.carried c.in_ok-send_all.ensures.shown refl refl
+    shown_whole cluster old (record { cluster = old.cluster; places = old.places; mail = c.send_all.new.self; safety = c.put_all.new.safety }) c.args.me c.args.made was ruled items c.put_all.new.tape.items c.send_all.new.tape.items c.put_all.new.safety stepped
+    (c.in_ok-put_all.ensures.tape cluster ruled up knows) (c.in_ok-put_all.ensures.leases cluster ruled up knows) c.in_ok-send_all.ensures.carried c.in_ok-send_all.ensures.shown refl refl refl
 
 pub returns-clause-lines : goal.returns-clause-lines
 returns-clause-lines c before carries lined notes sends =

@@ -1,30 +1,45 @@
-use Rattle.std.proofs.Common.{◌≡◌, Err, ap, refl}
-use Rattle.mega_world.specs.declared.fault.WorldFault.TheVariants.{Unbuilt}
-use Rattle.mega_world.proofs.Happening.{ticked_at, ticked_lined, ticked_owned, is_there}
+use Rattle.std.proofs.Common.{refl}
+use Rattle.mega_rules.specs.Steps.{Tick}
+use Rattle.mega_transcript.specs.declared.item.Item.TheVariants.{Tick as TickItem}
+use Rattle.mega_promises.specs.Items.{number}
+use Rattle.std.proofs.Common.{◌∷◌, []}
+use Rattle.mega_world.proofs.Due.{may_happen, tick_fit, tick_ready}
+use Rattle.mega_world.proofs.Happening.{came_at, came_lined, is_there, ticked_own}
 use Rattle.mega_world.proofs.world.World.ticks.Goals as goal
 
+pub tick_at-requires-clause-known : goal.tick_at-requires-clause-known
+tick_at-requires-clause-known c =
+    let k = c.requires.known in
+    let node = c.args.node in
+    let there = is_there k.cluster c.args.self.now c.args.tape.now.items k.now node.0 k.at c.requires.least c.requires.most in
+    let fit = tick_fit k.cluster k.handlers c.args.self.now c.args.tape.now.items k.now node c.args.clock k.at k.sound there in record {
+      cluster = k.cluster;
+      handlers = k.handlers;
+      now = k.now;
+      nodes = k.at.nodes;
+      may = may_happen k.cluster k.handlers k.now node.0 (Tick c.args.clock) fit k.sound.own;
+    }
+
 pub returns-clause-state : goal.returns-clause-state
-returns-clause-state c cluster h cuts now r sound =
+returns-clause-state c cluster h now r sound =
     let old = c.args.self.now in
     let items = c.args.tape.now.items in
     let node = c.args.node in
     let there = is_there cluster old items now node.0 r c.requires.least c.requires.most in
-    let owned = ticked_owned cluster h cuts old items now node c.args.clock r sound in
-    let makes = c.in-Ok.ensures.made cluster h now.node r.nodes owned in
-    ticked_at cluster h cuts now node c.args.clock old (record { places = c.tick_at.new.places; mail = old.mail; safety = old.safety }) c.show.new.self items c.push.new.self c.show.new.tape.items c.in-Ok.made
-    r sound there makes c.in_ok-push.ensures.ok refl refl (c.in_ok-show.ensures.shown cluster)
+    let fit = tick_fit cluster h old items now node c.args.clock r sound there in
+    let comes = c.in-Ok.ensures.made cluster h now r.nodes (may_happen cluster h now node.0 (Tick c.args.clock) fit sound.own) in
+    let mid = record old { places = c.tick_at.new.places } in
+    came_at cluster h now node.0 (TickItem (number node.0) c.args.clock ∷ []) (Tick c.args.clock) old mid c.show_step.new.self items c.push.new.self c.show_step.new.tape.items c.in-Ok.made r (ticked_own cluster node.0 c.args.clock) fit comes
+    (tick_ready now node.0 c.args.clock old mid items c.push.new.self r.mail c.in_ok-push.ensures.ok refl refl refl) (c.in_ok-show_step.ensures.shown cluster)
 
 pub returns-clause-lines : goal.returns-clause-lines
-returns-clause-lines c cluster h cuts now r sound lined =
+returns-clause-lines c cluster h now r sound =
     let old = c.args.self.now in
     let items = c.args.tape.now.items in
     let node = c.args.node in
     let there = is_there cluster old items now node.0 r c.requires.least c.requires.most in
-    let owned = ticked_owned cluster h cuts old items now node c.args.clock r sound in
-    let makes = c.in-Ok.ensures.made cluster h now.node r.nodes owned in
-    ticked_lined cluster h cuts now node c.args.clock old (record { places = c.tick_at.new.places; mail = old.mail; safety = old.safety }) items c.push.new.self c.show.new.tape.items c.in-Ok.made
-    r sound there makes c.in_ok-push.ensures.ok refl refl c.in_ok-show.ensures.lines lined
-
-pub returns-in-Err-clause-built : goal.returns-in-Err-clause-built
-returns-in-Err-clause-built c unbuilt cluster now r =
-    let same : c.in-Err.fault ≡ Unbuilt = cc in c.in-Err.ensures.built (ap Err same) cluster now.node r.nodes
+    let fit = tick_fit cluster h old items now node c.args.clock r sound there in
+    let comes = c.in-Ok.ensures.made cluster h now r.nodes (may_happen cluster h now node.0 (Tick c.args.clock) fit sound.own) in
+    let mid = record old { places = c.tick_at.new.places } in
+    came_lined cluster h now node.0 (TickItem (number node.0) c.args.clock ∷ []) (Tick c.args.clock) old mid items c.push.new.self c.show_step.new.tape.items c.in-Ok.made (ticked_own cluster node.0 c.args.clock) fit comes
+    (tick_ready now node.0 c.args.clock old mid items c.push.new.self r.mail c.in_ok-push.ensures.ok refl refl refl) c.in_ok-show_step.ensures.lines

@@ -11,16 +11,16 @@ use Rattle.mega_transcript.specs.declared.item.Item.{Item}
 use Rattle.mega_transcript.specs.declared.item.Item.TheVariants.{Start}
 use Rattle.mega_transcript.specs.Tape.{newest}
 use Rattle.mega_transcript.proofs.Tapes.{newest-append}
-use Rattle.mega_rules.specs.Clock.{is_up}
+use Rattle.mega_rules.specs.Clock.{is_up, start_of}
 use Rattle.mega_rules.specs.Logs.{groups_of}
 use Rattle.mega_rules.specs.Members.{has_rows}
 use Rattle.mega_rules.specs.Met.{Starts}
 use Rattle.mega_rules.specs.Operations.{Node as RuleNode, Setting}
 use Rattle.mega_rules.specs.Steps.{onto, start, start_items, start_note, start_notes}
-use Rattle.mega_format_laws.specs.Histories.{IsCluster}
+use Rattle.mega_format_laws.specs.Histories.{IsCluster, IsMet}
 use Rattle.mega_format_laws.specs.Nodes.{IsNode}
 use Rattle.mega_format_laws.proofs.Steps.{started}
-use Rattle.mega_member_laws.specs.Nodes.{StaysWithin}
+use Rattle.mega_member_laws.specs.Nodes.{MetWithin, StaysWithin}
 use Rattle.mega_member_laws.proofs.Steps.{first_started}
 use Rattle.mega_promises.specs.Items.{number, shown}
 use Rattle.mega_promises.specs.Messages.{is_unsafe, message_of}
@@ -29,18 +29,18 @@ use Rattle.mega_world.specs.declared.mail.Mail.{Mail}
 use Rattle.mega_world.specs.declared.safety.Lapse.{Lapse}
 use Rattle.mega_world.specs.declared.safety.Safety.{Safety}
 use Rattle.mega_world.specs.Carries.{Carries}
-use Rattle.mega_world.specs.Plain.{HasNoFuses}
 use Rattle.mega_world.proofs.Carrying.{shown_on}
-use Rattle.mega_actions.specs.Stands.{setting as at_node}
 use Rattle.mega_world.specs.Formed.{IsFormed}
 use Rattle.mega_world.specs.Lapses.{KnowsLeases, lapse, lapse_cmp}
 use Rattle.mega_world.specs.declared.place.Place.{Place}
 use Rattle.mega_world.specs.declared.place.Place.TheVariants.{Up, Down}
-use Rattle.mega_world.specs.Members.{AreMembers, AreStarted, IsMember, IsStarted, Member, is_up_at, member_in, member_of}
-use Rattle.mega_world.specs.Opening.{first_starts}
+use Rattle.mega_world.specs.declared.member.Member.{Member}
+use Rattle.mega_world.specs.Kept.{AreNodes, IsKept}
+use Rattle.mega_world.specs.LogFuses.{IsFused}
+use Rattle.mega_world.specs.Members.{IsMember, is_up_at, member_in, member_of, records_of}
+use Rattle.mega_world.specs.Opening.{AreStarted, IsFirst, IsStarted, first_starts}
 use Rattle.mega_world.specs.Within.{RunsWithin}
 use Rattle.mega_world.proofs.Joining.{member_is}
-use Rattle.mega_world.proofs.Stepped.{IsTold, same_setting}
 
 -- ---- the first start of a node
 
@@ -57,6 +57,9 @@ first_items s = ap (λ notes. Starts 1 ∷ notes) (no_notes s)
 first_up : (s : Setting) → is_up (start s 1 [] []).met ≡ true
 first_up s = ap (λ items. is_up (onto items [])) (first_items s)
 
+first_start : (s : Setting) → start_of (start s 1 [] []).met ≡ 1
+first_start s = ap (λ items. start_of (onto items [])) (first_items s)
+
 -- ---- the first starts of so many nodes
 
 abbrev is_among : ℕ → ℕ → Bool
@@ -70,7 +73,7 @@ pub record Opened (c : Cluster) (h : Meanings) (k : ℕ) (now : Standing) : Type
   tape_is : now.tape ≡ first_starts k
   of_log : (me : ℕ) → now.log_fuse me ≡ None
   of_data : (me : ℕ) → now.data_fuse me ≡ None
-  unstarted : (me : ℕ) → k < me → now.starts me ≡ 0
+  starts_are : (me : ℕ) → now.starts me ≡ cond {A = ℕ} (is_among k me) 1 0
   unowed : (me : ℕ) → now.owed me ≡ []
 
 none_opened : (c : Cluster) (h : Meanings) → Opened c h 0 nothing_yet
@@ -79,7 +82,7 @@ none_opened c h = record {
   tape_is = refl;
   of_log = λ me. refl;
   of_data = λ me. refl;
-  unstarted = λ me past. refl;
+  starts_are = λ me. let none : is_among 0 me ≡ false = grind (arith, nat_tests) in sym (ap (λ t. cond {A = ℕ} t 1 0) none);
   unowed = λ me. refl;
 }
 
@@ -91,8 +94,9 @@ fresh_met c h k now o =
 starts_first : (c : Cluster) (h : Meanings) (k : ℕ) (now : Standing) → Opened c h k now
     → fated_start c h now (suc k) Whole ≡ whole_start c now (suc k) (start_items (setting c h (suc k)) 1 [] []) (start (setting c h (suc k)) 1 [] [])
 starts_first c h k now o =
+    let none : is_among k (suc k) ≡ false = grind (arith, nat_tests) in
     ap (λ n. whole_start c now (suc k) (start_items s (n + 1) (now.owed (suc k)) (now.node (suc k)).met) (start s (n + 1) (now.owed (suc k)) (now.node (suc k)).met))
-    (o.unstarted (suc k) (omega arith))
+    (o.starts_are (suc k) ∙ ap (λ t. cond {A = ℕ} t 1 0) none)
     ∙ ap (λ owed. whole_start c now (suc k) (start_items s 1 owed (now.node (suc k)).met) (start s 1 owed (now.node (suc k)).met)) (o.unowed (suc k))
     ∙ ap (λ met. whole_start c now (suc k) (start_items s 1 [] met) (start s 1 [] met)) (fresh_met c h k now o)
   where
@@ -105,8 +109,7 @@ whole_opened c h k now o = record {
   tape_is = ap (λ items. with_items c (set_at now.node (suc k) first) now.tape (flat_map (shown (suc k)) items)) (first_items (setting c h (suc k))) ∙ ap (λ t. Start (number (suc k)) 1 ∷ t) o.tape_is;
   of_log = λ me. log_by (suc k == me) me;
   of_data = o.of_data;
-  unstarted = λ me past. let apart : (suc k == me) ≡ false = grind (arith, nat_tests) in
-      ap (λ t. cond t (now.starts (suc k) + 1) (now.starts me)) apart ∙ o.unstarted me (omega (arith, past));
+  starts_are = λ me. starts_by (suc k == me) me refl;
   unowed = λ me. owed_by (suc k == me) me;
 }
   where
@@ -124,6 +127,15 @@ whole_opened c h k now o = record {
     log_by : (t : Bool) (me : ℕ) → cond t (after_append (now.log_fuse (suc k))) (now.log_fuse me) ≡ None
     log_by true me = ap after_append (o.of_log (suc k))
     log_by false me = o.of_log me
+
+    starts_by : (t : Bool) (me : ℕ) → (suc k == me) ≡ t → cond {A = ℕ} t (now.starts (suc k) + 1) (now.starts me) ≡ cond {A = ℕ} (is_among (suc k) me) 1 0
+    starts_by true me same =
+        let none : is_among k (suc k) ≡ false = grind (arith, nat_tests) in
+        let among : is_among (suc k) me ≡ true = grind (arith, nat_tests) in
+        ap (λ n. n + 1) (o.starts_are (suc k) ∙ ap (λ t. cond {A = ℕ} t 1 0) none) ∙ sym (ap (λ t. cond {A = ℕ} t 1 0) among)
+    starts_by false me apart =
+        let among : is_among k me ≡ is_among (suc k) me = grind (arith, nat_tests) in
+        o.starts_are me ∙ ap (λ t. cond {A = ℕ} t 1 0) among
 
     owed_by : (t : Bool) (me : ℕ) → cond t [] (now.owed me) ≡ []
     owed_by true me = refl
@@ -156,9 +168,6 @@ starts_sent (suc k) n = starts_sent k n
 
 pub opening_mail : (c : Cluster) (h : Meanings) (mail : Mail) → Carries mail [] → Carries mail (opening c h).tape
 opening_mail c h mail nothing = subst (Carries mail) (sym (opening_opened c h).tape_is) (starts_carried mail (length c.nodes) nothing)
-
-pub opening_unfused : (c : Cluster) (h : Meanings) → HasNoFuses (opening c h)
-opening_unfused c h = record { of_log = (opening_opened c h).of_log; of_data = (opening_opened c h).of_data }
 
 pub opening_tape : (c : Cluster) (h : Meanings) (items : List Item) → newest items ≡ first_starts (length c.nodes) → newest items ≡ (opening c h).tape
 opening_tape c h items is = is ∙ sym (opening_opened c h).tape_is
@@ -197,6 +206,7 @@ opening_formed c h formed lease = record {
   cluster = formed;
   lease = lease;
   nodes = λ me. subst IsNode (sym (o.node_is me)) (by (is_among (length c.nodes) me) me);
+  owed = λ me. subst IsMet (sym (o.unowed me)) tt;
   messages = λ n message is. let none = ap (λ t. message_of t n) o.tape_is ∙ starts_sent (length c.nodes) n in let no = sym none ∙ is in cc;
 }
   where
@@ -211,6 +221,7 @@ pub opening_within : (c : Cluster) (h : Meanings) → c.cells ≤ length c.nodes
 opening_within c h few = record {
   cells = few;
   nodes = λ me. subst (StaysWithin c) (sym (o.node_is me)) (by (is_among (length c.nodes) me) me);
+  owed = λ me. subst (MetWithin c) (sym (o.unowed me)) tt;
   messages = λ n message is. let none = ap (λ t. message_of t n) o.tape_is ∙ starts_sent (length c.nodes) n in let no = sym none ∙ is in cc;
 }
   where
@@ -234,7 +245,7 @@ module _ (c : Cluster) (h : Meanings) (places : List Place) (count : length plac
 
   member_by : (i : ℕ) (found : Option Place) → slice_get places i ≡ found → (node : Member) → member_in found ≡ Some node → IsMember c (suc i) node ((opening c h).node (suc i))
   member_by i None at node is = cc
-  member_by i (Some Down) at node is = cc
+  member_by i (Some (Down fallen)) at node is = cc
   member_by i (Some (Up one)) at node is =
       let below = slice_get_within places i (Up one) at in
       let among : is_among (length c.nodes) (suc i) ≡ true = grind (arith, nat_tests) in
@@ -242,14 +253,14 @@ module _ (c : Cluster) (h : Meanings) (places : List Place) (count : length plac
       let same : one ≡ node = cc in
       subst (λ (n : Member). IsMember c (suc i) n ((opening c h).node (suc i))) same
       (subst (IsMember c (suc i) one) (sym (node_there i ∙ ap (λ t. cond t (start (setting c h (suc i)) 1 [] []) empty_node) among))
-      (subst (λ (k : ℕ). IsMember c k one (start (setting c h k) 1 [] [])) e (started_are.each i (Up one) at h)))
+      (subst (λ (k : ℕ). IsMember c k one (start (setting c h k) 1 [] [])) e (started_are.each i (Up one) at h).is))
 
   up_by : (i : ℕ) (found : Option Place) → slice_get places i ≡ found → is_up ((opening c h).node (suc i)).met ≡ is_some (member_in found)
   up_by i None at =
       let past = slice_get_none places i at in
       let apart : is_among (length c.nodes) (suc i) ≡ false = grind (arith, nat_tests) in
       ap (λ (n : RuleNode). is_up n.met) (node_there i ∙ ap (λ t. cond t (start (setting c h (suc i)) 1 [] []) empty_node) apart)
-  up_by i (Some Down) at = absurd (started_are.each i Down at)
+  up_by i (Some (Down fallen)) at = absurd (started_are.each i (Down fallen) at)
   up_by i (Some (Up one)) at =
       let below = slice_get_within places i (Up one) at in
       let among : is_among (length c.nodes) (suc i) ≡ true = grind (arith, nat_tests) in
@@ -265,8 +276,19 @@ module _ (c : Cluster) (h : Meanings) (places : List Place) (count : length plac
       ap (λ (n : RuleNode). is_up n.met) ((opening_opened c h).node_is 0 ∙ ap (λ t. cond t (start (setting c h 0) 1 [] []) empty_node) apart)
   each_up (suc i) = up_by i (slice_get places i) refl ∙ sym (ap is_some (member_is places (suc i) i (omega arith) (omega arith)))
 
-  pub opening_members : AreMembers c places (opening c h).node
-  opening_members = record { count = count; each = each_member; up_are = each_up }
+  kept_by : (i : ℕ) (place : Place) → slice_get places i ≡ Some place → IsKept place ((opening c h).starts (i + 1)) ((opening c h).owed (i + 1)) ((opening c h).node (i + 1)).met ((opening c h).log_fuse (i + 1))
+  kept_by i (Down fallen) at = absurd (started_are.each i (Down fallen) at)
+  kept_by i (Up one) at =
+      let below = slice_get_within places i (Up one) at in
+      let among : is_among (length c.nodes) (i + 1) ≡ true = grind (arith, nat_tests) in record {
+        started = (opening_opened c h).starts_are (i + 1) ∙ ap (λ t. cond {A = ℕ} t 1 0) among
+            ∙ sym (ap (λ (n : RuleNode). start_of n.met) ((opening_opened c h).node_is (i + 1) ∙ ap (λ t. cond t (start (setting c h (i + 1)) 1 [] []) empty_node) among) ∙ first_start (setting c h (i + 1)));
+        unowed = (opening_opened c h).unowed (i + 1);
+        fused = subst (IsFused one.fuse (records_of one)) (sym ((opening_opened c h).of_log (i + 1))) (started_are.each i (Up one) at h).fused;
+      }
+
+  pub opening_nodes : AreNodes c places (opening c h)
+  opening_nodes = record { members = record { count = count; each = each_member; up_are = each_up }; kept = record { each = kept_by } }
 
 -- one more node is started
 pub starts_more : (items : List Item) (k : ℕ) → newest items ≡ first_starts k → newest (items ++ Start (number (k + 1)) 1 ∷ []) ≡ first_starts (k + 1)
@@ -285,20 +307,10 @@ pub none_started : (c : Cluster) → AreStarted c []
 none_started c = record { each = λ i place is. cc }
 
 pub started_more : (c : Cluster) (places : List Place) (one : Member) (k : ℕ) → length places ≡ k → AreStarted c places
-    → ((h : Meanings) → IsMember c (k + 1) one (start (setting c h (k + 1)) 1 [] [])) → AreStarted c (places ++ Up one ∷ [])
+    → ((h : Meanings) → IsFirst c h (k + 1) one) → AreStarted c (places ++ Up one ∷ [])
 started_more c places one k count were last = record {
   each = λ i place is. last_found places (Up one) place i (λ (j : ℕ) (z : Place). IsStarted c (j + 1) z) were.each
-      (subst (λ n. (h : Meanings) → IsMember c (n + 1) one (start (setting c h (n + 1)) 1 [] [])) (sym count) last) is;
-}
-
--- a node that was made so is the first of its cluster's run
-pub first_member : (c own : Cluster) (h : Meanings) (me : ℕ) (node : Member) → own ≡ c → node.replica.members ≡ own → node.replica.me ≡ me
-    → ((g : Meanings) → IsTold (at_node node.replica.members node.replica.me g) node (start (at_node own me g) 1 [] [])) → IsMember c me node (start (setting c h me) 1 [] [])
-first_member c own h me node same members number told = record {
-  members = members ∙ same;
-  number = number;
-  told = λ g. subst (λ (k : Cluster). IsTold (setting c g me) node (start (setting k g me) 1 [] [])) same
-      (subst (λ (s : Setting). IsTold s node (start (at_node own me g) 1 [] [])) (same_setting node.replica.members c g node.replica.me me (members ∙ same) number) (told g));
+      (subst (λ n. (h : Meanings) → IsFirst c h (n + 1) one) (sym count) last) is;
 }
 
 pub length_last : {X : Type 0} (xs : List X) (x : X) (k : ℕ) → length xs ≡ k → length (xs ++ x ∷ []) ≡ k + 1

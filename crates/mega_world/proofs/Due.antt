@@ -1,0 +1,93 @@
+-- An event that is due at a world: what its node's step is, whether it may happen there, and how the world is ready to show it.
+use Rattle.std.proofs.Common.{◌≡◌, ℕ, ◌≤◌, ◌++◌, ◌∷◌, [], List, Some, true, length, refl, sym, ap, ◌∙◌, subst}
+use Rattle.mega_base.specs.declared.names.NodeId.{NodeId}
+use Rattle.mega_base.specs.declared.names.OpId.{OpId}
+use Rattle.mega_cluster.specs.declared.cluster.Cluster.{Cluster}
+use Rattle.mega_durable.specs.Standing.{IsPlacedAt, MayHappen}
+use Rattle.mega_handler.specs.Named.{Meanings}
+use Rattle.mega_outcome.specs.declared.request.Request.{Request}
+use Rattle.mega_schedule.specs.declared.world_event.WorldEvent.TheVariants.{Begin as BeginEvent, Deliver, Tick as TickEvent}
+use Rattle.mega_transcript.specs.declared.item.Item.{Item}
+use Rattle.mega_transcript.specs.declared.item.Item.TheVariants.{Begin as BeginItem, Tick as TickItem}
+use Rattle.mega_wire.specs.declared.message.Message.{Message}
+use Rattle.mega_rules.specs.Members.{is_node}
+use Rattle.mega_rules.specs.Met.{Begins, Ticks}
+use Rattle.mega_rules.specs.Steps.{Begin, Event, Take, Tick, op_of, step}
+use Rattle.mega_promises.specs.Items.{number, shown}
+use Rattle.mega_promises.specs.Messages.{message_of}
+use Rattle.mega_promises.specs.Runs.{Standing, setting}
+use Rattle.mega_world.specs.declared.mail.Mail.{Mail}
+use Rattle.mega_world.specs.declared.world.World.{World}
+use Rattle.mega_world.specs.Carries.{Carries}
+use Rattle.mega_world.specs.Formed.{IsSound, OwnsStep, OwnsTaken}
+use Rattle.mega_world.specs.Stands.{IsAt}
+use Rattle.mega_world.proofs.Carrying.{shown_on}
+use Rattle.mega_world.proofs.Forming.{made_formed}
+use Rattle.mega_world.proofs.Happening.{IsFit, IsReady}
+use Rattle.mega_world.proofs.Holding.{journal_items}
+use Rattle.mega_world.proofs.Placing.{placed}
+use Rattle.mega_world.proofs.Within.{made_within}
+
+placed_at : (c : Cluster) (h : Meanings) (now : Standing) (me : ℕ) (event : Event) → IsFit c h now me event → IsPlacedAt (setting c h me) (now.node me) event
+placed_at c h now me (Take message) fit = placed (setting c h me) (now.node me) message fit.formed.notes
+placed_at c h now me (Tick clock) fit = tt
+placed_at c h now me (Begin request text) fit = tt
+
+pub may_happen : (c : Cluster) (h : Meanings) (now : Standing) (me : ℕ) (event : Event) → IsFit c h now me event → OwnsStep c h now me event → MayHappen (setting c h me) (now.node me) event
+may_happen c h now me event fit own = record {
+  owned = own;
+  placed = placed_at c h now me event fit;
+  formed = journal_items (step (setting c h me) (now.node me) event).node.met fit.formed.node.met;
+}
+
+pub tick_fit : (c : Cluster) (h : Meanings) (world : World) (items : List Item) (now : Standing) (node : NodeId) (clock : ℕ) → IsAt c world items now → IsSound c h now (TickEvent node clock) → is_node c node.0 ≡ true → IsFit c h now node.0 (Tick clock)
+tick_fit c h world items now node clock r sound there = record {
+  there = there;
+  asked = sound.asked;
+  taken = tt;
+  formed = made_formed c h now node.0 (Tick clock) r.formed sound.handlers there sound.asked;
+  within = made_within c h now node.0 (Tick clock) r.within there tt;
+}
+
+pub begin_fit : (c : Cluster) (h : Meanings) (world : World) (items : List Item) (now : Standing) (node : NodeId) (request : Request) (text : List ℕ) → IsAt c world items now → IsSound c h now (BeginEvent node request text) → is_node c node.0 ≡ true
+    → IsFit c h now node.0 (Begin request text)
+begin_fit c h world items now node request text r sound there = record {
+  there = there;
+  asked = sound.asked;
+  taken = tt;
+  formed = made_formed c h now node.0 (Begin request text) r.formed sound.handlers there sound.asked;
+  within = made_within c h now node.0 (Begin request text) r.within there tt;
+}
+
+pub take_fit : (c : Cluster) (h : Meanings) (world : World) (items : List Item) (now : Standing) (n : ℕ) (message : Message) → IsAt c world items now → IsSound c h now (Deliver n) → message_of now.tape n ≡ Some message → is_node c message.to ≡ true
+    → IsFit c h now message.to (Take message)
+take_fit c h world items now n message r sound is there = record {
+  there = there;
+  asked = r.formed.messages n message is;
+  taken = r.within.messages n message is;
+  formed = made_formed c h now message.to (Take message) r.formed sound.handlers there (r.formed.messages n message is);
+  within = made_within c h now message.to (Take message) r.within there (r.within.messages n message is);
+}
+
+pub take_owns : (c : Cluster) (h : Meanings) (now : Standing) (n : ℕ) (message : Message) → IsSound c h now (Deliver n) → message_of now.tape n ≡ Some message → OwnsStep c h now message.to (Take message)
+take_owns c h now n message sound is = subst (OwnsTaken c h now) is sound.own
+
+pub tick_ready : (now : Standing) (me clock : ℕ) (old mid : World) (items here : List Item) → Carries old.mail now.tape → here ≡ items ++ TickItem (number me) clock ∷ [] → mid.cluster ≡ old.cluster → mid.mail ≡ old.mail → mid.safety ≡ old.safety
+    → IsReady now (TickItem (number me) clock ∷ []) old mid items here
+tick_ready now me clock old mid items here carries is cluster mail safety = record {
+  added = is;
+  cluster = cluster;
+  carries = subst (λ (m : Mail). Carries m (TickItem (number me) clock ∷ now.tape)) (sym mail) (shown_on old.mail me (Ticks clock) now.tape carries);
+  safety = safety;
+}
+
+pub begin_ready : (c : Cluster) (h : Meanings) (now : Standing) (node : NodeId) (text : List ℕ) (op : OpId) (old mid : World) (items here : List Item) → Carries old.mail now.tape
+    → op ≡ op_of (setting c h node.0) (now.node node.0).met → here ≡ items ++ BeginItem op text ∷ [] → mid.cluster ≡ old.cluster → mid.mail ≡ old.mail → mid.safety ≡ old.safety
+    → IsReady now (shown node.0 (Begins (op_of (setting c h node.0) (now.node node.0).met) text)) old mid items here
+begin_ready c h now node text op old mid items here carries named is cluster mail safety = record {
+  added = is ∙ ap (λ (one : OpId). items ++ BeginItem one text ∷ []) named;
+  cluster = cluster;
+  carries = subst (λ (m : Mail). Carries m (BeginItem (op_of (setting c h node.0) (now.node node.0).met) text ∷ now.tape)) (sym mail)
+      (shown_on old.mail 0 (Begins (op_of (setting c h node.0) (now.node node.0).met) text) now.tape carries);
+  safety = safety;
+}

@@ -1,0 +1,152 @@
+-- A world one of whose nodes started again stands as the run does afterwards.
+use Rattle.std.proofs.Common.{◌≡◌, ℕ, ◌+◌, ◌==◌, ◌≤◌, ◌++◌, ◌∷◌, [], Bool, true, false, cond, List, flat_map, nat_lt, refl, sym, ap, ◌∙◌, subst, append_assoc, arith}
+use Rattle.std.proofs.lemmas.Bool.Decides.{nat_tests}
+use Rattle.std.specs.List.{All}
+use Rattle.mega_base.specs.Names.{IsU32}
+use Rattle.mega_base.specs.declared.names.GroupId.{GroupId}
+use Rattle.mega_base.specs.declared.names.Epoch.{Epoch}
+use Rattle.mega_base.specs.declared.names.NodeId.{NodeId}
+use Rattle.mega_cluster.specs.declared.cluster.Cluster.{Cluster}
+use Rattle.mega_handler.specs.Named.{Meanings}
+use Rattle.mega_schedule.specs.declared.world_event.WorldEvent.TheVariants.{Start as StartEvent}
+use Rattle.mega_transcript.specs.declared.item.Item.{Item}
+use Rattle.mega_transcript.specs.declared.item.Item.TheVariants.{Start}
+use Rattle.mega_transcript.specs.Lines.{HasLine}
+use Rattle.mega_transcript.specs.Tape.{newest}
+use Rattle.mega_format_laws.specs.Histories.{IsMet}
+use Rattle.mega_format_laws.specs.Nodes.{IsNode}
+use Rattle.mega_format_laws.proofs.Steps.{started as started_formed}
+use Rattle.mega_member_laws.specs.Nodes.{MetWithin, StaysWithin}
+use Rattle.mega_member_laws.proofs.Steps.{started as started_within}
+use Rattle.mega_rules.specs.Logs.{groups_of, prefix_of}
+use Rattle.mega_rules.specs.Members.{has_rows}
+use Rattle.mega_rules.specs.Met.{Applies, Met, Starts}
+use Rattle.mega_rules.specs.Operations.{Node, Setting}
+use Rattle.mega_rules.specs.Steps.{onto, start, start_items, start_note, start_notes}
+use Rattle.mega_promises.specs.Items.{number, shown}
+use Rattle.mega_promises.specs.Runs.{Standing, after_event, by_fuse, has_lapsed, set_at, setting, with_items}
+use Rattle.mega_world.specs.declared.place.Place.{Place}
+use Rattle.mega_world.specs.declared.restarting.Shown.{Shown}
+use Rattle.mega_world.specs.declared.world.World.{World}
+use Rattle.mega_world.specs.Carries.{Carries}
+use Rattle.mega_world.specs.Kept.{AreNodes, owed_of}
+use Rattle.mega_world.specs.Lapses.{KnowsLeases}
+use Rattle.mega_world.specs.Owing.{IsOwing, ShowsStart}
+use Rattle.mega_world.specs.Restarting.{Opens, started}
+use Rattle.mega_world.specs.Shown.{notes_shown}
+use Rattle.mega_world.specs.Stands.{IsAt}
+use Rattle.mega_world.proofs.Again.{started_lapsed}
+use Rattle.mega_world.proofs.Carrying.{notes_same, same_on}
+use Rattle.mega_world.proofs.Fates.{start_whole}
+use Rattle.mega_world.proofs.Lining.{notes_lines}
+
+flat_both : (me : ℕ) (xs ys : List Met) → flat_map (shown me) (xs ++ ys) ≡ flat_map (shown me) xs ++ flat_map (shown me) ys
+flat_both me [] ys = refl
+flat_both me (x ∷ xs) ys = ap (λ t. shown me x ++ t) (flat_both me xs ys) ∙ sym (append_assoc (shown me x) (flat_map (shown me) xs) (flat_map (shown me) ys))
+
+-- before the start is shown
+pub owing_at : (c : Cluster) (h : Meanings) (now : Standing) (me : ℕ) (old mid : World) (items : List Item) (opening : Shown) → IsAt c old items now → Opens c now me mid.places.items opening → mid.safety ≡ old.safety
+    → IsOwing c mid me (owed_of opening.owed) now.node (started c h now me).node (newest items)
+owing_at c h now me old mid items opening r opens safety = record {
+  nodes = (opens.nodes h).members;
+  lapsed = λ cell node epoch. by (me == cell) cell node epoch;
+  leases = subst (KnowsLeases mid.safety now.node) (sym r.tape) (subst (λ s. KnowsLeases s now.node now.tape) (sym safety) r.leases);
+}
+  where
+    by : (t : Bool) (cell node : ℕ) (epoch : Epoch)
+        → has_lapsed (cond t (start (setting c h me) (now.starts me + 1) (now.owed me) (now.node me).met) (now.node cell)).met node epoch ≡ has_lapsed (cond t (onto (owed_of opening.owed) (now.node me).met) (now.node cell).met) node epoch
+    by true cell node epoch = started_lapsed (setting c h me) (now.starts me + 1) (now.owed me) (now.node me).met node epoch ∙ ap (λ owed. has_lapsed (onto owed (now.node me).met) node epoch) (sym opens.owed)
+    by false cell node epoch = refl
+
+-- what a start shows is what the rules' start shows
+start_tape : (c : Cluster) (h : Meanings) (now : Standing) (me : ℕ) (places : List Place) (items after : List Item) (opening : Shown) → newest items ≡ now.tape → Opens c now me places opening
+    → newest after ≡ with_items c (started c h now me).node (newest items) (Start (number me) opening.start ∷ flat_map (shown me) (owed_of opening.owed) ++ notes_shown me opening.notes) → newest after ≡ (started c h now me).tape
+start_tape c h now me places items after opening tape opens shows =
+    shows
+    ∙ ap (λ t. with_items c node t (Start (number me) opening.start ∷ flat_map (shown me) (owed_of opening.owed) ++ notes_shown me opening.notes)) tape
+    ∙ ap (λ n. with_items c node now.tape (Start (number me) n ∷ flat_map (shown me) (owed_of opening.owed) ++ notes_shown me opening.notes)) opens.number
+    ∙ ap (λ owed. with_items c node now.tape (Start (number me) (now.starts me + 1) ∷ flat_map (shown me) owed ++ notes_shown me opening.notes)) opens.owed
+    ∙ ap (λ notes. with_items c node now.tape (Start (number me) (now.starts me + 1) ∷ flat_map (shown me) (now.owed me) ++ flat_map (shown me) notes)) (opens.notes h)
+    ∙ ap (with_items c node now.tape) (sym (flat_both me (Starts (now.starts me + 1) ∷ now.owed me) (start_notes (setting c h me) (onto (now.owed me) (Starts (now.starts me + 1) ∷ (now.node me).met)))))
+  where
+    node : ℕ → Node
+    node = (started c h now me).node
+
+pub reopened_at : (c : Cluster) (h : Meanings) (now : Standing) (node : NodeId) (old mid new : World) (items after : List Item) (opening : Shown) → IsAt c old items now → Opens c now node.0 mid.places.items opening → IsU32 opening.start
+    → mid.cluster ≡ old.cluster → mid.mail ≡ old.mail → mid.safety ≡ old.safety
+    → (IsOwing c mid node.0 (owed_of opening.owed) now.node (started c h now node.0).node (newest items) → ShowsStart c mid new node.0 opening (started c h now node.0).node (newest items) (newest after))
+    → IsAt c new after (after_event c h by_fuse now (StartEvent node))
+reopened_at c h now node old mid new items after opening r opens small cluster mail safety show = subst (IsAt c new after) (sym (start_whole c h now me opens.long)) (record {
+  cluster = shows.cluster ∙ cluster ∙ r.cluster;
+  served = r.served;
+  nodes = subst (λ places. AreNodes c places.items (started c h now me)) (sym shows.places) (opens.nodes h);
+  mail = subst (λ m. Carries m (started c h now me).tape) (sym (shows.mail ∙ mail)) (same_on old.mail now.tape (started c h now me).tape (notes_same c (started c h now me).node me items_of now.tape) r.mail);
+  tape = tape;
+  leases = subst (KnowsLeases new.safety (started c h now me).node) tape shows.leases;
+  formed = record {
+    cluster = r.formed.cluster;
+    lease = r.formed.lease;
+    nodes = λ other. node_by other (me == other);
+    owed = λ other. owed_by other (me == other);
+    messages = λ n message sent. r.formed.messages n message (sym ((notes_same c (started c h now me).node me items_of now.tape).message n) ∙ sent);
+  };
+  within = record {
+    cells = r.within.cells;
+    nodes = λ other. stays_by other (me == other);
+    owed = λ other. owing_by other (me == other);
+    messages = λ n message sent. r.within.messages n message (sym ((notes_same c (started c h now me).node me items_of now.tape).message n) ∙ sent);
+  };
+})
+  where
+    me : ℕ
+    me = node.0
+
+    first : Node
+    first = start (setting c h me) (now.starts me + 1) (now.owed me) (now.node me).met
+
+    items_of : List Met
+    items_of = start_items (setting c h me) (now.starts me + 1) (now.owed me) (now.node me).met
+
+    shows : ShowsStart c mid new me opening (started c h now me).node (newest items) (newest after)
+    shows = show (owing_at c h now me old mid items opening r opens safety)
+
+    tape : newest after ≡ (started c h now me).tape
+    tape = start_tape c h now me mid.places.items items after opening r.tape opens shows.tape
+
+    node_by : (other : ℕ) (t : Bool) → IsNode (cond t first (now.node other))
+    node_by other true = started_formed (setting c h me) (now.starts me + 1) (now.owed me) (now.node me).met (subst IsU32 opens.number small) (r.formed.owed me) (r.formed.nodes me).met
+    node_by other false = r.formed.nodes other
+
+    owed_by : (other : ℕ) (t : Bool) → IsMet (cond t [] (now.owed other))
+    owed_by other true = tt
+    owed_by other false = r.formed.owed other
+
+    stays_by : (other : ℕ) (t : Bool) → StaysWithin c (cond t first (now.node other))
+    stays_by other true = started_within (setting c h me) (now.starts me + 1) (now.owed me) (now.node me).met (r.within.owed me) (r.within.nodes me).met
+    stays_by other false = r.within.nodes other
+
+    owing_by : (other : ℕ) (t : Bool) → MetWithin c (cond t [] (now.owed other))
+    owing_by other true = tt
+    owing_by other false = r.within.owed other
+
+-- what it shows has lines
+pub reopened_lined : (c : Cluster) (now : Standing) (me : ℕ) (old mid : World) (items after : List Item) (opening : Shown) → IsAt c old items now → Opens c now me mid.places.items opening
+    → (All HasLine items → All HasLine (flat_map (shown me) (owed_of opening.owed)) → All HasLine (notes_shown me opening.notes) → All HasLine after) → All HasLine items → All HasLine after
+reopened_lined c now me old mid items after opening r opens lines lined =
+    lines lined (subst (λ owed. All HasLine (flat_map (shown me) owed)) (sym opens.owed) (notes_lines me (now.owed me) (r.formed.owed me)))
+    (subst (λ notes. All HasLine (flat_map (shown me) notes)) (sym (opens.notes [])) (notes_lines me (start_notes (setting c [] me) (onto (now.owed me) (Starts (now.starts me + 1) ∷ (now.node me).met))) (start_formed (setting c [] me) (onto (now.owed me) (Starts (now.starts me + 1) ∷ (now.node me).met)))))
+  where
+    applied_formed : (known : List Met) (groups : List GroupId) → IsMet (flat_map (start_note known) groups)
+    applied_formed known [] = tt
+    applied_formed known (group ∷ groups) = by (nat_lt 0 (prefix_of known group)) (applied_formed known groups)
+      where
+        by : (t : Bool) → IsMet (flat_map (start_note known) groups) → IsMet (cond t (Applies group (prefix_of known group) ∷ []) [] ++ flat_map (start_note known) groups)
+        by true rest = (tt, rest)
+        by false rest = rest
+
+    either_formed : (t : Bool) (notes : List Met) → IsMet notes → IsMet (cond t notes [])
+    either_formed true notes formed = formed
+    either_formed false notes formed = tt
+
+    start_formed : (s : Setting) (known : List Met) → IsMet (start_notes s known)
+    start_formed s known = either_formed (has_rows s.cluster s.me) (flat_map (start_note known) (groups_of known)) (applied_formed known (groups_of known))

@@ -1,0 +1,15 @@
+use Rattle.mega_rules.specs.Steps.{onto}
+use Rattle.mega_world.proofs.Anew.{opened_over}
+use Rattle.mega_world.proofs.fallen.Fallen.start.Goals as goal
+
+pub returns-in-Ok-started-clause-begun : goal.returns-in-Ok-started-clause-begun
+returns-in-Ok-started-clause-begun c starts owed met fuse is =
+    c.in-Ok-started.ensures.begun starts owed met fuse (opened_over c.args.self c.in-Ok.voter starts owed met fuse is (c.in-Ok.ensures.recalls starts (onto owed met)) c.in-Ok.ensures.ready c.in-Ok.ensures.list c.in-Ok.ensures.fuse c.in-Ok.ensures.image)
+
+pub returns-in-Err-started-clause-cut : goal.returns-in-Err-started-clause-cut
+returns-in-Err-started-clause-cut c fallen same starts owed met fuse is =
+    c.in-Err-started.ensures.cut fallen same starts owed met fuse (opened_over c.args.self c.in-Ok.voter starts owed met fuse is (c.in-Ok.ensures.recalls starts (onto owed met)) c.in-Ok.ensures.ready c.in-Ok.ensures.list c.in-Ok.ensures.fuse c.in-Ok.ensures.image)
+
+pub returns-in-Err-started-clause-limit : goal.returns-in-Err-started-clause-limit
+returns-in-Err-started-clause-limit c limit starts owed met fuse is =
+    c.in-Err-started.ensures.limit limit starts owed met fuse (opened_over c.args.self c.in-Ok.voter starts owed met fuse is (c.in-Ok.ensures.recalls starts (onto owed met)) c.in-Ok.ensures.ready c.in-Ok.ensures.list c.in-Ok.ensures.fuse c.in-Ok.ensures.image)

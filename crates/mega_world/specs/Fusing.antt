@@ -1,0 +1,32 @@
+-- A place on whose log a fuse is set keeps all else.
+use Rattle.std.specs.Prelude.{◌≡◌, ℕ, List, set, Option}
+use Rattle.mega_cluster.specs.declared.cluster.Cluster.{Cluster}
+use Rattle.mega_rules.specs.Met.{Met}
+use Rattle.mega_rules.specs.Operations.{Node as RuleNode}
+use Rattle.mega_promises.specs.Runs.{Fuse, new_fuse}
+use Rattle.mega_world.specs.declared.fallen.Fallen.{Fallen}
+use Rattle.mega_world.specs.declared.member.Member.{Member}
+use Rattle.mega_world.specs.declared.place.Place.{Place}
+use Rattle.mega_world.specs.declared.place.Place.TheVariants.{Up, Down}
+use Rattle.mega_world.specs.Kept.{IsFallen}
+use Rattle.mega_world.specs.LogFuses.{IsFused}
+use Rattle.mega_world.specs.Members.{IsMember, records_of}
+
+pub record SetsOnMember (calls image : ℕ) (old new : Member) : Type 0 where
+  pub is : (c : Cluster) (me : ℕ) (ruled : RuleNode) → IsMember c me old ruled → IsMember c me new ruled
+  pub fused : (fuse : Option Fuse) → IsFused old.fuse (records_of old) fuse → IsFused new.fuse (records_of new) (new_fuse calls image)
+
+pub record SetsOnFallen (calls image : ℕ) (old new : Fallen) : Type 0 where
+  pub is : (starts : ℕ) (owed met : List Met) (fuse : Option Fuse) → IsFallen old starts owed met fuse → IsFallen new starts owed met (new_fuse calls image)
+
+abbrev pub SetsFuse : ℕ → ℕ → Place → Place → Type 0
+SetsFuse calls image (Up old) (Up new) = SetsOnMember calls image old new
+SetsFuse calls image (Up old) (Down new) = ⊥
+SetsFuse calls image (Down old) (Up new) = ⊥
+SetsFuse calls image (Down old) (Down new) = SetsOnFallen calls image old new
+
+-- so in one place of all
+pub record SetsFuseAt (calls image : ℕ) (old : List Place) (i : ℕ) (was : Place) (new : List Place) : Type 0 where
+  pub is : Place
+  pub sets : SetsFuse calls image was is
+  pub places : new ≡ set old i is

@@ -1,0 +1,123 @@
+//! A node of a world that is up, over logs and rows in memory, with the fuse on its log.
+ghost use Rattle.std.specs.Prelude.{◌≡◌, ◌≢◌, ◌⊎◌, ◌+◌, ℕ, Err, Option, false};
+ghost use Rattle.mega_actions.specs.Built.{is_built};
+ghost use Rattle.mega_cluster.specs.declared.cluster.Cluster.{Cluster};
+ghost use Rattle.mega_leases.specs.Taking.{IsByStranger, IsLate};
+ghost use Rattle.mega_rules.specs.Operations.{Node as RuleNode};
+ghost use Rattle.mega_rules.specs.Steps.{Begin, Take, Tick};
+ghost use Rattle.mega_promises.specs.Runs.{Fuse, after_append, new_fuse};
+ghost use Rattle.mega_world.specs.declared.fault.WorldFault.TheVariants.{Limit, Refused, Unbuilt};
+ghost use Rattle.mega_world.specs.declared.not_made.NotMade.TheVariants.{Fault};
+ghost use Rattle.mega_world.specs.LogFuses.{HasRoom, IsFused, run_fuse};
+ghost use Rattle.mega_world.specs.Members.{IsMember, records_of};
+ghost use Rattle.mega_world.specs.Stepping.{AtEachNode, IsSome, Outcome};
+
+use crate::fault::{fault_of, log_fault_of};
+use crate::log_fuse::{LogFuse, after_append};
+use crate::not_made::NotMade;
+use mega_base::Text;
+use mega_core::Step;
+use mega_disk::MemRecords;
+use mega_durable::{Up, UpFault};
+use mega_outcome::Request;
+use mega_rows::VersionedRows;
+use mega_wire::Message;
+use std::alloc::Global;
+
+/// A node that is up, and the fuse that is set on its log.
+#[derive(Drop)]
+pub struct Member {
+    pub(crate) up: Up<MemRecords, VersionedRows>,
+    pub(crate) fuse: Option<LogFuse>,
+}
+
+/// A fuse, if one is set, where there were so many records before and are so many now.
+fn counted(fuse: Option<LogFuse>, before: u64, now: u64) -> Option<LogFuse>
+    ensures same { before ≡ now → result ≡ fuse }
+    ensures more { now ≡ before + 1 → HasRoom (run_fuse fuse) → run_fuse result ≡ after_append (run_fuse fuse) }
+{
+    if before < now {
+        return after_append(fuse);
+    }
+    fuse
+}
+
+impl Member {
+    /// The node takes a message.
+    pub(crate) fn take(&mut self, alloc: Global, message: &Message) -> Result<Step, NotMade>
+        requires known { IsSome self.old (Take message.now) }
+        ensures made { AtEachNode self.old (Take message.now) (λ c h me ruled fuse. Outcome c h me ruled (Take message.now) fuse self.new result) }
+        ensures unbuilt { result ≡ Err (Fault Unbuilt) → (c : Cluster) (me : ℕ) (ruled : RuleNode) → IsMember c me self.old ruled → IsByStranger message.now.from message.now.body ⊎ IsLate c message.now.body }
+        ensures served { (why : ℕ) → result ≢ Err (Fault (Refused why)) }
+        ensures limited { result ≢ Err (Fault Limit) }
+    {
+        let before = self.up.node.replica.voter.records();
+        match self.up.take(alloc, message) {
+            Ok(made) => {
+                self.fuse = counted(self.fuse, before, self.up.node.replica.voter.records());
+                Ok(made)
+            }
+            Err(UpFault::Cut(cut)) => Err(NotMade::Cut(cut)),
+            Err(UpFault::Step(fault)) => Err(NotMade::Fault(fault_of(fault))),
+            Err(UpFault::Log(fault)) => Err(NotMade::Fault(log_fault_of(fault))),
+        }
+    }
+
+    /// An operation begins at the node; the text is its request.
+    pub(crate) fn begin(
+        &mut self,
+        alloc: Global,
+        request: Request,
+        text: &Text,
+    ) -> Result<Step, NotMade>
+        requires known { IsSome self.old (Begin request text.now) }
+        ensures made { AtEachNode self.old (Begin request text.now) (λ c h me ruled fuse. Outcome c h me ruled (Begin request text.now) fuse self.new result) }
+        ensures unbuilt { result ≡ Err (Fault Unbuilt) → is_built request ≡ false }
+        ensures served { (why : ℕ) → result ≢ Err (Fault (Refused why)) }
+        ensures limited { result ≢ Err (Fault Limit) }
+    {
+        let before = self.up.node.replica.voter.records();
+        match self.up.begin(alloc, request, text) {
+            Ok(made) => {
+                self.fuse = counted(self.fuse, before, self.up.node.replica.voter.records());
+                Ok(made)
+            }
+            Err(UpFault::Cut(cut)) => Err(NotMade::Cut(cut)),
+            Err(UpFault::Step(fault)) => Err(NotMade::Fault(fault_of(fault))),
+            Err(UpFault::Log(fault)) => Err(NotMade::Fault(log_fault_of(fault))),
+        }
+    }
+
+    /// The clock of the node shows a time.
+    pub(crate) fn tick(&mut self, alloc: Global, clock: u64) -> Result<Step, NotMade>
+        requires known { IsSome self.old (Tick clock) }
+        ensures made { AtEachNode self.old (Tick clock) (λ c h me ruled fuse. Outcome c h me ruled (Tick clock) fuse self.new result) }
+        ensures built { result ≢ Err (Fault Unbuilt) }
+        ensures served { (why : ℕ) → result ≢ Err (Fault (Refused why)) }
+        ensures limited { result ≢ Err (Fault Limit) }
+    {
+        let before = self.up.node.replica.voter.records();
+        match self.up.tick(alloc, clock) {
+            Ok(made) => {
+                self.fuse = counted(self.fuse, before, self.up.node.replica.voter.records());
+                Ok(made)
+            }
+            Err(UpFault::Cut(cut)) => Err(NotMade::Cut(cut)),
+            Err(UpFault::Step(fault)) => Err(NotMade::Fault(fault_of(fault))),
+            Err(UpFault::Log(fault)) => Err(NotMade::Fault(log_fault_of(fault))),
+        }
+    }
+
+    /// A fuse is set on the log of the node.
+    pub(crate) fn set_fuse(&mut self, calls: u64, image: u8)
+        ensures member { (c : Cluster) (me : ℕ) (ruled : RuleNode) → IsMember c me self.old ruled → IsMember c me self.new ruled }
+        ensures fused { (fuse : Option Fuse) → IsFused self.old.fuse (records_of self.old) fuse → IsFused self.new.fuse (records_of self.new) (new_fuse calls image) }
+    {
+        self.up.fuse(calls, image);
+        self.fuse = Some(LogFuse {
+            calls,
+            image,
+            appended: 0,
+        });
+    }
+}
