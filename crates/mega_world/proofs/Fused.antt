@@ -16,7 +16,6 @@ use Rattle.mega_world.specs.Fusing.{SetsFuse, SetsFuseAt}
 use Rattle.mega_world.specs.Carries.{Carries}
 use Rattle.mega_world.specs.Kept.{AreNodes, IsKept}
 use Rattle.mega_world.specs.Lapses.{KnowsLeases}
-
 use Rattle.mega_world.specs.Members.{AreMembers, member_in}
 use Rattle.mega_world.specs.Stands.{IsAt}
 use Rattle.mega_world.proofs.Joining.{IsPlace, at_other, at_own, kept_on, joined, member_is, member_up, place_at}

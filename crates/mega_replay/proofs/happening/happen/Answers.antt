@@ -49,13 +49,15 @@ apply-requires c =
     let cluster = c.args.cluster.now in
     let done = c.requires.standing.0 in
     let events = c.requires.standing.1 in
-    let after = c.requires.standing.2 in record { known = record {
-      cluster = cluster;
-      handlers = [];
-      now = stood cluster events;
-      at = after.here;
-      sound = λ allowed. sound cluster done events c.args.number c.args.line.now c.args.event after.declared after.happen c.requires.spelled allowed;
-    } }
+    let after = c.requires.standing.2 in record {
+      known = record {
+        cluster = cluster;
+        handlers = [];
+        now = stood cluster events;
+        at = after.here;
+        sound = λ allowed. sound cluster done events c.args.number c.args.line.now c.args.event after.declared after.happen c.requires.spelled allowed;
+      };
+    }
 
 pub returns-in-Ok-clause-refused : goal.returns-in-Ok-clause-refused
 returns-in-Ok-clause-refused c at why is done events after = let none : ⊥ = cc in absurd none
