@@ -33,5 +33,5 @@ returns-in-Ok-clause-node c h =
       owes = refl;
       fused = record { kept_is = refl; left = c.new.ensures.unset; image = tt; unburnt = tt };
     } in
-    let begins = rw c.in-Ok.field-0-is at (c.in-Ok.ensures.begun 0 [] [] None is) in
-    record { is = subst (λ (k : Cluster). IsMember k c.args.me c.in-Ok.member (start (setting k h c.args.me) 1 [] [])) c.in_ok-own.ensures (begins.is h); fused = begins.fused }
+    let begins = c.in-Ok.ensures.begun 0 [] [] None is in
+    record { is = subst (λ (k : Cluster). IsMember k c.args.me c.in-Ok.begun.member (start (setting k h c.args.me) 1 [] [])) c.in_ok-own.ensures (begins.is h); fused = begins.fused }
