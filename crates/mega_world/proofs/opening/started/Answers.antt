@@ -4,7 +4,6 @@ use Rattle.mega_core.specs.Served.{IsServed}
 use Rattle.mega_rules.specs.Members.{is_node}
 use Rattle.mega_rules.specs.Steps.{start}
 use Rattle.mega_promises.specs.Runs.{setting}
-use Rattle.mega_world.specs.declared.fallen.Fallen.{Fallen}
 use Rattle.mega_world.specs.Kept.{IsFallen}
 use Rattle.mega_world.specs.Members.{IsMember}
 use Rattle.mega_world.proofs.Anew.{nothing_held}

@@ -1,4 +1,4 @@
-use Rattle.std.proofs.Common.{◌≡◌, ◌∙◌, [], refl, sym}
+use Rattle.std.proofs.Common.{◌∙◌, [], refl, sym}
 use Rattle.mega_world.proofs.Anew.{cut_over, started_over}
 use Rattle.mega_world.proofs.starting.started.Goals as goal
 
