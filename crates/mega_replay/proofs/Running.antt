@@ -132,7 +132,7 @@ module _ (c : Cluster) (declared : IsDeclared c.schema) where
           let allowed = next_allowed c now number some in (
             owns_delivered done number now fits is allowed,
             rest (done ++ next number ∷ []) (delivered c [] by_fuse now number)
-            (each_append (FitsOne (usage c.schema)) done (next number ∷ []) fits (record { brought = record { moment = []; is = refl }; meant = tt }, tt)) (one_more done number now is allowed),
+                (each_append (FitsOne (usage c.schema)) done (next number ∷ []) fits (record { brought = record { moment = []; is = refl }; meant = tt }, tt)) (one_more done number now is allowed),
           )
 
   owns : (done : List Happening) (now : Standing) (event : WorldEvent) → Fits (usage c.schema) done → FitsOne (usage c.schema) (record { handlers = []; event = event }) → goes_on c by_fuse (opening c []) done ≡ now → refusal c now event ≡ None

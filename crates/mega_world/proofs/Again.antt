@@ -1,12 +1,10 @@
 -- A node that starts again: what its records held before, and what its cluster's run keeps.
-use Rattle.std.proofs.Common.{◌≡◌, ℕ, ◌+◌, ◌-◌, ◌≤◌, ◌==◌, ◌++◌, ◌∷◌, [], Bool, true, false, cond, List, length, flat_map, nat_lt, set, Option, Some, None, refl, sym, ap, ◌∙◌, subst, arith}
-use Rattle.std.proofs.lemmas.Bool.Decides.{nat_tests}
+use Rattle.std.proofs.Common.{◌≡◌, ℕ, ◌+◌, ◌-◌, ◌≤◌, ◌++◌, ◌∷◌, [], Bool, true, false, cond, List, length, flat_map, nat_lt, set, Option, Some, None, refl, sym, ap, ◌∙◌, subst, arith}
 use Rattle.std.specs.List.{All, slice_get}
 use Rattle.std.proofs.lemmas.List.Elements.{All-append, All-cons, All-head, All-nil, All-tail}
 use Rattle.mega_base.specs.declared.names.Epoch.{Epoch}
 use Rattle.mega_base.specs.declared.names.GroupId.{GroupId}
 use Rattle.mega_cluster.specs.declared.cluster.Cluster.{Cluster}
-use Rattle.mega_handler.specs.Named.{Meanings}
 use Rattle.mega_leases.specs.Opening.{AreOwed}
 use Rattle.mega_wal.specs.History.{granted_of}
 use Rattle.mega_wal.specs.Kept.{slot_of}
@@ -15,14 +13,13 @@ use Rattle.mega_rules.specs.Met.{Met, Starts, Crashes, Ticks, Begins, Takes, Sen
 use Rattle.mega_rules.specs.Logs.{groups_of, prefix_of}
 use Rattle.mega_rules.specs.Members.{has_rows}
 use Rattle.mega_rules.specs.Operations.{Setting}
-use Rattle.mega_rules.specs.Steps.{crashed, onto, start, start_items, start_note, start_notes}
+use Rattle.mega_rules.specs.Steps.{crashed, onto, start, start_note, start_notes}
 use Rattle.mega_voter.specs.Holding.{HoldsMet, is_no_start}
 use Rattle.mega_voter.proofs.Begun.{Beside, beside_more}
 use Rattle.mega_voter.proofs.Opened.{granted_without, slots_without}
 use Rattle.mega_voter.specs.Journal.{journal_of}
 use Rattle.mega_promises.specs.Runs.{Standing, after_append, cut_start, has_lapsed, is_kept, left_by, set_at, setting}
 use Rattle.mega_world.specs.declared.fallen.Fallen.{Fallen}
-use Rattle.mega_world.specs.declared.member.Member.{Member}
 use Rattle.mega_world.specs.declared.place.Place.{Place}
 use Rattle.mega_world.specs.declared.place.Place.TheVariants.{Up, Down}
 use Rattle.mega_world.specs.declared.log_fuse.LogFuse.{LogFuse}

@@ -1,5 +1,5 @@
 -- Logs that are opened anew over what a node left, and a node that starts over them.
-use Rattle.std.proofs.Common.{◌≡◌, ℕ, ◌+◌, ◌≤◌, ◌&&◌, cond, Bool, true, false, List, [], ◌∷◌, map, Option, None, refl, sym, ap, ◌∙◌, subst, arith}
+use Rattle.std.proofs.Common.{◌≡◌, ℕ, ◌+◌, ◌&&◌, cond, true, false, List, [], ◌∷◌, map, Option, None, refl, sym, ap, ◌∙◌, subst, arith}
 use Rattle.mega_cluster.specs.declared.cluster.Cluster.{Cluster}
 use Rattle.mega_disk.specs.declared.mem_records.MemRecords.{MemRecords}
 use Rattle.mega_disk.specs.Fuse.{Unset, after_append as less, is_short, keeps_record}
@@ -11,10 +11,9 @@ use Rattle.mega_voter.specs.declared.voter.Voter.{Voter}
 use Rattle.mega_voter.specs.Holding.{HoldsMet, Recalls}
 use Rattle.mega_core.specs.Notes.{met_of}
 use Rattle.mega_durable.specs.declared.cut.Cut.{Cut}
-use Rattle.mega_promises.specs.Runs.{AsItWas, Fuse, Recorded, after_append, is_burning, is_kept, left_by, setting}
+use Rattle.mega_promises.specs.Runs.{AsItWas, Fuse, Recorded, after_append, is_burning, is_kept, setting}
 use Rattle.mega_world.specs.declared.fallen.Fallen.{Fallen}
 use Rattle.mega_world.specs.declared.log_fuse.LogFuse.{LogFuse}
-use Rattle.mega_world.specs.declared.member.Member.{Member}
 use Rattle.mega_world.specs.declared.starting.Begun.{Begun}
 use Rattle.mega_world.specs.Kept.{IsFallen}
 use Rattle.mega_world.specs.LogFuses.{HasRoom, IsFused, run_fuse}

@@ -1,5 +1,5 @@
 -- What a step that is whole shows, and where a drain goes on.
-use Rattle.std.proofs.Common.{◌≡◌, ℕ, ◌+◌, List, [], ◌∷◌, flat_map, Some, None, ap, ◌∙◌, zero, suc}
+use Rattle.std.proofs.Common.{◌≡◌, ℕ, ◌+◌, List, flat_map, Some, None, ap, zero, suc}
 use Rattle.mega_cluster.specs.declared.cluster.Cluster.{Cluster}
 use Rattle.mega_handler.specs.Named.{Meanings}
 use Rattle.mega_schedule.specs.declared.world_event.WorldEvent.TheVariants.{Deliver}

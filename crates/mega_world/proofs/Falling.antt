@@ -16,7 +16,6 @@ use Rattle.mega_format_laws.specs.Nodes.{IsNode}
 use Rattle.mega_member_laws.specs.Nodes.{StaysWithin}
 use Rattle.mega_rules.specs.Clock.{start_of}
 use Rattle.mega_rules.specs.Met.{Crashes, Met}
-use Rattle.mega_rules.specs.Operations.{Node}
 use Rattle.mega_rules.specs.Steps.{crashed, onto}
 use Rattle.mega_voter.specs.Holding.{HoldsMet}
 use Rattle.mega_promises.specs.Runs.{Standing, after_event, by_fuse, crashes, has_lapsed, set_at}
@@ -34,7 +33,7 @@ use Rattle.mega_world.specs.Stands.{IsAt}
 use Rattle.mega_world.specs.Within.{RunsWithin}
 use Rattle.mega_world.proofs.Carrying.{shown_on}
 use Rattle.mega_world.proofs.Fates.{start_cut}
-use Rattle.mega_world.proofs.Joining.{at_other, at_own, nodes_on}
+use Rattle.mega_world.proofs.Joining.{at_other, nodes_on}
 use Rattle.mega_world.proofs.Outcomes.{StandsAt, stands_at, up_at}
 
 -- a crash is met, and is nothing that records hold

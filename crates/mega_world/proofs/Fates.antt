@@ -1,5 +1,5 @@
 -- What events lead to under fuses that fail at the append which they name.
-use Rattle.std.proofs.Common.{◌≡◌, ℕ, ◌+◌, ◌++◌, ◌∷◌, [], ◌&&◌, cond, Bool, true, false, List, Some, None, refl, subst, sym, ap, ◌∙◌}
+use Rattle.std.proofs.Common.{◌≡◌, ℕ, ◌∷◌, [], ◌&&◌, cond, true, false, List, Some, None, subst, sym, ap, ◌∙◌}
 use Rattle.mega_cluster.specs.declared.cluster.Cluster.{Cluster}
 use Rattle.mega_handler.specs.Named.{Meanings}
 use Rattle.mega_schedule.specs.declared.world_event.WorldEvent.TheVariants.{Deliver}

@@ -6,8 +6,6 @@ use Rattle.mega_cluster.specs.declared.cluster.Cluster.{Cluster}
 use Rattle.mega_disk.specs.declared.pair.Device.{Device}
 use Rattle.mega_disk.specs.declared.pair.Device.TheVariants.{Log, Data}
 use Rattle.mega_transcript.specs.declared.item.Item.{Item}
-use Rattle.mega_rules.specs.Clock.{is_up}
-use Rattle.mega_rules.specs.Operations.{Node}
 use Rattle.mega_promises.specs.Runs.{Standing, fused, new_fuse, set_at}
 use Rattle.mega_world.specs.declared.place.Place.{Place}
 use Rattle.mega_world.specs.declared.place.Place.TheVariants.{Up, Down}
@@ -16,7 +14,6 @@ use Rattle.mega_world.specs.Fusing.{SetsFuse, SetsFuseAt}
 use Rattle.mega_world.specs.Carries.{Carries}
 use Rattle.mega_world.specs.Kept.{AreNodes, IsKept}
 use Rattle.mega_world.specs.Lapses.{KnowsLeases}
-
 use Rattle.mega_world.specs.Members.{AreMembers, member_in}
 use Rattle.mega_world.specs.Stands.{IsAt}
 use Rattle.mega_world.proofs.Joining.{IsPlace, at_other, at_own, kept_on, joined, member_is, member_up, place_at}

@@ -1,10 +1,10 @@
 -- The fuse of a run, of a node's records, and the one that is kept beside the node: what an append makes of each.
-use Rattle.std.proofs.Common.{◌≡◌, ℕ, ◌+◌, ◌-◌, ◌*◌, ◌/◌, ◌%◌, ◌≤◌, ◌<◌, ◌==◌, ◌&&◌, ◌||◌, not, nat_le, nat_lt, cond, Bool, true, false, Option, Some, None, refl, sym, ap, ◌∙◌, subst, arith}
+use Rattle.std.proofs.Common.{◌≡◌, ℕ, ◌+◌, ◌-◌, ◌*◌, ◌/◌, ◌≤◌, ◌<◌, ◌==◌, ◌&&◌, ◌||◌, not, nat_le, nat_lt, cond, Bool, true, false, Option, Some, None, refl, sym, ap, ◌∙◌, subst, arith}
 use Rattle.std.proofs.lemmas.Bool.Decides.{nat_tests}
 use Rattle.mega_disk.specs.declared.mem_records.MemRecords.{MemRecords}
-use Rattle.mega_disk.specs.Fuse.{Fuse as CallsLeft, Left as CallsAre, Unset, Untold, after_append as less, is_short, keeps_record}
+use Rattle.mega_disk.specs.Fuse.{Left as CallsAre, Unset, after_append as less, is_short, keeps_record}
 use Rattle.mega_disk.specs.MemDisk.{fuse_of, image_of}
-use Rattle.mega_promises.specs.Runs.{AsItWas, Calls, CutByData, CutByLog, Fate, Fuse, Left, Recorded, Standing, Whole, after_append, by_fuse, fate_by, fate_of, is_burning, is_kept, is_left_by_log, left_by, may_become}
+use Rattle.mega_promises.specs.Runs.{AsItWas, Calls, CutByLog, Fuse, Recorded, Standing, Whole, after_append, by_fuse, fate_by, fate_of, is_burning, is_left_by_log, left_by, may_become}
 use Rattle.mega_world.specs.declared.log_fuse.LogFuse.{LogFuse}
 use Rattle.mega_world.specs.LogFuses.{HasImage, HasRoom, IsFused, IsUnburnt, left_of, run_fuse}
 

@@ -2,11 +2,9 @@
 use Rattle.std.proofs.Common.{◌≡◌, ◌⊎◌, ℕ, ◌+◌, ◌==◌, ◌≤◌, cond, Bool, true, false, List, [], ◌∷◌, ◌++◌, map, flat_map, length, Some, inl, inr, refl, sym, ap, ◌∙◌, subst, arith}
 use Rattle.std.proofs.lemmas.Bool.Decides.{nat_tests}
 use Rattle.std.specs.List.{All}
-use Rattle.std.proofs.lemmas.List.Elements.{All-append, All-cons, All-nil, All-push}
+use Rattle.std.proofs.lemmas.List.Elements.{All-append, All-cons, All-nil}
 use Rattle.mega_base.specs.Codec.{IsBetween}
 use Rattle.mega_base.specs.declared.names.Epoch.{Epoch}
-use Rattle.mega_base.specs.declared.names.NodeId.{NodeId}
-use Rattle.mega_base.specs.declared.names.OpId.{OpId}
 use Rattle.mega_cluster.specs.declared.cluster.Cluster.{Cluster}
 use Rattle.mega_handler.specs.Named.{Meanings}
 use Rattle.mega_leases.specs.Taking.{IsByStranger, IsLate}
@@ -20,7 +18,7 @@ use Rattle.mega_transcript.specs.Lines.{HasLine}
 use Rattle.mega_transcript.specs.Tape.{newest, onto, sent_count}
 use Rattle.mega_transcript.proofs.Tapes.{newest-append, onto-append}
 use Rattle.mega_rules.specs.Members.{is_node}
-use Rattle.mega_rules.specs.Met.{Begins, Crashes, Met, Ticks}
+use Rattle.mega_rules.specs.Met.{Begins, Crashes, Met}
 use Rattle.mega_rules.specs.Operations.{Node as RuleNode, Setting}
 use Rattle.mega_rules.specs.Steps.{Begin, Event, Step as RuleStep, Take, Tick, crashed, op_of, onto as met_onto, step}
 use Rattle.mega_format_laws.specs.Histories.{IsItem, IsMet}
@@ -31,7 +29,6 @@ use Rattle.mega_promises.specs.Messages.{is_unsafe, message_of}
 use Rattle.mega_promises.specs.Runs.{Standing, at_node, by_fuse, has_lapsed, is_kept, left_by, met_in, owes, replies_in, set_at, setting, whole_step, with_items}
 use Rattle.mega_core.specs.declared.step.Step.{Step}
 use Rattle.mega_core.specs.Notes.{met_of}
-use Rattle.mega_world.specs.declared.mail.Mail.{Mail}
 use Rattle.mega_world.specs.declared.safety.Safety.{Safety}
 use Rattle.mega_world.specs.declared.stepping.Stepped.{Stepped}
 use Rattle.mega_world.specs.declared.stepping.Stepped.TheVariants as stepped
@@ -44,16 +41,15 @@ use Rattle.mega_world.specs.Showing.{IsShown, IsStepped, LinesStep, ShowsCrash, 
 use Rattle.mega_world.specs.Shown.{notes_shown}
 use Rattle.mega_world.specs.Stands.{IsAt}
 use Rattle.mega_world.specs.Stepping.{Comes, Falls, Makes, cut_off}
-use Rattle.mega_world.specs.Within.{RunsWithin}
 use Rattle.mega_world.proofs.Carrying.{shown_on}
 use Rattle.mega_world.proofs.Events.{step_shows}
 use Rattle.mega_world.proofs.Fates.{cut_tape, step_cut, step_whole}
-use Rattle.mega_world.proofs.Forming.{formed_on, is_member, made_formed}
+use Rattle.mega_world.proofs.Forming.{formed_on, is_member}
 use Rattle.mega_world.proofs.Lapsing.{step_lapsed}
 use Rattle.mega_world.proofs.Lining.{notes_lines, sent_lines}
 use Rattle.mega_world.proofs.Owed.{if_kept, owes_formed, owes_within}
 use Rattle.mega_world.proofs.Plain.{with_append, with_sent}
-use Rattle.mega_world.proofs.Within.{made_within, within_on}
+use Rattle.mega_world.proofs.Within.{within_on}
 
 -- an event's own items: they are no messages', show nothing of leases, and have lines
 pub record AreOwn (c : Cluster) (own : List Item) : Type 0 where

@@ -1,12 +1,11 @@
 -- The places of a world once a node stepped or went down.
-use Rattle.std.proofs.Common.{◌≡◌, ℕ, ◌+◌, ◌-◌, ◌<◌, ◌≤◌, ◌==◌, cond, Bool, true, false, List, [], ◌∷◌, length, set, Option, Some, None, is_some, refl, sym, ap, ◌∙◌, subst, zero, suc, arith}
+use Rattle.std.proofs.Common.{◌≡◌, ℕ, ◌+◌, ◌-◌, ◌<◌, ◌≤◌, ◌==◌, cond, Bool, true, false, List, [], ◌∷◌, length, set, Some, None, is_some, refl, sym, ap, ◌∙◌, subst, zero, suc, arith}
 use Rattle.std.proofs.lemmas.Bool.Decides.{nat_tests}
 use Rattle.std.specs.List.{slice_get}
 use Rattle.mega_cluster.specs.declared.cluster.Cluster.{Cluster}
 use Rattle.mega_rules.specs.Clock.{is_up}
 use Rattle.mega_rules.specs.Operations.{Node as RuleNode}
-use Rattle.mega_rules.specs.Met.{Met}
-use Rattle.mega_promises.specs.Runs.{Fuse, Standing, set_at}
+use Rattle.mega_promises.specs.Runs.{Standing, set_at}
 use Rattle.mega_world.specs.declared.place.Place.{Place}
 use Rattle.mega_world.specs.declared.place.Place.TheVariants.{Up, Down}
 use Rattle.mega_world.specs.declared.fallen.Fallen.{Fallen}

@@ -1,30 +1,27 @@
 -- What becomes of the nodes of a world by the step of one of them.
-use Rattle.std.proofs.Common.{◌≡◌, ℕ, ◌+◌, ◌-◌, ◌<◌, ◌≤◌, ◌==◌, ◌&&◌, cond, Bool, true, false, List, [], length, set, ◌∷◌, Option, Result, Ok, Err, Some, None, refl, sym, ap, ◌∙◌, subst, arith}
+use Rattle.std.proofs.Common.{◌≡◌, ℕ, ◌+◌, ◌-◌, ◌<◌, ◌≤◌, ◌==◌, ◌&&◌, cond, Bool, true, false, List, [], length, set, ◌∷◌, Some, None, refl, sym, ap, ◌∙◌, subst, arith}
 use Rattle.std.proofs.lemmas.Bool.Decides.{nat_tests}
 use Rattle.std.specs.List.{slice_get}
 use Rattle.mega_cluster.specs.declared.cluster.Cluster.{Cluster}
-use Rattle.mega_disk.specs.declared.mem_records.MemRecords.{MemRecords}
 use Rattle.mega_handler.specs.Named.{Meanings}
-use Rattle.mega_transcript.specs.declared.item.Item.{Item}
 use Rattle.mega_leases.specs.Opening.{AreOwed}
 use Rattle.mega_rules.specs.Clock.{is_up, start_of}
 use Rattle.mega_rules.specs.Met.{Met, Crashes}
-use Rattle.mega_rules.specs.Operations.{Node as RuleNode, Setting}
+use Rattle.mega_rules.specs.Operations.{Node as RuleNode}
 use Rattle.mega_rules.specs.Steps.{Begin, Event, Step as RuleStep, Take, Tick, crashed, onto, step}
 use Rattle.mega_node_laws.specs.Acted.{own_item}
 use Rattle.mega_core.specs.declared.step.Step.{Step}
 use Rattle.mega_durable.specs.declared.cut.Cut.{Cut}
-use Rattle.mega_durable.specs.Cut.{HoldsCut}
 use Rattle.mega_durable.specs.Replying.{owed_by}
-use Rattle.mega_promises.specs.Runs.{Fuse, Left, Standing, after_append, appends, is_burning, is_kept, left_by, met_in, owes, replies_in, set_at, setting, whole_step}
+use Rattle.mega_promises.specs.Runs.{Standing, after_append, appends, is_burning, is_kept, left_by, met_in, owes, replies_in, set_at, setting, whole_step}
 use Rattle.mega_voter.specs.Holding.{HoldsMet}
 use Rattle.mega_world.specs.declared.fallen.Fallen.{Fallen}
 use Rattle.mega_world.specs.declared.member.Member.{Member}
 use Rattle.mega_world.specs.declared.place.Place.{Place}
 use Rattle.mega_world.specs.declared.place.Place.TheVariants.{Up, Down}
-use Rattle.mega_world.specs.Kept.{AreNodes, IsFallen, IsKept, IsSettled, owed_of}
+use Rattle.mega_world.specs.Kept.{AreNodes, IsSettled, owed_of}
 use Rattle.mega_world.specs.LogFuses.{IsFused, run_fuse}
-use Rattle.mega_world.specs.Members.{IsMember, is_up_at, member_of, records_of}
+use Rattle.mega_world.specs.Members.{IsMember, is_up_at, records_of}
 use Rattle.mega_world.specs.Stepping.{Falls, MadeStep, Makes, WasCut, cut_off}
 use Rattle.mega_world.proofs.Fuses.{fused_gone}
 use Rattle.mega_world.proofs.Joining.{at_other, at_own, get_set, member_up, nodes_on, not_down, place_at, set_twice}

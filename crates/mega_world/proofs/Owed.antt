@@ -1,9 +1,8 @@
 -- What a step that was cut off leaves owed is of the format and stays within the cluster.
-use Rattle.std.proofs.Common.{◌≡◌, ℕ, cond, Bool, true, false, List, [], ◌∷◌, ◌++◌, map, filter}
+use Rattle.std.proofs.Common.{ℕ, cond, Bool, true, false, List, [], ◌∷◌, map, filter}
 use Rattle.mega_cluster.specs.declared.cluster.Cluster.{Cluster}
 use Rattle.mega_wire.specs.declared.message.Message.{Message}
 use Rattle.mega_rules.specs.Met.{Met, Unsends}
-use Rattle.mega_rules.specs.Operations.{Node, Setting}
 use Rattle.mega_rules.specs.Steps.{Begin, Event, Step, Take, Tick}
 use Rattle.mega_format_laws.specs.Histories.{IsMet}
 use Rattle.mega_format_laws.specs.Histories.{IsItem}

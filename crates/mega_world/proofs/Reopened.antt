@@ -1,6 +1,5 @@
 -- A world one of whose nodes started again stands as the run does afterwards.
-use Rattle.std.proofs.Common.{◌≡◌, ℕ, ◌+◌, ◌==◌, ◌≤◌, ◌++◌, ◌∷◌, [], Bool, true, false, cond, List, flat_map, nat_lt, refl, sym, ap, ◌∙◌, subst, append_assoc, arith}
-use Rattle.std.proofs.lemmas.Bool.Decides.{nat_tests}
+use Rattle.std.proofs.Common.{◌≡◌, ℕ, ◌+◌, ◌==◌, ◌++◌, ◌∷◌, [], Bool, true, false, cond, List, flat_map, nat_lt, refl, sym, ap, ◌∙◌, subst, append_assoc}
 use Rattle.std.specs.List.{All}
 use Rattle.mega_base.specs.Names.{IsU32}
 use Rattle.mega_base.specs.declared.names.GroupId.{GroupId}
@@ -24,7 +23,7 @@ use Rattle.mega_rules.specs.Met.{Applies, Met, Starts}
 use Rattle.mega_rules.specs.Operations.{Node, Setting}
 use Rattle.mega_rules.specs.Steps.{onto, start, start_items, start_note, start_notes}
 use Rattle.mega_promises.specs.Items.{number, shown}
-use Rattle.mega_promises.specs.Runs.{Standing, after_event, by_fuse, has_lapsed, set_at, setting, with_items}
+use Rattle.mega_promises.specs.Runs.{Standing, after_event, by_fuse, has_lapsed, setting, with_items}
 use Rattle.mega_world.specs.declared.place.Place.{Place}
 use Rattle.mega_world.specs.declared.restarting.Shown.{Shown}
 use Rattle.mega_world.specs.declared.world.World.{World}

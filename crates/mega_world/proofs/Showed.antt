@@ -1,5 +1,5 @@
 -- What a start owed is shown, one after another.
-use Rattle.std.proofs.Common.{◌≡◌, ◌×◌, ℕ, ◌==◌, cond, Bool, true, false, List, [], ◌∷◌, ◌++◌, map, flat_map, Option, Some, None, refl, sym, ap, ◌∙◌, subst, append_assoc, arith}
+use Rattle.std.proofs.Common.{◌≡◌, ℕ, ◌==◌, cond, Bool, true, false, List, [], ◌∷◌, ◌++◌, map, flat_map, refl, sym, ap, ◌∙◌, subst, append_assoc, arith}
 use Rattle.std.proofs.lemmas.Bool.Decides.{nat_tests}
 use Rattle.std.specs.BTreeSet.{BTreeSet}
 use Rattle.std.specs.List.{All}
@@ -15,7 +15,6 @@ use Rattle.mega_transcript.proofs.Tapes.{newest-append, onto-append}
 use Rattle.mega_rules.specs.Met.{Met, Unsends}
 use Rattle.mega_rules.specs.Operations.{Node as RuleNode}
 use Rattle.mega_rules.specs.Steps.{onto as met_onto}
-use Rattle.mega_core.specs.declared.note.Note.{Note}
 use Rattle.mega_core.specs.Notes.{met_of}
 use Rattle.mega_durable.specs.declared.cut.Cut.{Cut}
 use Rattle.mega_durable.specs.Replying.{owed_by}
@@ -24,11 +23,9 @@ use Rattle.mega_promises.specs.Messages.{is_unsafe}
 use Rattle.mega_promises.specs.Runs.{has_lapsed, set_at, with_items}
 use Rattle.mega_world.specs.declared.restarting.Shown.{Shown}
 use Rattle.mega_world.specs.declared.safety.Lapse.{Lapse}
-use Rattle.mega_world.specs.declared.safety.Safety.{Safety}
 use Rattle.mega_world.specs.declared.world.World.{World}
 use Rattle.mega_world.specs.Kept.{owed_of}
 use Rattle.mega_world.specs.Lapses.{AreLapsesOf, KnowsLeases}
-use Rattle.mega_world.specs.Members.{AreMembers}
 use Rattle.mega_world.specs.Owing.{IsOwing, ShowsOwed, ShowsStart}
 use Rattle.mega_world.specs.Shown.{notes_shown}
 use Rattle.mega_world.proofs.Plain.{with_append}

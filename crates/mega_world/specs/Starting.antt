@@ -1,5 +1,5 @@
 -- What becomes of a start of a node that is down.
-use Rattle.std.specs.Prelude.{◌≡◌, ℕ, ◌+◌, true, false, if◌then◌else◌, List, [], ◌∷◌, map, Option, Some, None}
+use Rattle.std.specs.Prelude.{◌≡◌, ℕ, ◌+◌, true, false, if◌then◌else◌, List, ◌∷◌, map, Option, None}
 use Rattle.mega_cluster.specs.declared.cluster.Cluster.{Cluster}
 use Rattle.mega_disk.specs.declared.mem_records.MemRecords.{MemRecords}
 use Rattle.mega_disk.specs.Fuse.{Unset}

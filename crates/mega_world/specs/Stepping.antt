@@ -1,5 +1,5 @@
 -- What becomes of a step of a node that is up: it makes it whole, or its log's fuse cuts it off.
-use Rattle.std.specs.Prelude.{◌≡◌, ℕ, ◌&&◌, true, false, if◌then◌else◌, List, [], ◌∷◌, map, Option, Some, None, Result, Ok, Err}
+use Rattle.std.specs.Prelude.{◌≡◌, ℕ, ◌&&◌, true, false, if◌then◌else◌, List, [], ◌∷◌, map, Option, None, Result, Ok, Err}
 use Rattle.mega_cluster.specs.declared.cluster.Cluster.{Cluster}
 use Rattle.mega_disk.specs.Fuse.{Unset}
 use Rattle.mega_disk.specs.MemDisk.{fuse_of}

@@ -62,12 +62,7 @@ impl World {
     }
 
     /// A node that is there goes down.
-    fn crashes(
-        &mut self,
-        alloc: Global,
-        node: NodeId,
-        tape: &mut Tape,
-    ) -> Result<(), NoMemory>
+    fn crashes(&mut self, alloc: Global, node: NodeId, tape: &mut Tape) -> Result<(), NoMemory>
         requires least { 1 ≤ node.0 }
         requires most { node.0 ≤ length self.old.places.items }
         requires up { is_up_at self.old.places.items node.0 ≡ true }

@@ -32,9 +32,7 @@ pub(crate) fn keeps_record(fuse: Option<LogFuse>) -> bool
     ensures { result ≡ is_kept (left_by (run_fuse fuse)) }
 {
     match fuse {
-        Some(fuse) => {
-            fuse.calls / 4 == fuse.appended && fuse.calls % 4 == 3 && fuse.image == 1
-        }
+        Some(fuse) => { fuse.calls / 4 == fuse.appended && fuse.calls % 4 == 3 && fuse.image == 1 }
         None => false,
     }
 }

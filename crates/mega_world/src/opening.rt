@@ -40,7 +40,10 @@ fn started(alloc: Global, cluster: &Cluster, me: u8) -> Result<Member, WorldFaul
         owed: None,
     };
     match nothing.start(alloc, own, me) {
-        Ok(Begun { member, .. }) => Ok(member),
+        Ok(begun) => {
+            let Begun { member, .. } = begun;
+            Ok(member)
+        }
         Err(_refused) => Err(WorldFault::NoMemory),
     }
 }

@@ -149,12 +149,7 @@ impl World {
     }
 
     /// A node that is down starts again.
-    fn starts(
-        &mut self,
-        alloc: Global,
-        node: NodeId,
-        tape: &mut Tape,
-    ) -> Result<(), WorldFault>
+    fn starts(&mut self, alloc: Global, node: NodeId, tape: &mut Tape) -> Result<(), WorldFault>
         requires least { 1 ≤ node.0 }
         requires most { node.0 ≤ length self.old.places.items }
         requires down { is_up_at self.old.places.items node.0 ≡ false }

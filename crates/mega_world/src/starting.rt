@@ -88,22 +88,19 @@ fn started(
             owed,
         })),
         Err(NotStarted::StartsFull { records: _records }) => Err(NotBegun::Limit),
-        Err(NotStarted::Log {
-            fault: _fault,
-            records: _records,
-        }) => Err(NotBegun::NoMemory),
+        Err(
+            NotStarted::Log {
+                fault: _fault,
+                records: _records,
+            },
+        ) => Err(NotBegun::NoMemory),
         Err(NotStarted::NoMemory) => Err(NotBegun::NoMemory),
     }
 }
 
 impl Fallen {
     /// The node of this number of a cluster starts over what it left.
-    pub(crate) fn start(
-        self,
-        alloc: Global,
-        cluster: Cluster,
-        me: u8,
-    ) -> Result<Begun, NotBegun>
+    pub(crate) fn start(self, alloc: Global, cluster: Cluster, me: u8) -> Result<Begun, NotBegun>
         requires served { IsServed cluster }
         requires member { is_node cluster me ≡ true }
         requires known { IsStartable self }

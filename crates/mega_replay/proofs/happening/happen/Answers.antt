@@ -50,11 +50,13 @@ apply-requires c =
     let done = c.requires.standing.0 in
     let events = c.requires.standing.1 in
     let after = c.requires.standing.2 in record {
-      cluster = cluster;
-      handlers = [];
-      now = stood cluster events;
-      at = after.here;
-      sound = λ allowed. sound cluster done events c.args.number c.args.line.now c.args.event after.declared after.happen c.requires.spelled allowed;
+      known = record {
+        cluster = cluster;
+        handlers = [];
+        now = stood cluster events;
+        at = after.here;
+        sound = λ allowed. sound cluster done events c.args.number c.args.line.now c.args.event after.declared after.happen c.requires.spelled allowed;
+      };
     }
 
 pub returns-in-Ok-clause-refused : goal.returns-in-Ok-clause-refused

@@ -1,4 +1,4 @@
-use Rattle.std.proofs.Common.{◌≡◌, ◌-◌, ◌∙◌, Some, ap, refl, set, subst, sym}
+use Rattle.std.proofs.Common.{◌≡◌, ◌-◌, ◌∙◌, Some, ap, set, subst, sym}
 use Rattle.std.specs.List.{slice_get}
 use Rattle.mega_world.specs.declared.place.Place.{Place}
 use Rattle.mega_world.specs.Fusing.{SetsFuse}

@@ -4,7 +4,6 @@ use Rattle.mega_core.specs.Served.{IsServed}
 use Rattle.mega_rules.specs.Members.{is_node}
 use Rattle.mega_rules.specs.Steps.{start}
 use Rattle.mega_promises.specs.Runs.{setting}
-use Rattle.mega_world.specs.declared.fallen.Fallen.{Fallen}
 use Rattle.mega_world.specs.Kept.{IsFallen}
 use Rattle.mega_world.specs.Members.{IsMember}
 use Rattle.mega_world.proofs.Anew.{nothing_held}
@@ -34,4 +33,4 @@ returns-in-Ok-clause-node c h =
       fused = record { kept_is = refl; left = c.new.ensures.unset; image = tt; unburnt = tt };
     } in
     let begins = c.in-Ok.ensures.begun 0 [] [] None is in
-    record { is = subst (λ (k : Cluster). IsMember k c.args.me c.in-Ok.member (start (setting k h c.args.me) 1 [] [])) c.in_ok-own.ensures (begins.is h); fused = begins.fused }
+    record { is = subst (λ (k : Cluster). IsMember k c.args.me c.in-Ok.begun.member (start (setting k h c.args.me) 1 [] [])) c.in_ok-own.ensures (begins.is h); fused = begins.fused }

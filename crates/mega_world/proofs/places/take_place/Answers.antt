@@ -1,4 +1,4 @@
-use Rattle.std.proofs.Common.{◌≡◌, ◌-◌, ◌∙◌, ap, set}
+use Rattle.std.proofs.Common.{◌-◌, ◌∙◌, ap, set}
 use Rattle.mega_world.proofs.Joining.{set_twice}
 use Rattle.mega_world.proofs.places.take_place.Goals as goal
 

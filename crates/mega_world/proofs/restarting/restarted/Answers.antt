@@ -1,4 +1,4 @@
-use Rattle.std.proofs.Common.{◌-◌, ◌∙◌, subst, sym}
+use Rattle.std.proofs.Common.{◌∙◌, subst, sym}
 use Rattle.mega_world.specs.declared.place.Place.TheVariants.{Down, Up}
 use Rattle.mega_world.specs.Restarting.{Opens, StaysDown}
 use Rattle.mega_world.proofs.Again.{begins_at, stays_at}

@@ -1,4 +1,4 @@
-use Rattle.std.proofs.Common.{◌≡◌, ◌∙◌, [], refl, sym}
+use Rattle.std.proofs.Common.{◌∙◌, [], refl, sym}
 use Rattle.mega_world.proofs.Anew.{cut_over, started_over}
 use Rattle.mega_world.proofs.starting.started.Goals as goal
 
@@ -9,7 +9,7 @@ returns-in-Ok-clause-begun c starts owed met run is =
     (λ h. c.in-Ok.ensures.notes h starts met owed (record { owes = is.follows; recalls = is.recalls; ready = is.ready; holds = is.holds }))
     c.in-Ok.ensures.members c.in-Ok.ensures.me
     (λ h. let up = c.in-Ok.ensures.state refl h starts met owed (record { owes = is.follows; recalls = is.recalls; ready = is.ready; holds = is.holds }) c.new.ensures.empty in
-        record { stands = up.stands; empty = up.empty; ready = up.ready; holds = up.holds; granted = up.granted })
+    record { stands = up.stands; empty = up.empty; ready = up.ready; holds = up.holds; granted = up.granted })
     whole.long whole.fuse whole.image c.after_append.ensures
 
 pub returns-in-Err-Cut-clause-cut : goal.returns-in-Err-Cut-clause-cut

@@ -1,4 +1,4 @@
-use Rattle.std.proofs.Common.{◌≡◌, ◌-◌, ◌∙◌, ap, refl, set, subst, sym, Err}
+use Rattle.std.proofs.Common.{◌-◌, ◌∙◌, ap, set}
 use Rattle.mega_rules.specs.Steps.{Begin}
 use Rattle.mega_world.specs.declared.place.Place.TheVariants.{Up}
 use Rattle.mega_world.proofs.Joining.{not_down}

@@ -40,15 +40,15 @@ returns-in-Err-Cut-clause-made c cluster h me ruled fuse is fused may =
     let stepped : Member = record { up = c.tick.new.self; fuse = old.fuse } in
     was_cut cluster h me ruled fuse old stepped c.in-Err-Cut.cut (Tick c.args.clock) is fused may refl
     (λ here its.
-        let burnt = rw c.in-Err-Cut.field-0-is at (c.in-Err-Cut.ensures.burnt refl refl h ruled (record { stands = here.stands; empty = here.empty; ready = here.ready; holds = here.holds; granted = here.granted }) its) in
-        let owed = rw c.in-Err-Cut.field-0-is at (c.in-Err-Cut.ensures.owed h ruled (record { stands = here.stands; empty = here.empty; ready = here.ready; holds = here.holds; granted = here.granted }) its) in record {
-          appending = burnt.burnt.appending;
-          short = burnt.burnt.short;
-          gone = burnt.burnt.gone;
-          holds = burnt.holds;
-          owed = owed.0;
-          follows = owed.1;
-        })
+    let burnt = rw c.in-Err-Cut.field-0-is at (c.in-Err-Cut.ensures.burnt refl refl h ruled (record { stands = here.stands; empty = here.empty; ready = here.ready; holds = here.holds; granted = here.granted }) its) in
+    let owed = rw c.in-Err-Cut.field-0-is at (c.in-Err-Cut.ensures.owed h ruled (record { stands = here.stands; empty = here.empty; ready = here.ready; holds = here.holds; granted = here.granted }) its) in record {
+      appending = burnt.burnt.appending;
+      short = burnt.burnt.short;
+      gone = burnt.burnt.gone;
+      holds = burnt.holds;
+      owed = owed.0;
+      follows = owed.1;
+    })
 
 pub log_fault_of-requires : goal.log_fault_of-requires
 log_fault_of-requires c =

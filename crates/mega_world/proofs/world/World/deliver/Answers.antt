@@ -19,11 +19,13 @@ returns-in-None-clause-happens c =
 pub hand-requires : goal.hand-requires
 hand-requires c =
     let k = c.requires.known in
-    let allowed = sym (c.in-None.ensures k.cluster k.now k.at.mail (λ me. k.at.nodes.members.up_are me ∙ ap (λ (ps : List Place). is_up_at ps me) (sym c.as_slice.ensures.value))) in record { known = record {
-      cluster = k.cluster;
-      handlers = k.handlers;
-      now = k.now;
-      at = k.at;
-      sound = k.sound allowed;
-      allowed = allowed;
-    } }
+    let allowed = sym (c.in-None.ensures k.cluster k.now k.at.mail (λ me. k.at.nodes.members.up_are me ∙ ap (λ (ps : List Place). is_up_at ps me) (sym c.as_slice.ensures.value))) in record {
+      known = record {
+        cluster = k.cluster;
+        handlers = k.handlers;
+        now = k.now;
+        at = k.at;
+        sound = k.sound allowed;
+        allowed = allowed;
+      };
+    }

@@ -1,9 +1,8 @@
-use Rattle.std.proofs.Common.{◌≡◌, ◌-◌, ◌∙◌, Err, List, ap, subst, sym}
+use Rattle.std.proofs.Common.{◌-◌, ◌∙◌, List, ap, subst, sym}
 use Rattle.std.specs.List.{All}
 use Rattle.std.proofs.lemmas.List.Elements.{All-push}
 use Rattle.mega_transcript.specs.declared.item.Item.TheVariants.{Cut}
 use Rattle.mega_transcript.specs.Lines.{HasLine}
-use Rattle.mega_world.specs.declared.fault.WorldFault.TheVariants.{Unbuilt}
 use Rattle.mega_world.specs.declared.place.Place.{Place}
 use Rattle.mega_world.specs.Members.{is_up_at}
 use Rattle.mega_world.proofs.Emptying.{drained_at, drained_cut, next_sound, none_left, reaches_next}
@@ -23,14 +22,16 @@ pub hand-requires : goal.hand-requires
 hand-requires c =
     let k = c.requires.known in
     let reached = c.loop-turn.invariant k.cluster k.handlers k.now k.at k.sound in
-    let is = sym (c.in-Some.ensures reached.mid reached.at.mail (λ me. reached.at.nodes.members.up_are me ∙ ap (λ (ps : List Place). is_up_at ps me) (sym c.as_slice.ensures.value))) in record { known = record {
-      cluster = k.cluster;
-      handlers = k.handlers;
-      now = reached.mid;
-      at = reached.at;
-      sound = next_sound k.cluster k.handlers k.now c.args.most c.loop-turn._turn c.in-Some.number c.loop-turn.self c.args.tape.now.items c.loop-turn.tape.items reached c.loop-turn-test.true k.sound is;
-      allowed = next_happens k.cluster c.loop-turn.self.mail reached.mid c.in-Some.number reached.at.mail is;
-    } }
+    let is = sym (c.in-Some.ensures reached.mid reached.at.mail (λ me. reached.at.nodes.members.up_are me ∙ ap (λ (ps : List Place). is_up_at ps me) (sym c.as_slice.ensures.value))) in record {
+      known = record {
+        cluster = k.cluster;
+        handlers = k.handlers;
+        now = reached.mid;
+        at = reached.at;
+        sound = next_sound k.cluster k.handlers k.now c.args.most c.loop-turn._turn c.in-Some.number c.loop-turn.self c.args.tape.now.items c.loop-turn.tape.items reached c.loop-turn-test.true k.sound is;
+        allowed = next_happens k.cluster c.loop-turn.self.mail reached.mid c.in-Some.number reached.at.mail is;
+      };
+    }
 
 pub loop-turn-preserved : goal.loop-turn-preserved
 loop-turn-preserved c cluster h now r sound =

@@ -1,5 +1,3 @@
-use Rattle.std.proofs.Common.{◌∙◌, subst, sym}
-use Rattle.mega_core.specs.Served.{IsServed}
 use Rattle.mega_world.proofs.Opened.{cells_few, opening_formed, opening_leases, opening_mail, opening_nodes, opening_tape, opening_within}
 use Rattle.mega_world.proofs.world.World.new.Goals as goal
 

@@ -1,7 +1,6 @@
-use Rattle.std.proofs.Common.{List, None, Some, flat_map, map, refl, subst, sym}
+use Rattle.std.proofs.Common.{List, flat_map, map, refl, subst, sym}
 use Rattle.std.specs.List.{All}
 use Rattle.std.proofs.lemmas.List.Elements.{All-append}
-use Rattle.mega_durable.specs.declared.cut.Cut.{Cut}
 use Rattle.mega_rules.specs.Met.{Unsends}
 use Rattle.mega_transcript.specs.Lines.{HasLine}
 use Rattle.mega_transcript.specs.Tape.{newest}
