@@ -74,7 +74,7 @@ replayed c lines events declared happen =
     record {
       happen = happen;
       run = run;
-      by_fuses = run.tape_is;
+      by_fuses = ap (λ (now : Standing). now.tape) (sym (turned c events []));
       agree = agreement c (stood c events).tape (run_lawful c [] (in_turn events []) (stood c events).tape run);
       serial = serial c (usage c.schema) (stood c events).tape (run_answered c (usage c.schema) [] (in_turn events []) (stood c events).tape run fits);
       messages = messages c (usage c.schema) tape [] (λ moment. refl) writes;
