@@ -1,5 +1,4 @@
 use Rattle.std.proofs.Common.{◌≡◌, ap, refl}
-
 use Rattle.mega_disk.specs.MemDisk.{fuse_of}
 use Rattle.mega_disk.proofs.fuse.spend_append.Goals as goal
 
