@@ -288,7 +288,7 @@ front_global n x values global = by x.global ∙ ap (λ bytes. (127 + n) ∷ byt
     by true = refl
     by false = refl
 
-not_short : (front : List ℕ) → (if nat_le (length front) 1024 then Some front else None) ≡ None → nat_le (length front) 1024 ≡ false
+pub not_short : (front : List ℕ) → (if nat_le (length front) 1024 then Some front else None) ≡ None → nat_le (length front) 1024 ≡ false
 not_short front h = by_test (nat_le (length front) 1024) _
     (λ yes. absurd (differ (sym (ap (λ b. if b then Some front else None) yes) ∙ h)))
     (λ long. long)

@@ -44,3 +44,11 @@ unless_misplaced (Some place) found = Err place
 abbrev pub found_in : Schema → ℕ → Index → List ℕ → List Value → Listed → Result (List Found) ℕ
 found_in s number x group values rows =
     unless_misplaced (misplaced (indexed_kinds s x) values 0) (begun_by (front_of number x group values) (index_of s number x rows))
+
+-- the same in the index with this number, in which nothing is found where there is none
+abbrev pub found_by : Schema → ℕ → Option Index → List ℕ → List Value → Listed → Result (List Found) ℕ
+found_by s number None group values rows = Ok []
+found_by s number (Some x) group values rows = found_in s number x group values rows
+
+abbrev pub found_over : Schema → ℕ → List ℕ → List Value → Listed → Result (List Found) ℕ
+found_over s number group values rows = found_by s number (numbered s.indexes number) group values rows

@@ -10,7 +10,7 @@ use mega_schema::Index;
 use std::alloc::Global;
 
 /// What stands before the number of an index in its keys.
-fn prefix_of<'a>(index: &Index, group: &'a [u8]) -> &'a [u8]
+pub fn prefix_of<'a>(index: &Index, group: &'a [u8]) -> &'a [u8]
     ensures { result.now ≡ prefix_of index.now group.now }
 {
     if index.global { &[] } else { group }

@@ -35,7 +35,8 @@ fn front_of(alloc: Global, number: u8, values: &[Value]) -> Result<Option<Bytes>
     }
 }
 
-fn values_in(alloc: Global, entries: Entries) -> Result<Vec<Found>, NoMemory>
+/// What is found, in order of the entries' keys.
+pub fn values_in(alloc: Global, entries: Entries) -> Result<Vec<Found>, NoMemory>
     ensures { IfOk result (λ found. found.items ≡ values_in entries.entries) }
 {
     let mut found = Vec::new(alloc);

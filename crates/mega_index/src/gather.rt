@@ -102,7 +102,7 @@ fn add_in(
 }
 
 /// Adds the entries that a row has in an index and whose keys begin so.
-fn add_row(
+pub fn add_row(
     alloc: Global,
     entries: &mut Entries,
     schema: &Schema,

@@ -32,4 +32,5 @@ pub use extending::extends_outcome;
 pub use laws::{outcomes_look_at_their_group, outcomes_stay_under_more_properties};
 pub use outcomes::run;
 pub use request::{FindRequest, Mode, ReadRequest, Request};
+pub use sending::send_fits;
 pub use transaction::{Change, Check, RowRef, Transaction};

@@ -72,7 +72,8 @@ fn is_queue(queue: &Text) -> bool
     1 <= length && length <= 64
 }
 
-fn send_fits(alloc: Global, schema: &Schema, send: &Send) -> Result<bool, NoMemory>
+/// Whether a send goes to a group of the schema, under a name that a queue may have.
+pub fn send_fits(alloc: Global, schema: &Schema, send: &Send) -> Result<bool, NoMemory>
     ensures { IfOk result (λ found. found ≡ send_fits schema.now send.now) }
 {
     if !is_group(alloc, schema, send.to.key.as_slice())? {
