@@ -67,3 +67,6 @@ returns-in-None-next_delivery-clause-state g c cluster h now r sound =
 
 pub returns-in-None-next_delivery-clause-lines : goal.returns-in-None-next_delivery-clause-lines
 returns-in-None-next_delivery-clause-lines g c cluster h now r sound lined = (c.loop-turn.invariant.0 cluster h now r sound).lines lined
+
+pub returns-in-Err-clause-handlers : goal.returns-in-Err-clause-handlers
+returns-in-Err-clause-handlers g c = c.in-Err.ensures.handlers ∙ c.loop-turn.invariant.1
