@@ -7,5 +7,4 @@ use mega_handler::Handlers;
 #[tactic(auto, using(crate::proofs::Spelling::spelled_means))]
 pub fn handlers_mean_what_they_spell(_handlers: &Handlers)
     ensures { Means (meant _handlers.now.named effect) (spelled _handlers.now.named effect) }
-{
-}
+{}
