@@ -31,6 +31,7 @@ fn mark_at(alloc: Global, group: &GroupId, position: u64) -> Result<Items<Mark>,
         let group = group.copy(alloc)?;
         let position = Position(position);
         marks.push(Mark { group, position })?;
+        return Ok(marks);
     }
     Ok(marks)
 }
