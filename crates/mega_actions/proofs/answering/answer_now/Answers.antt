@@ -25,13 +25,13 @@ pub returns-clause-exact : goal.returns-clause-exact
 returns-clause-exact g c told me h leases now r =
     let s = setting c.args.members.now me h in
     let request = c.args.request.now in
-    let group : GroupId = c.in-Some-group.group.now in
+    let group : GroupId = c.in-Some.group.now in
     let schema = c.args.members.now.schema in
     let version = g.V.Versions.version c.args.rows.now.rows in
     let progress = progress_at c.args.rows.now.progress in
     let applied = c.applied-applied.result.0 in
     let prefix = c.prefix-prefix.result.0 in
-    let at = c.in-Some-at.at in
+    let at = c.in-Some-place_by.at in
     let position : ℕ = applied_position now group in
     let applied_is : applied ≡ position = c.applied-applied.ensures (journal_of now.met) (log_of now.met) now.stored r.tells.journal (log_is now.met group) r.follows in
     let prefix_is = c.prefix-prefix.ensures now.met r.tells in
@@ -41,7 +41,7 @@ returns-clause-exact g c told me h leases now r =
     let asked = c.group_asked.ensures in
     let of : IsOf request group = asked_of request group (sym asked) in
     ap (looks_in s now request) (sym asked)
-    ∙ answered_at_once s now request group (mode_asked request) applied prefix at c.in_ok-answer.answer applied_is (sym (c.in-Some-at.ensures ∙ ap (λ (mode : Mode). place_by mode applied prefix) c.mode_asked.ensures))
+    ∙ answered_at_once s now request group (mode_asked request) applied prefix at c.in_ok-answer.answer applied_is (sym (c.in-Some-place_by.ensures ∙ ap (λ (mode : Mode). place_by mode applied prefix) c.mode_asked.ensures))
     (λ place.
     c.in_ok-answer.ensures.exact told s group (snapshot_rows now group) (snapshot_listed now group) same small of
     (λ txn is.
