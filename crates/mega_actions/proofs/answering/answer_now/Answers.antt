@@ -1,4 +1,5 @@
 use Rattle.std.proofs.Common.{◌≡◌, ◌∙◌, ℕ, ◌≤◌, Option, Some, sym, ap, subst, arith}
+use Rattle.std.specs.Option.{option_copied}
 use Rattle.mega_base.specs.declared.names.GroupId.{GroupId}
 use Rattle.mega_cluster.specs.declared.cluster.Cluster.{Cluster}
 use Rattle.mega_outcome.specs.Answers.{rows_at as versions_at}
@@ -38,7 +39,7 @@ returns-clause-exact g c told me h leases now r =
     let le : position ≤ position = omega arith in
     let same = sym (ap (λ (cluster : Cluster). cluster.schema) c.cluster.ensures) in
     let small : IsSmall c.cluster.result.now.schema = subst (λ (cluster : Cluster). IsSmall cluster.schema) (sym c.cluster.ensures) r.small in
-    let asked = c.group_asked.ensures in
+    let asked = sym (ap option_copied c.in-Some.is) ∙ c.group_asked.ensures in
     let of : IsOf request group = asked_of request group (sym asked) in
     ap (looks_in s now request) (sym asked)
     ∙ answered_at_once s now request group (mode_asked request) applied prefix at c.in_ok-answer.answer applied_is (sym (c.in-Some-place_by.ensures ∙ ap (λ (mode : Mode). place_by mode applied prefix) c.mode_asked.ensures))
