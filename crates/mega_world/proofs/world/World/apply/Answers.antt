@@ -4,6 +4,9 @@ use Rattle.mega_world.proofs.world.World.apply.Goals as goal
 pub deliver-requires : goal.deliver-requires
 deliver-requires g c = record { known = rw c.in-Deliver.is at c.requires.known }
 
+pub start-requires : goal.start-requires
+start-requires g c = record { known = (_, rw c.in-Start.is at c.requires.known) }
+
 pub returns-in-Begin-clause-refused : goal.returns-in-Begin-clause-refused
 returns-in-Begin-clause-refused g c = rw c.in-Begin.is c.begin.ensures.refused
 
