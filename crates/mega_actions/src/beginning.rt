@@ -17,7 +17,7 @@ ghost use Rattle.mega_actions.specs.IsAt.{IsAt, setting_of};
 ghost use Rattle.mega_actions.specs.Stands.{setting};
 ghost use Rattle.mega_actions.specs.Working.{work_of};
 
-use crate::answering::{answer_now, is_answered, is_at_once};
+use crate::answering::{answer_now, group_asked, is_at_once};
 use crate::deed::{Deed, End};
 use crate::fault::ActFault;
 use crate::replica::Replica;
@@ -63,8 +63,10 @@ fn group_of(alloc: Global, request: &Request) -> Result<GroupId, ActFault>
     match request {
         Request::Txn(txn) => Ok(txn.group.copy(alloc)?),
         Request::Batch(group, txns) if txns.len() <= 16 => Ok(group.copy(alloc)?),
-        Request::Read(read) if is_answered(request) => Ok(read.group.copy(alloc)?),
-        _ => Err(ActFault::Unbuilt),
+        _ => match group_asked(request) {
+            Some(group) => Ok(group.copy(alloc)?),
+            None => Err(ActFault::Unbuilt),
+        },
     }
 }
 
@@ -85,7 +87,7 @@ struct FirstRead {
 }
 
 impl<R: Records, V: Versions> Replica<R, V> {
-    /// A request begins: a read that asks for no current rows is answered at once; any other reads its group, and goes on in the same
+    /// A request begins: a read or find that asks for no current rows is answered at once; any other reads its group, and goes on in the same
     /// step where that read is local.
     #[tactic(auto, using(mega_replica::proofs::Fared::fares_here, crate::proofs::Refused::fares_apart))]
     pub fn begins(

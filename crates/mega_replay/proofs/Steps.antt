@@ -140,8 +140,8 @@ end_cut report c (Some start) items count first now waiting later ran written sa
   replayed = ran.replayed;
   all = ran.all;
   said =
-    subst (λ (tape : List Item). WritesFront first now later (so_far report c.schema tape)) ran.tape
-    (as_front first now later (so_far report c.schema items) (subst (λ (xs : List ℕ). Writes first now xs (so_far report c.schema items)) (sym same) written));
+      subst (λ (tape : List Item). WritesFront first now later (so_far report c.schema tape)) ran.tape
+      (as_front first now later (so_far report c.schema items) (subst (λ (xs : List ℕ). Writes first now xs (so_far report c.schema items)) (sym same) written));
 }
 
 begun_with : (report : Report) (c : Cluster) (first now : Option (List ℕ)) (Says : List ℕ → Type 0) (done : List (List ℕ)) (events : List Happening) → IsDeclared c.schema → AllHappen c done events → Stands first now done → Says (so_far report c.schema (newest (stood c events).tape))

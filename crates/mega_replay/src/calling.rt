@@ -79,12 +79,7 @@ fn draw<O: Sink>(alloc: Global, seed: u64, count: u64, nodes: u8, out: &mut O) -
 }
 
 /// Replays the input, and gives the status with which the program then ends.
-fn replay_all<I: Source, O: Sink>(
-    alloc: Global,
-    report: Report,
-    input: &mut I,
-    out: &mut O,
-) -> u8
+fn replay_all<I: Source, O: Sink>(alloc: Global, report: Report, input: &mut I, out: &mut O) -> u8
     ensures done { result ≡ 0 → InputDone report (I.left input.old) (Appends (O.held out.old) (O.held out.new)) }
     ensures end { result ≡ 0 → IsAtEnd (I.left input.new) }
     ensures header { result ≡ 3 → (rule : ℕ) × InputBroken (I.left input.old) rule (λ text. Appends (O.held out.old) (O.held out.new) (text ++ header_line rule)) }

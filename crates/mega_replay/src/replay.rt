@@ -268,6 +268,13 @@ pub fn replay<I: Source, O: Sink>(
         Err(stop) => return Err(stop),
     };
     run_schedule(
-        alloc, report, &cluster, &mut reader, input, &mut line, out, waiting,
+        alloc,
+        report,
+        &cluster,
+        &mut reader,
+        input,
+        &mut line,
+        out,
+        waiting,
     )
 }

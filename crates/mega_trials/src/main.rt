@@ -52,7 +52,13 @@ fn main(rt: HostRuntime) -> io::Result<()> {
     for name in names.lines() {
         let whole = tried(&rt, name, transcript.as_slice(), "out")?;
         let counts = tried(&rt, name, summary.as_slice(), "summary")?;
-        println!(rt; "{name}: status {}, {}; summary {}, {}", whole.status, whole.word(), counts.status, counts.word())?;
+        println!(rt;
+            "{name}: status {}, {}; summary {}, {}",
+            whole.status,
+            whole.word(),
+            counts.status,
+            counts.word()
+        )?;
     }
     Ok(())
 }
