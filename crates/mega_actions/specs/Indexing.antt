@@ -1,26 +1,36 @@
--- How the global indexes of a node stand to what it met: each group through the mark of the last refresh of this start.
-use Rattle.std.specs.Prelude.{◌≡◌, ◌≤◌, ℕ, true, List, map}
-use Rattle.std.specs.List.{All}
-use Rattle.mega_schema.specs.declared.schema.Schema.{Schema}
-use Rattle.mega_index.specs.declared.global.GlobalIndex.{GlobalIndex}
-use Rattle.mega_index.specs.Keeping.{is_kept_under, marks_of}
-use Rattle.mega_index.specs.Marks.{Marked}
+-- What a request that begins is answered by the global indexes of its node, and the marks to which they are brought then.
+use Rattle.std.specs.Prelude.{List, Option, Some, None}
+use Rattle.mega_base.specs.declared.names.GroupId.{GroupId}
+use Rattle.mega_outcome.specs.declared.answer.Answer.{Answer}
+use Rattle.mega_outcome.specs.declared.answer.Answer.TheVariants.{Refreshed}
 use Rattle.mega_outcome.specs.declared.answer.Mark.{Mark}
-use Rattle.mega_rules.specs.Finding.{refreshed_marks, rows_through}
-use Rattle.mega_rules.specs.Logs.{prefix_of}
-use Rattle.mega_rules.specs.Met.{Met}
+use Rattle.mega_outcome.specs.declared.request.FindRequest.{FindRequest}
+use Rattle.mega_outcome.specs.declared.request.Request.{Request}
+use Rattle.mega_outcome.specs.declared.request.Request.TheVariants.{Txn, Batch, Read, Find, PumpEnter, PumpHandle, Refresh}
+use Rattle.mega_schema.specs.declared.schema.Schema.{Schema}
+use Rattle.mega_rules.specs.Acting.{applied_marks}
+use Rattle.mega_rules.specs.Finding.{global_found, refreshed_marks}
+use Rattle.mega_rules.specs.Operations.{Now}
 
-abbrev pub marked_at : List Met → Mark → List ℕ × Marked
-marked_at met mark = ((mark.group).key, record { position = (mark.position).0; rows = rows_through met mark })
+-- a refresh brings them to what is applied
+abbrev pub marks_then : Now → Request → List Mark
+marks_then now (Txn transaction) = refreshed_marks now.met
+marks_then now (Batch group transactions) = refreshed_marks now.met
+marks_then now (Read request) = refreshed_marks now.met
+marks_then now (Find request) = refreshed_marks now.met
+marks_then now PumpEnter = refreshed_marks now.met
+marks_then now PumpHandle = refreshed_marks now.met
+marks_then now Refresh = applied_marks now
 
-abbrev pub IsWithinLog : List Met → Mark → Type 0
-IsWithinLog met mark = (mark.position).0 ≤ prefix_of met mark.group
+abbrev pub found_by_index : Schema → Now → FindRequest → Option GroupId → Option Answer
+found_by_index schema now request None = Some (global_found schema now.met request)
+found_by_index schema now request (Some group) = None
 
--- they were brought to these marks, under the schema alone, and no mark is behind its log
-pub record AreMarked (schema : Schema) (index : GlobalIndex) (met : List Met) (marks : List Mark) : Type 0 where
-  pub kept : is_kept_under schema index ≡ true
-  pub within : All (IsWithinLog met) marks
-  pub marked : marks_of index ≡ map (marked_at met) marks
-
-abbrev pub IsIndexed : Schema → GlobalIndex → List Met → Type 0
-IsIndexed schema index met = AreMarked schema index met (refreshed_marks met)
+abbrev pub by_index : Schema → Now → Request → Option Answer
+by_index schema now (Txn transaction) = None
+by_index schema now (Batch group transactions) = None
+by_index schema now (Read request) = None
+by_index schema now (Find request) = found_by_index schema now request request.group
+by_index schema now PumpEnter = None
+by_index schema now PumpHandle = None
+by_index schema now Refresh = Some (Refreshed (applied_marks now))

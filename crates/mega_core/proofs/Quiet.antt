@@ -41,7 +41,7 @@ use Rattle.mega_rules.specs.Clock.{clock_of}
 use Rattle.mega_rules.specs.Finding.{find_answer, find_by, global_found, group_bytes, group_marks, local_found, refreshed_marks, rows_through}
 use Rattle.mega_rules.specs.Logs.{decided, groups_of, log_of, prefix_of}
 use Rattle.mega_rules.specs.Coordinators.{refused_at}
-use Rattle.mega_rules.specs.Met.{Met, Answers}
+use Rattle.mega_rules.specs.Met.{Met, Answers, Validates}
 use Rattle.mega_rules.specs.Queues.{Posted, enter_entry, is_named, names_entered, next_to_enter, next_to_handle, oldest_unhandled}
 use Rattle.mega_rules.specs.Operations.{Now, Operation, Phase, Promised, Proposes, Reads, Replies, Results, Setting}
 use Rattle.mega_rules.specs.Acting.{acts, acts_within, applied_logs, batch_sealed, begins_read, committed, completes_read, ends, enters, finishes, goes_on, handles, handling, in_phase, is_taken, leader_after, listed_at, picks_group, picks_message, proposes, proposes_by, read_answer, read_begun, reader_of, reads_on, rows_answer, rows_at, sealed, sends_more, table_rows, unless_decided, unless_full, validated_by, validates, verdict, visiting}
@@ -50,8 +50,8 @@ use Rattle.mega_core.specs.Unshown.{is_plain, is_refresh, is_unshown}
 
 -- ---- answers that are none of a refresh
 
-abbrev Quiet : Now → Type 0
-Quiet now = list_all is_unshown now.answers ≡ true
+abbrev pub Quiet : Now → Type 0
+Quiet now = (list_all is_unshown now.answers ≡ true) × (list_all is_unshown now.valid ≡ true)
 
 all_push : (xs : List Met) (x : Met) → list_all is_unshown xs ≡ true → is_unshown x ≡ true → list_all is_unshown (xs ++ x ∷ []) ≡ true
 all_push [] x all one = ap (λ (b : Bool). b && true) one
@@ -62,7 +62,7 @@ all_push (y ∷ xs) x all one = by (is_unshown y) all
     by false more = more
 
 ends_it : (now : Now) (op : OpId) (answer : Answer) → is_plain answer ≡ true → Quiet now → Quiet (ends now op answer)
-ends_it now op answer plain h = all_push now.answers (Answers op answer) h plain
+ends_it now op answer plain h = (all_push now.answers (Answers op answer) h.0 plain, h.1)
 
 committed_plain : (n : ℕ) (promised : Promised) → is_plain (committed n promised) ≡ true
 committed_plain n (Replies replies) = refl
@@ -137,7 +137,7 @@ module _ (s : Setting) where
   proposes_it now o group r p own promised h = proposes_by_it now o group r p own promised (leader_after s now group p) h
 
   validated_it : (now : Now) (group : GroupId) (p : ℕ) (refused : Option NotValid) → Quiet now → Quiet (validated_by now group p refused)
-  validated_it now group p None h = h
+  validated_it now group p None h = (h.0, all_push now.valid (Validates group p) h.1 refl)
   validated_it now group p (Some refused) h = h
 
   validates_it : (now : Now) (group : GroupId) (p : ℕ) (noted : Option Epoch) → Quiet now → Quiet (validates s now group p noted)
