@@ -35,6 +35,7 @@ use mega_base::{Items, Text};
 use mega_cluster::Cluster;
 use mega_disk::{Records, Versions};
 use mega_handler::Handlers;
+use mega_marks::Indexed;
 use mega_operations::Operation;
 use mega_outcome::Request;
 use mega_replica::StoredRows;
@@ -81,6 +82,7 @@ impl<R: Records + Drop, V: Versions + Drop> Node<R, V> {
             voter,
             leases,
             rows,
+            indexed: Indexed::new(alloc),
         };
         Ok(Node {
             replica,
