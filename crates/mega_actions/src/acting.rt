@@ -125,16 +125,16 @@ impl<R: Records, V: Versions> Replica<R, V> {
         work: &mut Work,
         reached: Reached,
     ) -> Result<(), ActFault>
-        ensures state { OnOk result ((h : Meanings) (now : Now) (again : Now → Open → Now) → V.is_told ≡ true → Means (meant effect handlers.old.named) h → IsOf reached.kept.request reached.group → reached.position ≤ prefix_of now.met reached.group →
+        ensures state { OnOk result ((h : Meanings) (now : Now) (again : Now → Open → Now) → V.is_told ≡ true → Means (meant handlers.old.named effect) h → IsOf reached.kept.request reached.group → reached.position ≤ prefix_of now.met reached.group →
             IsAt V.version h self.old now.met now.stored →
             IsAt V.version h self.new
             (finishes (setting_of self.old h) again (completes_read (setting_of self.old h) now reached.group reached.reading reached.position) (operation_of reached) reached.group reached.reading reached.position).met
             (finishes (setting_of self.old h) again (completes_read (setting_of self.old h) now reached.group reached.reading reached.position) (operation_of reached) reached.group reached.reading reached.position).stored) }
-        ensures work { OnOk result ((h : Meanings) (now : Now) (again : Now → Open → Now) → V.is_told ≡ true → Means (meant effect handlers.old.named) h → IsOf reached.kept.request reached.group → reached.position ≤ prefix_of now.met reached.group →
+        ensures work { OnOk result ((h : Meanings) (now : Now) (again : Now → Open → Now) → V.is_told ≡ true → Means (meant handlers.old.named effect) h → IsOf reached.kept.request reached.group → reached.position ≤ prefix_of now.met reached.group →
             IsAt V.version h self.old now.met now.stored →
             work.old ≡ work_of now →
             work.new ≡ work_of (finishes (setting_of self.old h) again (completes_read (setting_of self.old h) now reached.group reached.reading reached.position) (operation_of reached) reached.group reached.reading reached.position)) }
-        ensures handlers { meant effect handlers.new.named ≡ meant effect handlers.old.named }
+        ensures handlers { meant handlers.new.named effect ≡ meant handlers.old.named effect }
         ensures fares { Fares V.Versions (failed_by result) self.old.rows.rows self.new.rows.rows }
         ensures members { self.new.members ≡ self.old.members }
         ensures me { self.new.me ≡ self.old.me }
@@ -179,14 +179,14 @@ impl<R: Records, V: Versions> Replica<R, V> {
         work: &mut Work,
         operation: Operation,
     ) -> Result<(), ActFault>
-        ensures state { OnOk result ((h : Meanings) (now : Now) → V.is_told ≡ true → Means (meant effect handlers.old.named) h → IsAbout operation →
+        ensures state { OnOk result ((h : Meanings) (now : Now) → V.is_told ≡ true → Means (meant handlers.old.named effect) h → IsAbout operation →
             IsAt V.version h self.old now.met now.stored →
             IsAt V.version h self.new
             (goes_on (setting_of self.old h) now operation).met (goes_on (setting_of self.old h) now operation).stored) }
-        ensures work { OnOk result ((h : Meanings) (now : Now) → V.is_told ≡ true → Means (meant effect handlers.old.named) h → IsAbout operation →
+        ensures work { OnOk result ((h : Meanings) (now : Now) → V.is_told ≡ true → Means (meant handlers.old.named effect) h → IsAbout operation →
             IsAt V.version h self.old now.met now.stored →
             work.old ≡ work_of now → work.new ≡ work_of (goes_on (setting_of self.old h) now operation)) }
-        ensures handlers { meant effect handlers.new.named ≡ meant effect handlers.old.named }
+        ensures handlers { meant handlers.new.named effect ≡ meant handlers.old.named effect }
         ensures fares { Fares V.Versions (failed_by result) self.old.rows.rows self.new.rows.rows }
         ensures members { self.new.members ≡ self.old.members }
         ensures me { self.new.me ≡ self.old.me }
@@ -231,14 +231,14 @@ impl<R: Records, V: Versions> Replica<R, V> {
         group: GroupId,
         reading: Reading,
     ) -> Result<(), ActFault>
-        ensures state { OnOk result ((h : Meanings) (now : Now) (again : Now → Open → Now) → V.is_told ≡ true → Means (meant effect handlers.old.named) h → IsOf kept.request group →
+        ensures state { OnOk result ((h : Meanings) (now : Now) (again : Now → Open → Now) → V.is_told ≡ true → Means (meant handlers.old.named effect) h → IsOf kept.request group →
             IsAt V.version h self.old now.met now.stored →
             IsAt V.version h self.new
             (reads_on (setting_of self.old h) again now (whole kept (Reads group reading)) group reading).met (reads_on (setting_of self.old h) again now (whole kept (Reads group reading)) group reading).stored) }
-        ensures work { OnOk result ((h : Meanings) (now : Now) (again : Now → Open → Now) → V.is_told ≡ true → Means (meant effect handlers.old.named) h → IsOf kept.request group →
+        ensures work { OnOk result ((h : Meanings) (now : Now) (again : Now → Open → Now) → V.is_told ≡ true → Means (meant handlers.old.named effect) h → IsOf kept.request group →
             IsAt V.version h self.old now.met now.stored →
             work.old ≡ work_of now → work.new ≡ work_of (reads_on (setting_of self.old h) again now (whole kept (Reads group reading)) group reading)) }
-        ensures handlers { meant effect handlers.new.named ≡ meant effect handlers.old.named }
+        ensures handlers { meant handlers.new.named effect ≡ meant handlers.old.named effect }
         ensures fares { Fares V.Versions (failed_by result) self.old.rows.rows self.new.rows.rows }
         ensures members { self.new.members ≡ self.old.members }
         ensures me { self.new.me ≡ self.old.me }

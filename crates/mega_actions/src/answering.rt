@@ -74,7 +74,10 @@ fn mode_asked(request: &Request) -> Mode
 pub(crate) fn is_answered(request: &Request) -> bool
     ensures { result ≡ is_answered request.now }
 {
-    group_asked(request).is_some()
+    match group_asked(request) {
+        Some(_) => true,
+        None => false,
+    }
 }
 
 /// Whether a request is answered by the node's global indexes, at once: a find in no group, or a refresh.

@@ -145,17 +145,17 @@ pub(crate) fn goes<R: Records, V: Versions>(
     work: &mut Work,
     reached: Reached,
 ) -> Result<(), ActFault>
-    ensures state { OnOk result ((me : _) (h : Meanings) (leases : LeasesKept) (now : Now) (again : Now → Open → Now) → V.is_told ≡ true → Means (meant effect handlers.old.named) h → IsOf reached.kept.request reached.group →
+    ensures state { OnOk result ((me : _) (h : Meanings) (leases : LeasesKept) (now : Now) (again : Now → Open → Now) → V.is_told ≡ true → Means (meant handlers.old.named effect) h → IsOf reached.kept.request reached.group →
         reached.position ≤ applied (log_of now.met reached.group) (now.stored reached.group) → clock ≡ clock_of now.met →
         Stands (setting members.now me h) voter.now.logs.kept leases (V.version rows.old.rows) (progress_at rows.old.progress) now.met now.stored →
         Stands (setting members.now me h) voter.now.logs.kept leases (V.version rows.new.rows) (progress_at rows.new.progress)
         (finishes (setting members.now me h) again now (operation_of reached) reached.group reached.reading reached.position).met
         (finishes (setting members.now me h) again now (operation_of reached) reached.group reached.reading reached.position).stored) }
-    ensures work { OnOk result ((me : _) (h : Meanings) (leases : LeasesKept) (now : Now) (again : Now → Open → Now) → V.is_told ≡ true → Means (meant effect handlers.old.named) h → IsOf reached.kept.request reached.group →
+    ensures work { OnOk result ((me : _) (h : Meanings) (leases : LeasesKept) (now : Now) (again : Now → Open → Now) → V.is_told ≡ true → Means (meant handlers.old.named effect) h → IsOf reached.kept.request reached.group →
         reached.position ≤ applied (log_of now.met reached.group) (now.stored reached.group) → clock ≡ clock_of now.met →
         Stands (setting members.now me h) voter.now.logs.kept leases (V.version rows.old.rows) (progress_at rows.old.progress) now.met now.stored →
         work.old ≡ work_of now → work.new ≡ work_of (finishes (setting members.now me h) again now (operation_of reached) reached.group reached.reading reached.position)) }
-    ensures handlers { meant effect handlers.new.named ≡ meant effect handlers.old.named }
+    ensures handlers { meant handlers.new.named effect ≡ meant handlers.old.named effect }
     ensures fares { Fares V.Versions (failed_by result) rows.old.rows rows.new.rows }
     ensures unbuilt { result ≡ Err Unbuilt → is_open reached.kept.request ≡ false }
 {

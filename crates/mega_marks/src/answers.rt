@@ -18,6 +18,7 @@ pub fn mark_at(alloc: Global, group: &GroupId, position: u64) -> Result<Items<Ma
         let group = group.copy(alloc)?;
         let position = Position(position);
         marks.push(Mark { group, position })?;
+        return Ok(marks);
     }
     Ok(marks)
 }

@@ -195,3 +195,6 @@ none_own s n t group rows none = record {
 
 pub none_some : {A : Type 0} (x : A) → None ≡ Some x → ⊥
 none_some x is = cc
+
+pub some_same : {A : Type 0} (x y : A) → Some x ≡ Some y → x ≡ y
+some_same x y is = cc

@@ -123,7 +123,9 @@ fn table_rows<V: Versions>(
 }
 
 /// What is found, or the place of the value for which a find is refused.
-pub(crate) fn told(found: Result<Vec<Found>, IndexFault>) -> Result<Result<Items<Found>, u64>, NoMemory>
+pub(crate) fn told(
+    found: Result<Vec<Found>, IndexFault>,
+) -> Result<Result<Items<Found>, u64>, NoMemory>
     ensures { (answer : AnswerSeen (List FoundSeen) ℕ) → GivesOrPlace (λ found. found.items) found answer → IfOk result (λ told. told ≡ answer) }
 {
     match found {

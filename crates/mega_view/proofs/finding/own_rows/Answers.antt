@@ -1,4 +1,4 @@
-use Rattle.std.proofs.Common.{◌≡◌, ◌∙◌, ◌+◌, ◌++◌, ◌∷◌, [], List, ℕ, sym, subst}
+use Rattle.std.proofs.Common.{◌≡◌, ◌∙◌, ◌+◌, ◌++◌, ◌∷◌, [], List, ℕ, rules, sym, subst}
 use Rattle.mega_index.specs.Rows.{Listed}
 use Rattle.mega_outcome.specs.Answers.{rows_at}
 use Rattle.mega_schema.specs.Shaping.{space_of}
@@ -14,7 +14,9 @@ returns-then-not-is_in-clause-own g c told =
     let t = c.args.table.now in
     let n = c.args.number in
     let group = c.args.group.now in
-    none_own s n t group (rows_at (g.V.Versions.version c.args.rows.now) c.args.at.0) (λ key named. no_key s n t group c.requires.there key (sym c.is_in.ensures ∙ c.if-not-is_in.true) named)
+    let empty : c.new.result.items ≡ [] = search rules in
+    subst (λ (own : Listed). AreOwnRows s n t group (rows_at (g.V.Versions.version c.args.rows.now) c.args.at.0) own) (sym empty)
+    (none_own s n t group (rows_at (g.V.Versions.version c.args.rows.now) c.args.at.0) (λ key named. no_key s n t group c.requires.there key (sym c.is_in.ensures ∙ c.if-not-is_in.true) named))
 
 pub returns-clause-own : goal.returns-clause-own
 returns-clause-own g c told =
