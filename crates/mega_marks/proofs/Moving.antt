@@ -1,8 +1,8 @@
 -- A group that stands behind those that were brought to their marks is brought to its own.
-use Rattle.std.proofs.Common.{◌≡◌, ℕ, ◌+◌, ◌-◌, ◌^◌, ◌<◌, ◌≤◌, min, cond, Bool, true, false, List, [], ◌∷◌, ◌++◌, length, take, map, nat_lt, refl, sym, ap, ◌∙◌, subst, arith, Option, Some, None}
-use Rattle.std.specs.Prelude.{flat_map, is_eq}
+use Rattle.std.proofs.Common.{◌≡◌, ℕ, zero, suc, is_eq, ◌+◌, ◌-◌, ◌^◌, ◌<◌, ◌≤◌, min, cond, eqb, Bool, true, false, List, [], ◌∷◌, ◌++◌, length, take, map, nat_lt, refl, sym, ap, ◌∙◌, subst, arith, Option, Some, None}
+use Rattle.std.specs.Prelude.{flat_map}
 use Rattle.std.specs.Option.{unwrap_or}
-use Rattle.std.specs.List.{cons_option, filter_map}
+use Rattle.std.specs.List.{AllByRecursion, cons_option, filter_map}
 use Rattle.std.specs.Map.{lookup}
 use Rattle.std.specs.BTreeMap.{insert_entry}
 use Rattle.std.specs.declared.cmp.Ordering.{Ordering}
@@ -13,12 +13,17 @@ use Rattle.std.proofs.lemmas.Bool.Decides.{nat_tests}
 use Rattle.std.proofs.lemmas.Grind.{flat_map-append}
 use Rattle.mega_base.specs.declared.names.GroupId.{GroupId}
 use Rattle.mega_entry.specs.declared.content.Content.{Content}
-use Rattle.mega_index.specs.Marks.{Marked, Marks, advanced, marked_in, refreshed, unmarked}
+use Rattle.mega_index.specs.Marks.{Marked, Marks, advanced, marked_in, refreshed, rows_marked, unmarked}
 use Rattle.mega_index.specs.Rows.{Listed, key_cmp, list_after, same_key}
 use Rattle.mega_outcome.specs.declared.answer.Mark.{Mark}
+use Rattle.mega_outcome.specs.declared.request.FindRequest.{FindRequest}
+use Rattle.mega_schema.specs.declared.schema.Index.{Index}
+use Rattle.mega_schema.specs.declared.schema.Schema.{Schema}
+use Rattle.mega_index.specs.Finding.{found_by, found_over}
+use Rattle.mega_index.specs.Fits.{numbered}
 use Rattle.mega_replica.specs.Applying.{applied, applied_log}
 use Rattle.mega_rules.specs.Acting.{applied_in, applied_logs, applied_marks, mark_of}
-use Rattle.mega_rules.specs.Finding.{mark_at, rows_through}
+use Rattle.mega_rules.specs.Finding.{find_answer, find_by, global_found, mark_at, refreshed_marks, rows_through}
 use Rattle.mega_rules.specs.Logs.{groups_of, log_of, prefix_of}
 use Rattle.mega_rules.specs.Met.{Met}
 use Rattle.mega_rules.specs.Operations.{Now}
@@ -31,11 +36,6 @@ use Rattle.mega_voter.proofs.Grouped.{groups_sorted}
 use Rattle.mega_marks.specs.Marked.{AllBefore, AreWithin, marked_at}
 
 -- ---- an entry behind all others
-
-is_same : Ordering → Bool
-is_same Less = false
-is_same Equal = true
-is_same Greater = false
 
 insert_last : (met : List Met) (group : GroupId) (marks : List Mark) (value : Marked) → AllBefore group marks
     → insert_entry key_cmp (map (marked_at met) marks) group.key value ≡ map (marked_at met) marks ++ (group.key, value) ∷ []
@@ -77,17 +77,13 @@ pub within_more : (met : List Met) (marks : List Mark) (mark : Mark) → AreWith
 within_more met [] mark within le = (le, tt)
 within_more met (one ∷ marks) mark within le = (within.0, within_more met marks mark within.1 le)
 
--- ---- where it was applied nothing of, there is no mark
+-- ---- a group of which something is applied has a mark
 
-pub none_at : (group : GroupId) (applied : ℕ) → applied ≡ 0 → mark_at group applied ≡ []
-none_at group applied is = ap (mark_at group) is
-
-pub one_at : (group : GroupId) (applied : ℕ) → (applied ≡ 0 → ⊥) → mark_at group applied ≡ record { group = group; position = record { 0 = applied } } ∷ []
-one_at group applied some = ap (λ (b : Bool). cond b (record { group = group; position = record { 0 = applied } } ∷ []) []) (above applied some)
+pub one_at : (group : GroupId) (count : ℕ) → eqb count 0 ≡ false → mark_at group count ≡ record { group = group; position = record { 0 = count } } ∷ []
+one_at group count some = ap (λ (b : Bool). cond b (record { group = group; position = record { 0 = count } } ∷ []) []) (above count some)
   where
-    above : (n : ℕ) → (n ≡ 0 → ⊥) → nat_lt 0 n ≡ true
-    above zero some = absurd (some refl)
-    above (suc n) some = grind (arith, nat_tests)
+    above : (n : ℕ) → eqb n 0 ≡ false → nat_lt 0 n ≡ true
+    above n some = grind (arith, nat_tests)
 
 pub nothing_more : {A : Type 0} (xs : List A) → xs ++ [] ≡ xs
 nothing_more [] = refl
@@ -112,6 +108,7 @@ after_less : (one group : GroupId) → group_cmp one group ≡ Less → key_cmp 
 after_less one group less = group_order.antisymm group one ∙ ap ordering_reverse less
 
 pub stands_behind : (now : Now) (done : List GroupId) (group : GroupId) (left : List GroupId) → IsStrictlySortedBy group_cmp (done ++ group ∷ left) → AllBefore group (marks_applied now done)
+unfolding IsStrictlySortedBy
 stands_behind now [] group left sorted = tt
 stands_behind now (one ∷ done) group left sorted =
     before_all one group (applied_at now.met now.stored one) (marks_applied now done) (after_less one group (among one done group left sorted.0)) (stands_behind now done group left sorted.1)
@@ -145,3 +142,17 @@ all_applied now groups is = ap (marks_applied now) is ∙ marks_are now (groups_
 
 pub sorted_groups : (now : Now) (groups : List GroupId) → groups ≡ groups_of now.met → IsStrictlySortedBy group_cmp groups
 sorted_groups now groups is = subst (IsStrictlySortedBy group_cmp) (sym is) (groups_sorted now.met)
+
+-- ---- what is found at the marks
+
+pub rows_are : (met : List Met) (marks : List Mark) → rows_marked (map (marked_at met) marks) ≡ flat_map (rows_through met) marks
+rows_are met [] = refl
+rows_are met (mark ∷ marks) = ap (λ (more : Listed). rows_through met mark ++ more) (rows_are met marks)
+
+find_is : (schema : Schema) (request : FindRequest) (marks : List Mark) (group : List ℕ) (listed : Listed) (o : Option Index)
+    → find_by schema request marks group listed o ≡ find_answer marks (found_by schema request.index o group request.values listed)
+find_is schema request marks group listed None = refl
+find_is schema request marks group listed (Some index) = refl
+
+pub found_is : (schema : Schema) (met : List Met) (request : FindRequest) → global_found schema met request ≡ find_answer (refreshed_marks met) (found_over schema request.index [] request.values (flat_map (rows_through met) (refreshed_marks met)))
+found_is schema met request = find_is schema request (refreshed_marks met) [] (flat_map (rows_through met) (refreshed_marks met)) (numbered schema.indexes request.index)

@@ -14,9 +14,9 @@ take_one [] (suc n) = refl
 take_one (x ∷ xs) zero = refl
 take_one (x ∷ xs) (suc n) = ap (λ (more : List Content). x ∷ more) (take_one xs n)
 
-pub take_next : (met : List Met) (group : GroupId) (n : ℕ) → n < prefix_of met group → take (1 + n) (log_of met group) ≡ take n (log_of met group) ++ some_of (decided met group (n + 1))
+pub take_next : (met : List Met) (group : GroupId) (n : ℕ) → n < prefix_of met group → take (n + 1) (log_of met group) ≡ take n (log_of met group) ++ some_of (decided met group (n + 1))
 take_next met group n less =
-    ap (λ (m : ℕ). take m (log_of met group)) (let one : 1 + n ≡ suc n = omega arith in one)
+    ap (λ (m : ℕ). take m (log_of met group)) (let one : n + 1 ≡ suc n = omega arith in one)
     ∙ take_one (log_of met group) n
     ∙ ap (λ (entry : Option Content). take n (log_of met group) ++ some_of entry)
     (ap (slice_get (log_of met group)) (let back : n ≡ (n + 1) - 1 = omega arith in back) ∙ entry_is met group (n + 1) (omega arith) (omega (arith, less)))

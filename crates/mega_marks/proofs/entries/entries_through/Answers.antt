@@ -1,4 +1,4 @@
-use Rattle.std.proofs.Common.{◌≡◌, ◌∙◌, ◌+◌, ◌++◌, ◌<◌, ◌≤◌, List, ap, arith, take}
+use Rattle.std.proofs.Common.{◌≡◌, ◌∙◌, ◌+◌, ◌++◌, ◌<◌, ◌≤◌, List, ap, arith, sym, take}
 use Rattle.mega_entry.specs.declared.content.Content.{Content}
 use Rattle.mega_rules.specs.Logs.{log_of, prefix_of}
 use Rattle.mega_marks.specs.Marked.{some_of}
@@ -7,7 +7,7 @@ use Rattle.mega_marks.proofs.entries.entries_through.Goals as goal
 
 pub loop-before-preserved : goal.loop-before-preserved
 loop-before-preserved g c met tells le =
-    let n = c.loop-before.before-index in
+    let n = c.loop-before.before in
     let group = c.args.group.now in
     c.in_ok-add.ensures
     ∙ (λ i. c.loop-before.invariant met tells le i ++ some_of (c.decided.ensures met tells i))
