@@ -1,7 +1,7 @@
 mod Numbers
 pub mod Lists
-mod RowKeys
+pub mod RowKeys
 mod Ranges
 mod Adding
 mod Scanned
-mod Listed
+pub mod Listed

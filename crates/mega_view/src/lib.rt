@@ -7,4 +7,5 @@ mod scanning;
 mod tables;
 
 pub use answering::read_all;
-pub use tables::{TableRows, table_rows};
+pub use keys::{is_key_of, shape_of};
+pub use tables::{TableRows, table_rows, tables_of};

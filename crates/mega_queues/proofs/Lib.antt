@@ -1,0 +1,8 @@
+pub mod Naming
+pub mod Mailing
+pub mod Placing
+pub mod Posting
+pub mod Noting
+pub mod Picking
+pub mod Lengths
+pub mod Reached

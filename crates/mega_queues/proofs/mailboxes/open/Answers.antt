@@ -1,0 +1,5 @@
+use Rattle.mega_queues.proofs.Placing.{mail_opened}
+use Rattle.mega_queues.proofs.mailboxes.open.Goals as goal
+
+pub returns-clause-same : goal.returns-clause-same
+returns-clause-same c = mail_opened c.args.boxes.now c.insert.new.self c.args.group.now c.in_ok-own.own c.new.result c.contains_key.result c.in_ok-own.ensures c.contains_key.ensures c.if-contains_key.false c.new.ensures c.in_ok-insert.ensures.updates.0
