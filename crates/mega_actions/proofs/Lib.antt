@@ -8,3 +8,4 @@ mod Onward
 mod Within
 mod InTurn
 mod Begun
+pub mod Pumped

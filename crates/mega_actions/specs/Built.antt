@@ -1,4 +1,4 @@
--- What is served: transactions, batches of at most 16 of them, and reads.
+-- What is served: transactions, batches of at most 16 of them, reads, and pumps.
 use Rattle.std.specs.Prelude.{Bool, true, false, not, ◌||◌, nat_le, length, List, [], ◌∷◌}
 use Rattle.mega_outcome.specs.declared.request.Request.{Request}
 use Rattle.mega_outcome.specs.declared.request.Request.TheVariants.{Txn, Batch, Read, Find, PumpEnter, PumpHandle, Refresh}
@@ -40,5 +40,19 @@ is_at_once PumpEnter = false
 is_at_once PumpHandle = false
 is_at_once Refresh = false
 
+-- pumps
+abbrev pub is_pump : Request → Bool
+is_pump (Txn transaction) = false
+is_pump (Batch group transactions) = false
+is_pump (Read request) = false
+is_pump (Find request) = false
+is_pump PumpEnter = true
+is_pump PumpHandle = true
+is_pump Refresh = false
+
+-- requests whose operation looks at one group alone, that of its request
+abbrev pub is_plain : Request → Bool
+is_plain request = is_proposed request || is_answered request
+
 abbrev pub is_built : Request → Bool
-is_built request = is_proposed request || is_answered request
+is_built request = is_plain request || is_pump request

@@ -15,7 +15,7 @@ ghost use Rattle.mega_node_laws.specs.About.{IsOf};
 ghost use Rattle.mega_replica.specs.Faring.{Fares};
 ghost use Rattle.mega_replica.specs.Following.{progress_at};
 ghost use Rattle.mega_actions.specs.declared.fault.ActFault.TheVariants.{Unbuilt};
-ghost use Rattle.mega_actions.specs.Built.{is_answered, is_at_once, is_built, is_named};
+ghost use Rattle.mega_actions.specs.Built.{is_answered, is_at_once, is_built, is_named, is_plain};
 ghost use Rattle.mega_actions.specs.Faults.{error_of, failed_by, of_store};
 ghost use Rattle.mega_actions.specs.Showing.{at_once, place_by, reading, shown, told};
 ghost use Rattle.mega_actions.specs.Stands.{Stands, setting};
@@ -24,6 +24,7 @@ ghost use Rattle.mega_view.specs.Shows.{Shows};
 use crate::came::is_proposed;
 use crate::fault::ActFault;
 use crate::outcomes::outcome_at;
+use crate::pumping::is_pump;
 use mega_base::{Copied, Items, NoMemory, Position};
 use mega_disk::{Records, StoreError, Versions};
 use mega_operations::Members;
@@ -54,11 +55,18 @@ pub(crate) fn is_answered(request: &Request) -> bool
     }
 }
 
-/// Whether a request is served: a transaction, a batch of at most 16, or a read.
+/// Whether a request is served whose operation looks at one group alone: a transaction, a batch of at most 16, or a read.
+pub(crate) fn is_plain(request: &Request) -> bool
+    ensures { result ≡ is_plain request.now }
+{
+    is_proposed(request) || is_answered(request)
+}
+
+/// Whether a request is served: a transaction, a batch of at most 16, a read, or a pump.
 pub fn is_built(request: &Request) -> bool
     ensures { result ≡ is_built request.now }
 {
-    is_proposed(request) || is_answered(request)
+    is_plain(request) || is_pump(request)
 }
 
 /// Whether a read asks for current rows.
@@ -142,7 +150,7 @@ fn read_at<V: Versions>(
 }
 
 /// The fault that an error of the store is.
-fn fault_by(error: StoreError) -> ActFault
+pub(crate) fn fault_by(error: StoreError) -> ActFault
     ensures exact { of_store result ≡ error_of error }
     ensures built { result ≡ Unbuilt → ⊥ }
 {

@@ -1,15 +1,22 @@
 //! The entry by which an operation handles a queue message.
-ghost use Rattle.std.specs.Prelude.{◌≡◌, ◌+◌, ◌∷◌, [], nat_lt, length, IfOk};
+ghost use Rattle.std.specs.Prelude.{◌≡◌, ◌+◌, ◌-◌, ◌^◌, ◌∷◌, [], nat_lt, min, length, option_map, IfOk, OnOk};
+ghost use Rattle.std.specs.Ordering.{nat_cmp};
+ghost use Rattle.std.specs.Cmp.Lexicographic.{slice_cmp};
+ghost use Rattle.std.specs.BTreeMap.{get};
 ghost use Rattle.mega_base.specs.declared.names.OpId.{OpId as Op};
 ghost use Rattle.mega_entry.specs.Entries.{entry_text};
 ghost use Rattle.mega_index.specs.Fitted.{most_bytes};
 ghost use Rattle.mega_handler.specs.Effects.{entry_handling, handle_entry, handled};
+ghost use Rattle.mega_handler.specs.Named.{Meanings, effect_by, meaning};
+ghost use Rattle.mega_meanings.specs.Means.{Means, meant};
+ghost use Rattle.mega_handling.specs.Made.{made_by};
 
 use crate::keeping::fitted_writes;
 use crate::lengths::{MOST_BYTES, sends_length, sum, writes_length};
 use crate::sending::fitted_sends;
 use mega_base::{Bytes, Copied, GroupId, Items, NoMemory, OpId, Row};
-use mega_entry::{Content, Name, Send, Write};
+use mega_entry::{Content, Enter, Name, Send, Write};
+use mega_handler::Handlers;
 use mega_schema::Schema;
 use std::alloc::Global;
 
@@ -122,7 +129,7 @@ fn handled(
 }
 
 /// The entry by which an operation handles a message of this name with an effect over the rows of its group's tables.
-pub fn entry_by(
+fn entry_by(
     alloc: Global,
     schema: &Schema,
     op: OpId,
@@ -135,5 +142,42 @@ pub fn entry_by(
     ensures { IfOk result (λ entry. entry ≡ handle_entry op name.now (handled schema.now group.now rows.now (writes.items, sends.items))) }
 {
     let (writes, sends) = handled(alloc, schema, group, rows, writes, sends)?;
-    handle_entry(alloc, op, name, writes, sends)
+    let entry = handle_entry(alloc, op, name, writes, sends)?;
+    Ok(entry)
+}
+
+/// What the handler of a message's queue makes of it, nothing where it has none.
+fn effect_of(
+    alloc: Global,
+    handlers: &mut Handlers,
+    message: &Enter,
+    rows: &[(Bytes, Row)],
+) -> Result<(Vec<Write>, Vec<Send>), NoMemory>
+    ensures exact { IfOk result (λ made. (h : Meanings) → Means (meant effect handlers.old.named) h → (made.0.items, made.1.items) ≡ effect_by (meaning h message.now.queue) message.now rows.now) }
+    ensures handlers { meant effect handlers.new.named ≡ meant effect handlers.old.named }
+    ensures counted { OnOk result (option_map (λ handler. count handler) (get (slice_cmp nat_cmp) handlers.new.named message.now.queue) ≡ option_map (λ handler. min (count handler + 1) (2 ^ 64 - 1)) (get (slice_cmp nat_cmp) handlers.old.named message.now.queue)) }
+{
+    match handlers.handle(alloc, message, rows)? {
+        Some(made) => Ok(made),
+        None => Ok((Vec::new(alloc), Vec::new(alloc))),
+    }
+}
+
+/// The entry by which an operation handles a message of its group, over the rows of the group's tables, in order of key.
+pub fn handling(
+    alloc: Global,
+    schema: &Schema,
+    handlers: &mut Handlers,
+    op: OpId,
+    group: &GroupId,
+    message: &Enter,
+    rows: &[(Bytes, Row)],
+) -> Result<Content, NoMemory>
+    ensures exact { IfOk result (λ entry. (h : Meanings) → Means (meant effect handlers.old.named) h → entry ≡ made_by schema.now h op group.now message.now rows.now) }
+    ensures handlers { meant effect handlers.new.named ≡ meant effect handlers.old.named }
+    ensures counted { OnOk result (option_map (λ handler. count handler) (get (slice_cmp nat_cmp) handlers.new.named message.now.queue) ≡ option_map (λ handler. min (count handler + 1) (2 ^ 64 - 1)) (get (slice_cmp nat_cmp) handlers.old.named message.now.queue)) }
+{
+    let (writes, sends) = effect_of(alloc, handlers, message, rows)?;
+    let entry = entry_by(alloc, schema, op, group, &message.name, rows, writes, sends)?;
+    Ok(entry)
 }

@@ -1,6 +1,12 @@
 -- A digest that notes what is applied.
 use Rattle.std.proofs.Common.{◌≡◌, ◌∙◌, ap, sym, refl, subst, ℕ, zero, suc, ◌+◌, ◌<◌, ◌≤◌, ◌||◌, Bool, true, false, cond, List, [], ◌∷◌, ◌++◌, take, length, arith}
+use Rattle.std.specs.Prelude.{Option, Some, None, unwrap_or}
 use Rattle.std.specs.List.{list_any}
+use Rattle.std.specs.Map.{lookup}
+use Rattle.std.specs.BTreeMap.{BTreeMap, get, is_at}
+use Rattle.mega_wal.specs.History.{group_cmp}
+use Rattle.mega_pumps.specs.declared.digest.Digest.{Digest}
+use Rattle.mega_pumps.specs.Notes.{Notes}
 use Rattle.mega_base.specs.declared.names.GroupId.{GroupId}
 use Rattle.mega_entry.specs.declared.content.Content.{Content}
 use Rattle.mega_wal.specs.Kept.{is_group}
@@ -15,7 +21,7 @@ use Rattle.mega_queues.specs.declared.queues.Queues.{Queues}
 use Rattle.mega_queues.specs.Boxes.{Logs}
 use Rattle.mega_queues.specs.Followed.{Represents}
 use Rattle.mega_queues.proofs.Reached.{has, no_log}
-use Rattle.mega_pumps.specs.Reach.{applied_fronts, fronts, with_log}
+use Rattle.mega_pumps.specs.Reach.{applied_fronts, fronts, through_at, with_log}
 
 -- the front of one log is another
 one_front : (log : Logs) (was now : GroupId → ℕ) (group : GroupId) (n : ℕ) → ((other : GroupId) → now other ≡ cond (is_group group other) n (was other)) → with_log (fronts log was) group (take n (log group)) ≡ fronts log now
@@ -102,3 +108,23 @@ all_noted met stored through queues there kept = subst (λ (logs : Logs). Repres
     same : (group : GroupId) (t : Bool) → has group (groups_of met) ≡ t → take (through group) (log_of met group) ≡ applied_log (log_of met group) (stored group)
     same group true is = ap (λ n. take n (log_of met group)) (there group is)
     same group false is = none (through group) (applied (log_of met group) (stored group)) (log_of met group) (no_log met group is)
+
+-- ---- how far each log is noted, in a map
+
+pub nothing_noted : (digest : Digest) (log : Logs) (stored : GroupId → ℕ) → digest.through.entries ≡ [] → Represents (λ group. []) digest.queues → Notes log stored digest
+nothing_noted digest log stored none kept = record {
+  queues = subst (λ (logs : Logs). Represents logs digest.queues) (λ i group. sym (ap (λ n. take n (log group)) (zero_there group)) i) kept;
+  within = λ group. let is = zero_there group in omega (arith, is);
+}
+  where
+    zero_there : (group : GroupId) → through_at digest.through group ≡ 0
+    zero_there group = ap (λ (es : List (GroupId × ℕ)). unwrap_or (lookup (is_at group_cmp group) es) 0) none
+
+pub set_there : (old new : BTreeMap GroupId ℕ) (group own : GroupId) (n : ℕ) → own ≡ group → ((q : GroupId) → get group_cmp new q ≡ cond (is_group own q) (Some n) (get group_cmp old q))
+    → (other : GroupId) → through_at new other ≡ cond (is_group group other) n (through_at old other)
+set_there old new group own n same updated other =
+    ap (λ (o : Option ℕ). unwrap_or o 0) (updated other ∙ ap (λ (g : GroupId). cond (is_group g other) (Some n) (get group_cmp old other)) same) ∙ go (is_group group other)
+  where
+    go : (t : Bool) → unwrap_or (cond t (Some n) (get group_cmp old other)) 0 ≡ cond t n (through_at old other)
+    go true = refl
+    go false = refl

@@ -2,7 +2,8 @@
 use Rattle.std.proofs.Common.{◌≡◌, ◌∙◌, ap, sym, refl, ℕ, zero, suc, ◌+◌, ◌<◌, ◌≤◌, List, [], ◌∷◌, ◌++◌, take, length, arith}
 use Rattle.std.specs.Prelude.{Option, Some, None, slice_get}
 use Rattle.std.proofs.Math.Seq.{length-take-le, take-append-le}
-use Rattle.std.proofs.lemmas.Option.{slice_get-get_or}
+use Rattle.std.specs.Prelude.{get_or}
+use Rattle.std.proofs.lemmas.Option.{slice_get-get_or, slice_get_read}
 
 some_is : {A : Type 0} (a b : A) → Some a ≡ Some b → a ≡ b
 some_is a b h = cc
@@ -27,3 +28,6 @@ take_front log more n le = take-append-le n log more le
 pub not_none : {A : Type 0} (log : List A) (n : ℕ) → n < length log → None ≡ slice_get log n → ⊥
 not_none [] n lt is = omega arith
 not_none (x ∷ log) n lt is = none_is _ (is ∙ slice_get-get_or (x ∷ log) n x lt)
+
+pub front_more : {A : Type 0} (items : List A) (n : ℕ) (x : A) → n < length items → x ≡ get_or items n x → take (n + 1) items ≡ take n items ++ x ∷ []
+front_more items n x lt is = take_more items n x (slice_get_read items (length items) n x refl lt is)

@@ -2,8 +2,7 @@
 ghost use Rattle.std.specs.Prelude.{◌≡◌, ◌≤◌, true, false, take, IfOk};
 ghost use Rattle.std.specs.Option.{option_copied};
 ghost use Rattle.std.specs.Result.{result_err};
-ghost use Rattle.mega_handler.specs.Named.{Meanings};
-ghost use Rattle.mega_meanings.specs.Means.{Means};
+ghost use Rattle.mega_meanings.specs.Means.{Means, meant};
 ghost use Rattle.mega_outcome.specs.Answers.{rows_at};
 ghost use Rattle.mega_outcome.specs.Looks.{Looks};
 ghost use Rattle.mega_read.specs.declared.reading.Reading.{Reading};
@@ -68,7 +67,8 @@ pub fn enters<R: Records>(
             if digest.is_entered(alloc, voter, group, through, &message.name)? {
                 return Ok(Own::Picks);
             }
-            entering(alloc, op, message)
+            let own = entering(alloc, op, message)?;
+            Ok(own)
         }
         None => Ok(Own::Picks),
     }
@@ -93,11 +93,11 @@ fn handles_message<V: Versions>(
     through: u64,
     message: &Enter,
 ) -> Result<Own, StoreError>
-    ensures own { V.is_told ≡ true → IfOk result (λ own. (s : Setting) (again : Now → Operation → Now) (now : Now) (o : Operation) (r : Reading) → Means handlers.old s.handlers → s.cluster.schema ≡ schema.now →
+    ensures own { V.is_told ≡ true → IfOk result (λ own. (s : Setting) (again : Now → Operation → Now) (now : Now) (o : Operation) (r : Reading) → Means (meant effect handlers.old.named) s.handlers → s.cluster.schema ≡ schema.now →
         Shows schema.now group.now (rows_at (V.version rows.old) through) (listed_at now group.now through) → o.id ≡ op →
         own_by false s again now o group.now r through own ≡ handles_message s now o group.now r through message.now) }
     ensures looks { Looks V.Versions (result_err result) rows.old rows.new }
-    ensures handlers { (h : Meanings) → Means handlers.old h → Means handlers.new h }
+    ensures handlers { meant effect handlers.new.named ≡ meant effect handlers.old.named }
 {
     if !handlers.has(&message.queue) {
         let own = no_handler(alloc, message)?;
@@ -121,12 +121,12 @@ pub fn handles<R: Records, V: Versions>(
     group: &GroupId,
     through: u64,
 ) -> Result<Own, StoreError>
-    ensures own { V.is_told ≡ true → IfOk result (λ own. (s : Setting) (again : Now → Operation → Now) (now : Now) (o : Operation) (r : Reading) → Means handlers.old s.handlers → s.cluster.schema ≡ schema.now →
+    ensures own { V.is_told ≡ true → IfOk result (λ own. (s : Setting) (again : Now → Operation → Now) (now : Now) (o : Operation) (r : Reading) → Means (meant effect handlers.old.named) s.handlers → s.cluster.schema ≡ schema.now →
         Tells voter.now.logs.kept now.met → Notes (log_of now.met) now.stored digest.now → through ≤ prefix_of now.met group.now →
         Shows schema.now group.now (rows_at (V.version rows.old) through) (listed_at now group.now through) → o.id ≡ op →
         own_by false s again now o group.now r through own ≡ handles s again now o group.now r through (oldest_unhandled (take through (log_of now.met group.now)))) }
     ensures looks { Looks V.Versions (result_err result) rows.old rows.new }
-    ensures handlers { (h : Meanings) → Means handlers.old h → Means handlers.new h }
+    ensures handlers { meant effect handlers.new.named ≡ meant effect handlers.old.named }
 {
     match digest.oldest_unhandled(alloc, voter, group, through)? {
         Some(message) => {

@@ -34,10 +34,9 @@ impl Digest {
     pub fn new(alloc: Global) -> Digest
         ensures { (log : Logs) (stored : Group → ℕ) → Notes log stored result }
     {
-        Digest {
-            queues: Queues::new(alloc),
-            through: BTreeMap::new(alloc),
-        }
+        let queues = Queues::new(alloc);
+        let through = BTreeMap::new(alloc);
+        Digest { queues, through }
     }
 
     /// Notes what is applied of a group and not noted.

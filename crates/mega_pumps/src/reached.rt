@@ -60,9 +60,11 @@ impl Digest {
             oldest ≡ oldest_unhandled (take through (log_of met group.now))) }
     {
         if through_of(&self.through, group) == through {
-            return copy_of(alloc, self.queues.oldest_unhandled(group));
+            let oldest = copy_of(alloc, self.queues.oldest_unhandled(group))?;
+            return Ok(oldest);
         }
         let mailbox = mailbox_at(alloc, voter, group, through)?;
-        copy_of(alloc, mailbox.oldest_unhandled())
+        let oldest = copy_of(alloc, mailbox.oldest_unhandled())?;
+        Ok(oldest)
     }
 }

@@ -96,15 +96,18 @@ fn visit<R: Records>(
 
 /// The operation that reads this group, and what it sends for that.
 fn visiting(kept: Kept, picked: Picked, visit: Visit) -> Heard
-    ensures { (phase : OpenPhase) → visit.visited ≡ kept.visited ++ picked.group ∷ [] → result ≡ record { operation = visiting (whole kept phase) picked.group picked.message visit.made; sends = visit.made.sends } }
+    ensures request { result.operation.request ≡ kept.request }
+    ensures heard { (phase : OpenPhase) → visit.visited ≡ kept.visited ++ picked.group ∷ [] → result ≡ record { operation = visiting (whole kept phase) picked.group picked.message visit.made; sends = visit.made.sends } }
 {
     let Kept {
         id,
         request,
         began,
-        visited: _,
-        message: _,
+        visited: before,
+        message: last,
     } = kept;
+    drop(before);
+    drop(last);
     let Picked { group, message } = picked;
     let Visit { visited, made } = visit;
     let mega_read::Move { reading, sends } = made;
@@ -130,7 +133,8 @@ pub fn visits<R: Records>(
     picked: Picked,
     asked: Items<u8>,
 ) -> Result<Heard, NoMemory>
-    ensures { IfOk result (λ heard. (me : _) (h : Meanings) (now : Now) (again : Now → Open → Now) (phase : OpenPhase) → Tells voter.now.logs.kept now.met → TellsLeases members.now me leases.now now.met →
+    ensures request { IfOk result (λ heard. heard.operation.request ≡ kept.request) }
+    ensures begins { IfOk result (λ heard. (me : _) (h : Meanings) (now : Now) (again : Now → Open → Now) (phase : OpenPhase) → Tells voter.now.logs.kept now.met → TellsLeases members.now me leases.now now.met →
         begins_read (record { cluster = members.now; me = me; handlers = h }) again now (whole kept phase) picked.group picked.message asked ≡ again (sends_more now heard.sends) heard.operation) }
 {
     match visit(alloc, members, voter, leases, &kept, &picked.group, asked) {

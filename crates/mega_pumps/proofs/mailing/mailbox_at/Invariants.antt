@@ -7,4 +7,4 @@ use Rattle.mega_pumps.proofs.mailing.mailbox_at.Given as goal
 
 abbrev pub invariant-loop-count : goal.invariant-loop-count
 invariant-loop-count g l =
-    (met : List Met) → Tells l.voter.logs.kept met → l.through ≤ prefix_of met l.group → seen l.mailbox ≡ mail_of (take l.count (log_of met l.group))
+    (met : List Met) → Tells l.voter.logs.kept met → l.through ≤ prefix_of met l.group → (l.count ≤ l.through) × (seen l.mailbox ≡ mail_of (take l.count (log_of met l.group)))

@@ -11,4 +11,4 @@ abbrev pub invariant-loop-count : goal.invariant-loop-count
 invariant-loop-count g l =
     (met : List Met) (logs : Logs) → Tells l.voter.logs.kept met → l.from ≤ l.through → l.through ≤ prefix_of met l.group
     → Represents logs l.initial.queues → logs l.group ≡ take l.from (log_of met l.group)
-    → (l.from ≤ l.count) × Represents (with_log logs l.group (take l.count (log_of met l.group))) l.queues
+    → (l.count ≤ l.through) × Represents (with_log logs l.group (take l.count (log_of met l.group))) l.queues
