@@ -130,10 +130,10 @@ impl<R: Records, V: Versions> Replica<R, V> {
         work: &mut Work,
         reached: Reached,
     ) -> Result<Option<Operation>, ActFault>
-        ensures acted { IfOk result (λ next. (h : Meanings) (now : Now) → V.is_told ≡ true → Means (meant effect handlers.old.named) h → is_pump reached.kept.request ≡ true →
+        ensures acted { IfOk result (λ next. (h : Meanings) (now : Now) → V.is_told ≡ true → Means (meant handlers.old.named effect) h → is_pump reached.kept.request ≡ true →
             reached.position ≤ applied (log_of now.met reached.group) (now.stored reached.group) → IsAt V.version h self.old now.met now.stored →
             Acted V.version h self.new work.old work.new now (λ again. finishes (setting_of self.old h) again now (operation_of reached) reached.group reached.reading reached.position) next) }
-        ensures handlers { meant effect handlers.new.named ≡ meant effect handlers.old.named }
+        ensures handlers { meant handlers.new.named effect ≡ meant handlers.old.named effect }
         ensures fares { Fares V.Versions (failed_by result) self.old.rows.rows self.new.rows.rows }
         ensures members { self.new.members ≡ self.old.members }
         ensures me { self.new.me ≡ self.old.me }
@@ -160,10 +160,10 @@ impl<R: Records, V: Versions> Replica<R, V> {
         work: &mut Work,
         reached: Reached,
     ) -> Result<Option<Operation>, ActFault>
-        ensures acted { IfOk result (λ next. (h : Meanings) (now : Now) → V.is_told ≡ true → Means (meant effect handlers.old.named) h → IsOf reached.kept.request reached.group →
+        ensures acted { IfOk result (λ next. (h : Meanings) (now : Now) → V.is_told ≡ true → Means (meant handlers.old.named effect) h → IsOf reached.kept.request reached.group →
             reached.position ≤ applied (log_of now.met reached.group) (now.stored reached.group) → IsAt V.version h self.old now.met now.stored →
             Acted V.version h self.new work.old work.new now (λ again. finishes (setting_of self.old h) again now (operation_of reached) reached.group reached.reading reached.position) next) }
-        ensures handlers { meant effect handlers.new.named ≡ meant effect handlers.old.named }
+        ensures handlers { meant handlers.new.named effect ≡ meant handlers.old.named effect }
         ensures fares { Fares V.Versions (failed_by result) self.old.rows.rows self.new.rows.rows }
         ensures members { self.new.members ≡ self.old.members }
         ensures me { self.new.me ≡ self.old.me }
@@ -195,10 +195,10 @@ impl<R: Records, V: Versions> Replica<R, V> {
         work: &mut Work,
         reached: Reached,
     ) -> Result<Option<Operation>, ActFault>
-        ensures acted { IfOk result (λ next. (h : Meanings) (now : Now) → V.is_told ≡ true → Means (meant effect handlers.old.named) h → IsOf reached.kept.request reached.group →
+        ensures acted { IfOk result (λ next. (h : Meanings) (now : Now) → V.is_told ≡ true → Means (meant handlers.old.named effect) h → IsOf reached.kept.request reached.group →
             reached.position ≤ prefix_of now.met reached.group → IsAt V.version h self.old now.met now.stored →
             Acted V.version h self.new work.old work.new now (λ again. finishes (setting_of self.old h) again (completes_read (setting_of self.old h) now reached.group reached.reading reached.position) (operation_of reached) reached.group reached.reading reached.position) next) }
-        ensures handlers { meant effect handlers.new.named ≡ meant effect handlers.old.named }
+        ensures handlers { meant handlers.new.named effect ≡ meant handlers.old.named effect }
         ensures fares { Fares V.Versions (failed_by result) self.old.rows.rows self.new.rows.rows }
         ensures members { self.new.members ≡ self.old.members }
         ensures me { self.new.me ≡ self.old.me }
@@ -234,9 +234,9 @@ impl<R: Records, V: Versions> Replica<R, V> {
         group: GroupId,
         reading: Reading,
     ) -> Result<Option<Operation>, ActFault>
-        ensures acted { IfOk result (λ next. (h : Meanings) (now : Now) → V.is_told ≡ true → Means (meant effect handlers.old.named) h → IsOf kept.request group → IsAt V.version h self.old now.met now.stored →
+        ensures acted { IfOk result (λ next. (h : Meanings) (now : Now) → V.is_told ≡ true → Means (meant handlers.old.named effect) h → IsOf kept.request group → IsAt V.version h self.old now.met now.stored →
             Acted V.version h self.new work.old work.new now (λ again. reads_on (setting_of self.old h) again now (whole kept (Reads group reading)) group reading) next) }
-        ensures handlers { meant effect handlers.new.named ≡ meant effect handlers.old.named }
+        ensures handlers { meant handlers.new.named effect ≡ meant handlers.old.named effect }
         ensures fares { Fares V.Versions (failed_by result) self.old.rows.rows self.new.rows.rows }
         ensures members { self.new.members ≡ self.old.members }
         ensures me { self.new.me ≡ self.old.me }
@@ -286,9 +286,9 @@ impl<R: Records, V: Versions> Replica<R, V> {
         work: &mut Work,
         operation: Operation,
     ) -> Result<Option<Operation>, ActFault>
-        ensures acted { IfOk result (λ next. (h : Meanings) (now : Now) → V.is_told ≡ true → Means (meant effect handlers.old.named) h → IsAbout operation → IsAt V.version h self.old now.met now.stored →
+        ensures acted { IfOk result (λ next. (h : Meanings) (now : Now) → V.is_told ≡ true → Means (meant handlers.old.named effect) h → IsAbout operation → IsAt V.version h self.old now.met now.stored →
             Acted V.version h self.new work.old work.new now (λ again. acts (setting_of self.old h) again now operation) next) }
-        ensures handlers { meant effect handlers.new.named ≡ meant effect handlers.old.named }
+        ensures handlers { meant handlers.new.named effect ≡ meant handlers.old.named effect }
         ensures fares { Fares V.Versions (failed_by result) self.old.rows.rows self.new.rows.rows }
         ensures members { self.new.members ≡ self.old.members }
         ensures me { self.new.me ≡ self.old.me }
@@ -330,9 +330,9 @@ impl<R: Records, V: Versions> Replica<R, V> {
         most: usize,
         operation: Operation,
     ) -> Result<(), ActFault>
-        ensures acted { OnOk result ((h : Meanings) (now : Now) → V.is_told ≡ true → Means (meant effect handlers.old.named) h → IsAbout operation → IsAt V.version h self.old now.met now.stored →
+        ensures acted { OnOk result ((h : Meanings) (now : Now) → V.is_told ≡ true → Means (meant handlers.old.named effect) h → IsAbout operation → IsAt V.version h self.old now.met now.stored →
             Acted V.version h self.new work.old work.new now (λ again. acts_within most (setting_of self.old h) now operation) None) }
-        ensures handlers { meant effect handlers.new.named ≡ meant effect handlers.old.named }
+        ensures handlers { meant handlers.new.named effect ≡ meant handlers.old.named effect }
         ensures fares { Fares V.Versions (failed_by result) self.old.rows.rows self.new.rows.rows }
         ensures members { self.new.members ≡ self.old.members }
         ensures me { self.new.me ≡ self.old.me }
@@ -362,14 +362,14 @@ impl<R: Records, V: Versions> Replica<R, V> {
         work: &mut Work,
         operation: Operation,
     ) -> Result<(), ActFault>
-        ensures state { OnOk result ((h : Meanings) (now : Now) → V.is_told ≡ true → Means (meant effect handlers.old.named) h → IsAbout operation →
+        ensures state { OnOk result ((h : Meanings) (now : Now) → V.is_told ≡ true → Means (meant handlers.old.named effect) h → IsAbout operation →
             IsAt V.version h self.old now.met now.stored →
             IsAt V.version h self.new
             (goes_on (setting_of self.old h) now operation).met (goes_on (setting_of self.old h) now operation).stored) }
-        ensures work { OnOk result ((h : Meanings) (now : Now) → V.is_told ≡ true → Means (meant effect handlers.old.named) h → IsAbout operation →
+        ensures work { OnOk result ((h : Meanings) (now : Now) → V.is_told ≡ true → Means (meant handlers.old.named effect) h → IsAbout operation →
             IsAt V.version h self.old now.met now.stored →
             work.old ≡ work_of now → work.new ≡ work_of (goes_on (setting_of self.old h) now operation)) }
-        ensures handlers { meant effect handlers.new.named ≡ meant effect handlers.old.named }
+        ensures handlers { meant handlers.new.named effect ≡ meant handlers.old.named effect }
         ensures fares { Fares V.Versions (failed_by result) self.old.rows.rows self.new.rows.rows }
         ensures members { self.new.members ≡ self.old.members }
         ensures me { self.new.me ≡ self.old.me }
@@ -391,10 +391,10 @@ impl<R: Records, V: Versions> Replica<R, V> {
         work: &mut Work,
         operation: Operation,
     ) -> Result<(), ActFault>
-        ensures acted { OnOk result ((h : Meanings) (now before : Now) → V.is_told ≡ true → Means (meant effect handlers.old.named) h → IsAbout operation → Tells self.old.voter.logs.kept before.met →
+        ensures acted { OnOk result ((h : Meanings) (now before : Now) → V.is_told ≡ true → Means (meant handlers.old.named effect) h → IsAbout operation → Tells self.old.voter.logs.kept before.met →
             IsAt V.version h self.old now.met now.stored →
             Acted V.version h self.new work.old work.new now (λ again. later (setting_of self.old h) before now operation) None) }
-        ensures handlers { meant effect handlers.new.named ≡ meant effect handlers.old.named }
+        ensures handlers { meant handlers.new.named effect ≡ meant handlers.old.named effect }
         ensures fares { Fares V.Versions (failed_by result) self.old.rows.rows self.new.rows.rows }
         ensures members { self.new.members ≡ self.old.members }
         ensures me { self.new.me ≡ self.old.me }

@@ -97,14 +97,14 @@ impl<R: Records, V: Versions> Replica<R, V> {
         op: OpId,
         request: Request,
     ) -> Result<(), ActFault>
-        ensures state { OnOk result ((h : Meanings) (now : Now) → V.is_told ≡ true → Means (meant effect handlers.old.named) h →
+        ensures state { OnOk result ((h : Meanings) (now : Now) → V.is_told ≡ true → Means (meant handlers.old.named effect) h →
             IsAt V.version h self.old now.met now.stored →
             IsAt V.version h self.new
             (begins (setting_of self.old h) now (new_operation op request (clock_of now.met))).met (begins (setting_of self.old h) now (new_operation op request (clock_of now.met))).stored) }
-        ensures work { OnOk result ((h : Meanings) (now : Now) → V.is_told ≡ true → Means (meant effect handlers.old.named) h →
+        ensures work { OnOk result ((h : Meanings) (now : Now) → V.is_told ≡ true → Means (meant handlers.old.named effect) h →
             IsAt V.version h self.old now.met now.stored →
             work.old ≡ work_of now → work.new ≡ work_of (begins (setting_of self.old h) now (new_operation op request (clock_of now.met)))) }
-        ensures handlers { meant effect handlers.new.named ≡ meant effect handlers.old.named }
+        ensures handlers { meant handlers.new.named effect ≡ meant handlers.old.named effect }
         ensures fares { Fares V.Versions (failed_by result) self.old.rows.rows self.new.rows.rows }
         ensures members { self.new.members ≡ self.old.members }
         ensures me { self.new.me ≡ self.old.me }
@@ -141,14 +141,14 @@ impl<R: Records, V: Versions> Replica<R, V> {
         op: OpId,
         request: Request,
     ) -> Result<(), ActFault>
-        ensures state { OnOk result ((h : Meanings) (now : Now) → V.is_told ≡ true → Means (meant effect handlers.old.named) h → is_pump request ≡ true →
+        ensures state { OnOk result ((h : Meanings) (now : Now) → V.is_told ≡ true → Means (meant handlers.old.named effect) h → is_pump request ≡ true →
             IsAt V.version h self.old now.met now.stored →
             IsAt V.version h self.new
             (begins (setting_of self.old h) now (new_operation op request (clock_of now.met))).met (begins (setting_of self.old h) now (new_operation op request (clock_of now.met))).stored) }
-        ensures work { OnOk result ((h : Meanings) (now : Now) → V.is_told ≡ true → Means (meant effect handlers.old.named) h → is_pump request ≡ true →
+        ensures work { OnOk result ((h : Meanings) (now : Now) → V.is_told ≡ true → Means (meant handlers.old.named effect) h → is_pump request ≡ true →
             IsAt V.version h self.old now.met now.stored →
             work.old ≡ work_of now → work.new ≡ work_of (begins (setting_of self.old h) now (new_operation op request (clock_of now.met)))) }
-        ensures handlers { meant effect handlers.new.named ≡ meant effect handlers.old.named }
+        ensures handlers { meant handlers.new.named effect ≡ meant handlers.old.named effect }
         ensures fares { Fares V.Versions (failed_by result) self.old.rows.rows self.new.rows.rows }
         ensures members { self.new.members ≡ self.old.members }
         ensures me { self.new.me ≡ self.old.me }
@@ -225,14 +225,14 @@ impl<R: Records, V: Versions> Replica<R, V> {
         op: OpId,
         request: Request,
     ) -> Result<(), ActFault>
-        ensures state { OnOk result ((h : Meanings) (now : Now) → V.is_told ≡ true → Means (meant effect handlers.old.named) h → is_at_once request ≡ false →
+        ensures state { OnOk result ((h : Meanings) (now : Now) → V.is_told ≡ true → Means (meant handlers.old.named effect) h → is_at_once request ≡ false →
             IsAt V.version h self.old now.met now.stored →
             IsAt V.version h self.new
             (begins (setting_of self.old h) now (new_operation op request (clock_of now.met))).met (begins (setting_of self.old h) now (new_operation op request (clock_of now.met))).stored) }
-        ensures work { OnOk result ((h : Meanings) (now : Now) → V.is_told ≡ true → Means (meant effect handlers.old.named) h → is_at_once request ≡ false →
+        ensures work { OnOk result ((h : Meanings) (now : Now) → V.is_told ≡ true → Means (meant handlers.old.named effect) h → is_at_once request ≡ false →
             IsAt V.version h self.old now.met now.stored →
             work.old ≡ work_of now → work.new ≡ work_of (begins (setting_of self.old h) now (new_operation op request (clock_of now.met)))) }
-        ensures handlers { meant effect handlers.new.named ≡ meant effect handlers.old.named }
+        ensures handlers { meant handlers.new.named effect ≡ meant handlers.old.named effect }
         ensures fares { Fares V.Versions (failed_by result) self.old.rows.rows self.new.rows.rows }
         ensures members { self.new.members ≡ self.old.members }
         ensures me { self.new.me ≡ self.old.me }

@@ -192,13 +192,13 @@ fn decides<R: Records, V: Versions>(
     handlers: &mut Handlers,
     reached: &Reached,
 ) -> Result<Own, ActFault>
-    ensures own { IfOk result (λ own. V.is_told ≡ true → (me : _) (h : Meanings) (progress : _) (leases : LeasesKept) (now : Now) (again : Now → Open → Now) → Means (meant effect handlers.old.named) h → is_pump reached.now.kept.request ≡ true →
+    ensures own { IfOk result (λ own. V.is_told ≡ true → (me : _) (h : Meanings) (progress : _) (leases : LeasesKept) (now : Now) (again : Now → Open → Now) → Means (meant handlers.old.named effect) h → is_pump reached.now.kept.request ≡ true →
         nat_le (members.now.limit).0 reached.now.position ≡ false → reached.now.position ≤ applied (log_of now.met reached.now.group) (now.stored reached.now.group) →
         Stands (setting members.now me h) voter.now.logs.kept leases (V.version rows.old) progress now.met now.stored →
         own_by (is_entering reached.now.kept.request) (setting members.now me h) again now (operation_of reached.now) reached.now.group reached.now.reading reached.now.position own
         ≡ finishes (setting members.now me h) again now (operation_of reached.now) reached.now.group reached.now.reading reached.now.position) }
     ensures versions { SameVersions (V.version rows.old) (V.version rows.new) }
-    ensures handlers { meant effect handlers.new.named ≡ meant effect handlers.old.named }
+    ensures handlers { meant handlers.new.named effect ≡ meant handlers.old.named effect }
     ensures fares { Fares V.Versions (failed_by result) rows.old rows.new }
     ensures built { result ≡ Err Unbuilt → ⊥ }
 {
@@ -299,13 +299,13 @@ impl Reached {
         handlers: &mut Handlers,
     ) -> Result<Pumped, ActFault>
         ensures asked { IfOk result (λ pumped. IsAsked pumped self.kept.request) }
-        ensures pumped { IfOk result (λ pumped. V.is_told ≡ true → (me : _) (h : Meanings) (now : Now) (again : Now → Open → Now) → Means (meant effect handlers.old.named) h → is_pump self.kept.request ≡ true →
+        ensures pumped { IfOk result (λ pumped. V.is_told ≡ true → (me : _) (h : Meanings) (now : Now) (again : Now → Open → Now) → Means (meant handlers.old.named effect) h → is_pump self.kept.request ≡ true →
             self.position ≤ applied (log_of now.met self.group) (now.stored self.group) →
             Stands (setting members.now me h) voter.now.logs.kept leases.now (V.version rows.old.rows) (progress_at rows.old.progress) now.met now.stored →
             pumped_by again now pumped ≡ finishes (setting members.now me h) again now (operation_of self) self.group self.reading self.position) }
         ensures versions { SameVersions (V.version rows.old.rows) (V.version rows.new.rows) }
         ensures progress { rows.new.progress ≡ rows.old.progress }
-        ensures handlers { meant effect handlers.new.named ≡ meant effect handlers.old.named }
+        ensures handlers { meant handlers.new.named effect ≡ meant handlers.old.named effect }
         ensures fares { Fares V.Versions (failed_by result) rows.old.rows rows.new.rows }
         ensures built { result ≡ Err Unbuilt → ⊥ }
     {

@@ -33,14 +33,14 @@ impl<R: Records, V: Versions> Replica<R, V> {
         work: &mut Work,
         heard: Heard,
     ) -> Result<(), ActFault>
-        ensures state { OnOk result ((h : Meanings) (now : Now) → V.is_told ≡ true → Means (meant effect handlers.old.named) h → IsHeardAbout heard →
+        ensures state { OnOk result ((h : Meanings) (now : Now) → V.is_told ≡ true → Means (meant handlers.old.named effect) h → IsHeardAbout heard →
             IsAt V.version h self.old now.met now.stored →
             IsAt V.version h self.new
             (acts_in_turn (setting_of self.old h) now heard).met (acts_in_turn (setting_of self.old h) now heard).stored) }
-        ensures work { OnOk result ((h : Meanings) (now : Now) → V.is_told ≡ true → Means (meant effect handlers.old.named) h → IsHeardAbout heard →
+        ensures work { OnOk result ((h : Meanings) (now : Now) → V.is_told ≡ true → Means (meant handlers.old.named effect) h → IsHeardAbout heard →
             IsAt V.version h self.old now.met now.stored →
             work.old ≡ work_of now → work.new ≡ work_of (acts_in_turn (setting_of self.old h) now heard)) }
-        ensures handlers { meant effect handlers.new.named ≡ meant effect handlers.old.named }
+        ensures handlers { meant handlers.new.named effect ≡ meant handlers.old.named effect }
         ensures fares { Fares V.Versions (failed_by result) self.old.rows.rows self.new.rows.rows }
         ensures members { self.new.members ≡ self.old.members }
         ensures me { self.new.me ≡ self.old.me }
@@ -69,14 +69,14 @@ impl<R: Records, V: Versions> Replica<R, V> {
         work: &mut Work,
         heard: Items<Heard>,
     ) -> Result<(), ActFault>
-        ensures state { OnOk result ((h : Meanings) (now : Now) → V.is_told ≡ true → Means (meant effect handlers.old.named) h → All IsHeardAbout heard →
+        ensures state { OnOk result ((h : Meanings) (now : Now) → V.is_told ≡ true → Means (meant handlers.old.named effect) h → All IsHeardAbout heard →
             IsAt V.version h self.old now.met now.stored →
             IsAt V.version h self.new
             (all_act (setting_of self.old h) now heard).met (all_act (setting_of self.old h) now heard).stored) }
-        ensures work { OnOk result ((h : Meanings) (now : Now) → V.is_told ≡ true → Means (meant effect handlers.old.named) h → All IsHeardAbout heard →
+        ensures work { OnOk result ((h : Meanings) (now : Now) → V.is_told ≡ true → Means (meant handlers.old.named effect) h → All IsHeardAbout heard →
             IsAt V.version h self.old now.met now.stored →
             work.old ≡ work_of now → work.new ≡ work_of (all_act (setting_of self.old h) now heard)) }
-        ensures handlers { meant effect handlers.new.named ≡ meant effect handlers.old.named }
+        ensures handlers { meant handlers.new.named effect ≡ meant handlers.old.named effect }
         ensures fares { Fares V.Versions (failed_by result) self.old.rows.rows self.new.rows.rows }
         ensures members { self.new.members ≡ self.old.members }
         ensures me { self.new.me ≡ self.old.me }
@@ -99,14 +99,14 @@ impl<R: Records, V: Versions> Replica<R, V> {
         clock: u64,
         operation: Operation,
     ) -> Result<(), ActFault>
-        ensures state { OnOk result ((h : Meanings) (now : Now) → V.is_told ≡ true → Means (meant effect handlers.old.named) h → IsAbout operation →
+        ensures state { OnOk result ((h : Meanings) (now : Now) → V.is_told ≡ true → Means (meant handlers.old.named effect) h → IsAbout operation →
             IsAt V.version h self.old now.met now.stored →
             IsAt V.version h self.new
             (ticked (setting_of self.old h) clock now operation).met (ticked (setting_of self.old h) clock now operation).stored) }
-        ensures work { OnOk result ((h : Meanings) (now : Now) → V.is_told ≡ true → Means (meant effect handlers.old.named) h → IsAbout operation →
+        ensures work { OnOk result ((h : Meanings) (now : Now) → V.is_told ≡ true → Means (meant handlers.old.named effect) h → IsAbout operation →
             IsAt V.version h self.old now.met now.stored →
             work.old ≡ work_of now → work.new ≡ work_of (ticked (setting_of self.old h) clock now operation)) }
-        ensures handlers { meant effect handlers.new.named ≡ meant effect handlers.old.named }
+        ensures handlers { meant handlers.new.named effect ≡ meant handlers.old.named effect }
         ensures fares { Fares V.Versions (failed_by result) self.old.rows.rows self.new.rows.rows }
         ensures members { self.new.members ≡ self.old.members }
         ensures me { self.new.me ≡ self.old.me }
@@ -138,14 +138,14 @@ impl<R: Records, V: Versions> Replica<R, V> {
         clock: u64,
         operations: Items<Operation>,
     ) -> Result<(), ActFault>
-        ensures state { OnOk result ((h : Meanings) (now : Now) → V.is_told ≡ true → Means (meant effect handlers.old.named) h → All IsAbout operations →
+        ensures state { OnOk result ((h : Meanings) (now : Now) → V.is_told ≡ true → Means (meant handlers.old.named effect) h → All IsAbout operations →
             IsAt V.version h self.old now.met now.stored →
             IsAt V.version h self.new
             (fold (ticked (setting_of self.old h) clock) now operations).met (fold (ticked (setting_of self.old h) clock) now operations).stored) }
-        ensures work { OnOk result ((h : Meanings) (now : Now) → V.is_told ≡ true → Means (meant effect handlers.old.named) h → All IsAbout operations →
+        ensures work { OnOk result ((h : Meanings) (now : Now) → V.is_told ≡ true → Means (meant handlers.old.named effect) h → All IsAbout operations →
             IsAt V.version h self.old now.met now.stored →
             work.old ≡ work_of now → work.new ≡ work_of (fold (ticked (setting_of self.old h) clock) now operations)) }
-        ensures handlers { meant effect handlers.new.named ≡ meant effect handlers.old.named }
+        ensures handlers { meant handlers.new.named effect ≡ meant handlers.old.named effect }
         ensures fares { Fares V.Versions (failed_by result) self.old.rows.rows self.new.rows.rows }
         ensures members { self.new.members ≡ self.old.members }
         ensures me { self.new.me ≡ self.old.me }

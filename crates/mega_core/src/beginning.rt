@@ -91,14 +91,14 @@ fn serves<R: Records, V: Versions>(
     op: OpId,
     request: Request,
 ) -> Result<(), ActFault>
-    ensures state { OnOk result ((h : Meanings) (now : Now) → V.is_told ≡ true → Means (meant effect handlers.old.named) h →
+    ensures state { OnOk result ((h : Meanings) (now : Now) → V.is_told ≡ true → Means (meant handlers.old.named effect) h →
         IsAt V.version h replica.old now.met now.stored →
         IsAt V.version h replica.new
         (begins (setting_of replica.old h) now (new_operation op request (clock_of now.met))).met (begins (setting_of replica.old h) now (new_operation op request (clock_of now.met))).stored) }
-    ensures work { OnOk result ((h : Meanings) (now : Now) → V.is_told ≡ true → Means (meant effect handlers.old.named) h →
+    ensures work { OnOk result ((h : Meanings) (now : Now) → V.is_told ≡ true → Means (meant handlers.old.named effect) h →
         IsAt V.version h replica.old now.met now.stored →
         work.old ≡ work_of now → work.new ≡ work_of (begins (setting_of replica.old h) now (new_operation op request (clock_of now.met)))) }
-    ensures handlers { meant effect handlers.new.named ≡ meant effect handlers.old.named }
+    ensures handlers { meant handlers.new.named effect ≡ meant handlers.old.named effect }
     ensures members { replica.new.members ≡ replica.old.members }
     ensures me { replica.new.me ≡ replica.old.me }
     ensures voter { replica.new.voter ≡ replica.old.voter }
@@ -123,14 +123,14 @@ fn unless_refused<R: Records, V: Versions>(
     request: Request,
     refusal: Option<Answer>,
 ) -> Result<(), ActFault>
-    ensures state { OnOk result ((h : Meanings) (now : Now) → V.is_told ≡ true → Means (meant effect handlers.old.named) h →
+    ensures state { OnOk result ((h : Meanings) (now : Now) → V.is_told ≡ true → Means (meant handlers.old.named effect) h →
         IsAt V.version h replica.old now.met now.stored →
         IsAt V.version h replica.new
         (unless_refused (setting_of replica.old h) now (new_operation op request (clock_of now.met)) refusal).met (unless_refused (setting_of replica.old h) now (new_operation op request (clock_of now.met)) refusal).stored) }
-    ensures work { OnOk result ((h : Meanings) (now : Now) → V.is_told ≡ true → Means (meant effect handlers.old.named) h →
+    ensures work { OnOk result ((h : Meanings) (now : Now) → V.is_told ≡ true → Means (meant handlers.old.named effect) h →
         IsAt V.version h replica.old now.met now.stored →
         work.old ≡ work_of now → work.new ≡ work_of (unless_refused (setting_of replica.old h) now (new_operation op request (clock_of now.met)) refusal)) }
-    ensures handlers { meant effect handlers.new.named ≡ meant effect handlers.old.named }
+    ensures handlers { meant handlers.new.named effect ≡ meant handlers.old.named effect }
     ensures members { replica.new.members ≡ replica.old.members }
     ensures me { replica.new.me ≡ replica.old.me }
     ensures voter { replica.new.voter ≡ replica.old.voter }
@@ -158,12 +158,12 @@ impl<R: Records, V: Versions> Node<R, V> {
         handlers: &mut Handlers,
         request: Request,
     ) -> Result<Work, ActFault>
-        ensures acted { V.is_told ≡ true → IfOk result (λ work. (h : Meanings) (node : RuleNode) (text : List ℕ) → Means (meant effect handlers.old.named) h →
+        ensures acted { V.is_told ≡ true → IfOk result (λ work. (h : Meanings) (node : RuleNode) (text : List ℕ) → Means (meant handlers.old.named effect) h →
             StandsFor V.version h self.old node →
             HasOwnRows self.old.replica.members.schema (log_of (acted_on (setting_of self.old.replica h) node (Begin request text))) →
             ActedAt V.version h self.new.replica self.new.begun work
             (acted_on (setting_of self.old.replica h) node (Begin request text)) (has_begun (setting_of self.old.replica h) node request text)) }
-        ensures handlers { meant effect handlers.new.named ≡ meant effect handlers.old.named }
+        ensures handlers { meant handlers.new.named effect ≡ meant handlers.old.named effect }
         ensures members { self.new.replica.members ≡ self.old.replica.members }
         ensures me { self.new.replica.me ≡ self.old.replica.me }
         ensures unbuilt { result ≡ Err Unbuilt → is_built request ≡ false }

@@ -98,23 +98,23 @@ impl<R: Records, V: Versions> Node<R, V> {
         handlers: &mut Handlers,
         message: &Message,
     ) -> Result<Step, StepFault>
-        ensures notes { V.is_told ≡ true → IfOk result (λ made. (h : Meanings) (node : RuleNode) → Means (meant effect handlers.old.named) h →
+        ensures notes { V.is_told ≡ true → IfOk result (λ made. (h : Meanings) (node : RuleNode) → Means (meant handlers.old.named effect) h →
             StandsFor V.version h self.old node →
             HasOwnRows self.old.replica.members.schema (log_of (acted_on (setting_of self.old.replica h) node (Take message.now))) → IsPlaced (decision_in (setting_of self.old.replica h) node message.now) →
             map met_of made.notes ≡ (step (setting_of self.old.replica h) node (Take message.now)).notes) }
-        ensures sends { V.is_told ≡ true → IfOk result (λ made. (h : Meanings) (node : RuleNode) → Means (meant effect handlers.old.named) h →
+        ensures sends { V.is_told ≡ true → IfOk result (λ made. (h : Meanings) (node : RuleNode) → Means (meant handlers.old.named effect) h →
             StandsFor V.version h self.old node →
             HasOwnRows self.old.replica.members.schema (log_of (acted_on (setting_of self.old.replica h) node (Take message.now))) → IsPlaced (decision_in (setting_of self.old.replica h) node message.now) →
             made.sends ≡ (step (setting_of self.old.replica h) node (Take message.now)).sends) }
-        ensures state { V.is_told ≡ true → OnOk result ((h : Meanings) (node : RuleNode) → Means (meant effect handlers.old.named) h →
+        ensures state { V.is_told ≡ true → OnOk result ((h : Meanings) (node : RuleNode) → Means (meant handlers.old.named effect) h →
             StandsFor V.version h self.old node →
             HasOwnRows self.old.replica.members.schema (log_of (acted_on (setting_of self.old.replica h) node (Take message.now))) → IsPlaced (decision_in (setting_of self.old.replica h) node message.now) →
             StandsFor V.version h self.new (step (setting_of self.old.replica h) node (Take message.now)).node) }
-        ensures staged { V.is_told ≡ true → OnOk result ((h : Meanings) (node : RuleNode) (before : List Met) → Means (meant effect handlers.old.named) h → StandsFor V.version h self.old node →
+        ensures staged { V.is_told ≡ true → OnOk result ((h : Meanings) (node : RuleNode) (before : List Met) → Means (meant handlers.old.named effect) h → StandsFor V.version h self.old node →
             HasOwnRows self.old.replica.members.schema (log_of (acted_on (setting_of self.old.replica h) node (Take message.now))) → IsPlaced (decision_in (setting_of self.old.replica h) node message.now) →
             Stages self.old.replica.voter.logs.staged.items before node.met → Stages self.new.replica.voter.logs.staged.items before (step (setting_of self.old.replica h) node (Take message.now)).node.met) }
         ensures records { self.new.replica.voter.logs.records ≡ self.old.replica.voter.logs.records }
-        ensures handlers { meant effect handlers.new.named ≡ meant effect handlers.old.named }
+        ensures handlers { meant handlers.new.named effect ≡ meant handlers.old.named effect }
         ensures members { self.new.replica.members ≡ self.old.replica.members }
         ensures me { self.new.replica.me ≡ self.old.replica.me }
         ensures built { result ≡ Err Unbuilt → (h : Meanings) (node : RuleNode) → StandsFor V.version h self.old node → ⊥ }
@@ -144,23 +144,23 @@ impl<R: Records, V: Versions> Node<R, V> {
         request: Request,
         text: &Text,
     ) -> Result<Step, StepFault>
-        ensures notes { V.is_told ≡ true → IfOk result (λ made. (h : Meanings) (node : RuleNode) → Means (meant effect handlers.old.named) h →
+        ensures notes { V.is_told ≡ true → IfOk result (λ made. (h : Meanings) (node : RuleNode) → Means (meant handlers.old.named effect) h →
             StandsFor V.version h self.old node →
             HasOwnRows self.old.replica.members.schema (log_of (acted_on (setting_of self.old.replica h) node (Begin request text.now))) →
             map met_of made.notes ≡ (step (setting_of self.old.replica h) node (Begin request text.now)).notes) }
-        ensures sends { V.is_told ≡ true → IfOk result (λ made. (h : Meanings) (node : RuleNode) → Means (meant effect handlers.old.named) h →
+        ensures sends { V.is_told ≡ true → IfOk result (λ made. (h : Meanings) (node : RuleNode) → Means (meant handlers.old.named effect) h →
             StandsFor V.version h self.old node →
             HasOwnRows self.old.replica.members.schema (log_of (acted_on (setting_of self.old.replica h) node (Begin request text.now))) →
             made.sends ≡ (step (setting_of self.old.replica h) node (Begin request text.now)).sends) }
-        ensures state { V.is_told ≡ true → OnOk result ((h : Meanings) (node : RuleNode) → Means (meant effect handlers.old.named) h →
+        ensures state { V.is_told ≡ true → OnOk result ((h : Meanings) (node : RuleNode) → Means (meant handlers.old.named effect) h →
             StandsFor V.version h self.old node →
             HasOwnRows self.old.replica.members.schema (log_of (acted_on (setting_of self.old.replica h) node (Begin request text.now))) →
             StandsFor V.version h self.new (step (setting_of self.old.replica h) node (Begin request text.now)).node) }
-        ensures staged { V.is_told ≡ true → OnOk result ((h : Meanings) (node : RuleNode) (before : List Met) → Means (meant effect handlers.old.named) h → StandsFor V.version h self.old node →
+        ensures staged { V.is_told ≡ true → OnOk result ((h : Meanings) (node : RuleNode) (before : List Met) → Means (meant handlers.old.named effect) h → StandsFor V.version h self.old node →
             HasOwnRows self.old.replica.members.schema (log_of (acted_on (setting_of self.old.replica h) node (Begin request text.now))) →
             Stages self.old.replica.voter.logs.staged.items before node.met → Stages self.new.replica.voter.logs.staged.items before (step (setting_of self.old.replica h) node (Begin request text.now)).node.met) }
         ensures records { self.new.replica.voter.logs.records ≡ self.old.replica.voter.logs.records }
-        ensures handlers { meant effect handlers.new.named ≡ meant effect handlers.old.named }
+        ensures handlers { meant handlers.new.named effect ≡ meant handlers.old.named effect }
         ensures members { self.new.replica.members ≡ self.old.replica.members }
         ensures me { self.new.replica.me ≡ self.old.replica.me }
         ensures unbuilt { result ≡ Err Unbuilt → is_built request ≡ false }
@@ -190,23 +190,23 @@ impl<R: Records, V: Versions> Node<R, V> {
         handlers: &mut Handlers,
         now: u64,
     ) -> Result<Step, StepFault>
-        ensures notes { V.is_told ≡ true → IfOk result (λ made. (h : Meanings) (node : RuleNode) → Means (meant effect handlers.old.named) h →
+        ensures notes { V.is_told ≡ true → IfOk result (λ made. (h : Meanings) (node : RuleNode) → Means (meant handlers.old.named effect) h →
             StandsFor V.version h self.old node →
             HasOwnRows self.old.replica.members.schema (log_of (acted_on (setting_of self.old.replica h) node (Tick now))) →
             map met_of made.notes ≡ (step (setting_of self.old.replica h) node (Tick now)).notes) }
-        ensures sends { V.is_told ≡ true → IfOk result (λ made. (h : Meanings) (node : RuleNode) → Means (meant effect handlers.old.named) h →
+        ensures sends { V.is_told ≡ true → IfOk result (λ made. (h : Meanings) (node : RuleNode) → Means (meant handlers.old.named effect) h →
             StandsFor V.version h self.old node →
             HasOwnRows self.old.replica.members.schema (log_of (acted_on (setting_of self.old.replica h) node (Tick now))) →
             made.sends ≡ (step (setting_of self.old.replica h) node (Tick now)).sends) }
-        ensures state { V.is_told ≡ true → OnOk result ((h : Meanings) (node : RuleNode) → Means (meant effect handlers.old.named) h →
+        ensures state { V.is_told ≡ true → OnOk result ((h : Meanings) (node : RuleNode) → Means (meant handlers.old.named effect) h →
             StandsFor V.version h self.old node →
             HasOwnRows self.old.replica.members.schema (log_of (acted_on (setting_of self.old.replica h) node (Tick now))) →
             StandsFor V.version h self.new (step (setting_of self.old.replica h) node (Tick now)).node) }
-        ensures staged { V.is_told ≡ true → OnOk result ((h : Meanings) (node : RuleNode) (before : List Met) → Means (meant effect handlers.old.named) h → StandsFor V.version h self.old node →
+        ensures staged { V.is_told ≡ true → OnOk result ((h : Meanings) (node : RuleNode) (before : List Met) → Means (meant handlers.old.named effect) h → StandsFor V.version h self.old node →
             HasOwnRows self.old.replica.members.schema (log_of (acted_on (setting_of self.old.replica h) node (Tick now))) →
             Stages self.old.replica.voter.logs.staged.items before node.met → Stages self.new.replica.voter.logs.staged.items before (step (setting_of self.old.replica h) node (Tick now)).node.met) }
         ensures records { self.new.replica.voter.logs.records ≡ self.old.replica.voter.logs.records }
-        ensures handlers { meant effect handlers.new.named ≡ meant effect handlers.old.named }
+        ensures handlers { meant handlers.new.named effect ≡ meant handlers.old.named effect }
         ensures members { self.new.replica.members ≡ self.old.replica.members }
         ensures me { self.new.replica.me ≡ self.old.replica.me }
         ensures built { result ≡ Err Unbuilt → (h : Meanings) (node : RuleNode) → StandsFor V.version h self.old node → ⊥ }

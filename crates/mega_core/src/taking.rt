@@ -248,14 +248,14 @@ pub(crate) fn acts<R: Records, V: Versions>(
     replica: &mut Replica<R, V>,
     heard: Items<Heard>,
 ) -> Result<Work, ActFault>
-    ensures state { V.is_told ≡ true → OnOk result ((h : Meanings) (met : List Met) (stored : Group → ℕ) → Means (meant effect handlers.old.named) h → All IsHeardAbout heard →
+    ensures state { V.is_told ≡ true → OnOk result ((h : Meanings) (met : List Met) (stored : Group → ℕ) → Means (meant handlers.old.named effect) h → All IsHeardAbout heard →
         IsAt V.version h replica.old met stored →
         IsAt V.version h replica.new
         (all_act (setting_of replica.old h) (at_first met stored) heard).met (all_act (setting_of replica.old h) (at_first met stored) heard).stored) }
-    ensures work { V.is_told ≡ true → IfOk result (λ work. (h : Meanings) (met : List Met) (stored : Group → ℕ) → Means (meant effect handlers.old.named) h → All IsHeardAbout heard →
+    ensures work { V.is_told ≡ true → IfOk result (λ work. (h : Meanings) (met : List Met) (stored : Group → ℕ) → Means (meant handlers.old.named effect) h → All IsHeardAbout heard →
         IsAt V.version h replica.old met stored →
         work ≡ work_of (all_act (setting_of replica.old h) (at_first met stored) heard)) }
-    ensures handlers { meant effect handlers.new.named ≡ meant effect handlers.old.named }
+    ensures handlers { meant handlers.new.named effect ≡ meant handlers.old.named effect }
     ensures members { replica.new.members ≡ replica.old.members }
     ensures me { replica.new.me ≡ replica.old.me }
     ensures voter { replica.new.voter ≡ replica.old.voter }

@@ -215,14 +215,14 @@ pub(crate) fn acts_ticked<R: Records, V: Versions>(
     now: u64,
     operations: Items<Operation>,
 ) -> Result<Work, ActFault>
-    ensures state { V.is_told ≡ true → OnOk result ((h : Meanings) (met : List Met) (stored : Group → ℕ) → Means (meant effect handlers.old.named) h → All IsAbout operations →
+    ensures state { V.is_told ≡ true → OnOk result ((h : Meanings) (met : List Met) (stored : Group → ℕ) → Means (meant handlers.old.named effect) h → All IsAbout operations →
         IsAt V.version h replica.old met stored →
         IsAt V.version h replica.new
         (fold (ticked (setting_of replica.old h) now) (at_first met stored) operations).met (fold (ticked (setting_of replica.old h) now) (at_first met stored) operations).stored) }
-    ensures work { V.is_told ≡ true → IfOk result (λ work. (h : Meanings) (met : List Met) (stored : Group → ℕ) → Means (meant effect handlers.old.named) h → All IsAbout operations →
+    ensures work { V.is_told ≡ true → IfOk result (λ work. (h : Meanings) (met : List Met) (stored : Group → ℕ) → Means (meant handlers.old.named effect) h → All IsAbout operations →
         IsAt V.version h replica.old met stored →
         work ≡ work_of (fold (ticked (setting_of replica.old h) now) (at_first met stored) operations)) }
-    ensures handlers { meant effect handlers.new.named ≡ meant effect handlers.old.named }
+    ensures handlers { meant handlers.new.named effect ≡ meant handlers.old.named effect }
     ensures members { replica.new.members ≡ replica.old.members }
     ensures me { replica.new.me ≡ replica.old.me }
     ensures voter { replica.new.voter ≡ replica.old.voter }

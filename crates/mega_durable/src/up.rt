@@ -43,24 +43,24 @@ impl<R: Records, V: Versions> Up<R, V> {
         handlers: &mut Handlers,
         message: &Message,
     ) -> Result<Step, UpFault>
-        requires known { (V.is_told ≡ true) × IsSome R.Records V.version (meant effect handlers.old.named) self.old.node (Take message.now) }
-        ensures notes { IfOk result (λ made. AtEach R.Records V.version (meant effect handlers.old.named) self.old.node (Take message.now) (λ h s node. map met_of made.notes ≡ (step s node (Take message.now)).notes)) }
-        ensures sends { IfOk result (λ made. AtEach R.Records V.version (meant effect handlers.old.named) self.old.node (Take message.now) (λ h s node. made.sends ≡ (step s node (Take message.now)).sends)) }
-        ensures state { R.is_told ≡ true → OnOk result (AtEach R.Records V.version (meant effect handlers.old.named) self.old.node (Take message.now) (λ h s node. IsUp R.Records V.version h self.new.node (step s node (Take message.now)).node)) }
-        ensures appended { OnOk result (AtEach R.Records V.version (meant effect handlers.old.named) self.old.node (Take message.now) (λ h s node. R.count_of (records_in self.new.node) ≡ R.count_of (records_in self.old.node) + (if appends (step s node (Take message.now)) then 1 else 0))) }
+        requires known { (V.is_told ≡ true) × IsSome R.Records V.version (meant handlers.old.named effect) self.old.node (Take message.now) }
+        ensures notes { IfOk result (λ made. AtEach R.Records V.version (meant handlers.old.named effect) self.old.node (Take message.now) (λ h s node. map met_of made.notes ≡ (step s node (Take message.now)).notes)) }
+        ensures sends { IfOk result (λ made. AtEach R.Records V.version (meant handlers.old.named effect) self.old.node (Take message.now) (λ h s node. made.sends ≡ (step s node (Take message.now)).sends)) }
+        ensures state { R.is_told ≡ true → OnOk result (AtEach R.Records V.version (meant handlers.old.named effect) self.old.node (Take message.now) (λ h s node. IsUp R.Records V.version h self.new.node (step s node (Take message.now)).node)) }
+        ensures appended { OnOk result (AtEach R.Records V.version (meant handlers.old.named effect) self.old.node (Take message.now) (λ h s node. R.count_of (records_in self.new.node) ≡ R.count_of (records_in self.old.node) + (if appends (step s node (Take message.now)) then 1 else 0))) }
 
         // A crash at any moment of the step leaves what the run's step leaves that is cut off.
-        ensures cut { R.is_told ≡ true → AtEach R.Records V.version (meant effect handlers.old.named) self.old.node (Take message.now) (λ h s node. LeavesOnly R.moment R.opened_since (records_in self.old.node) (records_in self.new.node) (MayLeave s node (Take message.now))) }
+        ensures cut { R.is_told ≡ true → AtEach R.Records V.version (meant handlers.old.named effect) self.old.node (Take message.now) (λ h s node. LeavesOnly R.moment R.opened_since (records_in self.old.node) (records_in self.new.node) (MayLeave s node (Take message.now))) }
 
         // The log's fuse cuts the step exactly where it has no append left for it.
-        ensures whole { R.by_four ≡ true → OnOk result (AtEach R.Records V.version (meant effect handlers.old.named) self.old.node (Take message.now) (λ h s node. IsWhole R.Records (appends (step s node (Take message.now))) (records_in self.old.node) (records_in self.new.node))) }
-        ensures burnt { R.is_told ≡ true → R.by_four ≡ true → IfErr result (λ refused. AtEach R.Records V.version (meant effect handlers.old.named) self.old.node (Take message.now) (λ h s node. IsCutBy R.Records s node (Take message.now) (records_in self.old.node) (records_in self.new.node) refused)) }
-        ensures owed { IfErr result (λ refused. AtEach R.Records V.version (meant effect handlers.old.named) self.old.node (Take message.now) (λ h s node. IsOwedBy s node (Take message.now) refused)) }
+        ensures whole { R.by_four ≡ true → OnOk result (AtEach R.Records V.version (meant handlers.old.named effect) self.old.node (Take message.now) (λ h s node. IsWhole R.Records (appends (step s node (Take message.now))) (records_in self.old.node) (records_in self.new.node))) }
+        ensures burnt { R.is_told ≡ true → R.by_four ≡ true → IfErr result (λ refused. AtEach R.Records V.version (meant handlers.old.named effect) self.old.node (Take message.now) (λ h s node. IsCutBy R.Records s node (Take message.now) (records_in self.old.node) (records_in self.new.node) refused)) }
+        ensures owed { IfErr result (λ refused. AtEach R.Records V.version (meant handlers.old.named effect) self.old.node (Take message.now) (λ h s node. IsOwedBy s node (Take message.now) refused)) }
 
         ensures built { result ≢ Err (Failed Unbuilt) }
         ensures stranger { result ≡ Err (Failed Stranger) → IsByStranger message.now.from message.now.body }
         ensures late { result ≡ Err (Failed Late) → IsLate self.old.node.replica.members message.now.body }
-        ensures handlers { meant effect handlers.new.named ≡ meant effect handlers.old.named }
+        ensures handlers { meant handlers.new.named effect ≡ meant handlers.old.named effect }
         ensures went { LogWent R.Records (log_failed_by result) (records_in self.old.node) (records_in self.new.node) }
         ensures fares { Fares V.Versions (failed_by result) self.old.node.replica.rows.rows self.new.node.replica.rows.rows }
         ensures members { self.new.node.replica.members ≡ self.old.node.replica.members }
@@ -85,24 +85,24 @@ impl<R: Records, V: Versions> Up<R, V> {
         request: Request,
         text: &Text,
     ) -> Result<Step, UpFault>
-        requires known { (V.is_told ≡ true) × IsSome R.Records V.version (meant effect handlers.old.named) self.old.node (Begin request text.now) }
-        ensures notes { IfOk result (λ made. AtEach R.Records V.version (meant effect handlers.old.named) self.old.node (Begin request text.now) (λ h s node. map met_of made.notes ≡ (step s node (Begin request text.now)).notes)) }
-        ensures sends { IfOk result (λ made. AtEach R.Records V.version (meant effect handlers.old.named) self.old.node (Begin request text.now) (λ h s node. made.sends ≡ (step s node (Begin request text.now)).sends)) }
-        ensures state { R.is_told ≡ true → OnOk result (AtEach R.Records V.version (meant effect handlers.old.named) self.old.node (Begin request text.now) (λ h s node. IsUp R.Records V.version h self.new.node (step s node (Begin request text.now)).node)) }
-        ensures appended { OnOk result (AtEach R.Records V.version (meant effect handlers.old.named) self.old.node (Begin request text.now) (λ h s node. R.count_of (records_in self.new.node) ≡ R.count_of (records_in self.old.node) + (if appends (step s node (Begin request text.now)) then 1 else 0))) }
+        requires known { (V.is_told ≡ true) × IsSome R.Records V.version (meant handlers.old.named effect) self.old.node (Begin request text.now) }
+        ensures notes { IfOk result (λ made. AtEach R.Records V.version (meant handlers.old.named effect) self.old.node (Begin request text.now) (λ h s node. map met_of made.notes ≡ (step s node (Begin request text.now)).notes)) }
+        ensures sends { IfOk result (λ made. AtEach R.Records V.version (meant handlers.old.named effect) self.old.node (Begin request text.now) (λ h s node. made.sends ≡ (step s node (Begin request text.now)).sends)) }
+        ensures state { R.is_told ≡ true → OnOk result (AtEach R.Records V.version (meant handlers.old.named effect) self.old.node (Begin request text.now) (λ h s node. IsUp R.Records V.version h self.new.node (step s node (Begin request text.now)).node)) }
+        ensures appended { OnOk result (AtEach R.Records V.version (meant handlers.old.named effect) self.old.node (Begin request text.now) (λ h s node. R.count_of (records_in self.new.node) ≡ R.count_of (records_in self.old.node) + (if appends (step s node (Begin request text.now)) then 1 else 0))) }
 
         // A crash at any moment of the step leaves what the run's step leaves that is cut off.
-        ensures cut { R.is_told ≡ true → AtEach R.Records V.version (meant effect handlers.old.named) self.old.node (Begin request text.now) (λ h s node. LeavesOnly R.moment R.opened_since (records_in self.old.node) (records_in self.new.node) (MayLeave s node (Begin request text.now))) }
+        ensures cut { R.is_told ≡ true → AtEach R.Records V.version (meant handlers.old.named effect) self.old.node (Begin request text.now) (λ h s node. LeavesOnly R.moment R.opened_since (records_in self.old.node) (records_in self.new.node) (MayLeave s node (Begin request text.now))) }
 
         // The log's fuse cuts the step exactly where it has no append left for it.
-        ensures whole { R.by_four ≡ true → OnOk result (AtEach R.Records V.version (meant effect handlers.old.named) self.old.node (Begin request text.now) (λ h s node. IsWhole R.Records (appends (step s node (Begin request text.now))) (records_in self.old.node) (records_in self.new.node))) }
-        ensures burnt { R.is_told ≡ true → R.by_four ≡ true → IfErr result (λ refused. AtEach R.Records V.version (meant effect handlers.old.named) self.old.node (Begin request text.now) (λ h s node. IsCutBy R.Records s node (Begin request text.now) (records_in self.old.node) (records_in self.new.node) refused)) }
-        ensures owed { IfErr result (λ refused. AtEach R.Records V.version (meant effect handlers.old.named) self.old.node (Begin request text.now) (λ h s node. IsOwedBy s node (Begin request text.now) refused)) }
+        ensures whole { R.by_four ≡ true → OnOk result (AtEach R.Records V.version (meant handlers.old.named effect) self.old.node (Begin request text.now) (λ h s node. IsWhole R.Records (appends (step s node (Begin request text.now))) (records_in self.old.node) (records_in self.new.node))) }
+        ensures burnt { R.is_told ≡ true → R.by_four ≡ true → IfErr result (λ refused. AtEach R.Records V.version (meant handlers.old.named effect) self.old.node (Begin request text.now) (λ h s node. IsCutBy R.Records s node (Begin request text.now) (records_in self.old.node) (records_in self.new.node) refused)) }
+        ensures owed { IfErr result (λ refused. AtEach R.Records V.version (meant handlers.old.named effect) self.old.node (Begin request text.now) (λ h s node. IsOwedBy s node (Begin request text.now) refused)) }
 
         ensures unbuilt { result ≡ Err (Failed Unbuilt) → is_built request ≡ false }
         ensures stranger { result ≢ Err (Failed Stranger) }
         ensures late { result ≢ Err (Failed Late) }
-        ensures handlers { meant effect handlers.new.named ≡ meant effect handlers.old.named }
+        ensures handlers { meant handlers.new.named effect ≡ meant handlers.old.named effect }
         ensures went { LogWent R.Records (log_failed_by result) (records_in self.old.node) (records_in self.new.node) }
         ensures fares { Fares V.Versions (failed_by result) self.old.node.replica.rows.rows self.new.node.replica.rows.rows }
         ensures members { self.new.node.replica.members ≡ self.old.node.replica.members }
@@ -124,24 +124,24 @@ impl<R: Records, V: Versions> Up<R, V> {
         handlers: &mut Handlers,
         now: u64,
     ) -> Result<Step, UpFault>
-        requires known { (V.is_told ≡ true) × IsSome R.Records V.version (meant effect handlers.old.named) self.old.node (Tick now) }
-        ensures notes { IfOk result (λ made. AtEach R.Records V.version (meant effect handlers.old.named) self.old.node (Tick now) (λ h s node. map met_of made.notes ≡ (step s node (Tick now)).notes)) }
-        ensures sends { IfOk result (λ made. AtEach R.Records V.version (meant effect handlers.old.named) self.old.node (Tick now) (λ h s node. made.sends ≡ (step s node (Tick now)).sends)) }
-        ensures state { R.is_told ≡ true → OnOk result (AtEach R.Records V.version (meant effect handlers.old.named) self.old.node (Tick now) (λ h s node. IsUp R.Records V.version h self.new.node (step s node (Tick now)).node)) }
-        ensures appended { OnOk result (AtEach R.Records V.version (meant effect handlers.old.named) self.old.node (Tick now) (λ h s node. R.count_of (records_in self.new.node) ≡ R.count_of (records_in self.old.node) + (if appends (step s node (Tick now)) then 1 else 0))) }
+        requires known { (V.is_told ≡ true) × IsSome R.Records V.version (meant handlers.old.named effect) self.old.node (Tick now) }
+        ensures notes { IfOk result (λ made. AtEach R.Records V.version (meant handlers.old.named effect) self.old.node (Tick now) (λ h s node. map met_of made.notes ≡ (step s node (Tick now)).notes)) }
+        ensures sends { IfOk result (λ made. AtEach R.Records V.version (meant handlers.old.named effect) self.old.node (Tick now) (λ h s node. made.sends ≡ (step s node (Tick now)).sends)) }
+        ensures state { R.is_told ≡ true → OnOk result (AtEach R.Records V.version (meant handlers.old.named effect) self.old.node (Tick now) (λ h s node. IsUp R.Records V.version h self.new.node (step s node (Tick now)).node)) }
+        ensures appended { OnOk result (AtEach R.Records V.version (meant handlers.old.named effect) self.old.node (Tick now) (λ h s node. R.count_of (records_in self.new.node) ≡ R.count_of (records_in self.old.node) + (if appends (step s node (Tick now)) then 1 else 0))) }
 
         // A crash at any moment of the step leaves what the run's step leaves that is cut off.
-        ensures cut { R.is_told ≡ true → AtEach R.Records V.version (meant effect handlers.old.named) self.old.node (Tick now) (λ h s node. LeavesOnly R.moment R.opened_since (records_in self.old.node) (records_in self.new.node) (MayLeave s node (Tick now))) }
+        ensures cut { R.is_told ≡ true → AtEach R.Records V.version (meant handlers.old.named effect) self.old.node (Tick now) (λ h s node. LeavesOnly R.moment R.opened_since (records_in self.old.node) (records_in self.new.node) (MayLeave s node (Tick now))) }
 
         // The log's fuse cuts the step exactly where it has no append left for it.
-        ensures whole { R.by_four ≡ true → OnOk result (AtEach R.Records V.version (meant effect handlers.old.named) self.old.node (Tick now) (λ h s node. IsWhole R.Records (appends (step s node (Tick now))) (records_in self.old.node) (records_in self.new.node))) }
-        ensures burnt { R.is_told ≡ true → R.by_four ≡ true → IfErr result (λ refused. AtEach R.Records V.version (meant effect handlers.old.named) self.old.node (Tick now) (λ h s node. IsCutBy R.Records s node (Tick now) (records_in self.old.node) (records_in self.new.node) refused)) }
-        ensures owed { IfErr result (λ refused. AtEach R.Records V.version (meant effect handlers.old.named) self.old.node (Tick now) (λ h s node. IsOwedBy s node (Tick now) refused)) }
+        ensures whole { R.by_four ≡ true → OnOk result (AtEach R.Records V.version (meant handlers.old.named effect) self.old.node (Tick now) (λ h s node. IsWhole R.Records (appends (step s node (Tick now))) (records_in self.old.node) (records_in self.new.node))) }
+        ensures burnt { R.is_told ≡ true → R.by_four ≡ true → IfErr result (λ refused. AtEach R.Records V.version (meant handlers.old.named effect) self.old.node (Tick now) (λ h s node. IsCutBy R.Records s node (Tick now) (records_in self.old.node) (records_in self.new.node) refused)) }
+        ensures owed { IfErr result (λ refused. AtEach R.Records V.version (meant handlers.old.named effect) self.old.node (Tick now) (λ h s node. IsOwedBy s node (Tick now) refused)) }
 
         ensures built { result ≢ Err (Failed Unbuilt) }
         ensures stranger { result ≢ Err (Failed Stranger) }
         ensures late { result ≢ Err (Failed Late) }
-        ensures handlers { meant effect handlers.new.named ≡ meant effect handlers.old.named }
+        ensures handlers { meant handlers.new.named effect ≡ meant handlers.old.named effect }
         ensures went { LogWent R.Records (log_failed_by result) (records_in self.old.node) (records_in self.new.node) }
         ensures fares { Fares V.Versions (failed_by result) self.old.node.replica.rows.rows self.new.node.replica.rows.rows }
         ensures members { self.new.node.replica.members ≡ self.old.node.replica.members }

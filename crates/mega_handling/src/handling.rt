@@ -153,8 +153,8 @@ fn effect_of(
     message: &Enter,
     rows: &[(Bytes, Row)],
 ) -> Result<(Vec<Write>, Vec<Send>), NoMemory>
-    ensures exact { IfOk result (λ made. (h : Meanings) → Means (meant effect handlers.old.named) h → (made.0.items, made.1.items) ≡ effect_by (meaning h message.now.queue) message.now rows.now) }
-    ensures handlers { meant effect handlers.new.named ≡ meant effect handlers.old.named }
+    ensures exact { IfOk result (λ made. (h : Meanings) → Means (meant handlers.old.named effect) h → (made.0.items, made.1.items) ≡ effect_by (meaning h message.now.queue) message.now rows.now) }
+    ensures handlers { meant handlers.new.named effect ≡ meant handlers.old.named effect }
     ensures counted { OnOk result (option_map (λ handler. count handler) (get (slice_cmp nat_cmp) handlers.new.named message.now.queue) ≡ option_map (λ handler. min (count handler + 1) (2 ^ 64 - 1)) (get (slice_cmp nat_cmp) handlers.old.named message.now.queue)) }
 {
     match handlers.handle(alloc, message, rows)? {
@@ -173,8 +173,8 @@ pub fn handling(
     message: &Enter,
     rows: &[(Bytes, Row)],
 ) -> Result<Content, NoMemory>
-    ensures exact { IfOk result (λ entry. (h : Meanings) → Means (meant effect handlers.old.named) h → entry ≡ made_by schema.now h op group.now message.now rows.now) }
-    ensures handlers { meant effect handlers.new.named ≡ meant effect handlers.old.named }
+    ensures exact { IfOk result (λ entry. (h : Meanings) → Means (meant handlers.old.named effect) h → entry ≡ made_by schema.now h op group.now message.now rows.now) }
+    ensures handlers { meant handlers.new.named effect ≡ meant handlers.old.named effect }
     ensures counted { OnOk result (option_map (λ handler. count handler) (get (slice_cmp nat_cmp) handlers.new.named message.now.queue) ≡ option_map (λ handler. min (count handler + 1) (2 ^ 64 - 1)) (get (slice_cmp nat_cmp) handlers.old.named message.now.queue)) }
 {
     let (writes, sends) = effect_of(alloc, handlers, message, rows)?;

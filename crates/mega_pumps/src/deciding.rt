@@ -93,11 +93,11 @@ fn handles_message<V: Versions>(
     through: u64,
     message: &Enter,
 ) -> Result<Own, StoreError>
-    ensures own { V.is_told ≡ true → IfOk result (λ own. (s : Setting) (again : Now → Operation → Now) (now : Now) (o : Operation) (r : Reading) → Means (meant effect handlers.old.named) s.handlers → s.cluster.schema ≡ schema.now →
+    ensures own { V.is_told ≡ true → IfOk result (λ own. (s : Setting) (again : Now → Operation → Now) (now : Now) (o : Operation) (r : Reading) → Means (meant handlers.old.named effect) s.handlers → s.cluster.schema ≡ schema.now →
         Shows schema.now group.now (rows_at (V.version rows.old) through) (listed_at now group.now through) → o.id ≡ op →
         own_by false s again now o group.now r through own ≡ handles_message s now o group.now r through message.now) }
     ensures looks { Looks V.Versions (result_err result) rows.old rows.new }
-    ensures handlers { meant effect handlers.new.named ≡ meant effect handlers.old.named }
+    ensures handlers { meant handlers.new.named effect ≡ meant handlers.old.named effect }
 {
     if !handlers.has(&message.queue) {
         let own = no_handler(alloc, message)?;
@@ -121,12 +121,12 @@ pub fn handles<R: Records, V: Versions>(
     group: &GroupId,
     through: u64,
 ) -> Result<Own, StoreError>
-    ensures own { V.is_told ≡ true → IfOk result (λ own. (s : Setting) (again : Now → Operation → Now) (now : Now) (o : Operation) (r : Reading) → Means (meant effect handlers.old.named) s.handlers → s.cluster.schema ≡ schema.now →
+    ensures own { V.is_told ≡ true → IfOk result (λ own. (s : Setting) (again : Now → Operation → Now) (now : Now) (o : Operation) (r : Reading) → Means (meant handlers.old.named effect) s.handlers → s.cluster.schema ≡ schema.now →
         Tells voter.now.logs.kept now.met → Notes (log_of now.met) now.stored digest.now → through ≤ prefix_of now.met group.now →
         Shows schema.now group.now (rows_at (V.version rows.old) through) (listed_at now group.now through) → o.id ≡ op →
         own_by false s again now o group.now r through own ≡ handles s again now o group.now r through (oldest_unhandled (take through (log_of now.met group.now)))) }
     ensures looks { Looks V.Versions (result_err result) rows.old rows.new }
-    ensures handlers { meant effect handlers.new.named ≡ meant effect handlers.old.named }
+    ensures handlers { meant handlers.new.named effect ≡ meant handlers.old.named effect }
 {
     match digest.oldest_unhandled(alloc, voter, group, through)? {
         Some(message) => {

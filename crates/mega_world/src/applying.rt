@@ -28,12 +28,12 @@ impl World {
         event: WorldEvent,
         tape: &mut Tape,
     ) -> Result<(), WorldFault>
-        requires known { MayCome (meant effect handlers.old.named) self.old tape.old.items event }
-        ensures state { OnOk result ((c : Cluster) (h : Meanings) (now : Standing) → IsAt c self.old tape.old.items now → IsSound (meant effect handlers.old.named) c h now event →
+        requires known { MayCome (meant handlers.old.named effect) self.old tape.old.items event }
+        ensures state { OnOk result ((c : Cluster) (h : Meanings) (now : Standing) → IsAt c self.old tape.old.items now → IsSound (meant handlers.old.named effect) c h now event →
             IsAt c self.new tape.new.items (after_event c h by_fuse now event)) }
-        ensures lines { OnOk result ((c : Cluster) (h : Meanings) (now : Standing) → IsAt c self.old tape.old.items now → IsSound (meant effect handlers.old.named) c h now event →
+        ensures lines { OnOk result ((c : Cluster) (h : Meanings) (now : Standing) → IsAt c self.old tape.old.items now → IsSound (meant handlers.old.named effect) c h now event →
             All HasLine tape.old.items → All HasLine tape.new.items) }
-        ensures handlers { meant effect handlers.new.named ≡ meant effect handlers.old.named }
+        ensures handlers { meant handlers.new.named effect ≡ meant handlers.old.named effect }
         ensures happens { OnOk result ((c : Cluster) (now : Standing) → IsAt c self.old tape.old.items now → refusal c now event ≡ None) }
         ensures refused { (why : ℕ) → result ≡ Err (Refused why) → (c : Cluster) (now : Standing) → IsAt c self.old tape.old.items now → refusal c now event ≡ Some why }
         ensures world { (why : ℕ) → result ≡ Err (Refused why) → self.new ≡ self.old }

@@ -82,12 +82,12 @@ impl World {
         text: Text,
         tape: &mut Tape,
     ) -> Result<(), WorldFault>
-        requires known { MayCome (meant effect handlers.old.named) self.old tape.old.items (event.Begin node request text) }
-        ensures state { OnOk result ((c : Cluster) (h : Meanings) (now : Standing) → IsAt c self.old tape.old.items now → IsSound (meant effect handlers.old.named) c h now (event.Begin node request text) →
+        requires known { MayCome (meant handlers.old.named effect) self.old tape.old.items (event.Begin node request text) }
+        ensures state { OnOk result ((c : Cluster) (h : Meanings) (now : Standing) → IsAt c self.old tape.old.items now → IsSound (meant handlers.old.named effect) c h now (event.Begin node request text) →
             IsAt c self.new tape.new.items (after_event c h by_fuse now (event.Begin node request text))) }
-        ensures lines { OnOk result ((c : Cluster) (h : Meanings) (now : Standing) → IsAt c self.old tape.old.items now → IsSound (meant effect handlers.old.named) c h now (event.Begin node request text) →
+        ensures lines { OnOk result ((c : Cluster) (h : Meanings) (now : Standing) → IsAt c self.old tape.old.items now → IsSound (meant handlers.old.named effect) c h now (event.Begin node request text) →
             All HasLine tape.old.items → All HasLine tape.new.items) }
-        ensures handlers { meant effect handlers.new.named ≡ meant effect handlers.old.named }
+        ensures handlers { meant handlers.new.named effect ≡ meant handlers.old.named effect }
         ensures happens { OnOk result ((c : Cluster) (now : Standing) → IsAt c self.old tape.old.items now → refusal c now (event.Begin node request text) ≡ None) }
         ensures refused { (why : ℕ) → result ≡ Err (Refused why) → (c : Cluster) (now : Standing) → IsAt c self.old tape.old.items now → refusal c now (event.Begin node request text) ≡ Some why }
         ensures world { (why : ℕ) → result ≡ Err (Refused why) → self.new ≡ self.old }
@@ -114,12 +114,12 @@ impl World {
         requires least { 1 ≤ node.0 }
         requires most { node.0 ≤ length self.old.places.items }
         requires up { is_up_at self.old.places.items node.0 ≡ true }
-        requires known { IsDue (meant effect handlers.old.named) self.old tape.old.items (event.Begin node request text) }
-        ensures state { OnOk result ((c : Cluster) (h : Meanings) (now : Standing) → IsAt c self.old tape.old.items now → IsSound (meant effect handlers.old.named) c h now (event.Begin node request text) →
+        requires known { IsDue (meant handlers.old.named effect) self.old tape.old.items (event.Begin node request text) }
+        ensures state { OnOk result ((c : Cluster) (h : Meanings) (now : Standing) → IsAt c self.old tape.old.items now → IsSound (meant handlers.old.named effect) c h now (event.Begin node request text) →
             IsAt c self.new tape.new.items (after_event c h by_fuse now (event.Begin node request text))) }
-        ensures lines { OnOk result ((c : Cluster) (h : Meanings) (now : Standing) → IsAt c self.old tape.old.items now → IsSound (meant effect handlers.old.named) c h now (event.Begin node request text) →
+        ensures lines { OnOk result ((c : Cluster) (h : Meanings) (now : Standing) → IsAt c self.old tape.old.items now → IsSound (meant handlers.old.named effect) c h now (event.Begin node request text) →
             All HasLine tape.old.items → All HasLine tape.new.items) }
-        ensures handlers { meant effect handlers.new.named ≡ meant effect handlers.old.named }
+        ensures handlers { meant handlers.new.named effect ≡ meant handlers.old.named effect }
         ensures served { (why : ℕ) → result ≢ Err (Refused why) }
         ensures unbuilt { result ≡ Err Unbuilt → is_built request ≡ false }
         ensures limited { result ≢ Err Limit }

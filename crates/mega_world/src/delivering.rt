@@ -55,12 +55,12 @@ impl World {
         number: u64,
         tape: &mut Tape,
     ) -> Result<(), WorldFault>
-        requires known { IsAllowed (meant effect handlers.old.named) self.old tape.old.items number }
-        ensures state { OnOk result ((c : Cluster) (h : Meanings) (now : Standing) → IsAt c self.old tape.old.items now → IsSound (meant effect handlers.old.named) c h now (event.Deliver number) →
+        requires known { IsAllowed (meant handlers.old.named effect) self.old tape.old.items number }
+        ensures state { OnOk result ((c : Cluster) (h : Meanings) (now : Standing) → IsAt c self.old tape.old.items now → IsSound (meant handlers.old.named effect) c h now (event.Deliver number) →
             IsAt c self.new tape.new.items (after_event c h by_fuse now (event.Deliver number))) }
-        ensures lines { OnOk result ((c : Cluster) (h : Meanings) (now : Standing) → IsAt c self.old tape.old.items now → IsSound (meant effect handlers.old.named) c h now (event.Deliver number) →
+        ensures lines { OnOk result ((c : Cluster) (h : Meanings) (now : Standing) → IsAt c self.old tape.old.items now → IsSound (meant handlers.old.named effect) c h now (event.Deliver number) →
             All HasLine tape.old.items → All HasLine tape.new.items) }
-        ensures handlers { meant effect handlers.new.named ≡ meant effect handlers.old.named }
+        ensures handlers { meant handlers.new.named effect ≡ meant handlers.old.named effect }
         ensures served { (why : ℕ) → result ≢ Err (Refused why) }
         ensures built { result ≢ Err Unbuilt }
         ensures limited { result ≢ Err Limit }
@@ -88,12 +88,12 @@ impl World {
         number: u64,
         tape: &mut Tape,
     ) -> Result<(), WorldFault>
-        requires known { MayCome (meant effect handlers.old.named) self.old tape.old.items (event.Deliver number) }
-        ensures state { OnOk result ((c : Cluster) (h : Meanings) (now : Standing) → IsAt c self.old tape.old.items now → IsSound (meant effect handlers.old.named) c h now (event.Deliver number) →
+        requires known { MayCome (meant handlers.old.named effect) self.old tape.old.items (event.Deliver number) }
+        ensures state { OnOk result ((c : Cluster) (h : Meanings) (now : Standing) → IsAt c self.old tape.old.items now → IsSound (meant handlers.old.named effect) c h now (event.Deliver number) →
             IsAt c self.new tape.new.items (after_event c h by_fuse now (event.Deliver number))) }
-        ensures lines { OnOk result ((c : Cluster) (h : Meanings) (now : Standing) → IsAt c self.old tape.old.items now → IsSound (meant effect handlers.old.named) c h now (event.Deliver number) →
+        ensures lines { OnOk result ((c : Cluster) (h : Meanings) (now : Standing) → IsAt c self.old tape.old.items now → IsSound (meant handlers.old.named effect) c h now (event.Deliver number) →
             All HasLine tape.old.items → All HasLine tape.new.items) }
-        ensures handlers { meant effect handlers.new.named ≡ meant effect handlers.old.named }
+        ensures handlers { meant handlers.new.named effect ≡ meant handlers.old.named effect }
         ensures happens { OnOk result ((c : Cluster) (now : Standing) → IsAt c self.old tape.old.items now → refusal c now (event.Deliver number) ≡ None) }
         ensures refused { (why : ℕ) → result ≡ Err (Refused why) → (c : Cluster) (now : Standing) → IsAt c self.old tape.old.items now → refusal c now (event.Deliver number) ≡ Some why }
         ensures world { (why : ℕ) → result ≡ Err (Refused why) → self.new ≡ self.old }

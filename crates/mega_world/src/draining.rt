@@ -26,12 +26,12 @@ impl World {
         most: u64,
         tape: &mut Tape,
     ) -> Result<(), WorldFault>
-        requires known { IsDue (meant effect handlers.old.named) self.old tape.old.items (event.Drain most) }
-        ensures state { OnOk result ((c : Cluster) (h : Meanings) (now : Standing) → IsAt c self.old tape.old.items now → IsSound (meant effect handlers.old.named) c h now (event.Drain most) →
+        requires known { IsDue (meant handlers.old.named effect) self.old tape.old.items (event.Drain most) }
+        ensures state { OnOk result ((c : Cluster) (h : Meanings) (now : Standing) → IsAt c self.old tape.old.items now → IsSound (meant handlers.old.named effect) c h now (event.Drain most) →
             IsAt c self.new tape.new.items (after_event c h by_fuse now (event.Drain most))) }
-        ensures lines { OnOk result ((c : Cluster) (h : Meanings) (now : Standing) → IsAt c self.old tape.old.items now → IsSound (meant effect handlers.old.named) c h now (event.Drain most) →
+        ensures lines { OnOk result ((c : Cluster) (h : Meanings) (now : Standing) → IsAt c self.old tape.old.items now → IsSound (meant handlers.old.named effect) c h now (event.Drain most) →
             All HasLine tape.old.items → All HasLine tape.new.items) }
-        ensures handlers { meant effect handlers.new.named ≡ meant effect handlers.old.named }
+        ensures handlers { meant handlers.new.named effect ≡ meant handlers.old.named effect }
         ensures served { (why : ℕ) → result ≢ Err (Refused why) }
         ensures built { result ≢ Err Unbuilt }
         ensures limited { result ≢ Err Limit }

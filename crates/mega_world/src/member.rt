@@ -52,10 +52,10 @@ impl Member {
         handlers: &mut Handlers,
         message: &Message,
     ) -> Result<Step, NotMade>
-        requires known { IsSome (meant effect handlers.old.named) self.old (Take message.now) }
-        ensures made { AtEachNode (meant effect handlers.old.named) self.old (Take message.now) (λ c h me ruled fuse. Outcome c h me ruled (Take message.now) fuse self.new result) }
+        requires known { IsSome (meant handlers.old.named effect) self.old (Take message.now) }
+        ensures made { AtEachNode (meant handlers.old.named effect) self.old (Take message.now) (λ c h me ruled fuse. Outcome c h me ruled (Take message.now) fuse self.new result) }
         ensures unbuilt { result ≡ Err (Fault Unbuilt) → (c : Cluster) (me : ℕ) (ruled : RuleNode) → IsMember c me self.old ruled → IsByStranger message.now.from message.now.body ⊎ IsLate c message.now.body }
-        ensures handlers { meant effect handlers.new.named ≡ meant effect handlers.old.named }
+        ensures handlers { meant handlers.new.named effect ≡ meant handlers.old.named effect }
         ensures served { (why : ℕ) → result ≢ Err (Fault (Refused why)) }
         ensures limited { result ≢ Err (Fault Limit) }
     {
@@ -79,10 +79,10 @@ impl Member {
         request: Request,
         text: &Text,
     ) -> Result<Step, NotMade>
-        requires known { IsSome (meant effect handlers.old.named) self.old (Begin request text.now) }
-        ensures made { AtEachNode (meant effect handlers.old.named) self.old (Begin request text.now) (λ c h me ruled fuse. Outcome c h me ruled (Begin request text.now) fuse self.new result) }
+        requires known { IsSome (meant handlers.old.named effect) self.old (Begin request text.now) }
+        ensures made { AtEachNode (meant handlers.old.named effect) self.old (Begin request text.now) (λ c h me ruled fuse. Outcome c h me ruled (Begin request text.now) fuse self.new result) }
         ensures unbuilt { result ≡ Err (Fault Unbuilt) → is_built request ≡ false }
-        ensures handlers { meant effect handlers.new.named ≡ meant effect handlers.old.named }
+        ensures handlers { meant handlers.new.named effect ≡ meant handlers.old.named effect }
         ensures served { (why : ℕ) → result ≢ Err (Fault (Refused why)) }
         ensures limited { result ≢ Err (Fault Limit) }
     {
@@ -105,10 +105,10 @@ impl Member {
         handlers: &mut Handlers,
         clock: u64,
     ) -> Result<Step, NotMade>
-        requires known { IsSome (meant effect handlers.old.named) self.old (Tick clock) }
-        ensures made { AtEachNode (meant effect handlers.old.named) self.old (Tick clock) (λ c h me ruled fuse. Outcome c h me ruled (Tick clock) fuse self.new result) }
+        requires known { IsSome (meant handlers.old.named effect) self.old (Tick clock) }
+        ensures made { AtEachNode (meant handlers.old.named effect) self.old (Tick clock) (λ c h me ruled fuse. Outcome c h me ruled (Tick clock) fuse self.new result) }
         ensures built { result ≢ Err (Fault Unbuilt) }
-        ensures handlers { meant effect handlers.new.named ≡ meant effect handlers.old.named }
+        ensures handlers { meant handlers.new.named effect ≡ meant handlers.old.named effect }
         ensures served { (why : ℕ) → result ≢ Err (Fault (Refused why)) }
         ensures limited { result ≢ Err (Fault Limit) }
     {

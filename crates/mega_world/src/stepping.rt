@@ -73,10 +73,10 @@ pub(crate) fn take_at(
     requires least { 1 ≤ message.now.to }
     requires most { message.now.to ≤ length places.old.items }
     requires up { is_up_at places.old.items message.now.to ≡ true }
-    requires known { IsRunning (meant effect handlers.old.named) places.old.items message.now.to (Take message.now) }
-    ensures made { IfOk result (λ one. AtEachRun (meant effect handlers.old.named) places.old.items message.now.to (Take message.now) (λ c h now. Comes c h now message.now.to (Take message.now) places.new.items one)) }
+    requires known { IsRunning (meant handlers.old.named effect) places.old.items message.now.to (Take message.now) }
+    ensures made { IfOk result (λ one. AtEachRun (meant handlers.old.named effect) places.old.items message.now.to (Take message.now) (λ c h now. Comes c h now message.now.to (Take message.now) places.new.items one)) }
     ensures unbuilt { result ≡ Err Unbuilt → (c : Cluster) (now : Standing) → AreNodes c places.old.items now → IsByStranger message.now.from message.now.body ⊎ IsLate c message.now.body }
-    ensures handlers { meant effect handlers.new.named ≡ meant effect handlers.old.named }
+    ensures handlers { meant handlers.new.named effect ≡ meant handlers.old.named effect }
     ensures served { (why : ℕ) → result ≢ Err (Refused why) }
     ensures limited { result ≢ Err Limit }
 {
@@ -116,11 +116,11 @@ pub(crate) fn begin_at(
     requires least { 1 ≤ me }
     requires most { me ≤ length places.old.items }
     requires up { is_up_at places.old.items me ≡ true }
-    requires known { IsRunning (meant effect handlers.old.named) places.old.items me (Begin request text.now) }
+    requires known { IsRunning (meant handlers.old.named effect) places.old.items me (Begin request text.now) }
     ensures id { IfOk result (λ begun. (c : Cluster) (h : Meanings) (now : Standing) → AreNodes c places.old.items now → begun.0 ≡ op_of (setting c h me) (now.node me).met) }
-    ensures made { IfOk result (λ begun. AtEachRun (meant effect handlers.old.named) places.old.items me (Begin request text.now) (λ c h now. Comes c h now me (Begin request text.now) places.new.items begun.1)) }
+    ensures made { IfOk result (λ begun. AtEachRun (meant handlers.old.named effect) places.old.items me (Begin request text.now) (λ c h now. Comes c h now me (Begin request text.now) places.new.items begun.1)) }
     ensures unbuilt { result ≡ Err Unbuilt → is_built request ≡ false }
-    ensures handlers { meant effect handlers.new.named ≡ meant effect handlers.old.named }
+    ensures handlers { meant handlers.new.named effect ≡ meant handlers.old.named effect }
     ensures served { (why : ℕ) → result ≢ Err (Refused why) }
     ensures limited { result ≢ Err Limit }
 {
@@ -148,10 +148,10 @@ pub(crate) fn tick_at(
     requires least { 1 ≤ me }
     requires most { me ≤ length places.old.items }
     requires up { is_up_at places.old.items me ≡ true }
-    requires known { IsRunning (meant effect handlers.old.named) places.old.items me (Tick clock) }
-    ensures made { IfOk result (λ one. AtEachRun (meant effect handlers.old.named) places.old.items me (Tick clock) (λ c h now. Comes c h now me (Tick clock) places.new.items one)) }
+    requires known { IsRunning (meant handlers.old.named effect) places.old.items me (Tick clock) }
+    ensures made { IfOk result (λ one. AtEachRun (meant handlers.old.named effect) places.old.items me (Tick clock) (λ c h now. Comes c h now me (Tick clock) places.new.items one)) }
     ensures built { result ≢ Err Unbuilt }
-    ensures handlers { meant effect handlers.new.named ≡ meant effect handlers.old.named }
+    ensures handlers { meant handlers.new.named effect ≡ meant handlers.old.named effect }
     ensures served { (why : ℕ) → result ≢ Err (Refused why) }
     ensures limited { result ≢ Err Limit }
 {

@@ -63,12 +63,12 @@ impl World {
         clock: u64,
         tape: &mut Tape,
     ) -> Result<(), WorldFault>
-        requires known { MayCome (meant effect handlers.old.named) self.old tape.old.items (event.Tick node clock) }
-        ensures state { OnOk result ((c : Cluster) (h : Meanings) (now : Standing) → IsAt c self.old tape.old.items now → IsSound (meant effect handlers.old.named) c h now (event.Tick node clock) →
+        requires known { MayCome (meant handlers.old.named effect) self.old tape.old.items (event.Tick node clock) }
+        ensures state { OnOk result ((c : Cluster) (h : Meanings) (now : Standing) → IsAt c self.old tape.old.items now → IsSound (meant handlers.old.named effect) c h now (event.Tick node clock) →
             IsAt c self.new tape.new.items (after_event c h by_fuse now (event.Tick node clock))) }
-        ensures lines { OnOk result ((c : Cluster) (h : Meanings) (now : Standing) → IsAt c self.old tape.old.items now → IsSound (meant effect handlers.old.named) c h now (event.Tick node clock) →
+        ensures lines { OnOk result ((c : Cluster) (h : Meanings) (now : Standing) → IsAt c self.old tape.old.items now → IsSound (meant handlers.old.named effect) c h now (event.Tick node clock) →
             All HasLine tape.old.items → All HasLine tape.new.items) }
-        ensures handlers { meant effect handlers.new.named ≡ meant effect handlers.old.named }
+        ensures handlers { meant handlers.new.named effect ≡ meant handlers.old.named effect }
         ensures happens { OnOk result ((c : Cluster) (now : Standing) → IsAt c self.old tape.old.items now → refusal c now (event.Tick node clock) ≡ None) }
         ensures refused { (why : ℕ) → result ≡ Err (Refused why) → (c : Cluster) (now : Standing) → IsAt c self.old tape.old.items now → refusal c now (event.Tick node clock) ≡ Some why }
         ensures world { (why : ℕ) → result ≡ Err (Refused why) → self.new ≡ self.old }
@@ -94,12 +94,12 @@ impl World {
         requires least { 1 ≤ node.0 }
         requires most { node.0 ≤ length self.old.places.items }
         requires up { is_up_at self.old.places.items node.0 ≡ true }
-        requires known { IsDue (meant effect handlers.old.named) self.old tape.old.items (event.Tick node clock) }
-        ensures state { OnOk result ((c : Cluster) (h : Meanings) (now : Standing) → IsAt c self.old tape.old.items now → IsSound (meant effect handlers.old.named) c h now (event.Tick node clock) →
+        requires known { IsDue (meant handlers.old.named effect) self.old tape.old.items (event.Tick node clock) }
+        ensures state { OnOk result ((c : Cluster) (h : Meanings) (now : Standing) → IsAt c self.old tape.old.items now → IsSound (meant handlers.old.named effect) c h now (event.Tick node clock) →
             IsAt c self.new tape.new.items (after_event c h by_fuse now (event.Tick node clock))) }
-        ensures lines { OnOk result ((c : Cluster) (h : Meanings) (now : Standing) → IsAt c self.old tape.old.items now → IsSound (meant effect handlers.old.named) c h now (event.Tick node clock) →
+        ensures lines { OnOk result ((c : Cluster) (h : Meanings) (now : Standing) → IsAt c self.old tape.old.items now → IsSound (meant handlers.old.named effect) c h now (event.Tick node clock) →
             All HasLine tape.old.items → All HasLine tape.new.items) }
-        ensures handlers { meant effect handlers.new.named ≡ meant effect handlers.old.named }
+        ensures handlers { meant handlers.new.named effect ≡ meant handlers.old.named effect }
         ensures served { (why : ℕ) → result ≢ Err (Refused why) }
         ensures built { result ≢ Err Unbuilt }
         ensures limited { result ≢ Err Limit }

@@ -13,14 +13,14 @@ use Rattle.mega_actions.proofs.replica.Replica.all_act.Given as goal
 
 abbrev pub invariant-loop-one : goal.invariant-loop-one
 invariant-loop-one g l = record {
-  state : (h : Meanings) (now : Now) → g.V.Versions.is_told ≡ true → Means (meant effect l.initial.handlers.named) h → All IsHeardAbout l.yielded
+  state : (h : Meanings) (now : Now) → g.V.Versions.is_told ≡ true → Means (meant l.initial.handlers.named (λ one. (goal.Handler-dyn g one).effect one.1)) h → All IsHeardAbout l.yielded
       → IsAt g.V.Versions.version h l.initial.self now.met now.stored
       → IsAt g.V.Versions.version h l.self
       (fold (acts_in_turn (setting_of l.initial.self h)) now l.yielded).met (fold (acts_in_turn (setting_of l.initial.self h)) now l.yielded).stored;
-  work : (h : Meanings) (now : Now) → g.V.Versions.is_told ≡ true → Means (meant effect l.initial.handlers.named) h → All IsHeardAbout l.yielded
+  work : (h : Meanings) (now : Now) → g.V.Versions.is_told ≡ true → Means (meant l.initial.handlers.named (λ one. (goal.Handler-dyn g one).effect one.1)) h → All IsHeardAbout l.yielded
       → IsAt g.V.Versions.version h l.initial.self now.met now.stored
       → l.initial.work ≡ work_of now → l.work ≡ work_of (fold (acts_in_turn (setting_of l.initial.self h)) now l.yielded);
-  handlers : meant effect l.handlers.named ≡ meant effect l.initial.handlers.named;
+  handlers : meant l.handlers.named (λ one. (goal.Handler-dyn g one).effect one.1) ≡ meant l.initial.handlers.named (λ one. (goal.Handler-dyn g one).effect one.1);
   members : l.self.members ≡ l.initial.self.members;
   me : l.self.me ≡ l.initial.self.me;
   voter : l.self.voter ≡ l.initial.self.voter;

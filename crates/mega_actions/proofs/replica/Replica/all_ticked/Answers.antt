@@ -26,10 +26,10 @@ loop-operation-preserved g c =
           let s = setting before.members before.me h in
           subst (λ (then : Now). IsAt g.V.Versions.version h new then.met then.stored)
           (goes_next (λ (t : Setting). ticked t c.args.clock) s (setting loop.self.members loop.self.me h) now loop.yielded one (λ i. setting (loop.invariant.members i) (loop.invariant.me i) h))
-          (c.in_ok-ticked.ensures.state h (fold (ticked s c.args.clock) now loop.yielded) told (means_still (meant effect c.args.handlers.now.named) (meant effect loop.handlers.named) h loop.invariant.handlers means) (of_last IsAbout loop.yielded one all) (loop.invariant.state h now told means (all_before IsAbout loop.yielded one all) stands));
+          (c.in_ok-ticked.ensures.state h (fold (ticked s c.args.clock) now loop.yielded) told (means_still _ _ h loop.invariant.handlers means) (of_last IsAbout loop.yielded one all) (loop.invariant.state h now told means (all_before IsAbout loop.yielded one all) stands));
       work = λ h now told means all stands same.
           let s = setting before.members before.me h in
-          c.in_ok-ticked.ensures.work h (fold (ticked s c.args.clock) now loop.yielded) told (means_still (meant effect c.args.handlers.now.named) (meant effect loop.handlers.named) h loop.invariant.handlers means) (of_last IsAbout loop.yielded one all) (loop.invariant.state h now told means (all_before IsAbout loop.yielded one all) stands)
+          c.in_ok-ticked.ensures.work h (fold (ticked s c.args.clock) now loop.yielded) told (means_still _ _ h loop.invariant.handlers means) (of_last IsAbout loop.yielded one all) (loop.invariant.state h now told means (all_before IsAbout loop.yielded one all) stands)
           (loop.invariant.work h now told means (all_before IsAbout loop.yielded one all) stands same)
           ∙ ap work_of (goes_next (λ (t : Setting). ticked t c.args.clock) s (setting loop.self.members loop.self.me h) now loop.yielded one (λ i. setting (loop.invariant.members i) (loop.invariant.me i) h));
       handlers = c.in_ok-ticked.ensures.handlers ∙ loop.invariant.handlers;

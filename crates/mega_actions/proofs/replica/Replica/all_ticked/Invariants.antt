@@ -14,14 +14,14 @@ use Rattle.mega_actions.proofs.replica.Replica.all_ticked.Given as goal
 
 abbrev pub invariant-loop-operation : goal.invariant-loop-operation
 invariant-loop-operation g l = record {
-  state : (h : Meanings) (now : Now) → g.V.Versions.is_told ≡ true → Means (meant effect l.initial.handlers.named) h → All IsAbout l.yielded
+  state : (h : Meanings) (now : Now) → g.V.Versions.is_told ≡ true → Means (meant l.initial.handlers.named (λ one. (goal.Handler-dyn g one).effect one.1)) h → All IsAbout l.yielded
       → IsAt g.V.Versions.version h l.initial.self now.met now.stored
       → IsAt g.V.Versions.version h l.self
       (fold (ticked (setting_of l.initial.self h) l.fn.clock) now l.yielded).met (fold (ticked (setting_of l.initial.self h) l.fn.clock) now l.yielded).stored;
-  work : (h : Meanings) (now : Now) → g.V.Versions.is_told ≡ true → Means (meant effect l.initial.handlers.named) h → All IsAbout l.yielded
+  work : (h : Meanings) (now : Now) → g.V.Versions.is_told ≡ true → Means (meant l.initial.handlers.named (λ one. (goal.Handler-dyn g one).effect one.1)) h → All IsAbout l.yielded
       → IsAt g.V.Versions.version h l.initial.self now.met now.stored
       → l.initial.work ≡ work_of now → l.work ≡ work_of (fold (ticked (setting_of l.initial.self h) l.fn.clock) now l.yielded);
-  handlers : meant effect l.handlers.named ≡ meant effect l.initial.handlers.named;
+  handlers : meant l.handlers.named (λ one. (goal.Handler-dyn g one).effect one.1) ≡ meant l.initial.handlers.named (λ one. (goal.Handler-dyn g one).effect one.1);
   members : l.self.members ≡ l.initial.self.members;
   me : l.self.me ≡ l.initial.self.me;
   voter : l.self.voter ≡ l.initial.self.voter;

@@ -11,6 +11,6 @@ use Rattle.mega_world.proofs.world.World.drain.Given as goal
 
 abbrev pub invariant-loop-turn : goal.invariant-loop-turn
 invariant-loop-turn g l =
-    ((c : Cluster) (h : Meanings) (now : Standing) → IsAt c l.initial.self l.initial.tape.items now → IsSound (meant (EFFECT) l.initial.handlers.named) c h now (Drain l.most)
+    ((c : Cluster) (h : Meanings) (now : Standing) → IsAt c l.initial.self l.initial.tape.items now → IsSound (meant l.initial.handlers.named (λ one. (goal.Handler-dyn g one).effect one.1)) c h now (Drain l.most)
     → Reaches c h now l.most l.self l.initial.tape.items l.tape.items (l.most - l._turn))
-    × (meant (EFFECT) l.handlers.named ≡ meant (EFFECT) l.initial.handlers.named)
+    × (meant l.handlers.named (λ one. (goal.Handler-dyn g one).effect one.1) ≡ meant l.initial.handlers.named (λ one. (goal.Handler-dyn g one).effect one.1))
