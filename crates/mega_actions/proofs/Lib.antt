@@ -9,3 +9,4 @@ mod Within
 mod InTurn
 mod Begun
 pub mod Pumped
+pub mod Turned

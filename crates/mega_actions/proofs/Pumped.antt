@@ -20,7 +20,7 @@ use Rattle.mega_node_laws.specs.About.{IsAbout, IsOf}
 use Rattle.mega_actions.specs.declared.deed.Deed.{Deed}
 use Rattle.mega_actions.specs.declared.pumping.Pumped.{Pumped}
 use Rattle.mega_actions.specs.declared.pumping.Pumped.TheVariants.{Again, Done}
-use Rattle.mega_actions.specs.Acted.{IsNextAbout}
+use Rattle.mega_actions.specs.Acted.{IsNextAbout, IsNextAsked}
 use Rattle.mega_actions.specs.Asked.{IsAsked}
 use Rattle.mega_actions.specs.Built.{is_pump}
 use Rattle.mega_actions.specs.Deeds.{does}
@@ -136,3 +136,7 @@ pump_begins s now op (Find request) clock pump = absurd (cc)
 pump_begins s now op PumpEnter clock pump = refl
 pump_begins s now op PumpHandle clock pump = refl
 pump_begins s now op Refresh clock pump = absurd (cc)
+
+pub next_asked : (pumped : Pumped) (request : Request) → IsAsked pumped request → IsNextAsked (next_of pumped) request
+next_asked (Done deed) request asked = tt
+next_asked (Again heard) request asked = asked

@@ -4,6 +4,7 @@ use Rattle.std.specs.Prelude.{◌≡◌, Option, Some, None}
 use Rattle.mega_disk.specs.VersionMaps.{Versions}
 use Rattle.mega_handler.specs.Named.{Meanings}
 use Rattle.mega_node_laws.specs.About.{IsAbout}
+use Rattle.mega_outcome.specs.declared.request.Request.{Request}
 use Rattle.mega_rules.specs.Operations.{Now, Operation}
 use Rattle.mega_actions.specs.declared.replica.Replica.{Replica}
 use Rattle.mega_actions.specs.declared.work.Work.{Work}
@@ -15,6 +16,11 @@ use Rattle.mega_actions.specs.Working.{work_of}
 abbrev pub IsNextAbout : Option Operation → Type 0
 IsNextAbout None = Unit {0}
 IsNextAbout (Some o) = IsAbout o
+
+-- and has the request of the one that acted
+abbrev pub IsNextAsked : Option Operation → Request → Type 0
+IsNextAsked None request = Unit {0}
+IsNextAsked (Some o) request = o.request ≡ request
 
 pub record Acted {R V : Type 0} (version : V → Versions) (h : Meanings) (new : Replica R V) (was work : Work) (now : Now) (rule : (Now → Operation → Now) → Now) (next : Option Operation) : Type 0 where
   pub after : Now

@@ -14,7 +14,7 @@ ghost use Rattle.mega_read.specs.Catching.{seeks};
 ghost use Rattle.mega_replica.specs.Faring.{Fares};
 ghost use Rattle.mega_actions.specs.declared.fault.ActFault.TheVariants.{NoMemory as OutOfMemory, Unbuilt};
 ghost use Rattle.mega_voter.specs.Telling.{Tells};
-ghost use Rattle.mega_actions.specs.Acted.{Acted};
+ghost use Rattle.mega_actions.specs.Acted.{Acted, IsNextAsked};
 ghost use Rattle.mega_actions.specs.Built.{is_built, is_pump};
 ghost use Rattle.mega_actions.specs.Later.{later};
 ghost use Rattle.mega_actions.specs.Faults.{failed_by};
@@ -133,6 +133,7 @@ impl<R: Records, V: Versions> Replica<R, V> {
         ensures acted { IfOk result (λ next. (h : Meanings) (now : Now) → V.is_told ≡ true → Means (meant handlers.old.named effect) h → is_pump reached.kept.request ≡ true →
             reached.position ≤ applied (log_of now.met reached.group) (now.stored reached.group) → IsAt V.version h self.old now.met now.stored →
             Acted V.version h self.new work.old work.new now (λ again. finishes (setting_of self.old h) again now (operation_of reached) reached.group reached.reading reached.position) next) }
+        ensures asked { IfOk result (λ next. IsNextAsked next reached.kept.request) }
         ensures handlers { meant handlers.new.named effect ≡ meant handlers.old.named effect }
         ensures fares { Fares V.Versions (failed_by result) self.old.rows.rows self.new.rows.rows }
         ensures members { self.new.members ≡ self.old.members }
@@ -163,6 +164,7 @@ impl<R: Records, V: Versions> Replica<R, V> {
         ensures acted { IfOk result (λ next. (h : Meanings) (now : Now) → V.is_told ≡ true → Means (meant handlers.old.named effect) h → IsOf reached.kept.request reached.group →
             reached.position ≤ applied (log_of now.met reached.group) (now.stored reached.group) → IsAt V.version h self.old now.met now.stored →
             Acted V.version h self.new work.old work.new now (λ again. finishes (setting_of self.old h) again now (operation_of reached) reached.group reached.reading reached.position) next) }
+        ensures asked { IfOk result (λ next. IsNextAsked next reached.kept.request) }
         ensures handlers { meant handlers.new.named effect ≡ meant handlers.old.named effect }
         ensures fares { Fares V.Versions (failed_by result) self.old.rows.rows self.new.rows.rows }
         ensures members { self.new.members ≡ self.old.members }
@@ -198,6 +200,7 @@ impl<R: Records, V: Versions> Replica<R, V> {
         ensures acted { IfOk result (λ next. (h : Meanings) (now : Now) → V.is_told ≡ true → Means (meant handlers.old.named effect) h → IsOf reached.kept.request reached.group →
             reached.position ≤ prefix_of now.met reached.group → IsAt V.version h self.old now.met now.stored →
             Acted V.version h self.new work.old work.new now (λ again. finishes (setting_of self.old h) again (completes_read (setting_of self.old h) now reached.group reached.reading reached.position) (operation_of reached) reached.group reached.reading reached.position) next) }
+        ensures asked { IfOk result (λ next. IsNextAsked next reached.kept.request) }
         ensures handlers { meant handlers.new.named effect ≡ meant handlers.old.named effect }
         ensures fares { Fares V.Versions (failed_by result) self.old.rows.rows self.new.rows.rows }
         ensures members { self.new.members ≡ self.old.members }
@@ -236,6 +239,7 @@ impl<R: Records, V: Versions> Replica<R, V> {
     ) -> Result<Option<Operation>, ActFault>
         ensures acted { IfOk result (λ next. (h : Meanings) (now : Now) → V.is_told ≡ true → Means (meant handlers.old.named effect) h → IsOf kept.request group → IsAt V.version h self.old now.met now.stored →
             Acted V.version h self.new work.old work.new now (λ again. reads_on (setting_of self.old h) again now (whole kept (Reads group reading)) group reading) next) }
+        ensures asked { IfOk result (λ next. IsNextAsked next kept.request) }
         ensures handlers { meant handlers.new.named effect ≡ meant handlers.old.named effect }
         ensures fares { Fares V.Versions (failed_by result) self.old.rows.rows self.new.rows.rows }
         ensures members { self.new.members ≡ self.old.members }
@@ -288,6 +292,7 @@ impl<R: Records, V: Versions> Replica<R, V> {
     ) -> Result<Option<Operation>, ActFault>
         ensures acted { IfOk result (λ next. (h : Meanings) (now : Now) → V.is_told ≡ true → Means (meant handlers.old.named effect) h → IsAbout operation → IsAt V.version h self.old now.met now.stored →
             Acted V.version h self.new work.old work.new now (λ again. acts (setting_of self.old h) again now operation) next) }
+        ensures asked { IfOk result (λ next. IsNextAsked next operation.request) }
         ensures handlers { meant handlers.new.named effect ≡ meant handlers.old.named effect }
         ensures fares { Fares V.Versions (failed_by result) self.old.rows.rows self.new.rows.rows }
         ensures members { self.new.members ≡ self.old.members }
@@ -340,7 +345,7 @@ impl<R: Records, V: Versions> Replica<R, V> {
         ensures unbuilt { result ≡ Err Unbuilt → is_built operation.request ≡ false }
     {
         let mut next = operation;
-        for _ in 0..most {
+        for _turn in 0..most {
             match self.acts_once(alloc, handlers, work, next) {
                 Ok(Some(again)) => next = again,
                 Ok(None) => return Ok(()),
@@ -377,7 +382,10 @@ impl<R: Records, V: Versions> Replica<R, V> {
         ensures unbuilt { result ≡ Err Unbuilt → is_built operation.request ≡ false }
     {
         match self.acts_once(alloc, handlers, work, operation) {
-            Ok(Some(next)) => self.acts_again(alloc, handlers, work, next),
+            Ok(Some(next)) => {
+                self.acts_again(alloc, handlers, work, next)?;
+                Ok(())
+            }
             Ok(None) => Ok(()),
             Err(fault) => Err(fault),
         }
@@ -402,7 +410,11 @@ impl<R: Records, V: Versions> Replica<R, V> {
         ensures unbuilt { result ≡ Err Unbuilt → is_built operation.request ≡ false }
     {
         match self.voter.groups(alloc) {
-            Ok(groups) => self.acts_within(alloc, handlers, work, groups.len() + 1, operation),
+            Ok(groups) => {
+                let most = groups.len() + 1;
+                self.acts_within(alloc, handlers, work, most, operation)?;
+                Ok(())
+            }
             Err(refused) => {
                 drop(operation);
                 Err(refused.into())

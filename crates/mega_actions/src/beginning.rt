@@ -156,11 +156,13 @@ impl<R: Records, V: Versions> Replica<R, V> {
         ensures unbuilt { is_pump request ≡ true → result ≡ Err Unbuilt → ⊥ }
     {
         let entering = is_entering(&request);
+        let began = self.leases.now();
+        let visited = Items::new(alloc);
         let kept = Kept {
             id: op,
             request,
-            began: self.leases.now(),
-            visited: Items::new(alloc),
+            began,
+            visited,
             message: None,
         };
         let asked = Items::new(alloc);

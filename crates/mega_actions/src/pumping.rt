@@ -1,10 +1,11 @@
 //! A pump picks what it is to serve, reads its group, and then enters or handles a message there, or picks again.
-ghost use Rattle.std.specs.Prelude.{◌≡◌, ◌≤◌, ◌+◌, ◌<◌, ◌^◌, nat_le, IfOk, OnOk, Err, None, true, false};
+ghost use Rattle.std.specs.Prelude.{◌≡◌, ◌≤◌, ◌+◌, ◌<◌, ◌^◌, nat_le, IfOk, OnOk, Err, None, true, false, List, ℕ};
 ghost use Rattle.mega_disk.specs.VersionMaps.{SameVersions};
 ghost use Rattle.mega_handler.specs.Named.{Meanings};
 ghost use Rattle.mega_meanings.specs.Means.{Means, meant};
 ghost use Rattle.mega_leases.specs.declared.leases.Leases.{Leases as LeasesKept};
 ghost use Rattle.mega_operations.specs.Whole.{whole};
+ghost use Rattle.mega_pumps.specs.Notes.{Notes};
 ghost use Rattle.mega_pumps.specs.Owns.{own_by, picks_by};
 ghost use Rattle.mega_pumps.specs.Picks.{serves};
 ghost use Rattle.mega_rules.specs.Acting.{finishes};
@@ -78,7 +79,7 @@ fn has_nothing<R: Records, V: Versions>(
     op: OpId,
 ) -> Result<Pumped, NoMemory>
     ensures asked { IfOk result (λ pumped. (request : _) → IsAsked pumped request) }
-    ensures pumped { IfOk result (λ pumped. (c : _) (me : _) (h : Meanings) (leases : LeasesKept) (now : Now) (again : Now → Open → Now) (o : Open) (asked : _) →
+    ensures pumped { IfOk result (λ pumped. (c : _) (me : _) (h : Meanings) (leases : LeasesKept) (now : Now) (again : Now → Open → Now) (o : Open) (asked : List ℕ) →
         Stands (setting c me h) voter.now.logs.kept leases (V.version rows.now.rows) (progress_at rows.now.progress) now.met now.stored → groups.now ≡ groups_of now.met → o.id ≡ op →
         pumped_by again now pumped ≡ serves (setting c me h) again now o asked None) }
 {
@@ -127,6 +128,28 @@ struct Found {
     picked: Option<Picked>,
 }
 
+/// What a pump picks, of the groups with a decided position.
+fn picked<R: Records, V: Versions>(
+    alloc: Global,
+    digest: &mut Digest,
+    voter: &Voter<R>,
+    rows: &StoredRows<V>,
+    op: OpId,
+    entering: bool,
+    groups: &[GroupId],
+) -> Result<Option<Picked>, NoMemory>
+    ensures { IfOk result (λ picked. (s : Setting) (again : Now → Open → Now) (now : Now) (o : Open) (asked : List ℕ) → Tells voter.now.logs.kept now.met →
+        Follows (V.version rows.now.rows) (progress_at rows.now.progress) (log_of now.met) now.stored → Notes (log_of now.met) now.stored digest.old → groups.now ≡ groups_of now.met → o.id ≡ op →
+        serves s again now o asked picked ≡ picks_by entering s again now o asked) }
+{
+    if entering {
+        let picked = digest.next_to_enter(alloc, voter, rows, op, groups)?;
+        return Ok(picked);
+    }
+    let picked = digest.next_to_handle(alloc, voter, rows, groups)?;
+    Ok(picked)
+}
+
 /// What a pump is to serve next.
 fn found<R: Records, V: Versions>(
     alloc: Global,
@@ -136,18 +159,25 @@ fn found<R: Records, V: Versions>(
     entering: bool,
 ) -> Result<Found, NoMemory>
     ensures groups { IfOk result (λ found. (now : Now) → Tells voter.now.logs.kept now.met → found.groups.items ≡ groups_of now.met) }
-    ensures picked { IfOk result (λ found. (s : Setting) (again : Now → Open → Now) (now : Now) (o : Open) (asked : _) → Tells voter.now.logs.kept now.met →
+    ensures picked { IfOk result (λ found. (s : Setting) (again : Now → Open → Now) (now : Now) (o : Open) (asked : List ℕ) → Tells voter.now.logs.kept now.met →
         Follows (V.version rows.now.rows) (progress_at rows.now.progress) (log_of now.met) now.stored → o.id ≡ op →
         serves s again now o asked found.picked ≡ picks_by entering s again now o asked) }
 {
     let groups = voter.groups(alloc)?;
     let mut digest = Digest::new(alloc);
-    let picked = if entering {
-        digest.next_to_enter(alloc, voter, rows, op, groups.as_slice())?
-    } else {
-        digest.next_to_handle(alloc, voter, rows, groups.as_slice())?
-    };
-    Ok(Found { groups, picked })
+    let found = picked(
+        alloc,
+        &mut digest,
+        voter,
+        rows,
+        op,
+        entering,
+        groups.as_slice(),
+    )?;
+    Ok(Found {
+        groups,
+        picked: found,
+    })
 }
 
 /// A pump picks what it is to serve, and reads its group, or ends.

@@ -3,13 +3,13 @@ use Rattle.mega_handling.proofs.Meant.{made_is, meant_same, nothing_is}
 use Rattle.mega_handling.proofs.handling.effect_of.Goals as goal
 
 pub returns-in-Some-clause-exact : goal.returns-in-Some-clause-exact
-returns-in-Some-clause-exact c h means = made_is _ c.args.handlers.now.named h c.args.message.now c.args.rows.now _ means c.in-Some.ensures.exact
+returns-in-Some-clause-exact c h means = made_is c.args.handlers.now.named _ h c.args.message.now c.args.rows.now _ means c.in-Some.ensures.exact
 
 pub returns-in-Some-clause-handlers : goal.returns-in-Some-clause-handlers
-returns-in-Some-clause-handlers c = meant_same _ c.args.handlers.now.named c.handle.new.self.named c.args.message.now.queue c.handle.ensures.same c.handle.ensures.others
+returns-in-Some-clause-handlers c = meant_same c.args.handlers.now.named c.handle.new.self.named _ c.args.message.now.queue c.handle.ensures.same c.handle.ensures.others
 
 pub returns-in-None-clause-exact : goal.returns-in-None-clause-exact
-returns-in-None-clause-exact c h means = nothing_is _ c.args.handlers.now.named h c.args.message.now c.args.rows.now means c.in-None.ensures.exact
+returns-in-None-clause-exact c h means = nothing_is c.args.handlers.now.named _ h c.args.message.now c.args.rows.now means c.in-None.ensures.exact
 
 pub returns-in-None-clause-handlers : goal.returns-in-None-clause-handlers
-returns-in-None-clause-handlers c = meant_same _ c.args.handlers.now.named c.handle.new.self.named c.args.message.now.queue c.handle.ensures.same c.handle.ensures.others
+returns-in-None-clause-handlers c = meant_same c.args.handlers.now.named c.handle.new.self.named _ c.args.message.now.queue c.handle.ensures.same c.handle.ensures.others
