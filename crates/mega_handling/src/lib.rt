@@ -2,12 +2,12 @@
 //! (CIDR 2011, queues).
 #![tactic(auto)]
 
-mod handling;
+mod entry;
 mod keeping;
 mod lengths;
 mod listing;
 mod placing;
 mod sending;
 
-pub use handling::handling;
+pub use entry::handling;
 pub use listing::rows_of_tables;

@@ -1,16 +1,15 @@
 -- The length of the entry that enters a message.
-use Rattle.std.proofs.Common.{◌≡◌, ◌∙◌, ap, sym, refl, ℕ, ◌+◌, ◌*◌, ◌<◌, ◌≤◌, true, false, List, [], ◌∷◌, ◌++◌, length, length-append, arith}
-use Rattle.std.specs.Prelude.{Bool, Option, Some, nat_le}
+use Rattle.std.proofs.Common.{◌≡◌, ◌∙◌, ap, ℕ, ◌+◌, List, [], ◌∷◌, ◌++◌, length, length-append, arith}
+use Rattle.std.specs.Prelude.{Some, nat_le}
 use Rattle.std.specs.List.{flat_map}
 use Rattle.std.proofs.lemmas.Bool.Decides.{nat_tests}
-use Rattle.mega_base.specs.Codec.{bytes_text, option_text, list_text, one_byte}
+use Rattle.mega_base.specs.Codec.{bytes_text, option_text, list_text}
 use Rattle.mega_base.specs.Digits.{length_number_text}
 use Rattle.mega_base.specs.Names.{op_text, node_text, u32_text, u64_text}
 use Rattle.mega_base.specs.declared.names.OpId.{OpId}
-use Rattle.mega_entry.specs.declared.content.Content.{Content}
 use Rattle.mega_entry.specs.declared.content.Enter.{Enter}
 use Rattle.mega_entry.specs.declared.content.Name.{Name}
-use Rattle.mega_entry.specs.Entries.{write_text, send_text, enter_text, name_text, cut_text, cuts_text, entry_text, version_of}
+use Rattle.mega_entry.specs.Entries.{write_text, send_text, enter_text, name_text, entry_text}
 use Rattle.mega_outcome.proofs.Sizes.{number_front, bytes_text_length}
 use Rattle.mega_rules.specs.Queues.{enter_entry, is_short}
 

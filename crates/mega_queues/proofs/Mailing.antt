@@ -1,7 +1,6 @@
 -- The mail of a log with one entry more.
 use Rattle.std.proofs.Common.{◌≡◌, ◌∙◌, ap, sym, refl, ◌||◌, Bool, true, false, cond, List, [], ◌∷◌, ◌++◌, length, arith, append-nil}
-use Rattle.std.specs.Prelude.{Option, Some, None, map, not, filter, find, flat_map}
-use Rattle.std.specs.List.{list_any}
+use Rattle.std.specs.Prelude.{Some, not, filter, find}
 use Rattle.std.proofs.lemmas.Grind.{flat_map-append}
 use Rattle.mega_entry.specs.declared.content.Content.{Content}
 use Rattle.mega_entry.specs.declared.content.Enter.{Enter}
@@ -13,7 +12,7 @@ use Rattle.std.specs.BTreeMap.{is_at}
 use Rattle.mega_wal.specs.History.{group_cmp}
 use Rattle.mega_queues.specs.declared.mailbox.Mailbox.{Mailbox}
 use Rattle.mega_queues.specs.Named.{AddsAll, Names, is_in, is_known, names_of}
-use Rattle.mega_queues.specs.Mail.{Mail, first_of, is_left, mail_of, no_mail, only_if, seen, with_entry, with_marks}
+use Rattle.mega_queues.specs.Mail.{first_of, is_left, mail_of, no_mail, only_if, seen, with_entry, with_marks}
 
 -- ---- filters
 pub filter_twice : {A : Type 0} (p q r : A → Bool) → ((x : A) → cond (q x) (p x) false ≡ r x) → (xs : List A) → filter p (filter q xs) ≡ filter r xs

@@ -1,6 +1,6 @@
 -- A name that is added to those that are known.
 use Rattle.std.proofs.Common.{◌≡◌, ◌∙◌, ap, sym, refl, ℕ, ◌==◌, ◌&&◌, ◌||◌, Bool, true, false, cond, List, [], ◌∷◌, ◌++◌, arith, Ordering, Less, Equal, Greater, nat_cmp, ◌↔◌}
-use Rattle.std.specs.Prelude.{Option, Some, None, map, IsTrue}
+use Rattle.std.specs.Prelude.{Some, IsTrue}
 use Rattle.std.specs.List.{list_any}
 use Rattle.std.specs.Ordering.{is_eq, ordering_then}
 use Rattle.std.specs.BTreeMap.{get, is_at}

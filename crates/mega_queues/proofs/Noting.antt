@@ -1,7 +1,7 @@
 -- What the queues keep once a log has one entry more.
 use Rattle.std.proofs.Common.{◌≡◌, ◌∙◌, ap, sym, subst, refl, ℕ, suc, ◌+◌, ◌||◌, Bool, true, false, cond, List, [], ◌∷◌, ◌++◌, length, append-nil, append_assoc, arith}
-use Rattle.std.specs.Prelude.{Option, Some, None, not, filter}
-use Rattle.std.specs.BTreeMap.{BTreeMap, get}
+use Rattle.std.specs.Prelude.{not, filter}
+use Rattle.std.specs.BTreeMap.{BTreeMap}
 use Rattle.std.specs.Global.{Vec}
 use Rattle.mega_base.specs.declared.names.GroupId.{GroupId}
 use Rattle.mega_entry.specs.declared.content.Content.{Content}

@@ -1,23 +1,20 @@
 -- What a pump picks from what waits is what it picks from the logs.
-use Rattle.std.proofs.Common.{◌≡◌, ◌∙◌, ap, sym, refl, ℕ, suc, ◌+◌, ◌&&◌, ◌||◌, Bool, true, false, cond, List, [], ◌∷◌, ◌++◌, append-nil}
-use Rattle.std.specs.Prelude.{Option, Some, None, is_some, map, not, filter, find, flat_map, length}
-use Rattle.std.specs.BTreeMap.{BTreeMap, is_at}
+use Rattle.std.proofs.Common.{◌≡◌, ◌∙◌, ap, sym, refl, ◌&&◌, Bool, true, false, cond, List, [], ◌∷◌, ◌++◌}
+use Rattle.std.specs.Prelude.{Option, Some, None, is_some, not, filter, find, flat_map}
+use Rattle.std.specs.BTreeMap.{is_at}
 use Rattle.std.specs.Map.{lookup}
 use Rattle.mega_wal.specs.History.{group_cmp}
-use Rattle.std.specs.Global.{Vec}
 use Rattle.mega_base.specs.declared.names.GroupId.{GroupId}
 use Rattle.mega_base.specs.declared.names.OpId.{OpId}
 use Rattle.mega_entry.specs.declared.content.Content.{Content}
 use Rattle.mega_entry.specs.declared.content.Enter.{Enter}
-use Rattle.mega_wal.specs.Same.{same_group}
-use Rattle.mega_rules.specs.Queues.{Log, Posted, enter_entry, entered_in, entries_of, has_unhandled, is_named, is_short, names_entered, next_to_enter, next_to_handle, oldest_unhandled, sent_from, sent_in, waits_to_enter}
-use Rattle.mega_queues.specs.declared.mailbox.Mailbox.{Mailbox}
+use Rattle.mega_rules.specs.Queues.{Log, Posted, enter_entry, entered_in, has_unhandled, is_named, is_short, names_entered, next_to_enter, next_to_handle, oldest_unhandled, sent_from, sent_in, waits_to_enter}
 use Rattle.mega_queues.specs.declared.queues.Queues.{Queues}
-use Rattle.mega_queues.specs.Mail.{Mail, first_of, is_left, mail_of, seen}
+use Rattle.mega_queues.specs.Mail.{Mail, first_of, is_left, mail_of}
 use Rattle.mega_queues.specs.Boxes.{AreAll, Logs, awaits, is_awaited, logs_of, mail_at, mail_in, sent_at, sent_in_box}
 use Rattle.mega_queues.specs.Picks.{can_enter, has_mail, has_one}
 use Rattle.mega_queues.specs.Followed.{Represents}
-use Rattle.mega_queues.proofs.Mailing.{filter_alike, filter_append, first_found}
+use Rattle.mega_queues.proofs.Mailing.{filter_append, first_found}
 
 -- ---- finding
 find_both : {A : Type 0} (p q r : A → Bool) → ((x : A) → r x ≡ (p x && q x)) → (xs : List A) → find r xs ≡ find q (filter p xs)

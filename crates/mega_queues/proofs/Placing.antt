@@ -1,5 +1,5 @@
 -- What is kept of all groups, where that of one changes.
-use Rattle.std.proofs.Common.{◌≡◌, ◌∙◌, ap, sym, refl, Bool, true, false, cond, List, [], ◌∷◌, ◌++◌}
+use Rattle.std.proofs.Common.{◌≡◌, ◌∙◌, ap, sym, refl, Bool, true, false, cond, List, [], ◌++◌}
 use Rattle.std.specs.Prelude.{Option, Some, None, is_some, filter}
 use Rattle.std.specs.BTreeMap.{BTreeMap, get}
 use Rattle.std.specs.Global.{Vec}
@@ -10,7 +10,7 @@ use Rattle.mega_wal.specs.Kept.{is_group}
 use Rattle.mega_wal.proofs.Orders.{is_group_equal}
 use Rattle.mega_rules.specs.Queues.{Posted}
 use Rattle.mega_queues.specs.declared.mailbox.Mailbox.{Mailbox}
-use Rattle.mega_queues.specs.Mail.{Mail, no_mail, seen, with_entry}
+use Rattle.mega_queues.specs.Mail.{no_mail, seen, with_entry}
 use Rattle.mega_queues.specs.Boxes.{Sheds, mail_at, mail_in, sent_at, sent_in_box}
 use Rattle.mega_queues.proofs.Mailing.{filter_twice}
 

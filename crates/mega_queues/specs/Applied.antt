@@ -1,5 +1,4 @@
 -- The logs of a node as far as they are applied.
-use Rattle.mega_base.specs.declared.names.GroupId.{GroupId}
 use Rattle.mega_replica.specs.Applying.{applied_log}
 use Rattle.mega_rules.specs.Logs.{log_of}
 use Rattle.mega_rules.specs.Operations.{Now}

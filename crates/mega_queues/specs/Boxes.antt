@@ -1,14 +1,13 @@
 -- What all logs sent, entered and handled.
-use Rattle.std.specs.Prelude.{◌≡◌, ℕ, suc, ◌++◌, if◌then◌else◌, Bool, true, not, List, [], ◌∷◌, filter, map, Option, Some, None}
+use Rattle.std.specs.Prelude.{◌≡◌, ◌++◌, if◌then◌else◌, Bool, not, List, [], ◌∷◌, filter, map, Option, Some, None}
 use Rattle.std.specs.BTreeMap.{BTreeMap, get}
 use Rattle.mega_base.specs.declared.names.GroupId.{GroupId}
 use Rattle.mega_entry.specs.declared.content.Content.{Content}
-use Rattle.mega_entry.specs.declared.content.Enter.{Enter}
 use Rattle.mega_wal.specs.Same.{same_group}
 use Rattle.mega_wal.specs.History.{group_cmp}
-use Rattle.mega_rules.specs.Queues.{Log, Posted, entries_of, is_named, names_entered, sent_from}
+use Rattle.mega_rules.specs.Queues.{Log, Posted, entries_of, is_named, names_entered}
 use Rattle.mega_queues.specs.declared.mailbox.Mailbox.{Mailbox}
-use Rattle.mega_queues.specs.Mail.{Mail, mail_of, no_mail, seen}
+use Rattle.mega_queues.specs.Mail.{Mail, no_mail, seen}
 use Rattle.std.specs.Global.{Vec}
 
 -- the mail of a group

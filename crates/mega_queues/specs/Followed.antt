@@ -1,5 +1,5 @@
 -- What the queues of a node keep of its logs.
-use Rattle.std.specs.Prelude.{◌≡◌, List, filter}
+use Rattle.std.specs.Prelude.{◌≡◌, filter}
 use Rattle.mega_base.specs.declared.names.GroupId.{GroupId}
 use Rattle.mega_rules.specs.Queues.{sent_from}
 use Rattle.mega_queues.specs.declared.queues.Queues.{Queues}

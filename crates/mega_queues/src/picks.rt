@@ -42,7 +42,6 @@ fn first_of_sender<'a>(
 }
 
 /// The first message of these senders, one after another, that can be entered.
-#[tactic(auto, using(crate::proofs::Picking::not_here, crate::proofs::Picking::here))]
 pub fn next_to_enter<'a>(
     op: OpId,
     boxes: &Mailboxes,
@@ -52,9 +51,9 @@ pub fn next_to_enter<'a>(
     ensures { option_copied result ≡ find (can_enter op boxes.now) (flat_map (sent_at outboxes.now) groups.now) }
 {
     for group in groups {
-        let found = first_of_sender(op, boxes, outboxes, group);
-        if found.is_some() {
-            return found;
+        match first_of_sender(op, boxes, outboxes, group) {
+            Some(found) => return Some(found),
+            None => {}
         }
     }
     None

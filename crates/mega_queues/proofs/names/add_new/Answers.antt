@@ -1,10 +1,8 @@
-use Rattle.std.proofs.Common.{◌∙◌, ap, cond, false, true, Some}
-use Rattle.std.specs.List.{list_any}
-use Rattle.std.specs.BTreeMap.{get, is_at}
-use Rattle.std.specs.Ordering.{is_eq}
+use Rattle.std.proofs.Common.{◌∙◌, ap, cond, false, Some}
+use Rattle.std.specs.BTreeMap.{get}
 use Rattle.mega_wal.specs.History.{group_cmp}
 use Rattle.mega_wal.specs.Kept.{is_group}
-use Rattle.mega_queues.specs.Named.{is_in, place_cmp}
+use Rattle.mega_queues.specs.Named.{is_in}
 use Rattle.mega_queues.proofs.Naming.{added, put_first}
 use Rattle.mega_queues.proofs.names.add_new.Goals as goal
 

@@ -1,5 +1,4 @@
-use Rattle.std.proofs.Common.{rules, ◌≡◌, ◌+◌, ◌∙◌, sym, length}
-use Rattle.std.specs.Prelude.{nat_le}
+use Rattle.std.proofs.Common.{rules, ◌∙◌, sym, length}
 use Rattle.mega_queues.proofs.Lengths.{short_is, same_length}
 use Rattle.mega_queues.proofs.short.is_short.Goals as goal
 

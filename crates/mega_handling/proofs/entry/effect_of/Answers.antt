@@ -1,6 +1,6 @@
 use Rattle.std.proofs.Common.{◌≡◌}
 use Rattle.mega_handling.proofs.Meant.{made_is, meant_same, nothing_is}
-use Rattle.mega_handling.proofs.handling.effect_of.Goals as goal
+use Rattle.mega_handling.proofs.entry.effect_of.Goals as goal
 
 pub returns-in-Some-clause-exact : goal.returns-in-Some-clause-exact
 returns-in-Some-clause-exact c h means = made_is c.args.handlers.now.named _ h c.args.message.now c.args.rows.now _ means c.in-Some.ensures.exact
