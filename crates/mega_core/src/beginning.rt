@@ -180,7 +180,15 @@ impl<R: Records, V: Versions> Node<R, V> {
         self.begun = op.number;
         let open = mem::replace(&mut self.open, Items::new(alloc));
         let mut work = at_open(alloc, open);
-        unless_refused(alloc, handlers, &mut self.replica, &mut work, op, request, refusal)?;
+        unless_refused(
+            alloc,
+            handlers,
+            &mut self.replica,
+            &mut work,
+            op,
+            request,
+            refusal,
+        )?;
         Ok(work)
     }
 }

@@ -1,4 +1,6 @@
-//! What the registered handlers mean (CIDR 2011, queues).
+//! What the handlers mean that are registered (CIDR 2011, queues).
 #![tactic(auto)]
 
-pub mod laws;
+mod laws;
+
+pub use laws::handlers_mean_what_they_spell;

@@ -46,3 +46,6 @@ returns-in_err-acts_in_turn-clause-fares g c =
     let new = c.acts_in_turn.new.self.rows.rows in
     let rest : Fares g.V.Versions (failed_by c.from_residual.result) mid new = search rules in
     fares_then g.V.Versions (failed_by c.from_residual.result) before mid new c.loop-one.invariant.fares rest
+
+pub returns-in_err-acts_in_turn-clause-handlers : goal.returns-in_err-acts_in_turn-clause-handlers
+returns-in_err-acts_in_turn-clause-handlers g c = c.in_err-acts_in_turn.ensures.handlers ∙ c.loop-one.invariant.handlers

@@ -47,3 +47,6 @@ returns-in_err-ticked-clause-fares g c =
     let new = c.ticked.new.self.rows.rows in
     let rest : Fares g.V.Versions (failed_by c.from_residual.result) mid new = search rules in
     fares_then g.V.Versions (failed_by c.from_residual.result) before mid new c.loop-operation.invariant.fares rest
+
+pub returns-in_err-ticked-clause-handlers : goal.returns-in_err-ticked-clause-handlers
+returns-in_err-ticked-clause-handlers g c = c.in_err-ticked.ensures.handlers ∙ c.loop-operation.invariant.handlers

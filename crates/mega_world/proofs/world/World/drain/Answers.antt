@@ -35,15 +35,15 @@ hand-requires g c =
 
 pub loop-turn-preserved : goal.loop-turn-preserved
 loop-turn-preserved g c = (
-    λ cluster h now r sound.
-        let most = c.args.most in
-        let turn = c.loop-turn._turn in
-        let reached = c.loop-turn.invariant.0 cluster h now r sound in
-        let is = sym (c.in-Some.ensures reached.mid reached.at.mail (λ me. reached.at.nodes.members.up_are me ∙ ap (λ (ps : List Place). is_up_at ps me) (sym c.as_slice.ensures.value))) in
-        let next = next_sound cluster h now most turn c.in-Some.number c.loop-turn.self c.args.tape.now.items c.loop-turn.tape.items reached c.loop-turn-test.true c.loop-turn.invariant.1 sound is in
-        reaches_next cluster h now most turn c.in-Some.number c.loop-turn.self c.hand.new.self c.args.tape.now.items c.loop-turn.tape.items c.hand.new.tape.items reached c.loop-turn-test.true is
-        (c.in-Ok.ensures.state cluster h reached.mid reached.at next) (c.in-Ok.ensures.lines cluster h reached.mid reached.at next),
-    c.in-Ok.ensures.handlers ∙ c.loop-turn.invariant.1,
+  λ cluster h now r sound.
+      let most = c.args.most in
+      let turn = c.loop-turn._turn in
+      let reached = c.loop-turn.invariant.0 cluster h now r sound in
+      let is = sym (c.in-Some.ensures reached.mid reached.at.mail (λ me. reached.at.nodes.members.up_are me ∙ ap (λ (ps : List Place). is_up_at ps me) (sym c.as_slice.ensures.value))) in
+      let next = next_sound cluster h now most turn c.in-Some.number c.loop-turn.self c.args.tape.now.items c.loop-turn.tape.items reached c.loop-turn-test.true c.loop-turn.invariant.1 sound is in
+      reaches_next cluster h now most turn c.in-Some.number c.loop-turn.self c.hand.new.self c.args.tape.now.items c.loop-turn.tape.items c.hand.new.tape.items reached c.loop-turn-test.true is
+      (c.in-Ok.ensures.state cluster h reached.mid reached.at next) (c.in-Ok.ensures.lines cluster h reached.mid reached.at next),
+  c.in-Ok.ensures.handlers ∙ c.loop-turn.invariant.1,
 )
 
 pub returns-in_ok-push-in-Some-next_delivery-clause-state : goal.returns-in_ok-push-in-Some-next_delivery-clause-state
@@ -67,3 +67,6 @@ returns-in-None-next_delivery-clause-state g c cluster h now r sound =
 
 pub returns-in-None-next_delivery-clause-lines : goal.returns-in-None-next_delivery-clause-lines
 returns-in-None-next_delivery-clause-lines g c cluster h now r sound lined = (c.loop-turn.invariant.0 cluster h now r sound).lines lined
+
+pub returns-in-Err-clause-handlers : goal.returns-in-Err-clause-handlers
+returns-in-Err-clause-handlers g c = c.in-Err.ensures.handlers ∙ c.loop-turn.invariant.1
