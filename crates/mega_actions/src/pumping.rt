@@ -129,7 +129,7 @@ struct Found {
 }
 
 /// What a pump picks, of the groups with a decided position.
-fn picked<R: Records, V: Versions>(
+fn picked_of<R: Records, V: Versions>(
     alloc: Global,
     digest: &mut Digest,
     voter: &Voter<R>,
@@ -151,7 +151,7 @@ fn picked<R: Records, V: Versions>(
 }
 
 /// What a pump is to serve next.
-fn found<R: Records, V: Versions>(
+fn found_next<R: Records, V: Versions>(
     alloc: Global,
     voter: &Voter<R>,
     rows: &StoredRows<V>,
@@ -165,7 +165,7 @@ fn found<R: Records, V: Versions>(
 {
     let groups = voter.groups(alloc)?;
     let mut digest = Digest::new(alloc);
-    let found = picked(
+    let found = picked_of(
         alloc,
         &mut digest,
         voter,
@@ -196,7 +196,7 @@ pub(crate) fn picks<R: Records, V: Versions>(
         Stands (setting members.now me h) voter.now.logs.kept leases.now (V.version rows.now.rows) (progress_at rows.now.progress) now.met now.stored →
         pumped_by again now pumped ≡ picks_by entering (setting members.now me h) again now (whole kept phase) asked) }
 {
-    match found(alloc, voter, rows, kept.id, entering) {
+    match found_next(alloc, voter, rows, kept.id, entering) {
         Ok(found) => {
             let Found { groups, picked } = found;
             let groups = groups.as_slice();

@@ -1,7 +1,7 @@
 -- The length of an entry that handles a message.
-use Rattle.std.proofs.Common.{◌≡◌, ◌∙◌, ap, ℕ, ◌+◌, List, [], ◌∷◌, ◌++◌, length, length-append, arith}
+use Rattle.std.proofs.Common.{◌≡◌, ◌∙◌, ap, ℕ, ◌+◌, List, [], ◌∷◌, ◌++◌, length, length-append, Some, arith}
 use Rattle.std.specs.List.{flat_map}
-use Rattle.mega_base.specs.Codec.{list_text, one_byte, option_text}
+use Rattle.mega_base.specs.Codec.{bytes_text, list_text, option_text}
 use Rattle.mega_base.specs.Digits.{length_number_text}
 use Rattle.mega_base.specs.Names.{node_text, op_text, u32_text, u64_text}
 use Rattle.mega_base.specs.declared.names.OpId.{OpId}
@@ -25,7 +25,7 @@ mark_length name =
     omega (
       arith,
       length-append (name_text name) [],
-      length-append (list_text one_byte (name.group).key) (u64_text (name.position).0 ++ u32_text name.place),
+      length-append (bytes_text (name.group).key) (u64_text (name.position).0 ++ u32_text name.place),
       bytes_text_length (name.group).key,
       number_front 8 (name.position).0 (u32_text name.place),
       length_number_text 4 name.place,

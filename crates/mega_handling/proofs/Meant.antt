@@ -59,3 +59,8 @@ module _ {X Z : Type 0} {F : X → Type 0} where
           ap (λ (q : List ℕ). option_map (makes_of effect) (get (slice_cmp nat_cmp) new q)) (sym (exact_bytes queue other is)) ∙ same
           ∙ ap (λ (q : List ℕ). option_map (makes_of effect) (get (slice_cmp nat_cmp) old q)) (exact_bytes queue other is)
       by other Greater is = ap (option_map (makes_of effect)) (others other (λ e. let no : Greater ≡ Equal = sym is ∙ e in cc))
+
+-- a count of what is found
+pub mapped_twice : {A B C : Type 0} (f : A → B) (g : B → C) (found : Option A) → option_map (λ (x : A). g (f x)) found ≡ option_map g (option_map f found)
+mapped_twice f g None = refl
+mapped_twice f g (Some x) = refl

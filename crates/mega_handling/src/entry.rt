@@ -1,14 +1,12 @@
 //! The entry by which an operation handles a queue message.
-ghost use Rattle.std.specs.Prelude.{◌≡◌, ◌+◌, ◌-◌, ◌^◌, ◌∷◌, [], nat_lt, min, length, option_map, IfOk, OnOk};
-ghost use Rattle.std.specs.Ordering.{nat_cmp};
-ghost use Rattle.std.specs.Cmp.Lexicographic.{slice_cmp};
-ghost use Rattle.std.specs.BTreeMap.{get};
+ghost use Rattle.std.specs.Prelude.{◌≡◌, ◌∷◌, [], nat_lt, length, option_map, IfOk, OnOk};
 ghost use Rattle.mega_base.specs.declared.names.OpId.{OpId as Op};
 ghost use Rattle.mega_entry.specs.Entries.{entry_text};
 ghost use Rattle.mega_index.specs.Fitted.{most_bytes};
 ghost use Rattle.mega_handler.specs.Effects.{entry_handling, handle_entry, handled};
 ghost use Rattle.mega_handler.specs.Named.{Meanings, effect_by, meaning};
 ghost use Rattle.mega_meanings.specs.Means.{Means, meant};
+ghost use Rattle.mega_handling.specs.Counted.{counted, one_more};
 ghost use Rattle.mega_handling.specs.Made.{made_by};
 
 use crate::keeping::fitted_writes;
@@ -21,12 +19,15 @@ use mega_schema::Schema;
 use std::alloc::Global;
 
 /// The length of the entry of an operation that handles a message with these.
-#[tactic(auto, using(crate::proofs::Handled::entry_length))]
 fn entry_length(name: &Name, writes: &[Write], sends: &[Send]) -> Result<u64, NoMemory>
     ensures { IfOk result (λ n. (op : Op) → n ≡ length (entry_text (entry_handling op name.now (writes.now, sends.now)))) }
 {
     let marked = sum(44, name.group.key.len() as u64)?;
-    sum(marked, sum(writes_length(writes)?, sends_length(sends)?)?)
+    let written = writes_length(writes)?;
+    let sent = sends_length(sends)?;
+    let made = sum(written, sent)?;
+    let all = sum(marked, made)?;
+    Ok(all)
 }
 
 /// Whether that entry would be too long.
@@ -155,7 +156,7 @@ fn effect_of(
 ) -> Result<(Vec<Write>, Vec<Send>), NoMemory>
     ensures exact { IfOk result (λ made. (h : Meanings) → Means (meant handlers.old.named effect) h → (made.0.items, made.1.items) ≡ effect_by (meaning h message.now.queue) message.now rows.now) }
     ensures handlers { meant handlers.new.named effect ≡ meant handlers.old.named effect }
-    ensures counted { OnOk result (option_map (λ handler. count handler) (get (slice_cmp nat_cmp) handlers.new.named message.now.queue) ≡ option_map (λ handler. min (count handler + 1) (2 ^ 64 - 1)) (get (slice_cmp nat_cmp) handlers.old.named message.now.queue)) }
+    ensures counted { OnOk result (counted handlers.new.named count message.now.queue ≡ option_map one_more (counted handlers.old.named count message.now.queue)) }
 {
     match handlers.handle(alloc, message, rows)? {
         Some(made) => Ok(made),
@@ -175,7 +176,7 @@ pub fn handling(
 ) -> Result<Content, NoMemory>
     ensures exact { IfOk result (λ entry. (h : Meanings) → Means (meant handlers.old.named effect) h → entry ≡ made_by schema.now h op group.now message.now rows.now) }
     ensures handlers { meant handlers.new.named effect ≡ meant handlers.old.named effect }
-    ensures counted { OnOk result (option_map (λ handler. count handler) (get (slice_cmp nat_cmp) handlers.new.named message.now.queue) ≡ option_map (λ handler. min (count handler + 1) (2 ^ 64 - 1)) (get (slice_cmp nat_cmp) handlers.old.named message.now.queue)) }
+    ensures counted { OnOk result (counted handlers.new.named count message.now.queue ≡ option_map one_more (counted handlers.old.named count message.now.queue)) }
 {
     let (writes, sends) = effect_of(alloc, handlers, message, rows)?;
     let entry = entry_by(alloc, schema, op, group, &message.name, rows, writes, sends)?;

@@ -75,7 +75,7 @@ struct Visit {
 }
 
 /// The read of a group by an operation.
-fn visit<R: Records>(
+fn visit_of<R: Records>(
     alloc: Global,
     members: &Members,
     voter: &Voter<R>,
@@ -137,7 +137,7 @@ pub fn visits<R: Records>(
     ensures begins { IfOk result (λ heard. (me : _) (h : Meanings) (now : Now) (again : Now → Open → Now) (phase : OpenPhase) → Tells voter.now.logs.kept now.met → TellsLeases members.now me leases.now now.met →
         begins_read (record { cluster = members.now; me = me; handlers = h }) again now (whole kept phase) picked.group picked.message asked ≡ again (sends_more now heard.sends) heard.operation) }
 {
-    match visit(alloc, members, voter, leases, &kept, &picked.group, asked) {
+    match visit_of(alloc, members, voter, leases, &kept, &picked.group, asked) {
         Ok(visit) => Ok(visiting(kept, picked, visit)),
         Err(refused) => {
             drop(kept);

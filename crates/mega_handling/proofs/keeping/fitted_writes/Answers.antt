@@ -1,4 +1,4 @@
-use Rattle.std.proofs.Common.{◌≡◌, ◌∙◌, ◌++◌, List, ap}
+use Rattle.std.proofs.Common.{◌≡◌, ◌∙◌, ◌++◌, List, ap, sym}
 use Rattle.std.specs.Vec.Iter.{into_iter_items}
 use Rattle.mega_entry.specs.declared.content.Write.{Write}
 use Rattle.mega_index.specs.Rows.{row_under, written}
@@ -14,5 +14,5 @@ loop-write-preserved c =
     let kept = c.loop-write.kept.items in
     let rest = into_iter_items c.next.new.self in
     kept_more s group rows kept c.keep.new.kept.items c.in-Some.write rest c.in_ok-keep.ensures
-    ∙ ap (λ (left : List Write). kept ++ fitted_writes s group (written kept rows) left) c.in-Some.ensures.steps.0
+    ∙ ap (λ (left : List Write). kept ++ fitted_writes s group (written kept rows) left) (sym c.in-Some.ensures.steps.0)
     ∙ c.loop-write.invariant

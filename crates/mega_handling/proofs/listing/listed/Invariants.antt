@@ -1,4 +1,4 @@
-use Rattle.std.proofs.Common.{◌≡◌, ◌++◌, ◌×◌, map, ℕ, List}
+use Rattle.std.proofs.Common.{◌≡◌, ◌++◌, map, ℕ, List}
 use Rattle.mega_outcome.specs.declared.answer.Shown.{Shown}
 use Rattle.mega_handling.proofs.listing.listed.Given as goal
 

@@ -1,6 +1,6 @@
 use Rattle.std.proofs.Common.{◌≡◌, ◌∙◌}
 use Rattle.mega_rules.specs.Logs.{log_of}
-use Rattle.mega_actions.proofs.pumping.found.Goals as goal
+use Rattle.mega_actions.proofs.pumping.found_next.Goals as goal
 
 pub returns-clause-picked : goal.returns-clause-picked
 returns-clause-picked g c s again now o asked tells follows same =
