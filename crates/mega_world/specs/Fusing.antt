@@ -17,7 +17,7 @@ pub record SetsOnMember (calls image : ℕ) (old new : Member) : Type 0 where
   pub fused : (fuse : Option Fuse) → IsFused old.fuse (records_of old) fuse → IsFused new.fuse (records_of new) (new_fuse calls image)
 
 pub record SetsOnFallen (calls image : ℕ) (old new : Fallen) : Type 0 where
-  pub is : (starts : ℕ) (owed met : List Met) (fuse : Option Fuse) → IsFallen old starts owed met fuse → IsFallen new starts owed met (new_fuse calls image)
+  pub is : (c : Cluster) (me starts : ℕ) (owed met : List Met) (fuse : Option Fuse) → IsFallen c me old starts owed met fuse → IsFallen c me new starts owed met (new_fuse calls image)
 
 abbrev pub SetsFuse : ℕ → ℕ → Place → Place → Type 0
 SetsFuse calls image (Up old) (Up new) = SetsOnMember calls image old new

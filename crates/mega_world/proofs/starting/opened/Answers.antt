@@ -1,7 +1,5 @@
-use Rattle.std.proofs.Common.{List, subst, sym, ℕ}
-use Rattle.mega_voter.specs.Holding.{HoldsMet}
+use Rattle.mega_world.specs.Kept.{AreReady, IsReady, records_below}
 use Rattle.mega_world.proofs.starting.opened.Goals as goal
 
-pub returns-in-Ok-clause-recalls : goal.returns-in-Ok-clause-recalls
-returns-in-Ok-clause-recalls c starts met holds =
-    c.in-Ok.ensures.recalls starts met (subst (λ (items : List (List ℕ)). HoldsMet items starts met) (sym c.in_ok-reopen.ensures.opened) holds)
+pub returns-in-InMemory-clause-stands : goal.returns-in-InMemory-clause-stands
+returns-in-InMemory-clause-stands c k me starts met holds ready = rw c.in-InMemory.is at ready
