@@ -35,7 +35,11 @@ impl<R: Records, V: Versions> Down<R, V> {
     /// Sets a fuse on the device below the node's log.
     pub fn fuse(&mut self, calls: u64, image: u8)
         ensures state { (c : ClusterValue) (me starts : ℕ) (met owed : List Met) → MayStart R.Records V.version c me self.old starts met owed → MayStart R.Records V.version c me self.new starts met owed }
+        ensures kept { self.new.voter.logs.kept ≡ self.old.voter.logs.kept }
         ensures staged { self.new.voter.logs.staged.items ≡ self.old.voter.logs.staged.items }
+        ensures rows { self.new.rows ≡ self.old.rows }
+        ensures list { R.list self.new.voter.logs.records ≡ R.list self.old.voter.logs.records }
+        ensures spent { R.is_spent self.new.voter.logs.records ≡ R.is_spent self.old.voter.logs.records }
         ensures fuse { R.fuse_left self.new.voter.logs.records ≡ set_to calls (R.fuse_left self.old.voter.logs.records) }
         ensures image { R.by_four ≡ true → R.fuse_image self.new.voter.logs.records ≡ image }
     {

@@ -72,7 +72,10 @@ fn opened(
 {
     match remains {
         Remains::InMemory(down) => Ok(down),
-        Remains::OnDisk(records) => anew(alloc, records),
+        Remains::OnDisk(records) => match anew(alloc, records) {
+            Ok(down) => Ok(down),
+            Err(refused) => Err(refused),
+        },
     }
 }
 
