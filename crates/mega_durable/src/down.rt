@@ -46,13 +46,3 @@ impl<R: Records, V: Versions> Down<R, V> {
         self.voter.fuse(calls, image);
     }
 }
-
-impl<R: Records + Drop, V: Versions + Drop> Down<R, V> {
-    /// The records below the logs. What was kept in memory is gone, and they are to be opened anew.
-    pub fn close(self) -> R
-        ensures { result ≡ self.voter.logs.records }
-    {
-        let Down { voter, .. } = self;
-        voter.close().close()
-    }
-}

@@ -161,4 +161,12 @@ impl<R: Records + Drop, V: Versions + Drop> Up<R, V> {
         let Replica { voter, rows, .. } = replica;
         Down { voter, rows }
     }
+
+    /// The records of a node whose step was cut off. What it kept in memory is gone, and the next start opens them anew.
+    pub fn close(self) -> R
+        ensures { result ≡ records_in self.node }
+    {
+        let Up { node } = self;
+        into_records(node)
+    }
 }

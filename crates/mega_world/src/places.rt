@@ -113,7 +113,7 @@ fn cut_off(place: Place, cut: Cut) -> Fallen
     match place {
         Place::Up(member) => {
             let Member { up, fuse } = member;
-            let remains = Remains::OnDisk(up.crash().close());
+            let remains = Remains::OnDisk(up.close());
             if keeps_record(fuse) {
                 return Fallen {
                     remains,

@@ -43,10 +43,7 @@ pub enum NotBegun {
 }
 
 /// The node over the logs that these records hold, which are opened anew, and rows that hold nothing.
-fn anew(
-    alloc: Global,
-    records: MemRecords,
-) -> Result<Down<MemRecords, VersionedRows>, NoMemory>
+fn anew(alloc: Global, records: MemRecords) -> Result<Down<MemRecords, VersionedRows>, NoMemory>
     ensures stands { IfOk result (λ down. (c : ClusterValue) (me starts : ℕ) (met : List Met) → HoldsMet records.list.items starts met → IsReady c me down starts met) }
     ensures list { IfOk result (λ down. down.voter.logs.records.list.items ≡ records.list.items) }
     ensures fuse { IfOk result (λ down. fuse_of down.voter.logs.records.fuse ≡ fuse_of records.fuse) }
@@ -61,10 +58,7 @@ fn anew(
 }
 
 /// The node over what is left of it: as it stands in memory, or opened anew.
-fn opened(
-    alloc: Global,
-    remains: Remains,
-) -> Result<Down<MemRecords, VersionedRows>, NoMemory>
+fn opened(alloc: Global, remains: Remains) -> Result<Down<MemRecords, VersionedRows>, NoMemory>
     ensures stands { IfOk result (λ down. (c : ClusterValue) (me starts : ℕ) (met : List Met) → HoldsMet (records_below remains).list.items starts met → AreReady c me remains starts met → IsReady c me down starts met) }
     ensures list { IfOk result (λ down. down.voter.logs.records.list.items ≡ (records_below remains).list.items) }
     ensures fuse { IfOk result (λ down. fuse_of down.voter.logs.records.fuse ≡ fuse_of (records_below remains).fuse) }
