@@ -1,6 +1,7 @@
 //! A read completes: its entries are stored, and its group is made valid where its epoch serves.
 ghost use Rattle.std.specs.Prelude.{◌≡◌, ◌≤◌, IfOk, OnOk, Err, true, false};
 ghost use Rattle.mega_handler.specs.Named.{Meanings};
+ghost use Rattle.mega_meanings.specs.Means.{Means, meant};
 ghost use Rattle.mega_rules.specs.Logs.{log_of};
 ghost use Rattle.mega_node_laws.specs.About.{IsOf};
 ghost use Rattle.mega_leases.specs.declared.leases.Leases.{Leases as LeasesKept};
@@ -25,6 +26,7 @@ use crate::reached::Reached;
 use crate::work::Work;
 use mega_base::{Epoch, GroupId, NoMemory, Position};
 use mega_disk::{Records, Versions};
+use mega_handler::Handlers;
 use mega_leases::Leases;
 use mega_operations::Members;
 use mega_read::Reading;
@@ -139,19 +141,21 @@ pub(crate) fn goes<R: Records, V: Versions>(
     voter: &Voter<R>,
     clock: u64,
     rows: &mut StoredRows<V>,
+    handlers: &mut Handlers,
     work: &mut Work,
     reached: Reached,
 ) -> Result<(), ActFault>
-    ensures state { OnOk result ((me : _) (h : Meanings) (leases : LeasesKept) (now : Now) (again : Now → Open → Now) → V.is_told ≡ true → IsOf reached.kept.request reached.group →
+    ensures state { OnOk result ((me : _) (h : Meanings) (leases : LeasesKept) (now : Now) (again : Now → Open → Now) → V.is_told ≡ true → Means (meant handlers.old.named effect) h → IsOf reached.kept.request reached.group →
         reached.position ≤ applied (log_of now.met reached.group) (now.stored reached.group) → clock ≡ clock_of now.met →
         Stands (setting members.now me h) voter.now.logs.kept leases (V.version rows.old.rows) (progress_at rows.old.progress) now.met now.stored →
         Stands (setting members.now me h) voter.now.logs.kept leases (V.version rows.new.rows) (progress_at rows.new.progress)
         (finishes (setting members.now me h) again now (operation_of reached) reached.group reached.reading reached.position).met
         (finishes (setting members.now me h) again now (operation_of reached) reached.group reached.reading reached.position).stored) }
-    ensures work { OnOk result ((me : _) (h : Meanings) (leases : LeasesKept) (now : Now) (again : Now → Open → Now) → V.is_told ≡ true → IsOf reached.kept.request reached.group →
+    ensures work { OnOk result ((me : _) (h : Meanings) (leases : LeasesKept) (now : Now) (again : Now → Open → Now) → V.is_told ≡ true → Means (meant handlers.old.named effect) h → IsOf reached.kept.request reached.group →
         reached.position ≤ applied (log_of now.met reached.group) (now.stored reached.group) → clock ≡ clock_of now.met →
         Stands (setting members.now me h) voter.now.logs.kept leases (V.version rows.old.rows) (progress_at rows.old.progress) now.met now.stored →
         work.old ≡ work_of now → work.new ≡ work_of (finishes (setting members.now me h) again now (operation_of reached) reached.group reached.reading reached.position)) }
+    ensures handlers { meant handlers.new.named effect ≡ meant handlers.old.named effect }
     ensures fares { Fares V.Versions (failed_by result) rows.old.rows rows.new.rows }
     ensures unbuilt { result ≡ Err Unbuilt → is_built reached.kept.request ≡ false }
 {

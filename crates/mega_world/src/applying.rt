@@ -3,6 +3,7 @@ ghost use Rattle.std.specs.Prelude.{◌≡◌, ℕ, OnOk, Err, Some, None};
 ghost use Rattle.std.specs.Prelude.{All};
 ghost use Rattle.mega_cluster.specs.declared.cluster.Cluster.{Cluster};
 ghost use Rattle.mega_handler.specs.Named.{Meanings};
+ghost use Rattle.mega_meanings.specs.Means.{meant};
 ghost use Rattle.mega_transcript.specs.Lines.{HasLine};
 ghost use Rattle.mega_promises.specs.Runs.{Standing, after_event, by_fuse, refusal};
 ghost use Rattle.mega_world.specs.declared.fault.WorldFault.TheVariants.{Limit, Refused, Unbuilt};
@@ -12,6 +13,7 @@ ghost use Rattle.mega_world.specs.Unbuilt.{IsPastLast, IsUnbuilt};
 
 use crate::fault::WorldFault;
 use crate::world::World;
+use mega_handler::Handlers;
 use mega_schedule::WorldEvent;
 use mega_transcript::Tape;
 use std::alloc::Global;
@@ -22,14 +24,16 @@ impl World {
     pub fn apply(
         &mut self,
         alloc: Global,
+        handlers: &mut Handlers,
         event: WorldEvent,
         tape: &mut Tape,
     ) -> Result<(), WorldFault>
-        requires known { MayCome self.old tape.old.items event }
-        ensures state { OnOk result ((c : Cluster) (h : Meanings) (now : Standing) → IsAt c self.old tape.old.items now → IsSound c h now event →
+        requires known { MayCome (meant handlers.old.named effect) self.old tape.old.items event }
+        ensures state { OnOk result ((c : Cluster) (h : Meanings) (now : Standing) → IsAt c self.old tape.old.items now → IsSound (meant handlers.old.named effect) c h now event →
             IsAt c self.new tape.new.items (after_event c h by_fuse now event)) }
-        ensures lines { OnOk result ((c : Cluster) (h : Meanings) (now : Standing) → IsAt c self.old tape.old.items now → IsSound c h now event →
+        ensures lines { OnOk result ((c : Cluster) (h : Meanings) (now : Standing) → IsAt c self.old tape.old.items now → IsSound (meant handlers.old.named effect) c h now event →
             All HasLine tape.old.items → All HasLine tape.new.items) }
+        ensures handlers { meant handlers.new.named effect ≡ meant handlers.old.named effect }
         ensures happens { OnOk result ((c : Cluster) (now : Standing) → IsAt c self.old tape.old.items now → refusal c now event ≡ None) }
         ensures refused { (why : ℕ) → result ≡ Err (Refused why) → (c : Cluster) (now : Standing) → IsAt c self.old tape.old.items now → refusal c now event ≡ Some why }
         ensures world { (why : ℕ) → result ≡ Err (Refused why) → self.new ≡ self.old }
@@ -38,15 +42,15 @@ impl World {
         ensures limit { result ≡ Err Limit → (c : Cluster) (now : Standing) → IsAt c self.old tape.old.items now → IsPastLast c now event }
     {
         match event {
-            WorldEvent::Deliver { message } => self.deliver(alloc, message, tape),
+            WorldEvent::Deliver { message } => self.deliver(alloc, handlers, message, tape),
             WorldEvent::Begin {
                 node,
                 request,
                 text,
-            } => self.begin(alloc, node, request, text, tape),
+            } => self.begin(alloc, handlers, node, request, text, tape),
             WorldEvent::Drop { message } => self.drop_message(message, tape),
-            WorldEvent::Drain { most } => self.drain(alloc, most, tape),
-            WorldEvent::Tick { node, now } => self.tick(alloc, node, now, tape),
+            WorldEvent::Drain { most } => self.drain(alloc, handlers, most, tape),
+            WorldEvent::Tick { node, now } => self.tick(alloc, handlers, node, now, tape),
             WorldEvent::Crash { node } => self.crash(alloc, node, tape),
             WorldEvent::Start { node } => self.start(alloc, node, tape),
             WorldEvent::Fuse {

@@ -3,6 +3,7 @@ ghost use Rattle.std.specs.Prelude.{◌≡◌, ◌≢◌, ◌≤◌, ℕ, List, 
 ghost use Rattle.std.specs.Prelude.{All};
 ghost use Rattle.mega_cluster.specs.declared.cluster.Cluster.{Cluster};
 ghost use Rattle.mega_handler.specs.Named.{Meanings};
+ghost use Rattle.mega_meanings.specs.Means.{meant};
 ghost use Rattle.mega_schedule.specs.declared.world_event.WorldEvent.TheVariants as event;
 ghost use Rattle.mega_transcript.specs.Lines.{HasLine};
 ghost use Rattle.mega_actions.specs.Built.{is_built};
@@ -18,6 +19,7 @@ use crate::places::{is_node, is_up};
 use crate::stepping::begin_at;
 use crate::world::World;
 use mega_base::{GroupId, NodeId, Text};
+use mega_handler::Handlers;
 use mega_outcome::Request;
 use mega_transcript::{Item, Tape};
 use std::alloc::Global;
@@ -74,16 +76,18 @@ impl World {
     pub(crate) fn begin(
         &mut self,
         alloc: Global,
+        handlers: &mut Handlers,
         node: NodeId,
         request: Request,
         text: Text,
         tape: &mut Tape,
     ) -> Result<(), WorldFault>
-        requires known { MayCome self.old tape.old.items (event.Begin node request text) }
-        ensures state { OnOk result ((c : Cluster) (h : Meanings) (now : Standing) → IsAt c self.old tape.old.items now → IsSound c h now (event.Begin node request text) →
+        requires known { MayCome (meant handlers.old.named effect) self.old tape.old.items (event.Begin node request text) }
+        ensures state { OnOk result ((c : Cluster) (h : Meanings) (now : Standing) → IsAt c self.old tape.old.items now → IsSound (meant handlers.old.named effect) c h now (event.Begin node request text) →
             IsAt c self.new tape.new.items (after_event c h by_fuse now (event.Begin node request text))) }
-        ensures lines { OnOk result ((c : Cluster) (h : Meanings) (now : Standing) → IsAt c self.old tape.old.items now → IsSound c h now (event.Begin node request text) →
+        ensures lines { OnOk result ((c : Cluster) (h : Meanings) (now : Standing) → IsAt c self.old tape.old.items now → IsSound (meant handlers.old.named effect) c h now (event.Begin node request text) →
             All HasLine tape.old.items → All HasLine tape.new.items) }
+        ensures handlers { meant handlers.new.named effect ≡ meant handlers.old.named effect }
         ensures happens { OnOk result ((c : Cluster) (now : Standing) → IsAt c self.old tape.old.items now → refusal c now (event.Begin node request text) ≡ None) }
         ensures refused { (why : ℕ) → result ≡ Err (Refused why) → (c : Cluster) (now : Standing) → IsAt c self.old tape.old.items now → refusal c now (event.Begin node request text) ≡ Some why }
         ensures world { (why : ℕ) → result ≡ Err (Refused why) → self.new ≡ self.old }
@@ -93,7 +97,7 @@ impl World {
     {
         match refusal(self.places.as_slice(), node, &request) {
             Some(why) => Err(WorldFault::Refused { why }),
-            None => self.begins(alloc, node, request, text, tape),
+            None => self.begins(alloc, handlers, node, request, text, tape),
         }
     }
 
@@ -101,6 +105,7 @@ impl World {
     fn begins(
         &mut self,
         alloc: Global,
+        handlers: &mut Handlers,
         node: NodeId,
         request: Request,
         text: Text,
@@ -109,16 +114,17 @@ impl World {
         requires least { 1 ≤ node.0 }
         requires most { node.0 ≤ length self.old.places.items }
         requires up { is_up_at self.old.places.items node.0 ≡ true }
-        requires known { IsDue self.old tape.old.items (event.Begin node request text) }
-        ensures state { OnOk result ((c : Cluster) (h : Meanings) (now : Standing) → IsAt c self.old tape.old.items now → IsSound c h now (event.Begin node request text) →
+        requires known { IsDue (meant handlers.old.named effect) self.old tape.old.items (event.Begin node request text) }
+        ensures state { OnOk result ((c : Cluster) (h : Meanings) (now : Standing) → IsAt c self.old tape.old.items now → IsSound (meant handlers.old.named effect) c h now (event.Begin node request text) →
             IsAt c self.new tape.new.items (after_event c h by_fuse now (event.Begin node request text))) }
-        ensures lines { OnOk result ((c : Cluster) (h : Meanings) (now : Standing) → IsAt c self.old tape.old.items now → IsSound c h now (event.Begin node request text) →
+        ensures lines { OnOk result ((c : Cluster) (h : Meanings) (now : Standing) → IsAt c self.old tape.old.items now → IsSound (meant handlers.old.named effect) c h now (event.Begin node request text) →
             All HasLine tape.old.items → All HasLine tape.new.items) }
+        ensures handlers { meant handlers.new.named effect ≡ meant handlers.old.named effect }
         ensures served { (why : ℕ) → result ≢ Err (Refused why) }
         ensures unbuilt { result ≡ Err Unbuilt → is_built request ≡ false }
         ensures limited { result ≢ Err Limit }
     {
-        let (op, made) = match begin_at(alloc, &mut self.places, node.0, request, &text) {
+        let (op, made) = match begin_at(alloc, handlers, &mut self.places, node.0, request, &text) {
             Ok(begun) => begun,
             Err(fault) => return Err(fault),
         };

@@ -3,6 +3,7 @@ ghost use Rattle.std.specs.Prelude.{◌≡◌, ◌≢◌, ◌≤◌, ℕ, length
 ghost use Rattle.std.specs.Prelude.{All};
 ghost use Rattle.mega_cluster.specs.declared.cluster.Cluster.{Cluster};
 ghost use Rattle.mega_handler.specs.Named.{Meanings};
+ghost use Rattle.mega_meanings.specs.Means.{meant};
 ghost use Rattle.mega_schedule.specs.declared.world_event.WorldEvent.TheVariants as event;
 ghost use Rattle.mega_transcript.specs.Lines.{HasLine};
 ghost use Rattle.mega_transcript.specs.Tape.{is_sent};
@@ -20,6 +21,7 @@ use crate::place::Place;
 use crate::places::is_up;
 use crate::stepping::take_at;
 use crate::world::World;
+use mega_handler::Handlers;
 use mega_transcript::{Item, Tape};
 use mega_wire::Message;
 use std::alloc::Global;
@@ -49,14 +51,16 @@ impl World {
     pub(crate) fn hand(
         &mut self,
         alloc: Global,
+        handlers: &mut Handlers,
         number: u64,
         tape: &mut Tape,
     ) -> Result<(), WorldFault>
-        requires known { IsAllowed self.old tape.old.items number }
-        ensures state { OnOk result ((c : Cluster) (h : Meanings) (now : Standing) → IsAt c self.old tape.old.items now → IsSound c h now (event.Deliver number) →
+        requires known { IsAllowed (meant handlers.old.named effect) self.old tape.old.items number }
+        ensures state { OnOk result ((c : Cluster) (h : Meanings) (now : Standing) → IsAt c self.old tape.old.items now → IsSound (meant handlers.old.named effect) c h now (event.Deliver number) →
             IsAt c self.new tape.new.items (after_event c h by_fuse now (event.Deliver number))) }
-        ensures lines { OnOk result ((c : Cluster) (h : Meanings) (now : Standing) → IsAt c self.old tape.old.items now → IsSound c h now (event.Deliver number) →
+        ensures lines { OnOk result ((c : Cluster) (h : Meanings) (now : Standing) → IsAt c self.old tape.old.items now → IsSound (meant handlers.old.named effect) c h now (event.Deliver number) →
             All HasLine tape.old.items → All HasLine tape.new.items) }
+        ensures handlers { meant handlers.new.named effect ≡ meant handlers.old.named effect }
         ensures served { (why : ℕ) → result ≢ Err (Refused why) }
         ensures built { result ≢ Err Unbuilt }
         ensures limited { result ≢ Err Limit }
@@ -66,7 +70,7 @@ impl World {
             None => return Err(WorldFault::Unbuilt),
         };
         let me = message.to;
-        let made = match take_at(alloc, &mut self.places, message) {
+        let made = match take_at(alloc, handlers, &mut self.places, message) {
             Ok(made) => made,
             Err(fault) => return Err(fault),
         };
@@ -80,14 +84,16 @@ impl World {
     pub(crate) fn deliver(
         &mut self,
         alloc: Global,
+        handlers: &mut Handlers,
         number: u64,
         tape: &mut Tape,
     ) -> Result<(), WorldFault>
-        requires known { MayCome self.old tape.old.items (event.Deliver number) }
-        ensures state { OnOk result ((c : Cluster) (h : Meanings) (now : Standing) → IsAt c self.old tape.old.items now → IsSound c h now (event.Deliver number) →
+        requires known { MayCome (meant handlers.old.named effect) self.old tape.old.items (event.Deliver number) }
+        ensures state { OnOk result ((c : Cluster) (h : Meanings) (now : Standing) → IsAt c self.old tape.old.items now → IsSound (meant handlers.old.named effect) c h now (event.Deliver number) →
             IsAt c self.new tape.new.items (after_event c h by_fuse now (event.Deliver number))) }
-        ensures lines { OnOk result ((c : Cluster) (h : Meanings) (now : Standing) → IsAt c self.old tape.old.items now → IsSound c h now (event.Deliver number) →
+        ensures lines { OnOk result ((c : Cluster) (h : Meanings) (now : Standing) → IsAt c self.old tape.old.items now → IsSound (meant handlers.old.named effect) c h now (event.Deliver number) →
             All HasLine tape.old.items → All HasLine tape.new.items) }
+        ensures handlers { meant handlers.new.named effect ≡ meant handlers.old.named effect }
         ensures happens { OnOk result ((c : Cluster) (now : Standing) → IsAt c self.old tape.old.items now → refusal c now (event.Deliver number) ≡ None) }
         ensures refused { (why : ℕ) → result ≡ Err (Refused why) → (c : Cluster) (now : Standing) → IsAt c self.old tape.old.items now → refusal c now (event.Deliver number) ≡ Some why }
         ensures world { (why : ℕ) → result ≡ Err (Refused why) → self.new ≡ self.old }
@@ -97,7 +103,7 @@ impl World {
     {
         match self.mail.delivery_refusal(self.places.as_slice(), number) {
             Some(why) => Err(WorldFault::Refused { why }),
-            None => self.hand(alloc, number, tape),
+            None => self.hand(alloc, handlers, number, tape),
         }
     }
 }

@@ -3,6 +3,7 @@ ghost use Rattle.std.specs.Prelude.{◌≡◌, ◌≢◌, ℕ, OnOk, Err};
 ghost use Rattle.std.specs.Prelude.{All};
 ghost use Rattle.mega_cluster.specs.declared.cluster.Cluster.{Cluster};
 ghost use Rattle.mega_handler.specs.Named.{Meanings};
+ghost use Rattle.mega_meanings.specs.Means.{meant};
 ghost use Rattle.mega_schedule.specs.declared.world_event.WorldEvent.TheVariants as event;
 ghost use Rattle.mega_transcript.specs.Lines.{HasLine};
 ghost use Rattle.mega_promises.specs.Runs.{Standing, after_event, by_fuse};
@@ -12,6 +13,7 @@ ghost use Rattle.mega_world.specs.Stands.{IsAt, IsDue};
 
 use crate::fault::WorldFault;
 use crate::world::World;
+use mega_handler::Handlers;
 use mega_transcript::{Item, Tape};
 use std::alloc::Global;
 
@@ -20,14 +22,16 @@ impl World {
     pub(crate) fn drain(
         &mut self,
         alloc: Global,
+        handlers: &mut Handlers,
         most: u64,
         tape: &mut Tape,
     ) -> Result<(), WorldFault>
-        requires known { IsDue self.old tape.old.items (event.Drain most) }
-        ensures state { OnOk result ((c : Cluster) (h : Meanings) (now : Standing) → IsAt c self.old tape.old.items now → IsSound c h now (event.Drain most) →
+        requires known { IsDue (meant handlers.old.named effect) self.old tape.old.items (event.Drain most) }
+        ensures state { OnOk result ((c : Cluster) (h : Meanings) (now : Standing) → IsAt c self.old tape.old.items now → IsSound (meant handlers.old.named effect) c h now (event.Drain most) →
             IsAt c self.new tape.new.items (after_event c h by_fuse now (event.Drain most))) }
-        ensures lines { OnOk result ((c : Cluster) (h : Meanings) (now : Standing) → IsAt c self.old tape.old.items now → IsSound c h now (event.Drain most) →
+        ensures lines { OnOk result ((c : Cluster) (h : Meanings) (now : Standing) → IsAt c self.old tape.old.items now → IsSound (meant handlers.old.named effect) c h now (event.Drain most) →
             All HasLine tape.old.items → All HasLine tape.new.items) }
+        ensures handlers { meant handlers.new.named effect ≡ meant handlers.old.named effect }
         ensures served { (why : ℕ) → result ≢ Err (Refused why) }
         ensures built { result ≢ Err Unbuilt }
         ensures limited { result ≢ Err Limit }
@@ -37,7 +41,7 @@ impl World {
                 Some(number) => number,
                 None => return Ok(()),
             };
-            match self.hand(alloc, number, tape) {
+            match self.hand(alloc, handlers, number, tape) {
                 Ok(()) => {}
                 Err(fault) => return Err(fault),
             }

@@ -2,6 +2,7 @@
 ghost use Rattle.std.specs.Prelude.{◌≡◌, ◌≢◌, ◌⊎◌, ◌+◌, ℕ, Err, Option, false};
 ghost use Rattle.mega_actions.specs.Built.{is_built};
 ghost use Rattle.mega_cluster.specs.declared.cluster.Cluster.{Cluster};
+ghost use Rattle.mega_meanings.specs.Means.{meant};
 ghost use Rattle.mega_leases.specs.Taking.{IsByStranger, IsLate};
 ghost use Rattle.mega_rules.specs.Operations.{Node as RuleNode};
 ghost use Rattle.mega_rules.specs.Steps.{Begin, Take, Tick};
@@ -19,6 +20,7 @@ use mega_base::Text;
 use mega_core::Step;
 use mega_disk::MemRecords;
 use mega_durable::{Up, UpFault};
+use mega_handler::Handlers;
 use mega_outcome::Request;
 use mega_rows::VersionedRows;
 use mega_wire::Message;
@@ -44,15 +46,21 @@ fn counted(fuse: Option<LogFuse>, before: u64, now: u64) -> Option<LogFuse>
 
 impl Member {
     /// The node takes a message.
-    pub(crate) fn take(&mut self, alloc: Global, message: &Message) -> Result<Step, NotMade>
-        requires known { IsSome self.old (Take message.now) }
-        ensures made { AtEachNode self.old (Take message.now) (λ c h me ruled fuse. Outcome c h me ruled (Take message.now) fuse self.new result) }
+    pub(crate) fn take(
+        &mut self,
+        alloc: Global,
+        handlers: &mut Handlers,
+        message: &Message,
+    ) -> Result<Step, NotMade>
+        requires known { IsSome (meant handlers.old.named effect) self.old (Take message.now) }
+        ensures made { AtEachNode (meant handlers.old.named effect) self.old (Take message.now) (λ c h me ruled fuse. Outcome c h me ruled (Take message.now) fuse self.new result) }
         ensures unbuilt { result ≡ Err (Fault Unbuilt) → (c : Cluster) (me : ℕ) (ruled : RuleNode) → IsMember c me self.old ruled → IsByStranger message.now.from message.now.body ⊎ IsLate c message.now.body }
+        ensures handlers { meant handlers.new.named effect ≡ meant handlers.old.named effect }
         ensures served { (why : ℕ) → result ≢ Err (Fault (Refused why)) }
         ensures limited { result ≢ Err (Fault Limit) }
     {
         let before = self.up.node.replica.voter.records();
-        match self.up.take(alloc, message) {
+        match self.up.take(alloc, handlers, message) {
             Ok(made) => {
                 self.fuse = counted(self.fuse, before, self.up.node.replica.voter.records());
                 Ok(made)
@@ -67,17 +75,19 @@ impl Member {
     pub(crate) fn begin(
         &mut self,
         alloc: Global,
+        handlers: &mut Handlers,
         request: Request,
         text: &Text,
     ) -> Result<Step, NotMade>
-        requires known { IsSome self.old (Begin request text.now) }
-        ensures made { AtEachNode self.old (Begin request text.now) (λ c h me ruled fuse. Outcome c h me ruled (Begin request text.now) fuse self.new result) }
+        requires known { IsSome (meant handlers.old.named effect) self.old (Begin request text.now) }
+        ensures made { AtEachNode (meant handlers.old.named effect) self.old (Begin request text.now) (λ c h me ruled fuse. Outcome c h me ruled (Begin request text.now) fuse self.new result) }
         ensures unbuilt { result ≡ Err (Fault Unbuilt) → is_built request ≡ false }
+        ensures handlers { meant handlers.new.named effect ≡ meant handlers.old.named effect }
         ensures served { (why : ℕ) → result ≢ Err (Fault (Refused why)) }
         ensures limited { result ≢ Err (Fault Limit) }
     {
         let before = self.up.node.replica.voter.records();
-        match self.up.begin(alloc, request, text) {
+        match self.up.begin(alloc, handlers, request, text) {
             Ok(made) => {
                 self.fuse = counted(self.fuse, before, self.up.node.replica.voter.records());
                 Ok(made)
@@ -89,15 +99,21 @@ impl Member {
     }
 
     /// The clock of the node shows a time.
-    pub(crate) fn tick(&mut self, alloc: Global, clock: u64) -> Result<Step, NotMade>
-        requires known { IsSome self.old (Tick clock) }
-        ensures made { AtEachNode self.old (Tick clock) (λ c h me ruled fuse. Outcome c h me ruled (Tick clock) fuse self.new result) }
+    pub(crate) fn tick(
+        &mut self,
+        alloc: Global,
+        handlers: &mut Handlers,
+        clock: u64,
+    ) -> Result<Step, NotMade>
+        requires known { IsSome (meant handlers.old.named effect) self.old (Tick clock) }
+        ensures made { AtEachNode (meant handlers.old.named effect) self.old (Tick clock) (λ c h me ruled fuse. Outcome c h me ruled (Tick clock) fuse self.new result) }
         ensures built { result ≢ Err (Fault Unbuilt) }
+        ensures handlers { meant handlers.new.named effect ≡ meant handlers.old.named effect }
         ensures served { (why : ℕ) → result ≢ Err (Fault (Refused why)) }
         ensures limited { result ≢ Err (Fault Limit) }
     {
         let before = self.up.node.replica.voter.records();
-        match self.up.tick(alloc, clock) {
+        match self.up.tick(alloc, handlers, clock) {
             Ok(made) => {
                 self.fuse = counted(self.fuse, before, self.up.node.replica.voter.records());
                 Ok(made)

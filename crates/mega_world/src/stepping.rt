@@ -2,6 +2,7 @@
 ghost use Rattle.std.specs.Prelude.{◌≡◌, ◌≢◌, ◌⊎◌, ◌≤◌, ◌-◌, ℕ, List, true, false, length, set, IfOk, Err};
 ghost use Rattle.mega_cluster.specs.declared.cluster.Cluster.{Cluster};
 ghost use Rattle.mega_handler.specs.Named.{Meanings};
+ghost use Rattle.mega_meanings.specs.Means.{meant};
 ghost use Rattle.mega_leases.specs.Taking.{IsByStranger, IsLate};
 ghost use Rattle.mega_actions.specs.Built.{is_built};
 ghost use Rattle.mega_rules.specs.Operations.{Node as RuleNode};
@@ -25,6 +26,7 @@ use crate::place::Place;
 use crate::places::cut_down;
 use mega_base::{NodeId, OpId, Text};
 use mega_core::Step;
+use mega_handler::Handlers;
 use mega_outcome::Request;
 use mega_wire::Message;
 use std::alloc::Global;
@@ -64,21 +66,23 @@ fn settled(
 /// The node to which a message goes, which is up, takes it.
 pub(crate) fn take_at(
     alloc: Global,
+    handlers: &mut Handlers,
     places: &mut Vec<Place>,
     message: &Message,
 ) -> Result<Stepped, WorldFault>
     requires least { 1 ≤ message.now.to }
     requires most { message.now.to ≤ length places.old.items }
     requires up { is_up_at places.old.items message.now.to ≡ true }
-    requires known { IsRunning places.old.items message.now.to (Take message.now) }
-    ensures made { IfOk result (λ one. AtEachRun places.old.items message.now.to (Take message.now) (λ c h now. Comes c h now message.now.to (Take message.now) places.new.items one)) }
+    requires known { IsRunning (meant handlers.old.named effect) places.old.items message.now.to (Take message.now) }
+    ensures made { IfOk result (λ one. AtEachRun (meant handlers.old.named effect) places.old.items message.now.to (Take message.now) (λ c h now. Comes c h now message.now.to (Take message.now) places.new.items one)) }
     ensures unbuilt { result ≡ Err Unbuilt → (c : Cluster) (now : Standing) → AreNodes c places.old.items now → IsByStranger message.now.from message.now.body ⊎ IsLate c message.now.body }
+    ensures handlers { meant handlers.new.named effect ≡ meant handlers.old.named effect }
     ensures served { (why : ℕ) → result ≢ Err (Refused why) }
     ensures limited { result ≢ Err Limit }
 {
     match &mut places[usize::from(message.to) - 1] {
         Place::Up(member) => {
-            let made = member.take(alloc, message);
+            let made = member.take(alloc, handlers, message);
             match settled(alloc, places, message.to, made) {
                 Ok(one) => Ok(one),
                 Err(fault) => Err(fault),
@@ -103,6 +107,7 @@ fn op_of(member: &Member) -> OpId
 /// An operation begins at a node that is up, under this id.
 pub(crate) fn begin_at(
     alloc: Global,
+    handlers: &mut Handlers,
     places: &mut Vec<Place>,
     me: u8,
     request: Request,
@@ -111,17 +116,18 @@ pub(crate) fn begin_at(
     requires least { 1 ≤ me }
     requires most { me ≤ length places.old.items }
     requires up { is_up_at places.old.items me ≡ true }
-    requires known { IsRunning places.old.items me (Begin request text.now) }
+    requires known { IsRunning (meant handlers.old.named effect) places.old.items me (Begin request text.now) }
     ensures id { IfOk result (λ begun. (c : Cluster) (h : Meanings) (now : Standing) → AreNodes c places.old.items now → begun.0 ≡ op_of (setting c h me) (now.node me).met) }
-    ensures made { IfOk result (λ begun. AtEachRun places.old.items me (Begin request text.now) (λ c h now. Comes c h now me (Begin request text.now) places.new.items begun.1)) }
+    ensures made { IfOk result (λ begun. AtEachRun (meant handlers.old.named effect) places.old.items me (Begin request text.now) (λ c h now. Comes c h now me (Begin request text.now) places.new.items begun.1)) }
     ensures unbuilt { result ≡ Err Unbuilt → is_built request ≡ false }
+    ensures handlers { meant handlers.new.named effect ≡ meant handlers.old.named effect }
     ensures served { (why : ℕ) → result ≢ Err (Refused why) }
     ensures limited { result ≢ Err Limit }
 {
     match &mut places[usize::from(me) - 1] {
         Place::Up(member) => {
             let op = op_of(member);
-            let made = member.begin(alloc, request, text);
+            let made = member.begin(alloc, handlers, request, text);
             match settled(alloc, places, me, made) {
                 Ok(one) => Ok((op, one)),
                 Err(fault) => Err(fault),
@@ -134,6 +140,7 @@ pub(crate) fn begin_at(
 /// The clock of a node that is up shows a time.
 pub(crate) fn tick_at(
     alloc: Global,
+    handlers: &mut Handlers,
     places: &mut Vec<Place>,
     me: u8,
     clock: u64,
@@ -141,15 +148,16 @@ pub(crate) fn tick_at(
     requires least { 1 ≤ me }
     requires most { me ≤ length places.old.items }
     requires up { is_up_at places.old.items me ≡ true }
-    requires known { IsRunning places.old.items me (Tick clock) }
-    ensures made { IfOk result (λ one. AtEachRun places.old.items me (Tick clock) (λ c h now. Comes c h now me (Tick clock) places.new.items one)) }
+    requires known { IsRunning (meant handlers.old.named effect) places.old.items me (Tick clock) }
+    ensures made { IfOk result (λ one. AtEachRun (meant handlers.old.named effect) places.old.items me (Tick clock) (λ c h now. Comes c h now me (Tick clock) places.new.items one)) }
     ensures built { result ≢ Err Unbuilt }
+    ensures handlers { meant handlers.new.named effect ≡ meant handlers.old.named effect }
     ensures served { (why : ℕ) → result ≢ Err (Refused why) }
     ensures limited { result ≢ Err Limit }
 {
     match &mut places[usize::from(me) - 1] {
         Place::Up(member) => {
-            let made = member.tick(alloc, clock);
+            let made = member.tick(alloc, handlers, clock);
             match settled(alloc, places, me, made) {
                 Ok(one) => Ok(one),
                 Err(fault) => Err(fault),

@@ -3,6 +3,7 @@ ghost use Rattle.std.specs.Prelude.{◌≡◌, ◌≢◌, ◌≤◌, ℕ, length
 ghost use Rattle.std.specs.Prelude.{All};
 ghost use Rattle.mega_cluster.specs.declared.cluster.Cluster.{Cluster};
 ghost use Rattle.mega_handler.specs.Named.{Meanings};
+ghost use Rattle.mega_meanings.specs.Means.{meant};
 ghost use Rattle.mega_schedule.specs.declared.world_event.WorldEvent.TheVariants as event;
 ghost use Rattle.mega_transcript.specs.Lines.{HasLine};
 ghost use Rattle.mega_rules.specs.Clock.{clock_of};
@@ -19,6 +20,7 @@ use crate::places::{is_node, is_up, member_of};
 use crate::stepping::tick_at;
 use crate::world::World;
 use mega_base::NodeId;
+use mega_handler::Handlers;
 use mega_transcript::{Item, Tape};
 use std::alloc::Global;
 
@@ -56,15 +58,17 @@ impl World {
     pub(crate) fn tick(
         &mut self,
         alloc: Global,
+        handlers: &mut Handlers,
         node: NodeId,
         clock: u64,
         tape: &mut Tape,
     ) -> Result<(), WorldFault>
-        requires known { MayCome self.old tape.old.items (event.Tick node clock) }
-        ensures state { OnOk result ((c : Cluster) (h : Meanings) (now : Standing) → IsAt c self.old tape.old.items now → IsSound c h now (event.Tick node clock) →
+        requires known { MayCome (meant handlers.old.named effect) self.old tape.old.items (event.Tick node clock) }
+        ensures state { OnOk result ((c : Cluster) (h : Meanings) (now : Standing) → IsAt c self.old tape.old.items now → IsSound (meant handlers.old.named effect) c h now (event.Tick node clock) →
             IsAt c self.new tape.new.items (after_event c h by_fuse now (event.Tick node clock))) }
-        ensures lines { OnOk result ((c : Cluster) (h : Meanings) (now : Standing) → IsAt c self.old tape.old.items now → IsSound c h now (event.Tick node clock) →
+        ensures lines { OnOk result ((c : Cluster) (h : Meanings) (now : Standing) → IsAt c self.old tape.old.items now → IsSound (meant handlers.old.named effect) c h now (event.Tick node clock) →
             All HasLine tape.old.items → All HasLine tape.new.items) }
+        ensures handlers { meant handlers.new.named effect ≡ meant handlers.old.named effect }
         ensures happens { OnOk result ((c : Cluster) (now : Standing) → IsAt c self.old tape.old.items now → refusal c now (event.Tick node clock) ≡ None) }
         ensures refused { (why : ℕ) → result ≡ Err (Refused why) → (c : Cluster) (now : Standing) → IsAt c self.old tape.old.items now → refusal c now (event.Tick node clock) ≡ Some why }
         ensures world { (why : ℕ) → result ≡ Err (Refused why) → self.new ≡ self.old }
@@ -74,7 +78,7 @@ impl World {
     {
         match refusal(self.places.as_slice(), node, clock) {
             Some(why) => Err(WorldFault::Refused { why }),
-            None => self.ticks(alloc, node, clock, tape),
+            None => self.ticks(alloc, handlers, node, clock, tape),
         }
     }
 
@@ -82,6 +86,7 @@ impl World {
     fn ticks(
         &mut self,
         alloc: Global,
+        handlers: &mut Handlers,
         node: NodeId,
         clock: u64,
         tape: &mut Tape,
@@ -89,16 +94,17 @@ impl World {
         requires least { 1 ≤ node.0 }
         requires most { node.0 ≤ length self.old.places.items }
         requires up { is_up_at self.old.places.items node.0 ≡ true }
-        requires known { IsDue self.old tape.old.items (event.Tick node clock) }
-        ensures state { OnOk result ((c : Cluster) (h : Meanings) (now : Standing) → IsAt c self.old tape.old.items now → IsSound c h now (event.Tick node clock) →
+        requires known { IsDue (meant handlers.old.named effect) self.old tape.old.items (event.Tick node clock) }
+        ensures state { OnOk result ((c : Cluster) (h : Meanings) (now : Standing) → IsAt c self.old tape.old.items now → IsSound (meant handlers.old.named effect) c h now (event.Tick node clock) →
             IsAt c self.new tape.new.items (after_event c h by_fuse now (event.Tick node clock))) }
-        ensures lines { OnOk result ((c : Cluster) (h : Meanings) (now : Standing) → IsAt c self.old tape.old.items now → IsSound c h now (event.Tick node clock) →
+        ensures lines { OnOk result ((c : Cluster) (h : Meanings) (now : Standing) → IsAt c self.old tape.old.items now → IsSound (meant handlers.old.named effect) c h now (event.Tick node clock) →
             All HasLine tape.old.items → All HasLine tape.new.items) }
+        ensures handlers { meant handlers.new.named effect ≡ meant handlers.old.named effect }
         ensures served { (why : ℕ) → result ≢ Err (Refused why) }
         ensures built { result ≢ Err Unbuilt }
         ensures limited { result ≢ Err Limit }
     {
-        let made = match tick_at(alloc, &mut self.places, node.0, clock) {
+        let made = match tick_at(alloc, handlers, &mut self.places, node.0, clock) {
             Ok(made) => made,
             Err(fault) => return Err(fault),
         };
