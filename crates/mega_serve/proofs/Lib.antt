@@ -1,0 +1,5 @@
+pub mod Words
+pub mod Gathering
+pub mod Going
+pub mod Turning
+pub mod Joining

@@ -1,0 +1,6 @@
+pub mod Lines
+pub mod Wishes
+pub mod Replies
+pub mod Stepping
+pub mod Pages
+pub mod Turns
