@@ -8,3 +8,4 @@ pub mod Obeying
 pub mod Pressing
 pub mod Reached
 pub mod Epochs
+pub mod Polls
