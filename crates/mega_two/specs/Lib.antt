@@ -1,0 +1,4 @@
+pub mod Parts
+pub mod World
+pub mod Driver
+pub mod Atomic

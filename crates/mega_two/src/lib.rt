@@ -1,0 +1,4 @@
+//! Changes of several groups in two phases: the laws of any number of drivers.
+#![tactic(auto)]
+
+pub mod laws;
