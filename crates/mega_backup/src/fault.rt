@@ -17,6 +17,7 @@ pub enum BackupFault {
 }
 
 impl From<NoMemory> for BackupFault {
+    ghost use Rattle.std.specs.Prelude.{◌≡◌};
     ghost use Rattle.mega_backup.specs.declared.fault.BackupFault.TheVariants.{NoMemory as OutOfMemory};
 
     ghost from_gives = { λ _ fault. fault ≡ OutOfMemory };

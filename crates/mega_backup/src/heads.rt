@@ -1,6 +1,7 @@
 //! Reads the head of a backup: its group, and how many entries follow.
-ghost use Rattle.std.specs.Prelude.{◌≡◌, IfOk, Some, option_copied, position};
-ghost use Rattle.mega_backup.specs.Lines.{group_in, head_at, head_in, head_of};
+ghost use Rattle.std.specs.Prelude.{◌≡◌, ◌==◌, IfOk, position};
+ghost use Rattle.mega_backup.specs.Lines.{group_in, head_in, head_of};
+ghost use Rattle.mega_backup.specs.Words.{number_in};
 
 use crate::words::{behind, hex_in, number_in};
 use mega_base::{GroupId, NoMemory};

@@ -1,7 +1,7 @@
 -- What a history keeps of one change, whatever was run.
-use Rattle.std.proofs.Common.{◌≡◌, ◌⊎◌, ℕ, Bool, true, false, List, Option, Some}
+use Rattle.std.proofs.Common.{◌≡◌, ◌⊎◌, Bool, true, false, List, Option, Some}
 use Rattle.mega_two.specs.Parts.{Part}
-use Rattle.mega_two.specs.World.{Text, State, Undecided, Made, Plan, state_of, World, Request, Planning, Preparing, Deciding, Finishing, LookingAtPlan, LookingAtLock, Done, PlanIs, Event, Gave}
+use Rattle.mega_two.specs.World.{Text, Undecided, Made, Plan, state_of, World, Request, Planning, Preparing, Deciding, Finishing, LookingAtPlan, LookingAtLock, Done, PlanIs, Event, Gave}
 use Rattle.mega_two.specs.Driver.{AreApart}
 use Rattle.mega_two.specs.Atomic.{In, count, decides, writes}
 

@@ -1,13 +1,10 @@
 -- What drivers stand on, and what every history keeps of every change.
-use Rattle.std.proofs.Common.{◌≡◌, ◌⊎◌, inl, inr, ℕ, ◌+◌, ◌≤◌, ◌&&◌, cond, Bool, true, false, List, [], ◌∷◌, is_none, refl, sym, ap, ◌∙◌, subst, arith, Option, Some, None}
-use Rattle.mega_two.specs.Parts.{Part, Rows}
-use Rattle.mega_two.specs.World.{Text, same, State, Undecided, Made, Dropped, Plan, state_of, is_undecided, World, no_world, with_plan, with_lock, with_done, with_rows, at, planned, prepared, is_free, decided, decided_if, rows_behind, finished, finished_with, run, world, Request, Planning, Preparing, Deciding, Finishing, LookingAtPlan, LookingAtLock, Reply, Done, Turned, PlanIs, LockIs, Again, Lost, Refused, Event, Runs, Writes, Gave, reply}
-use Rattle.mega_two.specs.Driver.{Ending, Committed, Aborted, Used, Open, ending_of, Phase, Begins, Prepares, Decides, Looks, Finishes, Checks, Recovers, Ended, Driver, asked, asks, preparing, finishing, by_state, by_plan, by_lock, moved, parts_read, next, AreApart, IsNew, is_free_reply, Told, Reached, begins, recovers, goes_on, IsHistory}
-use Rattle.mega_two.specs.Atomic.{In, StandsAs, EndsTruly}
-use Rattle.mega_two.proofs.Names.{both_true, same_is, same_self, not_same, at_self, at_same, at_other}
-use Rattle.mega_two.proofs.Facts.{GoesOn, Finished, Decided, PartOf, Facts, name_of, Ready}
-use Rattle.mega_two.proofs.Other.{Alike, alike_facts}
-use Rattle.mega_two.proofs.Own.{no_more, planning_facts, preparing_facts, deciding_facts, finishing_facts}
+use Rattle.std.proofs.Common.{◌≡◌, ◌⊎◌, inl, inr, cond, Bool, true, false, List, [], ◌∷◌, refl, sym, ap, ◌∙◌, subst, Option, Some, None}
+use Rattle.mega_two.specs.Parts.{Part}
+use Rattle.mega_two.specs.World.{Text, same, State, Undecided, Made, Dropped, Plan, state_of, World, world, Request, Planning, Preparing, Deciding, Finishing, LookingAtPlan, LookingAtLock, Reply, Done, Turned, PlanIs, LockIs, Again, Lost, Refused, Event, Gave}
+use Rattle.mega_two.specs.Driver.{Ending, Committed, Aborted, Used, Open, ending_of, Phase, Begins, Prepares, Decides, Looks, Finishes, Checks, Recovers, Ended, Driver, asked, preparing, finishing, by_state, by_lock, moved, parts_read, AreApart, is_free_reply, Told, Reached, begins, recovers, goes_on}
+use Rattle.mega_two.specs.Atomic.{In, EndsTruly}
+use Rattle.mega_two.proofs.Facts.{GoesOn, Decided, Facts, Ready}
 
 -- ---- what a driver stands on
 

@@ -1,12 +1,12 @@
 -- Every request that is run where it was asked keeps the facts of every change.
-use Rattle.std.proofs.Common.{◌≡◌, ◌⊎◌, inl, inr, ℕ, ◌+◌, ◌&&◌, cond, Bool, true, false, List, [], ◌∷◌, is_none, refl, sym, ap, ◌∙◌, subst, arith, Option, Some, None}
+use Rattle.std.proofs.Common.{◌≡◌, inl, inr, ℕ, ◌+◌, ◌&&◌, cond, Bool, true, false, List, ◌∷◌, is_none, refl, sym, ap, ◌∙◌, subst, arith, Option, Some, None}
 use Rattle.mega_two.specs.Parts.{Part, Rows}
-use Rattle.mega_two.specs.World.{Text, same, Plan, state_of, is_undecided, new_plan, decided_as, World, with_plan, with_lock, with_done, at, planned, prepared, is_free, decided, decided_if, rows_behind, finished, finished_with, run, world, Request, Planning, Preparing, Deciding, Finishing, LookingAtPlan, LookingAtLock, Reply, Done, Turned, PlanIs, LockIs, Event, Runs, Gave, reply}
+use Rattle.mega_two.specs.World.{Text, same, Plan, is_undecided, new_plan, decided_as, World, with_plan, with_lock, with_done, at, planned, prepared, is_free, decided, decided_if, rows_behind, finished, finished_with, run, world, Request, Planning, Preparing, Deciding, Finishing, LookingAtPlan, LookingAtLock, Reply, Done, Turned, PlanIs, LockIs, Event, Runs, Gave, reply}
 use Rattle.mega_two.specs.Atomic.{In, is_done, count, decides, writes}
 use Rattle.mega_two.specs.Driver.{AreApart}
-use Rattle.mega_two.proofs.Names.{both_true, same_is, not_same, at_self, at_same, at_other}
-use Rattle.mega_two.proofs.Facts.{GoesOn, Facts, name_of, Ready}
-use Rattle.mega_two.proofs.Other.{Alike, alike_facts}
+use Rattle.mega_two.proofs.Names.{both_true, same_is, not_same, at_same, at_other}
+use Rattle.mega_two.proofs.Facts.{Facts, name_of, Ready}
+use Rattle.mega_two.proofs.Other.{alike_facts}
 use Rattle.mega_two.proofs.Own.{no_more, planning_facts, preparing_facts, deciding_facts, finishing_facts}
 
 some_same : {A : Type 0} (x y : A) → Some x ≡ Some y → x ≡ y

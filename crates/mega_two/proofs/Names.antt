@@ -1,5 +1,5 @@
 -- Texts that are the same are equal, and what stands at one of them.
-use Rattle.std.proofs.Common.{◌≡◌, ℕ, ◌==◌, ◌&&◌, cond, Bool, true, false, List, [], ◌∷◌, refl, sym, ap, ◌∙◌, subst, arith}
+use Rattle.std.proofs.Common.{◌≡◌, ℕ, ◌==◌, ◌&&◌, cond, Bool, true, false, [], ◌∷◌, refl, ap, ◌∙◌, subst, arith}
 use Rattle.std.proofs.lemmas.Bool.Decides.{nat_tests}
 use Rattle.mega_two.specs.World.{Text, same, at}
 
@@ -29,7 +29,7 @@ same_self [] = refl
 same_self (x ∷ xs) = ap (λ b. b && same xs xs) (number_self x) ∙ same_self xs
 
 pub not_same : (a b : Text) → same a b ≡ false → a ≡ b → ⊥
-not_same a b apart e = let no : same a b ≡ true = subst (λ c. same a c ≡ true) e (same_self a) in cc
+not_same a b apart e = let yes : same a b ≡ true = subst (λ c. same a c ≡ true) e (same_self a) in cc
 
 pub at_self : {A : Type 0} (key : Text) (value : A) (old : Text → A) → at key value old key ≡ value
 at_self key value old = ap (λ b. cond b value (old key)) (same_self key)

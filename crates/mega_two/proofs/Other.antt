@@ -1,5 +1,5 @@
 -- An event that does nothing to a change keeps its facts.
-use Rattle.std.proofs.Common.{◌≡◌, ◌⊎◌, inl, inr, ℕ, Bool, true, false, List, refl, sym, ap, ◌∙◌, Some}
+use Rattle.std.proofs.Common.{◌≡◌, ◌⊎◌, inl, inr, Bool, true, List, refl, sym, ◌∙◌, Some}
 use Rattle.mega_two.specs.Parts.{Part}
 use Rattle.mega_two.specs.World.{Text, Plan, World, Request, Planning, Preparing, Deciding, Finishing, LookingAtPlan, Done, PlanIs, Event, Gave}
 use Rattle.mega_two.specs.Atomic.{count, decides, writes}

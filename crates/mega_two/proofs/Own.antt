@@ -1,5 +1,5 @@
 -- What each request that is done does to the facts of its own change.
-use Rattle.std.proofs.Common.{◌≡◌, ◌⊎◌, inl, inr, ℕ, ◌+◌, ◌&&◌, cond, Bool, true, false, List, [], ◌∷◌, refl, sym, ap, ◌∙◌, subst, arith, Option, Some, None}
+use Rattle.std.proofs.Common.{◌≡◌, ◌⊎◌, inl, inr, ℕ, ◌+◌, ◌&&◌, cond, Bool, true, false, List, ◌∷◌, refl, sym, ap, ◌∙◌, subst, arith, Option, Some, None}
 use Rattle.mega_two.specs.Parts.{Part, Rows}
 use Rattle.mega_two.specs.World.{Text, same, State, Undecided, Made, Dropped, Plan, state_of, is_undecided, new_plan, decided_as, World, with_plan, with_lock, with_done, at, Request, Planning, Preparing, Deciding, Finishing, LookingAtPlan, Reply, Done, PlanIs, Event, Runs, Gave, reply}
 use Rattle.mega_two.specs.Driver.{AreApart}
@@ -34,8 +34,8 @@ no_more test before request is = ap (λ b. (cond (b && is_done (reply before req
 
 -- a reply that the newest run did not give
 past : (before : List Event) (newest request : Request) (told : Reply) → ((newest ≡ request) × (reply before newest ≡ told)) ⊎ Gave before request told → (newest ≡ request → ⊥) → Gave before request told
-past before newest request told (inl this) no = absurd (no this.0)
-past before newest request told (inr was) no = was
+past before newest request told (inl this) other = absurd (other this.0)
+past before newest request told (inr was) other = was
 
 -- ---- a plan is new
 module _ (w : World) (before : List Event) (me : Text) (f : Facts w before me) (parts : List Part) (none : w.plans me ≡ None) (ready : AreApart parts) where
@@ -58,12 +58,12 @@ module _ (w : World) (before : List Event) (me : Text) (f : Facts w before me) (
 
   once_plan : (count (decides me) before ≡ 0) ⊎ ((count (decides me) before ≡ 1) × ((made : Bool) × Decided (w.plans me) made))
       → (count (decides me) (Runs (Planning me parts) ∷ before) ≡ 0) ⊎ ((count (decides me) (Runs (Planning me parts) ∷ before) ≡ 1) × ((made : Bool) × Decided (at me (Some (new_plan parts)) w.plans me) made))
-  once_plan (inl no) = inl (no_more (decides me) before (Planning me parts) refl ∙ no)
+  once_plan (inl nought) = inl (no_more (decides me) before (Planning me parts) refl ∙ nought)
   once_plan (inr one) = absurd (none_some (w.plans me) (one.1.1).plan none (one.1.1).stands)
 
   written_plan : (group : Text) → (count (writes me group) before ≡ 0) ⊎ ((count (writes me group) before ≡ 1) × (w.dones group me ≡ Some true))
       → (count (writes me group) (Runs (Planning me parts) ∷ before) ≡ 0) ⊎ ((count (writes me group) (Runs (Planning me parts) ∷ before) ≡ 1) × (w.dones group me ≡ Some true))
-  written_plan group (inl no) = inl (no_more (writes me group) before (Planning me parts) refl ∙ no)
+  written_plan group (inl nought) = inl (no_more (writes me group) before (Planning me parts) refl ∙ nought)
   written_plan group (inr one) = inr (no_more (writes me group) before (Planning me parts) refl ∙ one.0, one.1)
 
   pub planning_facts : Facts (with_plan w me (new_plan parts)) (Runs (Planning me parts) ∷ before) me
@@ -111,12 +111,12 @@ module _ (w : World) (before : List Event) (me : Text) (f : Facts w before me) (
 
   once_then : (count (decides me) before ≡ 0) ⊎ ((count (decides me) before ≡ 1) × ((made : Bool) × Decided (w.plans me) made))
       → (count (decides me) (Runs (Preparing me part) ∷ before) ≡ 0) ⊎ ((count (decides me) (Runs (Preparing me part) ∷ before) ≡ 1) × ((made : Bool) × Decided (w.plans me) made))
-  once_then (inl no) = inl (no_more (decides me) before (Preparing me part) refl ∙ no)
+  once_then (inl nought) = inl (no_more (decides me) before (Preparing me part) refl ∙ nought)
   once_then (inr one) = inr (no_more (decides me) before (Preparing me part) refl ∙ one.0, one.1)
 
   written_then : (group : Text) → (count (writes me group) before ≡ 0) ⊎ ((count (writes me group) before ≡ 1) × (w.dones group me ≡ Some true))
       → (count (writes me group) (Runs (Preparing me part) ∷ before) ≡ 0) ⊎ ((count (writes me group) (Runs (Preparing me part) ∷ before) ≡ 1) × (w.dones group me ≡ Some true))
-  written_then group (inl no) = inl (no_more (writes me group) before (Preparing me part) refl ∙ no)
+  written_then group (inl nought) = inl (no_more (writes me group) before (Preparing me part) refl ∙ nought)
   written_then group (inr one) = inr (no_more (writes me group) before (Preparing me part) refl ∙ one.0, one.1)
 
   pub preparing_facts : Facts (with_lock w part.group me) (Runs (Preparing me part) ∷ before) me
@@ -190,12 +190,12 @@ module _ (w : World) (before : List Event) (me : Text) (f : Facts w before me) (
 
   once_new : (count (decides me) before ≡ 0) ⊎ ((count (decides me) before ≡ 1) × ((m : Bool) × Decided (w.plans me) m))
       → (count (decides me) (Runs (Deciding me made) ∷ before) ≡ 0) ⊎ ((count (decides me) (Runs (Deciding me made) ∷ before) ≡ 1) × ((m : Bool) × Decided plan_then m))
-  once_new (inl no) = inr (more (decides me) before (Deciding me made) (same_self me) done ∙ ap (λ n. 1 + n) no, (made, record { plan = new; stands = new_stands; state = refl }))
+  once_new (inl nought) = inr (more (decides me) before (Deciding me made) (same_self me) done ∙ ap (λ n. 1 + n) nought, (made, record { plan = new; stands = new_stands; state = refl }))
   once_new (inr one) = absurd (none_decided one.1.0 one.1.1)
 
   written_new : (group : Text) → (count (writes me group) before ≡ 0) ⊎ ((count (writes me group) before ≡ 1) × (w.dones group me ≡ Some true))
       → (count (writes me group) (Runs (Deciding me made) ∷ before) ≡ 0) ⊎ ((count (writes me group) (Runs (Deciding me made) ∷ before) ≡ 1) × (w.dones group me ≡ Some true))
-  written_new group (inl no) = inl (no_more (writes me group) before (Deciding me made) refl ∙ no)
+  written_new group (inl nought) = inl (no_more (writes me group) before (Deciding me made) refl ∙ nought)
   written_new group (inr one) = absurd (none_done group true one.1)
 
   pub deciding_facts : Facts (with_plan w me (decided_as made p)) (Runs (Deciding me made) ∷ before) me
@@ -279,13 +279,13 @@ module _ (w : World) (before : List Event) (me : Text) (f : Facts w before me) (
 
   written_now : (group : Text) (m : Bool) → made ≡ m → (b : Bool) → same part.group group ≡ b → (count (writes me group) before ≡ 0) ⊎ ((count (writes me group) before ≡ 1) × (w.dones group me ≡ Some true))
       → (count (writes me group) (Runs finish ∷ before) ≡ 0) ⊎ ((count (writes me group) (Runs finish ∷ before) ≡ 1) × (dones_now group me ≡ Some true))
-  written_now group true e true is (inl no) = inr (
-      more (writes me group) before finish (λ i. e i && (same_self me i && is i)) done ∙ ap (λ n. 1 + n) no,
-      done_here group is ∙ ap Some e,
-    )
-  written_now group true e false is (inl no) = inl (no_more (writes me group) before finish (elsewhere group is) ∙ no)
-  written_now group false e true is (inl no) = inl (no_more (writes me group) before finish (ap (λ x. x && (same me me && same part.group group)) e) ∙ no)
-  written_now group false e false is (inl no) = inl (no_more (writes me group) before finish (elsewhere group is) ∙ no)
+  written_now group true e true is (inl nought) = inr (
+    more (writes me group) before finish (λ i. e i && (same_self me i && is i)) done ∙ ap (λ n. 1 + n) nought,
+    done_here group is ∙ ap Some e,
+  )
+  written_now group true e false is (inl nought) = inl (no_more (writes me group) before finish (elsewhere group is) ∙ nought)
+  written_now group false e true is (inl nought) = inl (no_more (writes me group) before finish (ap (λ x. x && (same me me && same part.group group)) e) ∙ nought)
+  written_now group false e false is (inl nought) = inl (no_more (writes me group) before finish (elsewhere group is) ∙ nought)
   written_now group true e true is (inr one) = absurd (none_here group true is one.1)
   written_now group false e true is (inr one) = absurd (none_here group true is one.1)
   written_now group true e false is (inr one) = inr (no_more (writes me group) before finish (elsewhere group is) ∙ one.0, done_there group is ∙ one.1)
@@ -293,7 +293,7 @@ module _ (w : World) (before : List Event) (me : Text) (f : Facts w before me) (
 
   once_now : (count (decides me) before ≡ 0) ⊎ ((count (decides me) before ≡ 1) × ((m : Bool) × Decided (w.plans me) m))
       → (count (decides me) (Runs finish ∷ before) ≡ 0) ⊎ ((count (decides me) (Runs finish ∷ before) ≡ 1) × ((m : Bool) × Decided (w.plans me) m))
-  once_now (inl no) = inl (no_more (decides me) before finish refl ∙ no)
+  once_now (inl nought) = inl (no_more (decides me) before finish refl ∙ nought)
   once_now (inr one) = inr (no_more (decides me) before finish refl ∙ one.0, one.1)
 
   pub finishing_facts : Facts (with_done w part.group me made rows) (Runs (Finishing me made part) ∷ before) me

@@ -1,11 +1,11 @@
 -- Every history keeps the facts of every change, and so each change is made whole or not at all.
-use Rattle.std.proofs.Common.{◌≡◌, ◌⊎◌, inl, inr, ℕ, ◌+◌, ◌≤◌, Bool, true, false, List, [], ◌∷◌, refl, sym, ap, ◌∙◌, subst, arith, Option, Some, None}
+use Rattle.std.proofs.Common.{◌≡◌, ◌⊎◌, inl, inr, Bool, true, false, List, [], ◌∷◌, refl, sym, ap, ◌∙◌, subst, arith, Some}
 use Rattle.mega_two.specs.Parts.{Part, Rows}
-use Rattle.mega_two.specs.World.{Text, same, State, Made, Dropped, Plan, state_of, World, no_world, with_rows, world, Request, Preparing, Finishing, Done, Event, Runs, Writes, Gave}
-use Rattle.mega_two.specs.Driver.{Ending, Ended, Driver, asks, Reached, AreApart, IsNew, IsHistory}
-use Rattle.mega_two.specs.Atomic.{In, count, decides, writes, IsMade, IsAtomic, EndsTruly}
+use Rattle.mega_two.specs.World.{Text, same, Made, Dropped, Plan, state_of, no_world, with_rows, world, Finishing, Done, Event, Runs, Writes, Gave}
+use Rattle.mega_two.specs.Driver.{Ending, Ended, Driver, Reached, AreApart, IsNew, IsHistory}
+use Rattle.mega_two.specs.Atomic.{In, IsMade, IsAtomic, EndsTruly}
 use Rattle.mega_two.proofs.Names.{same_self}
-use Rattle.mega_two.proofs.Facts.{Decided, Facts}
+use Rattle.mega_two.proofs.Facts.{Facts}
 use Rattle.mega_two.proofs.Other.{alike_facts}
 use Rattle.mega_two.proofs.History.{fit_of, ready_of, ends_truly}
 use Rattle.mega_two.proofs.Kept.{run_kept}
@@ -44,7 +44,7 @@ facts_of (Runs request ∷ before) h me =
     let facts = facts_of before h.1 in
     let asked = h.0 in
     run_kept before facts me request (ready_of before facts (asked.0).name (asked.0).parts (asked.0).phase (fit_of before facts asked.0 asked.1) request asked.2)
-facts_of (Writes group rows ∷ before) h me = written_facts before group rows me (facts_of before h.1 me)
+facts_of (Writes group rows ∷ before) h me = written_facts before group rows me (facts_of before h me)
 
 -- ---- parts of different groups
 
@@ -55,7 +55,7 @@ not_new : (parts : List Part) (group : Text) (part : Part) → IsNew group parts
 not_new [] group part fresh of e = of
 not_new (other ∷ parts) group part fresh (inl this) e =
     let same_group : other.group ≡ group = ap (λ (p : Part). p.group) this ∙ e in
-    let no : true ≡ false = sym (same_self group) ∙ ap (same group) (sym same_group) ∙ fresh.0 in
+    let wrong : true ≡ false = sym (same_self group) ∙ ap (same group) (sym same_group) ∙ fresh.0 in
     cc
 not_new (other ∷ parts) group part fresh (inr of) e = not_new parts group part fresh.1 of e
 
@@ -74,9 +74,9 @@ not_dropped false e = absurd (cc)
 
 atomic : (events : List Event) (name : Text) → Facts (world events) events name → IsAtomic events name
 atomic events name f = record {
-  once = elim f.once [ inl no ↦ omega (arith, no) | inr one ↦ omega (arith, one.0) ];
+  once = elim f.once [ inl nought ↦ omega (arith, nought) | inr one ↦ omega (arith, one.0) ];
   prepared = λ plan is part of. f.prepared plan is.stands is.made part of;
-  written_once = λ group. (elim (f.written group) [ inl no ↦ omega (arith, no) | inr one ↦ omega (arith, one.0) ]);
+  written_once = λ group. (elim (f.written group) [ inl nought ↦ omega (arith, nought) | inr one ↦ omega (arith, one.0) ]);
   written_after = λ part gave. (
       let d = f.done true part gave in
       let r = f.finished part.group true d.0 in
@@ -97,7 +97,7 @@ atomic events name f = record {
         let r = f.finished part.group found.0 found.1 in
         let same_plan : r.plan ≡ plan = some_same r.plan plan (sym r.stands ∙ is.stands) in
         let made : found.0 ≡ true = not_dropped found.0 (sym r.state ∙ ap (λ (p : Plan). p.state) same_plan ∙ is.made) in
-        let same_part : r.part ≡ part = apart_same plan.parts (f.apart plan is.stands) r.part part (subst (λ (p : Plan). In r.part p.parts) same_plan r.part_of) of r.at in
+        let same_part : r.part ≡ part = apart_same plan.parts (f.apart plan is.stands) r.part part (subst (λ (p : Plan). In r.part p.parts) same_plan r.part_of) of r.place in
         inr (coe 0 1 (i. Gave events (Finishing name (made i) (same_part i)) Done) r.gave)
 
 pub changes_atomic : (events : List Event) → IsHistory events → (name : Text) → IsAtomic events name

@@ -1,5 +1,5 @@
 -- What holds of a change of several groups: it is made whole or not at all.
-use Rattle.std.specs.Prelude.{◌≡◌, ◌⊎◌, ℕ, ◌+◌, ◌≤◌, ◌&&◌, if◌then◌else◌, Bool, true, false, List, [], ◌∷◌, Option, Some, None}
+use Rattle.std.specs.Prelude.{◌≡◌, ◌⊎◌, ℕ, ◌+◌, ◌≤◌, ◌&&◌, if◌then◌else◌, Bool, true, false, List, [], ◌∷◌, Some}
 use Rattle.mega_two.specs.Parts.{Part}
 use Rattle.mega_two.specs.World.{Text, same, State, Made, Dropped, Plan, Request, Planning, Preparing, Deciding, Finishing, LookingAtPlan, LookingAtLock, Reply, Done, Turned, PlanIs, LockIs, Again, Lost, Refused, Event, Runs, Writes, world, reply, Gave}
 use Rattle.mega_two.specs.Driver.{Ending, Committed, Aborted, Used, Open}

@@ -1,5 +1,5 @@
 -- What a driver asks, and how it goes on by what it is told.
-use Rattle.std.specs.Prelude.{◌≡◌, ◌⊎◌, ℕ, if◌then◌else◌, Bool, true, false, List, [], ◌∷◌, Option, Some, None}
+use Rattle.std.specs.Prelude.{◌≡◌, ◌⊎◌, if◌then◌else◌, Bool, true, false, List, [], ◌∷◌, Option, Some, None}
 use Rattle.mega_two.specs.Parts.{Part}
 use Rattle.mega_two.specs.World.{Text, same, State, Undecided, Made, Dropped, Plan, Request, Planning, Preparing, Deciding, Finishing, LookingAtPlan, LookingAtLock, Reply, Done, Turned, PlanIs, LockIs, Again, Lost, Refused, Event, Runs, Writes, Gave}
 
