@@ -6,7 +6,7 @@ use Rattle.std.proofs.lemmas.List.{take-append-drop, drop-drop}
 use Rattle.std.proofs.lemmas.List.Elements.{All-append}
 use Rattle.std.proofs.Math.Seq.{drop-cons}
 use Rattle.mega_io.specs.declared.lines.Ended.TheVariants.{Feed, Input, Long}
-use Rattle.mega_io.specs.TextLines.{IsUnbroken, ReadsLine, ReadsPart}
+use Rattle.mega_io.specs.TextLines.{BreaksOff, IsUnbroken, ReadsLine, ReadsPart}
 
 pub at_feed : (rest : List ℕ) (n : ℕ) → n < length rest → slice_index rest n ≡ 10 → rest ≡ take n rest ++ 10 ∷ drop (n + 1) rest
 at_feed rest n within feed =
@@ -43,6 +43,11 @@ pub input_ends : (first left : Option (List ℕ)) (line : List ℕ) (most : ℕ)
     → ReadsLine most first (prepend_known waiting left) line Input
 input_ends first left line most waiting has empty end =
     (has.consumed, subst (λ xs. IsAtEnd (prepend_known xs left)) (sym empty) (subst IsAtEnd (sym (prepend_known-nil left)) end), has.unbroken, has.within)
+
+-- a fault comes: nothing waits
+pub breaks_off : (first left : Option (List ℕ)) (line : List ℕ) (most : ℕ) (waiting : List ℕ) → HasRead first (prepend_known waiting left) line most → waiting ≡ [] → BreaksOff first waiting left line
+breaks_off first left line most waiting has none =
+    (subst (λ (now : Option (List ℕ)). Consumes first now line) (ap (λ (xs : List ℕ). prepend_known xs left) none ∙ prepend_known-nil left) has.consumed, has.unbroken, none)
 
 pub line_ends : (first left : Option (List ℕ)) (old new before after : List ℕ) (most : ℕ) → HasRead first (prepend_known old left) before most → ReadsPart old new before after true → length after ≤ most
     → ReadsLine most first (prepend_known new left) after Feed

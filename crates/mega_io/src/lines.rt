@@ -65,7 +65,7 @@ impl Model for LineReader {
 }
 
 impl LineReader {
-    ghost use Rattle.mega_io.specs.TextLines.{ReadsLine, IsUnbroken, ReadsPart};
+    ghost use Rattle.mega_io.specs.TextLines.{BreaksOff, ReadsLine, IsUnbroken, ReadsPart};
 
     /// A reader that has read nothing yet.
     pub fn new(alloc: Global) -> Result<LineReader, NoMemory>
@@ -84,6 +84,7 @@ impl LineReader {
     fn refill<I: Source>(&mut self, source: &mut I) -> Result<bool, Failed>
         ensures kept { Keeps (prepend_known self.old (I.left source.old)) (prepend_known self.new (I.left source.new)) }
         ensures end { result ≡ Ok false → (self.new ≡ []) × IsAtEnd (I.left source.new) }
+        ensures none { OnErr result (self.new ≡ []) }
         ensures cause { OnErr result (Rose (I.faults source.old) (I.faults source.new)) }
         ensures count { I.faults source.old ≤ I.faults source.new }
     {
@@ -114,7 +115,8 @@ impl LineReader {
     }
 
     /// Reads the next line into `line`, which is emptied before. A line of more than `most` bytes is
-    /// not read to its end. `Failed` comes only where the source's count of faults rose.
+    /// not read to its end. `Failed` comes only where the source's count of faults rose; then what was read
+    /// and not given yet has no line feed, and is in `line`.
     pub fn next_line<I: Source>(
         &mut self,
         source: &mut I,
@@ -122,6 +124,7 @@ impl LineReader {
         most: usize,
     ) -> Result<Ended, LineError>
         ensures line { IfOk result (ReadsLine most (prepend_known self.old (I.left source.old)) (prepend_known self.new (I.left source.new)) line.new) }
+        ensures fault { result ≡ Err LineError.Failed → BreaksOff (prepend_known self.old (I.left source.old)) self.new (I.left source.new) line.new }
         ensures cause { result ≡ Err LineError.Failed → Rose (I.faults source.old) (I.faults source.new) }
         ensures count { I.faults source.old ≤ I.faults source.new }
     {

@@ -1,14 +1,14 @@
 -- How a header is read, line by line, up to the line that ends it.
-use Rattle.std.proofs.Common.{◌≡◌, ◌≢◌, ℕ, ◌+◌, ◌≤◌, ◌<◌, cond, Bool, true, false, Option, Some, None, Result, Ok, Err, List, [], ◌∷◌, ◌++◌, length, refl, sym, ◌∙◌, ap, subst, append_assoc, append-nil, length-append, arith, rules}
+use Rattle.std.proofs.Common.{◌≡◌, ◌≢◌, ℕ, ◌+◌, ◌≤◌, ◌<◌, cond, Bool, true, false, Option, Some, None, Result, Ok, Err, List, [], ◌∷◌, ◌++◌, length, refl, sym, ◌∙◌, ap, subst, append_assoc, append-nil, length-append, arith, rules, inl, inr}
 use Rattle.std.specs.Prelude.{nat_lt, if◌then◌else◌}
 use Rattle.std.proofs.lemmas.Bool.Decides.{nat_tests}
 use Rattle.mega_cluster.specs.declared.cluster.Cluster.{Cluster}
 use Rattle.mega_cluster.specs.Header.{◌>>=◌, document_of, header_of, read_of}
 use Rattle.mega_io.specs.declared.lines.Ended.TheVariants.{Feed, Input, Long}
-use Rattle.mega_io.specs.TextLines.{IsUnbroken, ReadsLine, close_line, lines_after, lines_of}
+use Rattle.mega_io.specs.TextLines.{BreaksOff, IsUnbroken, ReadsLine, close_line, ended_lines, lines_after, lines_of}
 use Rattle.mega_replay.specs.Headings.{heading_of, is_mark, lines_behind, parts_of, text_before}
-use Rattle.mega_replay.specs.Known.{Follows, HasFront, HasHeader, HasNoMark, IsBroken, IsHeaded}
-use Rattle.mega_replay.proofs.Inputs.{last_follows, line_follows, lines_on, long_line}
+use Rattle.mega_replay.specs.Known.{Follows, HasFront, HasHeader, HasNoMark, HeaderFails, IsBroken, IsHeaded, IsOfHeader, TakesHeader, TakesLine}
+use Rattle.mega_replay.proofs.Inputs.{ended_line, ended_none, last_follows, line_follows, lines_on, long_line}
 
 -- ---- a header that is too long
 
@@ -61,13 +61,24 @@ behind_line line lines plain = ap (λ (t : Bool). if t then Some lines else line
 behind_mark : (line : List ℕ) (lines : List (List ℕ)) → is_mark line ≡ true → lines_behind (line ∷ lines) ≡ Some lines
 behind_mark line lines marks = ap (λ (t : Bool). if t then Some lines else lines_behind lines) marks
 
-front_on : (first old new line text : List ℕ) → HasFront (Some first) (Some old) text → old ≡ (line ++ 10 ∷ []) ++ new → lines_of old ≡ line ∷ lines_of new → is_mark line ≡ false
+of_header : (line text : List ℕ) → IsOfHeader text → is_mark line ≡ false → IsUnbroken line → IsOfHeader (text ++ (line ++ 10 ∷ []))
+of_header line text of plain unbroken = λ more.
+    let whole = ap ended_lines (append_assoc text (line ++ 10 ∷ []) more) in
+    let one = of ((line ++ 10 ∷ []) ++ more) in
+    let ends = ended_line line more unbroken in (
+      ap text_before whole ∙ one.0 ∙ ap (λ (ls : List (List ℕ)). text ++ text_before ls) ends
+          ∙ ap (λ (rest : List ℕ). text ++ rest) (before_line line (ended_lines more) plain ∙ sym (append_assoc line (10 ∷ []) (text_before (ended_lines more)))) ∙ sym (append_assoc text (line ++ 10 ∷ []) (text_before (ended_lines more))),
+      ap lines_behind whole ∙ one.1 ∙ ap lines_behind ends ∙ behind_line line (ended_lines more) plain,
+    )
+
+front_on : (first old new line text : List ℕ) → HasFront (Some first) (Some old) text → old ≡ (line ++ 10 ∷ []) ++ new → lines_of old ≡ line ∷ lines_of new → is_mark line ≡ false → IsUnbroken line
     → HasFront (Some first) (Some new) (text ++ (line ++ 10 ∷ []))
-front_on first old new line text front is lines plain = (
+front_on first old new line text front is lines plain unbroken = (
   front.0 ∙ ap (λ (rest : List ℕ). text ++ rest) is ∙ sym (append_assoc text (line ++ 10 ∷ []) new),
   front.1 ∙ ap (λ (ls : List (List ℕ)). text ++ text_before ls) lines ∙ ap (λ (rest : List ℕ). text ++ rest) (before_line line (lines_of new) plain ∙ sym (append_assoc line (10 ∷ []) (text_before (lines_of new))))
       ∙ sym (append_assoc text (line ++ 10 ∷ []) (text_before (lines_of new))),
   front.2 ∙ ap lines_behind lines ∙ behind_line line (lines_of new) plain,
+  of_header line text front.3 plain unbroken,
 )
 
 pub line_part : (old new : Option (List ℕ)) (line text : List ℕ) (most : ℕ) → ReadsLine most old new line Feed → is_mark line ≡ false → (first : Option (List ℕ)) → HasFront first old text → HasFront first new (text ++ (line ++ 10 ∷ []))
@@ -75,17 +86,33 @@ line_part old new line text most reads plain None front = tt
 line_part None new line text most reads plain (Some first) front = absurd front
 line_part (Some old) None line text most reads plain (Some first) front = absurd reads.0
 line_part (Some old) (Some new) line text most reads plain (Some first) front =
-    front_on first old new line text front reads.0 (line_follows (Some old) (Some new) line most reads) plain
+    front_on first old new line text front reads.0 (line_follows (Some old) (Some new) line most reads).0 plain reads.1
 
 -- ---- the line that ends it
+
+header_taken : (first old new line text : List ℕ) → first ≡ text ++ old → IsOfHeader text → is_mark line ≡ true → TakesLine old new line → TakesHeader first new text
+header_taken first old new line text front of marks (part, is, inl ends) = (
+  text ++ part,
+  front ∙ ap (λ (rest : List ℕ). text ++ rest) is ∙ sym (append_assoc text part new),
+  inl (λ more.
+      let whole = ap ended_lines (append_assoc text part more) in
+      let one = of (part ++ more) in (
+        ap text_before whole ∙ one.0 ∙ ap (λ (ls : List (List ℕ)). text ++ text_before ls) (ends more) ∙ ap (λ (rest : List ℕ). text ++ rest) (before_mark line (ended_lines more) marks) ∙ append-nil text,
+        ap lines_behind whole ∙ one.1 ∙ ap lines_behind (ends more) ∙ behind_mark line (ended_lines more) marks,
+      )),
+)
+header_taken first old new line text front of marks (part, is, inr none) = (text ++ part, front ∙ ap (λ (rest : List ℕ). text ++ rest) is ∙ sym (append_assoc text part new), inr none)
 
 marked : (old new : Option (List ℕ)) (line text : List ℕ) → Follows old new line → is_mark line ≡ true → (first : Option (List ℕ)) → HasFront first old text → HasHeader first new text
 marked old new line text follows marks None front = tt
 marked None new line text follows marks (Some first) front = absurd front
 marked (Some old) None line text follows marks (Some first) front = absurd follows
 marked (Some old) (Some new) line text follows marks (Some first) front = (
-  front.1 ∙ ap (λ (ls : List (List ℕ)). text ++ text_before ls) follows ∙ ap (λ (rest : List ℕ). text ++ rest) (before_mark line (lines_of new) marks) ∙ append-nil text,
-  front.2 ∙ ap lines_behind follows ∙ behind_mark line (lines_of new) marks,
+  (
+    front.1 ∙ ap (λ (ls : List (List ℕ)). text ++ text_before ls) follows.0 ∙ ap (λ (rest : List ℕ). text ++ rest) (before_mark line (lines_of new) marks) ∙ append-nil text,
+    front.2 ∙ ap lines_behind follows.0 ∙ behind_mark line (lines_of new) marks,
+  ),
+  header_taken first old new line text front.0 front.3 marks follows.1,
 )
 
 pub mark_part : (old new : Option (List ℕ)) (line text : List ℕ) (most : ℕ) → ReadsLine most old new line Feed → is_mark line ≡ true → (first : Option (List ℕ)) → HasFront first old text → HasHeader first new text
@@ -130,19 +157,19 @@ long_part (Some old) (Some new) line text reads (Some first) front =
 pub nothing_read : (first : Option (List ℕ)) (text : List ℕ) → text ≡ [] → HasFront first first text
 nothing_read None text none = tt
 nothing_read (Some first) text none =
-    (ap (λ (front : List ℕ). front ++ first) (sym none), ap (λ (front : List ℕ). front ++ text_before (lines_of first)) (sym none), refl)
+    (ap (λ (front : List ℕ). front ++ first) (sym none), ap (λ (front : List ℕ). front ++ text_before (lines_of first)) (sym none), refl, subst IsOfHeader (sym none) (λ more. (refl, refl)))
 
 pub headed : (first left : Option (List ℕ)) (text : List ℕ) (c : Cluster) → HasHeader first left text → read_of 1 text ≡ Ok c → IsHeaded first left c
 headed None left text c header reads = tt
 headed (Some first) None text c header reads = absurd header
 headed (Some first) (Some left) text c header reads =
-    ap (parts_of first (lines_of first)) header.1 ∙ ap (λ r. r >>= λ cluster. Ok (cluster, lines_of left)) (ap (read_of 1) header.0 ∙ reads)
+    (ap (parts_of first (lines_of first)) header.0.1 ∙ ap (λ r. r >>= λ cluster. Ok (cluster, lines_of left)) (ap (read_of 1) header.0.0 ∙ reads), (text, reads, header.0, header.1))
 
 pub header_breaks : (first left : Option (List ℕ)) (text : List ℕ) (rule : ℕ) → HasHeader first left text → read_of 1 text ≡ Err rule → IsBroken first rule
 header_breaks None left text rule header reads = tt
 header_breaks (Some first) None text rule header reads = absurd header
 header_breaks (Some first) (Some left) text rule header reads =
-    ap (parts_of first (lines_of first)) header.1 ∙ ap (λ r. r >>= λ cluster. Ok (cluster, lines_of left)) (ap (read_of 1) header.0 ∙ reads)
+    ap (parts_of first (lines_of first)) header.0.1 ∙ ap (λ r. r >>= λ cluster. Ok (cluster, lines_of left)) (ap (read_of 1) header.0.0 ∙ reads)
 
 pub all_breaks : (first : Option (List ℕ)) (text : List ℕ) (rule : ℕ) → HasNoMark first text → read_of 1 text ≡ Err rule → IsBroken first rule
 all_breaks None text rule none reads = tt
@@ -153,3 +180,11 @@ pub unmarked_breaks : (first : Option (List ℕ)) (text : List ℕ) (c : Cluster
 unmarked_breaks None text c none reads = tt
 unmarked_breaks (Some first) text c none reads =
     ap (parts_of first (lines_of first)) none.1 ∙ ap (λ r. r >>= λ cluster. Err 9) (ap (read_of 1) none.0 ∙ reads)
+
+-- the source failed before the line `---`
+pub header_fails : (first now left : Option (List ℕ)) (text line waiting : List ℕ) → HasFront first now text → BreaksOff now waiting left line → HeaderFails first left
+header_fails None now left text line waiting front breaks = tt
+header_fails (Some first) None left text line waiting front breaks = absurd front
+header_fails (Some first) (Some now) None text line waiting front breaks = absurd breaks.0
+header_fails (Some first) (Some now) (Some left) text line waiting front breaks =
+    (text ++ line, front.0 ∙ ap (λ (rest : List ℕ). text ++ rest) breaks.0 ∙ sym (append_assoc text line left), (front.3 line).1 ∙ ap lines_behind (ended_none line breaks.1))

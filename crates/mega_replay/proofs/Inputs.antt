@@ -1,10 +1,10 @@
 -- How reading a line takes the first of the input's lines.
-use Rattle.std.proofs.Common.{◌≡◌, ◌≢◌, ℕ, ◌≤◌, ◌<◌, ◌==◌, if◌then◌else◌, Bool, true, false, Option, Some, None, List, [], ◌∷◌, ◌++◌, length, refl, sym, ◌∙◌, ap, append_assoc, append-nil, length-append, arith}
+use Rattle.std.proofs.Common.{◌≡◌, ◌≢◌, ℕ, ◌≤◌, ◌<◌, ◌==◌, if◌then◌else◌, Bool, true, false, Option, Some, None, List, [], ◌∷◌, ◌++◌, length, refl, sym, ◌∙◌, ap, append_assoc, append-nil, length-append, arith, inl, inr}
 use Rattle.std.proofs.lemmas.Bool.Decides.{nat_tests}
 use Rattle.std.proofs.lemmas.List.Elements.{All-head, All-tail}
 use Rattle.mega_io.specs.declared.lines.Ended.TheVariants.{Feed, Input, Long}
-use Rattle.mega_io.specs.TextLines.{IsUnbroken, ReadsLine, close_line, lines_after, lines_of}
-use Rattle.mega_replay.specs.Known.{Follows, Ends, IsTooLong}
+use Rattle.mega_io.specs.TextLines.{IsUnbroken, ReadsLine, close_line, ended_after, ended_lines, lines_after, lines_of}
+use Rattle.mega_replay.specs.Known.{Follows, Ends, IsTooLong, TakesLine}
 
 pub other_byte : (byte : ℕ) → byte ≢ 10 → (byte == 10) ≡ false
 other_byte byte other = grind (arith, nat_tests)
@@ -15,6 +15,23 @@ lines_on front [] rest unbroken = ap (λ xs. lines_after xs rest) (sym (append-n
 lines_on front (byte ∷ line) rest unbroken =
     ap (λ b. if b then front ∷ lines_after [] (line ++ rest) else lines_after (front ++ byte ∷ []) (line ++ rest)) (other_byte byte (All-head (λ b. b ≢ 10) byte line unbroken))
     ∙ lines_on (front ++ byte ∷ []) line rest (All-tail (λ b. b ≢ 10) byte line unbroken) ∙ ap (λ xs. lines_after xs rest) (append_assoc front (byte ∷ []) line)
+
+pub ended_on : (front line rest : List ℕ) → IsUnbroken line → ended_after front (line ++ rest) ≡ ended_after (front ++ line) rest
+ended_on front [] rest unbroken = ap (λ xs. ended_after xs rest) (sym (append-nil front))
+ended_on front (byte ∷ line) rest unbroken =
+    ap (λ b. if b then front ∷ ended_after [] (line ++ rest) else ended_after (front ++ byte ∷ []) (line ++ rest)) (other_byte byte (All-head (λ b. b ≢ 10) byte line unbroken))
+    ∙ ended_on (front ++ byte ∷ []) line rest (All-tail (λ b. b ≢ 10) byte line unbroken) ∙ ap (λ xs. ended_after xs rest) (append_assoc front (byte ∷ []) line)
+
+-- none of them ends
+pub ended_none : (line : List ℕ) → IsUnbroken line → ended_lines line ≡ []
+ended_none line unbroken = ap ended_lines (sym (append-nil line)) ∙ ended_on [] line [] unbroken
+
+pub ended_line : (line more : List ℕ) → IsUnbroken line → ended_lines ((line ++ 10 ∷ []) ++ more) ≡ line ∷ ended_lines more
+ended_line line more unbroken = ap ended_lines (append_assoc line (10 ∷ []) more) ∙ ended_on [] line (10 ∷ more) unbroken
+
+pub both_none : (xs ys : List ℕ) → [] ≡ xs ++ ys → (xs ≡ []) × (ys ≡ [])
+both_none [] ys is = (refl, sym is)
+both_none (x ∷ xs) ys is = absurd (let none : [] ≡ x ∷ (xs ++ ys) = is in cc)
 
 pub close_line-some : (line : List ℕ) → line ≢ [] → close_line line ≡ line ∷ []
 close_line-some [] some = absurd (some refl)
@@ -39,13 +56,13 @@ pub line_follows : (old new : Option (List ℕ)) (line : List ℕ) (most : ℕ) 
 line_follows None new line most reads = tt
 line_follows (Some old) None line most reads = reads.0
 line_follows (Some old) (Some new) line most reads =
-    ap lines_of (reads.0 ∙ append_assoc line (10 ∷ []) new) ∙ lines_on [] line (10 ∷ new) reads.1
+    (ap lines_of (reads.0 ∙ append_assoc line (10 ∷ []) new) ∙ lines_on [] line (10 ∷ new) reads.1, (line ++ 10 ∷ [], reads.0, inl (λ more. ended_line line more reads.1)))
 
 pub last_follows : (old new : Option (List ℕ)) (line : List ℕ) (most : ℕ) → ReadsLine most old new line Input → line ≢ [] → Follows old new line
 last_follows None new line most reads some = tt
 last_follows (Some old) None line most reads some = reads.0
 last_follows (Some old) (Some new) line most reads some =
-    ap lines_of reads.0 ∙ lines_on [] line new reads.2 ∙ ap (lines_after line) reads.1 ∙ close_line-some line some ∙ ap (λ rest. line ∷ lines_of rest) (sym reads.1)
+    (ap lines_of reads.0 ∙ lines_on [] line new reads.2 ∙ ap (lines_after line) reads.1 ∙ close_line-some line some ∙ ap (λ rest. line ∷ lines_of rest) (sym reads.1), (line, reads.0, inr reads.1))
 
 pub nothing_left : (old new : Option (List ℕ)) (line : List ℕ) (most : ℕ) → ReadsLine most old new line Input → line ≡ [] → Ends old
 nothing_left None new line most reads none = tt

@@ -3,26 +3,27 @@ use Rattle.std.proofs.Common.{◌≡◌, ℕ, ◌≤◌, ◌⊎◌, inl, inr, Op
 use Rattle.std.specs.Io.KnownBytes.{Appends}
 use Rattle.mega_base.specs.Causes.{Rose}
 use Rattle.mega_io.specs.Pieces.{AppendsFront}
+use Rattle.mega_words.specs.declared.command.Report.{Report}
 use Rattle.mega_replay.specs.declared.status.Stop.{Stop}
 use Rattle.mega_replay.specs.declared.status.Stop.TheVariants.{Header, Schedule, Refused, Unbuilt, Limit, Source, Sink, NoMemory}
 use Rattle.mega_replay.specs.LastLines.{last_line}
-use Rattle.mega_replay.specs.Known.{InputBegun, InputBroken, InputCut, InputNoEvent, InputRefused, InputUnbuilt, InputPastLast}
+use Rattle.mega_replay.specs.Known.{InputBegun, InputFailed, InputBroken, InputCut, InputNoEvent, InputRefused, InputUnbuilt, InputPastLast}
 use Rattle.mega_replay.specs.Progress.{Writes, WritesFront}
 use Rattle.mega_replay.specs.Statuses.{IsReplayStatus, status_of}
 use Rattle.mega_replay.specs.Stops.{IsTold}
-use Rattle.mega_replay.proofs.Said.{begun_front, begun_held, broken_front, none_front, refused_front, unbuilt_front, limit_front}
+use Rattle.mega_replay.proofs.Said.{begun_front, failed_held, broken_front, none_front, refused_front, unbuilt_front, limit_front}
 
-pub stop_front : (stop : Stop) (known before mid after : Option (List ℕ)) (waiting : List ℕ) → ((rule : ℕ) → stop ≡ Header rule → InputBroken known rule (Writes before mid waiting))
-    → ((at reason : ℕ) → stop ≡ Schedule at reason → InputNoEvent known at reason (Writes before mid waiting)) → ((at why : ℕ) → stop ≡ Refused at why → InputRefused known at why (Writes before mid waiting))
-    → ((at : ℕ) → stop ≡ Unbuilt at → InputUnbuilt known at (Writes before mid waiting)) → ((at : ℕ) → stop ≡ Limit at → InputPastLast known at (Writes before mid waiting)) → InputBegun known (WritesFront before mid waiting) → AppendsFront mid after (waiting ++ last_line stop) → InputCut known (AppendsFront before after)
-stop_front (Header rule) known before mid after waiting header none refused unbuilt limit begun written = broken_front known before mid after waiting rule (header rule refl) written
-stop_front (Schedule at reason) known before mid after waiting header none refused unbuilt limit begun written = none_front known before mid after waiting at reason (none at reason refl) written
-stop_front (Refused at why) known before mid after waiting header none refused unbuilt limit begun written = refused_front known before mid after waiting at why (refused at why refl) written
-stop_front (Unbuilt at) known before mid after waiting header none refused unbuilt limit begun written = unbuilt_front known before mid after waiting at (unbuilt at refl) written
-stop_front (Limit at) known before mid after waiting header none refused unbuilt limit begun written = limit_front known before mid after waiting at (limit at refl) written
-stop_front Source known before mid after waiting header none refused unbuilt limit begun written = begun_front known before mid after waiting begun written
-stop_front Sink known before mid after waiting header none refused unbuilt limit begun written = begun_front known before mid after waiting begun written
-stop_front NoMemory known before mid after waiting header none refused unbuilt limit begun written = begun_front known before mid after waiting begun written
+pub stop_front : (report : Report) (stop : Stop) (known before mid after : Option (List ℕ)) (waiting : List ℕ) → ((rule : ℕ) → stop ≡ Header rule → InputBroken known rule (Writes before mid waiting))
+    → ((at reason : ℕ) → stop ≡ Schedule at reason → InputNoEvent report known at reason (Writes before mid waiting)) → ((at why : ℕ) → stop ≡ Refused at why → InputRefused report known at why (Writes before mid waiting))
+    → ((at : ℕ) → stop ≡ Unbuilt at → InputUnbuilt report known at (Writes before mid waiting)) → ((at : ℕ) → stop ≡ Limit at → InputPastLast report known at (Writes before mid waiting)) → InputBegun report known (WritesFront before mid waiting) → AppendsFront mid after (waiting ++ last_line stop) → InputCut report known (AppendsFront before after)
+stop_front report (Header rule) known before mid after waiting header none refused unbuilt limit begun written = broken_front report known before mid after waiting rule (header rule refl) written
+stop_front report (Schedule at reason) known before mid after waiting header none refused unbuilt limit begun written = none_front report known before mid after waiting at reason (none at reason refl) written
+stop_front report (Refused at why) known before mid after waiting header none refused unbuilt limit begun written = refused_front report known before mid after waiting at why (refused at why refl) written
+stop_front report (Unbuilt at) known before mid after waiting header none refused unbuilt limit begun written = unbuilt_front report known before mid after waiting at (unbuilt at refl) written
+stop_front report (Limit at) known before mid after waiting header none refused unbuilt limit begun written = limit_front report known before mid after waiting at (limit at refl) written
+stop_front report Source known before mid after waiting header none refused unbuilt limit begun written = begun_front report known before mid after waiting begun written
+stop_front report Sink known before mid after waiting header none refused unbuilt limit begun written = begun_front report known before mid after waiting begun written
+stop_front report NoMemory known before mid after waiting header none refused unbuilt limit begun written = begun_front report known before mid after waiting begun written
 
 -- the last line of a stop that is told was written
 pub told_stop : (result stop one : Stop) (mid after : Option (List ℕ)) (waiting : List ℕ) → result ≡ one → IsTold one → (IsTold result → (result ≡ stop) × Appends mid after (waiting ++ last_line stop))
@@ -33,10 +34,10 @@ told_stop result stop one mid after waiting is told says =
     (same, subst (λ (s : Stop). Appends mid after (waiting ++ last_line s)) same said.1)
 
 -- what was done before a fault of the source was written, unless the sink failed
-pub held_or_rose : (known before mid after : Option (List ℕ)) (waiting : List ℕ) (one two three : ℕ) → one ≤ two → two ≤ three → InputBegun known (Writes before mid waiting) → Appends mid after waiting ⊎ Rose two three
-    → InputBegun known (Appends before after) ⊎ Rose one three
-held_or_rose known before mid after waiting one two three le on begun (inl written) = inl (begun_held known before mid after waiting begun written)
-held_or_rose known before mid after waiting one two three le on begun (inr rose) = inr (omega (arith, le, rose))
+pub held_or_rose : (report : Report) (known left before mid after : Option (List ℕ)) (waiting : List ℕ) (one two three : ℕ) → one ≤ two → two ≤ three → InputFailed report known left (Writes before mid waiting) → Appends mid after waiting ⊎ Rose two three
+    → InputFailed report known left (Appends before after) ⊎ Rose one three
+held_or_rose report known left before mid after waiting one two three le on failed (inl written) = inl (failed_held report known left before mid after waiting failed written)
+held_or_rose report known left before mid after waiting one two three le on failed (inr rose) = inr (omega (arith, le, rose))
 
 -- what a status tells of the stop behind it
 pub header_by : (stop : Stop) (Tells : ℕ → Type 0) → status_of stop ≡ 3 → ((rule : ℕ) → stop ≡ Header rule → Tells rule) → (rule : ℕ) × Tells rule

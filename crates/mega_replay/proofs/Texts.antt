@@ -8,6 +8,8 @@ use Rattle.mega_schema.specs.declared.schema.Schema.{Schema}
 use Rattle.mega_transcript.specs.declared.item.Item.{Item}
 use Rattle.mega_transcript.specs.Lines.{line, lines as text_of}
 use Rattle.mega_transcript.specs.Tape.{onto, newest}
+use Rattle.mega_words.specs.declared.command.Report.{Report}
+use Rattle.mega_words.specs.declared.command.Report.TheVariants.{Transcript, Summary}
 use Rattle.mega_transcript.proofs.Tapes.{onto-append, newest-append}
 use Rattle.mega_promises.specs.Runs.{Happening}
 use Rattle.mega_world.specs.declared.world.World.{World}
@@ -15,6 +17,7 @@ use Rattle.mega_world.specs.Stands.{IsAt}
 use Rattle.mega_replay.specs.Running.{Went, stood}
 use Rattle.mega_replay.proofs.Running.{line_adds}
 use Rattle.mega_replay.specs.Progress.{Writes, WritesFront}
+use Rattle.mega_replay.specs.Texts.{so_far}
 use Rattle.mega_replay.proofs.Progress.{more_waits, wrote_on, wrote_front, longer_front}
 
 onto_front : (xs tape : List Item) → onto xs tape ≡ newest xs ++ tape
@@ -32,29 +35,35 @@ stretched : (old new added : List Item) → newest new ≡ added ++ newest old �
 stretched old new added is = sym (newest_twice new) ∙ ap newest is ∙ newest_after added (newest old) ∙ ap (λ front. front ++ newest added) (newest_twice old)
 
 -- the world stood at the first tape, and what a line added led to the second
-step_text : (c : Cluster) (number : ℕ) (read : List ℕ) (events : List Happening) (before after : World) (old new : List Item) → IsAt c before old (stood c events) → Went c number read events after new
+lines_text : (c : Cluster) (number : ℕ) (read : List ℕ) (events : List Happening) (before after : World) (old new : List Item) → IsAt c before old (stood c events) → Went c number read events after new
     → text_of c.schema old ++ text_of c.schema (drop (length old) new) ≡ text_of c.schema new
-step_text c number read events before after old new at went =
+lines_text c number read events before after old new at went =
     let more = line_adds c number read events after new went in
     let is : new ≡ old ++ newest more.0 = stretched old new more.0 (more.1 ∙ ap (λ (tape : List Item). more.0 ++ tape) (sym at.tape)) in
     ap (λ (items : List Item). text_of c.schema old ++ text_of c.schema (drop (length old) items)) is
     ∙ ap (λ (items : List Item). text_of c.schema old ++ text_of c.schema items) (drop-append_seam old (newest more.0))
     ∙ sym (flat_map-append (line c.schema) old (newest more.0)) ∙ ap (text_of c.schema) (sym is)
 
--- where the text of the tape before was written, and then that of what a line added, the text of the tape was written
-pub written_on : (c : Cluster) (number : ℕ) (first mid now : Option (List ℕ)) (waiting later read : List ℕ) (events : List Happening) (one other : World) (old new : List Item) → IsAt c one old (stood c events)
-    → Went c number read events other new → Writes first mid waiting (text_of c.schema old) → Writes mid now later (waiting ++ text_of c.schema (drop (length old) new)) → Writes first now later (text_of c.schema new)
-written_on c number first mid now waiting later read events one other old new at went before after =
-    let added = text_of c.schema (drop (length old) new) in
-    subst (Writes first now later) (step_text c number read events one other old new at went)
-    (wrote_on first mid now (waiting ++ added) later (text_of c.schema old ++ added) (more_waits first mid waiting (text_of c.schema old) added before) after)
+-- so of what is written of them
+step_text : (report : Report) (c : Cluster) (number : ℕ) (read : List ℕ) (events : List Happening) (before after : World) (old new : List Item) → IsAt c before old (stood c events) → Went c number read events after new
+    → so_far report c.schema old ++ so_far report c.schema (drop (length old) new) ≡ so_far report c.schema new
+step_text Transcript c number read events before after old new at went = lines_text c number read events before after old new at went
+step_text Summary c number read events before after old new at went = refl
 
-pub front_on : (c : Cluster) (number : ℕ) (first mid now : Option (List ℕ)) (waiting later read : List ℕ) (events : List Happening) (one other : World) (old new : List Item) → IsAt c one old (stood c events)
-    → Went c number read events other new → Writes first mid waiting (text_of c.schema old) → WritesFront mid now later (waiting ++ text_of c.schema (drop (length old) new)) → WritesFront first now later (text_of c.schema new)
-front_on c number first mid now waiting later read events one other old new at went before after =
-    let added = text_of c.schema (drop (length old) new) in
-    subst (WritesFront first now later) (step_text c number read events one other old new at went)
-    (wrote_front first mid now (waiting ++ added) later (text_of c.schema old ++ added) (more_waits first mid waiting (text_of c.schema old) added before) after)
+-- where the text of the tape before was written, and then that of what a line added, the text of the tape was written
+pub written_on : (report : Report) (c : Cluster) (number : ℕ) (first mid now : Option (List ℕ)) (waiting later read : List ℕ) (events : List Happening) (one other : World) (old new : List Item) → IsAt c one old (stood c events)
+    → Went c number read events other new → Writes first mid waiting (so_far report c.schema old) → Writes mid now later (waiting ++ so_far report c.schema (drop (length old) new)) → Writes first now later (so_far report c.schema new)
+written_on report c number first mid now waiting later read events one other old new at went before after =
+    let added = so_far report c.schema (drop (length old) new) in
+    subst (Writes first now later) (step_text report c number read events one other old new at went)
+    (wrote_on first mid now (waiting ++ added) later (so_far report c.schema old ++ added) (more_waits first mid waiting (so_far report c.schema old) added before) after)
+
+pub front_on : (report : Report) (c : Cluster) (number : ℕ) (first mid now : Option (List ℕ)) (waiting later read : List ℕ) (events : List Happening) (one other : World) (old new : List Item) → IsAt c one old (stood c events)
+    → Went c number read events other new → Writes first mid waiting (so_far report c.schema old) → WritesFront mid now later (waiting ++ so_far report c.schema (drop (length old) new)) → WritesFront first now later (so_far report c.schema new)
+front_on report c number first mid now waiting later read events one other old new at went before after =
+    let added = so_far report c.schema (drop (length old) new) in
+    subst (WritesFront first now later) (step_text report c number read events one other old new at went)
+    (wrote_front first mid now (waiting ++ added) later (so_far report c.schema old ++ added) (more_waits first mid waiting (so_far report c.schema old) added before) after)
 
 -- the line of the next item
 text_more : (schema : Schema) (items : List Item) (i : ℕ) (item : Item) → i < length items → item ≡ get_or items i item → text_of schema (take (i + 1) items) ≡ text_of schema (take i items) ++ line schema item

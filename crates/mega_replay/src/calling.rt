@@ -1,14 +1,15 @@
-//! The top call: its words, the transcript that it writes, and its status.
+//! The top call: its words, what it writes, and its status.
 ghost use Rattle.std.specs.Prelude.{◌≡◌, ◌≤◌, ◌⊎◌, ◌++◌, ℕ, List, Some, None, Ok, Err, OnOk, OnErr};
 ghost use Rattle.std.specs.Io.KnownBytes.{Appends, IsAtEnd};
 ghost use Rattle.mega_base.specs.Causes.{Rose};
 ghost use Rattle.mega_io.specs.Pieces.{AppendsFront};
 ghost use Rattle.mega_replay.specs.LastLines.{header_line, schedule_line, refused_line, unbuilt_line, limit_line, last_line, usage_line};
-ghost use Rattle.mega_replay.specs.Known.{InputDone, InputBegun, InputBroken, InputNoEvent, InputRefused, InputUnbuilt, InputPastLast, InputCut};
+ghost use Rattle.mega_replay.specs.Known.{InputDone, InputFailed, InputBroken, InputNoEvent, InputRefused, InputUnbuilt, InputPastLast, InputCut};
 ghost use Rattle.mega_replay.specs.Statuses.{IsCutStatus, IsDrawn, IsReplayStatus, IsStatus};
 ghost use Rattle.mega_gen.specs.Generated.{generated};
 ghost use Rattle.mega_words.specs.Commands.{command_of};
 ghost use Rattle.mega_words.specs.declared.command.Command.TheVariants.{Gen, Replay};
+ghost use Rattle.mega_words.specs.declared.command.Report.{Report};
 ghost use Rattle.mega_replay.specs.Stops.{IsTold, IsWriteStop};
 
 use crate::replay::replay;
@@ -17,7 +18,7 @@ use crate::writing::write_on;
 use mega_base::{Bytes, Text};
 use mega_gen::generate;
 use mega_io::{Sink, SinkError, Source, put};
-use mega_words::{Command, command_of};
+use mega_words::{Command, Report, command_of};
 use std::alloc::Global;
 
 /// What the program says where its words are no form.
@@ -28,8 +29,9 @@ const USAGE: &str =
 /// to its end and every line was an event that happened, or where all lines were drawn; 2 where the words are no form; 3 where the
 /// header breaks a rule; 4 where a line is no event, or its event is refused; 5 and 6 where the source
 /// or the sink failed; 8 for want of memory; 10 where a line starts a node that started 4,294,967,295 times; 11 where a line is not
-/// served yet. With 0 the text of all lines was written; with 3, 4, 10 and 11 that of what came before, and then the last line, which 10 has not;
-/// with 5 that of the lines that were done, where the sink took it; with 6 and 8 a front of such a text.
+/// served yet. A transcript grows with the lines that are done, a summary comes behind the last one. With 0 all of the report was written; with
+/// 3, 4, 10 and 11 what there was of it before, and then the last line, which 10 has not; with 5 what there is of it after exactly the lines that
+/// the bytes before the fault spell, where the sink took it; with 6 and 8 a front of such a text.
 pub fn run<I: Source, O: Sink>(alloc: Global, words: &[Text], input: &mut I, out: &mut O) -> u8
     ensures unformed { result ≡ 2 → command_of words.now ≡ None }
     ensures no_form { command_of words.now ≡ None → (result ≡ 2) ⊎ (result ≡ 8) }
@@ -38,14 +40,14 @@ pub fn run<I: Source, O: Sink>(alloc: Global, words: &[Text], input: &mut I, out
     ensures drawn { (seed count nodes : ℕ) → command_of words.now ≡ Some (Gen seed count nodes) → result ≡ 0 → Appends (O.held out.old) (O.held out.new) (generated seed count nodes) }
     ensures drawing { (seed count nodes : ℕ) → command_of words.now ≡ Some (Gen seed count nodes) → IsDrawn result × AppendsFront (O.held out.old) (O.held out.new) (generated seed count nodes) }
     ensures unread { (seed count nodes : ℕ) → command_of words.now ≡ Some (Gen seed count nodes) → input.new ≡ input.old }
-    ensures done { command_of words.now ≡ Some Replay → result ≡ 0 → InputDone (I.left input.old) (Appends (O.held out.old) (O.held out.new)) }
-    ensures end { command_of words.now ≡ Some Replay → result ≡ 0 → IsAtEnd (I.left input.new) }
+    ensures done { (report : Report) → command_of words.now ≡ Some (Replay report) → result ≡ 0 → InputDone report (I.left input.old) (Appends (O.held out.old) (O.held out.new)) }
+    ensures end { (report : Report) → command_of words.now ≡ Some (Replay report) → result ≡ 0 → IsAtEnd (I.left input.new) }
     ensures header { result ≡ 3 → (rule : ℕ) × InputBroken (I.left input.old) rule (λ text. Appends (O.held out.old) (O.held out.new) (text ++ header_line rule)) }
-    ensures refused { result ≡ 4 → ((line : ℕ) × (reason : ℕ) × InputNoEvent (I.left input.old) line reason (λ text. Appends (O.held out.old) (O.held out.new) (text ++ schedule_line line reason))) ⊎ ((line : ℕ) × (why : ℕ) × InputRefused (I.left input.old) line why (λ text. Appends (O.held out.old) (O.held out.new) (text ++ refused_line line why))) }
-    ensures unbuilt { result ≡ 11 → (line : ℕ) × InputUnbuilt (I.left input.old) line (λ text. Appends (O.held out.old) (O.held out.new) (text ++ unbuilt_line line)) }
-    ensures limit { result ≡ 10 → (line : ℕ) × InputPastLast (I.left input.old) line (λ text. Appends (O.held out.old) (O.held out.new) (text ++ limit_line line)) }
-    ensures broken { result ≡ 5 → InputBegun (I.left input.old) (Appends (O.held out.old) (O.held out.new)) ⊎ Rose (O.faults out.old) (O.faults out.new) }
-    ensures cut { command_of words.now ≡ Some Replay → IsCutStatus result → InputCut (I.left input.old) (AppendsFront (O.held out.old) (O.held out.new)) }
+    ensures refused { (report : Report) → command_of words.now ≡ Some (Replay report) → result ≡ 4 → ((line : ℕ) × (reason : ℕ) × InputNoEvent report (I.left input.old) line reason (λ text. Appends (O.held out.old) (O.held out.new) (text ++ schedule_line line reason))) ⊎ ((line : ℕ) × (why : ℕ) × InputRefused report (I.left input.old) line why (λ text. Appends (O.held out.old) (O.held out.new) (text ++ refused_line line why))) }
+    ensures unbuilt { (report : Report) → command_of words.now ≡ Some (Replay report) → result ≡ 11 → (line : ℕ) × InputUnbuilt report (I.left input.old) line (λ text. Appends (O.held out.old) (O.held out.new) (text ++ unbuilt_line line)) }
+    ensures limit { (report : Report) → command_of words.now ≡ Some (Replay report) → result ≡ 10 → (line : ℕ) × InputPastLast report (I.left input.old) line (λ text. Appends (O.held out.old) (O.held out.new) (text ++ limit_line line)) }
+    ensures broken { (report : Report) → command_of words.now ≡ Some (Replay report) → result ≡ 5 → InputFailed report (I.left input.old) (I.left input.new) (Appends (O.held out.old) (O.held out.new)) ⊎ Rose (O.faults out.old) (O.faults out.new) }
+    ensures cut { (report : Report) → command_of words.now ≡ Some (Replay report) → IsCutStatus result → InputCut report (I.left input.old) (AppendsFront (O.held out.old) (O.held out.new)) }
     ensures source { result ≡ 5 → Rose (I.faults input.old) (I.faults input.new) }
     ensures sink { result ≡ 6 → Rose (O.faults out.old) (O.faults out.new) }
     ensures only { IsStatus result }
@@ -55,7 +57,7 @@ pub fn run<I: Source, O: Sink>(alloc: Global, words: &[Text], input: &mut I, out
     match command_of(words) {
         None => tell_usage(out),
         Some(Command::Gen { seed, count, nodes }) => draw(alloc, seed, count, nodes, out),
-        Some(Command::Replay) => replay_all(alloc, input, out),
+        Some(Command::Replay { report }) => replay_all(alloc, report, input, out),
     }
 }
 
@@ -77,22 +79,22 @@ fn draw<O: Sink>(alloc: Global, seed: u64, count: u64, nodes: u8, out: &mut O) -
 }
 
 /// Replays the input, and gives the status with which the program then ends.
-fn replay_all<I: Source, O: Sink>(alloc: Global, input: &mut I, out: &mut O) -> u8
-    ensures done { result ≡ 0 → InputDone (I.left input.old) (Appends (O.held out.old) (O.held out.new)) }
+fn replay_all<I: Source, O: Sink>(alloc: Global, report: Report, input: &mut I, out: &mut O) -> u8
+    ensures done { result ≡ 0 → InputDone report (I.left input.old) (Appends (O.held out.old) (O.held out.new)) }
     ensures end { result ≡ 0 → IsAtEnd (I.left input.new) }
     ensures header { result ≡ 3 → (rule : ℕ) × InputBroken (I.left input.old) rule (λ text. Appends (O.held out.old) (O.held out.new) (text ++ header_line rule)) }
-    ensures refused { result ≡ 4 → ((line : ℕ) × (reason : ℕ) × InputNoEvent (I.left input.old) line reason (λ text. Appends (O.held out.old) (O.held out.new) (text ++ schedule_line line reason))) ⊎ ((line : ℕ) × (why : ℕ) × InputRefused (I.left input.old) line why (λ text. Appends (O.held out.old) (O.held out.new) (text ++ refused_line line why))) }
-    ensures unbuilt { result ≡ 11 → (line : ℕ) × InputUnbuilt (I.left input.old) line (λ text. Appends (O.held out.old) (O.held out.new) (text ++ unbuilt_line line)) }
-    ensures limit { result ≡ 10 → (line : ℕ) × InputPastLast (I.left input.old) line (λ text. Appends (O.held out.old) (O.held out.new) (text ++ limit_line line)) }
-    ensures broken { result ≡ 5 → InputBegun (I.left input.old) (Appends (O.held out.old) (O.held out.new)) ⊎ Rose (O.faults out.old) (O.faults out.new) }
-    ensures cut { IsCutStatus result → InputCut (I.left input.old) (AppendsFront (O.held out.old) (O.held out.new)) }
+    ensures refused { result ≡ 4 → ((line : ℕ) × (reason : ℕ) × InputNoEvent report (I.left input.old) line reason (λ text. Appends (O.held out.old) (O.held out.new) (text ++ schedule_line line reason))) ⊎ ((line : ℕ) × (why : ℕ) × InputRefused report (I.left input.old) line why (λ text. Appends (O.held out.old) (O.held out.new) (text ++ refused_line line why))) }
+    ensures unbuilt { result ≡ 11 → (line : ℕ) × InputUnbuilt report (I.left input.old) line (λ text. Appends (O.held out.old) (O.held out.new) (text ++ unbuilt_line line)) }
+    ensures limit { result ≡ 10 → (line : ℕ) × InputPastLast report (I.left input.old) line (λ text. Appends (O.held out.old) (O.held out.new) (text ++ limit_line line)) }
+    ensures broken { result ≡ 5 → InputFailed report (I.left input.old) (I.left input.new) (Appends (O.held out.old) (O.held out.new)) ⊎ Rose (O.faults out.old) (O.faults out.new) }
+    ensures cut { IsCutStatus result → InputCut report (I.left input.old) (AppendsFront (O.held out.old) (O.held out.new)) }
     ensures source { result ≡ 5 → Rose (I.faults input.old) (I.faults input.new) }
     ensures sink { result ≡ 6 → Rose (O.faults out.old) (O.faults out.new) }
     ensures only { IsReplayStatus result }
     ensures inputs { I.faults input.old ≤ I.faults input.new }
     ensures outs { O.faults out.old ≤ O.faults out.new }
 {
-    match transcribe(alloc, input, out) {
+    match transcribe(alloc, report, input, out) {
         Ok(()) => 0,
         Err(stop) => stop.status(),
     }
@@ -112,24 +114,29 @@ fn tell_usage<O: Sink>(out: &mut O) -> u8
     }
 }
 
-/// Writes the transcript of the input, to its last byte or with the last line that tells of the stop.
-fn transcribe<I: Source, O: Sink>(alloc: Global, input: &mut I, out: &mut O) -> Result<(), Stop>
-    ensures done { OnOk result (InputDone (I.left input.old) (Appends (O.held out.old) (O.held out.new))) }
+/// Writes the report of the input, to its last byte or with the last line that tells of the stop.
+fn transcribe<I: Source, O: Sink>(
+    alloc: Global,
+    report: Report,
+    input: &mut I,
+    out: &mut O,
+) -> Result<(), Stop>
+    ensures done { OnOk result (InputDone report (I.left input.old) (Appends (O.held out.old) (O.held out.new))) }
     ensures end { OnOk result (IsAtEnd (I.left input.new)) }
     ensures header { (rule : ℕ) → result ≡ Err (Stop.Header rule) → InputBroken (I.left input.old) rule (λ text. Appends (O.held out.old) (O.held out.new) (text ++ header_line rule)) }
-    ensures none { (at reason : ℕ) → result ≡ Err (Stop.Schedule at reason) → InputNoEvent (I.left input.old) at reason (λ text. Appends (O.held out.old) (O.held out.new) (text ++ schedule_line at reason)) }
-    ensures refused { (at why : ℕ) → result ≡ Err (Stop.Refused at why) → InputRefused (I.left input.old) at why (λ text. Appends (O.held out.old) (O.held out.new) (text ++ refused_line at why)) }
-    ensures unbuilt { (at : ℕ) → result ≡ Err (Stop.Unbuilt at) → InputUnbuilt (I.left input.old) at (λ text. Appends (O.held out.old) (O.held out.new) (text ++ unbuilt_line at)) }
-    ensures limit { (at : ℕ) → result ≡ Err (Stop.Limit at) → InputPastLast (I.left input.old) at (λ text. Appends (O.held out.old) (O.held out.new) (text ++ limit_line at)) }
-    ensures broken { result ≡ Err Stop.Source → InputBegun (I.left input.old) (Appends (O.held out.old) (O.held out.new)) ⊎ Rose (O.faults out.old) (O.faults out.new) }
-    ensures cut { OnErr result (InputCut (I.left input.old) (AppendsFront (O.held out.old) (O.held out.new))) }
+    ensures none { (at reason : ℕ) → result ≡ Err (Stop.Schedule at reason) → InputNoEvent report (I.left input.old) at reason (λ text. Appends (O.held out.old) (O.held out.new) (text ++ schedule_line at reason)) }
+    ensures refused { (at why : ℕ) → result ≡ Err (Stop.Refused at why) → InputRefused report (I.left input.old) at why (λ text. Appends (O.held out.old) (O.held out.new) (text ++ refused_line at why)) }
+    ensures unbuilt { (at : ℕ) → result ≡ Err (Stop.Unbuilt at) → InputUnbuilt report (I.left input.old) at (λ text. Appends (O.held out.old) (O.held out.new) (text ++ unbuilt_line at)) }
+    ensures limit { (at : ℕ) → result ≡ Err (Stop.Limit at) → InputPastLast report (I.left input.old) at (λ text. Appends (O.held out.old) (O.held out.new) (text ++ limit_line at)) }
+    ensures broken { result ≡ Err Stop.Source → InputFailed report (I.left input.old) (I.left input.new) (Appends (O.held out.old) (O.held out.new)) ⊎ Rose (O.faults out.old) (O.faults out.new) }
+    ensures cut { OnErr result (InputCut report (I.left input.old) (AppendsFront (O.held out.old) (O.held out.new))) }
     ensures source { result ≡ Err Stop.Source → Rose (I.faults input.old) (I.faults input.new) }
     ensures sink { result ≡ Err Stop.Sink → Rose (O.faults out.old) (O.faults out.new) }
     ensures inputs { I.faults input.old ≤ I.faults input.new }
     ensures outs { O.faults out.old ≤ O.faults out.new }
 {
     let mut waiting = Bytes::new(alloc);
-    match replay(alloc, input, out, &mut waiting) {
+    match replay(alloc, report, input, out, &mut waiting) {
         Ok(()) => match write_on(out, &mut waiting) {
             Ok(()) => Ok(()),
             Err(stop) => Err(stop),

@@ -2,9 +2,10 @@
 ghost use Rattle.std.specs.Prelude.{◌≡◌, ◌≢◌, ◌≤◌, ◌++◌, ◌∷◌, ℕ, List, Option, [], true, false, Ok, Err, IfOk, IfErr};
 ghost use Rattle.std.specs.Io.KnownBytes.{prepend_known};
 ghost use Rattle.mega_base.specs.Causes.{Rose};
+ghost use Rattle.mega_io.specs.TextLines.{BreaksOff};
 ghost use Rattle.mega_cluster.specs.Header.{read_of};
 ghost use Rattle.mega_replay.specs.Headings.{is_mark};
-ghost use Rattle.mega_replay.specs.Known.{IsHeaded, IsBroken, IsRead, HasFront, HasHeader, HasNoMark};
+ghost use Rattle.mega_replay.specs.Known.{HeaderFails, IsHeaded, IsBroken, IsRead, HasFront, HasHeader, HasNoMark};
 ghost use Rattle.mega_replay.specs.Stops.{IsReadStop, IsTextStop, IsHeaderStop};
 
 use crate::status::Stop;
@@ -85,6 +86,7 @@ fn next_part<I: Source>(
     ensures mark { result ≡ Ok Part.Mark → (first : Option (List ℕ)) → HasFront first (prepend_known reader.old (I.left input.old)) text.old → HasHeader first (prepend_known reader.new (I.left input.new)) text.new }
     ensures end { result ≡ Ok Part.End → (first : Option (List ℕ)) → HasFront first (prepend_known reader.old (I.left input.old)) text.old → HasNoMark first text.new }
     ensures long { result ≡ Ok Part.Long → (first : Option (List ℕ)) → HasFront first (prepend_known reader.old (I.left input.old)) text.old → IsBroken first 6 }
+    ensures fault { result ≡ Err Stop.Source → BreaksOff (prepend_known reader.old (I.left input.old)) reader.new (I.left input.new) line.new }
     ensures source { result ≡ Err Stop.Source → Rose (I.faults input.old) (I.faults input.new) }
     ensures only { IfErr result IsReadStop }
     ensures count { I.faults input.old ≤ I.faults input.new }
@@ -110,6 +112,7 @@ fn read_text<I: Source>(
     ensures marked { result ≡ Ok true → HasHeader (prepend_known reader.old (I.left input.old)) (prepend_known reader.new (I.left input.new)) text.new }
     ensures unmarked { result ≡ Ok false → HasNoMark (prepend_known reader.old (I.left input.old)) text.new }
     ensures broken { (rule : ℕ) → result ≡ Err (Stop.Header rule) → IsBroken (prepend_known reader.old (I.left input.old)) rule }
+    ensures fault { result ≡ Err Stop.Source → HeaderFails (prepend_known reader.old (I.left input.old)) (I.left input.new) }
     ensures source { result ≡ Err Stop.Source → Rose (I.faults input.old) (I.faults input.new) }
     ensures only { IfErr result IsHeaderStop }
     ensures count { I.faults input.old ≤ I.faults input.new }
@@ -170,6 +173,7 @@ pub fn read_header<I: Source>(
     ensures headed { IfOk result (λ cluster. IsHeaded (prepend_known reader.old (I.left input.old)) (prepend_known reader.new (I.left input.new)) cluster) }
     ensures read { IfOk result IsRead }
     ensures broken { (rule : ℕ) → result ≡ Err (Stop.Header rule) → IsBroken (prepend_known reader.old (I.left input.old)) rule }
+    ensures fault { result ≡ Err Stop.Source → HeaderFails (prepend_known reader.old (I.left input.old)) (I.left input.new) }
     ensures source { result ≡ Err Stop.Source → Rose (I.faults input.old) (I.faults input.new) }
     ensures only { IfErr result IsHeaderStop }
     ensures count { I.faults input.old ≤ I.faults input.new }

@@ -2,6 +2,7 @@
 ghost use Rattle.std.specs.Prelude.{◌≡◌, ◌≢◌, ◌≤◌, [], Ok, Err, IfErr, length};
 ghost use Rattle.std.specs.Io.KnownBytes.{prepend_known, IsAtEnd};
 ghost use Rattle.mega_base.specs.Causes.{Rose};
+ghost use Rattle.mega_io.specs.TextLines.{BreaksOff};
 ghost use Rattle.mega_replay.specs.Known.{Follows, Ends, IsTooLong};
 ghost use Rattle.mega_replay.specs.Stops.{IsReadStop};
 
@@ -33,6 +34,7 @@ pub fn next_line<I: Source>(
     ensures short { result ≡ Ok Next.Line → length line.new ≤ 65536 }
     ensures end { result ≡ Ok Next.End → Ends (prepend_known reader.old (I.left input.old)) × IsAtEnd (I.left input.new) }
     ensures long { result ≡ Ok Next.Long → IsTooLong (prepend_known reader.old (I.left input.old)) }
+    ensures fault { result ≡ Err Stop.Source → BreaksOff (prepend_known reader.old (I.left input.old)) reader.new (I.left input.new) line.new }
     ensures stops { result ≡ Err Stop.Source → Rose (I.faults input.old) (I.faults input.new) }
     ensures only { IfErr result IsReadStop }
     ensures count { I.faults input.old ≤ I.faults input.new }

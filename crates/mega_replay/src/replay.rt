@@ -1,26 +1,29 @@
 //! A replay: the header, then the lines of the schedule, one after another.
-ghost use Rattle.std.specs.Prelude.{◌≡◌, ◌≤◌, ◌++◌, ◌+◌, ◌⊎◌, [], ℕ, List, Option, Ok, Err, IfErr, OnOk, OnErr, length, drop, true, false, All};
+ghost use Rattle.std.specs.Prelude.{◌≡◌, ◌≤◌, ◌++◌, ◌+◌, ◌⊎◌, [], ℕ, List, Option, Ok, Err, IfErr, OnOk, OnErr, IfOk, length, drop, true, false, All};
 ghost use Rattle.std.specs.Io.KnownBytes.{prepend_known, IsAtEnd};
 ghost use Rattle.mega_base.specs.Causes.{Rose};
-ghost use Rattle.mega_transcript.specs.Lines.{HasLine, lines as text_of};
+ghost use Rattle.mega_io.specs.TextLines.{BreaksOff};
+ghost use Rattle.mega_transcript.specs.Lines.{HasLine};
 ghost use Rattle.mega_schedule.specs.Events.{event_of};
 ghost use Rattle.mega_promises.specs.Runs.{Happening};
 ghost use Rattle.mega_replay.specs.Progress.{Writes, WritesFront};
 ghost use Rattle.mega_replay.specs.Running.{StandsAfter, IsStanding, Went, stood};
 ghost use Rattle.mega_replay.specs.Replaying.{IsRefused, IsUnbuilt, IsPastLast};
-ghost use Rattle.mega_replay.specs.Known.{Follows, Ends, StopsNext, LeftIsDone, LeftIsBegun, LeftStops, CutsLine, IsRead, InputDone, InputBegun, InputBroken, InputNoEvent, InputRefused, InputUnbuilt, InputPastLast};
+ghost use Rattle.mega_replay.specs.Known.{Follows, Ends, StopsNext, LeftRanOut, LeftIsDone, LeftIsBegun, LeftStops, LeftFails, CutsLine, IsRead, InputDone, InputBegun, InputBroken, InputFailed, InputNoEvent, InputRefused, InputUnbuilt, InputPastLast};
 ghost use Rattle.mega_replay.specs.Stops.{IsBeforeWriting, IsScheduleStop};
+ghost use Rattle.mega_replay.specs.Texts.{so_far};
 
 use crate::happening::take_line;
 use crate::heading::read_header;
 use crate::input::{Next, next_line};
 use crate::opening::opened;
 use crate::status::Stop;
-use crate::writing::write_from;
+use crate::writing::{write_end, write_from};
 use mega_base::{Bytes, Items};
 use mega_cluster::Cluster;
 use mega_io::{LineReader, Sink, Source};
 use mega_transcript::Tape;
+use mega_words::Report;
 use mega_world::World;
 use std::alloc::Global;
 
@@ -30,6 +33,7 @@ const LINES: u64 = 1_000_000;
 /// Does the next line of the schedule and writes what happened, or tells that there is none.
 fn do_line<I: Source, O: Sink>(
     alloc: Global,
+    report: Report,
     cluster: &Cluster,
     reader: &mut LineReader,
     input: &mut I,
@@ -44,7 +48,7 @@ fn do_line<I: Source, O: Sink>(
     requires standing { IsStanding cluster.now world.old tape.old.items }
     ensures step { result ≡ Ok true → (done : List (List ℕ)) (events : List Happening) → StandsAfter cluster.now done events world.old tape.old.items → Went cluster.now number line.new events world.new tape.new.items }
     ensures line { result ≡ Ok true → Follows (prepend_known reader.old (I.left input.old)) (prepend_known reader.new (I.left input.new)) line.new }
-    ensures text { result ≡ Ok true → Writes (O.held out.old) (O.held out.new) waiting.new (waiting.old ++ text_of (cluster.now).schema (drop (length tape.old.items) tape.new.items)) }
+    ensures text { result ≡ Ok true → Writes (O.held out.old) (O.held out.new) waiting.new (waiting.old ++ so_far report (cluster.now).schema (drop (length tape.old.items) tape.new.items)) }
     ensures still { result ≡ Ok false → (tape.new.items ≡ tape.old.items) × (O.held out.new ≡ O.held out.old) × (waiting.new ≡ waiting.old) }
     ensures end { result ≡ Ok false → Ends (prepend_known reader.old (I.left input.old)) × IsAtEnd (I.left input.new) }
     ensures none { (at reason : ℕ) → result ≡ Err (Stop.Schedule at reason) → (at ≡ number) × StopsNext (prepend_known reader.old (I.left input.old)) (λ line. event_of (cluster.now).schema number line ≡ Err reason) }
@@ -52,7 +56,8 @@ fn do_line<I: Source, O: Sink>(
     ensures limit { (at : ℕ) → result ≡ Err (Stop.Limit at) → (done : List (List ℕ)) (events : List Happening) → StandsAfter cluster.now done events world.old tape.old.items → (at ≡ number) × StopsNext (prepend_known reader.old (I.left input.old)) (λ line. IsPastLast cluster.now number line (stood cluster.now events)) }
     ensures refused { (at why : ℕ) → result ≡ Err (Stop.Refused at why) → (done : List (List ℕ)) (events : List Happening) → StandsAfter cluster.now done events world.old tape.old.items → (at ≡ number) × StopsNext (prepend_known reader.old (I.left input.old)) (λ line. IsRefused cluster.now number line (stood cluster.now events) why) }
     ensures kept { IfErr result (λ stop. IsBeforeWriting stop → (O.held out.new ≡ O.held out.old) × (waiting.new ≡ waiting.old)) }
-    ensures cut { OnErr result ((done : List (List ℕ)) (events : List Happening) → StandsAfter cluster.now done events world.old tape.old.items → CutsLine cluster.now number (prepend_known reader.old (I.left input.old)) (prepend_known reader.new (I.left input.new)) line.new events world.new tape.old.items tape.new.items (WritesFront (O.held out.old) (O.held out.new) waiting.new) waiting.old) }
+    ensures cut { OnErr result ((done : List (List ℕ)) (events : List Happening) → StandsAfter cluster.now done events world.old tape.old.items → CutsLine report cluster.now number (prepend_known reader.old (I.left input.old)) (prepend_known reader.new (I.left input.new)) line.new events world.new tape.old.items tape.new.items (WritesFront (O.held out.old) (O.held out.new) waiting.new) waiting.old) }
+    ensures fault { result ≡ Err Stop.Source → BreaksOff (prepend_known reader.old (I.left input.old)) reader.new (I.left input.new) line.new }
     ensures source { result ≡ Err Stop.Source → Rose (I.faults input.old) (I.faults input.new) }
     ensures sink { result ≡ Err Stop.Sink → Rose (O.faults out.old) (O.faults out.new) }
     ensures only { IfErr result IsScheduleStop }
@@ -74,15 +79,16 @@ fn do_line<I: Source, O: Sink>(
         Ok(()) => {}
         Err(stop) => return Err(stop),
     }
-    match write_from(alloc, &cluster.schema, tape, written, out, waiting) {
+    match write_from(alloc, report, &cluster.schema, tape, written, out, waiting) {
         Ok(()) => Ok(true),
         Err(stop) => Err(stop),
     }
 }
 
-/// Does the lines of the schedule, to the input's end.
+/// Does the lines of the schedule, to the input's end, and gives how many they were.
 fn run_lines<I: Source, O: Sink>(
     alloc: Global,
+    report: Report,
     cluster: &Cluster,
     reader: &mut LineReader,
     input: &mut I,
@@ -91,17 +97,18 @@ fn run_lines<I: Source, O: Sink>(
     tape: &mut Tape,
     out: &mut O,
     waiting: &mut Bytes,
-) -> Result<(), Stop>
+) -> Result<u64, Stop>
     requires standing { StandsAfter cluster.now [] [] world.old tape.old.items }
     requires lines { All HasLine tape.old.items }
-    ensures done { OnOk result ((first : Option (List ℕ)) → Writes first (O.held out.old) waiting.old (text_of (cluster.now).schema tape.old.items) → LeftIsDone cluster.now (prepend_known reader.old (I.left input.old)) (Writes first (O.held out.new) waiting.new)) }
+    ensures done { IfOk result (λ count. LeftRanOut cluster.now (prepend_known reader.old (I.left input.old)) tape.new.items count) }
+    ensures text { OnOk result ((first : Option (List ℕ)) → Writes first (O.held out.old) waiting.old (so_far report (cluster.now).schema tape.old.items) → Writes first (O.held out.new) waiting.new (so_far report (cluster.now).schema tape.new.items)) }
     ensures end { OnOk result (IsAtEnd (I.left input.new)) }
-    ensures none { (at reason : ℕ) → result ≡ Err (Stop.Schedule at reason) → (first : Option (List ℕ)) → Writes first (O.held out.old) waiting.old (text_of (cluster.now).schema tape.old.items) → LeftStops cluster.now (prepend_known reader.old (I.left input.old)) at (λ line now. event_of (cluster.now).schema at line ≡ Err reason) (Writes first (O.held out.new) waiting.new) }
-    ensures unbuilt { (at : ℕ) → result ≡ Err (Stop.Unbuilt at) → (first : Option (List ℕ)) → Writes first (O.held out.old) waiting.old (text_of (cluster.now).schema tape.old.items) → LeftStops cluster.now (prepend_known reader.old (I.left input.old)) at (λ line now. IsUnbuilt cluster.now at line now) (Writes first (O.held out.new) waiting.new) }
-    ensures limit { (at : ℕ) → result ≡ Err (Stop.Limit at) → (first : Option (List ℕ)) → Writes first (O.held out.old) waiting.old (text_of (cluster.now).schema tape.old.items) → LeftStops cluster.now (prepend_known reader.old (I.left input.old)) at (λ line now. IsPastLast cluster.now at line now) (Writes first (O.held out.new) waiting.new) }
-    ensures refused { (at why : ℕ) → result ≡ Err (Stop.Refused at why) → (first : Option (List ℕ)) → Writes first (O.held out.old) waiting.old (text_of (cluster.now).schema tape.old.items) → LeftStops cluster.now (prepend_known reader.old (I.left input.old)) at (λ line now. IsRefused cluster.now at line now why) (Writes first (O.held out.new) waiting.new) }
-    ensures broken { result ≡ Err Stop.Source → (first : Option (List ℕ)) → Writes first (O.held out.old) waiting.old (text_of (cluster.now).schema tape.old.items) → LeftIsBegun cluster.now (prepend_known reader.old (I.left input.old)) (Writes first (O.held out.new) waiting.new) }
-    ensures cut { OnErr result ((first : Option (List ℕ)) → Writes first (O.held out.old) waiting.old (text_of (cluster.now).schema tape.old.items) → LeftIsBegun cluster.now (prepend_known reader.old (I.left input.old)) (WritesFront first (O.held out.new) waiting.new)) }
+    ensures none { (at reason : ℕ) → result ≡ Err (Stop.Schedule at reason) → (first : Option (List ℕ)) → Writes first (O.held out.old) waiting.old (so_far report (cluster.now).schema tape.old.items) → LeftStops report cluster.now (prepend_known reader.old (I.left input.old)) at (λ line now. event_of (cluster.now).schema at line ≡ Err reason) (Writes first (O.held out.new) waiting.new) }
+    ensures unbuilt { (at : ℕ) → result ≡ Err (Stop.Unbuilt at) → (first : Option (List ℕ)) → Writes first (O.held out.old) waiting.old (so_far report (cluster.now).schema tape.old.items) → LeftStops report cluster.now (prepend_known reader.old (I.left input.old)) at (λ line now. IsUnbuilt cluster.now at line now) (Writes first (O.held out.new) waiting.new) }
+    ensures limit { (at : ℕ) → result ≡ Err (Stop.Limit at) → (first : Option (List ℕ)) → Writes first (O.held out.old) waiting.old (so_far report (cluster.now).schema tape.old.items) → LeftStops report cluster.now (prepend_known reader.old (I.left input.old)) at (λ line now. IsPastLast cluster.now at line now) (Writes first (O.held out.new) waiting.new) }
+    ensures refused { (at why : ℕ) → result ≡ Err (Stop.Refused at why) → (first : Option (List ℕ)) → Writes first (O.held out.old) waiting.old (so_far report (cluster.now).schema tape.old.items) → LeftStops report cluster.now (prepend_known reader.old (I.left input.old)) at (λ line now. IsRefused cluster.now at line now why) (Writes first (O.held out.new) waiting.new) }
+    ensures broken { result ≡ Err Stop.Source → (first : Option (List ℕ)) → Writes first (O.held out.old) waiting.old (so_far report (cluster.now).schema tape.old.items) → LeftFails report cluster.now (prepend_known reader.old (I.left input.old)) (I.left input.new) (Writes first (O.held out.new) waiting.new) }
+    ensures cut { OnErr result ((first : Option (List ℕ)) → Writes first (O.held out.old) waiting.old (so_far report (cluster.now).schema tape.old.items) → LeftIsBegun report cluster.now (prepend_known reader.old (I.left input.old)) (WritesFront first (O.held out.new) waiting.new)) }
     ensures source { result ≡ Err Stop.Source → Rose (I.faults input.old) (I.faults input.new) }
     ensures sink { result ≡ Err Stop.Sink → Rose (O.faults out.old) (O.faults out.new) }
     ensures only { IfErr result IsScheduleStop }
@@ -111,6 +118,7 @@ fn run_lines<I: Source, O: Sink>(
     for count in 0..LINES {
         match do_line(
             alloc,
+            report,
             cluster,
             reader,
             input,
@@ -122,12 +130,12 @@ fn run_lines<I: Source, O: Sink>(
             waiting,
         ) {
             Ok(true) => {}
-            Ok(false) => return Ok(()),
+            Ok(false) => return Ok(count),
             Err(stop) => return Err(stop),
         }
     }
     match next_line(reader, input, line) {
-        Ok(Next::End) => Ok(()),
+        Ok(Next::End) => Ok(LINES),
         Ok(Next::Line) => Err(Stop::Schedule {
             line: LINES + 1,
             reason: 8,
@@ -140,9 +148,51 @@ fn run_lines<I: Source, O: Sink>(
     }
 }
 
+/// Does the lines of the schedule, to the input's end, and adds what the report has there.
+fn run_whole<I: Source, O: Sink>(
+    alloc: Global,
+    report: Report,
+    cluster: &Cluster,
+    reader: &mut LineReader,
+    input: &mut I,
+    line: &mut Bytes,
+    world: &mut World,
+    tape: &mut Tape,
+    out: &mut O,
+    waiting: &mut Bytes,
+) -> Result<(), Stop>
+    requires standing { StandsAfter cluster.now [] [] world.old tape.old.items }
+    requires lines { All HasLine tape.old.items }
+    ensures done { OnOk result ((first : Option (List ℕ)) → Writes first (O.held out.old) waiting.old (so_far report (cluster.now).schema tape.old.items) → LeftIsDone report cluster.now (prepend_known reader.old (I.left input.old)) (Writes first (O.held out.new) waiting.new)) }
+    ensures end { OnOk result (IsAtEnd (I.left input.new)) }
+    ensures none { (at reason : ℕ) → result ≡ Err (Stop.Schedule at reason) → (first : Option (List ℕ)) → Writes first (O.held out.old) waiting.old (so_far report (cluster.now).schema tape.old.items) → LeftStops report cluster.now (prepend_known reader.old (I.left input.old)) at (λ line now. event_of (cluster.now).schema at line ≡ Err reason) (Writes first (O.held out.new) waiting.new) }
+    ensures unbuilt { (at : ℕ) → result ≡ Err (Stop.Unbuilt at) → (first : Option (List ℕ)) → Writes first (O.held out.old) waiting.old (so_far report (cluster.now).schema tape.old.items) → LeftStops report cluster.now (prepend_known reader.old (I.left input.old)) at (λ line now. IsUnbuilt cluster.now at line now) (Writes first (O.held out.new) waiting.new) }
+    ensures limit { (at : ℕ) → result ≡ Err (Stop.Limit at) → (first : Option (List ℕ)) → Writes first (O.held out.old) waiting.old (so_far report (cluster.now).schema tape.old.items) → LeftStops report cluster.now (prepend_known reader.old (I.left input.old)) at (λ line now. IsPastLast cluster.now at line now) (Writes first (O.held out.new) waiting.new) }
+    ensures refused { (at why : ℕ) → result ≡ Err (Stop.Refused at why) → (first : Option (List ℕ)) → Writes first (O.held out.old) waiting.old (so_far report (cluster.now).schema tape.old.items) → LeftStops report cluster.now (prepend_known reader.old (I.left input.old)) at (λ line now. IsRefused cluster.now at line now why) (Writes first (O.held out.new) waiting.new) }
+    ensures broken { result ≡ Err Stop.Source → (first : Option (List ℕ)) → Writes first (O.held out.old) waiting.old (so_far report (cluster.now).schema tape.old.items) → LeftFails report cluster.now (prepend_known reader.old (I.left input.old)) (I.left input.new) (Writes first (O.held out.new) waiting.new) }
+    ensures cut { OnErr result ((first : Option (List ℕ)) → Writes first (O.held out.old) waiting.old (so_far report (cluster.now).schema tape.old.items) → LeftIsBegun report cluster.now (prepend_known reader.old (I.left input.old)) (WritesFront first (O.held out.new) waiting.new)) }
+    ensures source { result ≡ Err Stop.Source → Rose (I.faults input.old) (I.faults input.new) }
+    ensures sink { result ≡ Err Stop.Sink → Rose (O.faults out.old) (O.faults out.new) }
+    ensures only { IfErr result IsScheduleStop }
+    ensures inputs { I.faults input.old ≤ I.faults input.new }
+    ensures outs { O.faults out.old ≤ O.faults out.new }
+{
+    let count = match run_lines(
+        alloc, report, cluster, reader, input, line, world, tape, out, waiting,
+    ) {
+        Ok(count) => count,
+        Err(stop) => return Err(stop),
+    };
+    match write_end(alloc, report, tape, count, waiting) {
+        Ok(()) => Ok(()),
+        Err(stop) => Err(stop),
+    }
+}
+
 /// Starts the nodes, writes that, and does the lines of the schedule.
 fn run_schedule<I: Source, O: Sink>(
     alloc: Global,
+    report: Report,
     cluster: &Cluster,
     reader: &mut LineReader,
     input: &mut I,
@@ -152,14 +202,14 @@ fn run_schedule<I: Source, O: Sink>(
 ) -> Result<(), Stop>
     requires read { IsRead cluster.now }
     requires none_waits { waiting.old ≡ [] }
-    ensures done { OnOk result (LeftIsDone cluster.now (prepend_known reader.old (I.left input.old)) (Writes (O.held out.old) (O.held out.new) waiting.new)) }
+    ensures done { OnOk result (LeftIsDone report cluster.now (prepend_known reader.old (I.left input.old)) (Writes (O.held out.old) (O.held out.new) waiting.new)) }
     ensures end { OnOk result (IsAtEnd (I.left input.new)) }
-    ensures none { (at reason : ℕ) → result ≡ Err (Stop.Schedule at reason) → LeftStops cluster.now (prepend_known reader.old (I.left input.old)) at (λ line now. event_of (cluster.now).schema at line ≡ Err reason) (Writes (O.held out.old) (O.held out.new) waiting.new) }
-    ensures unbuilt { (at : ℕ) → result ≡ Err (Stop.Unbuilt at) → LeftStops cluster.now (prepend_known reader.old (I.left input.old)) at (λ line now. IsUnbuilt cluster.now at line now) (Writes (O.held out.old) (O.held out.new) waiting.new) }
-    ensures limit { (at : ℕ) → result ≡ Err (Stop.Limit at) → LeftStops cluster.now (prepend_known reader.old (I.left input.old)) at (λ line now. IsPastLast cluster.now at line now) (Writes (O.held out.old) (O.held out.new) waiting.new) }
-    ensures refused { (at why : ℕ) → result ≡ Err (Stop.Refused at why) → LeftStops cluster.now (prepend_known reader.old (I.left input.old)) at (λ line now. IsRefused cluster.now at line now why) (Writes (O.held out.old) (O.held out.new) waiting.new) }
-    ensures broken { result ≡ Err Stop.Source → LeftIsBegun cluster.now (prepend_known reader.old (I.left input.old)) (Writes (O.held out.old) (O.held out.new) waiting.new) }
-    ensures cut { OnErr result (LeftIsBegun cluster.now (prepend_known reader.old (I.left input.old)) (WritesFront (O.held out.old) (O.held out.new) waiting.new)) }
+    ensures none { (at reason : ℕ) → result ≡ Err (Stop.Schedule at reason) → LeftStops report cluster.now (prepend_known reader.old (I.left input.old)) at (λ line now. event_of (cluster.now).schema at line ≡ Err reason) (Writes (O.held out.old) (O.held out.new) waiting.new) }
+    ensures unbuilt { (at : ℕ) → result ≡ Err (Stop.Unbuilt at) → LeftStops report cluster.now (prepend_known reader.old (I.left input.old)) at (λ line now. IsUnbuilt cluster.now at line now) (Writes (O.held out.old) (O.held out.new) waiting.new) }
+    ensures limit { (at : ℕ) → result ≡ Err (Stop.Limit at) → LeftStops report cluster.now (prepend_known reader.old (I.left input.old)) at (λ line now. IsPastLast cluster.now at line now) (Writes (O.held out.old) (O.held out.new) waiting.new) }
+    ensures refused { (at why : ℕ) → result ≡ Err (Stop.Refused at why) → LeftStops report cluster.now (prepend_known reader.old (I.left input.old)) at (λ line now. IsRefused cluster.now at line now why) (Writes (O.held out.old) (O.held out.new) waiting.new) }
+    ensures broken { result ≡ Err Stop.Source → LeftFails report cluster.now (prepend_known reader.old (I.left input.old)) (I.left input.new) (Writes (O.held out.old) (O.held out.new) waiting.new) }
+    ensures cut { OnErr result (LeftIsBegun report cluster.now (prepend_known reader.old (I.left input.old)) (WritesFront (O.held out.old) (O.held out.new) waiting.new)) }
     ensures source { result ≡ Err Stop.Source → Rose (I.faults input.old) (I.faults input.new) }
     ensures sink { result ≡ Err Stop.Sink → Rose (O.faults out.old) (O.faults out.new) }
     ensures only { IfErr result IsScheduleStop }
@@ -173,35 +223,36 @@ fn run_schedule<I: Source, O: Sink>(
         Ok(world) => world,
         Err(stop) => return Err(stop),
     };
-    match write_from(alloc, &cluster.schema, &tape, 0, out, waiting) {
+    match write_from(alloc, report, &cluster.schema, &tape, 0, out, waiting) {
         Ok(()) => {}
         Err(stop) => return Err(stop),
     }
-    run_lines(
-        alloc, cluster, reader, input, line, &mut world, &mut tape, out, waiting,
+    run_whole(
+        alloc, report, cluster, reader, input, line, &mut world, &mut tape, out, waiting,
     )
 }
 
-/// Reads a header and a schedule, and writes the transcript of what happens; its last bytes may wait.
+/// Reads a header and a schedule, and writes the report of what happens; its last bytes may wait.
 /// It is done exactly where the header reads as a cluster and every line is an event that happens; it
 /// stops at a header that breaks a rule, and else at the first line that is no event, is refused or is
 /// not served.
 pub fn replay<I: Source, O: Sink>(
     alloc: Global,
+    report: Report,
     input: &mut I,
     out: &mut O,
     waiting: &mut Bytes,
 ) -> Result<(), Stop>
     requires { waiting.old ≡ [] }
-    ensures done { OnOk result (InputDone (I.left input.old) (Writes (O.held out.old) (O.held out.new) waiting.new)) }
+    ensures done { OnOk result (InputDone report (I.left input.old) (Writes (O.held out.old) (O.held out.new) waiting.new)) }
     ensures end { OnOk result (IsAtEnd (I.left input.new)) }
     ensures header { (rule : ℕ) → result ≡ Err (Stop.Header rule) → InputBroken (I.left input.old) rule (Writes (O.held out.old) (O.held out.new) waiting.new) }
-    ensures none { (at reason : ℕ) → result ≡ Err (Stop.Schedule at reason) → InputNoEvent (I.left input.old) at reason (Writes (O.held out.old) (O.held out.new) waiting.new) }
-    ensures unbuilt { (at : ℕ) → result ≡ Err (Stop.Unbuilt at) → InputUnbuilt (I.left input.old) at (Writes (O.held out.old) (O.held out.new) waiting.new) }
-    ensures limit { (at : ℕ) → result ≡ Err (Stop.Limit at) → InputPastLast (I.left input.old) at (Writes (O.held out.old) (O.held out.new) waiting.new) }
-    ensures refused { (at why : ℕ) → result ≡ Err (Stop.Refused at why) → InputRefused (I.left input.old) at why (Writes (O.held out.old) (O.held out.new) waiting.new) }
-    ensures broken { result ≡ Err Stop.Source → InputBegun (I.left input.old) (Writes (O.held out.old) (O.held out.new) waiting.new) }
-    ensures cut { OnErr result (InputBegun (I.left input.old) (WritesFront (O.held out.old) (O.held out.new) waiting.new)) }
+    ensures none { (at reason : ℕ) → result ≡ Err (Stop.Schedule at reason) → InputNoEvent report (I.left input.old) at reason (Writes (O.held out.old) (O.held out.new) waiting.new) }
+    ensures unbuilt { (at : ℕ) → result ≡ Err (Stop.Unbuilt at) → InputUnbuilt report (I.left input.old) at (Writes (O.held out.old) (O.held out.new) waiting.new) }
+    ensures limit { (at : ℕ) → result ≡ Err (Stop.Limit at) → InputPastLast report (I.left input.old) at (Writes (O.held out.old) (O.held out.new) waiting.new) }
+    ensures refused { (at why : ℕ) → result ≡ Err (Stop.Refused at why) → InputRefused report (I.left input.old) at why (Writes (O.held out.old) (O.held out.new) waiting.new) }
+    ensures broken { result ≡ Err Stop.Source → InputFailed report (I.left input.old) (I.left input.new) (Writes (O.held out.old) (O.held out.new) waiting.new) }
+    ensures cut { OnErr result (InputBegun report (I.left input.old) (WritesFront (O.held out.old) (O.held out.new) waiting.new)) }
     ensures source { result ≡ Err Stop.Source → Rose (I.faults input.old) (I.faults input.new) }
     ensures sink { result ≡ Err Stop.Sink → Rose (O.faults out.old) (O.faults out.new) }
     ensures inputs { I.faults input.old ≤ I.faults input.new }
@@ -216,5 +267,14 @@ pub fn replay<I: Source, O: Sink>(
         Ok(cluster) => cluster,
         Err(stop) => return Err(stop),
     };
-    run_schedule(alloc, &cluster, &mut reader, input, &mut line, out, waiting)
+    run_schedule(
+        alloc,
+        report,
+        &cluster,
+        &mut reader,
+        input,
+        &mut line,
+        out,
+        waiting,
+    )
 }

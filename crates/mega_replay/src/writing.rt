@@ -1,4 +1,4 @@
-//! The text of items on its way to the sink.
+//! What a replay writes of its tape, on its way to the sink.
 ghost use Rattle.std.specs.Prelude.{◌≡◌, ◌≤◌, ◌++◌, [], Ok, Err, IfErr, OnOk, OnErr, drop, All};
 ghost use Rattle.std.specs.Io.KnownBytes.{Appends};
 ghost use Rattle.mega_base.specs.Causes.{Rose};
@@ -6,12 +6,14 @@ ghost use Rattle.mega_io.specs.Pieces.{AppendsFront};
 ghost use Rattle.mega_transcript.specs.Lines.{HasLine, line as line_of, lines as text_of};
 ghost use Rattle.mega_replay.specs.Progress.{Writes, WritesFront};
 ghost use Rattle.mega_replay.specs.Stops.{IsWriteStop};
+ghost use Rattle.mega_replay.specs.Texts.{at_end, so_far};
 
 use crate::status::Stop;
 use mega_base::Bytes;
 use mega_io::{Sink, SinkError, put};
 use mega_schema::Schema;
-use mega_transcript::{Item, Tape, text};
+use mega_transcript::{Item, Tape, summary, text};
+use mega_words::Report;
 use std::alloc::Global;
 
 /// How many bytes wait before they are written on.
@@ -65,7 +67,7 @@ fn items_from(tape: &Tape, from: usize) -> &[Item]
 }
 
 /// Writes the lines of the tape's items from an index on.
-pub fn write_from<O: Sink>(
+fn write_lines<O: Sink>(
     alloc: Global,
     schema: &Schema,
     tape: &Tape,
@@ -88,6 +90,51 @@ pub fn write_from<O: Sink>(
         }
     }
     Ok(())
+}
+
+/// Writes what the report shows of the tape's items from an index on, as they come: a summary shows none.
+#[tactic(auto, using(crate::proofs::Progress::nothing_added))]
+pub fn write_from<O: Sink>(
+    alloc: Global,
+    report: Report,
+    schema: &Schema,
+    tape: &Tape,
+    from: usize,
+    out: &mut O,
+    waiting: &mut Bytes,
+) -> Result<(), Stop>
+    requires { All HasLine tape.now.items }
+    ensures text { OnOk result (Writes (O.held out.old) (O.held out.new) waiting.new (waiting.old ++ so_far report schema.now (drop from tape.now.items))) }
+    ensures cut { OnErr result (WritesFront (O.held out.old) (O.held out.new) waiting.new (waiting.old ++ so_far report schema.now (drop from tape.now.items))) }
+    ensures sink { result ≡ Err Stop.Sink → Rose (O.faults out.old) (O.faults out.new) }
+    ensures only { IfErr result IsWriteStop }
+    ensures count { O.faults out.old ≤ O.faults out.new }
+{
+    match report {
+        Report::Transcript => write_lines(alloc, schema, tape, from, out, waiting),
+        Report::Summary => Ok(()),
+    }
+}
+
+/// Adds what the report has at the end of a replay of so many lines: a summary is all there.
+pub fn write_end(
+    alloc: Global,
+    report: Report,
+    tape: &Tape,
+    lines: u64,
+    waiting: &mut Bytes,
+) -> Result<(), Stop>
+    ensures ok { OnOk result (waiting.new ≡ waiting.old ++ at_end report tape.now.items lines) }
+    ensures err { OnErr result (waiting.new ≡ waiting.old) }
+    ensures only { IfErr result (λ stop. stop ≡ Stop.NoMemory) }
+{
+    match report {
+        Report::Transcript => Ok(()),
+        Report::Summary => match summary(alloc, tape, lines, waiting) {
+            Ok(()) => Ok(()),
+            Err(_) => Err(Stop::NoMemory),
+        },
+    }
 }
 
 /// Writes the line of an item.

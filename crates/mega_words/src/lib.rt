@@ -6,4 +6,4 @@ mod number;
 mod option;
 pub mod worked;
 
-pub use command::{Command, command_of};
+pub use command::{Command, Report, command_of};

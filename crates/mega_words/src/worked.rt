@@ -2,14 +2,17 @@
 ghost use Rattle.std.specs.Prelude.{◌≡◌, codes, [], ◌∷◌, Some, None};
 ghost use Rattle.mega_words.specs.Commands.{command_of};
 ghost use Rattle.mega_words.specs.declared.command.Command.TheVariants.{Gen, Replay};
+ghost use Rattle.mega_words.specs.declared.command.Report.TheVariants.{Summary, Transcript};
 
 /// Options come in any order, with their values behind `=` or as the next word; each comes once, and is in its range.
 #[tactic(auto, unfolding(crate::specs::Numbers::number_in))]
 pub fn words_are_read()
-    ensures replay { command_of (codes "replay" ∷ []) ≡ Some Replay }
+    ensures replay { command_of (codes "replay" ∷ []) ≡ Some (Replay Transcript) }
+    ensures counted { command_of (codes "replay" ∷ codes "--summary" ∷ []) ≡ Some (Replay Summary) }
     ensures drawn { command_of (codes "gen" ∷ codes "--nodes=5" ∷ codes "--seed" ∷ codes "007" ∷ codes "--count" ∷ codes "5000" ∷ []) ≡ Some (Gen 7 5000 5) }
     ensures twice { command_of (codes "gen" ∷ codes "--seed=7" ∷ codes "--seed=7" ∷ codes "--nodes=5" ∷ []) ≡ None }
     ensures range { command_of (codes "gen" ∷ codes "--seed=7" ∷ codes "--count=5" ∷ codes "--nodes=10" ∷ []) ≡ None }
     ensures wanting { command_of (codes "gen" ∷ codes "--seed=7" ∷ codes "--count=5" ∷ codes "--nodes" ∷ []) ≡ None }
+    ensures valued { command_of (codes "replay" ∷ codes "--summary=1" ∷ []) ≡ None }
     ensures more { command_of (codes "replay" ∷ codes "replay" ∷ []) ≡ None }
 {}

@@ -12,18 +12,18 @@ returns-in-Err-clause-header g c is =
 
 pub returns-in-Err-clause-refused : goal.returns-in-Err-clause-refused
 returns-in-Err-clause-refused g c is =
-    refused_by c.in-Err.stop (λ line reason. InputNoEvent (g.I.Source.left c.args.input.now) line reason (λ text. Appends (g.O.Sink.held c.args.out.now) (g.O.Sink.held c.transcribe.new.out) (text ++ schedule_line line reason)))
-    (λ line why. InputRefused (g.I.Source.left c.args.input.now) line why (λ text. Appends (g.O.Sink.held c.args.out.now) (g.O.Sink.held c.transcribe.new.out) (text ++ refused_line line why)))
+    refused_by c.in-Err.stop (λ line reason. InputNoEvent c.args.report (g.I.Source.left c.args.input.now) line reason (λ text. Appends (g.O.Sink.held c.args.out.now) (g.O.Sink.held c.transcribe.new.out) (text ++ schedule_line line reason)))
+    (λ line why. InputRefused c.args.report (g.I.Source.left c.args.input.now) line why (λ text. Appends (g.O.Sink.held c.args.out.now) (g.O.Sink.held c.transcribe.new.out) (text ++ refused_line line why)))
     (sym c.status.ensures ∙ is) (λ line reason stop. c.in-Err.ensures.none line reason (ap Err stop)) (λ line why stop. c.in-Err.ensures.refused line why (ap Err stop))
 
 pub returns-in-Err-clause-unbuilt : goal.returns-in-Err-clause-unbuilt
 returns-in-Err-clause-unbuilt g c is =
-    unbuilt_by c.in-Err.stop (λ line. InputUnbuilt (g.I.Source.left c.args.input.now) line (λ text. Appends (g.O.Sink.held c.args.out.now) (g.O.Sink.held c.transcribe.new.out) (text ++ unbuilt_line line)))
+    unbuilt_by c.in-Err.stop (λ line. InputUnbuilt c.args.report (g.I.Source.left c.args.input.now) line (λ text. Appends (g.O.Sink.held c.args.out.now) (g.O.Sink.held c.transcribe.new.out) (text ++ unbuilt_line line)))
     (sym c.status.ensures ∙ is) (λ line stop. c.in-Err.ensures.unbuilt line (ap Err stop))
 
 pub returns-in-Err-clause-limit : goal.returns-in-Err-clause-limit
 returns-in-Err-clause-limit g c is =
-    limit_by c.in-Err.stop (λ line. InputPastLast (g.I.Source.left c.args.input.now) line (λ text. Appends (g.O.Sink.held c.args.out.now) (g.O.Sink.held c.transcribe.new.out) (text ++ limit_line line)))
+    limit_by c.in-Err.stop (λ line. InputPastLast c.args.report (g.I.Source.left c.args.input.now) line (λ text. Appends (g.O.Sink.held c.args.out.now) (g.O.Sink.held c.transcribe.new.out) (text ++ limit_line line)))
     (sym c.status.ensures ∙ is) (λ line stop. c.in-Err.ensures.limit line (ap Err stop))
 
 pub returns-in-Err-clause-broken : goal.returns-in-Err-clause-broken

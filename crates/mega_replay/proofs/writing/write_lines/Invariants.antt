@@ -1,7 +1,7 @@
 use Rattle.std.proofs.Common.{◌≤◌, ◌++◌, take}
 use Rattle.mega_transcript.specs.Lines.{lines as text_of}
 use Rattle.mega_replay.specs.Progress.{Writes}
-use Rattle.mega_replay.proofs.writing.write_from.Given as goal
+use Rattle.mega_replay.proofs.writing.write_lines.Given as goal
 
 abbrev pub invariant-loop-item : goal.invariant-loop-item
 invariant-loop-item g l =

@@ -3,7 +3,7 @@ use Rattle.mega_transcript.specs.declared.item.Item.{Item}
 use Rattle.mega_transcript.specs.Lines.{lines as text_of}
 use Rattle.mega_replay.specs.Progress.{WritesFront}
 use Rattle.mega_replay.proofs.Texts.{item_written, item_cut}
-use Rattle.mega_replay.proofs.writing.write_from.Goals as goal
+use Rattle.mega_replay.proofs.writing.write_lines.Goals as goal
 
 pub returns-in-Err-clause-cut : goal.returns-in-Err-clause-cut
 returns-in-Err-clause-cut g c =
