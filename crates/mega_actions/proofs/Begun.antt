@@ -1,9 +1,10 @@
 -- What a request does that begins: it is answered at once, or acts in turn with the read of its group.
-use Rattle.std.proofs.Common.{◌≡◌, ◌∙◌, ℕ, ◌∷◌, [], true, false, List, Option, None, Some, sym, ap}
-use Rattle.std.specs.Prelude.{not}
+use Rattle.std.proofs.Common.{◌≡◌, ◌∙◌, ℕ, ◌∷◌, [], true, false, List, Option, None, Some, refl, sym, ap}
+use Rattle.std.specs.Prelude.{◌&&◌, is_some, not}
 use Rattle.mega_base.specs.declared.names.GroupId.{GroupId}
 use Rattle.mega_base.specs.declared.names.OpId.{OpId}
 use Rattle.mega_outcome.specs.declared.answer.Answer.{Answer}
+use Rattle.mega_outcome.specs.declared.request.FindRequest.{FindRequest}
 use Rattle.mega_outcome.specs.declared.request.Mode.{Mode}
 use Rattle.mega_outcome.specs.declared.request.Mode.TheVariants.{Current, Snapshot, Inconsistent}
 use Rattle.mega_outcome.specs.declared.request.ReadRequest.{ReadRequest}
@@ -13,10 +14,10 @@ use Rattle.mega_read.specs.declared.reading.Move.{Move}
 use Rattle.mega_rules.specs.Clock.{clock_of}
 use Rattle.mega_rules.specs.Operations.{Now, Reads, Setting}
 use Rattle.mega_rules.specs.Acting.{begins_read, ends, goes_on, read_begun}
-use Rattle.mega_rules.specs.Steps.{Heard, acts_in_turn, begins, is_current, new_operation, read_begins}
+use Rattle.mega_rules.specs.Steps.{Heard, acts_in_turn, begins, find_begins, is_current, local_find_begins, new_operation, read_begins}
 use Rattle.mega_node_laws.specs.About.{IsOf}
 use Rattle.mega_actions.specs.Built.{is_at_once, is_built}
-use Rattle.mega_actions.specs.Showing.{at_once, read_at_once}
+use Rattle.mega_actions.specs.Showing.{at_once, looks, looks_in}
 
 module _ (s : Setting) (now : Now) (op : OpId) where
   -- a read that is not answered at once asks for current rows
@@ -30,28 +31,52 @@ module _ (s : Setting) (now : Now) (op : OpId) where
   ends_by None = now
   ends_by (Some answer) = ends now op answer
 
-  read_answered : (request : ReadRequest) (clock : ℕ) (mode : Mode) (answer : Answer) → read_at_once s now request mode ≡ Some answer
+  read_answered : (request : ReadRequest) (clock : ℕ) (mode : Mode) (answer : Answer) → looks s now (Read request) request.group mode ≡ Some answer
       → read_begins s now (new_operation op (Read request) clock) request mode ≡ ends now op answer
   read_answered request clock Current answer is = cc
   read_answered request clock Snapshot answer is = ap ends_by is
   read_answered request clock Inconsistent answer is = ap ends_by is
+
+  local_answered : (request : FindRequest) (group : GroupId) (clock : ℕ) (mode : Mode) (answer : Answer) → looks s now (Find request) group mode ≡ Some answer
+      → local_find_begins s now (new_operation op (Find request) clock) request group mode ≡ ends now op answer
+  local_answered request group clock Current answer is = cc
+  local_answered request group clock Snapshot answer is = ap ends_by is
+  local_answered request group clock Inconsistent answer is = ap ends_by is
+
+  find_answered : (request : FindRequest) (group : Option GroupId) (clock : ℕ) (answer : Answer) → looks_in s now (Find request) group ≡ Some answer
+      → find_begins s now (new_operation op (Find request) clock) request group ≡ ends now op answer
+  find_answered request None clock answer is = cc
+  find_answered request (Some group) clock answer is = local_answered request group clock request.mode answer is
 
   -- one that is answered at once ends
   pub begins_answered : (request : Request) (clock : ℕ) (answer : Answer) → at_once s now request ≡ Some answer → begins s now (new_operation op request clock) ≡ ends now op answer
   begins_answered (Txn transaction) clock answer is = cc
   begins_answered (Batch own transactions) clock answer is = cc
   begins_answered (Read request) clock answer is = read_answered request clock request.mode answer is
-  begins_answered (Find request) clock answer is = cc
+  begins_answered (Find request) clock answer is = find_answered request request.group clock answer is
   begins_answered PumpEnter clock answer is = cc
   begins_answered PumpHandle clock answer is = cc
   begins_answered Refresh clock answer is = cc
+
+  -- so does a find in a group
+  find_current : (request : FindRequest) (group : GroupId) (clock : ℕ) (mode : Mode) → not (is_current mode) ≡ false
+      → local_find_begins s now (new_operation op (Find request) clock) request group mode ≡ begins_read s (goes_on s) now (new_operation op (Find request) clock) group None []
+  find_current request group clock Current current = refl
+  find_current request group clock Snapshot current = cc
+  find_current request group clock Inconsistent current = cc
+
+  find_begins_in : (request : FindRequest) (asked : Option GroupId) (group : GroupId) (clock : ℕ) → (is_some asked && not (is_current request.mode)) ≡ false → asked ≡ Some group
+      → find_begins s now (new_operation op (Find request) clock) request asked ≡ begins_read s (goes_on s) now (new_operation op (Find request) clock) group None []
+  find_begins_in request asked group clock current of =
+      ap (find_begins s now (new_operation op (Find request) clock) request) of
+      ∙ find_current request group clock request.mode (ap (λ (o : Option GroupId). is_some o && not (is_current request.mode)) (sym of) ∙ current)
 
   pub begins_by : (request : Request) (group : GroupId) (clock : ℕ) → is_built request ≡ true → is_at_once request ≡ false → IsOf request group
       → begins s now (new_operation op request clock) ≡ begins_read s (goes_on s) now (new_operation op request clock) group None []
   begins_by (Txn transaction) group clock built current of = ap (λ (own : GroupId). begins_read s (goes_on s) now (new_operation op (Txn transaction) clock) own None []) of
   begins_by (Batch own transactions) group clock built current of = ap (λ (own' : GroupId). begins_read s (goes_on s) now (new_operation op (Batch own transactions) clock) own' None []) of
   begins_by (Read request) group clock built current of = current_begins request group clock request.mode current of
-  begins_by (Find request) group clock built current of = cc
+  begins_by (Find request) group clock built current of = find_begins_in request request.group group clock current of
   begins_by PumpEnter group clock built current of = cc
   begins_by PumpHandle group clock built current of = cc
   begins_by Refresh group clock built current of = cc

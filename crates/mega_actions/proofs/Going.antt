@@ -47,7 +47,7 @@ module _ (s : Setting) (again : Now → Operation → Now) (now : Now) (group : 
   answers_by (Txn transaction) answer is = cc
   answers_by (Batch own transactions) answer is = cc
   answers_by (Read request) answer is = ap ends_by is
-  answers_by (Find request) answer is = cc
+  answers_by (Find request) answer is = ap ends_by is
   answers_by PumpEnter answer is = cc
   answers_by PumpHandle answer is = cc
   answers_by Refresh answer is = cc

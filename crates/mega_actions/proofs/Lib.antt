@@ -4,6 +4,7 @@ mod Logged
 mod Standing
 mod Going
 mod Shown
+mod Asked
 mod Onward
 mod Within
 mod InTurn

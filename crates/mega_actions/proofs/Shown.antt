@@ -14,8 +14,6 @@ use Rattle.mega_outcome.specs.declared.answer.Done.{Done}
 use Rattle.mega_outcome.specs.declared.answer.Shown.{Shown}
 use Rattle.mega_outcome.specs.declared.answer.Turn.{Turn}
 use Rattle.mega_outcome.specs.declared.answer.Turn.TheVariants.{TooLarge}
-use Rattle.mega_outcome.specs.declared.request.Mode.{Mode}
-use Rattle.mega_outcome.specs.declared.request.Mode.TheVariants.{Current, Snapshot, Inconsistent}
 use Rattle.mega_outcome.specs.declared.request.ReadRequest.{ReadRequest}
 use Rattle.mega_outcome.specs.declared.transaction.RowRef.{RowRef}
 use Rattle.mega_outcome.specs.declared.transaction.Transaction.{Transaction}
@@ -32,13 +30,9 @@ use Rattle.mega_replica.specs.Following.{Follows}
 use Rattle.mega_replica.proofs.Reading.{stored_is}
 use Rattle.mega_rules.specs.Operations.{Now, Setting}
 use Rattle.mega_rules.specs.Acting.{read_answer, rows_answer}
-use Rattle.mega_rules.specs.Steps.{applied_position, snapshot_listed, snapshot_rows, stored_listed, stored_rows}
 use Rattle.mega_node_laws.specs.Own.{HasOwnRows}
 use Rattle.mega_actions.specs.Built.{is_named}
-use Rattle.mega_actions.specs.Showing.{place_by, read_at_once, reading, told}
-
-some_is : (a b : ℕ) → Some a ≡ Some b → a ≡ b
-some_is a b h = cc
+use Rattle.mega_actions.specs.Showing.{reading, told}
 
 -- its entry is short
 short : (group : List ℕ) → nat_lt most_bytes (longest group [] []) ≡ false
@@ -90,14 +84,3 @@ stored_outcome version progress log stored schema group follows owns txn same =
     (λ i n values key named.
     stored_is version progress log stored group key (length (log group)) follows (owns.own group i n values key (ap (λ (g : GroupId). key_in schema g.key i n values) (sym same) ∙ named))
     ∙ ap (λ (entries : List Content). written (stored_writes entries (stored group)) no_rows key) (take_all (length (log group)) (log group) (omega arith)))
-
--- what is answered at once, by where the read looks
-pub answered_at_once : (s : Setting) (now : Now) (request : ReadRequest) (mode : Mode) (applied prefix at : ℕ) (answer : Answer) → applied ≡ applied_position now request.group → place_by mode applied prefix ≡ Some at
-    → (at ≡ applied → Some (read_answer s request applied (snapshot_rows now request.group) (snapshot_listed now request.group)) ≡ Some answer)
-    → (at ≡ prefix → Some (read_answer s request applied (stored_rows now request.group) (stored_listed now request.group)) ≡ Some answer)
-    → read_at_once s now request mode ≡ Some answer
-answered_at_once s now request Current applied prefix at answer is place snapshot inconsistent = cc
-answered_at_once s now request Snapshot applied prefix at answer is place snapshot inconsistent =
-    ap (λ (p : ℕ). Some (read_answer s request p (snapshot_rows now request.group) (snapshot_listed now request.group))) (sym is) ∙ snapshot (sym (some_is applied at place))
-answered_at_once s now request Inconsistent applied prefix at answer is place snapshot inconsistent =
-    ap (λ (p : ℕ). Some (read_answer s request p (stored_rows now request.group) (stored_listed now request.group))) (sym is) ∙ inconsistent (sym (some_is prefix at place))

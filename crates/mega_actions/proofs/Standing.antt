@@ -29,10 +29,11 @@ module _ (s : Setting) (kept : Kept) (leases : Leases) (version : Versions) (pro
     leased = tells;
     follows = follows_more version progress (Validates group p) met stored r.follows;
     owned = owned_same_logs s.cluster.schema met (Validates group p ∷ met) (same_more (Validates group p) met met refl (same_self met)) r.owned;
+    small = r.small;
   }
 
   pub stands_seen : (new : Versions) (met : List Met) → SameVersions version new → Stands s kept leases version progress met stored → Stands s kept leases new progress met stored
-  stands_seen new met same r = record { tells = r.tells; leased = r.leased; follows = follows_same version new progress (log_of met) stored same r.follows; owned = r.owned }
+  stands_seen new met same r = record { tells = r.tells; leased = r.leased; follows = follows_same version new progress (log_of met) stored same r.follows; owned = r.owned; small = r.small }
 
 -- a read completes: rows follow with what it needs stored, and leases tell whether the group was made valid
 pub completed_stands : (s : Setting) (kept : Kept) (leases new : Leases) (version stored_version : Versions) (progress stored_progress : GroupId → Progress) (now : Now) (group : GroupId) (p : ℕ) (made : Bool)
@@ -41,14 +42,15 @@ pub completed_stands : (s : Setting) (kept : Kept) (leases new : Leases) (versio
     → TellsLeases s.cluster s.me new (valid_if (stored_through now group p) group p made).met
     → Stands s kept new stored_version stored_progress (completed now group p made).met (completed now group p made).stored
 completed_stands s kept leases new version stored_version progress stored_progress now group p true r follows tells =
-    stands_valid s kept leases stored_version stored_progress (stored_through now group p).stored new now.met group p tells (record { tells = r.tells; leased = r.leased; follows = follows; owned = r.owned })
+    stands_valid s kept leases stored_version stored_progress (stored_through now group p).stored new now.met group p tells (record { tells = r.tells; leased = r.leased; follows = follows; owned = r.owned; small = r.small })
 completed_stands s kept leases new version stored_version progress stored_progress now group p false r follows tells =
-    record { tells = r.tells; leased = tells; follows = follows; owned = r.owned }
+    record { tells = r.tells; leased = tells; follows = follows; owned = r.owned; small = r.small }
 
 pub sees_log : (s : Setting) (kept : Kept) (leases : Leases) (version : Versions) (progress : GroupId → Progress) (now : Now) (group : GroupId) (p : ℕ)
     → Stands s kept leases version progress now.met now.stored → p ≤ applied (log_of now.met group) (now.stored group) → Sees s.cluster.schema version group p now
 sees_log s kept leases version progress now group p r le = record {
   alone = outcome_is version progress (log_of now.met) now.stored s.cluster.schema group p r.follows r.owned le;
   batched = batch_is version progress (log_of now.met) now.stored s.cluster.schema group p r.follows r.owned le;
+  small = r.small;
   shows = shows_log s.cluster.schema version progress (log_of now.met) now.stored group r.follows r.owned p le;
 }

@@ -1,5 +1,8 @@
--- What is served: transactions, batches of at most 16 of them, and reads.
-use Rattle.std.specs.Prelude.{Bool, true, false, not, ◌||◌, nat_le, length, List, [], ◌∷◌}
+-- What is served: transactions, batches of at most 16 of them, reads, and finds in a group.
+use Rattle.std.specs.Prelude.{Bool, true, false, not, ◌&&◌, ◌||◌, nat_le, length, List, [], ◌∷◌, Option, Some, None, is_some}
+use Rattle.mega_base.specs.declared.names.GroupId.{GroupId}
+use Rattle.mega_outcome.specs.declared.request.Mode.{Mode}
+use Rattle.mega_outcome.specs.declared.request.Mode.TheVariants.{Current}
 use Rattle.mega_outcome.specs.declared.request.Request.{Request}
 use Rattle.mega_outcome.specs.declared.request.Request.TheVariants.{Txn, Batch, Read, Find, PumpEnter, PumpHandle, Refresh}
 use Rattle.mega_outcome.specs.declared.transaction.RowRef.{RowRef}
@@ -20,25 +23,32 @@ is_proposed PumpEnter = false
 is_proposed PumpHandle = false
 is_proposed Refresh = false
 
+-- the group of whose rows alone a request is to be answered, where it is one, and the mode in which it looks at them
+abbrev pub group_asked : Request → Option GroupId
+group_asked (Txn transaction) = None
+group_asked (Batch group transactions) = None
+group_asked (Read request) = Some request.group
+group_asked (Find request) = request.group
+group_asked PumpEnter = None
+group_asked PumpHandle = None
+group_asked Refresh = None
+
+abbrev pub mode_asked : Request → Mode
+mode_asked (Txn transaction) = Current
+mode_asked (Batch group transactions) = Current
+mode_asked (Read request) = request.mode
+mode_asked (Find request) = request.mode
+mode_asked PumpEnter = Current
+mode_asked PumpHandle = Current
+mode_asked Refresh = Current
+
 -- requests that are answered by the rows of their group alone
 abbrev pub is_answered : Request → Bool
-is_answered (Txn transaction) = false
-is_answered (Batch group transactions) = false
-is_answered (Read request) = true
-is_answered (Find request) = false
-is_answered PumpEnter = false
-is_answered PumpHandle = false
-is_answered Refresh = false
+is_answered request = is_some (group_asked request)
 
 -- those of them that are answered at once, by the rows that are there
 abbrev pub is_at_once : Request → Bool
-is_at_once (Txn transaction) = false
-is_at_once (Batch group transactions) = false
-is_at_once (Read request) = not (is_current request.mode)
-is_at_once (Find request) = false
-is_at_once PumpEnter = false
-is_at_once PumpHandle = false
-is_at_once Refresh = false
+is_at_once request = is_answered request && not (is_current (mode_asked request))
 
 abbrev pub is_built : Request → Bool
 is_built request = is_proposed request || is_answered request

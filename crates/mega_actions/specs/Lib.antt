@@ -3,6 +3,7 @@ pub mod Working
 pub mod Completed
 pub mod Reaching
 pub mod Stands
+pub mod IsAt
 pub mod Built
 pub mod Faults
 pub mod Sees

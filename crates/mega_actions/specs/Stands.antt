@@ -14,14 +14,16 @@ use Rattle.mega_leases.specs.Tells.{Tells as TellsLeases}
 use Rattle.mega_replica.specs.declared.progress.Progress.{Progress}
 use Rattle.mega_replica.specs.Following.{Follows}
 use Rattle.mega_node_laws.specs.Own.{HasOwnRows}
+use Rattle.mega_view.specs.Small.{IsSmall}
 
 -- a node of a cluster, with handlers
 abbrev pub setting : Cluster → ℕ → Meanings → Setting
 setting c me h = record { cluster = c; me = me; handlers = h }
 
--- its logs and its leases tell what it met, its rows follow its logs, and each group's rows are its own
+-- its logs and its leases tell what it met, its rows follow its logs, each group's rows are its own, and its schema is one that a text can declare
 pub record Stands (s : Setting) (kept : Kept) (leases : Leases) (version : Versions) (progress : GroupId → Progress) (met : List Met) (stored : GroupId → ℕ) : Type 0 where
   pub tells : Tells kept met
   pub leased : TellsLeases s.cluster s.me leases met
   pub follows : Follows version progress (log_of met) stored
   pub owned : HasOwnRows s.cluster.schema (log_of met)
+  pub small : IsSmall s.cluster.schema

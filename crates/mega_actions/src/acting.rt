@@ -1,6 +1,7 @@
 //! What an operation does that acts: it reads, seeks, finishes or ends.
 ghost use Rattle.std.specs.Prelude.{◌≡◌, ◌≤◌, ◌+◌, ◌<◌, ◌^◌, nat_le, IfOk, OnOk, OnErr, Err, false, true};
 ghost use Rattle.mega_handler.specs.Named.{Meanings};
+ghost use Rattle.mega_meanings.specs.Means.{Means};
 ghost use Rattle.mega_node_laws.specs.About.{IsAbout, IsOf};
 ghost use Rattle.mega_operations.specs.Whole.{whole};
 ghost use Rattle.mega_operations.specs.Phases.{promised_of};
@@ -9,15 +10,15 @@ ghost use Rattle.mega_rules.specs.Logs.{decided, prefix_of};
 ghost use Rattle.mega_rules.specs.Operations.{Now, Operation as Open, Proposes, Reads};
 ghost use Rattle.mega_rules.specs.Acting.{completes_read, finishes, goes_on, reader_of, reads_on, seeks_on, unless_decided};
 ghost use Rattle.mega_read.specs.Catching.{seeks};
-ghost use Rattle.mega_replica.specs.Following.{progress_at};
 ghost use Rattle.mega_replica.specs.Faring.{Fares};
 ghost use Rattle.mega_actions.specs.declared.fault.ActFault.TheVariants.{NoMemory as OutOfMemory, Unbuilt};
 ghost use Rattle.mega_voter.specs.Telling.{Tells};
 ghost use Rattle.mega_actions.specs.Built.{is_built};
 ghost use Rattle.mega_actions.specs.Faults.{failed_by};
+ghost use Rattle.mega_actions.specs.IsAt.{IsAt, setting_of};
 ghost use Rattle.mega_actions.specs.Deeds.{does};
 ghost use Rattle.mega_actions.specs.Reaching.{operation_of};
-ghost use Rattle.mega_actions.specs.Stands.{Stands, setting};
+ghost use Rattle.mega_actions.specs.Stands.{setting};
 ghost use Rattle.mega_actions.specs.Working.{work_of};
 
 use crate::completing::{goes, reads_through};
@@ -29,6 +30,7 @@ use crate::replica::Replica;
 use crate::work::Work;
 use mega_base::{GroupId, NoMemory, OpId, Position};
 use mega_disk::{Records, Versions};
+use mega_meanings::QueueHandlers;
 use mega_operations::{Kept, Members, Operation, Phase};
 use mega_read::Reading;
 use mega_voter::Voter;
@@ -116,21 +118,23 @@ fn is_reached(through: u64, prefix: u64) -> bool
 
 impl<R: Records, V: Versions> Replica<R, V> {
     /// The read of an operation completes through a decided position, and the operation goes on to what it asks.
-    fn completes(
+    fn completes<H: QueueHandlers>(
         &mut self,
         alloc: Global,
+        handlers: &mut H,
         work: &mut Work,
         reached: Reached,
     ) -> Result<(), ActFault>
-        ensures state { OnOk result ((h : Meanings) (now : Now) (again : Now → Open → Now) → V.is_told ≡ true → IsOf reached.kept.request reached.group → reached.position ≤ prefix_of now.met reached.group →
-            Stands (setting self.old.members self.old.me h) self.old.voter.logs.kept self.old.leases (V.version self.old.rows.rows) (progress_at self.old.rows.progress) now.met now.stored →
-            Stands (setting self.new.members self.new.me h) self.new.voter.logs.kept self.new.leases (V.version self.new.rows.rows) (progress_at self.new.rows.progress)
-            (finishes (setting self.old.members self.old.me h) again (completes_read (setting self.old.members self.old.me h) now reached.group reached.reading reached.position) (operation_of reached) reached.group reached.reading reached.position).met
-            (finishes (setting self.old.members self.old.me h) again (completes_read (setting self.old.members self.old.me h) now reached.group reached.reading reached.position) (operation_of reached) reached.group reached.reading reached.position).stored) }
-        ensures work { OnOk result ((h : Meanings) (now : Now) (again : Now → Open → Now) → V.is_told ≡ true → IsOf reached.kept.request reached.group → reached.position ≤ prefix_of now.met reached.group →
-            Stands (setting self.old.members self.old.me h) self.old.voter.logs.kept self.old.leases (V.version self.old.rows.rows) (progress_at self.old.rows.progress) now.met now.stored →
+        ensures state { OnOk result ((h : Meanings) (now : Now) (again : Now → Open → Now) → V.is_told ≡ true → Means (H.meant handlers.old) h → IsOf reached.kept.request reached.group → reached.position ≤ prefix_of now.met reached.group →
+            IsAt V.version h self.old now.met now.stored →
+            IsAt V.version h self.new
+            (finishes (setting_of self.old h) again (completes_read (setting_of self.old h) now reached.group reached.reading reached.position) (operation_of reached) reached.group reached.reading reached.position).met
+            (finishes (setting_of self.old h) again (completes_read (setting_of self.old h) now reached.group reached.reading reached.position) (operation_of reached) reached.group reached.reading reached.position).stored) }
+        ensures work { OnOk result ((h : Meanings) (now : Now) (again : Now → Open → Now) → V.is_told ≡ true → Means (H.meant handlers.old) h → IsOf reached.kept.request reached.group → reached.position ≤ prefix_of now.met reached.group →
+            IsAt V.version h self.old now.met now.stored →
             work.old ≡ work_of now →
-            work.new ≡ work_of (finishes (setting self.old.members self.old.me h) again (completes_read (setting self.old.members self.old.me h) now reached.group reached.reading reached.position) (operation_of reached) reached.group reached.reading reached.position)) }
+            work.new ≡ work_of (finishes (setting_of self.old h) again (completes_read (setting_of self.old h) now reached.group reached.reading reached.position) (operation_of reached) reached.group reached.reading reached.position)) }
+        ensures handlers { H.meant handlers.new ≡ H.meant handlers.old }
         ensures fares { Fares V.Versions (failed_by result) self.old.rows.rows self.new.rows.rows }
         ensures members { self.new.members ≡ self.old.members }
         ensures me { self.new.me ≡ self.old.me }
@@ -158,6 +162,7 @@ impl<R: Records, V: Versions> Replica<R, V> {
             &self.voter,
             clock,
             &mut self.rows,
+            handlers,
             work,
             reached,
         )?;
@@ -166,19 +171,21 @@ impl<R: Records, V: Versions> Replica<R, V> {
 
     /// An operation acts: one whose position is decided ends, and one that reads completes its read, or seeks what is not decided.
     #[tactic(auto, using(mega_replica::proofs::Fared::fares_here, crate::proofs::Refused::fares_unkept))]
-    pub fn acts(
+    pub fn acts<H: QueueHandlers>(
         &mut self,
         alloc: Global,
+        handlers: &mut H,
         work: &mut Work,
         operation: Operation,
     ) -> Result<(), ActFault>
-        ensures state { OnOk result ((h : Meanings) (now : Now) → V.is_told ≡ true → IsAbout operation →
-            Stands (setting self.old.members self.old.me h) self.old.voter.logs.kept self.old.leases (V.version self.old.rows.rows) (progress_at self.old.rows.progress) now.met now.stored →
-            Stands (setting self.new.members self.new.me h) self.new.voter.logs.kept self.new.leases (V.version self.new.rows.rows) (progress_at self.new.rows.progress)
-            (goes_on (setting self.old.members self.old.me h) now operation).met (goes_on (setting self.old.members self.old.me h) now operation).stored) }
-        ensures work { OnOk result ((h : Meanings) (now : Now) → V.is_told ≡ true → IsAbout operation →
-            Stands (setting self.old.members self.old.me h) self.old.voter.logs.kept self.old.leases (V.version self.old.rows.rows) (progress_at self.old.rows.progress) now.met now.stored →
-            work.old ≡ work_of now → work.new ≡ work_of (goes_on (setting self.old.members self.old.me h) now operation)) }
+        ensures state { OnOk result ((h : Meanings) (now : Now) → V.is_told ≡ true → Means (H.meant handlers.old) h → IsAbout operation →
+            IsAt V.version h self.old now.met now.stored →
+            IsAt V.version h self.new
+            (goes_on (setting_of self.old h) now operation).met (goes_on (setting_of self.old h) now operation).stored) }
+        ensures work { OnOk result ((h : Meanings) (now : Now) → V.is_told ≡ true → Means (H.meant handlers.old) h → IsAbout operation →
+            IsAt V.version h self.old now.met now.stored →
+            work.old ≡ work_of now → work.new ≡ work_of (goes_on (setting_of self.old h) now operation)) }
+        ensures handlers { H.meant handlers.new ≡ H.meant handlers.old }
         ensures fares { Fares V.Versions (failed_by result) self.old.rows.rows self.new.rows.rows }
         ensures members { self.new.members ≡ self.old.members }
         ensures me { self.new.me ≡ self.old.me }
@@ -188,7 +195,7 @@ impl<R: Records, V: Versions> Replica<R, V> {
         let (kept, phase) = operation.parts();
         match phase {
             Phase::Reads { group, reading } => {
-                self.reads_on(alloc, work, kept, group, reading)?;
+                self.reads_on(alloc, handlers, work, kept, group, reading)?;
                 Ok(())
             }
             Phase::Proposes {
@@ -213,21 +220,23 @@ impl<R: Records, V: Versions> Replica<R, V> {
 
     /// An operation reads on.
     #[tactic(auto, using(mega_replica::proofs::Fared::fares_here, crate::proofs::Refused::fares_unkept))]
-    fn reads_on(
+    fn reads_on<H: QueueHandlers>(
         &mut self,
         alloc: Global,
+        handlers: &mut H,
         work: &mut Work,
         kept: Kept,
         group: GroupId,
         reading: Reading,
     ) -> Result<(), ActFault>
-        ensures state { OnOk result ((h : Meanings) (now : Now) (again : Now → Open → Now) → V.is_told ≡ true → IsOf kept.request group →
-            Stands (setting self.old.members self.old.me h) self.old.voter.logs.kept self.old.leases (V.version self.old.rows.rows) (progress_at self.old.rows.progress) now.met now.stored →
-            Stands (setting self.new.members self.new.me h) self.new.voter.logs.kept self.new.leases (V.version self.new.rows.rows) (progress_at self.new.rows.progress)
-            (reads_on (setting self.old.members self.old.me h) again now (whole kept (Reads group reading)) group reading).met (reads_on (setting self.old.members self.old.me h) again now (whole kept (Reads group reading)) group reading).stored) }
-        ensures work { OnOk result ((h : Meanings) (now : Now) (again : Now → Open → Now) → V.is_told ≡ true → IsOf kept.request group →
-            Stands (setting self.old.members self.old.me h) self.old.voter.logs.kept self.old.leases (V.version self.old.rows.rows) (progress_at self.old.rows.progress) now.met now.stored →
-            work.old ≡ work_of now → work.new ≡ work_of (reads_on (setting self.old.members self.old.me h) again now (whole kept (Reads group reading)) group reading)) }
+        ensures state { OnOk result ((h : Meanings) (now : Now) (again : Now → Open → Now) → V.is_told ≡ true → Means (H.meant handlers.old) h → IsOf kept.request group →
+            IsAt V.version h self.old now.met now.stored →
+            IsAt V.version h self.new
+            (reads_on (setting_of self.old h) again now (whole kept (Reads group reading)) group reading).met (reads_on (setting_of self.old h) again now (whole kept (Reads group reading)) group reading).stored) }
+        ensures work { OnOk result ((h : Meanings) (now : Now) (again : Now → Open → Now) → V.is_told ≡ true → Means (H.meant handlers.old) h → IsOf kept.request group →
+            IsAt V.version h self.old now.met now.stored →
+            work.old ≡ work_of now → work.new ≡ work_of (reads_on (setting_of self.old h) again now (whole kept (Reads group reading)) group reading)) }
+        ensures handlers { H.meant handlers.new ≡ H.meant handlers.old }
         ensures fares { Fares V.Versions (failed_by result) self.old.rows.rows self.new.rows.rows }
         ensures members { self.new.members ≡ self.old.members }
         ensures me { self.new.me ≡ self.old.me }
@@ -250,7 +259,7 @@ impl<R: Records, V: Versions> Replica<R, V> {
                 reading,
                 position: through,
             };
-            self.completes(alloc, work, reached)?;
+            self.completes(alloc, handlers, work, reached)?;
             return Ok(());
         }
         let clock = self.leases.now();

@@ -1,5 +1,7 @@
-//! Reads: of named rows the transaction that only reads them, and else all rows of the group's tables, over the rows of a position.
+//! Reads and finds over the rows of a position: of named rows the transaction that only reads them, else all rows of the group's tables, or
+//! what an index has over them.
 ghost use Rattle.std.specs.Prelude.{◌≡◌, IfOk, Some, true, false, Err};
+ghost use Rattle.std.specs.Option.{option_copied};
 ghost use Rattle.mega_base.specs.declared.names.GroupId.{GroupId as Group};
 ghost use Rattle.mega_disk.specs.VersionMaps.{SameVersions};
 ghost use Rattle.mega_handler.specs.Named.{Meanings};
@@ -15,16 +17,18 @@ ghost use Rattle.mega_node_laws.specs.About.{IsOf};
 ghost use Rattle.mega_replica.specs.Faring.{Fares};
 ghost use Rattle.mega_replica.specs.Following.{progress_at};
 ghost use Rattle.mega_actions.specs.declared.fault.ActFault.TheVariants.{Unbuilt};
-ghost use Rattle.mega_actions.specs.Built.{is_answered, is_at_once, is_built, is_named};
+ghost use Rattle.mega_actions.specs.Built.{group_asked, is_answered, is_at_once, is_built, is_named, mode_asked};
 ghost use Rattle.mega_actions.specs.Faults.{error_of, failed_by, of_store};
 ghost use Rattle.mega_actions.specs.Showing.{at_once, place_by, reading, shown, told};
 ghost use Rattle.mega_actions.specs.Stands.{Stands, setting};
+ghost use Rattle.mega_view.specs.Small.{IsSmall};
 ghost use Rattle.mega_view.specs.Shows.{Shows};
 
 use crate::came::is_proposed;
 use crate::fault::ActFault;
+use crate::finding::found_at;
 use crate::outcomes::outcome_at;
-use mega_base::{Copied, Items, NoMemory, Position};
+use mega_base::{Copied, GroupId, Items, NoMemory, Position};
 use mega_disk::{Records, StoreError, Versions};
 use mega_operations::Members;
 use mega_outcome::{Answer, Done, Mode, ReadRequest, Request, RowRef, Transaction, Turn};
@@ -44,24 +48,46 @@ fn is_named(rows: &[RowRef]) -> bool
     }
 }
 
-/// Whether a request is answered by the rows of its group alone: a read.
-pub(crate) fn is_answered(request: &Request) -> bool
-    ensures { result ≡ is_answered request.now }
+/// The group of whose rows alone a request is to be answered, where it is one: a read, or a find in a group.
+pub(crate) fn group_asked(request: &Request) -> Option<&GroupId>
+    ensures { option_copied result ≡ group_asked request.now }
 {
     match request {
-        Request::Read(_) => true,
-        _ => false,
+        Request::Read(read) => Some(&read.group),
+        Request::Find(find) => find.group.as_ref(),
+        _ => None,
     }
 }
 
-/// Whether a request is served: a transaction, a batch of at most 16, or a read.
+/// The mode in which such a request looks at them.
+fn mode_asked(request: &Request) -> Mode
+    ensures { result ≡ mode_asked request.now }
+{
+    match request {
+        Request::Read(read) => read.mode,
+        Request::Find(find) => find.mode,
+        _ => Mode::Current,
+    }
+}
+
+/// Whether a request is answered by the rows of its group alone.
+pub(crate) fn is_answered(request: &Request) -> bool
+    ensures { result ≡ is_answered request.now }
+{
+    match group_asked(request) {
+        Some(_) => true,
+        None => false,
+    }
+}
+
+/// Whether a request is served: a transaction, a batch of at most 16, a read, or a find in a group.
 pub fn is_built(request: &Request) -> bool
     ensures { result ≡ is_built request.now }
 {
     is_proposed(request) || is_answered(request)
 }
 
-/// Whether a read asks for current rows.
+/// Whether a mode asks for current rows.
 fn is_current(mode: Mode) -> bool
     ensures { result ≡ is_current mode }
 {
@@ -75,10 +101,7 @@ fn is_current(mode: Mode) -> bool
 pub(crate) fn is_at_once(request: &Request) -> bool
     ensures { result ≡ is_at_once request.now }
 {
-    match request {
-        Request::Read(read) => !is_current(read.mode),
-        _ => false,
-    }
+    is_answered(request) && !is_current(mode_asked(request))
 }
 
 /// The transaction that only reads these rows of the group.
@@ -142,7 +165,7 @@ fn read_at<V: Versions>(
 }
 
 /// The fault that an error of the store is.
-fn fault_by(error: StoreError) -> ActFault
+pub(crate) fn fault_by(error: StoreError) -> ActFault
     ensures exact { of_store result ≡ error_of error }
     ensures built { result ≡ Unbuilt → ⊥ }
 {
@@ -217,7 +240,7 @@ pub(crate) fn answer_at<V: Versions>(
     at: u64,
     position: u64,
 ) -> Result<Answer, ActFault>
-    ensures exact { IfOk result (λ answer. V.is_told ≡ true → (s : Setting) (group : Group) (seen : Rows) (listed : Listed) → s.cluster.schema ≡ schema.now → IsOf request.now group →
+    ensures exact { IfOk result (λ answer. V.is_told ≡ true → (s : Setting) (group : Group) (seen : Rows) (listed : Listed) → s.cluster.schema ≡ schema.now → IsSmall schema.now → IsOf request.now group →
         ((txn : TransactionSeen) → txn.group ≡ group → outcome schema.now txn (rows_at (V.version rows.old) at) ≡ outcome schema.now txn seen) →
         Shows schema.now group (rows_at (V.version rows.old) at) listed →
         shown s request.now position seen listed ≡ Some answer) }
@@ -230,11 +253,18 @@ pub(crate) fn answer_at<V: Versions>(
             let answer = shown_at(alloc, schema, read, rows, at, position)?;
             Ok(answer)
         }
+        Request::Find(find) => {
+            let Some(group) = &find.group else {
+                return Err(ActFault::Unbuilt);
+            };
+            let answer = found_at(alloc, schema, find, group, rows, at, position)?;
+            Ok(answer)
+        }
         _ => Err(ActFault::Unbuilt),
     }
 }
 
-/// Where a read looks that asks for no current rows.
+/// Where a request looks that asks for no current rows.
 fn place_by(mode: Mode, applied: u64, prefix: u64) -> Option<u64>
     ensures { result ≡ place_by mode applied prefix }
 {
@@ -261,12 +291,12 @@ pub(crate) fn answer_now<R: Records, V: Versions>(
     ensures fares { Fares V.Versions (failed_by result) rows.old.rows rows.new.rows }
     ensures unbuilt { result ≡ Err Unbuilt → is_at_once request.now ≡ false }
 {
-    let Request::Read(read) = request else {
+    let Some(group) = group_asked(request) else {
         return Err(ActFault::Unbuilt);
     };
-    let applied = rows.applied(&read.group, &voter.logs).0;
-    let prefix = voter.prefix(&read.group).0;
-    let Some(at) = place_by(read.mode, applied, prefix) else {
+    let applied = rows.applied(group, &voter.logs).0;
+    let prefix = voter.prefix(group).0;
+    let Some(at) = place_by(mode_asked(request), applied, prefix) else {
         return Err(ActFault::Unbuilt);
     };
     let schema = &members.cluster().schema;

@@ -1,22 +1,23 @@
 //! An operation begins: it is answered at once, or reads the group of its request.
 ghost use Rattle.std.specs.Prelude.{◌≡◌, IfOk, OnOk, Err, None, [], ◌∷◌, false, true};
 ghost use Rattle.mega_handler.specs.Named.{Meanings};
+ghost use Rattle.mega_meanings.specs.Means.{Means};
 ghost use Rattle.mega_leases.specs.Tells.{Tells as TellsLeases};
 ghost use Rattle.mega_rules.specs.Clock.{clock_of};
 ghost use Rattle.mega_rules.specs.Operations.{Now, Operation as Open};
 ghost use Rattle.mega_rules.specs.Acting.{read_begun};
 ghost use Rattle.mega_node_laws.specs.About.{IsOf};
 ghost use Rattle.mega_rules.specs.Steps.{begins, new_operation};
-ghost use Rattle.mega_replica.specs.Following.{progress_at};
 ghost use Rattle.mega_replica.specs.Faring.{Fares};
 ghost use Rattle.mega_voter.specs.Telling.{Tells};
 ghost use Rattle.mega_actions.specs.declared.fault.ActFault.TheVariants.{Unbuilt};
 ghost use Rattle.mega_actions.specs.Built.{is_at_once, is_built};
 ghost use Rattle.mega_actions.specs.Faults.{failed_by};
-ghost use Rattle.mega_actions.specs.Stands.{Stands, setting};
+ghost use Rattle.mega_actions.specs.IsAt.{IsAt, setting_of};
+ghost use Rattle.mega_actions.specs.Stands.{setting};
 ghost use Rattle.mega_actions.specs.Working.{work_of};
 
-use crate::answering::{answer_now, is_answered, is_at_once};
+use crate::answering::{answer_now, group_asked, is_at_once};
 use crate::deed::{Deed, End};
 use crate::fault::ActFault;
 use crate::replica::Replica;
@@ -24,6 +25,7 @@ use crate::work::Work;
 use mega_base::{Copied, GroupId, Items, NoMemory, OpId};
 use mega_disk::{Records, Versions};
 use mega_leases::Leases;
+use mega_meanings::QueueHandlers;
 use mega_operations::{Heard, Members, Operation, Phase};
 use mega_outcome::Request;
 use mega_read::local_read;
@@ -61,8 +63,10 @@ fn group_of(alloc: Global, request: &Request) -> Result<GroupId, ActFault>
     match request {
         Request::Txn(txn) => Ok(txn.group.copy(alloc)?),
         Request::Batch(group, txns) if txns.len() <= 16 => Ok(group.copy(alloc)?),
-        Request::Read(read) if is_answered(request) => Ok(read.group.copy(alloc)?),
-        _ => Err(ActFault::Unbuilt),
+        _ => match group_asked(request) {
+            Some(group) => Ok(group.copy(alloc)?),
+            None => Err(ActFault::Unbuilt),
+        },
     }
 }
 
@@ -83,23 +87,25 @@ struct FirstRead {
 }
 
 impl<R: Records, V: Versions> Replica<R, V> {
-    /// A request begins: a read that asks for no current rows is answered at once; any other reads its group, and goes on in the same
+    /// A request begins: a read or find that asks for no current rows is answered at once; any other reads its group, and goes on in the same
     /// step where that read is local.
     #[tactic(auto, using(mega_replica::proofs::Fared::fares_here, crate::proofs::Refused::fares_apart))]
-    pub fn begins(
+    pub fn begins<H: QueueHandlers>(
         &mut self,
         alloc: Global,
+        handlers: &mut H,
         work: &mut Work,
         op: OpId,
         request: Request,
     ) -> Result<(), ActFault>
-        ensures state { OnOk result ((h : Meanings) (now : Now) → V.is_told ≡ true →
-            Stands (setting self.old.members self.old.me h) self.old.voter.logs.kept self.old.leases (V.version self.old.rows.rows) (progress_at self.old.rows.progress) now.met now.stored →
-            Stands (setting self.new.members self.new.me h) self.new.voter.logs.kept self.new.leases (V.version self.new.rows.rows) (progress_at self.new.rows.progress)
-            (begins (setting self.old.members self.old.me h) now (new_operation op request (clock_of now.met))).met (begins (setting self.old.members self.old.me h) now (new_operation op request (clock_of now.met))).stored) }
-        ensures work { OnOk result ((h : Meanings) (now : Now) → V.is_told ≡ true →
-            Stands (setting self.old.members self.old.me h) self.old.voter.logs.kept self.old.leases (V.version self.old.rows.rows) (progress_at self.old.rows.progress) now.met now.stored →
-            work.old ≡ work_of now → work.new ≡ work_of (begins (setting self.old.members self.old.me h) now (new_operation op request (clock_of now.met)))) }
+        ensures state { OnOk result ((h : Meanings) (now : Now) → V.is_told ≡ true → Means (H.meant handlers.old) h →
+            IsAt V.version h self.old now.met now.stored →
+            IsAt V.version h self.new
+            (begins (setting_of self.old h) now (new_operation op request (clock_of now.met))).met (begins (setting_of self.old h) now (new_operation op request (clock_of now.met))).stored) }
+        ensures work { OnOk result ((h : Meanings) (now : Now) → V.is_told ≡ true → Means (H.meant handlers.old) h →
+            IsAt V.version h self.old now.met now.stored →
+            work.old ≡ work_of now → work.new ≡ work_of (begins (setting_of self.old h) now (new_operation op request (clock_of now.met)))) }
+        ensures handlers { H.meant handlers.new ≡ H.meant handlers.old }
         ensures fares { Fares V.Versions (failed_by result) self.old.rows.rows self.new.rows.rows }
         ensures members { self.new.members ≡ self.old.members }
         ensures me { self.new.me ≡ self.old.me }
@@ -118,7 +124,7 @@ impl<R: Records, V: Versions> Replica<R, V> {
                 }
             }
         }
-        self.begins_read(alloc, work, op, request)?;
+        self.begins_read(alloc, handlers, work, op, request)?;
         Ok(())
     }
 
@@ -131,12 +137,12 @@ impl<R: Records, V: Versions> Replica<R, V> {
         request: &Request,
     ) -> Result<(), ActFault>
         ensures state { OnOk result ((h : Meanings) (now : Now) → V.is_told ≡ true → is_at_once request.now ≡ true →
-            Stands (setting self.old.members self.old.me h) self.old.voter.logs.kept self.old.leases (V.version self.old.rows.rows) (progress_at self.old.rows.progress) now.met now.stored →
-            Stands (setting self.new.members self.new.me h) self.new.voter.logs.kept self.new.leases (V.version self.new.rows.rows) (progress_at self.new.rows.progress)
-            (begins (setting self.old.members self.old.me h) now (new_operation op request.now (clock_of now.met))).met (begins (setting self.old.members self.old.me h) now (new_operation op request.now (clock_of now.met))).stored) }
+            IsAt V.version h self.old now.met now.stored →
+            IsAt V.version h self.new
+            (begins (setting_of self.old h) now (new_operation op request.now (clock_of now.met))).met (begins (setting_of self.old h) now (new_operation op request.now (clock_of now.met))).stored) }
         ensures work { OnOk result ((h : Meanings) (now : Now) → V.is_told ≡ true → is_at_once request.now ≡ true →
-            Stands (setting self.old.members self.old.me h) self.old.voter.logs.kept self.old.leases (V.version self.old.rows.rows) (progress_at self.old.rows.progress) now.met now.stored →
-            work.old ≡ work_of now → work.new ≡ work_of (begins (setting self.old.members self.old.me h) now (new_operation op request.now (clock_of now.met)))) }
+            IsAt V.version h self.old now.met now.stored →
+            work.old ≡ work_of now → work.new ≡ work_of (begins (setting_of self.old h) now (new_operation op request.now (clock_of now.met)))) }
         ensures fares { Fares V.Versions (failed_by result) self.old.rows.rows self.new.rows.rows }
         ensures members { self.new.members ≡ self.old.members }
         ensures me { self.new.me ≡ self.old.me }
@@ -153,20 +159,22 @@ impl<R: Records, V: Versions> Replica<R, V> {
 
     /// An operation begins with a current read of its group.
     #[tactic(auto, using(mega_replica::proofs::Fared::fares_here, crate::proofs::Refused::fares_apart))]
-    fn begins_read(
+    fn begins_read<H: QueueHandlers>(
         &mut self,
         alloc: Global,
+        handlers: &mut H,
         work: &mut Work,
         op: OpId,
         request: Request,
     ) -> Result<(), ActFault>
-        ensures state { OnOk result ((h : Meanings) (now : Now) → V.is_told ≡ true → is_at_once request ≡ false →
-            Stands (setting self.old.members self.old.me h) self.old.voter.logs.kept self.old.leases (V.version self.old.rows.rows) (progress_at self.old.rows.progress) now.met now.stored →
-            Stands (setting self.new.members self.new.me h) self.new.voter.logs.kept self.new.leases (V.version self.new.rows.rows) (progress_at self.new.rows.progress)
-            (begins (setting self.old.members self.old.me h) now (new_operation op request (clock_of now.met))).met (begins (setting self.old.members self.old.me h) now (new_operation op request (clock_of now.met))).stored) }
-        ensures work { OnOk result ((h : Meanings) (now : Now) → V.is_told ≡ true → is_at_once request ≡ false →
-            Stands (setting self.old.members self.old.me h) self.old.voter.logs.kept self.old.leases (V.version self.old.rows.rows) (progress_at self.old.rows.progress) now.met now.stored →
-            work.old ≡ work_of now → work.new ≡ work_of (begins (setting self.old.members self.old.me h) now (new_operation op request (clock_of now.met)))) }
+        ensures state { OnOk result ((h : Meanings) (now : Now) → V.is_told ≡ true → Means (H.meant handlers.old) h → is_at_once request ≡ false →
+            IsAt V.version h self.old now.met now.stored →
+            IsAt V.version h self.new
+            (begins (setting_of self.old h) now (new_operation op request (clock_of now.met))).met (begins (setting_of self.old h) now (new_operation op request (clock_of now.met))).stored) }
+        ensures work { OnOk result ((h : Meanings) (now : Now) → V.is_told ≡ true → Means (H.meant handlers.old) h → is_at_once request ≡ false →
+            IsAt V.version h self.old now.met now.stored →
+            work.old ≡ work_of now → work.new ≡ work_of (begins (setting_of self.old h) now (new_operation op request (clock_of now.met)))) }
+        ensures handlers { H.meant handlers.new ≡ H.meant handlers.old }
         ensures fares { Fares V.Versions (failed_by result) self.old.rows.rows self.new.rows.rows }
         ensures members { self.new.members ≡ self.old.members }
         ensures me { self.new.me ≡ self.old.me }
@@ -189,7 +197,7 @@ impl<R: Records, V: Versions> Replica<R, V> {
                     message: None,
                     phase: Phase::Reads { group, reading },
                 };
-                self.acts_in_turn(alloc, work, Heard { operation, sends })?;
+                self.acts_in_turn(alloc, handlers, work, Heard { operation, sends })?;
                 Ok(())
             }
             Err(fault) => {
@@ -202,7 +210,7 @@ impl<R: Records, V: Versions> Replica<R, V> {
     /// The read with which an operation begins.
     fn first_read(&self, alloc: Global, op: OpId, request: &Request) -> Result<FirstRead, ActFault>
         ensures read { IfOk result (λ first. (h : Meanings) (now : Now) (o : Open) → o.id ≡ op → o.visited ≡ [] → Tells self.now.voter.logs.kept now.met →
-            TellsLeases self.now.members self.now.me self.now.leases now.met → first.made ≡ read_begun (setting self.now.members self.now.me h) now o first.group []) }
+            TellsLeases self.now.members self.now.me self.now.leases now.met → first.made ≡ read_begun (setting_of self.now h) now o first.group []) }
         ensures visited { IfOk result (λ first. first.visited ≡ first.group ∷ []) }
         ensures group { IfOk result (λ first. (is_built request.now ≡ true) × IsOf request.now first.group) }
         ensures apart { failed_by result ≡ None }

@@ -10,6 +10,7 @@ mod completing;
 mod deed;
 mod entries;
 mod fault;
+mod finding;
 mod finishing;
 mod outcomes;
 mod proposing;

@@ -1,15 +1,15 @@
 //! Operations act one after another, each on what those before it left.
 ghost use Rattle.std.specs.Prelude.{◌≡◌, OnOk, Err, false, true, List, All, fold};
 ghost use Rattle.mega_handler.specs.Named.{Meanings};
+ghost use Rattle.mega_meanings.specs.Means.{Means};
 ghost use Rattle.mega_node_laws.specs.About.{IsAbout};
 ghost use Rattle.mega_rules.specs.Operations.{Now};
 ghost use Rattle.mega_rules.specs.Steps.{acts_in_turn, all_act, ticked};
-ghost use Rattle.mega_replica.specs.Following.{progress_at};
 ghost use Rattle.mega_replica.specs.Faring.{Fares};
 ghost use Rattle.mega_actions.specs.declared.fault.ActFault.TheVariants.{Unbuilt};
 ghost use Rattle.mega_actions.specs.Built.{is_built};
 ghost use Rattle.mega_actions.specs.Faults.{failed_by};
-ghost use Rattle.mega_actions.specs.Stands.{Stands, setting};
+ghost use Rattle.mega_actions.specs.IsAt.{IsAt, setting_of};
 ghost use Rattle.mega_actions.specs.Turns.{IsBuilt, IsBuiltHeard, IsHeardAbout};
 ghost use Rattle.mega_actions.specs.Working.{work_of};
 
@@ -19,25 +19,28 @@ use crate::replica::Replica;
 use crate::work::Work;
 use mega_base::Items;
 use mega_disk::{Records, Versions};
+use mega_meanings::QueueHandlers;
 use mega_operations::{Heard, Operation};
 use std::alloc::Global;
 
 impl<R: Records, V: Versions> Replica<R, V> {
     /// An operation acts that comes to something: what it sends for that goes out first.
     #[tactic(auto, using(mega_replica::proofs::Fared::fares_here, crate::proofs::Refused::fares_unkept))]
-    pub fn acts_in_turn(
+    pub fn acts_in_turn<H: QueueHandlers>(
         &mut self,
         alloc: Global,
+        handlers: &mut H,
         work: &mut Work,
         heard: Heard,
     ) -> Result<(), ActFault>
-        ensures state { OnOk result ((h : Meanings) (now : Now) → V.is_told ≡ true → IsHeardAbout heard →
-            Stands (setting self.old.members self.old.me h) self.old.voter.logs.kept self.old.leases (V.version self.old.rows.rows) (progress_at self.old.rows.progress) now.met now.stored →
-            Stands (setting self.new.members self.new.me h) self.new.voter.logs.kept self.new.leases (V.version self.new.rows.rows) (progress_at self.new.rows.progress)
-            (acts_in_turn (setting self.old.members self.old.me h) now heard).met (acts_in_turn (setting self.old.members self.old.me h) now heard).stored) }
-        ensures work { OnOk result ((h : Meanings) (now : Now) → V.is_told ≡ true → IsHeardAbout heard →
-            Stands (setting self.old.members self.old.me h) self.old.voter.logs.kept self.old.leases (V.version self.old.rows.rows) (progress_at self.old.rows.progress) now.met now.stored →
-            work.old ≡ work_of now → work.new ≡ work_of (acts_in_turn (setting self.old.members self.old.me h) now heard)) }
+        ensures state { OnOk result ((h : Meanings) (now : Now) → V.is_told ≡ true → Means (H.meant handlers.old) h → IsHeardAbout heard →
+            IsAt V.version h self.old now.met now.stored →
+            IsAt V.version h self.new
+            (acts_in_turn (setting_of self.old h) now heard).met (acts_in_turn (setting_of self.old h) now heard).stored) }
+        ensures work { OnOk result ((h : Meanings) (now : Now) → V.is_told ≡ true → Means (H.meant handlers.old) h → IsHeardAbout heard →
+            IsAt V.version h self.old now.met now.stored →
+            work.old ≡ work_of now → work.new ≡ work_of (acts_in_turn (setting_of self.old h) now heard)) }
+        ensures handlers { H.meant handlers.new ≡ H.meant handlers.old }
         ensures fares { Fares V.Versions (failed_by result) self.old.rows.rows self.new.rows.rows }
         ensures members { self.new.members ≡ self.old.members }
         ensures me { self.new.me ≡ self.old.me }
@@ -47,7 +50,7 @@ impl<R: Records, V: Versions> Replica<R, V> {
         let Heard { operation, sends } = heard;
         match work.says(Some(sends)) {
             Ok(()) => {
-                self.acts(alloc, work, operation)?;
+                self.acts(alloc, handlers, work, operation)?;
                 Ok(())
             }
             Err(refused) => {
@@ -59,19 +62,21 @@ impl<R: Records, V: Versions> Replica<R, V> {
 
     /// Operations act one after another, each on what those before it left.
     #[tactic(auto, using(mega_replica::proofs::Fared::fares_here))]
-    pub fn all_act(
+    pub fn all_act<H: QueueHandlers>(
         &mut self,
         alloc: Global,
+        handlers: &mut H,
         work: &mut Work,
         heard: Items<Heard>,
     ) -> Result<(), ActFault>
-        ensures state { OnOk result ((h : Meanings) (now : Now) → V.is_told ≡ true → All IsHeardAbout heard →
-            Stands (setting self.old.members self.old.me h) self.old.voter.logs.kept self.old.leases (V.version self.old.rows.rows) (progress_at self.old.rows.progress) now.met now.stored →
-            Stands (setting self.new.members self.new.me h) self.new.voter.logs.kept self.new.leases (V.version self.new.rows.rows) (progress_at self.new.rows.progress)
-            (all_act (setting self.old.members self.old.me h) now heard).met (all_act (setting self.old.members self.old.me h) now heard).stored) }
-        ensures work { OnOk result ((h : Meanings) (now : Now) → V.is_told ≡ true → All IsHeardAbout heard →
-            Stands (setting self.old.members self.old.me h) self.old.voter.logs.kept self.old.leases (V.version self.old.rows.rows) (progress_at self.old.rows.progress) now.met now.stored →
-            work.old ≡ work_of now → work.new ≡ work_of (all_act (setting self.old.members self.old.me h) now heard)) }
+        ensures state { OnOk result ((h : Meanings) (now : Now) → V.is_told ≡ true → Means (H.meant handlers.old) h → All IsHeardAbout heard →
+            IsAt V.version h self.old now.met now.stored →
+            IsAt V.version h self.new
+            (all_act (setting_of self.old h) now heard).met (all_act (setting_of self.old h) now heard).stored) }
+        ensures work { OnOk result ((h : Meanings) (now : Now) → V.is_told ≡ true → Means (H.meant handlers.old) h → All IsHeardAbout heard →
+            IsAt V.version h self.old now.met now.stored →
+            work.old ≡ work_of now → work.new ≡ work_of (all_act (setting_of self.old h) now heard)) }
+        ensures handlers { H.meant handlers.new ≡ H.meant handlers.old }
         ensures fares { Fares V.Versions (failed_by result) self.old.rows.rows self.new.rows.rows }
         ensures members { self.new.members ≡ self.old.members }
         ensures me { self.new.me ≡ self.old.me }
@@ -79,27 +84,29 @@ impl<R: Records, V: Versions> Replica<R, V> {
         ensures unbuilt { result ≡ Err Unbuilt → All IsBuiltHeard heard → ⊥ }
     {
         for one in heard.into_vec() {
-            self.acts_in_turn(alloc, work, one)?;
+            self.acts_in_turn(alloc, handlers, work, one)?;
         }
         Ok(())
     }
 
     /// An operation at a tick: it ends where its patience has ended, and else does what is due.
     #[tactic(auto, using(mega_replica::proofs::Fared::fares_here, crate::proofs::Refused::fares_unkept))]
-    pub fn ticked(
+    pub fn ticked<H: QueueHandlers>(
         &mut self,
         alloc: Global,
+        handlers: &mut H,
         work: &mut Work,
         clock: u64,
         operation: Operation,
     ) -> Result<(), ActFault>
-        ensures state { OnOk result ((h : Meanings) (now : Now) → V.is_told ≡ true → IsAbout operation →
-            Stands (setting self.old.members self.old.me h) self.old.voter.logs.kept self.old.leases (V.version self.old.rows.rows) (progress_at self.old.rows.progress) now.met now.stored →
-            Stands (setting self.new.members self.new.me h) self.new.voter.logs.kept self.new.leases (V.version self.new.rows.rows) (progress_at self.new.rows.progress)
-            (ticked (setting self.old.members self.old.me h) clock now operation).met (ticked (setting self.old.members self.old.me h) clock now operation).stored) }
-        ensures work { OnOk result ((h : Meanings) (now : Now) → V.is_told ≡ true → IsAbout operation →
-            Stands (setting self.old.members self.old.me h) self.old.voter.logs.kept self.old.leases (V.version self.old.rows.rows) (progress_at self.old.rows.progress) now.met now.stored →
-            work.old ≡ work_of now → work.new ≡ work_of (ticked (setting self.old.members self.old.me h) clock now operation)) }
+        ensures state { OnOk result ((h : Meanings) (now : Now) → V.is_told ≡ true → Means (H.meant handlers.old) h → IsAbout operation →
+            IsAt V.version h self.old now.met now.stored →
+            IsAt V.version h self.new
+            (ticked (setting_of self.old h) clock now operation).met (ticked (setting_of self.old h) clock now operation).stored) }
+        ensures work { OnOk result ((h : Meanings) (now : Now) → V.is_told ≡ true → Means (H.meant handlers.old) h → IsAbout operation →
+            IsAt V.version h self.old now.met now.stored →
+            work.old ≡ work_of now → work.new ≡ work_of (ticked (setting_of self.old h) clock now operation)) }
+        ensures handlers { H.meant handlers.new ≡ H.meant handlers.old }
         ensures fares { Fares V.Versions (failed_by result) self.old.rows.rows self.new.rows.rows }
         ensures members { self.new.members ≡ self.old.members }
         ensures me { self.new.me ≡ self.old.me }
@@ -117,26 +124,28 @@ impl<R: Records, V: Versions> Replica<R, V> {
             return Ok(());
         }
         let heard = operation.does_due(alloc, &self.members, clock)?;
-        self.acts_in_turn(alloc, work, heard)?;
+        self.acts_in_turn(alloc, handlers, work, heard)?;
         Ok(())
     }
 
     /// All open operations at a tick, one after another.
     #[tactic(auto, using(mega_replica::proofs::Fared::fares_here))]
-    pub fn all_ticked(
+    pub fn all_ticked<H: QueueHandlers>(
         &mut self,
         alloc: Global,
+        handlers: &mut H,
         work: &mut Work,
         clock: u64,
         operations: Items<Operation>,
     ) -> Result<(), ActFault>
-        ensures state { OnOk result ((h : Meanings) (now : Now) → V.is_told ≡ true → All IsAbout operations →
-            Stands (setting self.old.members self.old.me h) self.old.voter.logs.kept self.old.leases (V.version self.old.rows.rows) (progress_at self.old.rows.progress) now.met now.stored →
-            Stands (setting self.new.members self.new.me h) self.new.voter.logs.kept self.new.leases (V.version self.new.rows.rows) (progress_at self.new.rows.progress)
-            (fold (ticked (setting self.old.members self.old.me h) clock) now operations).met (fold (ticked (setting self.old.members self.old.me h) clock) now operations).stored) }
-        ensures work { OnOk result ((h : Meanings) (now : Now) → V.is_told ≡ true → All IsAbout operations →
-            Stands (setting self.old.members self.old.me h) self.old.voter.logs.kept self.old.leases (V.version self.old.rows.rows) (progress_at self.old.rows.progress) now.met now.stored →
-            work.old ≡ work_of now → work.new ≡ work_of (fold (ticked (setting self.old.members self.old.me h) clock) now operations)) }
+        ensures state { OnOk result ((h : Meanings) (now : Now) → V.is_told ≡ true → Means (H.meant handlers.old) h → All IsAbout operations →
+            IsAt V.version h self.old now.met now.stored →
+            IsAt V.version h self.new
+            (fold (ticked (setting_of self.old h) clock) now operations).met (fold (ticked (setting_of self.old h) clock) now operations).stored) }
+        ensures work { OnOk result ((h : Meanings) (now : Now) → V.is_told ≡ true → Means (H.meant handlers.old) h → All IsAbout operations →
+            IsAt V.version h self.old now.met now.stored →
+            work.old ≡ work_of now → work.new ≡ work_of (fold (ticked (setting_of self.old h) clock) now operations)) }
+        ensures handlers { H.meant handlers.new ≡ H.meant handlers.old }
         ensures fares { Fares V.Versions (failed_by result) self.old.rows.rows self.new.rows.rows }
         ensures members { self.new.members ≡ self.old.members }
         ensures me { self.new.me ≡ self.old.me }
@@ -144,7 +153,7 @@ impl<R: Records, V: Versions> Replica<R, V> {
         ensures unbuilt { result ≡ Err Unbuilt → All IsBuilt operations → ⊥ }
     {
         for operation in operations.into_vec() {
-            self.ticked(alloc, work, clock, operation)?;
+            self.ticked(alloc, handlers, work, clock, operation)?;
         }
         Ok(())
     }

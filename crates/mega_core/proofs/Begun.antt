@@ -53,6 +53,7 @@ module _ (s : Setting) (node : Node) (request : Request) (text : List ℕ) where
     leased = apart s.cluster s.me leases own node.met refl h.leased;
     follows = follows_more version progress own node.met node.stored h.follows;
     owned = owned;
+    small = h.kind.small;
   }
 
   first_acted : (kept : Kept) (leases : Leases) (version : Versions) (progress : GroupId → Progress) (open_ones : List Operation) (begun : ℕ)

@@ -20,6 +20,7 @@ use Rattle.mega_rules.specs.Members.{has_rows, is_full, is_node}
 use Rattle.mega_rules.specs.Operations.{Node, Now, Operation, Setting}
 use Rattle.mega_rules.specs.Steps.{Decision, Take, Tick, all_act, at_first, begins, find_begins, hears_message, is_current, local_find_begins, needs_full, new_operation, op_of, portion_of, read_begins, refusal, stored_after, ticked, unless_refused}
 use Rattle.mega_node_laws.specs.Acted.{acted_on, decision_in}
+use Rattle.mega_view.specs.Small.{IsSmall}
 use Rattle.mega_core.specs.Beginning.{at_begin, has_begun}
 use Rattle.mega_core.specs.Kind.{FitsKind}
 use Rattle.mega_core.specs.Taking.{has_taken}
@@ -27,9 +28,9 @@ use Rattle.mega_core.specs.Ticking.{has_ticked}
 use Rattle.mega_core.proofs.Roles.{bare_is_other, brief_where_served}
 
 -- what is said of a node that is not full holds of one without rows
-fits : (c : Cluster) (me : ℕ) (open_ones : List Operation) (stored : GroupId → ℕ) → is_node c me ≡ true
+fits : (c : Cluster) (me : ℕ) (open_ones : List Operation) (stored : GroupId → ℕ) → is_node c me ≡ true → IsSmall c.schema
     → (is_full c me ≡ false → open_ones ≡ []) → (is_full c me ≡ false → has_rows c me ≡ false → (group : GroupId) → stored group ≡ 0) → FitsKind c me open_ones stored
-fits c me open_ones stored member idle bare = record { member = member; idle = idle; bare = λ none group. bare (bare_is_other c me none) none group }
+fits c me open_ones stored member small idle bare = record { member = member; small = small; idle = idle; bare = λ none group. bare (bare_is_other c me none) none group }
 
 -- ---- portions of a node without rows
 
@@ -47,7 +48,7 @@ stored_bare s met stored (Some d) none bare group = by (same_group d.group group
 -- ---- the steps
 
 pub take_fits : (s : Setting) (node : Node) (m : Message) → FitsKind s.cluster s.me node.open_operations node.stored → FitsKind s.cluster s.me (has_taken s node m).kept (has_taken s node m).stored
-take_fits s node m h = fits s.cluster s.me (has_taken s node m).kept (has_taken s node m).stored h.member
+take_fits s node m h = fits s.cluster s.me (has_taken s node m).kept (has_taken s node m).stored h.member h.small
     (λ other. ap (λ (now : Now). now.kept) (quiet other))
     (λ other none group. ap (λ (now : Now). now.stored group) (quiet other) ∙ stored_bare s (acted_on s node (Take m)) node.stored (decision_in s node m) none (h.bare none) group)
   where
@@ -58,7 +59,7 @@ take_fits s node m h = fits s.cluster s.me (has_taken s node m).kept (has_taken 
     quiet other = ap (λ (os : List Operation). all_act s first (map (hears_message s (clock_of node.met) m) os)) (h.idle other)
 
 pub tick_fits : (s : Setting) (node : Node) (now : ℕ) → FitsKind s.cluster s.me node.open_operations node.stored → FitsKind s.cluster s.me (has_ticked s node now).kept (has_ticked s node now).stored
-tick_fits s node now h = fits s.cluster s.me (has_ticked s node now).kept (has_ticked s node now).stored h.member
+tick_fits s node now h = fits s.cluster s.me (has_ticked s node now).kept (has_ticked s node now).stored h.member h.small
     (λ other. ap (λ (one : Now). one.kept) (quiet other))
     (λ other none group. ap (λ (one : Now). one.stored group) (quiet other) ∙ portion_bare s node.met node.stored group none)
   where
@@ -101,7 +102,7 @@ unless_refused_leaves s now op request clock None brief = begins_leaves s now op
 unless_refused_leaves s now op request clock (Some answer) brief = record { kept = refl; stored = refl }
 
 pub begin_fits : (s : Setting) (node : Node) (request : Request) (text : List ℕ) → FitsKind s.cluster s.me node.open_operations node.stored → FitsKind s.cluster s.me (has_begun s node request text).kept (has_begun s node request text).stored
-begin_fits s node request text h = fits s.cluster s.me (has_begun s node request text).kept (has_begun s node request text).stored h.member
+begin_fits s node request text h = fits s.cluster s.me (has_begun s node request text).kept (has_begun s node request text).stored h.member h.small
     (λ other. (leaves other).kept ∙ h.idle other)
     (λ other none group. ap (λ (stored : GroupId → ℕ). stored group) (leaves other).stored ∙ h.bare none group)
   where

@@ -42,6 +42,7 @@ use Rattle.mega_actions.specs.declared.work.Work.{Work}
 use Rattle.mega_core.specs.Acted.{HasActed, IsEnd, IsValidate, ended}
 use Rattle.mega_core.specs.Kind.{FitsKind}
 use Rattle.mega_core.specs.Represents.{Represents}
+use Rattle.mega_view.specs.Small.{IsSmall}
 use Rattle.mega_core.proofs.Fitting.{take_fits}
 use Rattle.mega_core.proofs.Walked.{all_acted, all_heard_built, all_served, heard_about}
 use Rattle.mega_core.specs.Taking.{has_taken, news_by}
@@ -128,9 +129,9 @@ module _ (s : Setting) (node : Node) (m : Message) where
       → t ≡ s → after ≡ leases → d ≡ decision_in s node m
       → Tells kept (onto (decision_note d) told_on) → TellsLeases s.cluster s.me leases told_on
       → Follows version progress (log_of (onto (decision_note d) told_on)) (stored_after s (onto (decision_note d) told_on) node.stored d)
-      → HasOwnRows s.cluster.schema (log_of (acted_on s node (Take m)))
+      → HasOwnRows s.cluster.schema (log_of (acted_on s node (Take m))) → IsSmall s.cluster.schema
       → Stands t kept after version progress (acted_on s node (Take m)) (stored_after s (acted_on s node (Take m)) node.stored (decision_in s node m))
-  taken_stands t kept leases after version progress d t_is after_is d_is tells leased follows owned =
+  taken_stands t kept leases after version progress d t_is after_is d_is tells leased follows owned small =
       coe 0 1 (i. Stands (sym t_is i) kept (sym after_is i) version progress (onto (decision_note (d_is i)) told_on) (stored_after s (onto (decision_note (d_is i)) told_on) node.stored (d_is i))) first
     where
       first : Stands s kept leases version progress (onto (decision_note d) told_on) (stored_after s (onto (decision_note d) told_on) node.stored d)
@@ -139,6 +140,7 @@ module _ (s : Setting) (node : Node) (m : Message) where
         leased = decision_leased s leases d told_on leased;
         follows = follows;
         owned = subst (λ (one : Option Decision). HasOwnRows s.cluster.schema (log_of (onto (decision_note one) told_on))) (sym d_is) owned;
+        small = small;
       }
 
   -- ---- the step

@@ -20,6 +20,10 @@ use Rattle.mega_actions.specs.Turns.{IsBuilt}
 use Rattle.mega_actions.specs.Working.{work_of}
 use Rattle.mega_actions.specs.declared.work.Work.{Work}
 use Rattle.mega_core.specs.Kind.{FitsKind}
+use Rattle.mega_handler.specs.Named.{Meanings}
+use Rattle.mega_replica.specs.Following.{progress_at}
+use Rattle.mega_actions.specs.declared.replica.Replica.{Replica}
+use Rattle.mega_actions.specs.IsAt.{setting_of}
 
 abbrev pub IsValidate : Met → Type 0
 IsValidate (Validates group position) = Unit {0}
@@ -51,3 +55,7 @@ pub record HasActed (s : Setting) (kept : Kept) (leases : Leases) (version : Ver
 -- the step then
 abbrev pub ended : Setting → Node → Met → List Met → List Met → List Message → Now → Step
 ended s node own locks durable sends now = step_of node own locks durable (apply_notes s node.met node.stored now.met now.stored) sends now
+
+-- a replica as it is
+abbrev pub ActedAt : {R V : Type 0} → (V → Versions) → Meanings → Replica R V → ℕ → Work → List Met → Now → Type 0
+ActedAt version h one begun work base now = HasActed (setting_of one h) one.voter.logs.kept one.leases (version one.rows.rows) (progress_at one.rows.progress) begun work base now

@@ -19,6 +19,10 @@ use Rattle.mega_node_laws.specs.Acted.{acted_on, decision_in}
 use Rattle.mega_actions.specs.Stands.{Stands}
 use Rattle.mega_core.specs.declared.taking.Taken.{Taken}
 use Rattle.mega_core.specs.Notes.{met_of}
+use Rattle.mega_handler.specs.Named.{Meanings}
+use Rattle.mega_replica.specs.Following.{progress_at}
+use Rattle.mega_actions.specs.declared.replica.Replica.{Replica}
+use Rattle.mega_actions.specs.IsAt.{setting_of}
 
 -- the reply of a voter
 abbrev pub vote_reply : List Met → Body → Option Body
@@ -49,3 +53,7 @@ pub record HasTaken (s : Setting) (t : Setting) (made : Taken) (kept : Kept) (le
 abbrev pub has_taken : Setting → Node → Message → Now
 has_taken s node m =
     all_act s (at_first (acted_on s node (Take m)) (stored_after s (acted_on s node (Take m)) node.stored (decision_in s node m))) (map (hears_message s (clock_of node.met) m) node.open_operations)
+
+-- a replica, as it was and as it is
+abbrev pub TakenAt : {R V : Type 0} → (V → Versions) → Meanings → Replica R V → Replica R V → Taken → Node → Message → Type 0
+TakenAt version h old new made node m = HasTaken (setting_of old h) (setting_of new h) made new.voter.logs.kept new.leases (version new.rows.rows) (progress_at new.rows.progress) node m

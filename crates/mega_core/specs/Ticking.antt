@@ -17,6 +17,10 @@ use Rattle.mega_node_laws.specs.Acted.{acted_on}
 use Rattle.mega_actions.specs.Stands.{Stands}
 use Rattle.mega_core.specs.declared.ticking.Ticked.{Ticked}
 use Rattle.mega_core.specs.Notes.{met_of}
+use Rattle.mega_handler.specs.Named.{Meanings}
+use Rattle.mega_replica.specs.Following.{progress_at}
+use Rattle.mega_actions.specs.declared.replica.Replica.{Replica}
+use Rattle.mega_actions.specs.IsAt.{setting_of}
 
 -- a node is asked for the entry at a position
 abbrev pub fetch_message : OpId → ℕ → GroupId → ℕ → ℕ → Message
@@ -34,3 +38,7 @@ pub record HasTicked (s : Setting) (t : Setting) (made : Ticked) (kept : Kept) (
 -- the operations act on it
 abbrev pub has_ticked : Setting → Node → ℕ → Now
 has_ticked s node now = fold (ticked s now) (at_first (acted_on s node (Tick now)) (portion_of s node.met node.stored)) node.open_operations
+
+-- a replica, as it was and as it is
+abbrev pub TickedAt : {R V : Type 0} → (V → Versions) → Meanings → Replica R V → Replica R V → Ticked → Node → ℕ → Type 0
+TickedAt version h old new made node now = HasTicked (setting_of old h) (setting_of new h) made new.voter.logs.kept new.leases (version new.rows.rows) (progress_at new.rows.progress) node now

@@ -1,6 +1,7 @@
 //! An operation begins, or is refused at once.
 ghost use Rattle.std.specs.Prelude.{◌≡◌, ℕ, List, min, true, false, None, IfOk, OnOk, Err};
 ghost use Rattle.mega_handler.specs.Named.{Meanings};
+ghost use Rattle.mega_meanings.specs.Means.{Means};
 ghost use Rattle.mega_node_laws.specs.Acted.{acted_on};
 ghost use Rattle.mega_node_laws.specs.Own.{HasOwnRows};
 ghost use Rattle.mega_rules.specs.Clock.{begun_of, clock_of, last_number};
@@ -10,22 +11,23 @@ ghost use Rattle.mega_rules.specs.Operations.{Node as RuleNode, Now};
 ghost use Rattle.mega_rules.specs.Members.{kind_of};
 ghost use Rattle.mega_rules.specs.Steps.{Begin, at_first, at_open, begins, missing_kind, new_operation, op_of, refusal, unless_refused};
 ghost use Rattle.mega_replica.specs.Faring.{Fares};
-ghost use Rattle.mega_replica.specs.Following.{progress_at};
 ghost use Rattle.mega_voter.specs.Telling.{Tells};
 ghost use Rattle.mega_actions.specs.declared.fault.ActFault.TheVariants.{Unbuilt};
 ghost use Rattle.mega_actions.specs.Built.{is_built};
 ghost use Rattle.mega_actions.specs.Faults.{failed_by};
-ghost use Rattle.mega_actions.specs.Stands.{Stands, setting};
+ghost use Rattle.mega_actions.specs.IsAt.{IsAt, setting_of};
+ghost use Rattle.mega_actions.specs.Stands.{setting};
 ghost use Rattle.mega_actions.specs.Working.{work_of};
-ghost use Rattle.mega_core.specs.Acted.{HasActed};
+ghost use Rattle.mega_core.specs.Acted.{ActedAt};
 ghost use Rattle.mega_core.specs.Beginning.{has_begun};
-ghost use Rattle.mega_core.specs.Represents.{Represents};
+ghost use Rattle.mega_core.specs.Standing.{StandsFor};
 
 use crate::kinds::{kind_of, missing_kind};
 use crate::node::Node;
 use mega_actions::{ActFault, Deed, End, Replica, Work, is_built};
 use mega_base::{Items, NodeId, NodeKind, OpId};
 use mega_disk::{Records, Versions};
+use mega_meanings::QueueHandlers;
 use mega_operations::Operation;
 use mega_outcome::{Answer, Request};
 use mega_voter::Voter;
@@ -81,20 +83,22 @@ fn at_open(alloc: Global, opened: Items<Operation>) -> Work
 
 /// An operation begins whose request is served.
 #[tactic(auto, using(mega_replica::proofs::Fared::fares_here))]
-fn serves<R: Records, V: Versions>(
+fn serves<R: Records, V: Versions, H: QueueHandlers>(
     alloc: Global,
+    handlers: &mut H,
     replica: &mut Replica<R, V>,
     work: &mut Work,
     op: OpId,
     request: Request,
 ) -> Result<(), ActFault>
-    ensures state { OnOk result ((h : Meanings) (now : Now) → V.is_told ≡ true →
-        Stands (setting replica.old.members replica.old.me h) replica.old.voter.logs.kept replica.old.leases (V.version replica.old.rows.rows) (progress_at replica.old.rows.progress) now.met now.stored →
-        Stands (setting replica.new.members replica.new.me h) replica.new.voter.logs.kept replica.new.leases (V.version replica.new.rows.rows) (progress_at replica.new.rows.progress)
-        (begins (setting replica.old.members replica.old.me h) now (new_operation op request (clock_of now.met))).met (begins (setting replica.old.members replica.old.me h) now (new_operation op request (clock_of now.met))).stored) }
-    ensures work { OnOk result ((h : Meanings) (now : Now) → V.is_told ≡ true →
-        Stands (setting replica.old.members replica.old.me h) replica.old.voter.logs.kept replica.old.leases (V.version replica.old.rows.rows) (progress_at replica.old.rows.progress) now.met now.stored →
-        work.old ≡ work_of now → work.new ≡ work_of (begins (setting replica.old.members replica.old.me h) now (new_operation op request (clock_of now.met)))) }
+    ensures state { OnOk result ((h : Meanings) (now : Now) → V.is_told ≡ true → Means (H.meant handlers.old) h →
+        IsAt V.version h replica.old now.met now.stored →
+        IsAt V.version h replica.new
+        (begins (setting_of replica.old h) now (new_operation op request (clock_of now.met))).met (begins (setting_of replica.old h) now (new_operation op request (clock_of now.met))).stored) }
+    ensures work { OnOk result ((h : Meanings) (now : Now) → V.is_told ≡ true → Means (H.meant handlers.old) h →
+        IsAt V.version h replica.old now.met now.stored →
+        work.old ≡ work_of now → work.new ≡ work_of (begins (setting_of replica.old h) now (new_operation op request (clock_of now.met)))) }
+    ensures handlers { H.meant handlers.new ≡ H.meant handlers.old }
     ensures members { replica.new.members ≡ replica.old.members }
     ensures me { replica.new.me ≡ replica.old.me }
     ensures voter { replica.new.voter ≡ replica.old.voter }
@@ -105,26 +109,28 @@ fn serves<R: Records, V: Versions>(
     if !is_built(&request) {
         return Err(ActFault::Unbuilt);
     }
-    replica.begins(alloc, work, op, request)
+    replica.begins(alloc, handlers, work, op, request)
 }
 
 /// An operation begins, unless it is refused.
 #[tactic(auto, using(mega_replica::proofs::Fared::fares_here))]
-fn unless_refused<R: Records, V: Versions>(
+fn unless_refused<R: Records, V: Versions, H: QueueHandlers>(
     alloc: Global,
+    handlers: &mut H,
     replica: &mut Replica<R, V>,
     work: &mut Work,
     op: OpId,
     request: Request,
     refusal: Option<Answer>,
 ) -> Result<(), ActFault>
-    ensures state { OnOk result ((h : Meanings) (now : Now) → V.is_told ≡ true →
-        Stands (setting replica.old.members replica.old.me h) replica.old.voter.logs.kept replica.old.leases (V.version replica.old.rows.rows) (progress_at replica.old.rows.progress) now.met now.stored →
-        Stands (setting replica.new.members replica.new.me h) replica.new.voter.logs.kept replica.new.leases (V.version replica.new.rows.rows) (progress_at replica.new.rows.progress)
-        (unless_refused (setting replica.old.members replica.old.me h) now (new_operation op request (clock_of now.met)) refusal).met (unless_refused (setting replica.old.members replica.old.me h) now (new_operation op request (clock_of now.met)) refusal).stored) }
-    ensures work { OnOk result ((h : Meanings) (now : Now) → V.is_told ≡ true →
-        Stands (setting replica.old.members replica.old.me h) replica.old.voter.logs.kept replica.old.leases (V.version replica.old.rows.rows) (progress_at replica.old.rows.progress) now.met now.stored →
-        work.old ≡ work_of now → work.new ≡ work_of (unless_refused (setting replica.old.members replica.old.me h) now (new_operation op request (clock_of now.met)) refusal)) }
+    ensures state { OnOk result ((h : Meanings) (now : Now) → V.is_told ≡ true → Means (H.meant handlers.old) h →
+        IsAt V.version h replica.old now.met now.stored →
+        IsAt V.version h replica.new
+        (unless_refused (setting_of replica.old h) now (new_operation op request (clock_of now.met)) refusal).met (unless_refused (setting_of replica.old h) now (new_operation op request (clock_of now.met)) refusal).stored) }
+    ensures work { OnOk result ((h : Meanings) (now : Now) → V.is_told ≡ true → Means (H.meant handlers.old) h →
+        IsAt V.version h replica.old now.met now.stored →
+        work.old ≡ work_of now → work.new ≡ work_of (unless_refused (setting_of replica.old h) now (new_operation op request (clock_of now.met)) refusal)) }
+    ensures handlers { H.meant handlers.new ≡ H.meant handlers.old }
     ensures members { replica.new.members ≡ replica.old.members }
     ensures me { replica.new.me ≡ replica.old.me }
     ensures voter { replica.new.voter ≡ replica.old.voter }
@@ -133,7 +139,7 @@ fn unless_refused<R: Records, V: Versions>(
     ensures fares { Fares V.Versions (failed_by result) replica.old.rows.rows replica.new.rows.rows }
 {
     match refusal {
-        None => serves(alloc, replica, work, op, request),
+        None => serves(alloc, handlers, replica, work, op, request),
         Some(answer) => {
             work.does(Deed {
                 sends: None,
@@ -146,18 +152,24 @@ fn unless_refused<R: Records, V: Versions>(
 
 impl<R: Records, V: Versions> Node<R, V> {
     /// An operation begins: what the step has come to then.
-    pub(crate) fn begins(&mut self, alloc: Global, request: Request) -> Result<Work, ActFault>
-        ensures acted { V.is_told ≡ true → IfOk result (λ work. (h : Meanings) (node : RuleNode) (text : List ℕ) →
-            Represents (setting self.old.replica.members self.old.replica.me h) self.old.replica.voter.logs.kept self.old.replica.leases (V.version self.old.replica.rows.rows) (progress_at self.old.replica.rows.progress) self.old.open self.old.begun node →
-            HasOwnRows self.old.replica.members.schema (log_of (acted_on (setting self.old.replica.members self.old.replica.me h) node (Begin request text))) →
-            HasActed (setting self.new.replica.members self.new.replica.me h) self.new.replica.voter.logs.kept self.new.replica.leases (V.version self.new.replica.rows.rows) (progress_at self.new.replica.rows.progress) self.new.begun work
-            (acted_on (setting self.old.replica.members self.old.replica.me h) node (Begin request text)) (has_begun (setting self.old.replica.members self.old.replica.me h) node request text)) }
+    pub(crate) fn begins<H: QueueHandlers>(
+        &mut self,
+        alloc: Global,
+        handlers: &mut H,
+        request: Request,
+    ) -> Result<Work, ActFault>
+        ensures acted { V.is_told ≡ true → IfOk result (λ work. (h : Meanings) (node : RuleNode) (text : List ℕ) → Means (H.meant handlers.old) h →
+            StandsFor V.version h self.old node →
+            HasOwnRows self.old.replica.members.schema (log_of (acted_on (setting_of self.old.replica h) node (Begin request text))) →
+            ActedAt V.version h self.new.replica self.new.begun work
+            (acted_on (setting_of self.old.replica h) node (Begin request text)) (has_begun (setting_of self.old.replica h) node request text)) }
+        ensures handlers { H.meant handlers.new ≡ H.meant handlers.old }
         ensures members { self.new.replica.members ≡ self.old.replica.members }
         ensures me { self.new.replica.me ≡ self.old.replica.me }
         ensures unbuilt { result ≡ Err Unbuilt → is_built request ≡ false }
         ensures built { OnOk result ((h : Meanings) (node : RuleNode) →
-            Represents (setting self.old.replica.members self.old.replica.me h) self.old.replica.voter.logs.kept self.old.replica.leases (V.version self.old.replica.rows.rows) (progress_at self.old.replica.rows.progress) self.old.open self.old.begun node →
-            refusal (setting self.old.replica.members self.old.replica.me h) node request ≡ None → is_built request ≡ true) }
+            StandsFor V.version h self.old node →
+            refusal (setting_of self.old.replica h) node request ≡ None → is_built request ≡ true) }
         ensures voter { self.new.replica.voter ≡ self.old.replica.voter }
         ensures fares { Fares V.Versions (failed_by result) self.old.replica.rows.rows self.new.replica.rows.rows }
     {
@@ -168,7 +180,15 @@ impl<R: Records, V: Versions> Node<R, V> {
         self.begun = op.number;
         let open = mem::replace(&mut self.open, Items::new(alloc));
         let mut work = at_open(alloc, open);
-        unless_refused(alloc, &mut self.replica, &mut work, op, request, refusal)?;
+        unless_refused(
+            alloc,
+            handlers,
+            &mut self.replica,
+            &mut work,
+            op,
+            request,
+            refusal,
+        )?;
         Ok(work)
     }
 }

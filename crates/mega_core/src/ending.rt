@@ -5,11 +5,10 @@ ghost use Rattle.mega_rules.specs.Met.{Met, Sends};
 ghost use Rattle.mega_rules.specs.Operations.{Node as RuleNode, Now};
 ghost use Rattle.mega_rules.specs.Steps.{apply_notes, onto};
 ghost use Rattle.mega_node_laws.specs.Sending.{MaySend};
-ghost use Rattle.mega_replica.specs.Following.{progress_at};
 ghost use Rattle.mega_voter.specs.Telling.{IsAnswer, Tells};
-ghost use Rattle.mega_actions.specs.Stands.{setting};
-ghost use Rattle.mega_core.specs.Acted.{HasActed, ended};
-ghost use Rattle.mega_core.specs.Made.{Made};
+ghost use Rattle.mega_actions.specs.IsAt.{setting_of};
+ghost use Rattle.mega_core.specs.Acted.{ActedAt, ended};
+ghost use Rattle.mega_core.specs.Made.{MadeAt};
 ghost use Rattle.mega_core.specs.Notes.{met_of};
 ghost use Rattle.mega_core.specs.Positions.{note_since};
 ghost use Rattle.mega_core.specs.Staging.{Stages};
@@ -86,16 +85,16 @@ impl<R: Records, V: Versions> Node<R, V> {
         closing: Items<Message>,
     ) -> Result<Step, NoMemory>
         ensures made { IfOk result (λ made. (h : Meanings) (node : RuleNode) (own : Met) (locks durable : List Met) (now : Now) →
-            flat_map (note_since now.met now.stored) before ≡ apply_notes (setting self.old.replica.members self.old.replica.me h) node.met node.stored now.met now.stored →
-            HasActed (setting self.old.replica.members self.old.replica.me h) self.old.replica.voter.logs.kept self.old.replica.leases (V.version self.old.replica.rows.rows) (progress_at self.old.replica.rows.progress) self.old.begun work (onto durable (onto locks (own ∷ node.met))) now →
+            flat_map (note_since now.met now.stored) before ≡ apply_notes (setting_of self.old.replica h) node.met node.stored now.met now.stored →
+            ActedAt V.version h self.old.replica self.old.begun work (onto durable (onto locks (own ∷ node.met))) now →
             map met_of first ≡ locks ++ durable →
-            MaySend (onto (ended (setting self.old.replica.members self.old.replica.me h) node own locks durable ((opening ++ now.sends) ++ closing) now).notes (own ∷ node.met)) ((opening ++ now.sends) ++ closing) →
-            Made (setting self.new.replica.members self.new.replica.me h) made self.new.replica.voter.logs.kept self.new.replica.leases (V.version self.new.replica.rows.rows) (progress_at self.new.replica.rows.progress) self.new.open self.new.begun (ended (setting self.old.replica.members self.old.replica.me h) node own locks durable ((opening ++ now.sends) ++ closing) now)) }
+            MaySend (onto (ended (setting_of self.old.replica h) node own locks durable ((opening ++ now.sends) ++ closing) now).notes (own ∷ node.met)) ((opening ++ now.sends) ++ closing) →
+            MadeAt V.version h self.new made (ended (setting_of self.old.replica h) node own locks durable ((opening ++ now.sends) ++ closing) now)) }
         ensures staged { OnOk result ((h : Meanings) (node : RuleNode) (own : Met) (locks durable : List Met) (now : Now) (before : List Met) →
-            HasActed (setting self.old.replica.members self.old.replica.me h) self.old.replica.voter.logs.kept self.old.replica.leases (V.version self.old.replica.rows.rows) (progress_at self.old.replica.rows.progress) self.old.begun work (onto durable (onto locks (own ∷ node.met))) now →
-            MaySend (onto (ended (setting self.old.replica.members self.old.replica.me h) node own locks durable ((opening ++ now.sends) ++ closing) now).notes (own ∷ node.met)) ((opening ++ now.sends) ++ closing) →
+            ActedAt V.version h self.old.replica self.old.begun work (onto durable (onto locks (own ∷ node.met))) now →
+            MaySend (onto (ended (setting_of self.old.replica h) node own locks durable ((opening ++ now.sends) ++ closing) now).notes (own ∷ node.met)) ((opening ++ now.sends) ++ closing) →
             Stages self.old.replica.voter.logs.staged.items before (onto durable (onto locks (own ∷ node.met))) →
-            Stages self.new.replica.voter.logs.staged.items before (ended (setting self.old.replica.members self.old.replica.me h) node own locks durable ((opening ++ now.sends) ++ closing) now).node.met) }
+            Stages self.new.replica.voter.logs.staged.items before (ended (setting_of self.old.replica h) node own locks durable ((opening ++ now.sends) ++ closing) now).node.met) }
         ensures records { self.new.replica.voter.logs.records ≡ self.old.replica.voter.logs.records }
         ensures members { self.new.replica.members ≡ self.old.replica.members }
         ensures me { self.new.replica.me ≡ self.old.replica.me }

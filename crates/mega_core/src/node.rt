@@ -1,6 +1,7 @@
 //! A node of a cluster: its start, and its three steps.
 ghost use Rattle.std.specs.Prelude.{◌≡◌, ◌≢◌, ◌⊎◌, ℕ, List, [], map, None, true, false, IfOk, OnOk, OnErr, Err};
 ghost use Rattle.mega_handler.specs.Named.{Meanings};
+ghost use Rattle.mega_meanings.specs.Means.{Means};
 ghost use Rattle.mega_node_laws.specs.Acted.{acted_on, decision_in};
 ghost use Rattle.mega_node_laws.specs.Own.{HasOwnRows};
 ghost use Rattle.mega_leases.specs.Taking.{IsByStranger, IsLate};
@@ -10,15 +11,14 @@ ghost use Rattle.mega_rules.specs.Met.{Met};
 ghost use Rattle.mega_rules.specs.Operations.{Node as RuleNode};
 ghost use Rattle.mega_rules.specs.Steps.{Begin, Take, Tick, start, step};
 ghost use Rattle.mega_replica.specs.Faring.{Fares};
-ghost use Rattle.mega_replica.specs.Following.{progress_at};
 ghost use Rattle.mega_wal.specs.Kept.{Represents as Holds};
 ghost use Rattle.mega_actions.specs.Built.{is_built};
+ghost use Rattle.mega_actions.specs.IsAt.{setting_of};
 ghost use Rattle.mega_actions.specs.Stands.{setting};
 ghost use Rattle.mega_core.specs.declared.fault.StepFault.TheVariants.{Late, NoMemory, Stranger, Unbuilt};
 ghost use Rattle.mega_core.specs.Faults.{failed_by};
 ghost use Rattle.mega_core.specs.Notes.{met_of};
 ghost use Rattle.mega_core.specs.Placed.{IsPlaced};
-ghost use Rattle.mega_core.specs.Represents.{Represents};
 ghost use Rattle.mega_core.specs.Served.{IsServed};
 ghost use Rattle.mega_core.specs.Staging.{Stages};
 ghost use Rattle.mega_core.specs.Standing.{StandsFor};
@@ -34,6 +34,7 @@ use mega_actions::Replica;
 use mega_base::{Items, Text};
 use mega_cluster::Cluster;
 use mega_disk::{Records, Versions};
+use mega_meanings::QueueHandlers;
 use mega_operations::Operation;
 use mega_outcome::Request;
 use mega_replica::StoredRows;
@@ -63,7 +64,7 @@ impl<R: Records + Drop, V: Versions + Drop> Node<R, V> {
         requires served { IsServed cluster }
         requires member { is_node cluster me ≡ true }
         ensures state { IfOk result (λ node. (h : Meanings) → Holds logs.kept [] → ((key : List ℕ) (n : ℕ) → V.version rows key n ≡ None) →
-            Represents (setting node.replica.members node.replica.me h) node.replica.voter.logs.kept node.replica.leases (V.version node.replica.rows.rows) (progress_at node.replica.rows.progress) node.open node.begun
+            StandsFor V.version h node
             (start (setting cluster me h) 1 [] [])) }
         ensures members { IfOk result (λ node. node.replica.members ≡ cluster) }
         ensures me { IfOk result (λ node. node.replica.me ≡ me) }
@@ -91,28 +92,34 @@ impl<R: Records + Drop, V: Versions + Drop> Node<R, V> {
 
 impl<R: Records, V: Versions> Node<R, V> {
     /// The node takes a message.
-    pub fn take(&mut self, alloc: Global, message: &Message) -> Result<Step, StepFault>
-        ensures notes { V.is_told ≡ true → IfOk result (λ made. (h : Meanings) (node : RuleNode) →
-            Represents (setting self.old.replica.members self.old.replica.me h) self.old.replica.voter.logs.kept self.old.replica.leases (V.version self.old.replica.rows.rows) (progress_at self.old.replica.rows.progress) self.old.open self.old.begun node →
-            HasOwnRows self.old.replica.members.schema (log_of (acted_on (setting self.old.replica.members self.old.replica.me h) node (Take message.now))) → IsPlaced (decision_in (setting self.old.replica.members self.old.replica.me h) node message.now) →
-            map met_of made.notes ≡ (step (setting self.old.replica.members self.old.replica.me h) node (Take message.now)).notes) }
-        ensures sends { V.is_told ≡ true → IfOk result (λ made. (h : Meanings) (node : RuleNode) →
-            Represents (setting self.old.replica.members self.old.replica.me h) self.old.replica.voter.logs.kept self.old.replica.leases (V.version self.old.replica.rows.rows) (progress_at self.old.replica.rows.progress) self.old.open self.old.begun node →
-            HasOwnRows self.old.replica.members.schema (log_of (acted_on (setting self.old.replica.members self.old.replica.me h) node (Take message.now))) → IsPlaced (decision_in (setting self.old.replica.members self.old.replica.me h) node message.now) →
-            made.sends ≡ (step (setting self.old.replica.members self.old.replica.me h) node (Take message.now)).sends) }
-        ensures state { V.is_told ≡ true → OnOk result ((h : Meanings) (node : RuleNode) →
-            Represents (setting self.old.replica.members self.old.replica.me h) self.old.replica.voter.logs.kept self.old.replica.leases (V.version self.old.replica.rows.rows) (progress_at self.old.replica.rows.progress) self.old.open self.old.begun node →
-            HasOwnRows self.old.replica.members.schema (log_of (acted_on (setting self.old.replica.members self.old.replica.me h) node (Take message.now))) → IsPlaced (decision_in (setting self.old.replica.members self.old.replica.me h) node message.now) →
-            Represents (setting self.new.replica.members self.new.replica.me h) self.new.replica.voter.logs.kept self.new.replica.leases (V.version self.new.replica.rows.rows) (progress_at self.new.replica.rows.progress) self.new.open self.new.begun (step (setting self.old.replica.members self.old.replica.me h) node (Take message.now)).node) }
-        ensures staged { V.is_told ≡ true → OnOk result ((h : Meanings) (node : RuleNode) (before : List Met) → StandsFor V.version h self.old node →
-            HasOwnRows self.old.replica.members.schema (log_of (acted_on (setting self.old.replica.members self.old.replica.me h) node (Take message.now))) → IsPlaced (decision_in (setting self.old.replica.members self.old.replica.me h) node message.now) →
-            Stages self.old.replica.voter.logs.staged.items before node.met → Stages self.new.replica.voter.logs.staged.items before (step (setting self.old.replica.members self.old.replica.me h) node (Take message.now)).node.met) }
+    pub fn take<H: QueueHandlers>(
+        &mut self,
+        alloc: Global,
+        handlers: &mut H,
+        message: &Message,
+    ) -> Result<Step, StepFault>
+        ensures notes { V.is_told ≡ true → IfOk result (λ made. (h : Meanings) (node : RuleNode) → Means (H.meant handlers.old) h →
+            StandsFor V.version h self.old node →
+            HasOwnRows self.old.replica.members.schema (log_of (acted_on (setting_of self.old.replica h) node (Take message.now))) → IsPlaced (decision_in (setting_of self.old.replica h) node message.now) →
+            map met_of made.notes ≡ (step (setting_of self.old.replica h) node (Take message.now)).notes) }
+        ensures sends { V.is_told ≡ true → IfOk result (λ made. (h : Meanings) (node : RuleNode) → Means (H.meant handlers.old) h →
+            StandsFor V.version h self.old node →
+            HasOwnRows self.old.replica.members.schema (log_of (acted_on (setting_of self.old.replica h) node (Take message.now))) → IsPlaced (decision_in (setting_of self.old.replica h) node message.now) →
+            made.sends ≡ (step (setting_of self.old.replica h) node (Take message.now)).sends) }
+        ensures state { V.is_told ≡ true → OnOk result ((h : Meanings) (node : RuleNode) → Means (H.meant handlers.old) h →
+            StandsFor V.version h self.old node →
+            HasOwnRows self.old.replica.members.schema (log_of (acted_on (setting_of self.old.replica h) node (Take message.now))) → IsPlaced (decision_in (setting_of self.old.replica h) node message.now) →
+            StandsFor V.version h self.new (step (setting_of self.old.replica h) node (Take message.now)).node) }
+        ensures staged { V.is_told ≡ true → OnOk result ((h : Meanings) (node : RuleNode) (before : List Met) → Means (H.meant handlers.old) h → StandsFor V.version h self.old node →
+            HasOwnRows self.old.replica.members.schema (log_of (acted_on (setting_of self.old.replica h) node (Take message.now))) → IsPlaced (decision_in (setting_of self.old.replica h) node message.now) →
+            Stages self.old.replica.voter.logs.staged.items before node.met → Stages self.new.replica.voter.logs.staged.items before (step (setting_of self.old.replica h) node (Take message.now)).node.met) }
         ensures records { self.new.replica.voter.logs.records ≡ self.old.replica.voter.logs.records }
+        ensures handlers { H.meant handlers.new ≡ H.meant handlers.old }
         ensures members { self.new.replica.members ≡ self.old.replica.members }
         ensures me { self.new.replica.me ≡ self.old.replica.me }
-        ensures built { result ≡ Err Unbuilt → (h : Meanings) (node : RuleNode) → Represents (setting self.old.replica.members self.old.replica.me h) self.old.replica.voter.logs.kept self.old.replica.leases (V.version self.old.replica.rows.rows) (progress_at self.old.replica.rows.progress) self.old.open self.old.begun node → ⊥ }
+        ensures built { result ≡ Err Unbuilt → (h : Meanings) (node : RuleNode) → StandsFor V.version h self.old node → ⊥ }
         ensures stranger { result ≡ Err Stranger → IsByStranger message.now.from message.now.body }
-        ensures late { result ≡ Err Late → (h : Meanings) (node : RuleNode) → Represents (setting self.old.replica.members self.old.replica.me h) self.old.replica.voter.logs.kept self.old.replica.leases (V.version self.old.replica.rows.rows) (progress_at self.old.replica.rows.progress) self.old.open self.old.begun node → IsLate self.old.replica.members message.now.body }
+        ensures late { result ≡ Err Late → (h : Meanings) (node : RuleNode) → StandsFor V.version h self.old node → IsLate self.old.replica.members message.now.body }
         ensures fares { Fares V.Versions (failed_by result) self.old.replica.rows.rows self.new.replica.rows.rows }
     {
         let groups = touched(alloc, &message.body, self.open.as_slice())?;
@@ -124,29 +131,36 @@ impl<R: Records, V: Versions> Node<R, V> {
             sends,
             heard,
         } = taken;
-        let work = acts(alloc, &mut self.replica, heard)?;
+        let work = acts(alloc, handlers, &mut self.replica, heard)?;
         let step = self.ends(alloc, before, notes, work, sends, Items::new(alloc))?;
         Ok(step)
     }
 
     /// An operation begins at the node; the text is its request.
-    pub fn begin(&mut self, alloc: Global, request: Request, text: &Text) -> Result<Step, StepFault>
-        ensures notes { V.is_told ≡ true → IfOk result (λ made. (h : Meanings) (node : RuleNode) →
-            Represents (setting self.old.replica.members self.old.replica.me h) self.old.replica.voter.logs.kept self.old.replica.leases (V.version self.old.replica.rows.rows) (progress_at self.old.replica.rows.progress) self.old.open self.old.begun node →
-            HasOwnRows self.old.replica.members.schema (log_of (acted_on (setting self.old.replica.members self.old.replica.me h) node (Begin request text.now))) →
-            map met_of made.notes ≡ (step (setting self.old.replica.members self.old.replica.me h) node (Begin request text.now)).notes) }
-        ensures sends { V.is_told ≡ true → IfOk result (λ made. (h : Meanings) (node : RuleNode) →
-            Represents (setting self.old.replica.members self.old.replica.me h) self.old.replica.voter.logs.kept self.old.replica.leases (V.version self.old.replica.rows.rows) (progress_at self.old.replica.rows.progress) self.old.open self.old.begun node →
-            HasOwnRows self.old.replica.members.schema (log_of (acted_on (setting self.old.replica.members self.old.replica.me h) node (Begin request text.now))) →
-            made.sends ≡ (step (setting self.old.replica.members self.old.replica.me h) node (Begin request text.now)).sends) }
-        ensures state { V.is_told ≡ true → OnOk result ((h : Meanings) (node : RuleNode) →
-            Represents (setting self.old.replica.members self.old.replica.me h) self.old.replica.voter.logs.kept self.old.replica.leases (V.version self.old.replica.rows.rows) (progress_at self.old.replica.rows.progress) self.old.open self.old.begun node →
-            HasOwnRows self.old.replica.members.schema (log_of (acted_on (setting self.old.replica.members self.old.replica.me h) node (Begin request text.now))) →
-            Represents (setting self.new.replica.members self.new.replica.me h) self.new.replica.voter.logs.kept self.new.replica.leases (V.version self.new.replica.rows.rows) (progress_at self.new.replica.rows.progress) self.new.open self.new.begun (step (setting self.old.replica.members self.old.replica.me h) node (Begin request text.now)).node) }
-        ensures staged { V.is_told ≡ true → OnOk result ((h : Meanings) (node : RuleNode) (before : List Met) → StandsFor V.version h self.old node →
-            HasOwnRows self.old.replica.members.schema (log_of (acted_on (setting self.old.replica.members self.old.replica.me h) node (Begin request text.now))) →
-            Stages self.old.replica.voter.logs.staged.items before node.met → Stages self.new.replica.voter.logs.staged.items before (step (setting self.old.replica.members self.old.replica.me h) node (Begin request text.now)).node.met) }
+    pub fn begin<H: QueueHandlers>(
+        &mut self,
+        alloc: Global,
+        handlers: &mut H,
+        request: Request,
+        text: &Text,
+    ) -> Result<Step, StepFault>
+        ensures notes { V.is_told ≡ true → IfOk result (λ made. (h : Meanings) (node : RuleNode) → Means (H.meant handlers.old) h →
+            StandsFor V.version h self.old node →
+            HasOwnRows self.old.replica.members.schema (log_of (acted_on (setting_of self.old.replica h) node (Begin request text.now))) →
+            map met_of made.notes ≡ (step (setting_of self.old.replica h) node (Begin request text.now)).notes) }
+        ensures sends { V.is_told ≡ true → IfOk result (λ made. (h : Meanings) (node : RuleNode) → Means (H.meant handlers.old) h →
+            StandsFor V.version h self.old node →
+            HasOwnRows self.old.replica.members.schema (log_of (acted_on (setting_of self.old.replica h) node (Begin request text.now))) →
+            made.sends ≡ (step (setting_of self.old.replica h) node (Begin request text.now)).sends) }
+        ensures state { V.is_told ≡ true → OnOk result ((h : Meanings) (node : RuleNode) → Means (H.meant handlers.old) h →
+            StandsFor V.version h self.old node →
+            HasOwnRows self.old.replica.members.schema (log_of (acted_on (setting_of self.old.replica h) node (Begin request text.now))) →
+            StandsFor V.version h self.new (step (setting_of self.old.replica h) node (Begin request text.now)).node) }
+        ensures staged { V.is_told ≡ true → OnOk result ((h : Meanings) (node : RuleNode) (before : List Met) → Means (H.meant handlers.old) h → StandsFor V.version h self.old node →
+            HasOwnRows self.old.replica.members.schema (log_of (acted_on (setting_of self.old.replica h) node (Begin request text.now))) →
+            Stages self.old.replica.voter.logs.staged.items before node.met → Stages self.new.replica.voter.logs.staged.items before (step (setting_of self.old.replica h) node (Begin request text.now)).node.met) }
         ensures records { self.new.replica.voter.logs.records ≡ self.old.replica.voter.logs.records }
+        ensures handlers { H.meant handlers.new ≡ H.meant handlers.old }
         ensures members { self.new.replica.members ≡ self.old.replica.members }
         ensures me { self.new.replica.me ≡ self.old.replica.me }
         ensures unbuilt { result ≡ Err Unbuilt → is_built request ≡ false }
@@ -156,7 +170,7 @@ impl<R: Records, V: Versions> Node<R, V> {
     {
         let groups = asked_groups(alloc, &request)?;
         let before = watched(alloc, &self.replica, groups)?;
-        let work = self.begins(alloc, request)?;
+        let work = self.begins(alloc, handlers, request)?;
         let none = Items::new(alloc);
         let step = self.ends(
             alloc,
@@ -170,26 +184,32 @@ impl<R: Records, V: Versions> Node<R, V> {
     }
 
     /// The node's clock shows `now`, in milliseconds.
-    pub fn tick(&mut self, alloc: Global, now: u64) -> Result<Step, StepFault>
-        ensures notes { V.is_told ≡ true → IfOk result (λ made. (h : Meanings) (node : RuleNode) →
-            Represents (setting self.old.replica.members self.old.replica.me h) self.old.replica.voter.logs.kept self.old.replica.leases (V.version self.old.replica.rows.rows) (progress_at self.old.replica.rows.progress) self.old.open self.old.begun node →
-            HasOwnRows self.old.replica.members.schema (log_of (acted_on (setting self.old.replica.members self.old.replica.me h) node (Tick now))) →
-            map met_of made.notes ≡ (step (setting self.old.replica.members self.old.replica.me h) node (Tick now)).notes) }
-        ensures sends { V.is_told ≡ true → IfOk result (λ made. (h : Meanings) (node : RuleNode) →
-            Represents (setting self.old.replica.members self.old.replica.me h) self.old.replica.voter.logs.kept self.old.replica.leases (V.version self.old.replica.rows.rows) (progress_at self.old.replica.rows.progress) self.old.open self.old.begun node →
-            HasOwnRows self.old.replica.members.schema (log_of (acted_on (setting self.old.replica.members self.old.replica.me h) node (Tick now))) →
-            made.sends ≡ (step (setting self.old.replica.members self.old.replica.me h) node (Tick now)).sends) }
-        ensures state { V.is_told ≡ true → OnOk result ((h : Meanings) (node : RuleNode) →
-            Represents (setting self.old.replica.members self.old.replica.me h) self.old.replica.voter.logs.kept self.old.replica.leases (V.version self.old.replica.rows.rows) (progress_at self.old.replica.rows.progress) self.old.open self.old.begun node →
-            HasOwnRows self.old.replica.members.schema (log_of (acted_on (setting self.old.replica.members self.old.replica.me h) node (Tick now))) →
-            Represents (setting self.new.replica.members self.new.replica.me h) self.new.replica.voter.logs.kept self.new.replica.leases (V.version self.new.replica.rows.rows) (progress_at self.new.replica.rows.progress) self.new.open self.new.begun (step (setting self.old.replica.members self.old.replica.me h) node (Tick now)).node) }
-        ensures staged { V.is_told ≡ true → OnOk result ((h : Meanings) (node : RuleNode) (before : List Met) → StandsFor V.version h self.old node →
-            HasOwnRows self.old.replica.members.schema (log_of (acted_on (setting self.old.replica.members self.old.replica.me h) node (Tick now))) →
-            Stages self.old.replica.voter.logs.staged.items before node.met → Stages self.new.replica.voter.logs.staged.items before (step (setting self.old.replica.members self.old.replica.me h) node (Tick now)).node.met) }
+    pub fn tick<H: QueueHandlers>(
+        &mut self,
+        alloc: Global,
+        handlers: &mut H,
+        now: u64,
+    ) -> Result<Step, StepFault>
+        ensures notes { V.is_told ≡ true → IfOk result (λ made. (h : Meanings) (node : RuleNode) → Means (H.meant handlers.old) h →
+            StandsFor V.version h self.old node →
+            HasOwnRows self.old.replica.members.schema (log_of (acted_on (setting_of self.old.replica h) node (Tick now))) →
+            map met_of made.notes ≡ (step (setting_of self.old.replica h) node (Tick now)).notes) }
+        ensures sends { V.is_told ≡ true → IfOk result (λ made. (h : Meanings) (node : RuleNode) → Means (H.meant handlers.old) h →
+            StandsFor V.version h self.old node →
+            HasOwnRows self.old.replica.members.schema (log_of (acted_on (setting_of self.old.replica h) node (Tick now))) →
+            made.sends ≡ (step (setting_of self.old.replica h) node (Tick now)).sends) }
+        ensures state { V.is_told ≡ true → OnOk result ((h : Meanings) (node : RuleNode) → Means (H.meant handlers.old) h →
+            StandsFor V.version h self.old node →
+            HasOwnRows self.old.replica.members.schema (log_of (acted_on (setting_of self.old.replica h) node (Tick now))) →
+            StandsFor V.version h self.new (step (setting_of self.old.replica h) node (Tick now)).node) }
+        ensures staged { V.is_told ≡ true → OnOk result ((h : Meanings) (node : RuleNode) (before : List Met) → Means (H.meant handlers.old) h → StandsFor V.version h self.old node →
+            HasOwnRows self.old.replica.members.schema (log_of (acted_on (setting_of self.old.replica h) node (Tick now))) →
+            Stages self.old.replica.voter.logs.staged.items before node.met → Stages self.new.replica.voter.logs.staged.items before (step (setting_of self.old.replica h) node (Tick now)).node.met) }
         ensures records { self.new.replica.voter.logs.records ≡ self.old.replica.voter.logs.records }
+        ensures handlers { H.meant handlers.new ≡ H.meant handlers.old }
         ensures members { self.new.replica.members ≡ self.old.replica.members }
         ensures me { self.new.replica.me ≡ self.old.replica.me }
-        ensures built { result ≡ Err Unbuilt → (h : Meanings) (node : RuleNode) → Represents (setting self.old.replica.members self.old.replica.me h) self.old.replica.voter.logs.kept self.old.replica.leases (V.version self.old.replica.rows.rows) (progress_at self.old.replica.rows.progress) self.old.open self.old.begun node → ⊥ }
+        ensures built { result ≡ Err Unbuilt → (h : Meanings) (node : RuleNode) → StandsFor V.version h self.old node → ⊥ }
         ensures stranger { result ≢ Err Stranger }
         ensures late { result ≢ Err Late }
         ensures fares { Fares V.Versions (failed_by result) self.old.replica.rows.rows self.new.replica.rows.rows }
@@ -204,7 +224,7 @@ impl<R: Records, V: Versions> Node<R, V> {
             closing,
         } = made;
         let opened = mem::replace(&mut self.open, Items::new(alloc));
-        let work = acts_ticked(alloc, &mut self.replica, now, opened)?;
+        let work = acts_ticked(alloc, handlers, &mut self.replica, now, opened)?;
         let step = self.ends(alloc, before, notes, work, opening, closing)?;
         Ok(step)
     }

@@ -3,6 +3,7 @@ ghost use Rattle.std.specs.Prelude.{◌≡◌, ◌≢◌, ◌++◌, ℕ, List, A
 ghost use Rattle.std.specs.List.{range_with_len};
 ghost use Rattle.mega_base.specs.declared.names.GroupId.{GroupId as Group};
 ghost use Rattle.mega_handler.specs.Named.{Meanings};
+ghost use Rattle.mega_meanings.specs.Means.{Means};
 ghost use Rattle.mega_node_laws.specs.Acted.{acted_on, decision_in, or_settled};
 ghost use Rattle.mega_node_laws.specs.Own.{HasOwnRows};
 ghost use Rattle.mega_leases.specs.Taking.{IsByStranger, IsLate};
@@ -18,16 +19,16 @@ ghost use Rattle.mega_replica.specs.Following.{Follows, progress_at};
 ghost use Rattle.mega_voter.specs.Telling.{Tells};
 ghost use Rattle.mega_actions.specs.declared.fault.ActFault.TheVariants as act;
 ghost use Rattle.mega_actions.specs.Faults.{failed_by as failed_to_act};
-ghost use Rattle.mega_actions.specs.Stands.{Stands, setting};
+ghost use Rattle.mega_actions.specs.IsAt.{IsAt, setting_of};
 ghost use Rattle.mega_actions.specs.Turns.{IsBuiltHeard, IsHeardAbout};
 ghost use Rattle.mega_actions.specs.Working.{work_of};
 ghost use Rattle.mega_core.specs.declared.fault.StepFault.TheVariants.{Late, Stranger, Unbuilt};
 ghost use Rattle.mega_core.specs.Faults.{failed_by};
 ghost use Rattle.mega_core.specs.Notes.{met_of};
 ghost use Rattle.mega_core.specs.Placed.{IsPlaced};
-ghost use Rattle.mega_core.specs.Represents.{Represents};
 ghost use Rattle.mega_core.specs.Staging.{Stages};
-ghost use Rattle.mega_core.specs.Taking.{HasTaken, news_by};
+ghost use Rattle.mega_core.specs.Taking.{TakenAt, news_by};
+ghost use Rattle.mega_core.specs.Standing.{StandsWith};
 
 use crate::deciding::{Chosen, decides, decision, note_decision, stores, tells_decision};
 use crate::fault::StepFault;
@@ -39,6 +40,7 @@ use crate::telling::{Told, is_told};
 use mega_actions::{ActFault, Replica, Work};
 use mega_base::{Copied, Items, NoMemory, Position};
 use mega_disk::{Records, Versions};
+use mega_meanings::QueueHandlers;
 use mega_operations::{Heard, Members, Operation};
 use mega_propose::others;
 use mega_wire::{Body, Message};
@@ -148,7 +150,7 @@ fn decides_by<R: Records, V: Versions>(
     ensures records { replica.new.voter.logs.records ≡ replica.old.voter.logs.records }
     ensures follows { IfOk result (λ d. (h : Meanings) (met : List Met) (stored : Group → ℕ) → (has_rows replica.old.members replica.old.me ≡ false → (group : Group) → stored group ≡ 0) → IsPlaced d → Tells replica.old.voter.logs.kept met →
         Follows (V.version replica.old.rows.rows) (progress_at replica.old.rows.progress) (log_of met) stored →
-        Follows (V.version replica.new.rows.rows) (progress_at replica.new.rows.progress) (log_of (onto (decision_note d) met)) (stored_after (setting replica.old.members replica.old.me h) (onto (decision_note d) met) stored d)) }
+        Follows (V.version replica.new.rows.rows) (progress_at replica.new.rows.progress) (log_of (onto (decision_note d) met)) (stored_after (setting_of replica.old h) (onto (decision_note d) met) stored d)) }
     ensures members { replica.new.members ≡ replica.old.members }
     ensures me { replica.new.me ≡ replica.old.me }
     ensures leases { replica.new.leases ≡ replica.old.leases }
@@ -205,16 +207,16 @@ pub(crate) fn takes<R: Records, V: Versions>(
     message: &Message,
 ) -> Result<Taken, StepFault>
     ensures taken { IfOk result (λ made. (h : Meanings) (node : RuleNode) (begun : ℕ) →
-        Represents (setting replica.old.members replica.old.me h) replica.old.voter.logs.kept replica.old.leases (V.version replica.old.rows.rows) (progress_at replica.old.rows.progress) opened begun node →
-        HasOwnRows replica.old.members.schema (log_of (acted_on (setting replica.old.members replica.old.me h) node (Take message.now))) → IsPlaced (decision_in (setting replica.old.members replica.old.me h) node message.now) →
-        HasTaken (setting replica.old.members replica.old.me h) (setting replica.new.members replica.new.me h) made replica.new.voter.logs.kept replica.new.leases (V.version replica.new.rows.rows) (progress_at replica.new.rows.progress) node message.now) }
+        StandsWith V.version h replica.old opened begun node →
+        HasOwnRows replica.old.members.schema (log_of (acted_on (setting_of replica.old h) node (Take message.now))) → IsPlaced (decision_in (setting_of replica.old h) node message.now) →
+        TakenAt V.version h replica.old replica.new made node message.now) }
     ensures staged { IfOk result (λ made. (h : Meanings) (node : RuleNode) (begun : ℕ) (before : List Met) →
-        Represents (setting replica.old.members replica.old.me h) replica.old.voter.logs.kept replica.old.leases (V.version replica.old.rows.rows) (progress_at replica.old.rows.progress) opened begun node →
-        Stages replica.old.voter.logs.staged.items before node.met → Stages replica.new.voter.logs.staged.items before (acted_on (setting replica.old.members replica.old.me h) node (Take message.now))) }
+        StandsWith V.version h replica.old opened begun node →
+        Stages replica.old.voter.logs.staged.items before node.met → Stages replica.new.voter.logs.staged.items before (acted_on (setting_of replica.old h) node (Take message.now))) }
     ensures records { replica.new.voter.logs.records ≡ replica.old.voter.logs.records }
     ensures heard { IfOk result (λ made. (h : Meanings) (node : RuleNode) (begun : ℕ) →
-        Represents (setting replica.old.members replica.old.me h) replica.old.voter.logs.kept replica.old.leases (V.version replica.old.rows.rows) (progress_at replica.old.rows.progress) opened begun node →
-        made.heard ≡ map (hears_message (setting replica.old.members replica.old.me h) (clock_of node.met) message.now) node.open_operations) }
+        StandsWith V.version h replica.old opened begun node →
+        made.heard ≡ map (hears_message (setting_of replica.old h) (clock_of node.met) message.now) node.open_operations) }
     ensures members { replica.new.members ≡ replica.old.members }
     ensures me { replica.new.me ≡ replica.old.me }
     ensures built { result ≢ Err Unbuilt }
@@ -240,18 +242,20 @@ pub(crate) fn takes<R: Records, V: Versions>(
 }
 
 /// The operations act on what they heard.
-pub(crate) fn acts<R: Records, V: Versions>(
+pub(crate) fn acts<R: Records, V: Versions, H: QueueHandlers>(
     alloc: Global,
+    handlers: &mut H,
     replica: &mut Replica<R, V>,
     heard: Items<Heard>,
 ) -> Result<Work, ActFault>
-    ensures state { V.is_told ≡ true → OnOk result ((h : Meanings) (met : List Met) (stored : Group → ℕ) → All IsHeardAbout heard →
-        Stands (setting replica.old.members replica.old.me h) replica.old.voter.logs.kept replica.old.leases (V.version replica.old.rows.rows) (progress_at replica.old.rows.progress) met stored →
-        Stands (setting replica.new.members replica.new.me h) replica.new.voter.logs.kept replica.new.leases (V.version replica.new.rows.rows) (progress_at replica.new.rows.progress)
-        (all_act (setting replica.old.members replica.old.me h) (at_first met stored) heard).met (all_act (setting replica.old.members replica.old.me h) (at_first met stored) heard).stored) }
-    ensures work { V.is_told ≡ true → IfOk result (λ work. (h : Meanings) (met : List Met) (stored : Group → ℕ) → All IsHeardAbout heard →
-        Stands (setting replica.old.members replica.old.me h) replica.old.voter.logs.kept replica.old.leases (V.version replica.old.rows.rows) (progress_at replica.old.rows.progress) met stored →
-        work ≡ work_of (all_act (setting replica.old.members replica.old.me h) (at_first met stored) heard)) }
+    ensures state { V.is_told ≡ true → OnOk result ((h : Meanings) (met : List Met) (stored : Group → ℕ) → Means (H.meant handlers.old) h → All IsHeardAbout heard →
+        IsAt V.version h replica.old met stored →
+        IsAt V.version h replica.new
+        (all_act (setting_of replica.old h) (at_first met stored) heard).met (all_act (setting_of replica.old h) (at_first met stored) heard).stored) }
+    ensures work { V.is_told ≡ true → IfOk result (λ work. (h : Meanings) (met : List Met) (stored : Group → ℕ) → Means (H.meant handlers.old) h → All IsHeardAbout heard →
+        IsAt V.version h replica.old met stored →
+        work ≡ work_of (all_act (setting_of replica.old h) (at_first met stored) heard)) }
+    ensures handlers { H.meant handlers.new ≡ H.meant handlers.old }
     ensures members { replica.new.members ≡ replica.old.members }
     ensures me { replica.new.me ≡ replica.old.me }
     ensures voter { replica.new.voter ≡ replica.old.voter }
@@ -259,6 +263,6 @@ pub(crate) fn acts<R: Records, V: Versions>(
     ensures fares { Fares V.Versions (failed_to_act result) replica.old.rows.rows replica.new.rows.rows }
 {
     let mut work = Work::new(alloc);
-    replica.all_act(alloc, &mut work, heard)?;
+    replica.all_act(alloc, handlers, &mut work, heard)?;
     Ok(work)
 }

@@ -8,7 +8,7 @@ ghost use Rattle.mega_rules.specs.Met.{Grants, Lapses, Met, Takes};
 ghost use Rattle.mega_rules.specs.Replies.{reply_to};
 ghost use Rattle.mega_rules.specs.Steps.{onto, told_notes};
 ghost use Rattle.mega_voter.specs.Telling.{Tells};
-ghost use Rattle.mega_actions.specs.Stands.{setting};
+ghost use Rattle.mega_actions.specs.IsAt.{setting_of};
 ghost use Rattle.mega_core.specs.declared.fault.StepFault.TheVariants.{Late, Stranger, Unbuilt};
 ghost use Rattle.mega_core.specs.Faults.{failed_by};
 ghost use Rattle.mega_core.specs.Notes.{met_of};
@@ -121,16 +121,16 @@ pub(crate) fn is_told<R: Records, V: Versions>(
     message: &Message,
 ) -> Result<Told, StepFault>
     ensures notes { IfOk result (λ made. (h : Meanings) (met : List Met) → TellsLeases replica.old.members replica.old.me replica.old.leases met →
-        map met_of made.notes ≡ told_notes (setting replica.old.members replica.old.me h) met message.now.from message.now.body) }
+        map met_of made.notes ≡ told_notes (setting_of replica.old h) met message.now.from message.now.body) }
     ensures sends { IfOk result (λ made. (met : List Met) → Tells replica.old.voter.logs.kept met →
         TellsLeases replica.old.members replica.old.me replica.old.leases met → made.sends ≡ reply_to replica.old.members replica.old.me met message.now) }
     ensures kept { OnOk result ((h : Meanings) (met : List Met) → Tells replica.old.voter.logs.kept met → TellsLeases replica.old.members replica.old.me replica.old.leases met →
-        Tells replica.new.voter.logs.kept (onto (told_notes (setting replica.old.members replica.old.me h) met message.now.from message.now.body) (Takes message.now ∷ met))) }
+        Tells replica.new.voter.logs.kept (onto (told_notes (setting_of replica.old h) met message.now.from message.now.body) (Takes message.now ∷ met))) }
     ensures staged { OnOk result ((h : Meanings) (before met : List Met) → TellsLeases replica.old.members replica.old.me replica.old.leases met → Stages replica.old.voter.logs.staged.items before met →
-        Stages replica.new.voter.logs.staged.items before (onto (told_notes (setting replica.old.members replica.old.me h) met message.now.from message.now.body) (Takes message.now ∷ met))) }
+        Stages replica.new.voter.logs.staged.items before (onto (told_notes (setting_of replica.old h) met message.now.from message.now.body) (Takes message.now ∷ met))) }
     ensures records { replica.new.voter.logs.records ≡ replica.old.voter.logs.records }
     ensures leased { OnOk result ((h : Meanings) (met : List Met) → TellsLeases replica.old.members replica.old.me replica.old.leases met →
-        TellsLeases replica.old.members replica.old.me replica.new.leases (onto (told_notes (setting replica.old.members replica.old.me h) met message.now.from message.now.body) (Takes message.now ∷ met))) }
+        TellsLeases replica.old.members replica.old.me replica.new.leases (onto (told_notes (setting_of replica.old h) met message.now.from message.now.body) (Takes message.now ∷ met))) }
     ensures members { replica.new.members ≡ replica.old.members }
     ensures me { replica.new.me ≡ replica.old.me }
     ensures rows { replica.new.rows ≡ replica.old.rows }

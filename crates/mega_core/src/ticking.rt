@@ -2,6 +2,7 @@
 ghost use Rattle.std.specs.Prelude.{◌≡◌, ◌++◌, ℕ, List, map, flat_map, fold, true, false, None, IfOk, OnOk, Err, All};
 ghost use Rattle.mega_base.specs.declared.names.GroupId.{GroupId as Group};
 ghost use Rattle.mega_handler.specs.Named.{Meanings};
+ghost use Rattle.mega_meanings.specs.Means.{Means};
 ghost use Rattle.mega_node_laws.specs.About.{IsAbout};
 ghost use Rattle.mega_node_laws.specs.Acted.{acted_on};
 ghost use Rattle.mega_node_laws.specs.Own.{HasOwnRows};
@@ -19,13 +20,13 @@ ghost use Rattle.mega_replica.specs.Stored.{stored_with};
 ghost use Rattle.mega_voter.specs.Telling.{Tells};
 ghost use Rattle.mega_actions.specs.declared.fault.ActFault.TheVariants as act;
 ghost use Rattle.mega_actions.specs.Faults.{failed_by as failed_to_act};
-ghost use Rattle.mega_actions.specs.Stands.{Stands, setting};
+ghost use Rattle.mega_actions.specs.IsAt.{IsAt, setting_of};
 ghost use Rattle.mega_actions.specs.Turns.{IsBuilt};
 ghost use Rattle.mega_actions.specs.Working.{work_of};
 ghost use Rattle.mega_core.specs.Notes.{met_of};
-ghost use Rattle.mega_core.specs.Represents.{Represents};
 ghost use Rattle.mega_core.specs.Staging.{Stages};
-ghost use Rattle.mega_core.specs.Ticking.{HasTicked, fetch_message};
+ghost use Rattle.mega_core.specs.Ticking.{TickedAt, fetch_message};
+ghost use Rattle.mega_core.specs.Standing.{StandsWith};
 
 use crate::joining::{add_of_leases, add_sends};
 use crate::kinds::has_rows;
@@ -35,6 +36,7 @@ use mega_actions::{ActFault, Replica, Work};
 use mega_base::{Copied, GroupId, Items, NoMemory, NodeId, OpId, Position};
 use mega_disk::{Records, Versions};
 use mega_leases::Note as OfLeases;
+use mega_meanings::QueueHandlers;
 use mega_operations::{Members, Operation};
 use mega_propose::others;
 use mega_replica::StoredRows;
@@ -206,19 +208,21 @@ fn both(
 }
 
 /// The operations act at a tick.
-pub(crate) fn acts_ticked<R: Records, V: Versions>(
+pub(crate) fn acts_ticked<R: Records, V: Versions, H: QueueHandlers>(
     alloc: Global,
+    handlers: &mut H,
     replica: &mut Replica<R, V>,
     now: u64,
     operations: Items<Operation>,
 ) -> Result<Work, ActFault>
-    ensures state { V.is_told ≡ true → OnOk result ((h : Meanings) (met : List Met) (stored : Group → ℕ) → All IsAbout operations →
-        Stands (setting replica.old.members replica.old.me h) replica.old.voter.logs.kept replica.old.leases (V.version replica.old.rows.rows) (progress_at replica.old.rows.progress) met stored →
-        Stands (setting replica.new.members replica.new.me h) replica.new.voter.logs.kept replica.new.leases (V.version replica.new.rows.rows) (progress_at replica.new.rows.progress)
-        (fold (ticked (setting replica.old.members replica.old.me h) now) (at_first met stored) operations).met (fold (ticked (setting replica.old.members replica.old.me h) now) (at_first met stored) operations).stored) }
-    ensures work { V.is_told ≡ true → IfOk result (λ work. (h : Meanings) (met : List Met) (stored : Group → ℕ) → All IsAbout operations →
-        Stands (setting replica.old.members replica.old.me h) replica.old.voter.logs.kept replica.old.leases (V.version replica.old.rows.rows) (progress_at replica.old.rows.progress) met stored →
-        work ≡ work_of (fold (ticked (setting replica.old.members replica.old.me h) now) (at_first met stored) operations)) }
+    ensures state { V.is_told ≡ true → OnOk result ((h : Meanings) (met : List Met) (stored : Group → ℕ) → Means (H.meant handlers.old) h → All IsAbout operations →
+        IsAt V.version h replica.old met stored →
+        IsAt V.version h replica.new
+        (fold (ticked (setting_of replica.old h) now) (at_first met stored) operations).met (fold (ticked (setting_of replica.old h) now) (at_first met stored) operations).stored) }
+    ensures work { V.is_told ≡ true → IfOk result (λ work. (h : Meanings) (met : List Met) (stored : Group → ℕ) → Means (H.meant handlers.old) h → All IsAbout operations →
+        IsAt V.version h replica.old met stored →
+        work ≡ work_of (fold (ticked (setting_of replica.old h) now) (at_first met stored) operations)) }
+    ensures handlers { H.meant handlers.new ≡ H.meant handlers.old }
     ensures members { replica.new.members ≡ replica.old.members }
     ensures me { replica.new.me ≡ replica.old.me }
     ensures voter { replica.new.voter ≡ replica.old.voter }
@@ -226,7 +230,7 @@ pub(crate) fn acts_ticked<R: Records, V: Versions>(
     ensures fares { Fares V.Versions (failed_to_act result) replica.old.rows.rows replica.new.rows.rows }
 {
     let mut work = Work::new(alloc);
-    replica.all_ticked(alloc, &mut work, now, operations)?;
+    replica.all_ticked(alloc, handlers, &mut work, now, operations)?;
     Ok(work)
 }
 
@@ -238,12 +242,12 @@ pub(crate) fn ticks<R: Records, V: Versions>(
     now: u64,
 ) -> Result<Ticked, NoMemory>
     ensures ticked { IfOk result (λ made. (h : Meanings) (node : RuleNode) (open_ones : List Open) (begun : ℕ) →
-        Represents (setting replica.old.members replica.old.me h) replica.old.voter.logs.kept replica.old.leases (V.version replica.old.rows.rows) (progress_at replica.old.rows.progress) open_ones begun node →
-        HasOwnRows replica.old.members.schema (log_of (acted_on (setting replica.old.members replica.old.me h) node (Tick now))) →
-        HasTicked (setting replica.old.members replica.old.me h) (setting replica.new.members replica.new.me h) made replica.new.voter.logs.kept replica.new.leases (V.version replica.new.rows.rows) (progress_at replica.new.rows.progress) node now) }
+        StandsWith V.version h replica.old open_ones begun node →
+        HasOwnRows replica.old.members.schema (log_of (acted_on (setting_of replica.old h) node (Tick now))) →
+        TickedAt V.version h replica.old replica.new made node now) }
     ensures staged { OnOk result ((h : Meanings) (node : RuleNode) (open_ones : List Open) (begun : ℕ) (before : List Met) →
-        Represents (setting replica.old.members replica.old.me h) replica.old.voter.logs.kept replica.old.leases (V.version replica.old.rows.rows) (progress_at replica.old.rows.progress) open_ones begun node →
-        Stages replica.old.voter.logs.staged.items before node.met → Stages replica.new.voter.logs.staged.items before (acted_on (setting replica.old.members replica.old.me h) node (Tick now))) }
+        StandsWith V.version h replica.old open_ones begun node →
+        Stages replica.old.voter.logs.staged.items before node.met → Stages replica.new.voter.logs.staged.items before (acted_on (setting_of replica.old h) node (Tick now))) }
     ensures records { replica.new.voter.logs.records ≡ replica.old.voter.logs.records }
     ensures members { replica.new.members ≡ replica.old.members }
     ensures me { replica.new.me ≡ replica.old.me }

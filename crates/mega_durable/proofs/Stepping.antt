@@ -5,7 +5,7 @@ use Rattle.mega_cluster.specs.declared.cluster.Cluster.{Cluster}
 use Rattle.mega_disk.specs.declared.records.Records.{Ghosts}
 use Rattle.mega_disk.specs.Fuse.{Fuse, Left, MayBurn, Unset, Untold}
 use Rattle.mega_disk.specs.VersionMaps.{Versions}
-use Rattle.mega_handler.specs.Named.{Meanings}
+use Rattle.mega_handler.specs.Named.{Meaning, Meanings}
 use Rattle.mega_wal.specs.declared.item.JournalItem.{JournalItem}
 use Rattle.mega_wire.specs.declared.message.Body.{Body}
 use Rattle.mega_wire.specs.declared.message.Body.TheVariants.{Where, Accept, Prepare, Invalidate, Dead, Fetch, Acquire, Top, Accepted, Refused, Promise, Invalidated, Held, Unheld, Decide, Have, HaveNot, Granted, Past, Request, Reply}
@@ -39,8 +39,8 @@ use Rattle.mega_durable.proofs.Owing.{cut_owed, step_keeps}
 use Rattle.mega_durable.proofs.Noted.{HasParts, step_parts}
 
 -- ---- a step in memory alone
-pub stepped_now : {R V : Type 0} (store : Ghosts R) (version : V → Versions) (h : Meanings) (old mid : Node R V) (node : RuleNode) (event : Event)
-    → IsUp store version h old node → MayHappen (setting_of old h) node event
+pub stepped_now : {R V : Type 0} {makes : List ℕ → Option Meaning} (store : Ghosts R) (version : V → Versions) (h : Meanings) (old mid : Node R V) (node : RuleNode) (event : Event)
+    → IsUp store version h old node → MayHappen makes (setting_of old h) node event
     → (StandsFor version h old node → HasOwnRows (setting_of old h).cluster.schema (log_of (acted_on (setting_of old h) node event)) → IsPlacedAt (setting_of old h) node event → StandsFor version h mid (step (setting_of old h) node event).node)
     → (StandsFor version h old node → HasOwnRows (setting_of old h).cluster.schema (log_of (acted_on (setting_of old h) node event)) → IsPlacedAt (setting_of old h) node event
     → Stages old.replica.voter.logs.staged.items node.met node.met → Stages mid.replica.voter.logs.staged.items node.met (step (setting_of old h) node event).node.met)

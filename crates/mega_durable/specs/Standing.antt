@@ -1,8 +1,9 @@
 -- How a node over its records stands to the node of the rules: while it is up, and where it starts.
-use Rattle.std.specs.Prelude.{◌≡◌, ℕ, false, List, [], All}
+use Rattle.std.specs.Prelude.{◌≡◌, ℕ, false, List, [], All, Option}
 use Rattle.mega_disk.specs.declared.records.Records.{Ghosts}
 use Rattle.mega_disk.specs.VersionMaps.{Versions}
-use Rattle.mega_handler.specs.Named.{Meanings}
+use Rattle.mega_handler.specs.Named.{Meaning, Meanings}
+use Rattle.mega_meanings.specs.Means.{Means}
 use Rattle.mega_wal.specs.Items.{IsItem}
 use Rattle.mega_rules.specs.Clock.{start_of}
 use Rattle.mega_rules.specs.Logs.{log_of}
@@ -43,8 +44,10 @@ IsPlacedAt s node (Take message) = IsPlaced (decision_in s node message)
 IsPlacedAt s node (Tick now) = Unit {0}
 IsPlacedAt s node (Begin request text) = Unit {0}
 
--- an event may happen at a node: each group's rows are its own then, and what is to be kept of the step has a text
-pub record MayHappen (s : Setting) (node : RuleNode) (event : Event) : Type 0 where
+-- an event may happen at a node over handlers that make this of messages: they mean what its setting says, each group's rows are its own
+-- then, and what is to be kept of the step has a text
+pub record MayHappen (makes : List ℕ → Option Meaning) (s : Setting) (node : RuleNode) (event : Event) : Type 0 where
+  pub means : Means makes s.handlers
   pub owned : HasOwnRows s.cluster.schema (log_of (acted_on s node event))
   pub placed : IsPlacedAt s node event
   pub formed : All IsItem (journal_of (step s node event).node.met)

@@ -1,8 +1,8 @@
 -- What the calls of a node that is up are over: each node of the rules that it may be, and a step that is taken in memory alone.
-use Rattle.std.specs.Prelude.{◌≡◌, false, true, Bool, List, All}
+use Rattle.std.specs.Prelude.{◌≡◌, ℕ, false, true, Bool, List, All, Option}
 use Rattle.mega_disk.specs.declared.records.Records.{Ghosts}
 use Rattle.mega_disk.specs.VersionMaps.{Versions}
-use Rattle.mega_handler.specs.Named.{Meanings}
+use Rattle.mega_handler.specs.Named.{Meaning, Meanings}
 use Rattle.mega_wal.specs.Items.{IsItem}
 use Rattle.mega_rules.specs.Clock.{start_of}
 use Rattle.mega_rules.specs.Operations.{Node as RuleNode, Setting}
@@ -15,13 +15,13 @@ use Rattle.mega_core.specs.Standing.{StandsFor}
 use Rattle.mega_durable.specs.Granted.{KeepsGrants}
 use Rattle.mega_durable.specs.Standing.{IsUp, MayHappen, records_in, setting_of}
 
--- of each node of the rules under which a node is up, and at which the event may happen
-abbrev pub AtEach : {R V : Type 0} → Ghosts R → (V → Versions) → Node R V → Event → (Meanings → Setting → RuleNode → Type 0) → Type 0
-AtEach store version one event Is = (h : Meanings) (node : RuleNode) → IsUp store version h one node → MayHappen (setting_of one h) node event → Is h (setting_of one h) node
+-- of each node of the rules under which a node is up, and at which the event may happen over these handlers
+abbrev pub AtEach : {R V : Type 0} → Ghosts R → (V → Versions) → (List ℕ → Option Meaning) → Node R V → Event → (Meanings → Setting → RuleNode → Type 0) → Type 0
+AtEach store version makes one event Is = (h : Meanings) (node : RuleNode) → IsUp store version h one node → MayHappen makes (setting_of one h) node event → Is h (setting_of one h) node
 
 -- there is such a node
-abbrev pub IsSome : {R V : Type 0} → Ghosts R → (V → Versions) → Node R V → Event → Type 0
-IsSome store version one event = (h : Meanings) × ((node : RuleNode) × IsUp store version h one node × MayHappen (setting_of one h) node event)
+abbrev pub IsSome : {R V : Type 0} → Ghosts R → (V → Versions) → (List ℕ → Option Meaning) → Node R V → Event → Type 0
+IsSome store version makes one event = (h : Meanings) × ((node : RuleNode) × IsUp store version h one node × MayHappen makes (setting_of one h) node event)
 
 -- a node that took a step in memory alone: it stands for that of the rules behind the step, what is staged is the step's, and its records,
 -- which are these, hold what the node met before

@@ -22,6 +22,7 @@ use crate::replying::replies;
 use mega_base::Text;
 use mega_core::{Node, Step};
 use mega_disk::{Records, Versions};
+use mega_meanings::QueueHandlers;
 use mega_outcome::Request;
 use mega_wire::Message;
 use std::alloc::Global;
@@ -35,24 +36,30 @@ pub struct Up<R: Records, V: Versions> {
 
 impl<R: Records, V: Versions> Up<R, V> {
     /// The node takes a message.
-    pub fn take(&mut self, alloc: Global, message: &Message) -> Result<Step, UpFault>
-        requires known { (V.is_told ≡ true) × IsSome R.Records V.version self.old.node (Take message.now) }
-        ensures notes { IfOk result (λ made. AtEach R.Records V.version self.old.node (Take message.now) (λ h s node. map met_of made.notes ≡ (step s node (Take message.now)).notes)) }
-        ensures sends { IfOk result (λ made. AtEach R.Records V.version self.old.node (Take message.now) (λ h s node. made.sends ≡ (step s node (Take message.now)).sends)) }
-        ensures state { R.is_told ≡ true → OnOk result (AtEach R.Records V.version self.old.node (Take message.now) (λ h s node. IsUp R.Records V.version h self.new.node (step s node (Take message.now)).node)) }
-        ensures appended { OnOk result (AtEach R.Records V.version self.old.node (Take message.now) (λ h s node. R.count_of (records_in self.new.node) ≡ R.count_of (records_in self.old.node) + (if appends (step s node (Take message.now)) then 1 else 0))) }
+    pub fn take<H: QueueHandlers>(
+        &mut self,
+        alloc: Global,
+        handlers: &mut H,
+        message: &Message,
+    ) -> Result<Step, UpFault>
+        requires known { (V.is_told ≡ true) × IsSome R.Records V.version (H.meant handlers.old) self.old.node (Take message.now) }
+        ensures notes { IfOk result (λ made. AtEach R.Records V.version (H.meant handlers.old) self.old.node (Take message.now) (λ h s node. map met_of made.notes ≡ (step s node (Take message.now)).notes)) }
+        ensures sends { IfOk result (λ made. AtEach R.Records V.version (H.meant handlers.old) self.old.node (Take message.now) (λ h s node. made.sends ≡ (step s node (Take message.now)).sends)) }
+        ensures state { R.is_told ≡ true → OnOk result (AtEach R.Records V.version (H.meant handlers.old) self.old.node (Take message.now) (λ h s node. IsUp R.Records V.version h self.new.node (step s node (Take message.now)).node)) }
+        ensures appended { OnOk result (AtEach R.Records V.version (H.meant handlers.old) self.old.node (Take message.now) (λ h s node. R.count_of (records_in self.new.node) ≡ R.count_of (records_in self.old.node) + (if appends (step s node (Take message.now)) then 1 else 0))) }
 
         // A crash at any moment of the step leaves what the run's step leaves that is cut off.
-        ensures cut { R.is_told ≡ true → AtEach R.Records V.version self.old.node (Take message.now) (λ h s node. LeavesOnly R.moment R.opened_since (records_in self.old.node) (records_in self.new.node) (MayLeave s node (Take message.now))) }
+        ensures cut { R.is_told ≡ true → AtEach R.Records V.version (H.meant handlers.old) self.old.node (Take message.now) (λ h s node. LeavesOnly R.moment R.opened_since (records_in self.old.node) (records_in self.new.node) (MayLeave s node (Take message.now))) }
 
         // The log's fuse cuts the step exactly where it has no append left for it.
-        ensures whole { R.by_four ≡ true → OnOk result (AtEach R.Records V.version self.old.node (Take message.now) (λ h s node. IsWhole R.Records (appends (step s node (Take message.now))) (records_in self.old.node) (records_in self.new.node))) }
-        ensures burnt { R.is_told ≡ true → R.by_four ≡ true → IfErr result (λ refused. AtEach R.Records V.version self.old.node (Take message.now) (λ h s node. IsCutBy R.Records s node (Take message.now) (records_in self.old.node) (records_in self.new.node) refused)) }
-        ensures owed { IfErr result (λ refused. AtEach R.Records V.version self.old.node (Take message.now) (λ h s node. IsOwedBy s node (Take message.now) refused)) }
+        ensures whole { R.by_four ≡ true → OnOk result (AtEach R.Records V.version (H.meant handlers.old) self.old.node (Take message.now) (λ h s node. IsWhole R.Records (appends (step s node (Take message.now))) (records_in self.old.node) (records_in self.new.node))) }
+        ensures burnt { R.is_told ≡ true → R.by_four ≡ true → IfErr result (λ refused. AtEach R.Records V.version (H.meant handlers.old) self.old.node (Take message.now) (λ h s node. IsCutBy R.Records s node (Take message.now) (records_in self.old.node) (records_in self.new.node) refused)) }
+        ensures owed { IfErr result (λ refused. AtEach R.Records V.version (H.meant handlers.old) self.old.node (Take message.now) (λ h s node. IsOwedBy s node (Take message.now) refused)) }
 
         ensures built { result ≢ Err (Failed Unbuilt) }
         ensures stranger { result ≡ Err (Failed Stranger) → IsByStranger message.now.from message.now.body }
         ensures late { result ≡ Err (Failed Late) → IsLate self.old.node.replica.members message.now.body }
+        ensures handlers { H.meant handlers.new ≡ H.meant handlers.old }
         ensures went { LogWent R.Records (log_failed_by result) (records_in self.old.node) (records_in self.new.node) }
         ensures fares { Fares V.Versions (failed_by result) self.old.node.replica.rows.rows self.new.node.replica.rows.rows }
         ensures members { self.new.node.replica.members ≡ self.old.node.replica.members }
@@ -60,7 +67,7 @@ impl<R: Records, V: Versions> Up<R, V> {
     {
         let members = &self.node.replica.members;
         let replies = replies(members.cluster(), self.node.replica.me, &message.body);
-        match self.node.take(alloc, message) {
+        match self.node.take(alloc, handlers, message) {
             Ok(step) => match keep(alloc, &mut self.node, step, replies) {
                 Ok(made) => Ok(made),
                 Err(fault) => Err(fault),
@@ -70,30 +77,37 @@ impl<R: Records, V: Versions> Up<R, V> {
     }
 
     /// An operation begins at the node; the text is its request.
-    pub fn begin(&mut self, alloc: Global, request: Request, text: &Text) -> Result<Step, UpFault>
-        requires known { (V.is_told ≡ true) × IsSome R.Records V.version self.old.node (Begin request text.now) }
-        ensures notes { IfOk result (λ made. AtEach R.Records V.version self.old.node (Begin request text.now) (λ h s node. map met_of made.notes ≡ (step s node (Begin request text.now)).notes)) }
-        ensures sends { IfOk result (λ made. AtEach R.Records V.version self.old.node (Begin request text.now) (λ h s node. made.sends ≡ (step s node (Begin request text.now)).sends)) }
-        ensures state { R.is_told ≡ true → OnOk result (AtEach R.Records V.version self.old.node (Begin request text.now) (λ h s node. IsUp R.Records V.version h self.new.node (step s node (Begin request text.now)).node)) }
-        ensures appended { OnOk result (AtEach R.Records V.version self.old.node (Begin request text.now) (λ h s node. R.count_of (records_in self.new.node) ≡ R.count_of (records_in self.old.node) + (if appends (step s node (Begin request text.now)) then 1 else 0))) }
+    pub fn begin<H: QueueHandlers>(
+        &mut self,
+        alloc: Global,
+        handlers: &mut H,
+        request: Request,
+        text: &Text,
+    ) -> Result<Step, UpFault>
+        requires known { (V.is_told ≡ true) × IsSome R.Records V.version (H.meant handlers.old) self.old.node (Begin request text.now) }
+        ensures notes { IfOk result (λ made. AtEach R.Records V.version (H.meant handlers.old) self.old.node (Begin request text.now) (λ h s node. map met_of made.notes ≡ (step s node (Begin request text.now)).notes)) }
+        ensures sends { IfOk result (λ made. AtEach R.Records V.version (H.meant handlers.old) self.old.node (Begin request text.now) (λ h s node. made.sends ≡ (step s node (Begin request text.now)).sends)) }
+        ensures state { R.is_told ≡ true → OnOk result (AtEach R.Records V.version (H.meant handlers.old) self.old.node (Begin request text.now) (λ h s node. IsUp R.Records V.version h self.new.node (step s node (Begin request text.now)).node)) }
+        ensures appended { OnOk result (AtEach R.Records V.version (H.meant handlers.old) self.old.node (Begin request text.now) (λ h s node. R.count_of (records_in self.new.node) ≡ R.count_of (records_in self.old.node) + (if appends (step s node (Begin request text.now)) then 1 else 0))) }
 
         // A crash at any moment of the step leaves what the run's step leaves that is cut off.
-        ensures cut { R.is_told ≡ true → AtEach R.Records V.version self.old.node (Begin request text.now) (λ h s node. LeavesOnly R.moment R.opened_since (records_in self.old.node) (records_in self.new.node) (MayLeave s node (Begin request text.now))) }
+        ensures cut { R.is_told ≡ true → AtEach R.Records V.version (H.meant handlers.old) self.old.node (Begin request text.now) (λ h s node. LeavesOnly R.moment R.opened_since (records_in self.old.node) (records_in self.new.node) (MayLeave s node (Begin request text.now))) }
 
         // The log's fuse cuts the step exactly where it has no append left for it.
-        ensures whole { R.by_four ≡ true → OnOk result (AtEach R.Records V.version self.old.node (Begin request text.now) (λ h s node. IsWhole R.Records (appends (step s node (Begin request text.now))) (records_in self.old.node) (records_in self.new.node))) }
-        ensures burnt { R.is_told ≡ true → R.by_four ≡ true → IfErr result (λ refused. AtEach R.Records V.version self.old.node (Begin request text.now) (λ h s node. IsCutBy R.Records s node (Begin request text.now) (records_in self.old.node) (records_in self.new.node) refused)) }
-        ensures owed { IfErr result (λ refused. AtEach R.Records V.version self.old.node (Begin request text.now) (λ h s node. IsOwedBy s node (Begin request text.now) refused)) }
+        ensures whole { R.by_four ≡ true → OnOk result (AtEach R.Records V.version (H.meant handlers.old) self.old.node (Begin request text.now) (λ h s node. IsWhole R.Records (appends (step s node (Begin request text.now))) (records_in self.old.node) (records_in self.new.node))) }
+        ensures burnt { R.is_told ≡ true → R.by_four ≡ true → IfErr result (λ refused. AtEach R.Records V.version (H.meant handlers.old) self.old.node (Begin request text.now) (λ h s node. IsCutBy R.Records s node (Begin request text.now) (records_in self.old.node) (records_in self.new.node) refused)) }
+        ensures owed { IfErr result (λ refused. AtEach R.Records V.version (H.meant handlers.old) self.old.node (Begin request text.now) (λ h s node. IsOwedBy s node (Begin request text.now) refused)) }
 
         ensures unbuilt { result ≡ Err (Failed Unbuilt) → is_built request ≡ false }
         ensures stranger { result ≢ Err (Failed Stranger) }
         ensures late { result ≢ Err (Failed Late) }
+        ensures handlers { H.meant handlers.new ≡ H.meant handlers.old }
         ensures went { LogWent R.Records (log_failed_by result) (records_in self.old.node) (records_in self.new.node) }
         ensures fares { Fares V.Versions (failed_by result) self.old.node.replica.rows.rows self.new.node.replica.rows.rows }
         ensures members { self.new.node.replica.members ≡ self.old.node.replica.members }
         ensures me { self.new.node.replica.me ≡ self.old.node.replica.me }
     {
-        match self.node.begin(alloc, request, text) {
+        match self.node.begin(alloc, handlers, request, text) {
             Ok(step) => match keep(alloc, &mut self.node, step, 0) {
                 Ok(made) => Ok(made),
                 Err(fault) => Err(fault),
@@ -103,30 +117,36 @@ impl<R: Records, V: Versions> Up<R, V> {
     }
 
     /// The node's clock shows `now`, in milliseconds.
-    pub fn tick(&mut self, alloc: Global, now: u64) -> Result<Step, UpFault>
-        requires known { (V.is_told ≡ true) × IsSome R.Records V.version self.old.node (Tick now) }
-        ensures notes { IfOk result (λ made. AtEach R.Records V.version self.old.node (Tick now) (λ h s node. map met_of made.notes ≡ (step s node (Tick now)).notes)) }
-        ensures sends { IfOk result (λ made. AtEach R.Records V.version self.old.node (Tick now) (λ h s node. made.sends ≡ (step s node (Tick now)).sends)) }
-        ensures state { R.is_told ≡ true → OnOk result (AtEach R.Records V.version self.old.node (Tick now) (λ h s node. IsUp R.Records V.version h self.new.node (step s node (Tick now)).node)) }
-        ensures appended { OnOk result (AtEach R.Records V.version self.old.node (Tick now) (λ h s node. R.count_of (records_in self.new.node) ≡ R.count_of (records_in self.old.node) + (if appends (step s node (Tick now)) then 1 else 0))) }
+    pub fn tick<H: QueueHandlers>(
+        &mut self,
+        alloc: Global,
+        handlers: &mut H,
+        now: u64,
+    ) -> Result<Step, UpFault>
+        requires known { (V.is_told ≡ true) × IsSome R.Records V.version (H.meant handlers.old) self.old.node (Tick now) }
+        ensures notes { IfOk result (λ made. AtEach R.Records V.version (H.meant handlers.old) self.old.node (Tick now) (λ h s node. map met_of made.notes ≡ (step s node (Tick now)).notes)) }
+        ensures sends { IfOk result (λ made. AtEach R.Records V.version (H.meant handlers.old) self.old.node (Tick now) (λ h s node. made.sends ≡ (step s node (Tick now)).sends)) }
+        ensures state { R.is_told ≡ true → OnOk result (AtEach R.Records V.version (H.meant handlers.old) self.old.node (Tick now) (λ h s node. IsUp R.Records V.version h self.new.node (step s node (Tick now)).node)) }
+        ensures appended { OnOk result (AtEach R.Records V.version (H.meant handlers.old) self.old.node (Tick now) (λ h s node. R.count_of (records_in self.new.node) ≡ R.count_of (records_in self.old.node) + (if appends (step s node (Tick now)) then 1 else 0))) }
 
         // A crash at any moment of the step leaves what the run's step leaves that is cut off.
-        ensures cut { R.is_told ≡ true → AtEach R.Records V.version self.old.node (Tick now) (λ h s node. LeavesOnly R.moment R.opened_since (records_in self.old.node) (records_in self.new.node) (MayLeave s node (Tick now))) }
+        ensures cut { R.is_told ≡ true → AtEach R.Records V.version (H.meant handlers.old) self.old.node (Tick now) (λ h s node. LeavesOnly R.moment R.opened_since (records_in self.old.node) (records_in self.new.node) (MayLeave s node (Tick now))) }
 
         // The log's fuse cuts the step exactly where it has no append left for it.
-        ensures whole { R.by_four ≡ true → OnOk result (AtEach R.Records V.version self.old.node (Tick now) (λ h s node. IsWhole R.Records (appends (step s node (Tick now))) (records_in self.old.node) (records_in self.new.node))) }
-        ensures burnt { R.is_told ≡ true → R.by_four ≡ true → IfErr result (λ refused. AtEach R.Records V.version self.old.node (Tick now) (λ h s node. IsCutBy R.Records s node (Tick now) (records_in self.old.node) (records_in self.new.node) refused)) }
-        ensures owed { IfErr result (λ refused. AtEach R.Records V.version self.old.node (Tick now) (λ h s node. IsOwedBy s node (Tick now) refused)) }
+        ensures whole { R.by_four ≡ true → OnOk result (AtEach R.Records V.version (H.meant handlers.old) self.old.node (Tick now) (λ h s node. IsWhole R.Records (appends (step s node (Tick now))) (records_in self.old.node) (records_in self.new.node))) }
+        ensures burnt { R.is_told ≡ true → R.by_four ≡ true → IfErr result (λ refused. AtEach R.Records V.version (H.meant handlers.old) self.old.node (Tick now) (λ h s node. IsCutBy R.Records s node (Tick now) (records_in self.old.node) (records_in self.new.node) refused)) }
+        ensures owed { IfErr result (λ refused. AtEach R.Records V.version (H.meant handlers.old) self.old.node (Tick now) (λ h s node. IsOwedBy s node (Tick now) refused)) }
 
         ensures built { result ≢ Err (Failed Unbuilt) }
         ensures stranger { result ≢ Err (Failed Stranger) }
         ensures late { result ≢ Err (Failed Late) }
+        ensures handlers { H.meant handlers.new ≡ H.meant handlers.old }
         ensures went { LogWent R.Records (log_failed_by result) (records_in self.old.node) (records_in self.new.node) }
         ensures fares { Fares V.Versions (failed_by result) self.old.node.replica.rows.rows self.new.node.replica.rows.rows }
         ensures members { self.new.node.replica.members ≡ self.old.node.replica.members }
         ensures me { self.new.node.replica.me ≡ self.old.node.replica.me }
     {
-        match self.node.tick(alloc, now) {
+        match self.node.tick(alloc, handlers, now) {
             Ok(step) => match keep(alloc, &mut self.node, step, 0) {
                 Ok(made) => Ok(made),
                 Err(fault) => Err(fault),

@@ -5,6 +5,7 @@ pub mod Inputs
 pub mod Progress
 pub mod Running
 pub mod Said
+pub mod Small
 pub mod Starts
 pub mod Steps
 pub mod Stopped

@@ -2,7 +2,8 @@
 use Rattle.std.proofs.Common.{◌≡◌, ℕ, zero, suc, ◌+◌, Option, Some, None, Ok, List, [], ◌∷◌, ◌++◌, length, refl, sym, ◌∙◌, ap, subst}
 use Rattle.std.proofs.lemmas.List.Sums.{fold-append}
 use Rattle.mega_cluster.specs.declared.cluster.Cluster.{Cluster}
-use Rattle.mega_handler.specs.Named.{Meanings}
+use Rattle.mega_handler.specs.Named.{Meaning, Meanings}
+use Rattle.mega_meanings.specs.Means.{Means}
 use Rattle.mega_schedule.specs.declared.world_event.WorldEvent.{WorldEvent}
 use Rattle.mega_schedule.specs.declared.world_event.WorldEvent.TheVariants.{Tick, Deliver, Drop, Drain, Crash, Start, Fuse, Begin}
 use Rattle.mega_schedule.specs.Events.{event_of}
@@ -150,10 +151,11 @@ module _ (c : Cluster) (declared : IsDeclared c.schema) where
   owns done now (Start node) fits first is allowed = tt
   owns done now (Fuse node calls image device) fits first is allowed = tt
 
-pub sound : (c : Cluster) (lines : List (List ℕ)) (events : List Happening) (number : ℕ) (line : List ℕ) (event : WorldEvent) → IsDeclared c.schema → AllHappen c lines events → event_of c.schema number line ≡ Ok event
-    → refusal c (stood c events) event ≡ None → IsSound c [] (stood c events) event
-sound c lines events number line event declared happen spelled allowed =
+pub sound : {makes : List ℕ → Option Meaning} (c : Cluster) (lines : List (List ℕ)) (events : List Happening) (number : ℕ) (line : List ℕ) (event : WorldEvent) → IsDeclared c.schema → AllHappen c lines events → event_of c.schema number line ≡ Ok event
+    → refusal c (stood c events) event ≡ None → Means makes [] → IsSound makes c [] (stood c events) event
+sound c lines events number line event declared happen spelled allowed means =
     let first : FitsOne (usage c.schema) (record { handlers = []; event = event }) = record { brought = record { moment = []; is = refl }; meant = meant c number line event spelled } in record {
+      means = means;
       handlers = tt;
       asked = asked c number line event spelled;
       own = owns c declared (in_turn events []) (stood c events) event (fits_turned c lines events [] happen tt) first (turned c events []) allowed;

@@ -4,10 +4,15 @@ use Rattle.mega_tape_laws.specs.Indexed.{IsDeclared}
 use Rattle.mega_tape_laws.proofs.Declared.{parsed_declared}
 use Rattle.mega_line_laws.specs.Clusters.{CanStart}
 use Rattle.mega_line_laws.proofs.Starting.{can_start}
+use Rattle.mega_view.specs.Small.{IsSmall}
 use Rattle.mega_replay.specs.Known.{IsRead}
+use Rattle.mega_replay.proofs.Small.{parsed_small}
 
 pub starts : (c : Cluster) → IsRead c → CanStart c
 starts c read = can_start 1 read.0 c read.1
 
 pub declared : (c : Cluster) → IsRead c → IsDeclared c.schema
 declared c read = parsed_declared (starts c read).schema_text c.schema (starts c read).schema_read
+
+pub small : (c : Cluster) → IsRead c → IsSmall c.schema
+small c read = parsed_small (starts c read).schema_text c.schema (starts c read).schema_read

@@ -9,6 +9,7 @@ ghost use Rattle.mega_replay.specs.Stops.{IsEventStop, IsLineStop, IsWorldStop};
 
 use crate::status::Stop;
 use mega_cluster::Cluster;
+use mega_meanings::NoHandlers;
 use mega_schedule::{LineFault, WorldEvent, event};
 use mega_schema::Schema;
 use mega_transcript::Tape;
@@ -51,7 +52,8 @@ fn happen(
     ensures only { IfErr result IsWorldStop }
     ensures lines { OnOk result (All HasLine tape.new.items) }
 {
-    match world.apply(alloc, event, tape) {
+    let mut handlers = NoHandlers;
+    match world.apply(alloc, &mut handlers, event, tape) {
         Ok(()) => Ok(()),
         Err(WorldFault::Refused { why }) => Err(Stop::Refused { line: number, why }),
         Err(WorldFault::Unbuilt) => Err(Stop::Unbuilt { line: number }),

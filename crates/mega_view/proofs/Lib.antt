@@ -5,3 +5,6 @@ mod Ranges
 mod Adding
 mod Scanned
 mod Listed
+pub mod Found
+pub mod Grouped
+mod Elsewhere

@@ -60,7 +60,7 @@ below_filter : (test : List ℕ × Row → Bool) (k : List ℕ) (es : Listed) �
 below_filter test k [] below = tt
 below_filter test k (e ∷ es) below = elim (test e) as (λ b. Below k (cond b (e ∷ filter test es) (filter test es))) [ true ↦ (below.0, below_filter test k es below.1) | false ↦ below_filter test k es below.1 ]
 
-ascends_filter : (test : List ℕ × Row → Bool) (es : Listed) → Ascends es → Ascends (filter test es)
+pub ascends_filter : (test : List ℕ × Row → Bool) (es : Listed) → Ascends es → Ascends (filter test es)
 ascends_filter test [] up = tt
 ascends_filter test (e ∷ es) up =
     elim (test e) as (λ b. Ascends (cond b (e ∷ filter test es) (filter test es))) [ true ↦ (below_filter test e.0 es up.0, ascends_filter test es up.1) | false ↦ ascends_filter test es up.1 ]

@@ -54,7 +54,7 @@ spelt : (fault : Result (Unit {0}) KeyFault) (bytes key : List ℕ) → unless_f
 spelt (Ok _) bytes key e = limit bytes key e
 spelt (Err fault) bytes key e = absurd (cc)
 
-group_spelt : (shape : Shape) (vs : List Value) (group : List ℕ) → group_key_of shape vs ≡ Ok group → group ≡ group_bytes shape vs
+pub group_spelt : (shape : Shape) (vs : List Value) (group : List ℕ) → group_key_of shape vs ≡ Ok group → group ≡ group_bytes shape vs
 group_spelt shape vs group e = spelt (fault_of shape.root_kinds vs) (group_bytes shape vs) group e
 
 -- ---- a row key of a table, of a group

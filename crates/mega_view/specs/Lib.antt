@@ -2,3 +2,5 @@ pub mod Keys
 pub mod TableRows
 pub mod Shows
 pub mod Scanning
+pub mod OwnRows
+pub mod Small

@@ -1,9 +1,9 @@
 //! The rows of one table in a group, found by a scan of the range of their keys.
-ghost use Rattle.std.specs.Prelude.{◌≡◌, ◌+◌, ◌≤◌, ◌^◌, ℕ, true, Some, IfOk, OnOk, take, slice_get};
+ghost use Rattle.std.specs.Prelude.{◌≡◌, ◌+◌, ◌≤◌, ◌^◌, ◌++◌, ◌∷◌, [], ℕ, true, Some, IfOk, OnOk, take, slice_get};
 ghost use Rattle.std.specs.BTreeMap.{get};
 ghost use Rattle.std.specs.Result.{result_err};
 ghost use Rattle.mega_disk.specs.VersionMaps.{IsScan};
-ghost use Rattle.mega_schema.specs.Shaping.{shape_of};
+ghost use Rattle.mega_schema.specs.Shaping.{shape_of, space_of};
 ghost use Rattle.mega_schema.specs.declared.schema.Schema.{Schema as SchemaSeen};
 ghost use Rattle.mega_schema.specs.declared.schema.Table.{Table as TableSeen};
 ghost use Rattle.mega_index.specs.Fits.{numbered};
@@ -11,7 +11,7 @@ ghost use Rattle.mega_index.specs.Rows.{key_cmp};
 ghost use Rattle.mega_outcome.specs.Answers.{rows_at};
 ghost use Rattle.mega_outcome.specs.Looks.{Looks};
 ghost use Rattle.mega_view.specs.Keys.{AreBytes};
-ghost use Rattle.mega_view.specs.Scanning.{AreThrough, HaveByteKeys, with_row, with_rows};
+ghost use Rattle.mega_view.specs.Scanning.{AreThrough, HaveByteKeys, tail_of, with_row, with_rows};
 
 use crate::keys::{between, is_in, is_key_of, shape_of, tail_of};
 use crate::tables::TableRows;
@@ -71,6 +71,29 @@ fn scan<V: Versions>(
     rows.scan(alloc, from, to, at)
 }
 
+/// The rows at a position in the range of keys of a table in a group of its root.
+pub fn scan_table<V: Versions>(
+    alloc: Global,
+    schema: &Schema,
+    number: u8,
+    table: &Table,
+    group: &[u8],
+    rows: &mut V,
+    at: Position,
+) -> Result<Vec<(Bytes, Row)>, StoreError>
+    requires few { number ≤ 64 }
+    requires there { numbered schema.now.tables number ≡ Some table.now }
+    ensures value { V.is_told ≡ true → IfOk result (λ found.
+        IsScan (V.version rows.old) ((space_of number table.now ∷ tail_of group.now) ++ number ∷ []) ((space_of number table.now ∷ tail_of group.now) ++ (number + 1) ∷ []) at.0 found.items) }
+    ensures looks { Looks V.Versions (result_err result) rows.old rows.new }
+{
+    let tail = tail_of(group);
+    let shape = shape_of(alloc, schema, number, table)?;
+    let from = between(alloc, shape.space, tail, number)?;
+    let to = between(alloc, shape.space, tail, number + 1)?;
+    scan(alloc, rows, &from, &to, at)
+}
+
 /// Adds the rows of a table in a group at a position. The keys of such rows begin alike: with the table's space, what follows
 /// the root in the group, and the table's number.
 pub fn add_table<V: Versions>(
@@ -93,11 +116,8 @@ pub fn add_table<V: Versions>(
     if !is_in(table.root, group) {
         return Ok(());
     }
-    let tail = tail_of(group);
     let shape = shape_of(alloc, schema, number, table)?;
-    let from = between(alloc, shape.space, tail, number)?;
-    let to = between(alloc, shape.space, tail, number + 1)?;
-    let listed = scan(alloc, rows, &from, &to, at)?;
+    let listed = scan_table(alloc, schema, number, table, group, rows, at)?;
     add_rows(alloc, found, &shape, group, listed)?;
     Ok(())
 }

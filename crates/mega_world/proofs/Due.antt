@@ -1,10 +1,11 @@
 -- An event that is due at a world: what its node's step is, whether it may happen there, and how the world is ready to show it.
-use Rattle.std.proofs.Common.{◌≡◌, ℕ, ◌++◌, ◌∷◌, [], List, Some, true, sym, ap, ◌∙◌, subst}
+use Rattle.std.proofs.Common.{◌≡◌, ℕ, ◌++◌, ◌∷◌, [], List, Option, Some, true, sym, ap, ◌∙◌, subst}
 use Rattle.mega_base.specs.declared.names.NodeId.{NodeId}
 use Rattle.mega_base.specs.declared.names.OpId.{OpId}
 use Rattle.mega_cluster.specs.declared.cluster.Cluster.{Cluster}
 use Rattle.mega_durable.specs.Standing.{IsPlacedAt, MayHappen}
-use Rattle.mega_handler.specs.Named.{Meanings}
+use Rattle.mega_handler.specs.Named.{Meaning, Meanings}
+use Rattle.mega_meanings.specs.Means.{Means}
 use Rattle.mega_outcome.specs.declared.request.Request.{Request}
 use Rattle.mega_schedule.specs.declared.world_event.WorldEvent.TheVariants.{Begin as BeginEvent, Deliver, Tick as TickEvent}
 use Rattle.mega_transcript.specs.declared.item.Item.{Item}
@@ -33,14 +34,15 @@ placed_at c h now me (Take message) fit = placed (setting c h me) (now.node me) 
 placed_at c h now me (Tick clock) fit = tt
 placed_at c h now me (Begin request text) fit = tt
 
-pub may_happen : (c : Cluster) (h : Meanings) (now : Standing) (me : ℕ) (event : Event) → IsFit c h now me event → OwnsStep c h now me event → MayHappen (setting c h me) (now.node me) event
-may_happen c h now me event fit own = record {
+pub may_happen : {makes : List ℕ → Option Meaning} (c : Cluster) (h : Meanings) (now : Standing) (me : ℕ) (event : Event) → IsFit c h now me event → OwnsStep c h now me event → Means makes h → MayHappen makes (setting c h me) (now.node me) event
+may_happen c h now me event fit own means = record {
+  means = means;
   owned = own;
   placed = placed_at c h now me event fit;
   formed = journal_items (step (setting c h me) (now.node me) event).node.met fit.formed.node.met;
 }
 
-pub tick_fit : (c : Cluster) (h : Meanings) (world : World) (items : List Item) (now : Standing) (node : NodeId) (clock : ℕ) → IsAt c world items now → IsSound c h now (TickEvent node clock) → is_node c node.0 ≡ true → IsFit c h now node.0 (Tick clock)
+pub tick_fit : {makes : List ℕ → Option Meaning} (c : Cluster) (h : Meanings) (world : World) (items : List Item) (now : Standing) (node : NodeId) (clock : ℕ) → IsAt c world items now → IsSound makes c h now (TickEvent node clock) → is_node c node.0 ≡ true → IsFit c h now node.0 (Tick clock)
 tick_fit c h world items now node clock r sound there = record {
   there = there;
   asked = sound.asked;
@@ -49,7 +51,7 @@ tick_fit c h world items now node clock r sound there = record {
   within = made_within c h now node.0 (Tick clock) r.within there tt;
 }
 
-pub begin_fit : (c : Cluster) (h : Meanings) (world : World) (items : List Item) (now : Standing) (node : NodeId) (request : Request) (text : List ℕ) → IsAt c world items now → IsSound c h now (BeginEvent node request text) → is_node c node.0 ≡ true
+pub begin_fit : {makes : List ℕ → Option Meaning} (c : Cluster) (h : Meanings) (world : World) (items : List Item) (now : Standing) (node : NodeId) (request : Request) (text : List ℕ) → IsAt c world items now → IsSound makes c h now (BeginEvent node request text) → is_node c node.0 ≡ true
     → IsFit c h now node.0 (Begin request text)
 begin_fit c h world items now node request text r sound there = record {
   there = there;
@@ -59,7 +61,7 @@ begin_fit c h world items now node request text r sound there = record {
   within = made_within c h now node.0 (Begin request text) r.within there tt;
 }
 
-pub take_fit : (c : Cluster) (h : Meanings) (world : World) (items : List Item) (now : Standing) (n : ℕ) (message : Message) → IsAt c world items now → IsSound c h now (Deliver n) → message_of now.tape n ≡ Some message → is_node c message.to ≡ true
+pub take_fit : {makes : List ℕ → Option Meaning} (c : Cluster) (h : Meanings) (world : World) (items : List Item) (now : Standing) (n : ℕ) (message : Message) → IsAt c world items now → IsSound makes c h now (Deliver n) → message_of now.tape n ≡ Some message → is_node c message.to ≡ true
     → IsFit c h now message.to (Take message)
 take_fit c h world items now n message r sound is there = record {
   there = there;
@@ -69,7 +71,7 @@ take_fit c h world items now n message r sound is there = record {
   within = made_within c h now message.to (Take message) r.within there (r.within.messages n message is);
 }
 
-pub take_owns : (c : Cluster) (h : Meanings) (now : Standing) (n : ℕ) (message : Message) → IsSound c h now (Deliver n) → message_of now.tape n ≡ Some message → OwnsStep c h now message.to (Take message)
+pub take_owns : {makes : List ℕ → Option Meaning} (c : Cluster) (h : Meanings) (now : Standing) (n : ℕ) (message : Message) → IsSound makes c h now (Deliver n) → message_of now.tape n ≡ Some message → OwnsStep c h now message.to (Take message)
 take_owns c h now n message sound is = subst (OwnsTaken c h now) is sound.own
 
 pub tick_ready : (now : Standing) (me clock : ℕ) (old mid : World) (items here : List Item) → Carries old.mail now.tape → here ≡ items ++ TickItem (number me) clock ∷ [] → mid.cluster ≡ old.cluster → mid.mail ≡ old.mail → mid.safety ≡ old.safety

@@ -1,8 +1,9 @@
 -- Messages are dropped, and drained one after another.
-use Rattle.std.proofs.Common.{◌≡◌, ℕ, ◌+◌, ◌-◌, ◌<◌, ◌≤◌, List, [], ◌∷◌, ◌++◌, Some, None, refl, sym, ap, ◌∙◌, subst, suc, arith}
+use Rattle.std.proofs.Common.{◌≡◌, ℕ, ◌+◌, ◌-◌, ◌<◌, ◌≤◌, List, [], ◌∷◌, ◌++◌, Option, Some, None, refl, sym, ap, ◌∙◌, subst, suc, arith}
 use Rattle.std.specs.List.{All}
 use Rattle.mega_cluster.specs.declared.cluster.Cluster.{Cluster}
-use Rattle.mega_handler.specs.Named.{Meanings}
+use Rattle.mega_handler.specs.Named.{Meaning, Meanings}
+use Rattle.mega_meanings.proofs.Lasting.{means_still}
 use Rattle.mega_schedule.specs.declared.world_event.WorldEvent.TheVariants.{Deliver, Drain, Drop}
 use Rattle.mega_transcript.specs.declared.item.Item.{Item}
 use Rattle.mega_transcript.specs.declared.item.Item.TheVariants.{Cut, Dropped}
@@ -94,9 +95,10 @@ drained_cut c h now most left number world first here after r none is added =
 
 -- ---- so it goes on in a loop
 
-pub next_sound : (c : Cluster) (h : Meanings) (now : Standing) (most turn number : ℕ) (world : World) (first here : List Item) (r : Reaches c h now most world first here (most - turn)) → turn < most
-    → IsSound c h now (Drain most) → next_delivery (up r.mid) r.mid.tape ≡ Some number → IsSound c h r.mid (Deliver number)
-next_sound c h now most turn number world first here r less sound is = record {
+pub next_sound : {makes now_makes : List ℕ → Option Meaning} (c : Cluster) (h : Meanings) (now : Standing) (most turn number : ℕ) (world : World) (first here : List Item) (r : Reaches c h now most world first here (most - turn)) → turn < most
+    → now_makes ≡ makes → IsSound makes c h now (Drain most) → next_delivery (up r.mid) r.mid.tape ≡ Some number → IsSound now_makes c h r.mid (Deliver number)
+next_sound {makes} {now_makes} c h now most turn number world first here r less same sound is = record {
+  means = means_still makes now_makes h same sound.means;
   handlers = sound.handlers;
   asked = tt;
   own = (owns_next c h r.mid (most - (turn + 1)) number (subst (λ (n : ℕ). OwnsDrained c h n r.mid) (left_more most turn less) r.owns) is).0;

@@ -8,7 +8,7 @@ use Rattle.mega_disk.specs.declared.mem_records.MemRecords.{MemRecords}
 use Rattle.mega_disk.specs.Fuse.{Unset, after_append as less, is_short, keeps_record}
 use Rattle.mega_disk.specs.MemDisk.{fuse_of, image_of}
 use Rattle.mega_rows.specs.declared.rows.VersionedRows.{VersionedRows}
-use Rattle.mega_handler.specs.Named.{Meanings}
+use Rattle.mega_handler.specs.Named.{Meaning, Meanings}
 use Rattle.mega_wire.specs.declared.message.Body.{Body}
 use Rattle.mega_voter.specs.Holding.{HoldsMet}
 use Rattle.mega_voter.specs.Telling.{Tells}
@@ -85,11 +85,11 @@ pub record IsWhole (appending : Bool) (old new : MemRecords) : Type 0 where
   pub count : new.count ≡ old.count + cond {A = ℕ} appending 1 0
 
 -- what a node's own clauses say of a step
-pub record Steps (node stepped : Node MemRecords VersionedRows) (made : Step) (event : Event) : Type 0 where
-  pub notes : (h : Meanings) (ruled : RuleNode) → IsHere h node ruled → MayHappen (at_node node.replica.members node.replica.me h) ruled event → map met_of made.notes ≡ (step (at_node node.replica.members node.replica.me h) ruled event).notes
-  pub sends : (h : Meanings) (ruled : RuleNode) → IsHere h node ruled → MayHappen (at_node node.replica.members node.replica.me h) ruled event → made.sends ≡ (step (at_node node.replica.members node.replica.me h) ruled event).sends
-  pub state : (h : Meanings) (ruled : RuleNode) → IsHere h node ruled → MayHappen (at_node node.replica.members node.replica.me h) ruled event → IsHere h stepped (step (at_node node.replica.members node.replica.me h) ruled event).node
-  pub whole : (h : Meanings) (ruled : RuleNode) → IsHere h node ruled → MayHappen (at_node node.replica.members node.replica.me h) ruled event
+pub record Steps (makes : List ℕ → Option Meaning) (node stepped : Node MemRecords VersionedRows) (made : Step) (event : Event) : Type 0 where
+  pub notes : (h : Meanings) (ruled : RuleNode) → IsHere h node ruled → MayHappen makes (at_node node.replica.members node.replica.me h) ruled event → map met_of made.notes ≡ (step (at_node node.replica.members node.replica.me h) ruled event).notes
+  pub sends : (h : Meanings) (ruled : RuleNode) → IsHere h node ruled → MayHappen makes (at_node node.replica.members node.replica.me h) ruled event → made.sends ≡ (step (at_node node.replica.members node.replica.me h) ruled event).sends
+  pub state : (h : Meanings) (ruled : RuleNode) → IsHere h node ruled → MayHappen makes (at_node node.replica.members node.replica.me h) ruled event → IsHere h stepped (step (at_node node.replica.members node.replica.me h) ruled event).node
+  pub whole : (h : Meanings) (ruled : RuleNode) → IsHere h node ruled → MayHappen makes (at_node node.replica.members node.replica.me h) ruled event
       → IsWhole (appends (step (at_node node.replica.members node.replica.me h) ruled event)) node.replica.voter.logs.records stepped.replica.voter.logs.records
   pub members : stepped.replica.members ≡ node.replica.members
   pub me : stepped.replica.me ≡ node.replica.me
@@ -113,10 +113,10 @@ fused_step false kept next old new fuse is whole counts =
     subst (λ (k : Option LogFuse). IsFused k new fuse) (sym (counts.same same)) (fused_same kept old new fuse is whole.fuse whole.image)
 
 -- ---- so a node of a cluster made the step of the rules
-pub made_step : (c : Cluster) (h : Meanings) (me : ℕ) (ruled : RuleNode) (fuse : Option Fuse) (member stepped : Member) (made : Step) (event : Event) → IsMember c me member ruled → IsFused member.fuse (records_of member) fuse
-    → MayHappen (setting c h me) ruled event → Steps (node_in member) (node_in stepped) made event → Counts member.fuse stepped.fuse (records_of member).count (records_of stepped).count
+pub made_step : {makes : List ℕ → Option Meaning} (c : Cluster) (h : Meanings) (me : ℕ) (ruled : RuleNode) (fuse : Option Fuse) (member stepped : Member) (made : Step) (event : Event) → IsMember c me member ruled → IsFused member.fuse (records_of member) fuse
+    → MayHappen makes (setting c h me) ruled event → Steps makes (node_in member) (node_in stepped) made event → Counts member.fuse stepped.fuse (records_of member).count (records_of stepped).count
     → MadeStep c me (step (setting c h me) ruled event) fuse stepped made
-made_step c h me ruled fuse member stepped made event one fused may steps counts = record {
+made_step {makes} c h me ruled fuse member stepped made event one fused may steps counts = record {
   notes = steps.notes h ruled here its ∙ ap (λ (s : Setting). (step s ruled event).notes) (sym own);
   sends = steps.sends h ruled here its ∙ ap (λ (s : Setting). (step s ruled event).sends) (sym own);
   long = not_burning (appends (step (setting c h me) ruled event)) (records_of member) member.fuse fuse fused whole.long;
@@ -131,8 +131,8 @@ made_step c h me ruled fuse member stepped made event one fused may steps counts
     here : IsHere h (node_in member) ruled
     here = is_here c h me member ruled one
 
-    its : MayHappen (at_node (node_in member).replica.members (node_in member).replica.me h) ruled event
-    its = subst (λ (s : Setting). MayHappen s ruled event) own may
+    its : MayHappen makes (at_node (node_in member).replica.members (node_in member).replica.me h) ruled event
+    its = subst (λ (s : Setting). MayHappen makes s ruled event) own may
 
     whole : IsWhole (appends (step (setting c h me) ruled event)) (records_of member) (records_of stepped)
     whole = subst (λ (s : Setting). IsWhole (appends (step s ruled event)) (records_of member) (records_of stepped)) (sym own) (steps.whole h ruled here its)
@@ -146,12 +146,12 @@ pub record CutSo (s : Setting) (ruled : RuleNode) (event : Event) (old new : Mem
   pub owed : owed_by cut ≡ owes (step s ruled event) (replies_in s.cluster s.me ruled.met event)
   pub follows : AreOwed (owes (step s ruled event) (replies_in s.cluster s.me ruled.met event)) (Crashes ∷ own_item s ruled event ∷ ruled.met)
 
-pub was_cut : (c : Cluster) (h : Meanings) (me : ℕ) (ruled : RuleNode) (fuse : Option Fuse) (member stepped : Member) (cut : Cut) (event : Event) → IsMember c me member ruled → IsFused member.fuse (records_of member) fuse
-    → MayHappen (setting c h me) ruled event → stepped.fuse ≡ member.fuse
-    → (IsHere h (node_in member) ruled → MayHappen (at_node (node_in member).replica.members (node_in member).replica.me h) ruled event
+pub was_cut : {makes : List ℕ → Option Meaning} (c : Cluster) (h : Meanings) (me : ℕ) (ruled : RuleNode) (fuse : Option Fuse) (member stepped : Member) (cut : Cut) (event : Event) → IsMember c me member ruled → IsFused member.fuse (records_of member) fuse
+    → MayHappen makes (setting c h me) ruled event → stepped.fuse ≡ member.fuse
+    → (IsHere h (node_in member) ruled → MayHappen makes (at_node (node_in member).replica.members (node_in member).replica.me h) ruled event
     → CutSo (at_node (node_in member).replica.members (node_in member).replica.me h) ruled event (records_of member) (records_of stepped) cut)
     → WasCut c h me ruled event fuse stepped cut
-was_cut c h me ruled fuse member stepped cut event one fused may same says = record {
+was_cut {makes} c h me ruled fuse member stepped cut event one fused may same says = record {
   appending = so.appending;
   burning = sym (short_is fuse fused.unburnt) ∙ sym (ap is_short fused.left) ∙ so.short;
   holds = subst (HoldsCut (setting c h me) ruled event (records_of stepped).list.items) (leaves (records_of member) fuse fused.left fused.image fused.unburnt) so.holds;
@@ -166,7 +166,7 @@ was_cut c h me ruled fuse member stepped cut event one fused may same says = rec
 
     so : CutSo (setting c h me) ruled event (records_of member) (records_of stepped) cut
     so = subst (λ (s : Setting). CutSo s ruled event (records_of member) (records_of stepped) cut) (sym own)
-        (says (is_here c h me member ruled one) (subst (λ (s : Setting). MayHappen s ruled event) own may))
+        (says (is_here c h me member ruled one) (subst (λ (s : Setting). MayHappen makes s ruled event) own may))
 
 -- the node at a place of a list, counted from 1
 pub found : {X : Type 0} (xs : List X) (i me : ℕ) (x : X) → i ≡ me - 1 → 1 ≤ me → me ≤ length xs → x ≡ get_or xs i x → slice_get xs i ≡ Some x

@@ -1,7 +1,8 @@
 -- What the format of messages can hold, of a run and of an event.
-use Rattle.std.specs.Prelude.{◌≡◌, ◌≤◌, ℕ, zero, suc, Option, Some, None}
+use Rattle.std.specs.Prelude.{◌≡◌, ◌≤◌, ℕ, zero, suc, List, Option, Some, None}
 use Rattle.mega_cluster.specs.declared.cluster.Cluster.{Cluster}
-use Rattle.mega_handler.specs.Named.{Meanings}
+use Rattle.mega_handler.specs.Named.{Meaning, Meanings}
+use Rattle.mega_meanings.specs.Means.{Means}
 use Rattle.mega_node_laws.specs.Acted.{acted_on}
 use Rattle.mega_node_laws.specs.Own.{HasOwnRows}
 use Rattle.mega_wire.specs.declared.message.Message.{Message}
@@ -57,8 +58,10 @@ Owns c h now (Deliver number) = OwnsDelivered c h now number
 Owns c h now (Drain most) = OwnsDrained c h most now
 Owns c h now _ = Unit {0}
 
--- an event whose clock, request and handlers are of the format, and whose steps act on logs in which each group has rows of its own
-pub record IsSound (c : Cluster) (h : Meanings) (now : Standing) (event : WorldEvent) : Type 0 where
+-- an event whose clock, request and handlers are of the format, over handlers with these meanings that make this of messages, and whose steps
+-- act on logs in which each group has rows of its own
+pub record IsSound (makes : List ℕ → Option Meaning) (c : Cluster) (h : Meanings) (now : Standing) (event : WorldEvent) : Type 0 where
+  pub means : Means makes h
   pub handlers : AreHandlers h
   pub asked : IsAsked event
   pub own : Owns c h now event

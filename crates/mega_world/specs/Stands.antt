@@ -1,7 +1,7 @@
 -- How a world and its tape stand to a run of its cluster.
-use Rattle.std.specs.Prelude.{◌≡◌, ℕ, List, None}
+use Rattle.std.specs.Prelude.{◌≡◌, ℕ, List, Option, None}
 use Rattle.mega_cluster.specs.declared.cluster.Cluster.{Cluster}
-use Rattle.mega_handler.specs.Named.{Meanings}
+use Rattle.mega_handler.specs.Named.{Meaning, Meanings}
 use Rattle.mega_schedule.specs.declared.world_event.WorldEvent.{WorldEvent}
 use Rattle.mega_schedule.specs.declared.world_event.WorldEvent.TheVariants.{Deliver}
 use Rattle.mega_transcript.specs.declared.item.Item.{Item}
@@ -28,26 +28,26 @@ pub record IsAt (c : Cluster) (world : World) (items : List Item) (now : Standin
   pub within : RunsWithin c now
 
 -- there is a run at which the world stands, and the event is sound in it
-pub record IsDue (world : World) (items : List Item) (event : WorldEvent) : Type 0 where
+pub record IsDue (makes : List ℕ → Option Meaning) (world : World) (items : List Item) (event : WorldEvent) : Type 0 where
   pub cluster : Cluster
   pub handlers : Meanings
   pub now : Standing
   pub at : IsAt cluster world items now
-  pub sound : IsSound cluster handlers now event
+  pub sound : IsSound makes cluster handlers now event
 
 -- there is a run at which the world stands, and the event is sound in it where it is not refused
-pub record MayCome (world : World) (items : List Item) (event : WorldEvent) : Type 0 where
+pub record MayCome (makes : List ℕ → Option Meaning) (world : World) (items : List Item) (event : WorldEvent) : Type 0 where
   pub cluster : Cluster
   pub handlers : Meanings
   pub now : Standing
   pub at : IsAt cluster world items now
-  pub sound : refusal cluster now event ≡ None → IsSound cluster handlers now event
+  pub sound : refusal cluster now event ≡ None → IsSound makes cluster handlers now event
 
 -- there is a run at which the world stands, in which the delivery of this message is sound and not refused
-pub record IsAllowed (world : World) (items : List Item) (number : ℕ) : Type 0 where
+pub record IsAllowed (makes : List ℕ → Option Meaning) (world : World) (items : List Item) (number : ℕ) : Type 0 where
   pub cluster : Cluster
   pub handlers : Meanings
   pub now : Standing
   pub at : IsAt cluster world items now
-  pub sound : IsSound cluster handlers now (Deliver number)
+  pub sound : IsSound makes cluster handlers now (Deliver number)
   pub allowed : refusal cluster now (Deliver number) ≡ None

@@ -3,7 +3,7 @@ use Rattle.std.specs.Prelude.{◌≡◌, ℕ, ◌&&◌, true, false, if◌then�
 use Rattle.mega_cluster.specs.declared.cluster.Cluster.{Cluster}
 use Rattle.mega_disk.specs.Fuse.{Unset}
 use Rattle.mega_disk.specs.MemDisk.{fuse_of}
-use Rattle.mega_handler.specs.Named.{Meanings}
+use Rattle.mega_handler.specs.Named.{Meaning, Meanings}
 use Rattle.mega_transcript.specs.declared.item.Item.{Item}
 use Rattle.mega_leases.specs.Opening.{AreOwed}
 use Rattle.mega_node_laws.specs.Acted.{own_item}
@@ -27,19 +27,20 @@ use Rattle.mega_world.specs.Kept.{AreNodes}
 use Rattle.mega_world.specs.LogFuses.{IsFused, run_fuse}
 use Rattle.mega_world.specs.Members.{IsMember, records_of}
 
--- of each node of the rules which this node may be, with this fuse of the run on its log, and at which the event may happen
-abbrev pub AtEachNode : Member → Event → (Cluster → Meanings → ℕ → RuleNode → Option Fuse → Type 0) → Type 0
-AtEachNode member event Is =
-    (c : Cluster) (h : Meanings) (me : ℕ) (ruled : RuleNode) (fuse : Option Fuse) → IsMember c me member ruled → IsFused member.fuse (records_of member) fuse → MayHappen (setting c h me) ruled event → Is c h me ruled fuse
+-- of each node of the rules which this node may be, with this fuse of the run on its log, and at which the event may happen over handlers
+-- that make this of messages
+abbrev pub AtEachNode : (List ℕ → Option Meaning) → Member → Event → (Cluster → Meanings → ℕ → RuleNode → Option Fuse → Type 0) → Type 0
+AtEachNode makes member event Is =
+    (c : Cluster) (h : Meanings) (me : ℕ) (ruled : RuleNode) (fuse : Option Fuse) → IsMember c me member ruled → IsFused member.fuse (records_of member) fuse → MayHappen makes (setting c h me) ruled event → Is c h me ruled fuse
 
 -- there is such a node
-pub record IsSome (member : Member) (event : Event) : Type 0 where
+pub record IsSome (makes : List ℕ → Option Meaning) (member : Member) (event : Event) : Type 0 where
   pub cluster : Cluster
   pub handlers : Meanings
   pub me : ℕ
   pub ruled : RuleNode
   pub is : IsMember cluster me member ruled
-  pub may : MayHappen (setting cluster handlers me) ruled event
+  pub may : MayHappen makes (setting cluster handlers me) ruled event
 
 -- a node made this step: it notes and sends what the rules say, and the fuse had an append left where one was made
 pub record MadeStep (c : Cluster) (me : ℕ) (ruled : RuleStep) (fuse : Option Fuse) (member : Member) (made : Step) : Type 0 where
@@ -66,16 +67,16 @@ Outcome c h me ruled event fuse member (Err (not_made.Cut cut)) = WasCut c h me 
 Outcome c h me ruled event fuse member (Err (not_made.Fault fault)) = Unit {0}
 
 -- of the nodes of each run at which the event may happen to this node
-abbrev pub AtEachRun : List Place → ℕ → Event → (Cluster → Meanings → Standing → Type 0) → Type 0
-AtEachRun places me event Is = (c : Cluster) (h : Meanings) (now : Standing) → AreNodes c places now → MayHappen (setting c h me) (now.node me) event → Is c h now
+abbrev pub AtEachRun : (List ℕ → Option Meaning) → List Place → ℕ → Event → (Cluster → Meanings → Standing → Type 0) → Type 0
+AtEachRun makes places me event Is = (c : Cluster) (h : Meanings) (now : Standing) → AreNodes c places now → MayHappen makes (setting c h me) (now.node me) event → Is c h now
 
 -- there is such a run
-pub record IsRunning (places : List Place) (me : ℕ) (event : Event) : Type 0 where
+pub record IsRunning (makes : List ℕ → Option Meaning) (places : List Place) (me : ℕ) (event : Event) : Type 0 where
   pub cluster : Cluster
   pub handlers : Meanings
   pub now : Standing
   pub nodes : AreNodes cluster places now
-  pub may : MayHappen (setting cluster handlers me) (now.node me) event
+  pub may : MayHappen makes (setting cluster handlers me) (now.node me) event
 
 -- what a step of the run leaves that its fuse cut off
 abbrev pub cut_off : Cluster → Meanings → Standing → ℕ → List Item → Event → Standing

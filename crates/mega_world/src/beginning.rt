@@ -18,6 +18,7 @@ use crate::places::{is_node, is_up};
 use crate::stepping::begin_at;
 use crate::world::World;
 use mega_base::{GroupId, NodeId, Text};
+use mega_meanings::QueueHandlers;
 use mega_outcome::Request;
 use mega_transcript::{Item, Tape};
 use std::alloc::Global;
@@ -71,19 +72,21 @@ fn refusal(places: &[Place], node: NodeId, request: &Request) -> Option<u8>
 
 impl World {
     /// An operation begins at a node.
-    pub(crate) fn begin(
+    pub(crate) fn begin<H: QueueHandlers>(
         &mut self,
         alloc: Global,
+        handlers: &mut H,
         node: NodeId,
         request: Request,
         text: Text,
         tape: &mut Tape,
     ) -> Result<(), WorldFault>
-        requires known { MayCome self.old tape.old.items (event.Begin node request text) }
-        ensures state { OnOk result ((c : Cluster) (h : Meanings) (now : Standing) → IsAt c self.old tape.old.items now → IsSound c h now (event.Begin node request text) →
+        requires known { MayCome (H.meant handlers.old) self.old tape.old.items (event.Begin node request text) }
+        ensures state { OnOk result ((c : Cluster) (h : Meanings) (now : Standing) → IsAt c self.old tape.old.items now → IsSound (H.meant handlers.old) c h now (event.Begin node request text) →
             IsAt c self.new tape.new.items (after_event c h by_fuse now (event.Begin node request text))) }
-        ensures lines { OnOk result ((c : Cluster) (h : Meanings) (now : Standing) → IsAt c self.old tape.old.items now → IsSound c h now (event.Begin node request text) →
+        ensures lines { OnOk result ((c : Cluster) (h : Meanings) (now : Standing) → IsAt c self.old tape.old.items now → IsSound (H.meant handlers.old) c h now (event.Begin node request text) →
             All HasLine tape.old.items → All HasLine tape.new.items) }
+        ensures handlers { H.meant handlers.new ≡ H.meant handlers.old }
         ensures happens { OnOk result ((c : Cluster) (now : Standing) → IsAt c self.old tape.old.items now → refusal c now (event.Begin node request text) ≡ None) }
         ensures refused { (why : ℕ) → result ≡ Err (Refused why) → (c : Cluster) (now : Standing) → IsAt c self.old tape.old.items now → refusal c now (event.Begin node request text) ≡ Some why }
         ensures world { (why : ℕ) → result ≡ Err (Refused why) → self.new ≡ self.old }
@@ -93,14 +96,15 @@ impl World {
     {
         match refusal(self.places.as_slice(), node, &request) {
             Some(why) => Err(WorldFault::Refused { why }),
-            None => self.begins(alloc, node, request, text, tape),
+            None => self.begins(alloc, handlers, node, request, text, tape),
         }
     }
 
     /// An operation begins at a node that is up.
-    fn begins(
+    fn begins<H: QueueHandlers>(
         &mut self,
         alloc: Global,
+        handlers: &mut H,
         node: NodeId,
         request: Request,
         text: Text,
@@ -109,16 +113,17 @@ impl World {
         requires least { 1 ≤ node.0 }
         requires most { node.0 ≤ length self.old.places.items }
         requires up { is_up_at self.old.places.items node.0 ≡ true }
-        requires known { IsDue self.old tape.old.items (event.Begin node request text) }
-        ensures state { OnOk result ((c : Cluster) (h : Meanings) (now : Standing) → IsAt c self.old tape.old.items now → IsSound c h now (event.Begin node request text) →
+        requires known { IsDue (H.meant handlers.old) self.old tape.old.items (event.Begin node request text) }
+        ensures state { OnOk result ((c : Cluster) (h : Meanings) (now : Standing) → IsAt c self.old tape.old.items now → IsSound (H.meant handlers.old) c h now (event.Begin node request text) →
             IsAt c self.new tape.new.items (after_event c h by_fuse now (event.Begin node request text))) }
-        ensures lines { OnOk result ((c : Cluster) (h : Meanings) (now : Standing) → IsAt c self.old tape.old.items now → IsSound c h now (event.Begin node request text) →
+        ensures lines { OnOk result ((c : Cluster) (h : Meanings) (now : Standing) → IsAt c self.old tape.old.items now → IsSound (H.meant handlers.old) c h now (event.Begin node request text) →
             All HasLine tape.old.items → All HasLine tape.new.items) }
+        ensures handlers { H.meant handlers.new ≡ H.meant handlers.old }
         ensures served { (why : ℕ) → result ≢ Err (Refused why) }
         ensures unbuilt { result ≡ Err Unbuilt → is_built request ≡ false }
         ensures limited { result ≢ Err Limit }
     {
-        let (op, made) = match begin_at(alloc, &mut self.places, node.0, request, &text) {
+        let (op, made) = match begin_at(alloc, handlers, &mut self.places, node.0, request, &text) {
             Ok(begun) => begun,
             Err(fault) => return Err(fault),
         };

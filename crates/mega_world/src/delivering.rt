@@ -20,6 +20,7 @@ use crate::place::Place;
 use crate::places::is_up;
 use crate::stepping::take_at;
 use crate::world::World;
+use mega_meanings::QueueHandlers;
 use mega_transcript::{Item, Tape};
 use mega_wire::Message;
 use std::alloc::Global;
@@ -46,17 +47,19 @@ fn sent_to<'a>(mail: &'a Mail, places: &[Place], number: u64) -> Option<&'a Mess
 
 impl World {
     /// The message of a number is handed to its receiver, which is up.
-    pub(crate) fn hand(
+    pub(crate) fn hand<H: QueueHandlers>(
         &mut self,
         alloc: Global,
+        handlers: &mut H,
         number: u64,
         tape: &mut Tape,
     ) -> Result<(), WorldFault>
-        requires known { IsAllowed self.old tape.old.items number }
-        ensures state { OnOk result ((c : Cluster) (h : Meanings) (now : Standing) → IsAt c self.old tape.old.items now → IsSound c h now (event.Deliver number) →
+        requires known { IsAllowed (H.meant handlers.old) self.old tape.old.items number }
+        ensures state { OnOk result ((c : Cluster) (h : Meanings) (now : Standing) → IsAt c self.old tape.old.items now → IsSound (H.meant handlers.old) c h now (event.Deliver number) →
             IsAt c self.new tape.new.items (after_event c h by_fuse now (event.Deliver number))) }
-        ensures lines { OnOk result ((c : Cluster) (h : Meanings) (now : Standing) → IsAt c self.old tape.old.items now → IsSound c h now (event.Deliver number) →
+        ensures lines { OnOk result ((c : Cluster) (h : Meanings) (now : Standing) → IsAt c self.old tape.old.items now → IsSound (H.meant handlers.old) c h now (event.Deliver number) →
             All HasLine tape.old.items → All HasLine tape.new.items) }
+        ensures handlers { H.meant handlers.new ≡ H.meant handlers.old }
         ensures served { (why : ℕ) → result ≢ Err (Refused why) }
         ensures built { result ≢ Err Unbuilt }
         ensures limited { result ≢ Err Limit }
@@ -66,7 +69,7 @@ impl World {
             None => return Err(WorldFault::Unbuilt),
         };
         let me = message.to;
-        let made = match take_at(alloc, &mut self.places, message) {
+        let made = match take_at(alloc, handlers, &mut self.places, message) {
             Ok(made) => made,
             Err(fault) => return Err(fault),
         };
@@ -77,17 +80,19 @@ impl World {
     }
 
     /// The message of a number is handed to its receiver, unless that is refused.
-    pub(crate) fn deliver(
+    pub(crate) fn deliver<H: QueueHandlers>(
         &mut self,
         alloc: Global,
+        handlers: &mut H,
         number: u64,
         tape: &mut Tape,
     ) -> Result<(), WorldFault>
-        requires known { MayCome self.old tape.old.items (event.Deliver number) }
-        ensures state { OnOk result ((c : Cluster) (h : Meanings) (now : Standing) → IsAt c self.old tape.old.items now → IsSound c h now (event.Deliver number) →
+        requires known { MayCome (H.meant handlers.old) self.old tape.old.items (event.Deliver number) }
+        ensures state { OnOk result ((c : Cluster) (h : Meanings) (now : Standing) → IsAt c self.old tape.old.items now → IsSound (H.meant handlers.old) c h now (event.Deliver number) →
             IsAt c self.new tape.new.items (after_event c h by_fuse now (event.Deliver number))) }
-        ensures lines { OnOk result ((c : Cluster) (h : Meanings) (now : Standing) → IsAt c self.old tape.old.items now → IsSound c h now (event.Deliver number) →
+        ensures lines { OnOk result ((c : Cluster) (h : Meanings) (now : Standing) → IsAt c self.old tape.old.items now → IsSound (H.meant handlers.old) c h now (event.Deliver number) →
             All HasLine tape.old.items → All HasLine tape.new.items) }
+        ensures handlers { H.meant handlers.new ≡ H.meant handlers.old }
         ensures happens { OnOk result ((c : Cluster) (now : Standing) → IsAt c self.old tape.old.items now → refusal c now (event.Deliver number) ≡ None) }
         ensures refused { (why : ℕ) → result ≡ Err (Refused why) → (c : Cluster) (now : Standing) → IsAt c self.old tape.old.items now → refusal c now (event.Deliver number) ≡ Some why }
         ensures world { (why : ℕ) → result ≡ Err (Refused why) → self.new ≡ self.old }
@@ -97,7 +102,7 @@ impl World {
     {
         match self.mail.delivery_refusal(self.places.as_slice(), number) {
             Some(why) => Err(WorldFault::Refused { why }),
-            None => self.hand(alloc, number, tape),
+            None => self.hand(alloc, handlers, number, tape),
         }
     }
 }

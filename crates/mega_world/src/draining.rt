@@ -12,22 +12,25 @@ ghost use Rattle.mega_world.specs.Stands.{IsAt, IsDue};
 
 use crate::fault::WorldFault;
 use crate::world::World;
+use mega_meanings::QueueHandlers;
 use mega_transcript::{Item, Tape};
 use std::alloc::Global;
 
 impl World {
     /// Messages that wait are delivered, the smallest number first, at most so many; where one is left then, the drain is cut.
-    pub(crate) fn drain(
+    pub(crate) fn drain<H: QueueHandlers>(
         &mut self,
         alloc: Global,
+        handlers: &mut H,
         most: u64,
         tape: &mut Tape,
     ) -> Result<(), WorldFault>
-        requires known { IsDue self.old tape.old.items (event.Drain most) }
-        ensures state { OnOk result ((c : Cluster) (h : Meanings) (now : Standing) → IsAt c self.old tape.old.items now → IsSound c h now (event.Drain most) →
+        requires known { IsDue (H.meant handlers.old) self.old tape.old.items (event.Drain most) }
+        ensures state { OnOk result ((c : Cluster) (h : Meanings) (now : Standing) → IsAt c self.old tape.old.items now → IsSound (H.meant handlers.old) c h now (event.Drain most) →
             IsAt c self.new tape.new.items (after_event c h by_fuse now (event.Drain most))) }
-        ensures lines { OnOk result ((c : Cluster) (h : Meanings) (now : Standing) → IsAt c self.old tape.old.items now → IsSound c h now (event.Drain most) →
+        ensures lines { OnOk result ((c : Cluster) (h : Meanings) (now : Standing) → IsAt c self.old tape.old.items now → IsSound (H.meant handlers.old) c h now (event.Drain most) →
             All HasLine tape.old.items → All HasLine tape.new.items) }
+        ensures handlers { H.meant handlers.new ≡ H.meant handlers.old }
         ensures served { (why : ℕ) → result ≢ Err (Refused why) }
         ensures built { result ≢ Err Unbuilt }
         ensures limited { result ≢ Err Limit }
@@ -37,7 +40,7 @@ impl World {
                 Some(number) => number,
                 None => return Ok(()),
             };
-            match self.hand(alloc, number, tape) {
+            match self.hand(alloc, handlers, number, tape) {
                 Ok(()) => {}
                 Err(fault) => return Err(fault),
             }

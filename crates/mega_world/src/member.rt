@@ -19,6 +19,7 @@ use mega_base::Text;
 use mega_core::Step;
 use mega_disk::MemRecords;
 use mega_durable::{Up, UpFault};
+use mega_meanings::QueueHandlers;
 use mega_outcome::Request;
 use mega_rows::VersionedRows;
 use mega_wire::Message;
@@ -44,15 +45,21 @@ fn counted(fuse: Option<LogFuse>, before: u64, now: u64) -> Option<LogFuse>
 
 impl Member {
     /// The node takes a message.
-    pub(crate) fn take(&mut self, alloc: Global, message: &Message) -> Result<Step, NotMade>
-        requires known { IsSome self.old (Take message.now) }
-        ensures made { AtEachNode self.old (Take message.now) (λ c h me ruled fuse. Outcome c h me ruled (Take message.now) fuse self.new result) }
+    pub(crate) fn take<H: QueueHandlers>(
+        &mut self,
+        alloc: Global,
+        handlers: &mut H,
+        message: &Message,
+    ) -> Result<Step, NotMade>
+        requires known { IsSome (H.meant handlers.old) self.old (Take message.now) }
+        ensures made { AtEachNode (H.meant handlers.old) self.old (Take message.now) (λ c h me ruled fuse. Outcome c h me ruled (Take message.now) fuse self.new result) }
         ensures unbuilt { result ≡ Err (Fault Unbuilt) → (c : Cluster) (me : ℕ) (ruled : RuleNode) → IsMember c me self.old ruled → IsByStranger message.now.from message.now.body ⊎ IsLate c message.now.body }
+        ensures handlers { H.meant handlers.new ≡ H.meant handlers.old }
         ensures served { (why : ℕ) → result ≢ Err (Fault (Refused why)) }
         ensures limited { result ≢ Err (Fault Limit) }
     {
         let before = self.up.node.replica.voter.records();
-        match self.up.take(alloc, message) {
+        match self.up.take(alloc, handlers, message) {
             Ok(made) => {
                 self.fuse = counted(self.fuse, before, self.up.node.replica.voter.records());
                 Ok(made)
@@ -64,20 +71,22 @@ impl Member {
     }
 
     /// An operation begins at the node; the text is its request.
-    pub(crate) fn begin(
+    pub(crate) fn begin<H: QueueHandlers>(
         &mut self,
         alloc: Global,
+        handlers: &mut H,
         request: Request,
         text: &Text,
     ) -> Result<Step, NotMade>
-        requires known { IsSome self.old (Begin request text.now) }
-        ensures made { AtEachNode self.old (Begin request text.now) (λ c h me ruled fuse. Outcome c h me ruled (Begin request text.now) fuse self.new result) }
+        requires known { IsSome (H.meant handlers.old) self.old (Begin request text.now) }
+        ensures made { AtEachNode (H.meant handlers.old) self.old (Begin request text.now) (λ c h me ruled fuse. Outcome c h me ruled (Begin request text.now) fuse self.new result) }
         ensures unbuilt { result ≡ Err (Fault Unbuilt) → is_built request ≡ false }
+        ensures handlers { H.meant handlers.new ≡ H.meant handlers.old }
         ensures served { (why : ℕ) → result ≢ Err (Fault (Refused why)) }
         ensures limited { result ≢ Err (Fault Limit) }
     {
         let before = self.up.node.replica.voter.records();
-        match self.up.begin(alloc, request, text) {
+        match self.up.begin(alloc, handlers, request, text) {
             Ok(made) => {
                 self.fuse = counted(self.fuse, before, self.up.node.replica.voter.records());
                 Ok(made)
@@ -89,15 +98,21 @@ impl Member {
     }
 
     /// The clock of the node shows a time.
-    pub(crate) fn tick(&mut self, alloc: Global, clock: u64) -> Result<Step, NotMade>
-        requires known { IsSome self.old (Tick clock) }
-        ensures made { AtEachNode self.old (Tick clock) (λ c h me ruled fuse. Outcome c h me ruled (Tick clock) fuse self.new result) }
+    pub(crate) fn tick<H: QueueHandlers>(
+        &mut self,
+        alloc: Global,
+        handlers: &mut H,
+        clock: u64,
+    ) -> Result<Step, NotMade>
+        requires known { IsSome (H.meant handlers.old) self.old (Tick clock) }
+        ensures made { AtEachNode (H.meant handlers.old) self.old (Tick clock) (λ c h me ruled fuse. Outcome c h me ruled (Tick clock) fuse self.new result) }
         ensures built { result ≢ Err (Fault Unbuilt) }
+        ensures handlers { H.meant handlers.new ≡ H.meant handlers.old }
         ensures served { (why : ℕ) → result ≢ Err (Fault (Refused why)) }
         ensures limited { result ≢ Err (Fault Limit) }
     {
         let before = self.up.node.replica.voter.records();
-        match self.up.tick(alloc, clock) {
+        match self.up.tick(alloc, handlers, clock) {
             Ok(made) => {
                 self.fuse = counted(self.fuse, before, self.up.node.replica.voter.records());
                 Ok(made)

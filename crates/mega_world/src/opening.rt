@@ -5,6 +5,7 @@ ghost use Rattle.mega_handler.specs.Named.{Meanings};
 ghost use Rattle.mega_transcript.specs.Lines.{HasLine};
 ghost use Rattle.mega_transcript.specs.Tape.{newest};
 ghost use Rattle.mega_core.specs.Served.{IsServed};
+ghost use Rattle.mega_view.specs.Small.{IsSmall};
 ghost use Rattle.mega_rules.specs.Members.{is_node};
 ghost use Rattle.mega_promises.specs.Runs.{opening};
 ghost use Rattle.mega_world.specs.declared.fault.WorldFault.TheVariants.{NoMemory as OutOfMemory};
@@ -92,6 +93,7 @@ impl World {
         requires cells { (cluster.now.cells ≡ 1) ⊎ (cluster.now.cells ≡ 3) ⊎ (cluster.now.cells ≡ 5) }
         requires fits { cluster.now.lease + cluster.now.margin < 2 ^ 64 }
         requires lease { cluster.now.lease ≤ 1000000000 }
+        requires small { IsSmall cluster.now.schema }
         requires limit { (cluster.now.limit).0 ≤ 1000000 }
         requires housed { cluster.now.cells ≤ length cluster.now.nodes }
         ensures state { IfOk result (λ world. (h : Meanings) → IsAt cluster.now world tape.new.items (opening cluster.now h)) }

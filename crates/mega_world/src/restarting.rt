@@ -1,9 +1,9 @@
 //! A node of the world starts again, or its log's fuse cuts the start off.
-ghost use Rattle.std.specs.Prelude.{◌≡◌, ◌≢◌, ◌≤◌, ◌-◌, ℕ, List, length, set, IfNone, IfOk, IfSome, OnOk, Err, Some, None, true, false};
+ghost use Rattle.std.specs.Prelude.{◌≡◌, ◌≢◌, ◌≤◌, ◌-◌, ℕ, List, length, set, IfNone, IfOk, IfSome, OnOk, Err, Option, Some, None, true, false};
 ghost use Rattle.std.specs.Prelude.{All};
 ghost use Rattle.mega_cluster.specs.declared.cluster.Cluster.{Cluster as ClusterValue};
 ghost use Rattle.mega_core.specs.Served.{IsServed};
-ghost use Rattle.mega_handler.specs.Named.{Meanings};
+ghost use Rattle.mega_handler.specs.Named.{Meaning, Meanings};
 ghost use Rattle.mega_rules.specs.Members.{is_node};
 ghost use Rattle.mega_schedule.specs.declared.world_event.WorldEvent.TheVariants as event;
 ghost use Rattle.mega_transcript.specs.Lines.{HasLine};
@@ -131,7 +131,7 @@ impl World {
         node: NodeId,
         tape: &mut Tape,
     ) -> Result<(), WorldFault>
-        requires known { MayCome self.old tape.old.items (event.Start node) }
+        requires known { (makes : List ℕ → Option Meaning) × MayCome makes self.old tape.old.items (event.Start node) }
         ensures state { OnOk result ((c : ClusterValue) (h : Meanings) (now : Standing) → IsAt c self.old tape.old.items now →
             IsAt c self.new tape.new.items (after_event c h by_fuse now (event.Start node))) }
         ensures lines { OnOk result ((c : ClusterValue) (now : Standing) → IsAt c self.old tape.old.items now → All HasLine tape.old.items → All HasLine tape.new.items) }
@@ -153,7 +153,7 @@ impl World {
         requires least { 1 ≤ node.0 }
         requires most { node.0 ≤ length self.old.places.items }
         requires down { is_up_at self.old.places.items node.0 ≡ false }
-        requires known { IsDue self.old tape.old.items (event.Start node) }
+        requires known { (makes : List ℕ → Option Meaning) × IsDue makes self.old tape.old.items (event.Start node) }
         ensures state { OnOk result ((c : ClusterValue) (h : Meanings) (now : Standing) → IsAt c self.old tape.old.items now →
             IsAt c self.new tape.new.items (after_event c h by_fuse now (event.Start node))) }
         ensures lines { OnOk result ((c : ClusterValue) (now : Standing) → IsAt c self.old tape.old.items now → All HasLine tape.old.items → All HasLine tape.new.items) }

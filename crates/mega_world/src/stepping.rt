@@ -25,6 +25,7 @@ use crate::place::Place;
 use crate::places::cut_down;
 use mega_base::{NodeId, OpId, Text};
 use mega_core::Step;
+use mega_meanings::QueueHandlers;
 use mega_outcome::Request;
 use mega_wire::Message;
 use std::alloc::Global;
@@ -62,23 +63,25 @@ fn settled(
 }
 
 /// The node to which a message goes, which is up, takes it.
-pub(crate) fn take_at(
+pub(crate) fn take_at<H: QueueHandlers>(
     alloc: Global,
+    handlers: &mut H,
     places: &mut Vec<Place>,
     message: &Message,
 ) -> Result<Stepped, WorldFault>
     requires least { 1 ≤ message.now.to }
     requires most { message.now.to ≤ length places.old.items }
     requires up { is_up_at places.old.items message.now.to ≡ true }
-    requires known { IsRunning places.old.items message.now.to (Take message.now) }
-    ensures made { IfOk result (λ one. AtEachRun places.old.items message.now.to (Take message.now) (λ c h now. Comes c h now message.now.to (Take message.now) places.new.items one)) }
+    requires known { IsRunning (H.meant handlers.old) places.old.items message.now.to (Take message.now) }
+    ensures made { IfOk result (λ one. AtEachRun (H.meant handlers.old) places.old.items message.now.to (Take message.now) (λ c h now. Comes c h now message.now.to (Take message.now) places.new.items one)) }
     ensures unbuilt { result ≡ Err Unbuilt → (c : Cluster) (now : Standing) → AreNodes c places.old.items now → IsByStranger message.now.from message.now.body ⊎ IsLate c message.now.body }
+    ensures handlers { H.meant handlers.new ≡ H.meant handlers.old }
     ensures served { (why : ℕ) → result ≢ Err (Refused why) }
     ensures limited { result ≢ Err Limit }
 {
     match &mut places[usize::from(message.to) - 1] {
         Place::Up(member) => {
-            let made = member.take(alloc, message);
+            let made = member.take(alloc, handlers, message);
             match settled(alloc, places, message.to, made) {
                 Ok(one) => Ok(one),
                 Err(fault) => Err(fault),
@@ -101,8 +104,9 @@ fn op_of(member: &Member) -> OpId
 }
 
 /// An operation begins at a node that is up, under this id.
-pub(crate) fn begin_at(
+pub(crate) fn begin_at<H: QueueHandlers>(
     alloc: Global,
+    handlers: &mut H,
     places: &mut Vec<Place>,
     me: u8,
     request: Request,
@@ -111,17 +115,18 @@ pub(crate) fn begin_at(
     requires least { 1 ≤ me }
     requires most { me ≤ length places.old.items }
     requires up { is_up_at places.old.items me ≡ true }
-    requires known { IsRunning places.old.items me (Begin request text.now) }
+    requires known { IsRunning (H.meant handlers.old) places.old.items me (Begin request text.now) }
     ensures id { IfOk result (λ begun. (c : Cluster) (h : Meanings) (now : Standing) → AreNodes c places.old.items now → begun.0 ≡ op_of (setting c h me) (now.node me).met) }
-    ensures made { IfOk result (λ begun. AtEachRun places.old.items me (Begin request text.now) (λ c h now. Comes c h now me (Begin request text.now) places.new.items begun.1)) }
+    ensures made { IfOk result (λ begun. AtEachRun (H.meant handlers.old) places.old.items me (Begin request text.now) (λ c h now. Comes c h now me (Begin request text.now) places.new.items begun.1)) }
     ensures unbuilt { result ≡ Err Unbuilt → is_built request ≡ false }
+    ensures handlers { H.meant handlers.new ≡ H.meant handlers.old }
     ensures served { (why : ℕ) → result ≢ Err (Refused why) }
     ensures limited { result ≢ Err Limit }
 {
     match &mut places[usize::from(me) - 1] {
         Place::Up(member) => {
             let op = op_of(member);
-            let made = member.begin(alloc, request, text);
+            let made = member.begin(alloc, handlers, request, text);
             match settled(alloc, places, me, made) {
                 Ok(one) => Ok((op, one)),
                 Err(fault) => Err(fault),
@@ -132,8 +137,9 @@ pub(crate) fn begin_at(
 }
 
 /// The clock of a node that is up shows a time.
-pub(crate) fn tick_at(
+pub(crate) fn tick_at<H: QueueHandlers>(
     alloc: Global,
+    handlers: &mut H,
     places: &mut Vec<Place>,
     me: u8,
     clock: u64,
@@ -141,15 +147,16 @@ pub(crate) fn tick_at(
     requires least { 1 ≤ me }
     requires most { me ≤ length places.old.items }
     requires up { is_up_at places.old.items me ≡ true }
-    requires known { IsRunning places.old.items me (Tick clock) }
-    ensures made { IfOk result (λ one. AtEachRun places.old.items me (Tick clock) (λ c h now. Comes c h now me (Tick clock) places.new.items one)) }
+    requires known { IsRunning (H.meant handlers.old) places.old.items me (Tick clock) }
+    ensures made { IfOk result (λ one. AtEachRun (H.meant handlers.old) places.old.items me (Tick clock) (λ c h now. Comes c h now me (Tick clock) places.new.items one)) }
     ensures built { result ≢ Err Unbuilt }
+    ensures handlers { H.meant handlers.new ≡ H.meant handlers.old }
     ensures served { (why : ℕ) → result ≢ Err (Refused why) }
     ensures limited { result ≢ Err Limit }
 {
     match &mut places[usize::from(me) - 1] {
         Place::Up(member) => {
-            let made = member.tick(alloc, clock);
+            let made = member.tick(alloc, handlers, clock);
             match settled(alloc, places, me, made) {
                 Ok(one) => Ok(one),
                 Err(fault) => Err(fault),

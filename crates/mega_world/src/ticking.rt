@@ -19,6 +19,7 @@ use crate::places::{is_node, is_up, member_of};
 use crate::stepping::tick_at;
 use crate::world::World;
 use mega_base::NodeId;
+use mega_meanings::QueueHandlers;
 use mega_transcript::{Item, Tape};
 use std::alloc::Global;
 
@@ -53,18 +54,20 @@ fn refusal(places: &[Place], node: NodeId, clock: u64) -> Option<u8>
 
 impl World {
     /// The clock of a node shows a time, in milliseconds, unless that is refused.
-    pub(crate) fn tick(
+    pub(crate) fn tick<H: QueueHandlers>(
         &mut self,
         alloc: Global,
+        handlers: &mut H,
         node: NodeId,
         clock: u64,
         tape: &mut Tape,
     ) -> Result<(), WorldFault>
-        requires known { MayCome self.old tape.old.items (event.Tick node clock) }
-        ensures state { OnOk result ((c : Cluster) (h : Meanings) (now : Standing) → IsAt c self.old tape.old.items now → IsSound c h now (event.Tick node clock) →
+        requires known { MayCome (H.meant handlers.old) self.old tape.old.items (event.Tick node clock) }
+        ensures state { OnOk result ((c : Cluster) (h : Meanings) (now : Standing) → IsAt c self.old tape.old.items now → IsSound (H.meant handlers.old) c h now (event.Tick node clock) →
             IsAt c self.new tape.new.items (after_event c h by_fuse now (event.Tick node clock))) }
-        ensures lines { OnOk result ((c : Cluster) (h : Meanings) (now : Standing) → IsAt c self.old tape.old.items now → IsSound c h now (event.Tick node clock) →
+        ensures lines { OnOk result ((c : Cluster) (h : Meanings) (now : Standing) → IsAt c self.old tape.old.items now → IsSound (H.meant handlers.old) c h now (event.Tick node clock) →
             All HasLine tape.old.items → All HasLine tape.new.items) }
+        ensures handlers { H.meant handlers.new ≡ H.meant handlers.old }
         ensures happens { OnOk result ((c : Cluster) (now : Standing) → IsAt c self.old tape.old.items now → refusal c now (event.Tick node clock) ≡ None) }
         ensures refused { (why : ℕ) → result ≡ Err (Refused why) → (c : Cluster) (now : Standing) → IsAt c self.old tape.old.items now → refusal c now (event.Tick node clock) ≡ Some why }
         ensures world { (why : ℕ) → result ≡ Err (Refused why) → self.new ≡ self.old }
@@ -74,14 +77,15 @@ impl World {
     {
         match refusal(self.places.as_slice(), node, clock) {
             Some(why) => Err(WorldFault::Refused { why }),
-            None => self.ticks(alloc, node, clock, tape),
+            None => self.ticks(alloc, handlers, node, clock, tape),
         }
     }
 
     /// The clock of a node that is up shows a time.
-    fn ticks(
+    fn ticks<H: QueueHandlers>(
         &mut self,
         alloc: Global,
+        handlers: &mut H,
         node: NodeId,
         clock: u64,
         tape: &mut Tape,
@@ -89,16 +93,17 @@ impl World {
         requires least { 1 ≤ node.0 }
         requires most { node.0 ≤ length self.old.places.items }
         requires up { is_up_at self.old.places.items node.0 ≡ true }
-        requires known { IsDue self.old tape.old.items (event.Tick node clock) }
-        ensures state { OnOk result ((c : Cluster) (h : Meanings) (now : Standing) → IsAt c self.old tape.old.items now → IsSound c h now (event.Tick node clock) →
+        requires known { IsDue (H.meant handlers.old) self.old tape.old.items (event.Tick node clock) }
+        ensures state { OnOk result ((c : Cluster) (h : Meanings) (now : Standing) → IsAt c self.old tape.old.items now → IsSound (H.meant handlers.old) c h now (event.Tick node clock) →
             IsAt c self.new tape.new.items (after_event c h by_fuse now (event.Tick node clock))) }
-        ensures lines { OnOk result ((c : Cluster) (h : Meanings) (now : Standing) → IsAt c self.old tape.old.items now → IsSound c h now (event.Tick node clock) →
+        ensures lines { OnOk result ((c : Cluster) (h : Meanings) (now : Standing) → IsAt c self.old tape.old.items now → IsSound (H.meant handlers.old) c h now (event.Tick node clock) →
             All HasLine tape.old.items → All HasLine tape.new.items) }
+        ensures handlers { H.meant handlers.new ≡ H.meant handlers.old }
         ensures served { (why : ℕ) → result ≢ Err (Refused why) }
         ensures built { result ≢ Err Unbuilt }
         ensures limited { result ≢ Err Limit }
     {
-        let made = match tick_at(alloc, &mut self.places, node.0, clock) {
+        let made = match tick_at(alloc, handlers, &mut self.places, node.0, clock) {
             Ok(made) => made,
             Err(fault) => return Err(fault),
         };

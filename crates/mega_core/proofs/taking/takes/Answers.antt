@@ -50,7 +50,7 @@ returns-clause-taken g c = λ h node begun represents owned placed.
       sends = made.sends s (sym (decides.members ∙ says.members)) (sym (decides.me ∙ says.me)) ∙ (λ i. reply_is i ++ news_by s (told_decision m.body) (d_is i));
       heard = made.heard ∙ heard_is;
       stands = taken_stands s node m (setting r2.members r2.me h) r2.voter.logs.kept r1.leases r2.leases (g.V.Versions.version r2.rows.rows) (progress_at r2.rows.progress) d
-          t_is decides.leases d_is (decides.kept base placed_d tells) (says.leased h node.met represents.leased) follows2 owned;
+          t_is decides.leases d_is (decides.kept base placed_d tells) (says.leased h node.met represents.leased) follows2 owned represents.kind.small;
     }
 
 pub returns-clause-heard : goal.returns-clause-heard

@@ -47,6 +47,7 @@ returns-clause-ticked g c = λ h node open_ones begun represents owned.
         leased = says.state s node.met represents.leased;
         follows = follows_after version progress (lapse_notes s node.met now) (onto lease (own ∷ node.met)) counts (follows_after version progress lease (own ∷ node.met) counts (follows_more version progress own node.met counts stored));
         owned = owned;
+        small = represents.kind.small;
       };
       begun = (λ i. begun_of (onto (sym lapse_is i) (onto (sym lease_is i) (own ∷ node.met))))
           ∙ (leases_begun made.of_cell (onto (map met_of made.of_coordinator) (own ∷ node.met)) ∙ leases_begun made.of_coordinator (own ∷ node.met));

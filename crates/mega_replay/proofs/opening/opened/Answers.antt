@@ -1,5 +1,5 @@
 use Rattle.std.proofs.Common.{[]}
-use Rattle.mega_replay.proofs.Starts.{declared, starts}
+use Rattle.mega_replay.proofs.Starts.{declared, small, starts}
 use Rattle.mega_replay.proofs.opening.opened.Goals as goal
 
 pub new-requires-clause-few : goal.new-requires-clause-few
@@ -19,6 +19,9 @@ new-requires-clause-limit c = (starts c.args.cluster.now c.requires.read).limit
 
 pub new-requires-clause-housed : goal.new-requires-clause-housed
 new-requires-clause-housed c = (starts c.args.cluster.now c.requires.read).housed
+
+pub new-requires-clause-small : goal.new-requires-clause-small
+new-requires-clause-small c = small c.args.cluster.now c.requires.read
 
 pub returns-in-Ok-clause-state : goal.returns-in-Ok-clause-state
 returns-in-Ok-clause-state c = record { declared = declared c.args.cluster.now c.requires.read; happen = tt; here = c.in-Ok.ensures.state [] }

@@ -7,7 +7,7 @@ use Rattle.mega_world.proofs.Stepped.{found}
 use Rattle.mega_world.proofs.stepping.begin_at.Goals as goal
 
 pub begin-made-requires : goal.begin-made-requires
-begin-made-requires c =
+begin-made-requires g c =
     let k = c.requires.known in
     let me = c.args.me in
     let places = c.args.places.now.items in
@@ -18,7 +18,7 @@ begin-made-requires c =
     record { known = record { cluster = k.cluster; handlers = k.handlers; me = me; ruled = k.now.node me; is = stands.is; may = k.may } }
 
 pub returns-in-Ok-clause-made : goal.returns-in-Ok-clause-made
-returns-in-Ok-clause-made c cluster h now all may =
+returns-in-Ok-clause-made g c cluster h now all may =
     let me = c.args.me in
     let places = c.args.places.now.items in
     let i = c.from.result - 1 in
@@ -30,7 +30,7 @@ returns-in-Ok-clause-made c cluster h now all may =
     (c.begin-made.ensures.made cluster h me (now.node me) (now.log_fuse me) stands.is stands.settled.fused may)
 
 pub returns-in-Ok-clause-id : goal.returns-in-Ok-clause-id
-returns-in-Ok-clause-id c cluster h now all =
+returns-in-Ok-clause-id g c cluster h now all =
     let me = c.args.me in
     let places = c.args.places.now.items in
     let i = c.from.result - 1 in
@@ -40,7 +40,7 @@ returns-in-Ok-clause-id c cluster h now all =
     c.op_of-op.ensures cluster h me (now.node me) stands.is
 
 pub unreachable-requires : goal.unreachable-requires
-unreachable-requires c =
+unreachable-requires g c =
     let me = c.args.me in
     let places = c.args.places.now.items in
     let i = c.from.result - 1 in

@@ -9,7 +9,7 @@ use Rattle.mega_world.proofs.Stepped.{found}
 use Rattle.mega_world.proofs.stepping.take_at.Goals as goal
 
 pub take-made-requires : goal.take-made-requires
-take-made-requires c =
+take-made-requires g c =
     let k = c.requires.known in
     let me = c.args.message.now.to in
     let places = c.args.places.now.items in
@@ -20,7 +20,7 @@ take-made-requires c =
     record { known = record { cluster = k.cluster; handlers = k.handlers; me = me; ruled = k.now.node me; is = stands.is; may = k.may } }
 
 pub returns-in-Ok-clause-made : goal.returns-in-Ok-clause-made
-returns-in-Ok-clause-made c cluster h now all may =
+returns-in-Ok-clause-made g c cluster h now all may =
     let me = c.args.message.now.to in
     let places = c.args.places.now.items in
     let i = c.from.result - 1 in
@@ -32,7 +32,7 @@ returns-in-Ok-clause-made c cluster h now all may =
     (c.take-made.ensures.made cluster h me (now.node me) (now.log_fuse me) stands.is stands.settled.fused may)
 
 pub unreachable-requires : goal.unreachable-requires
-unreachable-requires c =
+unreachable-requires g c =
     let me = c.args.message.now.to in
     let places = c.args.places.now.items in
     let i = c.from.result - 1 in
@@ -41,7 +41,7 @@ unreachable-requires c =
     not_down places me i c.index_mut.result.now c.in-Down.field-0 at c.requires.least there c.in-Down.is c.requires.up
 
 pub returns-in-Err-clause-unbuilt : goal.returns-in-Err-clause-unbuilt
-returns-in-Err-clause-unbuilt c unbuilt cluster now all =
+returns-in-Err-clause-unbuilt g c unbuilt cluster now all =
     let me = c.args.message.now.to in
     let places = c.args.places.now.items in
     let i = c.from.result - 1 in

@@ -7,7 +7,7 @@ use Rattle.mega_world.proofs.Stepped.{found}
 use Rattle.mega_world.proofs.stepping.tick_at.Goals as goal
 
 pub tick-made-requires : goal.tick-made-requires
-tick-made-requires c =
+tick-made-requires g c =
     let k = c.requires.known in
     let me = c.args.me in
     let places = c.args.places.now.items in
@@ -18,7 +18,7 @@ tick-made-requires c =
     record { known = record { cluster = k.cluster; handlers = k.handlers; me = me; ruled = k.now.node me; is = stands.is; may = k.may } }
 
 pub returns-in-Ok-clause-made : goal.returns-in-Ok-clause-made
-returns-in-Ok-clause-made c cluster h now all may =
+returns-in-Ok-clause-made g c cluster h now all may =
     let me = c.args.me in
     let places = c.args.places.now.items in
     let i = c.from.result - 1 in
@@ -30,7 +30,7 @@ returns-in-Ok-clause-made c cluster h now all may =
     (c.tick-made.ensures.made cluster h me (now.node me) (now.log_fuse me) stands.is stands.settled.fused may)
 
 pub unreachable-requires : goal.unreachable-requires
-unreachable-requires c =
+unreachable-requires g c =
     let me = c.args.me in
     let places = c.args.places.now.items in
     let i = c.from.result - 1 in

@@ -14,4 +14,4 @@ returns-in-Ok-clause-deed g c told me h now again sees of =
     c.ends.ensures now
     ∙ sym (answers_by (setting c.args.members.now me h) again now self.group self.reading self.position kept.id kept.began kept.visited kept.message kept.request c.in-Ok.answer
     (c.in-Ok.ensures.exact told (setting c.args.members.now me h) self.group (rows_at now self.group self.position) (listed_at now self.group self.position)
-    (sym (ap (λ (cluster : Cluster). cluster.schema) c.cluster.ensures)) of seen.alone seen.shows))
+    (sym (ap (λ (cluster : Cluster). cluster.schema) c.cluster.ensures)) seen.small of seen.alone seen.shows))

@@ -5,6 +5,7 @@ use Rattle.mega_rules.specs.Logs.{decided}
 use Rattle.mega_rules.specs.Operations.{Now, Proposes, Reads}
 use Rattle.mega_replica.specs.Following.{progress_at}
 use Rattle.mega_node_laws.specs.About.{IsAbout}
+use Rattle.mega_actions.specs.IsAt.{IsAt}
 use Rattle.mega_actions.specs.Stands.{Stands, setting}
 use Rattle.mega_actions.specs.Working.{work_of}
 use Rattle.mega_actions.proofs.Doing.{unless_met, unless_stored}
@@ -12,7 +13,7 @@ use Rattle.mega_actions.proofs.Within.{later, proposes_then, reads_then}
 use Rattle.mega_actions.proofs.replica.Replica.acts.Goals as goal
 
 pub returns-in_ok-reads_on-in-Reads-clause-state : goal.returns-in_ok-reads_on-in-Reads-clause-state
-returns-in_ok-reads_on-in-Reads-clause-state g c h now told about r =
+returns-in_ok-reads_on-in-Reads-clause-state g c h now told means about r =
     let self = c.args.self.now in
     let s = setting self.members self.me h in
     let kept = c.parts-kept.result.0 in
@@ -21,11 +22,11 @@ returns-in_ok-reads_on-in-Reads-clause-state g c h now told about r =
     let whole_is : whole kept (Reads group reading) ≡ c.args.operation = ap (λ phase. whole kept (phase_of phase)) (sym c.in-Reads.is) ∙ c.parts-kept.ensures in
     let of = subst IsAbout (sym whole_is) about in
     let new = c.reads_on.new.self in
-    subst (λ (then : Now). Stands (setting new.members new.me h) new.voter.logs.kept new.leases (g.V.Versions.version new.rows.rows) (progress_at new.rows.progress) then.met then.stored) (reads_then s now c.args.operation kept group reading whole_is)
-    (c.in_ok-reads_on-in-Reads.ensures.state h now (later s now) told of r)
+    subst (λ (then : Now). IsAt g.V.Versions.version h new then.met then.stored) (reads_then s now c.args.operation kept group reading whole_is)
+    (c.in_ok-reads_on-in-Reads.ensures.state h now (later s now) told means of r)
 
 pub returns-in_ok-reads_on-in-Reads-clause-work : goal.returns-in_ok-reads_on-in-Reads-clause-work
-returns-in_ok-reads_on-in-Reads-clause-work g c h now told about r at =
+returns-in_ok-reads_on-in-Reads-clause-work g c h now told means about r at =
     let self = c.args.self.now in
     let s = setting self.members self.me h in
     let kept = c.parts-kept.result.0 in
@@ -33,10 +34,10 @@ returns-in_ok-reads_on-in-Reads-clause-work g c h now told about r at =
     let reading = c.in-Reads.reading in
     let whole_is : whole kept (Reads group reading) ≡ c.args.operation = ap (λ phase. whole kept (phase_of phase)) (sym c.in-Reads.is) ∙ c.parts-kept.ensures in
     let of = subst IsAbout (sym whole_is) about in
-    c.in_ok-reads_on-in-Reads.ensures.work h now (later s now) told of r at ∙ ap work_of (reads_then s now c.args.operation kept group reading whole_is)
+    c.in_ok-reads_on-in-Reads.ensures.work h now (later s now) told means of r at ∙ ap work_of (reads_then s now c.args.operation kept group reading whole_is)
 
 pub returns-in_ok-checks-in-Proposes-clause-state : goal.returns-in_ok-checks-in-Proposes-clause-state
-returns-in_ok-checks-in-Proposes-clause-state g c h now told about r =
+returns-in_ok-checks-in-Proposes-clause-state g c h now told means about r =
     let self = c.args.self.now in
     let s = setting self.members self.me h in
     let kept = c.parts-kept.result.0 in
@@ -50,7 +51,7 @@ returns-in_ok-checks-in-Proposes-clause-state g c h now told about r =
     (coe 0 1 (i. Stands s self.voter.logs.kept self.leases version (progress_at self.rows.progress) (sym (unless_met now o own.position promised found) i) (sym (unless_stored now o own.position promised found) i)) r)
 
 pub returns-in_ok-checks-in-Proposes-clause-work : goal.returns-in_ok-checks-in-Proposes-clause-work
-returns-in_ok-checks-in-Proposes-clause-work g c h now told about r at =
+returns-in_ok-checks-in-Proposes-clause-work g c h now told means about r at =
     let self = c.args.self.now in
     let s = setting self.members self.me h in
     let kept = c.parts-kept.result.0 in

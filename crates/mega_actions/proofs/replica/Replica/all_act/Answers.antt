@@ -1,13 +1,14 @@
 use Rattle.std.proofs.Common.{◌∙◌, fold, None, ap, subst, rules}
 use Rattle.std.proofs.lemmas.List.Elements.{All-rest}
 use Rattle.std.specs.Vec.Iter.{into_iter_items}
+use Rattle.mega_meanings.proofs.Lasting.{means_still}
 use Rattle.mega_rules.specs.Operations.{Now}
 use Rattle.mega_rules.specs.Steps.{acts_in_turn}
 use Rattle.mega_replica.specs.Faring.{Fares}
-use Rattle.mega_replica.specs.Following.{progress_at}
 use Rattle.mega_replica.proofs.Fared.{fares_then}
 use Rattle.mega_actions.specs.Faults.{failed_by}
-use Rattle.mega_actions.specs.Stands.{Stands, setting}
+use Rattle.mega_actions.specs.IsAt.{IsAt}
+use Rattle.mega_actions.specs.Stands.{setting}
 use Rattle.mega_actions.specs.Turns.{IsBuiltHeard, IsHeardAbout}
 use Rattle.mega_actions.specs.Working.{work_of}
 use Rattle.mega_actions.proofs.InTurn.{all_before, goes_next, of_last}
@@ -20,16 +21,17 @@ loop-one-preserved g c =
     let new = c.acts_in_turn.new.self in
     let one = c.in-Some.one in
     record {
-      state = λ h now told all stands.
+      state = λ h now told means all stands.
           let s = setting before.members before.me h in
-          subst (λ (then : Now). Stands (setting new.members new.me h) new.voter.logs.kept new.leases (g.V.Versions.version new.rows.rows) (progress_at new.rows.progress) then.met then.stored)
+          subst (λ (then : Now). IsAt g.V.Versions.version h new then.met then.stored)
           (goes_next (acts_in_turn) s (setting loop.self.members loop.self.me h) now loop.yielded one (λ i. setting (loop.invariant.members i) (loop.invariant.me i) h))
-          (c.in_ok-acts_in_turn.ensures.state h (fold (acts_in_turn s) now loop.yielded) told (of_last IsHeardAbout loop.yielded one all) (loop.invariant.state h now told (all_before IsHeardAbout loop.yielded one all) stands));
-      work = λ h now told all stands same.
+          (c.in_ok-acts_in_turn.ensures.state h (fold (acts_in_turn s) now loop.yielded) told (means_still _ _ h loop.invariant.handlers means) (of_last IsHeardAbout loop.yielded one all) (loop.invariant.state h now told means (all_before IsHeardAbout loop.yielded one all) stands));
+      work = λ h now told means all stands same.
           let s = setting before.members before.me h in
-          c.in_ok-acts_in_turn.ensures.work h (fold (acts_in_turn s) now loop.yielded) told (of_last IsHeardAbout loop.yielded one all) (loop.invariant.state h now told (all_before IsHeardAbout loop.yielded one all) stands)
-          (loop.invariant.work h now told (all_before IsHeardAbout loop.yielded one all) stands same)
+          c.in_ok-acts_in_turn.ensures.work h (fold (acts_in_turn s) now loop.yielded) told (means_still _ _ h loop.invariant.handlers means) (of_last IsHeardAbout loop.yielded one all) (loop.invariant.state h now told means (all_before IsHeardAbout loop.yielded one all) stands)
+          (loop.invariant.work h now told means (all_before IsHeardAbout loop.yielded one all) stands same)
           ∙ ap work_of (goes_next (acts_in_turn) s (setting loop.self.members loop.self.me h) now loop.yielded one (λ i. setting (loop.invariant.members i) (loop.invariant.me i) h));
+      handlers = c.in_ok-acts_in_turn.ensures.handlers ∙ loop.invariant.handlers;
       members = c.in_ok-acts_in_turn.ensures.members ∙ loop.invariant.members;
       me = c.in_ok-acts_in_turn.ensures.me ∙ loop.invariant.me;
       voter = c.in_ok-acts_in_turn.ensures.voter ∙ loop.invariant.voter;
@@ -44,3 +46,6 @@ returns-in_err-acts_in_turn-clause-fares g c =
     let new = c.acts_in_turn.new.self.rows.rows in
     let rest : Fares g.V.Versions (failed_by c.from_residual.result) mid new = search rules in
     fares_then g.V.Versions (failed_by c.from_residual.result) before mid new c.loop-one.invariant.fares rest
+
+pub returns-in_err-acts_in_turn-clause-handlers : goal.returns-in_err-acts_in_turn-clause-handlers
+returns-in_err-acts_in_turn-clause-handlers g c = c.in_err-acts_in_turn.ensures.handlers ∙ c.loop-one.invariant.handlers

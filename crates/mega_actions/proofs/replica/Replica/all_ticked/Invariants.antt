@@ -2,25 +2,26 @@ use Rattle.std.proofs.Common.{◌≡◌, true, All, fold}
 use Rattle.std.specs.Prelude.{None}
 use Rattle.std.specs.Vec.Iter.{into_iter_items}
 use Rattle.mega_handler.specs.Named.{Meanings}
+use Rattle.mega_meanings.specs.Means.{Means}
 use Rattle.mega_node_laws.specs.About.{IsAbout}
 use Rattle.mega_rules.specs.Operations.{Now}
 use Rattle.mega_rules.specs.Steps.{ticked}
-use Rattle.mega_replica.specs.Following.{progress_at}
 use Rattle.mega_replica.specs.Faring.{Fares}
-use Rattle.mega_actions.specs.Stands.{Stands, setting}
+use Rattle.mega_actions.specs.IsAt.{IsAt, setting_of}
 use Rattle.mega_actions.specs.Turns.{IsBuilt}
 use Rattle.mega_actions.specs.Working.{work_of}
 use Rattle.mega_actions.proofs.replica.Replica.all_ticked.Given as goal
 
 abbrev pub invariant-loop-operation : goal.invariant-loop-operation
 invariant-loop-operation g l = record {
-  state : (h : Meanings) (now : Now) → g.V.Versions.is_told ≡ true → All IsAbout l.yielded
-      → Stands (setting l.initial.self.members l.initial.self.me h) l.initial.self.voter.logs.kept l.initial.self.leases (g.V.Versions.version l.initial.self.rows.rows) (progress_at l.initial.self.rows.progress) now.met now.stored
-      → Stands (setting l.self.members l.self.me h) l.self.voter.logs.kept l.self.leases (g.V.Versions.version l.self.rows.rows) (progress_at l.self.rows.progress)
-      (fold (ticked (setting l.initial.self.members l.initial.self.me h) l.fn.clock) now l.yielded).met (fold (ticked (setting l.initial.self.members l.initial.self.me h) l.fn.clock) now l.yielded).stored;
-  work : (h : Meanings) (now : Now) → g.V.Versions.is_told ≡ true → All IsAbout l.yielded
-      → Stands (setting l.initial.self.members l.initial.self.me h) l.initial.self.voter.logs.kept l.initial.self.leases (g.V.Versions.version l.initial.self.rows.rows) (progress_at l.initial.self.rows.progress) now.met now.stored
-      → l.initial.work ≡ work_of now → l.work ≡ work_of (fold (ticked (setting l.initial.self.members l.initial.self.me h) l.fn.clock) now l.yielded);
+  state : (h : Meanings) (now : Now) → g.V.Versions.is_told ≡ true → Means (g.H.QueueHandlers.meant l.initial.handlers) h → All IsAbout l.yielded
+      → IsAt g.V.Versions.version h l.initial.self now.met now.stored
+      → IsAt g.V.Versions.version h l.self
+      (fold (ticked (setting_of l.initial.self h) l.fn.clock) now l.yielded).met (fold (ticked (setting_of l.initial.self h) l.fn.clock) now l.yielded).stored;
+  work : (h : Meanings) (now : Now) → g.V.Versions.is_told ≡ true → Means (g.H.QueueHandlers.meant l.initial.handlers) h → All IsAbout l.yielded
+      → IsAt g.V.Versions.version h l.initial.self now.met now.stored
+      → l.initial.work ≡ work_of now → l.work ≡ work_of (fold (ticked (setting_of l.initial.self h) l.fn.clock) now l.yielded);
+  handlers : g.H.QueueHandlers.meant l.handlers ≡ g.H.QueueHandlers.meant l.initial.handlers;
   members : l.self.members ≡ l.initial.self.members;
   me : l.self.me ≡ l.initial.self.me;
   voter : l.self.voter ≡ l.initial.self.voter;

@@ -8,22 +8,22 @@ use Rattle.mega_actions.specs.Stands.{setting}
 use Rattle.mega_actions.proofs.replica.Replica.completes.Goals as goal
 
 pub returns-clause-state : goal.returns-clause-state
-returns-clause-state g c h now again told of le r =
+returns-clause-state g c h now again told means of le r =
     let self = c.args.self.now in
     let s = setting self.members self.me h in
     let reached = c.args.reached in
     let then = completes_read s now reached.group reached.reading reached.position in
     let after = c.in-Ok.ensures.state self.members self.me h now r in
-    c.in_ok-goes.ensures.state self.me h c.reads_through.new.leases then again told of (completed_applied s now reached.group reached.reading reached.position le) (c.now-clock.ensures self.members self.me then.met after.leased) after
+    c.in_ok-goes.ensures.state self.me h c.reads_through.new.leases then again told means of (completed_applied s now reached.group reached.reading reached.position le) (c.now-clock.ensures self.members self.me then.met after.leased) after
 
 pub returns-clause-work : goal.returns-clause-work
-returns-clause-work g c h now again told of le r is =
+returns-clause-work g c h now again told means of le r is =
     let self = c.args.self.now in
     let s = setting self.members self.me h in
     let reached = c.args.reached in
     let then = completes_read s now reached.group reached.reading reached.position in
     let after = c.in-Ok.ensures.state self.members self.me h now r in
-    c.in_ok-goes.ensures.work self.me h c.reads_through.new.leases then again told of (completed_applied s now reached.group reached.reading reached.position le) (c.now-clock.ensures self.members self.me then.met after.leased) after
+    c.in_ok-goes.ensures.work self.me h c.reads_through.new.leases then again told means of (completed_applied s now reached.group reached.reading reached.position le) (c.now-clock.ensures self.members self.me then.met after.leased) after
     (c.in-Ok.ensures.work self.members self.me h now r is)
 
 pub returns-in_err-goes-clause-fares : goal.returns-in_err-goes-clause-fares

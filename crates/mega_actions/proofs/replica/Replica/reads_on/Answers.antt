@@ -6,13 +6,14 @@ use Rattle.mega_rules.specs.Clock.{clock_of}
 use Rattle.mega_rules.specs.Operations.{Now, Reads}
 use Rattle.mega_rules.specs.Acting.{reader_of, seeks_on}
 use Rattle.mega_replica.specs.Following.{progress_at}
+use Rattle.mega_actions.specs.IsAt.{IsAt}
 use Rattle.mega_actions.specs.Stands.{Stands, setting}
 use Rattle.mega_actions.specs.Working.{work_of}
 use Rattle.mega_actions.proofs.Onward.{reaches, seeks_least}
 use Rattle.mega_actions.proofs.replica.Replica.reads_on.Goals as goal
 
 pub returns-then-is_reached-clause-state : goal.returns-then-is_reached-clause-state
-returns-then-is_reached-clause-state g c h now again told of r =
+returns-then-is_reached-clause-state g c h now again told means of r =
     let self = c.args.self.now in
     let s = setting self.members self.me h in
     let kept = c.args.kept in
@@ -23,10 +24,10 @@ returns-then-is_reached-clause-state g c h now again told of r =
     let is = reaches s again now (whole kept (Reads group reading)) group reading through (sym c.through_of.ensures ∙ c.in-Some.is) (sym (ap (nat_le through) prefix) ∙ sym c.is_reached.ensures.exact ∙ c.if-is_reached.true) in
     let le = subst (λ q. through ≤ q) prefix (c.is_reached.ensures.within c.if-is_reached.true) in
     let new = c.completes.new.self in
-    subst (λ (then : Now). Stands (setting new.members new.me h) new.voter.logs.kept new.leases (g.V.Versions.version new.rows.rows) (progress_at new.rows.progress) then.met then.stored) (sym is) (c.in_ok-completes.ensures.state h now again told of le r)
+    subst (λ (then : Now). IsAt g.V.Versions.version h new then.met then.stored) (sym is) (c.in_ok-completes.ensures.state h now again told means of le r)
 
 pub returns-then-is_reached-clause-work : goal.returns-then-is_reached-clause-work
-returns-then-is_reached-clause-work g c h now again told of r at =
+returns-then-is_reached-clause-work g c h now again told means of r at =
     let self = c.args.self.now in
     let s = setting self.members self.me h in
     let kept = c.args.kept in
@@ -36,10 +37,10 @@ returns-then-is_reached-clause-work g c h now again told of r at =
     let prefix = c.prefix-prefix.ensures now.met r.tells in
     let is = reaches s again now (whole kept (Reads group reading)) group reading through (sym c.through_of.ensures ∙ c.in-Some.is) (sym (ap (nat_le through) prefix) ∙ sym c.is_reached.ensures.exact ∙ c.if-is_reached.true) in
     let le = subst (λ q. through ≤ q) prefix (c.is_reached.ensures.within c.if-is_reached.true) in
-    c.in_ok-completes.ensures.work h now again told of le r at ∙ ap work_of (sym is)
+    c.in_ok-completes.ensures.work h now again told means of le r at ∙ ap work_of (sym is)
 
 pub returns-clause-state : goal.returns-clause-state
-returns-clause-state g c h now again told of r =
+returns-clause-state g c h now again told means of r =
     let self = c.args.self.now in
     let s = setting self.members self.me h in
     let kept = c.args.kept in
@@ -51,7 +52,7 @@ returns-clause-state g c h now again told of r =
     subst (λ (then : Now). Stands s self.voter.logs.kept self.leases (g.V.Versions.version self.rows.rows) (progress_at self.rows.progress) then.met then.stored) (sym is) r
 
 pub returns-clause-work : goal.returns-clause-work
-returns-clause-work g c h now again told of r at =
+returns-clause-work g c h now again told means of r at =
     let self = c.args.self.now in
     let s = setting self.members self.me h in
     let kept = c.args.kept in

@@ -19,7 +19,7 @@ use Rattle.mega_core.proofs.Watched.{watched_noted}
 use Rattle.mega_core.proofs.node.Node.begin.Goals as goal
 
 pub returns-clause-notes : goal.returns-clause-notes
-returns-clause-notes g c = λ told h node represents owned.
+returns-clause-notes g c = λ told h node means represents owned.
     let old = c.args.self.now.replica in
     let mid = c.begins.new.self.replica in
     let s = setting old.members old.me h in
@@ -29,7 +29,7 @@ returns-clause-notes g c = λ told h node represents owned.
     let request = c.args.request in
     let is = begin_is s node request text t c.new.result c.new-2.result t_is c.new.ensures c.new-2.ensures in
     let keeps = represents_keeps s old.voter.logs.kept old.leases (g.V.Versions.version old.rows.rows) (progress_at old.rows.progress) c.args.self.now.open c.args.self.now.begun node represents in
-    let acted = c.in_ok-work.ensures.acted told h node text represents owned in
+    let acted = c.in_ok-work.ensures.acted told h node text means represents owned in
     let groups = asked_groups request in
     let before = c.in_ok-before.ensures node.met node.stored keeps ∙ ap (λ (some : List GroupId). cond (has_rows old.members old.me) (map (before_at node.met node.stored) some) []) c.in_ok-groups.ensures in
     let noted = watched_noted s t node groups c.in_ok-before.before (has_begun s node request text) t_is before (begin_noted s node request text (map (before_at node.met node.stored) groups) (c.in_ok-work.ensures.built h node represents) acted.acted refl) in
@@ -38,7 +38,7 @@ returns-clause-notes g c = λ told h node represents owned.
     made.notes ∙ ap (λ (step : RuleStep). step.notes) is
 
 pub returns-clause-sends : goal.returns-clause-sends
-returns-clause-sends g c = λ told h node represents owned.
+returns-clause-sends g c = λ told h node means represents owned.
     let old = c.args.self.now.replica in
     let mid = c.begins.new.self.replica in
     let s = setting old.members old.me h in
@@ -48,7 +48,7 @@ returns-clause-sends g c = λ told h node represents owned.
     let request = c.args.request in
     let is = begin_is s node request text t c.new.result c.new-2.result t_is c.new.ensures c.new-2.ensures in
     let keeps = represents_keeps s old.voter.logs.kept old.leases (g.V.Versions.version old.rows.rows) (progress_at old.rows.progress) c.args.self.now.open c.args.self.now.begun node represents in
-    let acted = c.in_ok-work.ensures.acted told h node text represents owned in
+    let acted = c.in_ok-work.ensures.acted told h node text means represents owned in
     let groups = asked_groups request in
     let before = c.in_ok-before.ensures node.met node.stored keeps ∙ ap (λ (some : List GroupId). cond (has_rows old.members old.me) (map (before_at node.met node.stored) some) []) c.in_ok-groups.ensures in
     let noted = watched_noted s t node groups c.in_ok-before.before (has_begun s node request text) t_is before (begin_noted s node request text (map (before_at node.met node.stored) groups) (c.in_ok-work.ensures.built h node represents) acted.acted refl) in
@@ -57,7 +57,7 @@ returns-clause-sends g c = λ told h node represents owned.
     made.sends ∙ ap (λ (step : RuleStep). step.sends) is
 
 pub returns-clause-state : goal.returns-clause-state
-returns-clause-state g c = λ told h node represents owned.
+returns-clause-state g c = λ told h node means represents owned.
     let old = c.args.self.now.replica in
     let mid = c.begins.new.self.replica in
     let s = setting old.members old.me h in
@@ -67,7 +67,7 @@ returns-clause-state g c = λ told h node represents owned.
     let request = c.args.request in
     let is = begin_is s node request text t c.new.result c.new-2.result t_is c.new.ensures c.new-2.ensures in
     let keeps = represents_keeps s old.voter.logs.kept old.leases (g.V.Versions.version old.rows.rows) (progress_at old.rows.progress) c.args.self.now.open c.args.self.now.begun node represents in
-    let acted = c.in_ok-work.ensures.acted told h node text represents owned in
+    let acted = c.in_ok-work.ensures.acted told h node text means represents owned in
     let groups = asked_groups request in
     let before = c.in_ok-before.ensures node.met node.stored keeps ∙ ap (λ (some : List GroupId). cond (has_rows old.members old.me) (map (before_at node.met node.stored) some) []) c.in_ok-groups.ensures in
     let noted = watched_noted s t node groups c.in_ok-before.before (has_begun s node request text) t_is before (begin_noted s node request text (map (before_at node.met node.stored) groups) (c.in_ok-work.ensures.built h node represents) acted.acted refl) in
@@ -77,7 +77,7 @@ returns-clause-state g c = λ told h node represents owned.
     subst (λ (step : RuleStep). Represents (setting new.replica.members new.replica.me h) new.replica.voter.logs.kept new.replica.leases (g.V.Versions.version new.replica.rows.rows) (progress_at new.replica.rows.progress) new.open new.begun step.node) is made.state
 
 pub returns-clause-staged : goal.returns-clause-staged
-returns-clause-staged g c = λ told h node since represents owned stages.
+returns-clause-staged g c = λ told h node since means represents owned stages.
     let old = c.args.self.now.replica in
     let mid = c.begins.new.self.replica in
     let s = setting old.members old.me h in
@@ -86,7 +86,7 @@ returns-clause-staged g c = λ told h node since represents owned stages.
     let text = c.args.text.now in
     let request = c.args.request in
     let is = begin_is s node request text t c.new.result c.new-2.result t_is c.new.ensures c.new-2.ensures in
-    let acted = c.in_ok-work.ensures.acted told h node text represents owned in
+    let acted = c.in_ok-work.ensures.acted told h node text means represents owned in
     let own = Begins (op_of s node.met) text in
     let mid = coe 1 0 (i. Stages (c.in_ok-work.ensures.voter i).logs.staged.items since (own ∷ node.met)) (silent_staged old.voter.logs.staged.items since node.met own refl stages) in
     let after = c.in_ok-step.ensures.staged h node own [] [] (has_begun s node request text) since acted (begin_may s node request text _ is) mid in

@@ -10,7 +10,7 @@ use Rattle.mega_core.proofs.Begun.{begun_acts}
 use Rattle.mega_core.proofs.node.Node.begins.Goals as goal
 
 pub returns-clause-acted : goal.returns-clause-acted
-returns-clause-acted g c = λ told h node text represents owned.
+returns-clause-acted g c = λ told h node text means represents owned.
     let old = c.args.self.now.replica in
     let new = c.unless_refused.new.replica in
     let s = setting old.members old.me h in
@@ -25,7 +25,7 @@ returns-clause-acted g c = λ told h node text represents owned.
     (c.next_op-op.ensures old.members h node.met represents.tells represents.begun_is)
     (c.refusal-refusal.ensures old.members old.me h node c.args.request missing_is (represents.opened ∙ sym opened) represents.begun_is)
     (c.at_open-work.ensures [] node.stored ∙ ap (λ (kept : List Operation). work_of (at_open (at_first [] node.stored) kept)) (c.replace-open.ensures.value ∙ sym represents.opened))
-    says.built (λ now. says.state h now told) (λ now. says.work h now told)
+    says.built (λ now. says.state h now told means) (λ now. says.work h now told means)
 
 pub returns-clause-built : goal.returns-clause-built
 returns-clause-built g c = λ h node represents none.

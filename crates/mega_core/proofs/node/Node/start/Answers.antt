@@ -28,5 +28,5 @@ returns-clause-state g c = λ h holds none.
     let progress = progress_at c.new-rows.result.progress in
     let members_is : c.in_ok-members.members ≡ cluster = c.in_ok-members.ensures.ok in
     let leased = subst (λ (one : Cluster). Tells one me leases (Starts 1 ∷ [])) (c.cluster.ensures ∙ members_is) c.leases_of-leases.ensures in
-    let first = started cluster me h kept leases version progress c.requires.member (c.in_ok-voter.ensures.state holds) leased (c.new-rows.ensures.follows (log_of (Starts 1 ∷ [])) none) in
+    let first = started cluster me h kept leases version progress c.requires.member c.requires.served.small (c.in_ok-voter.ensures.state holds) leased (c.new-rows.ensures.follows (log_of (Starts 1 ∷ [])) none) in
     coe 0 1 (i. Represents (setting (sym members_is i) me h) kept leases version progress (sym c.new.ensures i) 0 (start (setting cluster me h) 1 [] [])) first

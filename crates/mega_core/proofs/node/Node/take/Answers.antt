@@ -33,7 +33,7 @@ returns-in_err-work-clause-built g c = λ is h node represents.
     (heard_are_built s node c.args.message.now r0.voter.logs.kept r0.leases version progress c.args.self.now.open c.args.self.now.begun c.in_ok-taken.taken.heard represents heard_is)
 
 pub returns-clause-notes : goal.returns-clause-notes
-returns-clause-notes g c = λ told h node represents owned placed.
+returns-clause-notes g c = λ told h node means represents owned placed.
     let r0 = c.args.self.now.replica in
     let r1 = c.takes.new.replica in
     let r2 = c.acts.new.replica in
@@ -55,7 +55,7 @@ returns-clause-notes g c = λ told h node represents owned placed.
     let stored = stored_after s base node.stored (decision_in s node m) in
     let acted = take_acts s node m t1 t2 r0.voter.logs.kept r1.voter.logs.kept r2.voter.logs.kept r0.leases r2.leases version (g.V.Versions.version r2.rows.rows) progress (progress_at r2.rows.progress) own_open begun
     c.in_ok-work.work heard represents taken.heard t1_is t2_is (λ i. (c.in_ok-work.ensures.voter i).logs.kept) taken.stands.tells
-    (c.in_ok-work.ensures.state told h base stored about taken.stands) (c.in_ok-work.ensures.work told h base stored about taken.stands) in
+    (c.in_ok-work.ensures.state told h base stored means about taken.stands) (c.in_ok-work.ensures.work told h base stored means about taken.stands) in
     let is = take_is s node m t2 c.in_ok-taken.taken.sends c.new-2.result (t2_is ∙ t1_is) taken.sends c.new-2.ensures in
     let keeps = represents_keeps s r0.voter.logs.kept r0.leases version progress own_open begun node represents in
     let groups = touched m.body node.open_operations in
@@ -66,7 +66,7 @@ returns-clause-notes g c = λ told h node represents owned placed.
     made.notes ∙ ap (λ (step : RuleStep). step.notes) is
 
 pub returns-clause-sends : goal.returns-clause-sends
-returns-clause-sends g c = λ told h node represents owned placed.
+returns-clause-sends g c = λ told h node means represents owned placed.
     let r0 = c.args.self.now.replica in
     let r1 = c.takes.new.replica in
     let r2 = c.acts.new.replica in
@@ -88,7 +88,7 @@ returns-clause-sends g c = λ told h node represents owned placed.
     let stored = stored_after s base node.stored (decision_in s node m) in
     let acted = take_acts s node m t1 t2 r0.voter.logs.kept r1.voter.logs.kept r2.voter.logs.kept r0.leases r2.leases version (g.V.Versions.version r2.rows.rows) progress (progress_at r2.rows.progress) own_open begun
     c.in_ok-work.work heard represents taken.heard t1_is t2_is (λ i. (c.in_ok-work.ensures.voter i).logs.kept) taken.stands.tells
-    (c.in_ok-work.ensures.state told h base stored about taken.stands) (c.in_ok-work.ensures.work told h base stored about taken.stands) in
+    (c.in_ok-work.ensures.state told h base stored means about taken.stands) (c.in_ok-work.ensures.work told h base stored means about taken.stands) in
     let is = take_is s node m t2 c.in_ok-taken.taken.sends c.new-2.result (t2_is ∙ t1_is) taken.sends c.new-2.ensures in
     let keeps = represents_keeps s r0.voter.logs.kept r0.leases version progress own_open begun node represents in
     let groups = touched m.body node.open_operations in
@@ -99,7 +99,7 @@ returns-clause-sends g c = λ told h node represents owned placed.
     made.sends ∙ ap (λ (step : RuleStep). step.sends) is
 
 pub returns-clause-state : goal.returns-clause-state
-returns-clause-state g c = λ told h node represents owned placed.
+returns-clause-state g c = λ told h node means represents owned placed.
     let r0 = c.args.self.now.replica in
     let r1 = c.takes.new.replica in
     let r2 = c.acts.new.replica in
@@ -121,7 +121,7 @@ returns-clause-state g c = λ told h node represents owned placed.
     let stored = stored_after s base node.stored (decision_in s node m) in
     let acted = take_acts s node m t1 t2 r0.voter.logs.kept r1.voter.logs.kept r2.voter.logs.kept r0.leases r2.leases version (g.V.Versions.version r2.rows.rows) progress (progress_at r2.rows.progress) own_open begun
     c.in_ok-work.work heard represents taken.heard t1_is t2_is (λ i. (c.in_ok-work.ensures.voter i).logs.kept) taken.stands.tells
-    (c.in_ok-work.ensures.state told h base stored about taken.stands) (c.in_ok-work.ensures.work told h base stored about taken.stands) in
+    (c.in_ok-work.ensures.state told h base stored means about taken.stands) (c.in_ok-work.ensures.work told h base stored means about taken.stands) in
     let is = take_is s node m t2 c.in_ok-taken.taken.sends c.new-2.result (t2_is ∙ t1_is) taken.sends c.new-2.ensures in
     let keeps = represents_keeps s r0.voter.logs.kept r0.leases version progress own_open begun node represents in
     let groups = touched m.body node.open_operations in
@@ -133,7 +133,7 @@ returns-clause-state g c = λ told h node represents owned placed.
     subst (λ (step : RuleStep). Represents (setting new.replica.members new.replica.me h) new.replica.voter.logs.kept new.replica.leases (g.V.Versions.version new.replica.rows.rows) (progress_at new.replica.rows.progress) new.open new.begun step.node) is made.state
 
 pub returns-clause-staged : goal.returns-clause-staged
-returns-clause-staged g c = λ told h node since represents owned placed stages.
+returns-clause-staged g c = λ told h node since means represents owned placed stages.
     let r0 = c.args.self.now.replica in
     let r1 = c.takes.new.replica in
     let r2 = c.acts.new.replica in
@@ -155,7 +155,7 @@ returns-clause-staged g c = λ told h node since represents owned placed stages.
     let stored = stored_after s base node.stored (decision_in s node m) in
     let acted = take_acts s node m t1 t2 r0.voter.logs.kept r1.voter.logs.kept r2.voter.logs.kept r0.leases r2.leases version (g.V.Versions.version r2.rows.rows) progress (progress_at r2.rows.progress) own_open begun
     c.in_ok-work.work heard represents taken.heard t1_is t2_is (λ i. (c.in_ok-work.ensures.voter i).logs.kept) taken.stands.tells
-    (c.in_ok-work.ensures.state told h base stored about taken.stands) (c.in_ok-work.ensures.work told h base stored about taken.stands) in
+    (c.in_ok-work.ensures.state told h base stored means about taken.stands) (c.in_ok-work.ensures.work told h base stored means about taken.stands) in
     let is = take_is s node m t2 c.in_ok-taken.taken.sends c.new-2.result (t2_is ∙ t1_is) taken.sends c.new-2.ensures in
     let mid = coe 1 0 (i. Stages (c.in_ok-work.ensures.voter i).logs.staged.items since base) (c.in_ok-taken.ensures.staged h node begun since opened stages) in
     let after = c.in_ok-step.ensures.staged h node (Takes m) (told_notes s node.met m.from m.body) (decision_note (decision_in s node m)) (has_taken s node m) since acted (take_may s node m _ is) mid in

@@ -26,7 +26,7 @@ returns-in_err-work-clause-built g c = λ is h node represents.
     c.in_err-work.ensures.unbuilt (search (rules, unbuilt_is)) (subst (All IsBuilt) (sym c.replace-opened.ensures.value) represents.built)
 
 pub returns-clause-notes : goal.returns-clause-notes
-returns-clause-notes g c = λ told h node represents owned.
+returns-clause-notes g c = λ told h node means represents owned.
     let r0 = c.args.self.now.replica in
     let r1 = c.ticks.new.replica in
     let r2 = c.acts_ticked.new.replica in
@@ -47,7 +47,7 @@ returns-clause-notes g c = λ told h node represents owned.
     let stored = portion_of s node.met node.stored in
     let acted = tick_acts s node now t1 t2 r0.voter.logs.kept r1.voter.logs.kept r2.voter.logs.kept r0.leases r2.leases version (g.V.Versions.version r2.rows.rows) progress (progress_at r2.rows.progress) own_open begun
     c.in_ok-work.work operations represents (c.replace-opened.ensures.value ∙ sym represents.opened) t1_is t2_is (λ i. (c.in_ok-work.ensures.voter i).logs.kept) made1.begun made1.stands.tells
-    (c.in_ok-work.ensures.state told h base stored about made1.stands) (c.in_ok-work.ensures.work told h base stored about made1.stands) in
+    (c.in_ok-work.ensures.state told h base stored means about made1.stands) (c.in_ok-work.ensures.work told h base stored means about made1.stands) in
     let is = tick_is s node now t2 c.in_ok-made.made.opening c.in_ok-made.made.closing (t2_is ∙ t1_is) made1.opening made1.closing in
     let keeps = represents_keeps s r0.voter.logs.kept r0.leases version progress own_open begun node represents in
     let groups = groups_of node.met in
@@ -58,7 +58,7 @@ returns-clause-notes g c = λ told h node represents owned.
     made.notes ∙ ap (λ (step : RuleStep). step.notes) is
 
 pub returns-clause-sends : goal.returns-clause-sends
-returns-clause-sends g c = λ told h node represents owned.
+returns-clause-sends g c = λ told h node means represents owned.
     let r0 = c.args.self.now.replica in
     let r1 = c.ticks.new.replica in
     let r2 = c.acts_ticked.new.replica in
@@ -79,7 +79,7 @@ returns-clause-sends g c = λ told h node represents owned.
     let stored = portion_of s node.met node.stored in
     let acted = tick_acts s node now t1 t2 r0.voter.logs.kept r1.voter.logs.kept r2.voter.logs.kept r0.leases r2.leases version (g.V.Versions.version r2.rows.rows) progress (progress_at r2.rows.progress) own_open begun
     c.in_ok-work.work operations represents (c.replace-opened.ensures.value ∙ sym represents.opened) t1_is t2_is (λ i. (c.in_ok-work.ensures.voter i).logs.kept) made1.begun made1.stands.tells
-    (c.in_ok-work.ensures.state told h base stored about made1.stands) (c.in_ok-work.ensures.work told h base stored about made1.stands) in
+    (c.in_ok-work.ensures.state told h base stored means about made1.stands) (c.in_ok-work.ensures.work told h base stored means about made1.stands) in
     let is = tick_is s node now t2 c.in_ok-made.made.opening c.in_ok-made.made.closing (t2_is ∙ t1_is) made1.opening made1.closing in
     let keeps = represents_keeps s r0.voter.logs.kept r0.leases version progress own_open begun node represents in
     let groups = groups_of node.met in
@@ -90,7 +90,7 @@ returns-clause-sends g c = λ told h node represents owned.
     made.sends ∙ ap (λ (step : RuleStep). step.sends) is
 
 pub returns-clause-state : goal.returns-clause-state
-returns-clause-state g c = λ told h node represents owned.
+returns-clause-state g c = λ told h node means represents owned.
     let r0 = c.args.self.now.replica in
     let r1 = c.ticks.new.replica in
     let r2 = c.acts_ticked.new.replica in
@@ -111,7 +111,7 @@ returns-clause-state g c = λ told h node represents owned.
     let stored = portion_of s node.met node.stored in
     let acted = tick_acts s node now t1 t2 r0.voter.logs.kept r1.voter.logs.kept r2.voter.logs.kept r0.leases r2.leases version (g.V.Versions.version r2.rows.rows) progress (progress_at r2.rows.progress) own_open begun
     c.in_ok-work.work operations represents (c.replace-opened.ensures.value ∙ sym represents.opened) t1_is t2_is (λ i. (c.in_ok-work.ensures.voter i).logs.kept) made1.begun made1.stands.tells
-    (c.in_ok-work.ensures.state told h base stored about made1.stands) (c.in_ok-work.ensures.work told h base stored about made1.stands) in
+    (c.in_ok-work.ensures.state told h base stored means about made1.stands) (c.in_ok-work.ensures.work told h base stored means about made1.stands) in
     let is = tick_is s node now t2 c.in_ok-made.made.opening c.in_ok-made.made.closing (t2_is ∙ t1_is) made1.opening made1.closing in
     let keeps = represents_keeps s r0.voter.logs.kept r0.leases version progress own_open begun node represents in
     let groups = groups_of node.met in
@@ -123,7 +123,7 @@ returns-clause-state g c = λ told h node represents owned.
     subst (λ (step : RuleStep). Represents (setting new.replica.members new.replica.me h) new.replica.voter.logs.kept new.replica.leases (g.V.Versions.version new.replica.rows.rows) (progress_at new.replica.rows.progress) new.open new.begun step.node) is made.state
 
 pub returns-clause-staged : goal.returns-clause-staged
-returns-clause-staged g c = λ told h node since represents owned stages.
+returns-clause-staged g c = λ told h node since means represents owned stages.
     let r0 = c.args.self.now.replica in
     let r1 = c.ticks.new.replica in
     let r2 = c.acts_ticked.new.replica in
@@ -144,7 +144,7 @@ returns-clause-staged g c = λ told h node since represents owned stages.
     let stored = portion_of s node.met node.stored in
     let acted = tick_acts s node now t1 t2 r0.voter.logs.kept r1.voter.logs.kept r2.voter.logs.kept r0.leases r2.leases version (g.V.Versions.version r2.rows.rows) progress (progress_at r2.rows.progress) own_open begun
     c.in_ok-work.work operations represents (c.replace-opened.ensures.value ∙ sym represents.opened) t1_is t2_is (λ i. (c.in_ok-work.ensures.voter i).logs.kept) made1.begun made1.stands.tells
-    (c.in_ok-work.ensures.state told h base stored about made1.stands) (c.in_ok-work.ensures.work told h base stored about made1.stands) in
+    (c.in_ok-work.ensures.state told h base stored means about made1.stands) (c.in_ok-work.ensures.work told h base stored means about made1.stands) in
     let is = tick_is s node now t2 c.in_ok-made.made.opening c.in_ok-made.made.closing (t2_is ∙ t1_is) made1.opening made1.closing in
     let mid = coe 1 0 (i. Stages (c.in_ok-work.ensures.voter i).logs.staged.items since base) (c.in_ok-made.ensures.staged h node own_open begun since represents stages) in
     let after = c.in_ok-step.ensures.staged h node (Ticks now) (lease_notes s node.met now) (lapse_notes s node.met now) (has_ticked s node now) since acted (tick_may s node now _ is) mid in

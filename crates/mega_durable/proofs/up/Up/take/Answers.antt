@@ -22,42 +22,42 @@ keep-requires g c =
     let up = c.requires.known.1.1.1 in
     let may = c.requires.known.1.1.2 in
     let old = c.args.self.now.node in
-    record { known = (h, (setting_of old h, (node, (Take c.args.message.now, (records_in old, stepped_now g.R.Records g.V.Versions.version h old c.take.new.self node (Take c.args.message.now) up may (c.in-Ok.ensures.state told h node) (c.in-Ok.ensures.staged told h node node.met) c.in-Ok.ensures.records c.in-Ok.ensures.members c.in-Ok.ensures.me))))) }
+    record { known = (h, (setting_of old h, (node, (Take c.args.message.now, (records_in old, stepped_now g.R.Records g.V.Versions.version h old c.take.new.self node (Take c.args.message.now) up may (c.in-Ok.ensures.state told h node may.means) (c.in-Ok.ensures.staged told h node node.met may.means) c.in-Ok.ensures.records c.in-Ok.ensures.members c.in-Ok.ensures.me))))) }
 
 pub returns-in-Ok-keep-clause-notes : goal.returns-in-Ok-keep-clause-notes
 returns-in-Ok-keep-clause-notes g c = λ h node up may.
-    ap (λ (made : Step). map met_of made.notes) c.in-Ok-keep.ensures.step ∙ c.in-Ok.ensures.notes c.requires.known.0 h node up.stands may.owned (may.placed)
+    ap (λ (made : Step). map met_of made.notes) c.in-Ok-keep.ensures.step ∙ c.in-Ok.ensures.notes c.requires.known.0 h node may.means up.stands may.owned (may.placed)
 
 pub returns-in-Ok-keep-clause-sends : goal.returns-in-Ok-keep-clause-sends
 returns-in-Ok-keep-clause-sends g c = λ h node up may.
-    ap (λ (made : Step). made.sends) c.in-Ok-keep.ensures.step ∙ c.in-Ok.ensures.sends c.requires.known.0 h node up.stands may.owned (may.placed)
+    ap (λ (made : Step). made.sends) c.in-Ok-keep.ensures.step ∙ c.in-Ok.ensures.sends c.requires.known.0 h node may.means up.stands may.owned (may.placed)
 
 pub returns-in-Ok-keep-clause-state : goal.returns-in-Ok-keep-clause-state
 returns-in-Ok-keep-clause-state g c = λ seen h node up may.
     let told = c.requires.known.0 in
     let old = c.args.self.now.node in
-    let stepped = stepped_now g.R.Records g.V.Versions.version h old c.take.new.self node (Take c.args.message.now) up may (c.in-Ok.ensures.state told h node) (c.in-Ok.ensures.staged told h node node.met) c.in-Ok.ensures.records c.in-Ok.ensures.members c.in-Ok.ensures.me in
+    let stepped = stepped_now g.R.Records g.V.Versions.version h old c.take.new.self node (Take c.args.message.now) up may (c.in-Ok.ensures.state told h node may.means) (c.in-Ok.ensures.staged told h node node.met may.means) c.in-Ok.ensures.records c.in-Ok.ensures.members c.in-Ok.ensures.me in
     c.in-Ok-keep.ensures.state seen h (setting_of old h) node (Take c.args.message.now) (records_in old) stepped
 
 pub returns-in-Ok-keep-clause-appended : goal.returns-in-Ok-keep-clause-appended
 returns-in-Ok-keep-clause-appended g c = λ h node up may.
     let told = c.requires.known.0 in
     let old = c.args.self.now.node in
-    let stepped = stepped_now g.R.Records g.V.Versions.version h old c.take.new.self node (Take c.args.message.now) up may (c.in-Ok.ensures.state told h node) (c.in-Ok.ensures.staged told h node node.met) c.in-Ok.ensures.records c.in-Ok.ensures.members c.in-Ok.ensures.me in
+    let stepped = stepped_now g.R.Records g.V.Versions.version h old c.take.new.self node (Take c.args.message.now) up may (c.in-Ok.ensures.state told h node may.means) (c.in-Ok.ensures.staged told h node node.met may.means) c.in-Ok.ensures.records c.in-Ok.ensures.members c.in-Ok.ensures.me in
     c.in-Ok-keep.ensures.appended h (setting_of old h) node (Take c.args.message.now) (records_in old) stepped
 
 pub returns-in-Ok-keep-clause-cut : goal.returns-in-Ok-keep-clause-cut
 returns-in-Ok-keep-clause-cut g c = λ seen h node up may.
     let told = c.requires.known.0 in
     let old = c.args.self.now.node in
-    let stepped = stepped_now g.R.Records g.V.Versions.version h old c.take.new.self node (Take c.args.message.now) up may (c.in-Ok.ensures.state told h node) (c.in-Ok.ensures.staged told h node node.met) c.in-Ok.ensures.records c.in-Ok.ensures.members c.in-Ok.ensures.me in
+    let stepped = stepped_now g.R.Records g.V.Versions.version h old c.take.new.self node (Take c.args.message.now) up may (c.in-Ok.ensures.state told h node may.means) (c.in-Ok.ensures.staged told h node node.met may.means) c.in-Ok.ensures.records c.in-Ok.ensures.members c.in-Ok.ensures.me in
     c.in-Ok-keep.ensures.cut seen h (setting_of old h) node (Take c.args.message.now) (records_in old) stepped
 
 pub returns-in-Err-keep-clause-cut : goal.returns-in-Err-keep-clause-cut
 returns-in-Err-keep-clause-cut g c = λ seen h node up may.
     let told = c.requires.known.0 in
     let old = c.args.self.now.node in
-    let stepped = stepped_now g.R.Records g.V.Versions.version h old c.take.new.self node (Take c.args.message.now) up may (c.in-Ok.ensures.state told h node) (c.in-Ok.ensures.staged told h node node.met) c.in-Ok.ensures.records c.in-Ok.ensures.members c.in-Ok.ensures.me in
+    let stepped = stepped_now g.R.Records g.V.Versions.version h old c.take.new.self node (Take c.args.message.now) up may (c.in-Ok.ensures.state told h node may.means) (c.in-Ok.ensures.staged told h node node.met may.means) c.in-Ok.ensures.records c.in-Ok.ensures.members c.in-Ok.ensures.me in
     c.in-Err-keep.ensures.cut seen h (setting_of old h) node (Take c.args.message.now) (records_in old) stepped
 
 pub returns-in-Err-clause-cut : goal.returns-in-Err-clause-cut
@@ -79,21 +79,21 @@ pub returns-in-Ok-keep-clause-whole : goal.returns-in-Ok-keep-clause-whole
 returns-in-Ok-keep-clause-whole g c = λ four h node up may.
     let told = c.requires.known.0 in
     let old = c.args.self.now.node in
-    let stepped = stepped_now g.R.Records g.V.Versions.version h old c.take.new.self node (Take c.args.message.now) up may (c.in-Ok.ensures.state told h node) (c.in-Ok.ensures.staged told h node node.met) c.in-Ok.ensures.records c.in-Ok.ensures.members c.in-Ok.ensures.me in
+    let stepped = stepped_now g.R.Records g.V.Versions.version h old c.take.new.self node (Take c.args.message.now) up may (c.in-Ok.ensures.state told h node may.means) (c.in-Ok.ensures.staged told h node node.met may.means) c.in-Ok.ensures.records c.in-Ok.ensures.members c.in-Ok.ensures.me in
     c.in-Ok-keep.ensures.whole four h (setting_of old h) node (Take c.args.message.now) (records_in old) stepped
 
 pub returns-in-Err-keep-clause-burnt : goal.returns-in-Err-keep-clause-burnt
 returns-in-Err-keep-clause-burnt g c = λ seen four h node up may.
     let told = c.requires.known.0 in
     let old = c.args.self.now.node in
-    let stepped = stepped_now g.R.Records g.V.Versions.version h old c.take.new.self node (Take c.args.message.now) up may (c.in-Ok.ensures.state told h node) (c.in-Ok.ensures.staged told h node node.met) c.in-Ok.ensures.records c.in-Ok.ensures.members c.in-Ok.ensures.me in
+    let stepped = stepped_now g.R.Records g.V.Versions.version h old c.take.new.self node (Take c.args.message.now) up may (c.in-Ok.ensures.state told h node may.means) (c.in-Ok.ensures.staged told h node node.met may.means) c.in-Ok.ensures.records c.in-Ok.ensures.members c.in-Ok.ensures.me in
     c.in-Err-keep.ensures.burnt seen four h (setting_of old h) node (Take c.args.message.now) (records_in old) stepped
 
 pub returns-in-Err-keep-clause-owed : goal.returns-in-Err-keep-clause-owed
 returns-in-Err-keep-clause-owed g c = λ h node up may.
     let told = c.requires.known.0 in
     let old = c.args.self.now.node in
-    owed_from (setting_of old h) node (Take c.args.message.now) c.in-Ok.step c.replies-replies.result c.in-Err-keep.fault (c.in-Ok.ensures.notes told h node up.stands may.owned (may.placed)) (c.in-Ok.ensures.sends told h node up.stands may.owned (may.placed))
+    owed_from (setting_of old h) node (Take c.args.message.now) c.in-Ok.step c.replies-replies.result c.in-Err-keep.fault (c.in-Ok.ensures.notes told h node may.means up.stands may.owned (may.placed)) (c.in-Ok.ensures.sends told h node may.means up.stands may.owned (may.placed))
     (c.replies-replies.ensures ∙ (ap (λ (members : Cluster). cond {A = ℕ} (replies_at members old.replica.me c.args.message.now.body) 1 0) c.cluster.ensures ∙ replies_once old.replica.members old.replica.me node.met c.args.message.now.from c.args.message.now.body))
     (may_owe g.R.Records g.V.Versions.version h old node (Take c.args.message.now) up) c.in-Err-keep.ensures.owed
 

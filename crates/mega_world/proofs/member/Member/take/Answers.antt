@@ -9,16 +9,16 @@ use Rattle.mega_world.proofs.Stepped.{Counts, Steps, is_here, made_step, own_set
 use Rattle.mega_world.proofs.member.Member.take.Goals as goal
 
 pub take-requires : goal.take-requires
-take-requires c =
+take-requires g c =
     let k = c.requires.known in
     let here = is_here k.cluster k.handlers k.me c.args.self.now k.ruled k.is in
-    let may = subst (λ (s : Setting). MayHappen s k.ruled (Take c.args.message.now)) (own_setting k.cluster k.handlers k.me c.args.self.now k.ruled k.is) k.may in record { known = (refl, (k.handlers, (k.ruled, (record { stands = here.stands; empty = here.empty; ready = here.ready; holds = here.holds; granted = here.granted }), may))) }
+    let may = subst (λ (s : Setting). MayHappen _ s k.ruled (Take c.args.message.now)) (own_setting k.cluster k.handlers k.me c.args.self.now k.ruled k.is) k.may in record { known = (refl, (k.handlers, (k.ruled, (record { stands = here.stands; empty = here.empty; ready = here.ready; holds = here.holds; granted = here.granted }), may))) }
 
 pub returns-in-Ok-clause-made : goal.returns-in-Ok-clause-made
-returns-in-Ok-clause-made c cluster h me ruled fuse is fused may =
+returns-in-Ok-clause-made g c cluster h me ruled fuse is fused may =
     let old = c.args.self.now in
     let stepped : Member = record { up = c.take.new.self; fuse = c.counted-self.result } in
-    let steps : Steps (node_in old) (node_in stepped) c.in-Ok.made (Take c.args.message.now) = record {
+    let steps : Steps _ (node_in old) (node_in stepped) c.in-Ok.made (Take c.args.message.now) = record {
       notes = λ g one here its. c.in-Ok.ensures.notes g one (record { stands = here.stands; empty = here.empty; ready = here.ready; holds = here.holds; granted = here.granted }) its;
       sends = λ g one here its. c.in-Ok.ensures.sends g one (record { stands = here.stands; empty = here.empty; ready = here.ready; holds = here.holds; granted = here.granted }) its;
       state = λ g one here its. let up = c.in-Ok.ensures.state refl g one (record { stands = here.stands; empty = here.empty; ready = here.ready; holds = here.holds; granted = here.granted }) its in record { stands = up.stands; empty = up.empty; ready = up.ready; holds = up.holds; granted = up.granted };
@@ -35,7 +35,7 @@ returns-in-Ok-clause-made c cluster h me ruled fuse is fused may =
     made_step cluster h me ruled fuse old stepped c.in-Ok.made (Take c.args.message.now) is fused may steps counts
 
 pub returns-in-Err-Cut-clause-made : goal.returns-in-Err-Cut-clause-made
-returns-in-Err-Cut-clause-made c cluster h me ruled fuse is fused may =
+returns-in-Err-Cut-clause-made g c cluster h me ruled fuse is fused may =
     let old = c.args.self.now in
     let stepped : Member = record { up = c.take.new.self; fuse = old.fuse } in
     was_cut cluster h me ruled fuse old stepped c.in-Err-Cut.cut (Take c.args.message.now) is fused may refl
@@ -51,8 +51,8 @@ returns-in-Err-Cut-clause-made c cluster h me ruled fuse is fused may =
     })
 
 pub log_fault_of-requires : goal.log_fault_of-requires
-log_fault_of-requires c =
+log_fault_of-requires g c =
     let k = c.requires.known in
     let here = is_here k.cluster k.handlers k.me c.args.self.now k.ruled k.is in
-    let may = subst (λ (s : Setting). MayHappen s k.ruled (Take c.args.message.now)) (own_setting k.cluster k.handlers k.me c.args.self.now k.ruled k.is) k.may in
+    let may = subst (λ (s : Setting). MayHappen _ s k.ruled (Take c.args.message.now)) (own_setting k.cluster k.handlers k.me c.args.self.now k.ruled k.is) k.may in
     log_memory _ _ c.in-Err-Log.fault _ _ (rw c.in-Err-Log.field-0-is at c.in-Err-Log.ensures.went.1) k.is.ready refl (rw c.in-Err-Log.field-0-is at (c.in-Err-Log.ensures.owed k.handlers k.ruled (record { stands = here.stands; empty = here.empty; ready = here.ready; holds = here.holds; granted = here.granted }) may))

@@ -10,7 +10,7 @@ use Rattle.mega_world.proofs.Happening.{IsReady, came_at, came_lined, delivery_b
 use Rattle.mega_world.proofs.world.World.hand.Goals as goal
 
 pub take_at-requires-clause-known : goal.take_at-requires-clause-known
-take_at-requires-clause-known c =
+take_at-requires-clause-known g c =
     let k = c.requires.known in
     let message = c.in-Some.message.now in
     let number = c.args.number in
@@ -21,11 +21,11 @@ take_at-requires-clause-known c =
       handlers = k.handlers;
       now = k.now;
       nodes = k.at.nodes;
-      may = may_happen k.cluster k.handlers k.now message.to (Take message) fit (take_owns k.cluster k.handlers k.now number message k.sound is);
+      may = may_happen k.cluster k.handlers k.now message.to (Take message) fit (take_owns k.cluster k.handlers k.now number message k.sound is) k.sound.means;
     }
 
 pub returns-clause-state : goal.returns-clause-state
-returns-clause-state c cluster h now r sound =
+returns-clause-state g c cluster h now r sound =
     let message = c.in-Some.message.now in
     let number = c.args.number in
     let old = c.args.self.now in
@@ -33,7 +33,7 @@ returns-clause-state c cluster h now r sound =
     let is = c.in-Some.ensures.found now r.mail in
     let there = is_there cluster old items now message.to r c.in-Some.ensures.least (subst (λ (ps : List Place). message.to ≤ length ps) c.as_slice.ensures.value c.in-Some.ensures.most) in
     let fit = take_fit cluster h old items now number message r sound is there in
-    let comes = c.in-Ok.ensures.made cluster h now r.nodes (may_happen cluster h now message.to (Take message) fit (take_owns cluster h now number message sound is)) in
+    let comes = c.in-Ok.ensures.made cluster h now r.nodes (may_happen cluster h now message.to (Take message) fit (take_owns cluster h now number message sound is) sound.means) in
     let mid = record old { places = c.take_at.new.places; mail = c.take.new.self } in
     let ready : IsReady now (Taken number ∷ []) old mid items c.push.new.self = record {
       added = c.in_ok-push.ensures.ok;
@@ -45,7 +45,7 @@ returns-clause-state c cluster h now r sound =
     (came_at cluster h now message.to (Taken number ∷ []) (Take message) old mid c.show_step.new.self items c.push.new.self c.show_step.new.tape.items c.in-Ok.made r (taken_own cluster number) fit comes ready (c.in_ok-show_step.ensures.shown cluster))
 
 pub returns-clause-lines : goal.returns-clause-lines
-returns-clause-lines c cluster h now r sound =
+returns-clause-lines g c cluster h now r sound =
     let message = c.in-Some.message.now in
     let number = c.args.number in
     let old = c.args.self.now in
@@ -53,7 +53,7 @@ returns-clause-lines c cluster h now r sound =
     let is = c.in-Some.ensures.found now r.mail in
     let there = is_there cluster old items now message.to r c.in-Some.ensures.least (subst (λ (ps : List Place). message.to ≤ length ps) c.as_slice.ensures.value c.in-Some.ensures.most) in
     let fit = take_fit cluster h old items now number message r sound is there in
-    let comes = c.in-Ok.ensures.made cluster h now r.nodes (may_happen cluster h now message.to (Take message) fit (take_owns cluster h now number message sound is)) in
+    let comes = c.in-Ok.ensures.made cluster h now r.nodes (may_happen cluster h now message.to (Take message) fit (take_owns cluster h now number message sound is) sound.means) in
     let mid = record old { places = c.take_at.new.places; mail = c.take.new.self } in
     let ready : IsReady now (Taken number ∷ []) old mid items c.push.new.self = record {
       added = c.in_ok-push.ensures.ok;
@@ -64,13 +64,13 @@ returns-clause-lines c cluster h now r sound =
     came_lined cluster h now message.to (Taken number ∷ []) (Take message) old mid items c.push.new.self c.show_step.new.tape.items c.in-Ok.made (taken_own cluster number) fit comes ready c.in_ok-show_step.ensures.lines
 
 pub returns-in-Err-clause-built : goal.returns-in-Err-clause-built
-returns-in-Err-clause-built c unbuilt =
+returns-in-Err-clause-built g c unbuilt =
     let k = c.requires.known in
     let is = c.in-Some.ensures.found k.now k.at.mail in
     let same : c.in-Err.fault ≡ Unbuilt = cc in
     delivery_built k.cluster k.now c.args.number c.in-Some.message.now k.at.formed is (c.in-Err.ensures.unbuilt (ap Err same) k.cluster k.now k.at.nodes)
 
 pub returns-in-None-clause-built : goal.returns-in-None-clause-built
-returns-in-None-clause-built c unbuilt =
+returns-in-None-clause-built g c unbuilt =
     let k = c.requires.known in
     c.in-None.ensures.none k.cluster k.now k.at.mail (λ me. k.at.nodes.members.up_are me ∙ ap (λ (ps : List Place). is_up_at ps me) (sym c.as_slice.ensures.value)) k.allowed

@@ -3,13 +3,13 @@ use Rattle.mega_world.proofs.world.World.new.Goals as goal
 
 pub start_all-requires-clause-served : goal.start_all-requires-clause-served
 start_all-requires-clause-served c =
-    record { few = c.requires.few; cells = c.requires.cells; housed = c.requires.housed; fits = c.requires.fits; lease = c.requires.lease; limit = c.requires.limit }
+    record { few = c.requires.few; cells = c.requires.cells; housed = c.requires.housed; fits = c.requires.fits; lease = c.requires.lease; limit = c.requires.limit; small = c.requires.small }
 
 pub returns-clause-state : goal.returns-clause-state
 returns-clause-state c h =
     let cluster = c.args.cluster.now in record {
       cluster = c.in_ok-own.ensures;
-      served = record { few = c.requires.few; cells = c.requires.cells; housed = c.requires.housed; fits = c.requires.fits; lease = c.requires.lease; limit = c.requires.limit };
+      served = record { few = c.requires.few; cells = c.requires.cells; housed = c.requires.housed; fits = c.requires.fits; lease = c.requires.lease; limit = c.requires.limit; small = c.requires.small };
       nodes = opening_nodes cluster h c.in-Ok.places.items c.in-Ok.ensures.count c.in-Ok.ensures.nodes;
       mail = opening_mail cluster h c.new.result c.new.ensures;
       tape = opening_tape cluster h c.start_all.new.tape.items c.in-Ok.ensures.tape;
