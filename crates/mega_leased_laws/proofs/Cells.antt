@@ -1,5 +1,5 @@
 -- In every run of a cluster of at most nine nodes a cell that says that it holds nothing for a node holds nothing.
-use Rattle.std.proofs.Common.{◌≡◌, ◌⊎◌, inl, inr, ℕ, zero, suc, ◌+◌, ◌-◌, ◌==◌, ◌&&◌, ◌≤◌, ◌<◌, nat_le, nat_lt, Bool, true, false, cond, List, [], ◌∷◌, ◌++◌, filter, flat_map, length, map, Option, Some, None, is_some, refl, sym, ap, ◌∙◌, subst, arith}
+use Rattle.std.proofs.Common.{◌≡◌, ◌⊎◌, inl, inr, ℕ, zero, suc, ◌+◌, ◌==◌, ◌&&◌, ◌≤◌, nat_le, nat_lt, Bool, true, false, cond, List, [], ◌∷◌, ◌++◌, filter, flat_map, length, map, Option, Some, None, is_some, refl, sym, ap, ◌∙◌, subst, arith}
 use Rattle.std.proofs.lemmas.Bool.Decides.{nat_tests}
 use Rattle.mega_base.specs.declared.names.Epoch.{Epoch}
 use Rattle.mega_base.specs.declared.names.GroupId.{GroupId}
@@ -20,16 +20,16 @@ use Rattle.mega_coordinator.specs.Lease.{counted_by, granted_answer}
 use Rattle.mega_wal.specs.History.{after_grant, after_lapse}
 use Rattle.mega_wire.specs.declared.message.Message.{Message}
 use Rattle.mega_wire.specs.declared.message.Body.{Body}
-use Rattle.mega_wire.specs.declared.message.Body.TheVariants.{Acquire, Dead, Granted as GrantedBody, Past, Unheld, Held as HeldBody, Where, Accept, Prepare, Fetch, Invalidate}
+use Rattle.mega_wire.specs.declared.message.Body.TheVariants.{Acquire, Dead, Granted as GrantedBody, Unheld, Held as HeldBody, Where, Accept, Prepare, Fetch, Invalidate}
 use Rattle.mega_transcript.specs.declared.item.Item.{Item}
-use Rattle.mega_transcript.specs.declared.item.Item.TheVariants.{Answer as AnswerItem, Apply, Begin as BeginItem, Counts as CountsItem, Crash, Cut as CutItem, Decide as DecideItem, Dropped, Forgets as ForgetsItem, Grant, Invalid, Lapse, Lost, Sent, Serving, Start, Taken, Tick as TickItem, Unsafe, Unsent, Valid}
+use Rattle.mega_transcript.specs.declared.item.Item.TheVariants.{Answer as AnswerItem, Apply, Begin as BeginItem, Counts as CountsItem, Crash, Cut as CutItem, Decide as DecideItem, Dropped, Forgets as ForgetsItem, Grant, Invalid, Lapse, Lost, Sent, Serving, Start, Taken, Tick as TickItem, Unsent, Valid}
 use Rattle.mega_transcript.specs.Tape.{sent_count}
 use Rattle.mega_promises.specs.Items.{number, shown}
 use Rattle.mega_promises.specs.Promises.{Stands}
-use Rattle.mega_promises.specs.Runs.{Happening, IsRun, Standing, goes_on, is_durable, met_in, nothing_yet, opening, owes, replies_in, set_at, setting, with_item, with_items}
+use Rattle.mega_promises.specs.Runs.{Happening, IsRun, Standing, is_durable, met_in, nothing_yet, owes, replies_in, set_at, setting, with_item, with_items}
 use Rattle.mega_rules.specs.Met.{Met, Starts, Crashes, Ticks, Begins, Takes, Sends, Unsends, Grants, Lapses, Counts, Forgets, Serves, Loses, Validates, Invalidates, Decides, Applies, Answers}
 use Rattle.mega_rules.specs.Clock.{clock_of, is_opening, is_up, start_of}
-use Rattle.mega_rules.specs.Coordinators.{acquire_to, coordinator_calls, counts_notes, forget_notes, grant_notes, is_cell_in, lost_note, tick_told}
+use Rattle.mega_rules.specs.Coordinators.{coordinator_calls, counts_notes, forget_notes, grant_notes, is_cell_in, lost_note, tick_told}
 use Rattle.mega_rules.specs.Locks.{asked_for, cell_calls, grant_note, lapse_note, held_answer, held_at, lapses_at, last_grant, reopenings}
 use Rattle.mega_rules.specs.Members.{cells, is_cell, is_full, is_node, keep_of}
 use Rattle.mega_rules.specs.Operations.{Node, Setting}
@@ -48,7 +48,7 @@ use Rattle.mega_rules.specs.Locks.{lock_answer}
 use Rattle.mega_wire.specs.declared.message.Body.TheVariants.{Top, Invalidated}
 use Rattle.mega_rules.specs.Members.{is_voter, has_rows}
 use Rattle.mega_rules.specs.Logs.{groups_of, prefix_of}
-use Rattle.mega_rules.specs.Steps.{start_note, op_of}
+use Rattle.mega_rules.specs.Steps.{start_note}
 use Rattle.mega_rules.specs.Steps.{Begin, Event, Step, Take, Tick, crashed, lapse_notes, lease_notes, onto, start, start_items, start_notes, step, told_notes}
 use Rattle.mega_tape_laws.specs.Places.{In}
 use Rattle.mega_tape_laws.specs.Lawful.{message}
@@ -61,17 +61,16 @@ use Rattle.mega_run_laws.proofs.Standing.{Good}
 use Rattle.mega_run_laws.proofs.Turns.{each_on}
 use Rattle.mega_settled_laws.specs.Covering.{Earlier}
 use Rattle.mega_settled_laws.proofs.Tapes.{IsSilent as SilentItem, each_both, earlier_stood, items_later, notes_silent, now_is, one_later, then_later}
-use Rattle.mega_lease_laws.specs.Questions.{Asks, is_question}
-use Rattle.mega_lease_laws.proofs.Acting.{Acquires}
-use Rattle.mega_valid_laws.specs.Leases.{HoldsNone, MayFree, granted_on}
+use Rattle.mega_lease_laws.specs.Questions.{Asks as IsAsking, is_question}
+use Rattle.mega_valid_laws.specs.Leases.{HoldsNone, granted_on}
 use Rattle.mega_valid_laws.proofs.Epochs.{Shown, granted_shown}
 use Rattle.mega_valid_laws.proofs.Folds.{IsOwn, IsOwnNote, Told, sends_told, with_told}
 use Rattle.mega_leased_laws.specs.Items.{Are}
 use Rattle.mega_leased_laws.specs.Cells.{Frees, IsFreed}
 use Rattle.mega_leased_laws.proofs.Forms.{Anything, Holds, Occurs, any_keeps, down, run_holds, stepped}
-use Rattle.mega_leased_laws.proofs.Notes.{IsRest, Origin, Parted, Replied, fronts, step_origins, step_parts}
-use Rattle.mega_leased_laws.proofs.Tapes.{Follows, IsFree, are_items, are_sent, both_follow, free_follows, free_notes}
-use Rattle.mega_leased_laws.proofs.Told.{cuts_told, falls_told, marks_told, met_after, starts_told, step_met, steps_told}
+use Rattle.mega_leased_laws.proofs.Notes.{IsRest, Origin, fronts, step_origins, step_parts}
+use Rattle.mega_leased_laws.proofs.Tapes.{IsFree, are_items, are_sent, free_follows, free_notes}
+use Rattle.mega_leased_laws.proofs.Told.{cuts_told, falls_told, marks_told, starts_told, step_met, steps_told}
 use Rattle.mega_leased_laws.proofs.Locks.{IsOwed, IsStill, IsUnmarked, Matches, asks_match, closed_by, closes_match, granted_by, lapse_marks, lapsed_by, lapses_are, last_after, last_onto, lock_after, marks_both, marks_for, opening_onto, opens_match, reopen_match, still_onto, ticks_match, unmarked}
 
 -- ---- what a tape tells of a cell's grants
@@ -719,7 +718,7 @@ own_given c t _ h = tt
 
 pub occurs_own : (tape : List Item) (s : Setting) (met : List Met) (item : Item) (event : Event) → Occurs tape s met item event → IsOwn item
 occurs_own tape s met item (Tick clock) o = subst IsOwn (sym o) tt
-occurs_own tape s met item (Take m) o = subst IsOwn (sym (o.1).0) tt
+occurs_own tape s met item (Take m) o = subst IsOwn (sym o.1) tt
 occurs_own tape s met item (Begin request text) o = subst IsOwn (sym o) tt
 
 pub own_noted : (s : Setting) (met : List Met) (event : Event) → IsOwnNote (met_in s met event)
@@ -771,7 +770,7 @@ full_asked c from _ h = tt
 
 step_given : (s : Setting) (node : Node) (tape : List Item) (item : Item) (event : Event) → Are (IsAsked s.cluster) tape → Occurs tape s node.met item event → Each (GrantNote (Full s.cluster)) (step s node event).notes
 step_given s node tape item (Tick now) asked o = step_granted (Full s.cluster) s node (Tick now) tt
-step_given s node tape item (Take m) asked o = step_granted (Full s.cluster) s node (Take m) (full_asked s.cluster m.from m.body (of_asked s.cluster tape o.0 m asked ((o.1).1).0))
+step_given s node tape item (Take m) asked o = step_granted (Full s.cluster) s node (Take m) (full_asked s.cluster m.from m.body (of_asked s.cluster tape o.0 m asked o.2))
 step_given s node tape item (Begin request text) asked o = step_granted (Full s.cluster) s node (Begin request text) tt
 
 pub start_rest : (s : Setting) (met : List Met) → Each IsRest (start_notes s met)
@@ -909,7 +908,7 @@ module _ (c : Cluster) (few : length c.nodes ≤ 9) (h : Meanings) (now : Standi
       ∙ ap (λ ms. last_after ms (last_grant (now.node me).met k)) (marks_both k (made (Take m)).notes (map Sends (made (Take m)).sends) ∙ (λ i. dead_marks m k dead i ++ unmarked k (map Sends (made (Take m)).sends) (sends_unmarked (made (Take m)).sends) i))
       ∙ sym (q.granted k me)
 
-  question_well : (t : List Item) (m : Message) → Asks m → SendsWell c m t
+  question_well : (t : List Item) (m : Message) → IsAsking m → SendsWell c m t
   question_well t m asks = record { frees = question_frees t m m.body asks; asks = question_asks c m.from m.body asks }
 
   origins_well : (item : Item) (event : Event) → Occurs now.tape s (now.node me).met item event → (ms : List Message) → Each (Origin s (now.node me).met event) ms → Each (λ m. SendsWell c m (second item event)) ms
@@ -922,8 +921,8 @@ module _ (c : Cluster) (few : length c.nodes ≤ 9) (h : Meanings) (now : Standi
     where
       one : (m : Message) → Origin s (now.node me).met (Take got) m → SendsWell c m (second item (Take got))
       one m (inl asks) = question_well (second item (Take got)) m asks
-      one m (inr r) = reply_frees c few now.tape now.node now.owed q me up (second item (Take got)) o.0 got.from got.to got.body m (dead_same item got (occurs_own now.tape s (now.node me).met item (Take got) o)) ((o.1).1).1
-          (earlier_stood now.tape (second item (Take got)) (second_later item (Take got)) (Sent o.0 got) ((o.1).1).0) r.from r.body
+      one m (inr r) = reply_frees c few now.tape now.node now.owed q me up (second item (Take got)) o.0 got.from got.to got.body m (dead_same item got (occurs_own now.tape s (now.node me).met item (Take got) o)) o.3
+          (earlier_stood now.tape (second item (Take got)) (second_later item (Take got)) (Sent o.0 got) o.2) r.from r.body
   origins_well item (Begin request text) o ms each = each_on (Origin s (now.node me).met (Begin request text)) (λ m. SendsWell c m (second item (Begin request text))) one ms each
     where
       one : (m : Message) → Origin s (now.node me).met (Begin request text) m → SendsWell c m (second item (Begin request text))

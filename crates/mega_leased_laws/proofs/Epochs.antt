@@ -1,6 +1,6 @@
 -- In every run no epoch is granted above one that serves, a cell is counted that granted the epoch while none serves, and an epoch serves once, with none
 -- above it.
-use Rattle.std.proofs.Common.{◌≡◌, ◌⊎◌, inl, inr, ℕ, suc, ◌+◌, ◌==◌, ◌&&◌, ◌||◌, ◌≤◌, ◌<◌, nat_le, nat_lt, Bool, true, false, not, cond, List, [], ◌∷◌, ◌++◌, filter, flat_map, length, map, Option, Some, None, is_some, refl, sym, ap, ◌∙◌, subst, arith}
+use Rattle.std.proofs.Common.{◌≡◌, ◌⊎◌, inl, inr, ℕ, ◌+◌, ◌==◌, ◌&&◌, ◌||◌, ◌≤◌, ◌<◌, nat_le, Bool, true, false, not, cond, List, [], ◌∷◌, ◌++◌, filter, flat_map, length, map, Option, Some, None, is_some, refl, sym, ap, ◌∙◌, subst, arith}
 use Rattle.std.specs.Prelude.{option_map}
 use Rattle.std.specs.Option.{option_map_or}
 use Rattle.mega_base.specs.declared.names.Epoch.{Epoch}
@@ -13,8 +13,8 @@ use Rattle.mega_cluster.specs.declared.cluster.Cluster.{Cluster}
 use Rattle.mega_coordinator.specs.declared.answers.Counted.{Counted}
 use Rattle.mega_coordinator.specs.declared.answers.Counted.TheVariants.{No, Yes, Serving as ServingAnswer}
 use Rattle.mega_coordinator.specs.declared.lease.Lease.{Lease}
-use Rattle.mega_coordinator.specs.Lease.{counted_by, counts, epoch_of, granted_answer, is_majority, is_present, state_of, until_with}
-use Rattle.mega_coordinator.specs.History.{Call, Ticks as TickCall, epoch_after, lease_of, serving}
+use Rattle.mega_coordinator.specs.Lease.{counted_by, counts, epoch_of, granted_answer, is_majority, is_present, until_with}
+use Rattle.mega_coordinator.specs.History.{Ticks as TickCall, epoch_after, lease_of}
 use Rattle.mega_entry.specs.declared.content.Content.{Content}
 use Rattle.mega_handler.specs.Named.{Meanings}
 use Rattle.mega_locks.specs.declared.asked.Asked.{Asked}
@@ -40,32 +40,29 @@ use Rattle.mega_transcript.specs.Tape.{sent_count}
 use Rattle.mega_promises.specs.Items.{number, shown}
 use Rattle.mega_promises.specs.Messages.{is_unsafe}
 use Rattle.mega_promises.specs.Promises.{Stands}
-use Rattle.mega_promises.specs.Runs.{Happening, IsRun, Standing, breaks, goes_on, is_durable, met_in, nothing_yet, opening, owes, replies_in, set_at, setting, with_item, with_items}
+use Rattle.mega_promises.specs.Runs.{Happening, IsRun, Standing, breaks, is_durable, met_in, nothing_yet, owes, replies_in, set_at, setting, with_item, with_items}
 use Rattle.mega_rules.specs.Met.{Met, Starts, Crashes, Ticks, Begins, Takes, Sends, Unsends, Grants, Lapses, Counts, Forgets, Serves, Loses, Validates, Invalidates, Decides, Applies, Answers}
 use Rattle.mega_rules.specs.Clock.{clock_of, is_up, start_of}
-use Rattle.mega_rules.specs.Coordinators.{acquire_to, coordinator_calls, counts_notes, forget_notes, grant_notes, is_cell_in, lost_note, tick_notes, tick_told}
+use Rattle.mega_rules.specs.Coordinators.{coordinator_calls, counts_notes, forget_notes, grant_notes, is_cell_in, lost_note, tick_notes, tick_told}
 use Rattle.mega_rules.specs.Locks.{asked_for, cell_calls, grant_note, held_answer, held_at, lapse_note, lapses_at, last_grant, lock_answer}
 use Rattle.mega_rules.specs.Logs.{decided, top_of}
 use Rattle.mega_rules.specs.Members.{cells, is_cell, is_full, is_voter, keep_of}
 use Rattle.mega_rules.specs.Operations.{Node, Setting}
 use Rattle.mega_rules.specs.Replies.{answer_to, fetched, where_served}
-use Rattle.mega_rules.specs.Steps.{Begin, Event, Step, Take, Tick, crashed, lapse_notes, lease_notes, onto, start, start_items, start_notes, step, told_notes}
+use Rattle.mega_rules.specs.Steps.{Begin, Event, Step, Take, Tick, crashed, lapse_notes, lease_notes, onto, start, start_notes, step, told_notes}
 use Rattle.mega_rules.specs.Voting.{acts, prepared, promise_body, vote_body, voted}
 use Rattle.mega_tape_laws.specs.Lawful.{message}
-use Rattle.mega_tape_laws.specs.Places.{In}
-use Rattle.mega_tape_laws.proofs.Ballots.{number_is, number_self}
+use Rattle.mega_tape_laws.proofs.Ballots.{number_is}
 use Rattle.mega_tape_laws.proofs.Lists.{some_is}
 use Rattle.mega_run_laws.specs.Vouched.{Each, sent}
 use Rattle.mega_run_laws.proofs.Events.{onto_append}
-use Rattle.mega_run_laws.proofs.Runs.{IsMark, Keeps, nobody}
-use Rattle.mega_run_laws.proofs.Standing.{Good}
+use Rattle.mega_run_laws.proofs.Runs.{IsMark}
 use Rattle.mega_run_laws.proofs.Turns.{each_on}
 use Rattle.mega_settled_laws.specs.Covering.{Earlier}
 use Rattle.mega_settled_laws.proofs.Tapes.{IsSilent, each_both, earlier_stood, items_later, notes_silent, now_is, one_later, then_later}
-use Rattle.mega_lease_laws.specs.Questions.{Asks, is_question}
-use Rattle.mega_valid_laws.specs.Leases.{MayServe, NoneAbove, granted_on, serving_on}
+use Rattle.mega_lease_laws.specs.Questions.{is_question}
+use Rattle.mega_valid_laws.specs.Leases.{MayServe, serving_on}
 use Rattle.mega_valid_laws.specs.Showing.{serving_met}
-use Rattle.mega_valid_laws.proofs.Agreeing.{Agrees}
 use Rattle.mega_valid_laws.proofs.Epochs.{Shown, granted_shown, serving_stands}
 use Rattle.mega_valid_laws.proofs.Folds.{IsOwn, tells_serving}
 use Rattle.mega_valid_laws.proofs.Shows.{ShownAt, nothing_shown, shown_keeps}
@@ -73,12 +70,12 @@ use Rattle.mega_valid_laws.proofs.Walked.{AgreesAt, step_agrees}
 use Rattle.mega_leased_laws.specs.Items.{Are}
 use Rattle.mega_leased_laws.specs.Serving.{IsServing}
 use Rattle.mega_leased_laws.proofs.Forms.{Holds, Occurs, both_keep, down, run_holds, stepped}
-use Rattle.mega_leased_laws.proofs.Notes.{IsRest, Origin, Replied, fronts, step_origins, step_parts}
+use Rattle.mega_leased_laws.proofs.Notes.{IsRest, Origin, fronts, step_origins, step_parts}
 use Rattle.mega_leased_laws.proofs.Tapes.{Follows, IsFree, are_items, are_sent, both_follow, free_follows, free_notes}
 use Rattle.mega_leased_laws.proofs.Told.{step_met}
 use Rattle.mega_leased_laws.proofs.Locks.{IsOwed, IsStill, Matches}
 use Rattle.mega_leased_laws.proofs.Cells.{AskedFor, AskedFull, Celling, EventAsks, GrantNote, at_me, by_node, celling_holds, full_nine, nothing_celling, occurs_own, of_asked, rest_given, sends_still, start_owed, start_rest, step_granted, step_still}
-use Rattle.mega_leased_laws.proofs.Reached.{Grown, IsPresent, IsWithin, Reached, asked_present, grown_onto, grown_self, not_above, present_before, present_reached, reached_grown, reached_start, serving_grown, serving_present}
+use Rattle.mega_leased_laws.proofs.Reached.{Grown, IsPresent, IsWithin, Reached, asked_present, grown_onto, not_above, present_before, present_reached, reached_grown, reached_start, serving_grown, serving_present}
 
 -- ---- tapes
 
@@ -509,7 +506,7 @@ module _ (c : Cluster) (few : length c.nodes ≤ 9) (h : Meanings) (now : Standi
       serves_first : Begins_at (start_of met) lease epoch → IsServing first (ServingItem (number me) epoch)
       serves_first begins = serves_rule first begins (first_serving me ∙ idle_none begins.idle) (λ e stands. own_not (ServingItem (number me) e) (λ o. o) stands) (λ other e stands. own_not (Grant other (number me) e) (λ o. o) stands)
 
-      counted : List Item
+      abbrev counted : List Item
       counted = with_item c nodes first (CountsItem (number me) cell epoch)
 
       serves_counted : Begins_at (start_of met) lease epoch → IsServing counted (ServingItem (number me) epoch)
@@ -528,11 +525,11 @@ module _ (c : Cluster) (few : length c.nodes ≤ 9) (h : Meanings) (now : Standi
 
       counts_follow : (was : Bool) (a : Counted) → (a ≡ Yes → was ≡ false → lease.serves ≡ false) → (a ≡ ServingAnswer → Begins_at (start_of met) lease epoch)
           → Follows IsServing (λ x. tt) c nodes first (flat_map (shown me) (counts_notes cell epoch was a))
-      counts_follow was No yes serving_too = tt
-      counts_follow true Yes yes serving_too = tt
-      counts_follow false Yes yes serving_too = (counts_rule (yes refl refl), tt)
-      counts_follow true ServingAnswer yes serving_too = (serves_first (serving_too refl), tt)
-      counts_follow false ServingAnswer yes serving_too = (counts_rule (serving_too refl).idle, (serves_counted (serving_too refl), tt))
+      counts_follow was No when_yes serving_too = tt
+      counts_follow true Yes when_yes serving_too = tt
+      counts_follow false Yes when_yes serving_too = (counts_rule (when_yes refl refl), tt)
+      counts_follow true ServingAnswer when_yes serving_too = (serves_first (serving_too refl), tt)
+      counts_follow false ServingAnswer when_yes serving_too = (counts_rule (serving_too refl).idle, (serves_counted (serving_too refl), tt))
 
       grants_follow : (clock : ℕ) → Follows IsServing (λ x. tt) c nodes first (flat_map (shown me) (grant_notes c met cell epoch clock))
       grants_follow clock = counts_follow (is_some (counted_by lease cell)) (granted_answer (start_of met) c.cells lease cell epoch (clock + c.lease) (clock_of met))
@@ -727,7 +724,7 @@ module _ (c : Cluster) (few : length c.nodes ≤ 9) (h : Meanings) (now : Standi
 
   event_asks : (item : Item) (event : Event) → Occurs now.tape s met item event → EventAsks (Come c now.node) event
   event_asks item (Tick clock) o = tt
-  event_asks item (Take m) o = by m.from m.body (are_at (IsCome c now.node) now.tape (Sent o.0 m) q.come ((o.1).1).0).holds
+  event_asks item (Take m) o = by m.from m.body (are_at (IsCome c now.node) now.tape (Sent o.0 m) q.come o.2).holds
     where
       by : (from : ℕ) (body : Body) → AskedFor (Come c now.node) from body → AskedFor (Come c now.node) from body
       by from body k = k
@@ -829,7 +826,7 @@ module _ (c : Cluster) (few : length c.nodes ≤ 9) (h : Meanings) (now : Standi
       one m (inl asks) = other_well (nodes' (Take got)) (second item (Take got)) m (question_other m.body asks)
       one m (inr r) = let parts = step_parts s (now.node me) (Take got) in
           subst (λ notes. SendsWell (nodes' (Take got)) m (with_items c (nodes' (Take got)) (item ∷ now.tape) (flat_map (shown me) notes))) (sym parts.is)
-          (reply_well (nodes' (Take got)) item parts.rest got.from got.to got.body m (of_asked c now.tape o.0 got (p.1).asked ((o.1).1).0) r.to r.body)
+          (reply_well (nodes' (Take got)) item parts.rest got.from got.to got.body m (of_asked c now.tape o.0 got (p.1).asked o.2) r.to r.body)
   origins_well item (Begin request text) o ms each = each_on (Origin s met (Begin request text)) (λ m. SendsWell (nodes' (Begin request text)) m (second item (Begin request text))) one ms each
     where
       one : (m : Message) → Origin s met (Begin request text) m → SendsWell (nodes' (Begin request text)) m (second item (Begin request text))
@@ -840,7 +837,7 @@ module _ (c : Cluster) (few : length c.nodes ≤ 9) (h : Meanings) (now : Standi
   fronts_follow : (item : Item) (event : Event) → IsOwn item → Occurs now.tape s met item event → Follows IsServing (λ t. tt) c (nodes' event) (item ∷ now.tape) (flat_map (shown me) (fronts s (now.node me) event))
   fronts_follow item (Tick clock) own_is o = quiet_follow me c (nodes' (Tick clock)) (lease_notes s met clock ++ lapse_notes s met clock) (item ∷ now.tape) (tick_quiet s met clock)
   fronts_follow item (Take m) own_is o = told_follow (nodes' (Take m)) item own_is m.from m.body
-      (taken_rests (nodes' (Take m)) item own_is m.from m.to m.body ((o.1).1).1 (are_at (IsCome c now.node) now.tape (Sent o.0 m) q.come ((o.1).1).0).holds (are_told (Sent o.0 m) now.tape q.told ((o.1).1).0))
+      (taken_rests (nodes' (Take m)) item own_is m.from m.to m.body o.3 (are_at (IsCome c now.node) now.tape (Sent o.0 m) q.come o.2).holds (are_told (Sent o.0 m) now.tape q.told o.2))
     where
       -- what a message told, it tells on each longer tape
       told_on : (t : List Item) (one : Item) (to : ℕ) (body : Body) → Tells t to body → Tells (one ∷ t) to body
@@ -855,7 +852,6 @@ module _ (c : Cluster) (few : length c.nodes ≤ 9) (h : Meanings) (now : Standi
       are_told one [] a k = absurd k
       are_told one (other ∷ before) a (inl is) = item_on before other one (subst (IsTold before) is a.0)
       are_told one (other ∷ before) a (inr k) = item_on before other one (are_told one before a.1 k)
-
   fronts_follow item (Begin request text) own_is o = tt
 
   notes_follow : (item : Item) (event : Event) → IsOwn item → Occurs now.tape s met item event → Follows IsServing (λ t. tt) c (nodes' event) (item ∷ now.tape) (items event)

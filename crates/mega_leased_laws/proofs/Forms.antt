@@ -1,20 +1,17 @@
 -- The forms that an event of a run takes: what a tape, its nodes and what they owe are then.
-use Rattle.std.proofs.Common.{◌≡◌, ℕ, ◌+◌, ◌<◌, Bool, true, false, cond, List, [], ◌∷◌, ◌++◌, map, flat_map, Option, None, refl, sym, ap, ◌∙◌, subst, arith}
-use Rattle.mega_base.specs.declared.names.OpId.{OpId}
+use Rattle.std.proofs.Common.{◌≡◌, ℕ, ◌+◌, ◌<◌, Bool, true, false, cond, List, [], ◌∷◌, ◌++◌, flat_map, refl, sym, ap, ◌∙◌, subst, arith}
 use Rattle.mega_cluster.specs.declared.cluster.Cluster.{Cluster}
 use Rattle.mega_handler.specs.Named.{Meanings}
-use Rattle.mega_outcome.specs.declared.request.Request.{Request}
-use Rattle.mega_wire.specs.declared.message.Message.{Message}
 use Rattle.mega_transcript.specs.declared.item.Item.{Item}
 use Rattle.mega_transcript.specs.declared.item.Item.TheVariants.{Begin as BeginItem, Crash, Sent, Taken, Tick as TickItem}
 use Rattle.mega_transcript.specs.Tape.{sent_count}
 use Rattle.mega_promises.specs.Items.{number, numbered, shown}
 use Rattle.mega_promises.specs.Promises.{Stands}
-use Rattle.mega_promises.specs.Runs.{Calls, CutByData, CutByLog, Fate, Fuse, Happening, IsRun, Left, Standing, Whole, calls_of, crashes, cut_step, fate_by, fated, fated_start, goes_on, is_kept, marked, met_in, nothing_yet, opening, owes, replies_in, set_at, setting, whole_step, with_item, with_items}
-use Rattle.mega_rules.specs.Met.{Met, Crashes, Sends}
+use Rattle.mega_promises.specs.Runs.{CutByData, CutByLog, Fate, Happening, IsRun, Standing, Whole, calls_of, fate_by, fated, fated_start, goes_on, is_kept, met_in, nothing_yet, opening, owes, replies_in, set_at, setting, whole_step, with_item, with_items}
+use Rattle.mega_rules.specs.Met.{Met}
 use Rattle.mega_rules.specs.Clock.{is_up, start_of}
 use Rattle.mega_rules.specs.Operations.{Node, Setting}
-use Rattle.mega_rules.specs.Steps.{Begin, Event, Step, Take, Tick, crashed, onto, op_of, start, start_items, step}
+use Rattle.mega_rules.specs.Steps.{Begin, Event, Step, Take, Tick, crashed, op_of, start, start_items, step}
 use Rattle.mega_run_laws.specs.Vouched.{sent}
 use Rattle.mega_run_laws.proofs.Noted.{with_append, with_sent}
 use Rattle.mega_run_laws.proofs.Runs.{IsMark, Keeps, nobody, run_keeps}
@@ -112,13 +109,19 @@ module _ (c : Cluster) (P : Standing → Type 0) (k : Keeps c P) (Q : Shape) (ho
   -- what is asked, and this, is kept by each event
   pub both_keep : Keeps c (λ now. P now × At now)
   both_keep = record {
-    ticks = λ h now me clock cut g up q. (k.ticks h now me clock cut g up q.0,
-        fated_holds h now me (TickItem (number me) clock) (Tick clock) (fate_by now me cut (calls_of c h now me (Tick clock) (step (setting c h me) (now.node me) (Tick clock)))) g q.0 up refl (λ nodes. refl) q.1);
-    takes = λ h now j m cut g up stands q. (k.takes h now j m cut g up stands q.0,
-        fated_holds h now m.to (Taken j) (Take m) (fate_by now m.to cut (calls_of c h now m.to (Take m) (step (setting c h m.to) (now.node m.to) (Take m)))) g q.0 up (j, (refl, (stands, refl))) (λ nodes. refl) q.1);
-    begins = λ h now me request text cut g up q. (k.begins h now me request text cut g up q.0,
-        fated_holds h now me (BeginItem (op_of (setting c h me) (now.node me).met) text) (Begin request text)
-        (fate_by now me cut (calls_of c h now me (Begin request text) (step (setting c h me) (now.node me) (Begin request text)))) g q.0 up refl (λ nodes. refl) q.1);
+    ticks = λ h now me clock cut g up q. (
+      k.ticks h now me clock cut g up q.0,
+      fated_holds h now me (TickItem (number me) clock) (Tick clock) (fate_by now me cut (calls_of c h now me (Tick clock) (step (setting c h me) (now.node me) (Tick clock)))) g q.0 up refl (λ nodes. refl) q.1,
+    );
+    takes = λ h now j m cut g up stands q. (
+      k.takes h now j m cut g up stands q.0,
+      fated_holds h now m.to (Taken j) (Take m) (fate_by now m.to cut (calls_of c h now m.to (Take m) (step (setting c h m.to) (now.node m.to) (Take m)))) g q.0 up (j, refl, stands, refl) (λ nodes. refl) q.1,
+    );
+    begins = λ h now me request text cut g up q. (
+      k.begins h now me request text cut g up q.0,
+      fated_holds h now me (BeginItem (op_of (setting c h me) (now.node me).met) text) (Begin request text)
+          (fate_by now me cut (calls_of c h now me (Begin request text) (step (setting c h me) (now.node me) (Begin request text)))) g q.0 up refl (λ nodes. refl) q.1,
+    );
     starts = λ h now me fate g q. (k.starts h now me fate g q.0, started_holds h now me fate g q.0 q.1);
     crash = λ now me g q. (k.crash now me g q.0, holds.falls now me g q.0 q.1);
     marks = λ now item is g q. (k.marks now item is g q.0, holds.marks now item is g q.0 q.1);

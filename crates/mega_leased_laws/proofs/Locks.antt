@@ -1,5 +1,5 @@
 -- What a cell keeps for a node is what it granted, whatever it is asked, and also where a start tells it what its log has.
-use Rattle.std.proofs.Common.{◌≡◌, ◌⊎◌, inl, inr, ℕ, ◌==◌, ◌&&◌, ◌||◌, nat_lt, Bool, true, false, not, cond, List, [], ◌∷◌, ◌++◌, flat_map, Option, Some, None, refl, sym, ap, ◌∙◌, subst}
+use Rattle.std.proofs.Common.{◌≡◌, inl, inr, ℕ, ◌==◌, ◌&&◌, ◌||◌, nat_lt, Bool, true, false, not, cond, List, [], ◌∷◌, ◌++◌, flat_map, Option, Some, None, refl, sym, ap, ◌∙◌, subst}
 use Rattle.std.specs.Prelude.{unwrap_or}
 use Rattle.mega_base.specs.declared.names.Epoch.{Epoch}
 use Rattle.mega_cluster.specs.declared.cluster.Cluster.{Cluster}
@@ -12,7 +12,7 @@ use Rattle.mega_locks.specs.Rule.{after_answer, after_lapse as lock_lapsed, answ
 use Rattle.mega_locks.specs.History.{Call, Reopens, lock_of, nodes}
 use Rattle.mega_locks.proofs.Marks.{same_is, same_self}
 use Rattle.mega_wal.specs.History.{after_grant, after_lapse, is_epoch_below, is_same_epoch}
-use Rattle.mega_rules.specs.Met.{Met, Starts, Crashes, Ticks, Begins, Takes, Sends, Unsends, Grants, Lapses, Counts, Forgets, Serves, Loses, Validates, Invalidates, Decides, Applies, Answers}
+use Rattle.mega_rules.specs.Met.{Met, Starts, Crashes, Ticks, Begins, Takes, Unsends, Grants, Lapses, Decides, Applies}
 use Rattle.mega_rules.specs.Clock.{is_opening}
 use Rattle.mega_rules.specs.Locks.{cell_calls, lapse_note, last_grant, reopening, reopenings}
 use Rattle.mega_rules.specs.Steps.{onto}

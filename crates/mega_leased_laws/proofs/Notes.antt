@@ -1,12 +1,9 @@
 -- A step of a node: what it notes first, and where each message that it sends comes from.
-use Rattle.std.proofs.Common.{◌≡◌, ◌⊎◌, inl, inr, ℕ, Bool, true, false, cond, List, [], ◌∷◌, ◌++◌, map, flat_map, fold, nat_lt, Option, Some, None, refl, sym, ap, ◌∙◌, subst}
+use Rattle.std.proofs.Common.{◌≡◌, ◌⊎◌, inl, inr, ℕ, Bool, true, false, cond, List, [], ◌∷◌, ◌++◌, map, flat_map, fold, nat_lt, Option, Some, None, refl, ap}
 use Rattle.std.specs.List.{All}
 use Rattle.std.proofs.lemmas.List.Elements.{All-head, All-tail}
 use Rattle.mega_base.specs.declared.names.GroupId.{GroupId}
-use Rattle.mega_base.specs.declared.names.OpId.{OpId}
 use Rattle.mega_coordinator.specs.declared.answers.NotValid.{NotValid}
-use Rattle.mega_outcome.specs.declared.answer.Answer.{Answer}
-use Rattle.mega_outcome.specs.declared.request.Request.{Request}
 use Rattle.mega_wire.specs.declared.message.Message.{Message}
 use Rattle.mega_wire.specs.declared.message.Body.{Body}
 use Rattle.mega_rules.specs.Met.{Met, Answers, Applies, Begins, Decides, Takes, Ticks, Validates}
@@ -14,13 +11,12 @@ use Rattle.mega_rules.specs.Clock.{clock_of}
 use Rattle.mega_rules.specs.Coordinators.{acquires_at}
 use Rattle.mega_rules.specs.Logs.{groups_of}
 use Rattle.mega_rules.specs.Members.{has_rows}
-use Rattle.mega_rules.specs.Operations.{Node, Now, Operation, Setting}
-use Rattle.mega_rules.specs.Acting.{ends, validated_by}
+use Rattle.mega_rules.specs.Operations.{Node, Now, Setting}
+use Rattle.mega_rules.specs.Acting.{validated_by}
 use Rattle.mega_rules.specs.Replies.{answer_to, reply_message, reply_to}
-use Rattle.mega_rules.specs.Steps.{Begin, Decision, Event, Heard, Step, Take, Tick, all_act, applied_at, apply_note, apply_notes, at_first, at_open, background, begin_step, decision_note, first_settled, hears_message, if_new, lapse_notes, lease_notes, new_operation, news, onto, op_of, portion_of, refusal, step, stored_after, take_step, taken, tick_step, ticked, told_decision, told_notes, unless_refused}
+use Rattle.mega_rules.specs.Steps.{Begin, Decision, Event, Heard, Step, Take, Tick, all_act, applied_at, apply_note, apply_notes, at_first, at_open, background, decision_note, first_settled, hears_message, if_new, lapse_notes, lease_notes, new_operation, news, onto, op_of, portion_of, refusal, step, stored_after, taken, ticked, told_decision, told_notes, unless_refused}
 use Rattle.mega_run_laws.specs.Vouched.{Each}
 use Rattle.mega_run_laws.proofs.Noting.{Lasts, all_act_it, begun_it, ticked_it}
-use Rattle.mega_run_laws.proofs.Turns.{each_on}
 use Rattle.mega_settled_laws.proofs.Tapes.{each_both}
 use Rattle.mega_lease_laws.specs.Questions.{Asks}
 use Rattle.mega_lease_laws.proofs.Acting.{Acquires, acquires_are, background_asks, news_ask}

@@ -1,5 +1,5 @@
 -- In every run a node that says that it is invalidated noted so behind the question.
-use Rattle.std.proofs.Common.{◌≡◌, ◌⊎◌, inl, inr, ℕ, ◌+◌, ◌==◌, ◌&&◌, Bool, true, false, cond, List, [], ◌∷◌, ◌++◌, flat_map, map, Option, Some, None, refl, sym, ap, ◌∙◌, subst}
+use Rattle.std.proofs.Common.{◌≡◌, inl, inr, ℕ, ◌+◌, ◌==◌, ◌&&◌, Bool, true, false, cond, List, [], ◌∷◌, ◌++◌, flat_map, Option, Some, None, refl, sym, subst}
 use Rattle.mega_base.specs.declared.names.Epoch.{Epoch}
 use Rattle.mega_base.specs.declared.names.GroupId.{GroupId}
 use Rattle.mega_base.specs.declared.names.NodeId.{NodeId}
@@ -20,13 +20,12 @@ use Rattle.mega_wire.specs.declared.message.Message.{Message}
 use Rattle.mega_wire.specs.declared.message.Body.{Body}
 use Rattle.mega_wire.specs.declared.message.Body.TheVariants.{Acquire, Accept, Dead, Fetch, Invalidate, Invalidated, Prepare, Top, Where}
 use Rattle.mega_transcript.specs.declared.item.Item.{Item}
-use Rattle.mega_transcript.specs.declared.item.Item.TheVariants.{Crash, Cut as CutItem, Dropped, Invalid, Sent}
+use Rattle.mega_transcript.specs.declared.item.Item.TheVariants.{Invalid, Sent}
 use Rattle.mega_transcript.specs.Tape.{sent_count}
 use Rattle.mega_promises.specs.Items.{number, shown}
 use Rattle.mega_promises.specs.Promises.{Stands, StoodBefore}
-use Rattle.mega_promises.specs.Runs.{Happening, IsRun, Standing, nothing_yet, set_at, setting, with_item, with_items}
+use Rattle.mega_promises.specs.Runs.{Happening, IsRun, Standing, set_at, setting, with_items}
 use Rattle.mega_rules.specs.Met.{Met, Invalidates}
-use Rattle.mega_rules.specs.Clock.{is_up}
 use Rattle.mega_rules.specs.Locks.{asked_for, held_answer, held_at, lock_answer}
 use Rattle.mega_rules.specs.Logs.{decided, top_of}
 use Rattle.mega_rules.specs.Members.{is_cell, is_full, is_voter}
@@ -36,21 +35,18 @@ use Rattle.mega_rules.specs.Steps.{Begin, Event, Step, Take, Tick, start, start_
 use Rattle.mega_rules.specs.Voting.{acts, prepared, promise_body, vote_body, voted}
 use Rattle.mega_tape_laws.specs.Lawful.{message}
 use Rattle.mega_tape_laws.proofs.Lists.{some_is}
-use Rattle.mega_run_laws.specs.Vouched.{Each, sent}
-use Rattle.mega_run_laws.proofs.Noted.{with_append}
+use Rattle.mega_run_laws.specs.Vouched.{Each}
 use Rattle.mega_run_laws.proofs.Runs.{IsMark}
 use Rattle.mega_run_laws.proofs.Turns.{each_on}
 use Rattle.mega_settled_laws.specs.Covering.{Earlier}
 use Rattle.mega_settled_laws.proofs.Tapes.{IsSilent, items_later, notes_silent}
 use Rattle.mega_lease_laws.specs.Questions.{Asks, is_question}
-use Rattle.mega_valid_laws.specs.Leases.{MayObey}
-use Rattle.mega_valid_laws.proofs.Folds.{IsOwn}
 use Rattle.mega_valid_laws.proofs.Orders.{before_behind}
 use Rattle.mega_leased_laws.specs.Items.{Are}
 use Rattle.mega_leased_laws.specs.Invalidations.{IsObeyed, Obeys}
 use Rattle.mega_leased_laws.proofs.Forms.{Anything, Holds, Occurs, any_keeps, run_holds, stepped}
-use Rattle.mega_leased_laws.proofs.Notes.{Origin, Replied, step_origins, step_parts}
-use Rattle.mega_leased_laws.proofs.Tapes.{Follows, IsFree, are_items, are_sent, free_follows}
+use Rattle.mega_leased_laws.proofs.Notes.{Origin, step_origins, step_parts}
+use Rattle.mega_leased_laws.proofs.Tapes.{IsFree, are_items, are_sent, free_follows}
 use Rattle.mega_leased_laws.proofs.Cells.{occurs_own, own_silent}
 
 silent_obeyed : (t : List Item) (item : Item) → IsSilent item → IsObeyed t item
@@ -167,7 +163,7 @@ module _ (c : Cluster) (h : Meanings) (now : Standing) (me : ℕ) (q : Are IsObe
       one m (inl asks) = question_well (second item (Take got)) m asks
       one m (inr r) = let parts = step_parts s (now.node me) (Take got) in
           subst (λ notes. Well (with_items c (nodes' (Take got)) (item ∷ now.tape) (flat_map (shown me) notes)) m) (sym parts.is)
-          (reply_obeys c me (now.node me).met (nodes' (Take got)) (item ∷ now.tape) parts.rest h o.0 got.from got.to got.body m ((o.1).1).1 (inr ((o.1).1).0) r.from r.body)
+          (reply_obeys c me (now.node me).met (nodes' (Take got)) (item ∷ now.tape) parts.rest h o.0 got.from got.to got.body m o.3 (inr o.2) r.from r.body)
   origins_well item (Begin request text) o ms each = each_on (Origin s (now.node me).met (Begin request text)) (Well (second item (Begin request text))) one ms each
     where
       one : (m : Message) → Origin s (now.node me).met (Begin request text) m → Well (second item (Begin request text)) m

@@ -1,21 +1,20 @@
 -- What a read that polls knows: each voter whose answer counts told a position that is none above its greatest, and once a majority did, that is the
 -- position through which it reads, whatever it completes then.
-use Rattle.std.proofs.Common.{◌≡◌, ◌⊎◌, inl, inr, ℕ, ◌+◌, max, ◌==◌, ◌&&◌, ◌||◌, ◌≤◌, Bool, true, false, not, cond, List, [], ◌∷◌, ◌++◌, map, length, Option, Some, None, refl, sym, ap, ◌∙◌, subst, arith}
-use Rattle.std.specs.List.{list_all, list_any}
+use Rattle.std.proofs.Common.{◌≡◌, ◌⊎◌, inl, inr, ℕ, ◌+◌, max, ◌==◌, ◌&&◌, ◌||◌, ◌≤◌, Bool, true, false, not, cond, List, [], ◌∷◌, ◌++◌, map, length, Option, Some, None, refl, ap, ◌∙◌, subst, arith}
+use Rattle.std.specs.List.{list_all}
 use Rattle.mega_base.specs.declared.names.Epoch.{Epoch}
 use Rattle.mega_base.specs.declared.names.GroupId.{GroupId}
 use Rattle.mega_base.specs.declared.names.OpId.{OpId}
 use Rattle.mega_base.specs.declared.names.Position.{Position}
 use Rattle.mega_cluster.specs.declared.cluster.Cluster.{Cluster}
-use Rattle.mega_propose.specs.Members.{has, is_majority, with_node, without}
-use Rattle.mega_propose.specs.Rounds.{due, is_due, takes}
+use Rattle.mega_propose.specs.Members.{has, is_majority, with_node}
+use Rattle.mega_propose.specs.Rounds.{is_due}
 use Rattle.mega_read.specs.declared.reading.Move.{Move as ReadMove}
 use Rattle.mega_read.specs.declared.reading.Reading.{Reading}
-use Rattle.mega_read.specs.declared.reading.Search.{Search}
 use Rattle.mega_read.specs.declared.reading.Search.TheVariants.{Fetching, Filling}
 use Rattle.mega_read.specs.declared.reading.Stage.{Stage}
 use Rattle.mega_read.specs.declared.reading.Stage.TheVariants.{Polling, Catching}
-use Rattle.mega_read.specs.Catching.{asked_by, denied, falls_due, fetch_to, fetches, fills, hears, helpers, is_position, local_read, move, polled_read, searched, seeks, topped, where_to}
+use Rattle.mega_read.specs.Catching.{asked_by, falls_due, fetch_to, fills, hears, helpers, is_position, local_read, move, polled_read, searched, seeks, topped}
 use Rattle.mega_wal.specs.Same.{same_group, same_op}
 use Rattle.mega_wal.proofs.Sames.{same_group_equal, same_op_equal}
 use Rattle.mega_wire.specs.declared.message.Body.{Body}
@@ -107,7 +106,7 @@ module _ (c : Cluster) (tape : List Item) (op : OpId) (group : GroupId) where
   tops_polled heard best t most = record {
     test = λ v. has v heard;
     majority = majority_is (length (voters c)) (length heard) (count (λ v. has v heard) (voters c)) most t.counted;
-    heard = λ voter h. let told = t.each voter h in (told.top, (told.heard, told.most));
+    heard = λ voter h. let told = t.each voter h in (told.top, told.heard, told.most);
   }
 
   -- `K` is what is said of a position through which it reads, which a poll gives

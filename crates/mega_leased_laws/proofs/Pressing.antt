@@ -1,5 +1,5 @@
 -- In every run an operation tells a node to invalidate a position only where a majority accepted some entry there.
-use Rattle.std.proofs.Common.{◌≡◌, ◌⊎◌, inl, inr, ℕ, suc, ◌+◌, max, ◌==◌, ◌&&◌, ◌||◌, nat_le, nat_lt, Bool, true, false, not, cond, List, [], ◌∷◌, ◌++◌, fold, filter, flat_map, map, length, Option, Some, None, refl, sym, ap, ◌∙◌, subst}
+use Rattle.std.proofs.Common.{◌≡◌, ℕ, ◌+◌, max, ◌==◌, ◌&&◌, ◌||◌, nat_le, nat_lt, Bool, true, false, not, cond, List, [], ◌∷◌, ◌++◌, fold, flat_map, map, length, Option, Some, None, refl, sym, ◌∙◌, subst}
 use Rattle.std.specs.List.{All, list_all, list_any}
 use Rattle.std.proofs.lemmas.List.Elements.{All-head, All-tail}
 use Rattle.mega_base.specs.declared.names.Epoch.{Epoch}
@@ -26,7 +26,7 @@ use Rattle.mega_propose.specs.declared.round.Report.{Report}
 use Rattle.mega_propose.specs.declared.round.Round.{Round}
 use Rattle.mega_propose.specs.declared.round.Round.TheVariants.{Asking, Preparing, Accepting, Covering, Settled, Waiting}
 use Rattle.mega_propose.specs.declared.round.Site.{Site}
-use Rattle.mega_propose.specs.Rounds.{accept_to, accepted, asks, cell_numbers, completes, dead_to, due, greatest_vote, invalidate_to, invalidated, is_due, is_here, is_sent, last_round, next_ballot, picked, prepare_to, prepares, presses, promised, proposes, refused, same_ballot, takes, uncovered, unheld, vote_round}
+use Rattle.mega_propose.specs.Rounds.{accept_to, accepted, asks, cell_numbers, completes, dead_to, due, greatest_vote, invalidate_to, invalidated, is_due, is_here, is_sent, last_round, next_ballot, picked, prepare_to, prepares, presses, promised, refused, same_ballot, takes, uncovered, unheld, vote_round}
 use Rattle.mega_read.specs.declared.reading.Move.{Move as ReadMove}
 use Rattle.mega_read.specs.declared.reading.Reading.{Reading}
 use Rattle.mega_read.specs.declared.reading.Search.{Search}
@@ -34,8 +34,8 @@ use Rattle.mega_read.specs.declared.reading.Search.TheVariants.{Fetching, Fillin
 use Rattle.mega_read.specs.declared.reading.Stage.{Stage}
 use Rattle.mega_read.specs.declared.reading.Stage.TheVariants.{Polling, Catching}
 use Rattle.mega_read.specs.declared.reading.Reader.{Reader}
-use Rattle.mega_read.specs.Catching.{asked_by, denied, falls_due, fetch_to, fetches, fills, hears, helpers, is_position, local_read, move, no_op, polled_read, searched, seeks, site, topped, where_to}
-use Rattle.mega_wal.specs.Acceptor.{Act, Vote, Voted, accept_answer, promise_answer}
+use Rattle.mega_read.specs.Catching.{asked_by, falls_due, fetch_to, fetches, fills, hears, helpers, is_position, local_read, move, no_op, polled_read, searched, seeks, site, where_to}
+use Rattle.mega_wal.specs.Acceptor.{Vote, accept_answer, promise_answer}
 use Rattle.mega_wal.specs.Same.{same_group, same_op}
 use Rattle.mega_wal.specs.declared.answers.Promised.{Promised as PromiseAnswer}
 use Rattle.mega_wal.specs.declared.answers.Promised.TheVariants as promise
@@ -47,27 +47,23 @@ use Rattle.mega_wire.specs.declared.message.Body.TheVariants.{Accept, Accepted, 
 use Rattle.mega_transcript.specs.declared.item.Item.{Item}
 use Rattle.mega_transcript.specs.declared.item.Item.TheVariants.{Sent}
 use Rattle.mega_transcript.specs.Tape.{sent_count}
-use Rattle.mega_promises.specs.Items.{number, shown}
-use Rattle.mega_promises.specs.Promises.{Stands}
-use Rattle.mega_promises.specs.Runs.{Happening, IsRun, Standing, nothing_yet, set_at, setting, with_items}
+use Rattle.mega_promises.specs.Items.{shown}
+use Rattle.mega_promises.specs.Runs.{Happening, IsRun, Standing, set_at, setting, with_items}
 use Rattle.mega_rules.specs.Met.{Met, Begins, Takes, Ticks}
-use Rattle.mega_rules.specs.Clock.{begun_of, clock_of, does_again, is_up, start_of, ticks_of}
-use Rattle.mega_rules.specs.Coordinators.{acquire_to, acquires_at, refused_at, serves_at, valid_at}
+use Rattle.mega_rules.specs.Clock.{begun_of, clock_of, does_again, start_of, ticks_of}
+use Rattle.mega_rules.specs.Coordinators.{acquires_at, refused_at, serves_at, valid_at}
 use Rattle.mega_rules.specs.Locks.{asked_for, held_answer, held_at, lock_answer}
 use Rattle.mega_rules.specs.Logs.{decided, groups_of, newest_of, prefix_of, top_of}
 use Rattle.mega_rules.specs.Members.{has_rows, is_cell, is_full, is_voter, nodes, voters}
-use Rattle.mega_rules.specs.Operations.{Node, Now, Operation, Phase, Promised, Proposes, Reads, Setting}
-use Rattle.mega_rules.specs.Acting.{completes_read, ends, in_phase, is_visited, keeps, read_begun, reader_of, sends_more, validated_by, visiting}
+use Rattle.mega_rules.specs.Operations.{Node, Now, Operation, Phase, Proposes, Reads, Setting}
+use Rattle.mega_rules.specs.Acting.{completes_read, ends, is_visited, read_begun, reader_of, sends_more, validated_by}
 use Rattle.mega_rules.specs.Replies.{answer_to, fetched, reply_message, reply_to, where_served}
-use Rattle.mega_rules.specs.Steps.{Begin, Decision, Event, Heard, Step, Take, Tick, acts_in_turn, all_act, at_first, at_open, background, begin_step, decide_to, decision_note, does_due, fetch_to as background_fetch, fetches_for, first_settled, hears_message, if_new, is_out, lapse_notes, last_answer, lease_notes, new_operation, news, onto, op_of, portion_of, refusal, start, start_items, step, stored_after, take_step, taken, tick_step, ticked, told_decision, told_notes, unless_refused}
+use Rattle.mega_rules.specs.Steps.{Begin, Decision, Event, Heard, Step, Take, Tick, acts_in_turn, all_act, at_first, at_open, background, decide_to, decision_note, does_due, fetch_to as background_fetch, fetches_for, first_settled, hears_message, if_new, is_out, lapse_notes, last_answer, lease_notes, new_operation, news, onto, op_of, portion_of, refusal, start, start_items, step, stored_after, taken, ticked, told_decision, told_notes, unless_refused}
 use Rattle.mega_rules.specs.Voting.{acts as acts_met, prepared, promise_body, vote_body, voted}
-use Rattle.mega_tape_laws.specs.Chosen.{Chosen}
-use Rattle.mega_tape_laws.specs.Lawful.{Heard as HeardOn, message}
-use Rattle.mega_tape_laws.specs.Places.{In, Place, act_of, acts}
-use Rattle.mega_tape_laws.proofs.Ballots.{number_self}
+use Rattle.mega_tape_laws.specs.Places.{Place}
 use Rattle.mega_tape_laws.proofs.Lists.{some_is}
 use Rattle.mega_run_laws.specs.Vouched.{Chosen as HeardChosen, Each, Knows, Vouched, sent}
-use Rattle.mega_run_laws.proofs.Opened.{Backed, BackedSearch, BackedStage, at_place}
+use Rattle.mega_run_laws.proofs.Opened.{Backed, BackedStage, at_place}
 use Rattle.mega_run_laws.proofs.Runs.{IsMark, nobody}
 use Rattle.mega_run_laws.proofs.Standing.{Good}
 use Rattle.mega_run_laws.proofs.Turns.{Held, each_on}
@@ -76,12 +72,11 @@ use Rattle.mega_settled_laws.proofs.Tapes.{IsSilent, each_both, items_later, not
 use Rattle.mega_settled_laws.proofs.Walk.{Walks, begun_it, goes_on_it}
 use Rattle.mega_lease_laws.proofs.Acting.{Acquires, acquires_are}
 use Rattle.mega_valid_laws.specs.Leases.{WasChosen}
-use Rattle.mega_valid_laws.proofs.Folds.{IsOwn}
 use Rattle.mega_valid_laws.proofs.Joint.{chosen_on, vote_heard}
 use Rattle.mega_leased_laws.specs.Items.{Are}
 use Rattle.mega_leased_laws.specs.Invalidations.{IsPressed, Presses}
 use Rattle.mega_leased_laws.proofs.Forms.{Anything, Holds, Occurs, any_keeps, run_holds, stepped}
-use Rattle.mega_leased_laws.proofs.Tapes.{Follows, IsFree, are_items, are_sent, free_follows}
+use Rattle.mega_leased_laws.proofs.Tapes.{IsFree, are_items, are_sent, free_follows}
 use Rattle.mega_leased_laws.proofs.Cells.{occurs_own, own_silent}
 
 -- ---- what was chosen

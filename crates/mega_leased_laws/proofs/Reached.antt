@@ -1,16 +1,16 @@
 -- How far the epochs of a coordinator have come, by what its node met.
-use Rattle.std.proofs.Common.{◌≡◌, ◌⊎◌, inl, inr, ℕ, suc, ◌+◌, ◌==◌, ◌&&◌, ◌||◌, ◌≤◌, ◌<◌, nat_lt, Bool, true, false, not, cond, List, [], ◌∷◌, ◌++◌, map, Option, Some, None, refl, sym, ap, ◌∙◌, subst, arith}
+use Rattle.std.proofs.Common.{◌≡◌, ◌⊎◌, inl, inr, ℕ, ◌+◌, ◌||◌, ◌≤◌, ◌<◌, nat_lt, Bool, true, false, cond, List, [], ◌∷◌, ◌++◌, map, Option, Some, None, refl, sym, ap, ◌∙◌, subst, arith}
 use Rattle.mega_base.specs.declared.names.Epoch.{Epoch}
 use Rattle.mega_cluster.specs.declared.cluster.Cluster.{Cluster}
 use Rattle.mega_coordinator.specs.declared.lease.Lease.{Lease}
-use Rattle.mega_coordinator.specs.Lease.{after_grant, counts, epoch_of, is_majority, left, next_lease, past_ends, state_of, tick_ends, until_with}
+use Rattle.mega_coordinator.specs.Lease.{after_grant, counts, epoch_of, is_majority, left, next_lease, state_of, until_with}
 use Rattle.mega_coordinator.specs.History.{Call, Ticks as TickCall, Grants as GrantCall, Passes, Invalidates as InvalidCall, Validates as ValidCall, ends, epoch_after, lease_of, serving}
-use Rattle.mega_coordinator.specs.Laws.{endings, epoch_at}
+use Rattle.mega_coordinator.specs.Laws.{endings}
 use Rattle.mega_coordinator.proofs.Epochs.{epoch_counts, serves_alone}
 use Rattle.mega_wal.specs.History.{is_epoch_below}
 use Rattle.mega_tape_laws.proofs.Lists.{some_is}
 use Rattle.mega_rules.specs.Met.{Met, Starts, Crashes, Ticks, Begins, Takes, Sends, Unsends, Grants, Lapses, Counts, Forgets, Serves, Loses, Validates, Invalidates, Decides, Applies, Answers}
-use Rattle.mega_rules.specs.Clock.{clock_of, is_up, start_of}
+use Rattle.mega_rules.specs.Clock.{clock_of, start_of}
 use Rattle.mega_rules.specs.Coordinators.{coordinator_calls, told_by, validated}
 use Rattle.mega_rules.specs.Steps.{onto}
 use Rattle.mega_run_laws.specs.Vouched.{Each}
@@ -147,14 +147,15 @@ serves_on start cells (ValidCall group n begun) before e s none = s
 
 pub serves_more : (start cells : ℕ) (more calls : List Call) (e : Epoch) → serving start cells calls ≡ Some e → endings start cells (more ++ calls) ≡ endings start cells calls → serving start cells (more ++ calls) ≡ Some e
 serves_more start cells [] calls e s same = s
-serves_more start cells (call ∷ more) calls e s same = by (ends start cells (more ++ calls) call) refl (more_endings start cells more calls)
+serves_more start cells (call ∷ more) calls e s same = by (ends start cells (more ++ calls) call) refl (more_endings start cells more calls) (serves_more start cells more calls e s)
   where
-    by : (t : Bool) → ends start cells (more ++ calls) call ≡ t → endings start cells calls ≤ endings start cells (more ++ calls) → serving start cells (call ∷ (more ++ calls)) ≡ Some e
-    by true k le = absurd (ended_too (sym (ap (λ b. cond b 1 0 + endings start cells (more ++ calls)) k) ∙ same))
+    by : (t : Bool) → ends start cells (more ++ calls) call ≡ t → endings start cells calls ≤ endings start cells (more ++ calls)
+        → (endings start cells (more ++ calls) ≡ endings start cells calls → serving start cells (more ++ calls) ≡ Some e) → serving start cells (call ∷ (more ++ calls)) ≡ Some e
+    by true k le earlier = absurd (ended_too (sym (ap (λ b. cond b 1 0 + endings start cells (more ++ calls)) k) ∙ same))
       where
         ended_too : 1 + endings start cells (more ++ calls) ≡ endings start cells calls → ⊥
         ended_too h = omega (arith, le, h)
-    by false k le = serves_on start cells call (more ++ calls) e (serves_more start cells more calls e s (rest (sym (ap (λ b. cond b 1 0 + endings start cells (more ++ calls)) k) ∙ same))) k
+    by false k le earlier = serves_on start cells call (more ++ calls) e (earlier (rest (sym (ap (λ b. cond b 1 0 + endings start cells (more ++ calls)) k) ∙ same))) k
       where
         rest : 0 + endings start cells (more ++ calls) ≡ endings start cells calls → endings start cells (more ++ calls) ≡ endings start cells calls
         rest h = omega (arith, h)

@@ -13,7 +13,6 @@ use Rattle.mega_rules.specs.Operations.{Node, Setting}
 use Rattle.mega_rules.specs.Replies.{reply_to}
 use Rattle.mega_rules.specs.Steps.{Begin, Decision, Event, Heard, Step, Take, Tick, first_settled, hears_message, if_new, news, onto, step, taken, told_decision, told_notes}
 use Rattle.mega_tape_laws.proofs.Ballots.{number_is}
-use Rattle.mega_run_laws.specs.Vouched.{sent}
 use Rattle.mega_run_laws.proofs.Runs.{IsMark}
 use Rattle.mega_valid_laws.proofs.Folds.{IsOwn, IsOwnNote, Told, after, notes_told, sends_after, sends_told}
 use Rattle.mega_leased_laws.proofs.Forms.{stepped}

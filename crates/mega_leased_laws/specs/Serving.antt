@@ -1,5 +1,5 @@
 -- By what epochs are granted, counted and served.
-use Rattle.std.specs.Prelude.{◌≡◌, Bool, false, List, None, Some}
+use Rattle.std.specs.Prelude.{◌≡◌, false, List, None, Some}
 use Rattle.mega_base.specs.declared.names.Epoch.{Epoch}
 use Rattle.mega_wal.specs.History.{is_epoch_below}
 use Rattle.mega_transcript.specs.declared.item.Item.{Item}
