@@ -1,0 +1,11 @@
+pub mod Forms
+pub mod Notes
+pub mod Tapes
+pub mod Told
+pub mod Locks
+pub mod Cells
+pub mod Obeying
+pub mod Pressing
+pub mod Reached
+pub mod Epochs
+pub mod Polls

@@ -1,0 +1,4 @@
+pub mod Items
+pub mod Cells
+pub mod Invalidations
+pub mod Serving
