@@ -34,6 +34,7 @@ use mega_actions::Replica;
 use mega_base::{Items, Text};
 use mega_cluster::Cluster;
 use mega_disk::{Records, Versions};
+use mega_marks::Indexed;
 use mega_meanings::QueueHandlers;
 use mega_operations::Operation;
 use mega_outcome::Request;
@@ -81,6 +82,7 @@ impl<R: Records + Drop, V: Versions + Drop> Node<R, V> {
             voter,
             leases,
             rows,
+            indexed: Indexed::new(alloc),
         };
         Ok(Node {
             replica,

@@ -32,6 +32,7 @@ use mega_base::{Copied, Epoch, GroupId, Items, NoMemory, NodeId};
 use mega_cluster::Cluster;
 use mega_disk::{Records, Versions};
 use mega_leases::Leases;
+use mega_marks::Indexed;
 use mega_operations::Members;
 use mega_replica::StoredRows;
 use mega_voter::Voter;
@@ -238,6 +239,7 @@ impl<R: Records + Drop, V: Versions + Drop> Node<R, V> {
             voter,
             leases,
             rows,
+            indexed: Indexed::new(alloc),
         };
         Ok(Restarted {
             node: Node {

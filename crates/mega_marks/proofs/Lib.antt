@@ -1,0 +1,3 @@
+mod Taking
+mod Moving
+pub mod Growing
