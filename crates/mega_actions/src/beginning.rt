@@ -115,7 +115,7 @@ impl<R: Records, V: Versions> Replica<R, V> {
         ensures voter { self.new.voter ≡ self.old.voter }
         ensures indexed { OnOk result ((h : Meanings) (now : Now) → V.is_told ≡ true →
             IsAt V.version h self.old now.met now.stored → IsIndexed (self.old.members).schema self.old.indexed now.met →
-            AreMarked (self.new.members).schema self.new.indexed now.met (marks_then now request)) }
+            AreMarked (self.old.members).schema self.new.indexed now.met (marks_then now request)) }
         ensures unbuilt { result ≡ Err Unbuilt → is_built request ≡ false }
     {
         if is_indexed(&request) {
@@ -167,7 +167,7 @@ impl<R: Records, V: Versions> Replica<R, V> {
         ensures voter { self.new.voter ≡ self.old.voter }
         ensures indexed { OnOk result ((h : Meanings) (now : Now) → V.is_told ≡ true → is_indexed request.now ≡ true →
             IsAt V.version h self.old now.met now.stored → IsIndexed (self.old.members).schema self.old.indexed now.met →
-            AreMarked (self.new.members).schema self.new.indexed now.met (marks_then now request.now)) }
+            AreMarked (self.old.members).schema self.new.indexed now.met (marks_then now request.now)) }
         ensures unbuilt { result ≡ Err Unbuilt → is_indexed request.now ≡ false }
     {
         let answer = indexed_answer(

@@ -16,7 +16,7 @@ use Rattle.mega_index.specs.Finding.{found_in}
 use Rattle.mega_index.specs.Fits.{numbered}
 use Rattle.mega_index.specs.Rows.{Listed, Rows}
 use Rattle.mega_outcome.specs.declared.answer.Answer.{Answer}
-use Rattle.mega_outcome.specs.declared.answer.Answer.TheVariants.{Conflict}
+use Rattle.mega_outcome.specs.declared.answer.Answer.TheVariants.{Busy, Conflict, Refreshed, Worn}
 use Rattle.mega_outcome.specs.declared.answer.Batch.{Batch}
 use Rattle.mega_outcome.specs.declared.answer.Done.{Done}
 use Rattle.mega_outcome.specs.declared.answer.Mark.{Mark}
@@ -43,15 +43,19 @@ use Rattle.mega_rules.specs.Logs.{decided, groups_of, log_of, prefix_of}
 use Rattle.mega_rules.specs.Coordinators.{refused_at}
 use Rattle.mega_rules.specs.Met.{Met, Answers, Validates}
 use Rattle.mega_rules.specs.Queues.{Posted, enter_entry, is_named, names_entered, next_to_enter, next_to_handle, oldest_unhandled}
-use Rattle.mega_rules.specs.Operations.{Now, Operation, Phase, Promised, Proposes, Reads, Replies, Results, Setting}
-use Rattle.mega_rules.specs.Acting.{acts, acts_within, applied_logs, batch_sealed, begins_read, committed, completes_read, ends, enters, finishes, goes_on, handles, handling, in_phase, is_taken, leader_after, listed_at, picks_group, picks_message, proposes, proposes_by, read_answer, read_begun, reader_of, reads_on, rows_answer, rows_at, sealed, sends_more, table_rows, unless_decided, unless_full, validated_by, validates, verdict, visiting}
-use Rattle.mega_rules.specs.Steps.{Heard, acts_in_turn, all_act, begins, does_due, find_begins, is_out, last_answer, local_find_begins, read_begins, refusal, ticked, unless_busy, unless_missing, unless_refused}
-use Rattle.mega_core.specs.Unshown.{is_plain, is_refresh, is_unshown}
+use Rattle.mega_rules.specs.Members.{kind_of}
+use Rattle.mega_rules.specs.Operations.{Node, Now, Operation, Phase, Promised, Proposes, Reads, Replies, Results, Setting}
+use Rattle.mega_rules.specs.Acting.{acts, acts_within, applied_logs, applied_marks, batch_sealed, begins_read, committed, completes_read, ends, enters, finishes, goes_on, handles, handling, in_phase, is_taken, leader_after, listed_at, picks_group, picks_message, proposes, proposes_by, read_answer, read_begun, reader_of, reads_on, rows_answer, rows_at, sealed, sends_more, table_rows, unless_decided, unless_full, validated_by, validates, verdict, visiting}
+use Rattle.mega_rules.specs.Steps.{Heard, acts_in_turn, all_act, begins, does_due, find_begins, is_out, is_worn, last_answer, local_find_begins, missing_kind, onto, read_begins, refusal, ticked, unless_missing, unless_refused}
+use Rattle.mega_actions.specs.Indexing.{marks_then}
+use Rattle.mega_core.specs.Beginning.{marks_unless}
+use Rattle.mega_core.specs.Unshown.{is_plain, is_refresh, is_refused_plainly, is_unshown}
+use Rattle.mega_core.proofs.Unshown.{marks_after}
 
 -- ---- answers that are none of a refresh
 
 abbrev pub Quiet : Now → Type 0
-Quiet now = (list_all is_unshown now.answers ≡ true) × (list_all is_unshown now.valid ≡ true)
+Quiet now = list_all is_unshown now.answers ≡ true
 
 all_push : (xs : List Met) (x : Met) → list_all is_unshown xs ≡ true → is_unshown x ≡ true → list_all is_unshown (xs ++ x ∷ []) ≡ true
 all_push [] x all one = ap (λ (b : Bool). b && true) one
@@ -62,7 +66,7 @@ all_push (y ∷ xs) x all one = by (is_unshown y) all
     by false more = more
 
 ends_it : (now : Now) (op : OpId) (answer : Answer) → is_plain answer ≡ true → Quiet now → Quiet (ends now op answer)
-ends_it now op answer plain h = (all_push now.answers (Answers op answer) h.0 plain, h.1)
+ends_it now op answer plain h = all_push now.answers (Answers op answer) h plain
 
 committed_plain : (n : ℕ) (promised : Promised) → is_plain (committed n promised) ≡ true
 committed_plain n (Replies replies) = refl
@@ -137,7 +141,7 @@ module _ (s : Setting) where
   proposes_it now o group r p own promised h = proposes_by_it now o group r p own promised (leader_after s now group p) h
 
   validated_it : (now : Now) (group : GroupId) (p : ℕ) (refused : Option NotValid) → Quiet now → Quiet (validated_by now group p refused)
-  validated_it now group p None h = (h.0, all_push now.valid (Validates group p) h.1 refl)
+  validated_it now group p None h = h
   validated_it now group p (Some refused) h = h
 
   validates_it : (now : Now) (group : GroupId) (p : ℕ) (noted : Option Epoch) → Quiet now → Quiet (validates s now group p noted)
@@ -243,6 +247,36 @@ module _ (s : Setting) where
     begins_by now PumpHandle other h = picks_group_it (goes_on s) goes_on_it now (one id began visited message PumpHandle phase) [] (next_to_handle (applied_logs now)) h
     begins_by now Refresh other h = absurd (cc)
 
-  pub begun_it : (now : Now) (o : Operation) (refused : Option Answer) → ((answer : Answer) → refused ≡ Some answer → is_plain answer ≡ true) → (refused ≡ None → is_refresh o.request ≡ false) → Quiet now → Quiet (unless_refused s now o refused)
-  begun_it now o None plain other h = begins_by o.id o.began o.visited o.message o.phase now o.request (other refl) h
-  begun_it now o (Some answer) plain other h = ends_it now o.id answer (plain answer refl) h
+  -- ---- the marks that an operation leaves as it begins: a refresh those that are applied, and any other those that were
+  module _ (id : OpId) (began : ℕ) (visited : List GroupId) (message : Option Enter) (phase : Phase) where
+    quiet_marks : (now : Now) (request : Request) → now.answers ≡ [] → is_refresh request ≡ false → refreshed_marks (onto (begins s now (one id began visited message request phase)).answers now.met) ≡ refreshed_marks now.met
+    quiet_marks now request none other = marks_after (begins s now (one id began visited message request phase)).answers now.met (begins_by id began visited message phase now request other (ap (list_all is_unshown) none))
+
+    marks_by : (now : Now) (request : Request) → now.answers ≡ [] → refreshed_marks (onto (begins s now (one id began visited message request phase)).answers now.met) ≡ marks_then now request
+    marks_by now (Txn transaction) none = quiet_marks now (Txn transaction) none refl
+    marks_by now (BatchRequest group transactions) none = quiet_marks now (BatchRequest group transactions) none refl
+    marks_by now (ReadRequested request) none = quiet_marks now (ReadRequested request) none refl
+    marks_by now (Find request) none = quiet_marks now (Find request) none refl
+    marks_by now PumpEnter none = quiet_marks now PumpEnter none refl
+    marks_by now PumpHandle none = quiet_marks now PumpHandle none refl
+    marks_by now Refresh none = ap (λ (answers : List Met). refreshed_marks (onto (answers ++ Answers id (Refreshed (applied_marks now)) ∷ []) now.met)) none
+
+  pub begun_marks : (now : Now) (o : Operation) (refused : Option Answer) → is_refused_plainly refused ≡ true → now.answers ≡ []
+      → refreshed_marks (onto (unless_refused s now o refused).answers now.met) ≡ marks_unless now o.request refused
+  begun_marks now o None plain none = marks_by o.id o.began o.visited o.message o.phase now o.request none
+  begun_marks now o (Some answer) plain none = marks_after (now.answers ++ Answers o.id answer ∷ []) now.met (all_push now.answers (Answers o.id answer) (ap (list_all is_unshown) none) plain)
+
+  missing_plain : (open_ones : List Operation) (kind : Option NodeKind) → is_refused_plainly (unless_missing open_ones kind) ≡ true
+  missing_plain open_ones (Some kind) = refl
+  missing_plain open_ones None = by (nat_le 64 (length open_ones))
+    where
+      by : (b : Bool) → is_refused_plainly (cond b (Some (Busy 64)) None) ≡ true
+      by true = refl
+      by false = refl
+
+  pub refusal_plain : (node : Node) (request : Request) → is_refused_plainly (refusal s node request) ≡ true
+  refusal_plain node request = by (is_worn node.met)
+    where
+      by : (b : Bool) → is_refused_plainly (cond b (Some Worn) (unless_missing node.open_operations (missing_kind request (kind_of s.cluster s.me)))) ≡ true
+      by true = refl
+      by false = missing_plain node.open_operations (missing_kind request (kind_of s.cluster s.me))

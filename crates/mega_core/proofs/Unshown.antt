@@ -1,7 +1,8 @@
 -- What a node notes of its cell and its coordinator, and what it sends, leaves the marks that a find on a global index shows.
 use Rattle.std.proofs.Common.{◌≡◌, ℕ, ◌+◌, ◌==◌, nat_le, is_some, filter, Bool, true, false, cond, ◌&&◌, List, [], ◌∷◌, ◌++◌, flat_map, map, nat_lt, refl, sym, ap, ◌∙◌, subst}
 use Rattle.std.specs.Prelude.{Option, Some, None}
-use Rattle.std.specs.List.{list_all}
+use Rattle.std.specs.List.{All, list_all}
+use Rattle.std.proofs.lemmas.List.Elements.{All-head, All-tail}
 use Rattle.mega_base.specs.declared.names.Epoch.{Epoch}
 use Rattle.mega_wire.specs.declared.message.Body.{Body}
 use Rattle.mega_wire.specs.declared.message.Body.TheVariants.{Where, Top, Accept, Accepted, Refused, Prepare, Promise, Invalidate, Invalidated, Dead, Held, Unheld, Decide, Fetch, Have, HaveNot, Acquire, Granted, Past, Request, Reply}
@@ -15,12 +16,13 @@ use Rattle.mega_coordinator.specs.declared.answers.Counted.{Counted}
 use Rattle.mega_coordinator.specs.declared.answers.Counted.TheVariants.{No, Yes, Serving}
 use Rattle.mega_rules.specs.Met.{Met, Answers, Applies, Begins, Counts, Crashes, Decides, Forgets, Grants, Invalidates, Lapses, Loses, Sends, Serves, Starts, Takes, Ticks, Unsends, Validates}
 use Rattle.mega_rules.specs.Clock.{clock_of, start_of}
-use Rattle.mega_rules.specs.Logs.{groups_of}
+use Rattle.mega_leases.specs.Opening.{AreOwed, is_owed}
+use Rattle.mega_rules.specs.Logs.{groups_of, prefix_of}
 use Rattle.mega_rules.specs.Members.{cells, has_rows, is_full, keep_of}
 use Rattle.mega_rules.specs.Locks.{asked_for, cell_calls, grant_note, lapse_note, lapses_at}
 use Rattle.mega_rules.specs.Coordinators.{coordinator_calls, counts_notes, forget_notes, grant_notes, is_cell_in, lost_note, tick_notes, tick_told}
-use Rattle.mega_rules.specs.Steps.{Decision, Step, apply_note, apply_notes, applied_at, decision_note, lapse_notes, lease_notes, onto, step_of, told_notes}
-use Rattle.mega_rules.specs.Operations.{Node, Now, Setting}
+use Rattle.mega_rules.specs.Steps.{Decision, apply_note, apply_notes, applied_at, decision_note, lapse_notes, lease_notes, onto, start, start_note, start_notes, told_notes}
+use Rattle.mega_rules.specs.Operations.{Node, Setting}
 use Rattle.mega_base.specs.declared.names.GroupId.{GroupId}
 use Rattle.mega_base.specs.declared.names.OpId.{OpId}
 use Rattle.mega_outcome.specs.declared.answer.Answer.{Answer}
@@ -32,6 +34,7 @@ use Rattle.mega_schema.specs.declared.schema.Schema.{Schema}
 use Rattle.mega_marks.specs.declared.indexed.Indexed.{Indexed}
 use Rattle.mega_marks.specs.AreMarked.{AreMarked, IsIndexed}
 use Rattle.mega_marks.proofs.Growing.{marked_after}
+use Rattle.mega_core.specs.Acted.{IsValidate}
 use Rattle.mega_core.specs.Unshown.{is_plain, is_unshown}
 
 all_both : (a b : List Met) → list_all is_unshown a ≡ true → list_all is_unshown b ≡ true → list_all is_unshown (a ++ b) ≡ true
@@ -183,25 +186,77 @@ marks_after (one ∷ items) met h = by (is_unshown one) refl h
     by true is more = marks_after items (one ∷ met) more ∙ one_stays one met is
     by false is more = absurd (cc)
 
--- ---- a step whose operations answer no refresh
+-- ---- the marks beside what else a step notes
 
-pub step_indexed : (s : Setting) (schema : Schema) (indexed : Indexed) (node : Node) (own : Met) (locks durable : List Met) (sends : List Message) (now : Now)
-    → is_unshown own ≡ true → list_all is_unshown locks ≡ true → list_all is_unshown durable ≡ true → (list_all is_unshown now.answers ≡ true) × (list_all is_unshown now.valid ≡ true)
-    → IsIndexed schema indexed node.met → IsIndexed schema indexed (step_of node own locks durable (apply_notes s node.met node.stored now.met now.stored) sends now).node.met
-step_indexed s schema indexed node own locks durable sends now own_is locks_are durable_are quiet are =
-    subst (AreMarked schema indexed (onto (map Sends sends) (onto notes (own ∷ node.met))))
-    (sym (marks_after (map Sends sends) (onto notes (own ∷ node.met)) (sends_unshown sends) ∙ marks_after notes (own ∷ node.met) notes_are ∙ one_stays own node.met own_is))
-    (marked_after schema indexed (map Sends sends) (onto notes (own ∷ node.met)) (refreshed_marks node.met)
-    (marked_after schema indexed notes (own ∷ node.met) (refreshed_marks node.met) (marked_after schema indexed (own ∷ []) node.met (refreshed_marks node.met) are)))
+-- the same answers onto what leaves the same marks leave the same marks
+marks_alike : (items one two : List Met) → refreshed_marks one ≡ refreshed_marks two → refreshed_marks (onto items one) ≡ refreshed_marks (onto items two)
+marks_alike [] one two same = same
+marks_alike (item ∷ items) one two same = marks_alike items (item ∷ one) (item ∷ two) (more item)
   where
-    abbrev applies : List Met
-    applies = apply_notes s node.met node.stored now.met now.stored
+    more : (item : Met) → refreshed_marks (item ∷ one) ≡ refreshed_marks (item ∷ two)
+    more (Starts start) = refl
+    more (Answers op answer) = ap (marks_shown answer) same
+    more _ = same
 
-    abbrev notes : List Met
-    notes = (((locks ++ durable) ++ applies) ++ now.valid) ++ now.answers
+pub validates_unshown : (valid : List Met) → All IsValidate valid → list_all is_unshown valid ≡ true
+validates_unshown [] all = refl
+validates_unshown (Validates group position ∷ valid) all = validates_unshown valid (All-tail IsValidate (Validates group position) valid all)
+validates_unshown (_ ∷ valid) all = absurd (All-head IsValidate _ valid all)
 
-    notes_are : list_all is_unshown notes ≡ true
-    notes_are =
-        all_both (((locks ++ durable) ++ applies) ++ now.valid) now.answers
-        (all_both ((locks ++ durable) ++ applies) now.valid
-        (all_both (locks ++ durable) applies (all_both locks durable locks_are durable_are) (applies_unshown s node.met node.stored now.met now.stored)) quiet.1) quiet.0
+-- where the operations answered no refresh the marks are those before the step
+pub acted_marked : (schema : Schema) (indexed : Indexed) (node : Node) (own : Met) (locks durable answers : List Met)
+    → is_unshown own ≡ true → list_all is_unshown locks ≡ true → list_all is_unshown durable ≡ true → list_all is_unshown answers ≡ true
+    → IsIndexed schema indexed node.met → AreMarked schema indexed (onto durable (onto locks (own ∷ node.met))) (refreshed_marks (onto answers (onto durable (onto locks (own ∷ node.met)))))
+acted_marked schema indexed node own locks durable answers own_is locks_are durable_are answers_are marked =
+    subst (AreMarked schema indexed base) (sym marks_are)
+    (marked_after schema indexed durable (onto locks (own ∷ node.met)) (refreshed_marks node.met)
+    (marked_after schema indexed locks (own ∷ node.met) (refreshed_marks node.met) (marked_after schema indexed (own ∷ []) node.met (refreshed_marks node.met) marked)))
+  where
+    base : List Met
+    base = onto durable (onto locks (own ∷ node.met))
+
+    marks_are : refreshed_marks (onto answers base) ≡ refreshed_marks node.met
+    marks_are = marks_after answers base answers_are ∙ (marks_after durable (onto locks (own ∷ node.met)) durable_are ∙ (marks_after locks (own ∷ node.met) locks_are ∙ one_stays own node.met own_is))
+
+-- and at the end of the step they are those that the answers leave
+pub ended_marked : (schema : Schema) (indexed : Indexed) (base applies valid answers : List Met) (sends : List Message)
+    → list_all is_unshown applies ≡ true → list_all is_unshown valid ≡ true → AreMarked schema indexed base (refreshed_marks (onto answers base))
+    → IsIndexed schema indexed (onto (map Sends sends) (onto answers (onto valid (onto applies base))))
+ended_marked schema indexed base applies valid answers sends applies_are valid_are marked =
+    subst (AreMarked schema indexed (onto (map Sends sends) noted)) (sym marks_are)
+    (marked_after schema indexed (map Sends sends) noted marks
+    (marked_after schema indexed answers (onto valid (onto applies base)) marks
+    (marked_after schema indexed valid (onto applies base) marks (marked_after schema indexed applies base marks marked))))
+  where
+    noted : List Met
+    noted = onto answers (onto valid (onto applies base))
+
+    marks : List Mark
+    marks = refreshed_marks (onto answers base)
+
+    marks_are : refreshed_marks (onto (map Sends sends) noted) ≡ marks
+    marks_are = marks_after (map Sends sends) noted (sends_unshown sends) ∙ marks_alike answers (onto valid (onto applies base)) base (marks_after valid (onto applies base) valid_are ∙ marks_after applies base applies_are)
+
+-- ---- a start forgets the marks
+
+pub owed_unshown : (owed met : List Met) → AreOwed owed met → list_all is_unshown owed ≡ true
+owed_unshown [] met are = refl
+owed_unshown (Lapses node epoch ∷ owed) met are = owed_unshown owed (Lapses node epoch ∷ met) are.1
+owed_unshown (item ∷ owed) met are = all_both (item ∷ []) owed (ap (λ (b : Bool). b && true) (owed_shows item are.0)) (owed_unshown owed (item ∷ met) are.1)
+  where
+    owed_shows : (item : Met) → is_owed item ≡ true → is_unshown item ≡ true
+    owed_shows (Starts start) is = absurd (cc)
+    owed_shows (Answers op answer) is = absurd (cc)
+    owed_shows _ is = refl
+
+notes_unshown : (s : Setting) (met : List Met) → list_all is_unshown (start_notes s met) ≡ true
+notes_unshown s met = where_so (has_rows s.cluster s.me) (flat_map (start_note met) (groups_of met)) (each (groups_of met))
+  where
+    each : (groups : List GroupId) → list_all is_unshown (flat_map (start_note met) groups) ≡ true
+    each [] = refl
+    each (group ∷ groups) = all_both (start_note met group) (flat_map (start_note met) groups) (where_so (nat_lt 0 (prefix_of met group)) (Applies group (prefix_of met group) ∷ []) refl) (each groups)
+
+pub started_marks : (s : Setting) (number : ℕ) (owed met : List Met) → AreOwed owed met → refreshed_marks (start s number owed met).met ≡ []
+started_marks s number owed met are =
+    marks_after (owed ++ start_notes s (onto owed (Starts number ∷ met))) (Starts number ∷ met)
+    (all_both owed (start_notes s (onto owed (Starts number ∷ met))) (owed_unshown owed met are) (notes_unshown s (onto owed (Starts number ∷ met))))

@@ -1,5 +1,5 @@
 -- What leaves the marks that a find on a global index shows as they are: all but a start, and the answer of a refresh.
-use Rattle.std.specs.Prelude.{Bool, true, false, not}
+use Rattle.std.specs.Prelude.{Bool, true, false, Option, Some, None}
 use Rattle.mega_outcome.specs.declared.answer.Answer.{Answer}
 use Rattle.mega_outcome.specs.declared.answer.Answer.TheVariants.{Refreshed}
 use Rattle.mega_outcome.specs.declared.request.Request.{Request}
@@ -18,3 +18,8 @@ is_unshown _ = true
 abbrev pub is_refresh : Request → Bool
 is_refresh Refresh = true
 is_refresh _ = false
+
+-- where an operation is refused, that is no answer of a refresh
+abbrev pub is_refused_plainly : Option Answer → Bool
+is_refused_plainly None = true
+is_refused_plainly (Some answer) = is_plain answer

@@ -76,13 +76,14 @@ impl<R: Records + Drop, V: Versions + Drop> Node<R, V> {
         let voter = voter_of(alloc, logs)?;
         let leases = leases_of(alloc, members.cluster(), me);
         let rows = StoredRows::new(alloc, rows);
+        let indexed = Indexed::new(alloc);
         let replica = Replica {
             members,
             me,
             voter,
             leases,
             rows,
-            indexed: Indexed::new(alloc),
+            indexed,
         };
         Ok(Node {
             replica,

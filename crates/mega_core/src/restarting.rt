@@ -233,13 +233,14 @@ impl<R: Records + Drop, V: Versions + Drop> Node<R, V> {
         let mut rows = StoredRows::new(alloc, rows);
         let leases = leases(alloc, members.cluster(), me, start, &voter);
         let notes = apply_where_kept(alloc, members.cluster(), me, &voter, &mut rows)?;
+        let indexed = Indexed::new(alloc);
         let replica = Replica {
             members,
             me,
             voter,
             leases,
             rows,
-            indexed: Indexed::new(alloc),
+            indexed,
         };
         Ok(Restarted {
             node: Node {
