@@ -99,7 +99,6 @@ impl<R: Records, V: Versions> Node<R, V> {
         ensures members { self.new.replica.members ≡ self.old.replica.members }
         ensures me { self.new.replica.me ≡ self.old.replica.me }
         ensures rows { self.new.replica.rows ≡ self.old.replica.rows }
-        ensures indexed { self.new.replica.indexed ≡ self.old.replica.indexed }
     {
         let applies = apply_notes(alloc, &self.replica.voter, &self.replica.rows, before)?;
         let Work {
