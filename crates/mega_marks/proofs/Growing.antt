@@ -1,22 +1,17 @@
 -- What a node meets later leaves what its indexes have at their marks.
-use Rattle.std.proofs.Common.{◌≡◌, ℕ, ◌≤◌, Bool, true, false, ◌&&◌, List, [], ◌∷◌, ◌++◌, length, take, map, refl, sym, ap, ◌∙◌, subst, arith}
-use Rattle.std.specs.List.{list_all}
+use Rattle.std.proofs.Common.{◌≡◌, ◌≤◌, List, [], ◌∷◌, take, map, refl, sym, ap, ◌∙◌, arith}
 use Rattle.std.proofs.lemmas.List.{take-append-le}
-use Rattle.mega_base.specs.declared.names.GroupId.{GroupId}
 use Rattle.mega_schema.specs.declared.schema.Schema.{Schema}
 use Rattle.mega_entry.specs.declared.content.Content.{Content}
-use Rattle.mega_index.specs.Marks.{Marked, Marks}
 use Rattle.mega_index.specs.Rows.{list_after}
-use Rattle.mega_outcome.specs.declared.answer.Answer.{Answer}
 use Rattle.mega_outcome.specs.declared.answer.Mark.{Mark}
-use Rattle.mega_rules.specs.Finding.{refreshed_marks, rows_through}
 use Rattle.mega_rules.specs.Logs.{log_of, prefix_of}
 use Rattle.mega_rules.specs.Met.{Met}
 use Rattle.mega_rules.specs.Steps.{onto}
 use Rattle.mega_node_laws.proofs.Logs.{log_more, prefix_grows}
 use Rattle.mega_marks.specs.declared.indexed.Indexed.{Indexed}
 use Rattle.mega_marks.specs.Marked.{AreWithin, marked_at}
-use Rattle.mega_marks.specs.AreMarked.{AreMarked, IsIndexed}
+use Rattle.mega_marks.specs.AreMarked.{AreMarked}
 
 within_grows : (one : Met) (met : List Met) (marks : List Mark) → AreWithin met marks → AreWithin (one ∷ met) marks
 within_grows one met [] within = tt
@@ -33,9 +28,11 @@ marks_stay one met (mark ∷ marks) within = (λ i. mark_stays one met mark with
 
 marked_more : (schema : Schema) (indexed : Indexed) (one : Met) (met : List Met) (marks : List Mark) → AreMarked schema indexed met marks → AreMarked schema indexed (one ∷ met) marks
 marked_more schema indexed one met marks are = record {
-  kept = are.kept;
-  within = within_grows one met marks are.within;
-  marked = are.marked ∙ sym (marks_stay one met marks are.within);
+  at = record {
+    kept = are.at.kept;
+    within = within_grows one met marks are.at.within;
+    marked = are.at.marked ∙ sym (marks_stay one met marks are.at.within);
+  };
   shown = are.shown;
 }
 

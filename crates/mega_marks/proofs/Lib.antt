@@ -1,3 +1,6 @@
+mod Left
 mod Taking
-mod Moving
+mod Applied
+mod Onward
+mod Found
 pub mod Growing

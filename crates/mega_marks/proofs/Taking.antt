@@ -1,5 +1,5 @@
--- The first entries of a log, one more.
-use Rattle.std.proofs.Common.{◌≡◌, ℕ, zero, suc, ◌+◌, ◌-◌, ◌<◌, ◌≤◌, List, [], ◌∷◌, ◌++◌, length, take, refl, sym, ap, ◌∙◌, arith, Option, Some, None}
+-- The first entries of a log.
+use Rattle.std.proofs.Common.{◌≡◌, ℕ, zero, suc, ◌+◌, ◌-◌, ◌<◌, ◌≤◌, List, [], ◌∷◌, ◌++◌, length, take, refl, ap, ◌∙◌, arith, Option}
 use Rattle.std.specs.Prelude.{slice_get}
 use Rattle.mega_base.specs.declared.names.GroupId.{GroupId}
 use Rattle.mega_entry.specs.declared.content.Content.{Content}
@@ -7,6 +7,11 @@ use Rattle.mega_rules.specs.Logs.{decided, log_of, prefix_of}
 use Rattle.mega_rules.specs.Met.{Met}
 use Rattle.mega_voter.proofs.Prefixes.{entry_is}
 use Rattle.mega_marks.specs.Marked.{some_of}
+
+pub shorter : {A : Type 0} (n : ℕ) (xs : List A) → n ≤ length xs → length (take n xs) ≡ n
+shorter zero xs le = refl
+shorter (suc n) [] le = absurd (omega (arith, le))
+shorter (suc n) (x ∷ xs) le = ap suc (shorter n xs (omega (arith, le)))
 
 take_one : (xs : List Content) (n : ℕ) → take (suc n) xs ≡ take n xs ++ some_of (slice_get xs n)
 take_one [] zero = refl

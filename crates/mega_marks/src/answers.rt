@@ -47,10 +47,7 @@ fn turned(place: u64) -> Result<Answer, NoMemory>
 }
 
 /// The answer of a find, at these marks: what is found, or that a value does not fit.
-pub fn find_answer(
-    marks: Items<Mark>,
-    found: Result<Items<Found>, u64>,
-) -> Result<Answer, NoMemory>
+pub fn find_answer(marks: Items<Mark>, found: Result<Items<Found>, u64>) -> Result<Answer, NoMemory>
     ensures { IfOk result (λ answer. answer ≡ find_answer marks found) }
 {
     match found {

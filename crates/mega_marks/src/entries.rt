@@ -1,4 +1,4 @@
-//! The first entries of a group's log.
+//! Entries of a group's log.
 ghost use Rattle.std.specs.Prelude.{◌≡◌, ◌++◌, ◌≤◌, List, take, IfOk, OnOk};
 ghost use Rattle.std.specs.Option.{option_copied};
 ghost use Rattle.mega_rules.specs.Logs.{log_of, prefix_of};
@@ -22,18 +22,24 @@ fn add(alloc: Global, entries: &mut Vec<Entry>, entry: Option<&Entry>) -> Result
     Ok(())
 }
 
-/// The entries of a group's log through a position that is decided; each is shared.
-pub fn entries_through<R: Records>(
+/// The entries of a group's log that follow a position, through one that is decided; each is shared.
+pub fn entries_between<R: Records>(
     alloc: Global,
     voter: &Voter<R>,
     group: &GroupId,
+    from: u64,
     through: u64,
 ) -> Result<Vec<Entry>, NoMemory>
-    ensures { IfOk result (λ entries. (met : List Met) → Tells voter.now.logs.kept met → through ≤ prefix_of met group.now → entries.items ≡ take through (log_of met group.now)) }
+    ensures { IfOk result (λ entries. (met : List Met) → Tells voter.now.logs.kept met → from ≤ through → through ≤ prefix_of met group.now →
+        take from (log_of met group.now) ++ entries.items ≡ take through (log_of met group.now)) }
 {
     let mut entries = Vec::new(alloc);
-    for before in 0..through {
-        add(alloc, &mut entries, voter.decided(group, Position(before + 1)))?;
+    for before in from..through {
+        add(
+            alloc,
+            &mut entries,
+            voter.decided(group, Position(before + 1)),
+        )?;
     }
     Ok(entries)
 }

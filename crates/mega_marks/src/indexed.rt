@@ -1,8 +1,8 @@
 //! The global indexes of a node, and the marks to which they were brought.
-ghost use Rattle.std.specs.Prelude.{◌≡◌, ◌++◌, ◌≤◌, [], List, IfOk, OnOk};
+ghost use Rattle.std.specs.Prelude.{◌≡◌, [], List, IfOk, OnOk};
 ghost use Rattle.mega_rules.specs.Acting.{applied_marks};
-ghost use Rattle.mega_rules.specs.Finding.{global_found, mark_at, refreshed_marks};
-ghost use Rattle.mega_rules.specs.Logs.{log_of, prefix_of};
+ghost use Rattle.mega_rules.specs.Finding.{global_found, refreshed_marks};
+ghost use Rattle.mega_rules.specs.Logs.{log_of};
 ghost use Rattle.mega_rules.specs.Met.{Met};
 ghost use Rattle.mega_rules.specs.Operations.{Now};
 ghost use Rattle.mega_schema.specs.declared.schema.Schema.{Schema as SchemaSeen};
@@ -10,12 +10,11 @@ ghost use Rattle.mega_outcome.specs.declared.answer.Mark.{Mark as MarkSeen};
 ghost use Rattle.mega_replica.specs.Following.{Follows, progress_at};
 ghost use Rattle.mega_voter.specs.Telling.{Tells};
 ghost use Rattle.mega_view.specs.Small.{IsSmall};
-ghost use Rattle.mega_marks.specs.Marked.{AllBefore};
-ghost use Rattle.mega_marks.specs.AreMarked.{AreMarked, IsIndexed};
+ghost use Rattle.mega_marks.specs.AreMarked.{AreMarked, IsIndexed, MayMove};
 
 use crate::answers::{copied, find_answer};
-use crate::entries::entries_through;
-use mega_base::{GroupId, Items, NoMemory, Position};
+use crate::moving::{all_move, applied_marks, lead_to};
+use mega_base::{Items, NoMemory};
 use mega_disk::{Records, Versions};
 use mega_index::GlobalIndex;
 use mega_outcome::{Answer, FindRequest, Mark};
@@ -44,51 +43,16 @@ impl Indexed {
         }
     }
 
-    /// Brings a group, which stands behind those that were brought, to a position that is applied.
-    fn adds<R: Records>(
-        &mut self,
-        alloc: Global,
-        schema: &Schema,
-        voter: &Voter<R>,
-        group: GroupId,
-        applied: u64,
-    ) -> Result<(), NoMemory>
-        ensures { OnOk result ((met : List Met) (marks : List MarkSeen) → Tells voter.now.logs.kept met → applied ≤ prefix_of met group → AllBefore group marks →
-            AreMarked schema.now self.old met marks → AreMarked schema.now self.new met (marks ++ mark_at group applied)) }
+    /// Begins anew where the marks may not move on to these.
+    fn leads_to(&mut self, alloc: Global, marks: &[Mark])
+        ensures { (schema : SchemaSeen) (met : List Met) (old : List MarkSeen) → AreMarked schema self.old met old → MayMove schema (self.new.index) met marks.now }
     {
-        if applied == 0 {
-            return Ok(());
+        if !lead_to(self.marks.as_slice(), marks) {
+            *self = Indexed::new(alloc);
         }
-        let entries = entries_through(alloc, voter, &group, applied)?;
-        match self.index.refresh(alloc, schema, &group, entries.as_slice()) {
-            Ok(()) => {}
-            Err(_) => return Err(NoMemory),
-        }
-        let position = Position(applied);
-        self.marks.push(Mark { group, position })?;
-        Ok(())
     }
 
-    /// The indexes of a node over its logs, each group brought to what is applied of it.
-    fn applied<R: Records, V: Versions>(
-        alloc: Global,
-        schema: &Schema,
-        voter: &Voter<R>,
-        rows: &StoredRows<V>,
-    ) -> Result<Indexed, NoMemory>
-        ensures { IfOk result (λ made. (now : Now) → Tells voter.now.logs.kept now.met → Follows (V.version rows.now.rows) (progress_at rows.now.progress) (log_of now.met) now.stored →
-            AreMarked schema.now made now.met (applied_marks now)) }
-    {
-        let mut made = Indexed::new(alloc);
-        let groups = voter.groups(alloc)?;
-        for group in groups {
-            let applied = rows.applied(&group, &voter.logs).0;
-            made.adds(alloc, schema, voter, group, applied)?;
-        }
-        Ok(made)
-    }
-
-    /// Brings each group to what is applied of it, and gives the marks.
+    /// Brings each group to what is applied of it, and gives the marks. Only the entries behind the old marks are read.
     pub fn refresh<R: Records, V: Versions>(
         &mut self,
         alloc: Global,
@@ -99,12 +63,14 @@ impl Indexed {
         ensures marks { IfOk result (λ marks. (now : Now) → Tells voter.now.logs.kept now.met → Follows (V.version rows.now.rows) (progress_at rows.now.progress) (log_of now.met) now.stored →
             marks ≡ applied_marks now) }
         ensures marked { OnOk result ((now : Now) → Tells voter.now.logs.kept now.met → Follows (V.version rows.now.rows) (progress_at rows.now.progress) (log_of now.met) now.stored →
-            AreMarked schema.now self.new now.met (applied_marks now)) }
+            IsIndexed schema.now self.old now.met → AreMarked schema.now self.new now.met (applied_marks now)) }
     {
-        let made = Indexed::applied(alloc, schema, voter, rows)?;
-        let marks = copied(alloc, made.marks.as_slice())?;
-        *self = made;
-        Ok(marks)
+        let marks = applied_marks(alloc, voter, rows)?;
+        self.leads_to(alloc, marks.as_slice());
+        all_move(alloc, schema, voter, &mut self.index, marks.as_slice())?;
+        let shown = copied(alloc, marks.as_slice())?;
+        self.marks = marks;
+        Ok(shown)
     }
 
     /// The answer of a find in no group: what its index has at the marks.

@@ -4,6 +4,7 @@
 mod answers;
 mod entries;
 mod indexed;
+mod moving;
 
 pub use answers::{find_answer, mark_at};
 pub use indexed::Indexed;
