@@ -10,3 +10,4 @@ pub mod Sees
 pub mod Coming
 pub mod Showing
 pub mod Turns
+pub mod Indexing

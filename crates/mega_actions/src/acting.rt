@@ -13,7 +13,7 @@ ghost use Rattle.mega_read.specs.Catching.{seeks};
 ghost use Rattle.mega_replica.specs.Faring.{Fares};
 ghost use Rattle.mega_actions.specs.declared.fault.ActFault.TheVariants.{NoMemory as OutOfMemory, Unbuilt};
 ghost use Rattle.mega_voter.specs.Telling.{Tells};
-ghost use Rattle.mega_actions.specs.Built.{is_built};
+ghost use Rattle.mega_actions.specs.Built.{is_open};
 ghost use Rattle.mega_actions.specs.Faults.{failed_by};
 ghost use Rattle.mega_actions.specs.IsAt.{IsAt, setting_of};
 ghost use Rattle.mega_actions.specs.Deeds.{does};
@@ -139,7 +139,8 @@ impl<R: Records, V: Versions> Replica<R, V> {
         ensures members { self.new.members ≡ self.old.members }
         ensures me { self.new.me ≡ self.old.me }
         ensures voter { self.new.voter ≡ self.old.voter }
-        ensures unbuilt { result ≡ Err Unbuilt → is_built reached.kept.request ≡ false }
+        ensures indexed { self.new.indexed ≡ self.old.indexed }
+        ensures unbuilt { result ≡ Err Unbuilt → is_open reached.kept.request ≡ false }
     {
         match reads_through(
             alloc,
@@ -190,7 +191,8 @@ impl<R: Records, V: Versions> Replica<R, V> {
         ensures members { self.new.members ≡ self.old.members }
         ensures me { self.new.me ≡ self.old.me }
         ensures voter { self.new.voter ≡ self.old.voter }
-        ensures unbuilt { result ≡ Err Unbuilt → is_built operation.request ≡ false }
+        ensures indexed { self.new.indexed ≡ self.old.indexed }
+        ensures unbuilt { result ≡ Err Unbuilt → is_open operation.request ≡ false }
     {
         let (kept, phase) = operation.parts();
         match phase {
@@ -241,7 +243,8 @@ impl<R: Records, V: Versions> Replica<R, V> {
         ensures members { self.new.members ≡ self.old.members }
         ensures me { self.new.me ≡ self.old.me }
         ensures voter { self.new.voter ≡ self.old.voter }
-        ensures unbuilt { result ≡ Err Unbuilt → is_built kept.request ≡ false }
+        ensures indexed { self.new.indexed ≡ self.old.indexed }
+        ensures unbuilt { result ≡ Err Unbuilt → is_open kept.request ≡ false }
     {
         let Some(through) = reading.through_of() else {
             let operation = kept.in_phase(Phase::Reads { group, reading });

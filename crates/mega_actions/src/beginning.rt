@@ -11,15 +11,18 @@ ghost use Rattle.mega_rules.specs.Steps.{begins, new_operation};
 ghost use Rattle.mega_replica.specs.Faring.{Fares};
 ghost use Rattle.mega_voter.specs.Telling.{Tells};
 ghost use Rattle.mega_actions.specs.declared.fault.ActFault.TheVariants.{Unbuilt};
-ghost use Rattle.mega_actions.specs.Built.{is_at_once, is_built};
+ghost use Rattle.mega_actions.specs.Built.{is_at_once, is_built, is_indexed, is_open};
+ghost use Rattle.mega_actions.specs.Indexing.{marks_then};
+ghost use Rattle.mega_marks.specs.AreMarked.{AreMarked, IsIndexed};
 ghost use Rattle.mega_actions.specs.Faults.{failed_by};
 ghost use Rattle.mega_actions.specs.IsAt.{IsAt, setting_of};
 ghost use Rattle.mega_actions.specs.Stands.{setting};
 ghost use Rattle.mega_actions.specs.Working.{work_of};
 
-use crate::answering::{answer_now, group_asked, is_at_once};
+use crate::answering::{answer_now, group_asked, is_at_once, is_indexed};
 use crate::deed::{Deed, End};
 use crate::fault::ActFault;
+use crate::indexing::indexed_answer;
 use crate::replica::Replica;
 use crate::work::Work;
 use mega_base::{Copied, GroupId, Items, NoMemory, OpId};
@@ -56,9 +59,9 @@ fn read_begun<R: Records>(
 
 /// The group that a request reads and writes, where it is served.
 fn group_of(alloc: Global, request: &Request) -> Result<GroupId, ActFault>
-    ensures group { IfOk result (λ group. (is_built request.now ≡ true) × IsOf request.now group) }
+    ensures group { IfOk result (λ group. (is_open request.now ≡ true) × IsOf request.now group) }
     ensures apart { failed_by result ≡ None }
-    ensures unbuilt { result ≡ Err Unbuilt → is_built request.now ≡ false }
+    ensures unbuilt { result ≡ Err Unbuilt → is_open request.now ≡ false }
 {
     match request {
         Request::Txn(txn) => Ok(txn.group.copy(alloc)?),
@@ -87,8 +90,8 @@ struct FirstRead {
 }
 
 impl<R: Records, V: Versions> Replica<R, V> {
-    /// A request begins: a read or find that asks for no current rows is answered at once; any other reads its group, and goes on in the same
-    /// step where that read is local.
+    /// A request begins: a find in no group, a refresh, and a read or find that asks for no current rows are answered
+    /// at once; any other reads its group, and goes on in the same step where that read is local.
     #[tactic(auto, using(mega_replica::proofs::Fared::fares_here, crate::proofs::Refused::fares_apart))]
     pub fn begins<H: QueueHandlers>(
         &mut self,
@@ -103,15 +106,30 @@ impl<R: Records, V: Versions> Replica<R, V> {
             IsAt V.version h self.new
             (begins (setting_of self.old h) now (new_operation op request (clock_of now.met))).met (begins (setting_of self.old h) now (new_operation op request (clock_of now.met))).stored) }
         ensures work { OnOk result ((h : Meanings) (now : Now) → V.is_told ≡ true → Means (H.meant handlers.old) h →
-            IsAt V.version h self.old now.met now.stored →
+            IsAt V.version h self.old now.met now.stored → IsIndexed (self.old.members).schema self.old.indexed now.met →
             work.old ≡ work_of now → work.new ≡ work_of (begins (setting_of self.old h) now (new_operation op request (clock_of now.met)))) }
         ensures handlers { H.meant handlers.new ≡ H.meant handlers.old }
         ensures fares { Fares V.Versions (failed_by result) self.old.rows.rows self.new.rows.rows }
         ensures members { self.new.members ≡ self.old.members }
         ensures me { self.new.me ≡ self.old.me }
         ensures voter { self.new.voter ≡ self.old.voter }
+        ensures indexed { OnOk result ((h : Meanings) (now : Now) → V.is_told ≡ true →
+            IsAt V.version h self.old now.met now.stored → IsIndexed (self.old.members).schema self.old.indexed now.met →
+            AreMarked (self.old.members).schema self.new.indexed now.met (marks_then now request)) }
         ensures unbuilt { result ≡ Err Unbuilt → is_built request ≡ false }
     {
+        if is_indexed(&request) {
+            match self.answers_indexed(alloc, work, op, &request) {
+                Ok(()) => {
+                    drop(request);
+                    return Ok(());
+                }
+                Err(fault) => {
+                    drop(request);
+                    return Err(fault);
+                }
+            }
+        }
         if is_at_once(&request) {
             match self.answers_now(alloc, work, op, &request) {
                 Ok(()) => {
@@ -125,6 +143,45 @@ impl<R: Records, V: Versions> Replica<R, V> {
             }
         }
         self.begins_read(alloc, handlers, work, op, request)?;
+        Ok(())
+    }
+
+    /// An operation that the global indexes answer.
+    fn answers_indexed(
+        &mut self,
+        alloc: Global,
+        work: &mut Work,
+        op: OpId,
+        request: &Request,
+    ) -> Result<(), ActFault>
+        ensures state { OnOk result ((h : Meanings) (now : Now) → V.is_told ≡ true → is_indexed request.now ≡ true →
+            IsAt V.version h self.old now.met now.stored →
+            IsAt V.version h self.new
+            (begins (setting_of self.old h) now (new_operation op request.now (clock_of now.met))).met (begins (setting_of self.old h) now (new_operation op request.now (clock_of now.met))).stored) }
+        ensures work { OnOk result ((h : Meanings) (now : Now) → V.is_told ≡ true → is_indexed request.now ≡ true →
+            IsAt V.version h self.old now.met now.stored → IsIndexed (self.old.members).schema self.old.indexed now.met →
+            work.old ≡ work_of now → work.new ≡ work_of (begins (setting_of self.old h) now (new_operation op request.now (clock_of now.met)))) }
+        ensures fares { Fares V.Versions (failed_by result) self.old.rows.rows self.new.rows.rows }
+        ensures members { self.new.members ≡ self.old.members }
+        ensures me { self.new.me ≡ self.old.me }
+        ensures voter { self.new.voter ≡ self.old.voter }
+        ensures indexed { OnOk result ((h : Meanings) (now : Now) → V.is_told ≡ true → is_indexed request.now ≡ true →
+            IsAt V.version h self.old now.met now.stored → IsIndexed (self.old.members).schema self.old.indexed now.met →
+            AreMarked (self.old.members).schema self.new.indexed now.met (marks_then now request.now)) }
+        ensures unbuilt { result ≡ Err Unbuilt → is_indexed request.now ≡ false }
+    {
+        let answer = indexed_answer(
+            alloc,
+            &self.members,
+            &self.voter,
+            &self.rows,
+            &mut self.indexed,
+            request,
+        )?;
+        work.does(Deed {
+            sends: None,
+            end: End::Ends(op, answer),
+        })?;
         Ok(())
     }
 
@@ -147,6 +204,7 @@ impl<R: Records, V: Versions> Replica<R, V> {
         ensures members { self.new.members ≡ self.old.members }
         ensures me { self.new.me ≡ self.old.me }
         ensures voter { self.new.voter ≡ self.old.voter }
+        ensures indexed { self.new.indexed ≡ self.old.indexed }
         ensures unbuilt { result ≡ Err Unbuilt → is_at_once request.now ≡ false }
     {
         let answer = answer_now(alloc, &self.members, &self.voter, &mut self.rows, request)?;
@@ -179,7 +237,8 @@ impl<R: Records, V: Versions> Replica<R, V> {
         ensures members { self.new.members ≡ self.old.members }
         ensures me { self.new.me ≡ self.old.me }
         ensures voter { self.new.voter ≡ self.old.voter }
-        ensures unbuilt { result ≡ Err Unbuilt → is_built request ≡ false }
+        ensures indexed { self.new.indexed ≡ self.old.indexed }
+        ensures unbuilt { result ≡ Err Unbuilt → is_open request ≡ false }
     {
         match self.first_read(alloc, op, &request) {
             Ok(first) => {
@@ -212,9 +271,9 @@ impl<R: Records, V: Versions> Replica<R, V> {
         ensures read { IfOk result (λ first. (h : Meanings) (now : Now) (o : Open) → o.id ≡ op → o.visited ≡ [] → Tells self.now.voter.logs.kept now.met →
             TellsLeases self.now.members self.now.me self.now.leases now.met → first.made ≡ read_begun (setting_of self.now h) now o first.group []) }
         ensures visited { IfOk result (λ first. first.visited ≡ first.group ∷ []) }
-        ensures group { IfOk result (λ first. (is_built request.now ≡ true) × IsOf request.now first.group) }
+        ensures group { IfOk result (λ first. (is_open request.now ≡ true) × IsOf request.now first.group) }
         ensures apart { failed_by result ≡ None }
-        ensures unbuilt { result ≡ Err Unbuilt → is_built request.now ≡ false }
+        ensures unbuilt { result ≡ Err Unbuilt → is_open request.now ≡ false }
     {
         let group = group_of(alloc, request)?;
         let visited = visited_by(alloc, &group)?;

@@ -15,7 +15,7 @@ ghost use Rattle.mega_replica.specs.Following.{Follows, progress_at};
 ghost use Rattle.mega_voter.specs.Telling.{Tells};
 ghost use Rattle.mega_actions.specs.Completed.{completed, stored_through, valid_if};
 ghost use Rattle.mega_actions.specs.declared.fault.ActFault.TheVariants.{Unbuilt};
-ghost use Rattle.mega_actions.specs.Built.{is_built};
+ghost use Rattle.mega_actions.specs.Built.{is_open};
 ghost use Rattle.mega_actions.specs.Faults.{failed_by};
 ghost use Rattle.mega_actions.specs.Reaching.{operation_of};
 ghost use Rattle.mega_actions.specs.Stands.{Stands, setting};
@@ -157,7 +157,7 @@ pub(crate) fn goes<R: Records, V: Versions, H: QueueHandlers>(
         work.old ≡ work_of now → work.new ≡ work_of (finishes (setting members.now me h) again now (operation_of reached) reached.group reached.reading reached.position)) }
     ensures handlers { H.meant handlers.new ≡ H.meant handlers.old }
     ensures fares { Fares V.Versions (failed_by result) rows.old.rows rows.new.rows }
-    ensures unbuilt { result ≡ Err Unbuilt → is_built reached.kept.request ≡ false }
+    ensures unbuilt { result ≡ Err Unbuilt → is_open reached.kept.request ≡ false }
 {
     let deed = reached.finishes(alloc, members, voter, clock, &mut rows.rows)?;
     work.does(deed)?;

@@ -9,7 +9,7 @@ ghost use Rattle.mega_rules.specs.Acting.{finishes};
 ghost use Rattle.mega_replica.specs.Faring.{Fares};
 ghost use Rattle.mega_voter.specs.Telling.{Tells};
 ghost use Rattle.mega_actions.specs.declared.fault.ActFault.TheVariants.{Unbuilt};
-ghost use Rattle.mega_actions.specs.Built.{is_answered, is_built, is_proposed};
+ghost use Rattle.mega_actions.specs.Built.{is_answered, is_open, is_proposed};
 ghost use Rattle.mega_actions.specs.Coming.{sealed_by};
 ghost use Rattle.mega_actions.specs.Deeds.{does};
 ghost use Rattle.mega_actions.specs.Faults.{failed_by};
@@ -53,7 +53,7 @@ impl Reached {
             does now deed ≡ finishes (setting members.now me h) again now (operation_of self) self.group self.reading self.position) }
         ensures versions { SameVersions (V.version rows.old) (V.version rows.new) }
         ensures fares { Fares V.Versions (failed_by result) rows.old rows.new }
-        ensures unbuilt { result ≡ Err Unbuilt → is_built self.kept.request ≡ false }
+        ensures unbuilt { result ≡ Err Unbuilt → is_open self.kept.request ≡ false }
     {
         if is_answered(&self.kept.request) {
             let deed = self.answers(alloc, members, rows)?;

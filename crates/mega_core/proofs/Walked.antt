@@ -1,5 +1,5 @@
 -- What operations leave as they act in a step: which things they add to what is met, and that those that stay open are served.
-use Rattle.std.proofs.Common.{◌≡◌, ℕ, List, [], ◌∷◌, map, fold, Option, Some, None, sym, ap, ◌∙◌}
+use Rattle.std.proofs.Common.{◌≡◌, ℕ, List, [], ◌∷◌, map, fold, Option, Some, None, sym, ap, ◌∙◌, true}
 use Rattle.std.specs.List.{All}
 use Rattle.std.proofs.lemmas.List.Elements.{All-cons, All-head, All-nil, All-push, All-tail}
 use Rattle.mega_base.specs.declared.names.GroupId.{GroupId}
@@ -14,6 +14,7 @@ use Rattle.mega_node_laws.specs.About.{IsAbout}
 use Rattle.mega_node_laws.proofs.Acting.{hears_message_asks}
 use Rattle.mega_node_laws.proofs.Ending.{onto_append}
 use Rattle.mega_node_laws.proofs.Lasting.{IsHeard, Lasts, all_act_it, all_ticked_it, begun_it, hears_message_about}
+use Rattle.mega_actions.specs.Built.{is_built}
 use Rattle.mega_actions.specs.Turns.{IsBuilt, IsBuiltHeard, IsHeardAbout}
 use Rattle.mega_core.specs.Acted.{Acted, IsEnd, IsValidate}
 use Rattle.mega_core.specs.Touching.{asked_groups}
@@ -109,5 +110,5 @@ all_heard_built s clock m (o ∷ os) are =
 pub all_ticked_served : (s : Setting) (clock : ℕ) (os : List Operation) (now : Now) → All IsBuilt os → Served now → Served (fold (ticked s clock) now os)
 all_ticked_served s clock os now are h = all_ticked_walked Served IsAny served_walks s clock os now are (in_any os) h
 
-pub begun_served : (s : Setting) (now : Now) (o : Operation) (refusal : Option Answer) → (refusal ≡ None → IsBuilt o) → Served now → Served (unless_refused s now o refusal)
+pub begun_served : (s : Setting) (now : Now) (o : Operation) (refusal : Option Answer) → (refusal ≡ None → is_built o.request ≡ true) → Served now → Served (unless_refused s now o refusal)
 begun_served s now o refusal is h = begun_walked Served IsAny served_walks s now o refusal is (all_any (asked_groups o.request)) h

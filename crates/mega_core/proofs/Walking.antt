@@ -1,5 +1,6 @@
 -- One walk through what operations of given groups do as they act in a step, for any fact of the node that they cannot break.
-use Rattle.std.proofs.Common.{◌≡◌, ℕ, zero, suc, ◌+◌, nat_le, Bool, true, false, cond, List, [], ◌∷◌, map, length, fold, Option, Some, None, Result, Ok, Err, refl}
+use Rattle.std.proofs.Common.{◌≡◌, ℕ, zero, suc, ◌+◌, nat_le, Bool, true, false, cond, List, [], ◌∷◌, map, length, fold, Option, Some, None, Result, Ok, Err, refl, ap}
+use Rattle.std.specs.Prelude.{is_some}
 use Rattle.std.specs.List.{All, list_any}
 use Rattle.std.proofs.lemmas.List.Elements.{All-cons, All-head, All-nil, All-tail}
 use Rattle.mega_base.specs.declared.names.Epoch.{Epoch}
@@ -33,7 +34,7 @@ use Rattle.mega_rules.specs.Operations.{Now, Operation, Phase, Promised, Propose
 use Rattle.mega_rules.specs.Acting.{acts, acts_within, batch_sealed, begins_read, completes_read, ends, finishes, goes_on, in_phase, is_taken, keeps, leader_after, proposes, proposes_by, read_begun, reader_of, reads_on, rows_at, sealed, sends_more, stored_with, unless_decided, unless_full, validated_by, validates, visiting}
 use Rattle.mega_rules.specs.Steps.{Heard, acts_in_turn, all_act, begins, does_due, find_begins, hears_message, is_out, local_find_begins, read_begins, ticked, unless_refused}
 use Rattle.mega_node_laws.specs.About.{group_in}
-use Rattle.mega_actions.specs.Built.{is_built}
+use Rattle.mega_actions.specs.Built.{is_built, is_open}
 use Rattle.mega_actions.specs.Turns.{IsBuilt, IsBuiltHeard}
 use Rattle.mega_core.specs.Touching.{asked_groups, named}
 
@@ -106,7 +107,7 @@ module _ (P : Now → Type 0) (Mine : GroupId → Type 0) (w : Walks P Mine) (s 
     abbrev one : Request → Phase → Operation
     one request phase = record { id = id; request = request; began = began; visited = visited; message = message; phase = phase }
 
-    finishes_by : (again : Now → Operation → Now) (now : Now) (request : Request) (phase : Phase) (group : GroupId) (r : Reading) (p : ℕ) → is_built request ≡ true → P now → P (finishes s again now (one request phase) group r p)
+    finishes_by : (again : Now → Operation → Now) (now : Now) (request : Request) (phase : Phase) (group : GroupId) (r : Reading) (p : ℕ) → is_open request ≡ true → P now → P (finishes s again now (one request phase) group r p)
     finishes_by again now (Txn transaction) phase group r p is h =
         unless_full_walked now (one (Txn transaction) phase) p _ h (sealed_walked now (one (Txn transaction) phase) group r p (outcome s.cluster.schema transaction (rows_at now group p)) is h)
     finishes_by again now (BatchRequest own transactions) phase group r p is h =
@@ -128,7 +129,7 @@ module _ (P : Now → Type 0) (Mine : GroupId → Type 0) (w : Walks P Mine) (s 
       (w.keeps_it (sends_more now (seeks (reader_of s o.id group) (record { noted = noted; asked = asked; stage = Catching p search }) (prefix_of now.met group + 1) (clock_of now.met)).sends)
       (in_phase o (Reads group (seeks (reader_of s o.id group) (record { noted = noted; asked = asked; stage = Catching p search }) (prefix_of now.met group + 1) (clock_of now.met)).reading)) is (w.sends_it now _ h))
 
-  acts_by : (again : Now → Operation → Now) (now : Now) (id : OpId) (request : Request) (began : ℕ) (visited : List GroupId) (message : Option Enter) (phase : Phase) → is_built request ≡ true → Mine (group_in phase) → P now
+  acts_by : (again : Now → Operation → Now) (now : Now) (id : OpId) (request : Request) (began : ℕ) (visited : List GroupId) (message : Option Enter) (phase : Phase) → is_open request ≡ true → Mine (group_in phase) → P now
       → P (acts s again now (record { id = id; request = request; began = began; visited = visited; message = message; phase = phase }))
   acts_by again now id request began visited message (Reads group r) is mine h =
       reads_on_by again now (record { id = id; request = request; began = began; visited = visited; message = message; phase = Reads group r }) group r.noted r.asked r.stage is mine h
@@ -166,34 +167,34 @@ module _ (P : Now → Type 0) (Mine : GroupId → Type 0) (w : Walks P Mine) (s 
       (goes_on_walked (sends_more now (does_due s clock o).sends) (does_due s clock o).operation (due_built clock o o.phase (All-head IsBuilt o os are)) (due_mine clock o o.phase (All-head (IsIn Mine) o os mine)) (w.sends_it now _ h)))
 
   module _ (id : OpId) (began : ℕ) (visited : List GroupId) (message : Option Enter) (phase : Phase) where
-    begins_read_walked : (now : Now) (request : Request) (group : GroupId) → is_built request ≡ true → Mine group → P now → P (begins_read s (goes_on s) now (one id began visited message request phase) group None [])
+    begins_read_walked : (now : Now) (request : Request) (group : GroupId) → is_open request ≡ true → Mine group → P now → P (begins_read s (goes_on s) now (one id began visited message request phase) group None [])
     begins_read_walked now request group is mine h =
         goes_on_walked (sends_more now (read_begun s now (one id began visited message request phase) group []).sends)
         (visiting (one id began visited message request phase) group None (read_begun s now (one id began visited message request phase) group [])) is mine (w.sends_it now _ h)
 
-    read_walked : (now : Now) (request : ReadRequest) (mode : Mode) → is_built (ReadRequested request) ≡ true → Mine request.group → P now → P (read_begins s now (one id began visited message (ReadRequested request) phase) request mode)
+    read_walked : (now : Now) (request : ReadRequest) (mode : Mode) → is_open (ReadRequested request) ≡ true → Mine request.group → P now → P (read_begins s now (one id began visited message (ReadRequested request) phase) request mode)
     read_walked now request Current is mine h = begins_read_walked now (ReadRequested request) request.group is mine h
     read_walked now request Snapshot is mine h = w.ends_it now id _ h
     read_walked now request Inconsistent is mine h = w.ends_it now id _ h
 
-    local_find_walked : (now : Now) (request : FindRequest) (group : GroupId) (mode : Mode) → is_built (Find request) ≡ true → Mine group → P now → P (local_find_begins s now (one id began visited message (Find request) phase) request group mode)
+    local_find_walked : (now : Now) (request : FindRequest) (group : GroupId) (mode : Mode) → is_open (Find request) ≡ true → Mine group → P now → P (local_find_begins s now (one id began visited message (Find request) phase) request group mode)
     local_find_walked now request group Current is mine h = begins_read_walked now (Find request) group is mine h
     local_find_walked now request group Snapshot is mine h = w.ends_it now id _ h
     local_find_walked now request group Inconsistent is mine h = w.ends_it now id _ h
 
-    find_walked : (now : Now) (request : FindRequest) (group : Option GroupId) → is_built (Find request) ≡ true → All Mine (named group) → P now → P (find_begins s now (one id began visited message (Find request) phase) request group)
-    find_walked now request None is mine h = w.ends_it now id _ h
-    find_walked now request (Some group) is mine h = local_find_walked now request group request.mode is (All-head Mine group [] mine) h
+    find_walked : (now : Now) (request : FindRequest) (group : Option GroupId) → request.group ≡ group → All Mine (named group) → P now → P (find_begins s now (one id began visited message (Find request) phase) request group)
+    find_walked now request None same mine h = w.ends_it now id _ h
+    find_walked now request (Some group) same mine h = local_find_walked now request group request.mode (ap is_some same) (All-head Mine group [] mine) h
 
     begins_by : (now : Now) (request : Request) → is_built request ≡ true → All Mine (asked_groups request) → P now → P (begins s now (one id began visited message request phase))
-    begins_by now (Txn transaction) is mine h = begins_read_walked now (Txn transaction) transaction.group is (All-head Mine transaction.group [] mine) h
+    begins_by now (Txn transaction) is mine h = begins_read_walked now (Txn transaction) transaction.group refl (All-head Mine transaction.group [] mine) h
     begins_by now (BatchRequest group transactions) is mine h = begins_read_walked now (BatchRequest group transactions) group is (All-head Mine group [] mine) h
-    begins_by now (ReadRequested request) is mine h = read_walked now request request.mode is (All-head Mine request.group [] mine) h
-    begins_by now (Find request) is mine h = find_walked now request request.group is mine h
+    begins_by now (ReadRequested request) is mine h = read_walked now request request.mode refl (All-head Mine request.group [] mine) h
+    begins_by now (Find request) is mine h = find_walked now request request.group refl mine h
     begins_by now PumpEnter is mine h = absurd (cc)
     begins_by now PumpHandle is mine h = absurd (cc)
     begins_by now Refresh is mine h = w.ends_it now id _ h
 
-  pub begun_walked : (now : Now) (o : Operation) (refusal : Option Answer) → (refusal ≡ None → IsBuilt o) → All Mine (asked_groups o.request) → P now → P (unless_refused s now o refusal)
+  pub begun_walked : (now : Now) (o : Operation) (refusal : Option Answer) → (refusal ≡ None → is_built o.request ≡ true) → All Mine (asked_groups o.request) → P now → P (unless_refused s now o refusal)
   begun_walked now o None is mine h = begins_by o.id o.began o.visited o.message o.phase now o.request (is refl) mine h
   begun_walked now o (Some answer) is mine h = w.ends_it now o.id answer h

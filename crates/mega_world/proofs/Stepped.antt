@@ -41,7 +41,7 @@ use Rattle.mega_world.proofs.Fuses.{fused_more, fused_same, leaves, short_is}
 
 -- the handlers do not matter to what is told
 any_handlers : (c : Cluster) (me : ℕ) (g h : Meanings) (node : Node MemRecords VersionedRows) (ruled : RuleNode) → IsTold c g me node ruled → IsTold c h me node ruled
-any_handlers c me g h node ruled r = record { kind = r.kind; tells = r.tells; leased = r.leased; follows = r.follows; opened = r.opened; begun_is = r.begun_is; about = r.about; built = r.built }
+any_handlers c me g h node ruled r = record { kind = r.kind; tells = r.tells; leased = r.leased; follows = r.follows; marked = r.marked; opened = r.opened; begun_is = r.begun_is; about = r.about; built = r.built }
 
 pub same_setting : (c d : Cluster) (h : Meanings) (me you : ℕ) → c ≡ d → me ≡ you → setting c h me ≡ setting d h you
 same_setting c d h me you cluster number = ap (λ one. setting one h me) cluster ∙ ap (setting d h) number
@@ -56,7 +56,7 @@ pub record IsHere (h : Meanings) (node : Node MemRecords VersionedRows) (ruled :
 
 pub is_here : (c : Cluster) (h : Meanings) (me : ℕ) (member : Member) (ruled : RuleNode) → IsMember c me member ruled → IsHere h (node_in member) ruled
 is_here c h me member ruled one = record {
-  stands = subst (λ (s : Setting). Represents s (node_in member).replica.voter.logs.kept (node_in member).replica.leases (version_of (node_in member).replica.rows.rows) (progress_at (node_in member).replica.rows.progress) (node_in member).open (node_in member).begun ruled)
+  stands = subst (λ (s : Setting). Represents s (node_in member).replica.voter.logs.kept (node_in member).replica.leases (node_in member).replica.indexed (version_of (node_in member).replica.rows.rows) (progress_at (node_in member).replica.rows.progress) (node_in member).open (node_in member).begun ruled)
       (same_setting c (node_in member).replica.members h me (node_in member).replica.me (sym one.members) (sym one.number)) (one.told h);
   empty = one.empty;
   ready = one.ready;
@@ -69,7 +69,7 @@ as_member c h me member ruled members number here = record {
   members = members;
   number = number;
   told = λ g. any_handlers c me h g (node_in member) ruled
-      (subst (λ (s : Setting). Represents s (node_in member).replica.voter.logs.kept (node_in member).replica.leases (version_of (node_in member).replica.rows.rows) (progress_at (node_in member).replica.rows.progress) (node_in member).open (node_in member).begun ruled)
+      (subst (λ (s : Setting). Represents s (node_in member).replica.voter.logs.kept (node_in member).replica.leases (node_in member).replica.indexed (version_of (node_in member).replica.rows.rows) (progress_at (node_in member).replica.rows.progress) (node_in member).open (node_in member).begun ruled)
       (same_setting (node_in member).replica.members c h (node_in member).replica.me me members number) here.stands);
   empty = here.empty;
   ready = here.ready;
