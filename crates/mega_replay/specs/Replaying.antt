@@ -9,7 +9,7 @@ use Rattle.mega_schedule.specs.Events.{event_of}
 use Rattle.mega_promises.specs.Runs.{Happening, Standing, refusal}
 use Rattle.mega_transcript.specs.declared.item.Item.{Item}
 use Rattle.mega_transcript.specs.Tape.{newest}
-use Rattle.mega_world.specs.Unbuilt.{IsPastLast as IsPastLastEvent}
+use Rattle.mega_world.specs.Last.{IsPastLast as IsPastLastEvent}
 use Rattle.mega_replay.specs.Headings.{heading_of, lines_behind, text_before}
 use Rattle.mega_replay.specs.Running.{Replayed, stood}
 use Rattle.mega_replay.specs.Texts.{in_all, so_far}
