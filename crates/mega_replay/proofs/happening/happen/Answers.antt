@@ -33,12 +33,6 @@ returns-in-Err-Refused-clause-refused c at why is done events after =
       record { event = c.args.event; spelled = c.requires.spelled; refused = subst (λ (w : ℕ). refusal cluster (stood cluster events) c.args.event ≡ Some w) same refused },
     )
 
-pub returns-in-Err-Unbuilt-clause-unbuilt : goal.returns-in-Err-Unbuilt-clause-unbuilt
-returns-in-Err-Unbuilt-clause-unbuilt c at is done events after = (
-  cc,
-  record { event = c.args.event; spelled = c.requires.spelled; unserved = c.in-Err-Unbuilt.ensures.unbuilt (ap Err c.in-Err-Unbuilt.field-0-is) },
-)
-
 pub returns-in-Err-Limit-clause-limit : goal.returns-in-Err-Limit-clause-limit
 returns-in-Err-Limit-clause-limit c at is done events after =
     let cluster = c.args.cluster.now in (
@@ -63,9 +57,6 @@ apply-requires c =
 
 pub returns-in-Ok-clause-refused : goal.returns-in-Ok-clause-refused
 returns-in-Ok-clause-refused c at why is done events after = let none : ⊥ = cc in absurd none
-
-pub returns-in-Ok-clause-unbuilt : goal.returns-in-Ok-clause-unbuilt
-returns-in-Ok-clause-unbuilt c at is done events after = let none : ⊥ = cc in absurd none
 
 pub returns-in-Ok-clause-limit : goal.returns-in-Ok-clause-limit
 returns-in-Ok-clause-limit c at is done events after = let none : ⊥ = cc in absurd none

@@ -23,13 +23,6 @@ returns-in-Err-write_from-clause-cut g c =
     cut_first c.args.report c.args.cluster.now (prepend_known c.args.reader.now (g.I.Source.left c.args.input.now)) (WritesFront before after c.write_from.new.waiting) c.in-Ok.world items c.in-Ok.ensures.state
     (subst (λ (xs : List ℕ). WritesFront before after c.write_from.new.waiting (xs ++ so_far c.args.report (c.args.cluster.now).schema items)) c.requires.none_waits c.in-Err-write_from.ensures.cut)
 
-pub returns-clause-unbuilt : goal.returns-clause-unbuilt
-returns-clause-unbuilt g c at is =
-    let before = g.O.Sink.held c.args.out.now in
-    let items = c.opened.new.tape.items in
-    let fresh = subst (λ (xs : List ℕ). Writes before (g.O.Sink.held c.write_from.new.out) c.write_from.new.waiting (xs ++ so_far c.args.report (c.args.cluster.now).schema items)) c.requires.none_waits c.in-Ok-write_from.ensures.text in
-    c.run_whole.ensures.unbuilt at is before fresh
-
 pub returns-clause-limit : goal.returns-clause-limit
 returns-clause-limit g c at is =
     let before = g.O.Sink.held c.args.out.now in

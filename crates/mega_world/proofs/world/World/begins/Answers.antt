@@ -18,6 +18,7 @@ begin_at-requires-clause-known g c =
       now = k.now;
       nodes = k.at.nodes;
       may = may_happen k.cluster k.handlers k.now node.0 (Begin c.args.request c.args.text) fit k.sound.own k.sound.means;
+      near = tt;
     }
 
 pub returns-clause-state : goal.returns-clause-state

@@ -1,16 +1,10 @@
--- Which events a world does not make happen yet, and where a start is past the last number.
-use Rattle.std.specs.Prelude.{◌≡◌, false, None}
+-- Where a start is past the last number.
+use Rattle.std.specs.Prelude.{◌≡◌, None}
 use Rattle.mega_cluster.specs.declared.cluster.Cluster.{Cluster}
 use Rattle.mega_base.specs.declared.names.NodeId.{NodeId}
 use Rattle.mega_schedule.specs.declared.world_event.WorldEvent.{WorldEvent}
-use Rattle.mega_schedule.specs.declared.world_event.WorldEvent.TheVariants.{Start as StartEvent, Begin as BeginEvent}
-use Rattle.mega_actions.specs.Built.{is_built}
+use Rattle.mega_schedule.specs.declared.world_event.WorldEvent.TheVariants.{Start as StartEvent}
 use Rattle.mega_promises.specs.Runs.{Standing, refusal}
-
--- the beginning of a request that is not served
-abbrev pub IsUnbuilt : WorldEvent → Type 0
-IsUnbuilt (BeginEvent node request text) = is_built request ≡ false
-IsUnbuilt _ = ⊥
 
 -- the start of a node that is down and whose log tells of 4,294,967,295 starts, the last number
 pub record IsPastLast (c : Cluster) (now : Standing) (event : WorldEvent) : Type 0 where
