@@ -10,7 +10,8 @@ use Rattle.mega_node_laws.specs.Acted.{own_item}
 use Rattle.mega_rules.specs.Met.{Crashes}
 use Rattle.mega_rules.specs.Operations.{Node as RuleNode}
 use Rattle.mega_leases.specs.Taking.{IsByStranger, IsLate}
-use Rattle.mega_rules.specs.Steps.{Event, Step as RuleStep, Take, step}
+use Rattle.mega_actions.specs.Built.{is_built}
+use Rattle.mega_rules.specs.Steps.{Begin, Event, Step as RuleStep, Take, Tick, step}
 use Rattle.mega_core.specs.declared.step.Step.{Step}
 use Rattle.mega_core.specs.Notes.{met_of}
 use Rattle.mega_durable.specs.declared.cut.Cut.{Cut}
@@ -34,10 +35,11 @@ abbrev pub AtEachNode : (List ℕ → Option Meaning) → Member → Event → (
 AtEachNode makes member event Is =
     (c : Cluster) (h : Meanings) (me : ℕ) (ruled : RuleNode) (fuse : Option Fuse) → IsMember c me member ruled → IsFused member.fuse (records_of member) fuse → MayHappen makes (setting c h me) ruled event → Is c h me ruled fuse
 
--- what a node takes is of its cluster and not too late
+-- what a node takes is of its cluster and not too late, and what begins is of at most 16 transactions
 abbrev pub IsNear : Cluster → Event → Type 0
 IsNear c (Take message) = IsByStranger message.from message.body ⊎ IsLate c message.body → ⊥
-IsNear c _ = Unit {0}
+IsNear c (Begin request text) = is_built request ≡ true
+IsNear c (Tick clock) = Unit {0}
 
 -- there is such a node
 pub record IsSome (makes : List ℕ → Option Meaning) (member : Member) (event : Event) : Type 0 where
