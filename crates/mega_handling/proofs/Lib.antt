@@ -1,0 +1,3 @@
+mod Kept
+mod Handled
+pub mod Meant
