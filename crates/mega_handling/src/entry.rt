@@ -1,12 +1,11 @@
 //! The entry by which an operation handles a queue message.
-ghost use Rattle.std.specs.Prelude.{◌≡◌, ◌∷◌, [], nat_lt, length, option_map, IfOk, OnOk};
+ghost use Rattle.std.specs.Prelude.{◌≡◌, ◌∷◌, [], nat_lt, length, IfOk};
 ghost use Rattle.mega_base.specs.declared.names.OpId.{OpId as Op};
 ghost use Rattle.mega_entry.specs.Entries.{entry_text};
 ghost use Rattle.mega_index.specs.Fitted.{most_bytes};
 ghost use Rattle.mega_handler.specs.Effects.{entry_handling, handle_entry, handled};
 ghost use Rattle.mega_handler.specs.Named.{Meanings, effect_by, meaning};
-ghost use Rattle.mega_meanings.specs.Means.{Means, meant};
-ghost use Rattle.mega_handling.specs.Counted.{counted, one_more};
+ghost use Rattle.mega_meanings.specs.Means.{Means};
 ghost use Rattle.mega_handling.specs.Made.{made_by};
 
 use crate::keeping::fitted_writes;
@@ -14,7 +13,7 @@ use crate::lengths::{MOST_BYTES, sends_length, sum, writes_length};
 use crate::sending::fitted_sends;
 use mega_base::{Bytes, Copied, GroupId, Items, NoMemory, OpId, Row};
 use mega_entry::{Content, Enter, Name, Send, Write};
-use mega_handler::Handlers;
+use mega_meanings::QueueHandlers;
 use mega_schema::Schema;
 use std::alloc::Global;
 
@@ -148,15 +147,14 @@ fn entry_by(
 }
 
 /// What the handler of a message's queue makes of it, nothing where it has none.
-fn effect_of(
+fn effect_of<H: QueueHandlers>(
     alloc: Global,
-    handlers: &mut Handlers,
+    handlers: &mut H,
     message: &Enter,
     rows: &[(Bytes, Row)],
 ) -> Result<(Vec<Write>, Vec<Send>), NoMemory>
-    ensures exact { IfOk result (λ made. (h : Meanings) → Means (meant handlers.old.named effect) h → (made.0.items, made.1.items) ≡ effect_by (meaning h message.now.queue) message.now rows.now) }
-    ensures handlers { meant handlers.new.named effect ≡ meant handlers.old.named effect }
-    ensures counted { OnOk result (counted handlers.new.named count message.now.queue ≡ option_map one_more (counted handlers.old.named count message.now.queue)) }
+    ensures exact { IfOk result (λ made. (h : Meanings) → Means (H.meant handlers.old) h → (made.0.items, made.1.items) ≡ effect_by (meaning h message.now.queue) message.now rows.now) }
+    ensures handlers { H.meant handlers.new ≡ H.meant handlers.old }
 {
     match handlers.handle(alloc, message, rows)? {
         Some(made) => Ok(made),
@@ -165,18 +163,17 @@ fn effect_of(
 }
 
 /// The entry by which an operation handles a message of its group, over the rows of the group's tables, in order of key.
-pub fn handling(
+pub fn handling<H: QueueHandlers>(
     alloc: Global,
     schema: &Schema,
-    handlers: &mut Handlers,
+    handlers: &mut H,
     op: OpId,
     group: &GroupId,
     message: &Enter,
     rows: &[(Bytes, Row)],
 ) -> Result<Content, NoMemory>
-    ensures exact { IfOk result (λ entry. (h : Meanings) → Means (meant handlers.old.named effect) h → entry ≡ made_by schema.now h op group.now message.now rows.now) }
-    ensures handlers { meant handlers.new.named effect ≡ meant handlers.old.named effect }
-    ensures counted { OnOk result (counted handlers.new.named count message.now.queue ≡ option_map one_more (counted handlers.old.named count message.now.queue)) }
+    ensures exact { IfOk result (λ entry. (h : Meanings) → Means (H.meant handlers.old) h → entry ≡ made_by schema.now h op group.now message.now rows.now) }
+    ensures handlers { H.meant handlers.new ≡ H.meant handlers.old }
 {
     let (writes, sends) = effect_of(alloc, handlers, message, rows)?;
     let entry = entry_by(alloc, schema, op, group, &message.name, rows, writes, sends)?;
