@@ -1,0 +1,5 @@
+mod Fronts
+mod Onward
+mod Noted
+mod Caught
+mod Marked
