@@ -1,4 +1,4 @@
--- What is served: transactions, batches of at most 16 of them, reads, and finds in a group.
+-- What is served: transactions, batches of at most 16 of them, reads, finds in a group, and pumps.
 use Rattle.std.specs.Prelude.{Bool, true, false, not, ◌&&◌, ◌||◌, nat_le, length, List, [], ◌∷◌, Option, Some, None, is_some}
 use Rattle.mega_base.specs.declared.names.GroupId.{GroupId}
 use Rattle.mega_outcome.specs.declared.request.Mode.{Mode}
@@ -50,5 +50,19 @@ is_answered request = is_some (group_asked request)
 abbrev pub is_at_once : Request → Bool
 is_at_once request = is_answered request && not (is_current (mode_asked request))
 
+-- pumps
+abbrev pub is_pump : Request → Bool
+is_pump (Txn transaction) = false
+is_pump (Batch group transactions) = false
+is_pump (Read request) = false
+is_pump (Find request) = false
+is_pump PumpEnter = true
+is_pump PumpHandle = true
+is_pump Refresh = false
+
+-- requests whose operation looks at one group alone, that of its request
+abbrev pub is_plain : Request → Bool
+is_plain request = is_proposed request || is_answered request
+
 abbrev pub is_built : Request → Bool
-is_built request = is_proposed request || is_answered request
+is_built request = is_plain request || is_pump request

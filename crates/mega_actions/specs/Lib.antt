@@ -10,3 +10,7 @@ pub mod Sees
 pub mod Coming
 pub mod Showing
 pub mod Turns
+pub mod Pumping
+pub mod Asked
+pub mod Acted
+pub mod Later

@@ -2,7 +2,7 @@
 ghost use Rattle.std.specs.Prelude.{◌≡◌, ◌≤◌, true, false, take, IfOk};
 ghost use Rattle.std.specs.Option.{option_copied};
 ghost use Rattle.std.specs.Result.{result_err};
-ghost use Rattle.mega_meanings.specs.Means.{Means, meant};
+ghost use Rattle.mega_meanings.specs.Means.{Means};
 ghost use Rattle.mega_outcome.specs.Answers.{rows_at};
 ghost use Rattle.mega_outcome.specs.Looks.{Looks};
 ghost use Rattle.mega_read.specs.declared.reading.Reading.{Reading};
@@ -21,7 +21,7 @@ use crate::digest::Digest;
 use mega_base::{Copied, GroupId, NoMemory, OpId, Position};
 use mega_disk::{Records, StoreError, Versions};
 use mega_entry::{Enter, Entry};
-use mega_handler::Handlers;
+use mega_meanings::QueueHandlers;
 use mega_handling::{handling, rows_of_tables};
 use mega_outcome::Answer;
 use mega_queues::enter_entry;
@@ -83,21 +83,21 @@ fn no_handler(alloc: Global, message: &Enter) -> Result<Own, NoMemory>
 }
 
 /// What a pump does that handles this message of a group.
-fn handles_message<V: Versions>(
+fn handles_message<V: Versions, H: QueueHandlers>(
     alloc: Global,
     schema: &Schema,
-    handlers: &mut Handlers,
+    handlers: &mut H,
     rows: &mut V,
     op: OpId,
     group: &GroupId,
     through: u64,
     message: &Enter,
 ) -> Result<Own, StoreError>
-    ensures own { V.is_told ≡ true → IfOk result (λ own. (s : Setting) (again : Now → Operation → Now) (now : Now) (o : Operation) (r : Reading) → Means (meant handlers.old.named effect) s.handlers → s.cluster.schema ≡ schema.now →
+    ensures own { V.is_told ≡ true → IfOk result (λ own. (s : Setting) (again : Now → Operation → Now) (now : Now) (o : Operation) (r : Reading) → Means (H.meant handlers.old) s.handlers → s.cluster.schema ≡ schema.now →
         Shows schema.now group.now (rows_at (V.version rows.old) through) (listed_at now group.now through) → o.id ≡ op →
         own_by false s again now o group.now r through own ≡ handles_message s now o group.now r through message.now) }
     ensures looks { Looks V.Versions (result_err result) rows.old rows.new }
-    ensures handlers { meant handlers.new.named effect ≡ meant handlers.old.named effect }
+    ensures handlers { H.meant handlers.new ≡ H.meant handlers.old }
 {
     if !handlers.has(&message.queue) {
         let own = no_handler(alloc, message)?;
@@ -110,10 +110,10 @@ fn handles_message<V: Versions>(
 }
 
 /// What a pump does that handles: the oldest message of the group that is not handled, or it picks again where none is left.
-pub fn handles<R: Records, V: Versions>(
+pub fn handles<R: Records, V: Versions, H: QueueHandlers>(
     alloc: Global,
     schema: &Schema,
-    handlers: &mut Handlers,
+    handlers: &mut H,
     digest: &Digest,
     voter: &Voter<R>,
     rows: &mut V,
@@ -121,12 +121,12 @@ pub fn handles<R: Records, V: Versions>(
     group: &GroupId,
     through: u64,
 ) -> Result<Own, StoreError>
-    ensures own { V.is_told ≡ true → IfOk result (λ own. (s : Setting) (again : Now → Operation → Now) (now : Now) (o : Operation) (r : Reading) → Means (meant handlers.old.named effect) s.handlers → s.cluster.schema ≡ schema.now →
+    ensures own { V.is_told ≡ true → IfOk result (λ own. (s : Setting) (again : Now → Operation → Now) (now : Now) (o : Operation) (r : Reading) → Means (H.meant handlers.old) s.handlers → s.cluster.schema ≡ schema.now →
         Tells voter.now.logs.kept now.met → Notes (log_of now.met) now.stored digest.now → through ≤ prefix_of now.met group.now →
         Shows schema.now group.now (rows_at (V.version rows.old) through) (listed_at now group.now through) → o.id ≡ op →
         own_by false s again now o group.now r through own ≡ handles s again now o group.now r through (oldest_unhandled (take through (log_of now.met group.now)))) }
     ensures looks { Looks V.Versions (result_err result) rows.old rows.new }
-    ensures handlers { meant handlers.new.named effect ≡ meant handlers.old.named effect }
+    ensures handlers { H.meant handlers.new ≡ H.meant handlers.old }
 {
     match digest.oldest_unhandled(alloc, voter, group, through)? {
         Some(message) => {

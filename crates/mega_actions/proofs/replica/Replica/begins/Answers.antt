@@ -1,0 +1,8 @@
+use Rattle.std.proofs.Common.{◌≡◌, ◌∙◌, ◌||◌, sym}
+use Rattle.mega_actions.proofs.replica.Replica.begins.Goals as goal
+
+pub returns-then-is_pump-clause-state : goal.returns-then-is_pump-clause-state
+returns-then-is_pump-clause-state g c h now told means at = c.in_ok-begins_pump.ensures.state h now told means (sym c.is_pump.ensures ∙ c.if-is_pump.true) at
+
+pub returns-then-is_pump-clause-work : goal.returns-then-is_pump-clause-work
+returns-then-is_pump-clause-work g c h now told means at was = c.in_ok-begins_pump.ensures.work h now told means (sym c.is_pump.ensures ∙ c.if-is_pump.true) at was
