@@ -64,5 +64,9 @@ is_pump Refresh = false
 abbrev pub is_plain : Request → Bool
 is_plain request = is_proposed request || is_answered request
 
+-- requests whose operations may stay open, and all that are served
+abbrev pub is_open : Request → Bool
+is_open request = is_pump request || is_plain request
+
 abbrev pub is_built : Request → Bool
-is_built request = is_plain request || is_pump request
+is_built request = is_open request

@@ -15,7 +15,7 @@ ghost use Rattle.mega_replica.specs.Faring.{Fares};
 ghost use Rattle.mega_actions.specs.declared.fault.ActFault.TheVariants.{NoMemory as OutOfMemory, Unbuilt};
 ghost use Rattle.mega_voter.specs.Telling.{Tells};
 ghost use Rattle.mega_actions.specs.Acted.{Acted, IsNextAsked};
-ghost use Rattle.mega_actions.specs.Built.{is_built, is_pump};
+ghost use Rattle.mega_actions.specs.Built.{is_open, is_pump};
 ghost use Rattle.mega_actions.specs.Later.{later};
 ghost use Rattle.mega_actions.specs.Faults.{failed_by};
 ghost use Rattle.mega_actions.specs.IsAt.{IsAt, setting_of};
@@ -170,7 +170,7 @@ impl<R: Records, V: Versions> Replica<R, V> {
         ensures members { self.new.members ≡ self.old.members }
         ensures me { self.new.me ≡ self.old.me }
         ensures voter { self.new.voter ≡ self.old.voter }
-        ensures unbuilt { result ≡ Err Unbuilt → is_built reached.kept.request ≡ false }
+        ensures unbuilt { result ≡ Err Unbuilt → is_open reached.kept.request ≡ false }
     {
         if is_pump(&reached.kept.request) {
             let next = self.pumps(alloc, handlers, work, reached)?;
@@ -206,7 +206,7 @@ impl<R: Records, V: Versions> Replica<R, V> {
         ensures members { self.new.members ≡ self.old.members }
         ensures me { self.new.me ≡ self.old.me }
         ensures voter { self.new.voter ≡ self.old.voter }
-        ensures unbuilt { result ≡ Err Unbuilt → is_built reached.kept.request ≡ false }
+        ensures unbuilt { result ≡ Err Unbuilt → is_open reached.kept.request ≡ false }
     {
         match reads_through(
             alloc,
@@ -245,7 +245,7 @@ impl<R: Records, V: Versions> Replica<R, V> {
         ensures members { self.new.members ≡ self.old.members }
         ensures me { self.new.me ≡ self.old.me }
         ensures voter { self.new.voter ≡ self.old.voter }
-        ensures unbuilt { result ≡ Err Unbuilt → is_built kept.request ≡ false }
+        ensures unbuilt { result ≡ Err Unbuilt → is_open kept.request ≡ false }
     {
         let Some(through) = reading.through_of() else {
             let operation = kept.in_phase(Phase::Reads { group, reading });
@@ -298,7 +298,7 @@ impl<R: Records, V: Versions> Replica<R, V> {
         ensures members { self.new.members ≡ self.old.members }
         ensures me { self.new.me ≡ self.old.me }
         ensures voter { self.new.voter ≡ self.old.voter }
-        ensures unbuilt { result ≡ Err Unbuilt → is_built operation.request ≡ false }
+        ensures unbuilt { result ≡ Err Unbuilt → is_open operation.request ≡ false }
     {
         let (kept, phase) = operation.parts();
         match phase {
@@ -342,7 +342,7 @@ impl<R: Records, V: Versions> Replica<R, V> {
         ensures members { self.new.members ≡ self.old.members }
         ensures me { self.new.me ≡ self.old.me }
         ensures voter { self.new.voter ≡ self.old.voter }
-        ensures unbuilt { result ≡ Err Unbuilt → is_built operation.request ≡ false }
+        ensures unbuilt { result ≡ Err Unbuilt → is_open operation.request ≡ false }
     {
         let mut next = operation;
         for _turn in 0..most {
@@ -379,7 +379,7 @@ impl<R: Records, V: Versions> Replica<R, V> {
         ensures members { self.new.members ≡ self.old.members }
         ensures me { self.new.me ≡ self.old.me }
         ensures voter { self.new.voter ≡ self.old.voter }
-        ensures unbuilt { result ≡ Err Unbuilt → is_built operation.request ≡ false }
+        ensures unbuilt { result ≡ Err Unbuilt → is_open operation.request ≡ false }
     {
         match self.acts_once(alloc, handlers, work, operation) {
             Ok(Some(next)) => {
@@ -407,7 +407,7 @@ impl<R: Records, V: Versions> Replica<R, V> {
         ensures members { self.new.members ≡ self.old.members }
         ensures me { self.new.me ≡ self.old.me }
         ensures voter { self.new.voter ≡ self.old.voter }
-        ensures unbuilt { result ≡ Err Unbuilt → is_built operation.request ≡ false }
+        ensures unbuilt { result ≡ Err Unbuilt → is_open operation.request ≡ false }
     {
         match self.voter.groups(alloc) {
             Ok(groups) => {

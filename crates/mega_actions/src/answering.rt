@@ -81,8 +81,8 @@ pub(crate) fn is_answered(request: &Request) -> bool
     }
 }
 
-/// Whether a request is served whose operation looks at one group alone: a transaction, a batch of at most 16, a read, or a find in a
-/// group.
+/// Whether a request is served whose operation looks at one group alone: a transaction, a batch of at most 16, a read,
+/// or a find in a group.
 pub(crate) fn is_plain(request: &Request) -> bool
     ensures { result ≡ is_plain request.now }
 {
@@ -93,7 +93,7 @@ pub(crate) fn is_plain(request: &Request) -> bool
 pub fn is_built(request: &Request) -> bool
     ensures { result ≡ is_built request.now }
 {
-    is_plain(request) || is_pump(request)
+    is_pump(request) || is_plain(request)
 }
 
 /// Whether a mode asks for current rows.

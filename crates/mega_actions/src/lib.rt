@@ -24,7 +24,7 @@ pub use answering::is_built;
 pub use came::Came;
 pub use deed::{Deed, End};
 pub use fault::ActFault;
-pub use pumping::Pumped;
+pub use pumping::{Pumped, is_pump};
 pub use reached::Reached;
 pub use replica::Replica;
 pub use work::{Answered, Valid, Work};

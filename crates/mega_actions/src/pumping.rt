@@ -50,7 +50,7 @@ pub enum Pumped {
 }
 
 /// Whether a request is a pump.
-pub(crate) fn is_pump(request: &Request) -> bool
+pub fn is_pump(request: &Request) -> bool
     ensures { result ≡ is_pump request.now }
 {
     match request {

@@ -7,7 +7,7 @@ ghost use Rattle.mega_rules.specs.Operations.{Now};
 ghost use Rattle.mega_rules.specs.Steps.{acts_in_turn, all_act, ticked};
 ghost use Rattle.mega_replica.specs.Faring.{Fares};
 ghost use Rattle.mega_actions.specs.declared.fault.ActFault.TheVariants.{Unbuilt};
-ghost use Rattle.mega_actions.specs.Built.{is_built};
+ghost use Rattle.mega_actions.specs.Built.{is_open};
 ghost use Rattle.mega_actions.specs.Faults.{failed_by};
 ghost use Rattle.mega_actions.specs.IsAt.{IsAt, setting_of};
 ghost use Rattle.mega_actions.specs.Turns.{IsBuilt, IsBuiltHeard, IsHeardAbout};
@@ -45,7 +45,7 @@ impl<R: Records, V: Versions> Replica<R, V> {
         ensures members { self.new.members ≡ self.old.members }
         ensures me { self.new.me ≡ self.old.me }
         ensures voter { self.new.voter ≡ self.old.voter }
-        ensures unbuilt { result ≡ Err Unbuilt → is_built heard.operation.request ≡ false }
+        ensures unbuilt { result ≡ Err Unbuilt → is_open heard.operation.request ≡ false }
     {
         let Heard { operation, sends } = heard;
         match work.says(Some(sends)) {
@@ -111,7 +111,7 @@ impl<R: Records, V: Versions> Replica<R, V> {
         ensures members { self.new.members ≡ self.old.members }
         ensures me { self.new.me ≡ self.old.me }
         ensures voter { self.new.voter ≡ self.old.voter }
-        ensures unbuilt { result ≡ Err Unbuilt → is_built operation.request ≡ false }
+        ensures unbuilt { result ≡ Err Unbuilt → is_open operation.request ≡ false }
     {
         if operation.is_out(&self.members, clock) {
             let answer = operation.last_answer();
