@@ -14,6 +14,7 @@ use Rattle.mega_node_laws.specs.About.{IsAbout}
 use Rattle.mega_node_laws.proofs.Acting.{hears_message_asks}
 use Rattle.mega_node_laws.proofs.Ending.{onto_append}
 use Rattle.mega_node_laws.proofs.Lasting.{IsHeard, Lasts, all_act_it, all_ticked_it, begun_it, hears_message_about}
+use Rattle.mega_actions.specs.Built.{is_built}
 use Rattle.mega_actions.specs.Turns.{IsBuilt, IsBuiltHeard, IsHeardAbout}
 use Rattle.mega_core.specs.Acted.{Acted, IsEnd, IsValidate}
 use Rattle.mega_core.specs.Touching.{asked_groups}
@@ -83,11 +84,11 @@ served_walks = record {
 
 in_any : (os : List Operation) → All (IsIn IsAny) os
 in_any [] = All-nil (IsIn IsAny)
-in_any (o ∷ os) = All-cons (IsIn IsAny) o os tt (in_any os)
+in_any (o ∷ os) = All-cons (IsIn IsAny) o os (tt, λ pump group. tt) (in_any os)
 
 heard_in_any : (ts : List Heard) → All (IsHeardIn IsAny) ts
 heard_in_any [] = All-nil (IsHeardIn IsAny)
-heard_in_any (t ∷ ts) = All-cons (IsHeardIn IsAny) t ts tt (heard_in_any ts)
+heard_in_any (t ∷ ts) = All-cons (IsHeardIn IsAny) t ts (tt, λ pump group. tt) (heard_in_any ts)
 
 all_any : (groups : List GroupId) → All IsAny groups
 all_any [] = All-nil IsAny
@@ -109,5 +110,5 @@ all_heard_built s clock m (o ∷ os) are =
 pub all_ticked_served : (s : Setting) (clock : ℕ) (os : List Operation) (now : Now) → All IsBuilt os → Served now → Served (fold (ticked s clock) now os)
 all_ticked_served s clock os now are h = all_ticked_walked Served IsAny served_walks s clock os now are (in_any os) h
 
-pub begun_served : (s : Setting) (now : Now) (o : Operation) (refusal : Option Answer) → (refusal ≡ None → IsBuilt o) → Served now → Served (unless_refused s now o refusal)
-begun_served s now o refusal is h = begun_walked Served IsAny served_walks s now o refusal is (all_any (asked_groups o.request)) h
+pub begun_served : (s : Setting) (now : Now) (o : Operation) (refusal : Option Answer) → (refusal ≡ None → is_built o.request ≡ true) → Served now → Served (unless_refused s now o refusal)
+begun_served s now o refusal is h = begun_walked Served IsAny served_walks s now o refusal is (all_any (asked_groups o.request)) (λ pump group. tt) h
