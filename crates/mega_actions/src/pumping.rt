@@ -33,8 +33,8 @@ use crate::reached::Reached;
 use crate::work::Work;
 use mega_base::{GroupId, Items, NoMemory, OpId, Position};
 use mega_disk::{Records, Versions};
-use mega_meanings::QueueHandlers;
 use mega_leases::Leases;
+use mega_meanings::QueueHandlers;
 use mega_operations::{Heard, Kept, Members, Operation, Promised};
 use mega_outcome::{Answer, Request};
 use mega_pumps::{Digest, Own, Picked, applied_marks, enters, handles, visits};
@@ -276,8 +276,7 @@ impl Reached {
                 } = self;
                 drop(group);
                 drop(reading);
-                let pumped =
-                    picks(alloc, members, voter, leases, rows, kept, asked, entering)?;
+                let pumped = picks(alloc, members, voter, leases, rows, kept, asked, entering)?;
                 Ok(pumped)
             }
             Err(refused) => {

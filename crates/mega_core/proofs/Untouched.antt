@@ -305,13 +305,13 @@ pub take_noted : (s : Setting) (node : Node) (m : Message) (before : List Before
     → before ≡ map (before_at node.met node.stored) (touched node.met m.body node.open_operations) → Noted node before (has_taken s node m)
 take_noted s node m before built acted is = by (list_any roams os) refl is
   where
-    abbrev os : List Operation
+    os : List Operation
     os = node.open_operations
 
-    abbrev told : List Met
+    told : List Met
     told = decision_note (told_decision m.body)
 
-    abbrev now : Now
+    now : Now
     now = has_taken s node m
 
     absent : (met : List Met) (group : GroupId) → has group (fold with_phase (groups_of met) os) ≡ false → has group (groups_of (onto (map of_phase os) met)) ≡ false

@@ -21,8 +21,8 @@ use crate::digest::Digest;
 use mega_base::{Copied, GroupId, NoMemory, OpId, Position};
 use mega_disk::{Records, StoreError, Versions};
 use mega_entry::{Enter, Entry};
-use mega_meanings::QueueHandlers;
 use mega_handling::{handling, rows_of_tables};
+use mega_meanings::QueueHandlers;
 use mega_outcome::Answer;
 use mega_queues::enter_entry;
 use mega_schema::Schema;
@@ -104,7 +104,15 @@ fn handles_message<V: Versions, H: QueueHandlers>(
         return Ok(own);
     }
     let listed = rows_of_tables(alloc, schema, group, rows, Position(through))?;
-    let content = handling(alloc, schema, handlers, op, group, message, listed.as_slice())?;
+    let content = handling(
+        alloc,
+        schema,
+        handlers,
+        op,
+        group,
+        message,
+        listed.as_slice(),
+    )?;
     let entry = Entry::new(alloc, content)?;
     Ok(Own::Proposes(entry))
 }
@@ -130,8 +138,7 @@ pub fn handles<R: Records, V: Versions, H: QueueHandlers>(
 {
     match digest.oldest_unhandled(alloc, voter, group, through)? {
         Some(message) => {
-            let own =
-                handles_message(alloc, schema, handlers, rows, op, group, through, &message)?;
+            let own = handles_message(alloc, schema, handlers, rows, op, group, through, &message)?;
             Ok(own)
         }
         None => Ok(Own::Picks),

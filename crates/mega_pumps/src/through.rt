@@ -22,12 +22,7 @@ pub fn through_of(all: &Through, group: &GroupId) -> u64
 }
 
 /// So many entries of a group's log are noted.
-pub fn set(
-    alloc: Global,
-    all: &mut Through,
-    group: &GroupId,
-    through: u64,
-) -> Result<(), NoMemory>
+pub fn set(alloc: Global, all: &mut Through, group: &GroupId, through: u64) -> Result<(), NoMemory>
     ensures { OnOk result ((other : Group) → through_at all.new other ≡ (if is_group group.now other then through else through_at all.old other)) }
 {
     let own = group.copy(alloc)?;

@@ -60,7 +60,11 @@ pub fn read_begun<R: Records>(
 }
 
 /// The groups that were read, with one more.
-fn visited_with(alloc: Global, visited: &Items<GroupId>, group: &GroupId) -> Result<Items<GroupId>, NoMemory>
+fn visited_with(
+    alloc: Global,
+    visited: &Items<GroupId>,
+    group: &GroupId,
+) -> Result<Items<GroupId>, NoMemory>
     ensures { IfOk result (λ more. more ≡ visited.now ++ group.now ∷ []) }
 {
     let mut more = visited.copy(alloc)?;

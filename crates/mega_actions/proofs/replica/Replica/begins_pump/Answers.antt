@@ -24,10 +24,10 @@ returns-in_ok-does-in-Done-clause-state g c h now told means pump at =
     let o = new_operation c.args.op c.args.request (clock_of now.met) in
     let began = c.now-began.ensures before.members before.me now.met at.leased in
     let is =
-        pump_begins s now c.args.op c.args.request (clock_of now.met) pump
-        ∙ (λ i. picks_by (sym c.is_entering-entering.ensures i) s (goes_on s) now (record { id = o.id; request = o.request; began = sym began i; visited = sym c.new-visited.ensures i; message = o.message; phase = o.phase }) (sym c.new-asked.ensures i))
-        ∙ sym (c.in_ok-pumped.ensures.pumped before.me h now (goes_on s) o.phase at)
-        ∙ ap (pumped_by (goes_on s) now) c.in-Done.is in
+    pump_begins s now c.args.op c.args.request (clock_of now.met) pump
+    ∙ (λ i. picks_by (sym c.is_entering-entering.ensures i) s (goes_on s) now (record { id = o.id; request = o.request; began = sym began i; visited = sym c.new-visited.ensures i; message = o.message; phase = o.phase }) (sym c.new-asked.ensures i))
+    ∙ sym (c.in_ok-pumped.ensures.pumped before.me h now (goes_on s) o.phase at)
+    ∙ ap (pumped_by (goes_on s) now) c.in-Done.is in
     let deed = c.in-Done.deed in
     subst (λ (then : Now). IsAt g.V.Versions.version h before then.met then.stored) (sym is)
     (coe 0 1 (i. IsAt g.V.Versions.version h before (sym (does_met now deed) i) (sym (does_stored now deed) i)) at)
@@ -39,10 +39,10 @@ returns-in_ok-does-in-Done-clause-work g c h now told means pump at was =
     let o = new_operation c.args.op c.args.request (clock_of now.met) in
     let began = c.now-began.ensures before.members before.me now.met at.leased in
     let is =
-        pump_begins s now c.args.op c.args.request (clock_of now.met) pump
-        ∙ (λ i. picks_by (sym c.is_entering-entering.ensures i) s (goes_on s) now (record { id = o.id; request = o.request; began = sym began i; visited = sym c.new-visited.ensures i; message = o.message; phase = o.phase }) (sym c.new-asked.ensures i))
-        ∙ sym (c.in_ok-pumped.ensures.pumped before.me h now (goes_on s) o.phase at)
-        ∙ ap (pumped_by (goes_on s) now) c.in-Done.is in
+    pump_begins s now c.args.op c.args.request (clock_of now.met) pump
+    ∙ (λ i. picks_by (sym c.is_entering-entering.ensures i) s (goes_on s) now (record { id = o.id; request = o.request; began = sym began i; visited = sym c.new-visited.ensures i; message = o.message; phase = o.phase }) (sym c.new-asked.ensures i))
+    ∙ sym (c.in_ok-pumped.ensures.pumped before.me h now (goes_on s) o.phase at)
+    ∙ ap (pumped_by (goes_on s) now) c.in-Done.is in
     c.in_ok-does-in-Done.ensures now was ∙ ap work_of (sym is)
 
 pub returns-in_ok-acts_in_turn-in-Again-clause-state : goal.returns-in_ok-acts_in_turn-in-Again-clause-state
@@ -54,10 +54,10 @@ returns-in_ok-acts_in_turn-in-Again-clause-state g c h now told means pump at =
     let began = c.now-began.ensures before.members before.me now.met at.leased in
     let heard = c.in-Again.heard in
     let is =
-        pump_begins s now c.args.op c.args.request (clock_of now.met) pump
-        ∙ (λ i. picks_by (sym c.is_entering-entering.ensures i) s (goes_on s) now (record { id = o.id; request = o.request; began = sym began i; visited = sym c.new-visited.ensures i; message = o.message; phase = o.phase }) (sym c.new-asked.ensures i))
-        ∙ sym (c.in_ok-pumped.ensures.pumped before.me h now (goes_on s) o.phase at)
-        ∙ ap (pumped_by (goes_on s) now) c.in-Again.is in
+    pump_begins s now c.args.op c.args.request (clock_of now.met) pump
+    ∙ (λ i. picks_by (sym c.is_entering-entering.ensures i) s (goes_on s) now (record { id = o.id; request = o.request; began = sym began i; visited = sym c.new-visited.ensures i; message = o.message; phase = o.phase }) (sym c.new-asked.ensures i))
+    ∙ sym (c.in_ok-pumped.ensures.pumped before.me h now (goes_on s) o.phase at)
+    ∙ ap (pumped_by (goes_on s) now) c.in-Again.is in
     let asked = subst (λ (pumped : Pumped). IsAsked pumped c.args.request) c.in-Again.is c.in_ok-pumped.ensures.asked in
     subst (λ (then : Now). IsAt g.V.Versions.version h new then.met then.stored) (sym is)
     (c.in_ok-acts_in_turn-in-Again.ensures.state h now told means (pump_about heard.operation (ap is_pump asked ∙ pump)) at)
@@ -70,9 +70,9 @@ returns-in_ok-acts_in_turn-in-Again-clause-work g c h now told means pump at was
     let began = c.now-began.ensures before.members before.me now.met at.leased in
     let heard = c.in-Again.heard in
     let is =
-        pump_begins s now c.args.op c.args.request (clock_of now.met) pump
-        ∙ (λ i. picks_by (sym c.is_entering-entering.ensures i) s (goes_on s) now (record { id = o.id; request = o.request; began = sym began i; visited = sym c.new-visited.ensures i; message = o.message; phase = o.phase }) (sym c.new-asked.ensures i))
-        ∙ sym (c.in_ok-pumped.ensures.pumped before.me h now (goes_on s) o.phase at)
-        ∙ ap (pumped_by (goes_on s) now) c.in-Again.is in
+    pump_begins s now c.args.op c.args.request (clock_of now.met) pump
+    ∙ (λ i. picks_by (sym c.is_entering-entering.ensures i) s (goes_on s) now (record { id = o.id; request = o.request; began = sym began i; visited = sym c.new-visited.ensures i; message = o.message; phase = o.phase }) (sym c.new-asked.ensures i))
+    ∙ sym (c.in_ok-pumped.ensures.pumped before.me h now (goes_on s) o.phase at)
+    ∙ ap (pumped_by (goes_on s) now) c.in-Again.is in
     let asked = subst (λ (pumped : Pumped). IsAsked pumped c.args.request) c.in-Again.is c.in_ok-pumped.ensures.asked in
     c.in_ok-acts_in_turn-in-Again.ensures.work h now told means (pump_about heard.operation (ap is_pump asked ∙ pump)) at was ∙ ap work_of (sym is)

@@ -29,8 +29,7 @@ loop-group-preserved g c = λ met stored tells follows kept.
     let so = c.loop-group.invariant met stored tells follows kept in
     let set = c.in_ok-catch_up_in.ensures.through in
     let before : through_at was.through group ≤ n = subst (λ m. through_at was.through group ≤ m) (sym is) (so.0.within group) in
-    let inside : n ≤ prefix_of met group = subst (λ m. m ≤ prefix_of met group) (sym is) (applied_within (log_of met group) (stored group)) in
-    (
+    let inside : n ≤ prefix_of met group = subst (λ m. m ≤ prefix_of met group) (sym is) (applied_within (log_of met group) (stored group)) in (
       record {
         queues = c.in_ok-catch_up_in.ensures.queues met tells before inside so.0.queues;
         within = within_still (log_of met) stored (through_at was.through) (through_at new.through) group n is set so.0.within;
