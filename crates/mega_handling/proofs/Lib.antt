@@ -1,3 +1,2 @@
 mod Kept
 mod Handled
-pub mod Meant

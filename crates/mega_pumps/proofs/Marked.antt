@@ -10,7 +10,7 @@ use Rattle.mega_rules.specs.Acting.{applied_in, mark_of}
 use Rattle.mega_rules.specs.Logs.{log_of}
 use Rattle.mega_rules.specs.Operations.{Now}
 use Rattle.mega_pumps.specs.Marks.{mark_if}
-use Rattle.mega_pumps.proofs.Fronts.{take_length, append-nil, append_assoc}
+use Rattle.mega_pumps.proofs.Fronts.{take_length}
 
 added : (marks rest : List Mark) (group : GroupId) (n : ℕ) (t : Bool) → marks ++ cons_option (cond t (Some (record { group = group; position = record { 0 = n } })) None) rest ≡ (marks ++ cond t (record { group = group; position = record { 0 = n } } ∷ []) []) ++ rest
 added marks rest group n true = sym (append_assoc marks (record { group = group; position = record { 0 = n } } ∷ []) rest)
