@@ -71,11 +71,11 @@ any_more test [] group = go (test group)
     go : (t : Bool) → (t || false) ≡ (false || t)
     go true = refl
     go false = refl
-any_more test (x ∷ groups) group = go (test x)
+any_more test (x ∷ groups) group = go (test x) (any_more test groups group)
   where
-    go : (t : Bool) → (t || list_any test (groups ++ group ∷ [])) ≡ ((t || list_any test groups) || test group)
-    go true = refl
-    go false = any_more test groups group
+    go : (t : Bool) → list_any test (groups ++ group ∷ []) ≡ (list_any test groups || test group) → (t || list_any test (groups ++ group ∷ [])) ≡ ((t || list_any test groups) || test group)
+    go true rest = refl
+    go false rest = rest
 
 pub looked_at : (log : Logs) (stored was now : GroupId → ℕ) (group : GroupId) (n : ℕ) (groups more : List GroupId) → more ≡ groups ++ group ∷ [] → n ≡ applied (log group) (stored group)
     → ((other : GroupId) → now other ≡ cond (is_group group other) n (was other)) → ((other : GroupId) → has other groups ≡ true → was other ≡ applied (log other) (stored other))
@@ -118,7 +118,7 @@ nothing_noted digest log stored none kept = record {
 }
   where
     zero_there : (group : GroupId) → through_at digest.through group ≡ 0
-    zero_there group = ap (λ (es : List (GroupId × ℕ)). unwrap_or (lookup (is_at group_cmp group) es) 0) none
+    zero_there group = ap (λ (es : List (GroupId × ℕ)). unwrap_or (lookup (is_at (group_cmp group)) es) 0) none
 
 pub set_there : (old new : BTreeMap GroupId ℕ) (group own : GroupId) (n : ℕ) → own ≡ group → ((q : GroupId) → get group_cmp new q ≡ cond (is_group own q) (Some n) (get group_cmp old q))
     → (other : GroupId) → through_at new other ≡ cond (is_group group other) n (through_at old other)

@@ -3,3 +3,4 @@ mod Onward
 mod Noted
 mod Caught
 mod Marked
+mod Entered

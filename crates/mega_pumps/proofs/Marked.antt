@@ -14,7 +14,7 @@ use Rattle.mega_pumps.proofs.Fronts.{take_length}
 
 added : (marks rest : List Mark) (group : GroupId) (n : ℕ) (t : Bool) → marks ++ cons_option (cond t (Some (record { group = group; position = record { 0 = n } })) None) rest ≡ (marks ++ cond t (record { group = group; position = record { 0 = n } } ∷ []) []) ++ rest
 added marks rest group n true = sym (append_assoc marks (record { group = group; position = record { 0 = n } } ∷ []) rest)
-added marks rest group n false = ap (λ (l : List Mark). l ++ rest) (append-nil marks)
+added marks rest group n false = ap (λ (l : List Mark). l ++ rest) (sym (append-nil marks))
 
 pub mark_more : (now : Now) (group : GroupId) (groups : List GroupId) (n : ℕ) (marks : List Mark) → n ≡ applied (log_of now.met group) (now.stored group)
     → marks ++ filter_map mark_of (map (applied_in now) (group ∷ groups)) ≡ (marks ++ mark_if group n) ++ filter_map mark_of (map (applied_in now) groups)

@@ -64,7 +64,8 @@ pub fn enters<R: Records>(
 {
     match message {
         Some(message) => {
-            if digest.is_entered(alloc, voter, group, through, &message.name)? {
+            let entered = digest.is_entered(alloc, voter, group, through, &message.name)?;
+            if entered {
                 return Ok(Own::Picks);
             }
             let own = entering(alloc, op, message)?;
@@ -136,7 +137,8 @@ pub fn handles<R: Records, V: Versions, H: QueueHandlers>(
     ensures looks { Looks V.Versions (result_err result) rows.old rows.new }
     ensures handlers { H.meant handlers.new ≡ H.meant handlers.old }
 {
-    match digest.oldest_unhandled(alloc, voter, group, through)? {
+    let oldest = digest.oldest_unhandled(alloc, voter, group, through)?;
+    match oldest {
         Some(message) => {
             let own = handles_message(alloc, schema, handlers, rows, op, group, through, &message)?;
             Ok(own)

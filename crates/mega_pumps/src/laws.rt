@@ -8,7 +8,6 @@ ghost use Rattle.mega_pumps.specs.Notes.{Notes};
 ghost use Rattle.mega_pumps.specs.declared.digest.Digest.{Digest as DigestKept};
 
 /// What is noted of logs is noted of longer ones that begin with these, where no less is applied of them.
-#[tactic(auto, using(crate::proofs::Onward::notes_on))]
 pub fn what_is_noted_stays()
     ensures { (log longer : Logs) (stored after : Group → ℕ) (digest : DigestKept) → ((group : Group) → (more : List Content) × (longer group ≡ log group ++ more)) →
         ((group : Group) → applied (log group) (stored group) ≤ applied (longer group) (after group)) →

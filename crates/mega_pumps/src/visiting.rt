@@ -10,26 +10,20 @@ ghost use Rattle.mega_voter.specs.Telling.{Tells};
 ghost use Rattle.mega_wal.specs.Same.{same_group};
 
 use crate::picking::Picked;
-use mega_base::{Copied, GroupId, Items, NoMemory, OpId, Same};
+use mega_base::{Copied, GroupId, Items, NoMemory, OpId};
 use mega_disk::Records;
 use mega_leases::Leases;
 use mega_operations::{Heard, Kept, Members, Operation, Phase};
+use mega_propose::is_same_group;
 use mega_read::local_read;
 use mega_voter::Voter;
 use std::alloc::Global;
-
-/// Whether two groups are one.
-fn same_group(group: &GroupId, other: &GroupId) -> bool
-    ensures { result ≡ same_group group.now other.now }
-{
-    group.same_as(other)
-}
 
 /// Whether the group was read before.
 fn is_visited(visited: &[GroupId], group: &GroupId) -> bool
     ensures { result ≡ list_any (same_group group.now) visited.now }
 {
-    visited.iter().any(|other| same_group(group, other))
+    visited.iter().any(|other| is_same_group(group, other))
 }
 
 /// The read of a group: the first time local where the group is valid and else a poll, and again only a poll that notes no epoch.

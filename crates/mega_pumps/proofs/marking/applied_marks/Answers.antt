@@ -29,7 +29,7 @@ returns g c = λ now tells follows is.
     let at = c.loop-group.group-index in
     let test = c.loop-group-test.false in
     let none : drop at groups ≡ [] = drop_all at groups (omega (arith, test)) in
-    append-nil c.loop-group.marks
+    sym (append-nil c.loop-group.marks)
     ∙ ap (λ (left : List GroupId). c.loop-group.marks ++ filter_map mark_of (map (applied_in now) left)) (sym none)
     ∙ c.loop-group.invariant now tells follows
     ∙ ap (λ (all : List GroupId). filter_map mark_of (map (applied_in now) all)) is

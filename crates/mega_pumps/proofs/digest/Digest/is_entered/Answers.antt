@@ -13,4 +13,4 @@ returns-then-through_of-through g c = λ met stored tells kept within.
 
 pub returns : goal.returns
 returns g c = λ met stored tells kept within.
-    c.is_entered.ensures ∙ ap (λ (mail : Mail). mail.entered c.args.name.now) (c.in_ok-mailbox.ensures met tells within)
+    c.is_entered-2.ensures ∙ ap (λ (mail : Mail). mail.entered c.args.name.now) (c.in_ok-mailbox.ensures met tells within)

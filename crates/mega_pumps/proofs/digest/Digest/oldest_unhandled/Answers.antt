@@ -15,4 +15,4 @@ returns-then-through_of-through g c = λ met stored tells kept within.
 
 pub returns : goal.returns
 returns g c = λ met stored tells kept within.
-    c.in_ok-oldest.ensures ∙ c.oldest_unhandled.ensures ∙ oldest_is (take c.args.through (log_of met c.args.group.now)) (seen c.in_ok-mailbox.mailbox) (c.in_ok-mailbox.ensures met tells within)
+    c.in_ok-oldest-2.ensures ∙ c.oldest_unhandled-2.ensures ∙ oldest_is (take c.args.through (log_of met c.args.group.now)) (seen c.in_ok-mailbox.mailbox) (c.in_ok-mailbox.ensures met tells within)
