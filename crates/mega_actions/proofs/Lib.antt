@@ -9,5 +9,5 @@ mod Onward
 mod Within
 mod InTurn
 mod Begun
-pub mod Pumped
-pub mod Turned
+mod Serving
+mod Turned

@@ -11,10 +11,10 @@ use Rattle.mega_actions.specs.IsAt.{IsAt}
 use Rattle.mega_actions.specs.Working.{work_of}
 
 -- a moment at which the replica and the work are, from which the turns that are left lead where all led
-pub record Goes {R V : Type 0} (version : V → Versions) (h : Meanings) (new : Replica R V) (was work : Work) (s : Setting) (now : Now) (o : Operation) (most left : ℕ) (next : Operation) : Type 0 where
+pub record Goes {R V : Type 0} (version : V → Versions) (h : Meanings) (new : Replica R V) (before made : Work) (s : Setting) (now : Now) (o : Operation) (most left : ℕ) (next : Operation) : Type 0 where
   pub after : Now
   pub stands : IsAt version h new after.met after.stored
-  pub work : was ≡ work_of now → work ≡ work_of after
+  pub work : before ≡ work_of now → made ≡ work_of after
   pub about : IsAbout next
   pub rule_is : acts_within most s now o ≡ acts_within left s after next
 

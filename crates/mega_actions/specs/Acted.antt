@@ -22,9 +22,9 @@ abbrev pub IsNextAsked : Option Operation → Request → Type 0
 IsNextAsked None request = Unit {0}
 IsNextAsked (Some o) request = o.request ≡ request
 
-pub record Acted {R V : Type 0} (version : V → Versions) (h : Meanings) (new : Replica R V) (was work : Work) (now : Now) (rule : (Now → Operation → Now) → Now) (next : Option Operation) : Type 0 where
+pub record Acted {R V : Type 0} (version : V → Versions) (h : Meanings) (new : Replica R V) (before made : Work) (now : Now) (rule : (Now → Operation → Now) → Now) (next : Option Operation) : Type 0 where
   pub after : Now
   pub stands : IsAt version h new after.met after.stored
-  pub work : was ≡ work_of now → work ≡ work_of after
+  pub work : before ≡ work_of now → made ≡ work_of after
   pub about : IsNextAbout next
   pub rule_is : (again : Now → Operation → Now) → rule again ≡ then_again again after next

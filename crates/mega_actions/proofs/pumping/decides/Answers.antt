@@ -9,7 +9,7 @@ use Rattle.mega_view.specs.Shows.{Shows}
 use Rattle.mega_actions.specs.Reaching.{operation_of}
 use Rattle.mega_actions.specs.Stands.{setting}
 use Rattle.mega_actions.proofs.Logged.{shows_log}
-use Rattle.mega_actions.proofs.Pumped.{enters_room, handles_room}
+use Rattle.mega_actions.proofs.Serving.{enters_room, handles_room}
 use Rattle.mega_actions.proofs.Refused.{fares_error, fares_looks}
 use Rattle.mega_actions.proofs.pumping.decides.Goals as goal
 

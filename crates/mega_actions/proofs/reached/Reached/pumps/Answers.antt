@@ -1,7 +1,7 @@
 use Rattle.std.proofs.Common.{◌≡◌, ◌∙◌, ap, sym}
 use Rattle.mega_replica.specs.Following.{progress_at}
 use Rattle.mega_actions.specs.Stands.{setting}
-use Rattle.mega_actions.proofs.Pumped.{pump_full}
+use Rattle.mega_actions.proofs.Serving.{pump_full}
 use Rattle.mega_actions.proofs.Standing.{stands_seen}
 use Rattle.mega_actions.proofs.reached.Reached.pumps.Goals as goal
 

@@ -14,7 +14,7 @@ use Rattle.mega_actions.specs.Pumping.{pumped_by}
 use Rattle.mega_actions.specs.Stands.{Stands, setting}
 use Rattle.mega_actions.specs.Working.{work_of}
 use Rattle.mega_actions.proofs.Doing.{does_met, does_stored}
-use Rattle.mega_actions.proofs.Pumped.{pump_about, pump_begins}
+use Rattle.mega_actions.proofs.Serving.{pump_about, pump_begins}
 use Rattle.mega_actions.proofs.replica.Replica.begins_pump.Goals as goal
 
 pub returns-in_ok-does-in-Done-clause-state : goal.returns-in_ok-does-in-Done-clause-state

@@ -4,7 +4,7 @@ use Rattle.mega_rules.specs.Operations.{Operation}
 use Rattle.mega_actions.specs.Acted.{IsNextAbout, IsNextAsked}
 use Rattle.mega_actions.specs.Pumping.{pumped_after, then_again}
 use Rattle.mega_actions.specs.Stands.{Stands, setting}
-use Rattle.mega_actions.proofs.Pumped.{next_about, next_asked, pumped_met, pumped_stored, pumped_then}
+use Rattle.mega_actions.proofs.Serving.{next_about, next_asked, pumped_met, pumped_stored, pumped_then}
 use Rattle.mega_actions.proofs.Standing.{stands_seen}
 use Rattle.mega_actions.proofs.replica.Replica.pumps.Goals as goal
 
