@@ -411,7 +411,7 @@ impl<R: Records, V: Versions> Replica<R, V> {
     {
         match self.voter.groups(alloc) {
             Ok(groups) => {
-                let most = groups.len() + 1;
+                let most = groups.as_slice().len() + 1;
                 self.acts_within(alloc, handlers, work, most, operation)?;
                 Ok(())
             }

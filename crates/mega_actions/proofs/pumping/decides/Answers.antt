@@ -10,7 +10,7 @@ use Rattle.mega_actions.specs.Reaching.{operation_of}
 use Rattle.mega_actions.specs.Stands.{setting}
 use Rattle.mega_actions.proofs.Logged.{shows_log}
 use Rattle.mega_actions.proofs.Serving.{enters_room, handles_room}
-use Rattle.mega_actions.proofs.Refused.{fares_error, fares_looks}
+use Rattle.mega_actions.proofs.Refused.{fares_looks}
 use Rattle.mega_actions.proofs.pumping.decides.Goals as goal
 
 pub returns-then-is_entering-clause-own : goal.returns-then-is_entering-clause-own
@@ -25,7 +25,7 @@ returns-then-is_entering-clause-own g c told me h progress leases now again mean
     let entering = sym c.is_entering.ensures ∙ c.if-is_entering.true in
     ap (λ (t : Bool). own_by t s again now o reached.group reached.reading reached.position own) entering
     ∙ c.in_ok-own.ensures s again now o reached.reading stands.tells (c.new-digest.ensures (log_of now.met) now.stored) within refl
-    ∙ ap (enters s again now o reached.group reached.reading reached.position) c.as_ref-message.ensures
+    ∙ ap (enters s again now o reached.group reached.reading reached.position) c.as_ref-message.ensures.value
     ∙ sym (enters_room s again now reached.group reached.reading reached.position kept.id kept.began kept.visited kept.message kept.request entering room)
 
 pub returns-in-Ok-clause-own : goal.returns-in-Ok-clause-own
@@ -50,9 +50,3 @@ returns-in-Ok-clause-versions g c key p = λ i. c.in-Ok.ensures.looks.looked.ver
 
 pub returns-in-Ok-clause-fares : goal.returns-in-Ok-clause-fares
 returns-in-Ok-clause-fares g c = fares_looks g.V.Versions _ c.args.rows.now c.handles.new.rows c.in-Ok.ensures.looks
-
-pub returns-in-Err-clause-versions : goal.returns-in-Err-clause-versions
-returns-in-Err-clause-versions g c key p = λ i. c.in-Err.ensures.looks.looked.versions i key p
-
-pub returns-in-Err-clause-fares : goal.returns-in-Err-clause-fares
-returns-in-Err-clause-fares g c = fares_error g.V.Versions c.in-Err.error c.fault_by.result c.args.rows.now c.handles.new.rows c.fault_by.ensures.exact c.in-Err.ensures.looks

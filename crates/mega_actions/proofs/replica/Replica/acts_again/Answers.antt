@@ -8,8 +8,8 @@ pub returns-in_ok-acts_within-in-Ok-clause-acted : goal.returns-in_ok-acts_withi
 returns-in_ok-acts_within-in-Ok-clause-acted g c h now before told means about tells at =
     let s = setting c.args.self.now.members c.args.self.now.me h in
     let inner = c.in_ok-acts_within-in-Ok.ensures.acted h now told means about at in
-    let size = c.len.ensures ∙ ap length (c.in-Ok.ensures before.met tells) in
-    let count : suc (length (groups_of before.met)) ≡ c.len.result + 1 = omega (arith, size) in
+    let size : length c.as_slice.result.now ≡ length (groups_of before.met) = ap length (c.as_slice.ensures.value ∙ c.in-Ok.ensures before.met tells) in
+    let count : suc (length (groups_of before.met)) ≡ length c.as_slice.result.now + 1 = omega (arith, size) in
     record {
       after = inner.after;
       stands = inner.stands;

@@ -34,7 +34,7 @@ loop-turn-preserved g c =
       goes = λ h now told means about at.
           let s = setting before.members before.me h in
           let so = loop.invariant.goes h now told means about at in
-          let inner = c.in-Ok-Some.ensures.acted h so.after told (means_still _ _ h loop.invariant.handlers means) so.about so.stands in
+          let inner = (rw c.in-Ok-Some.field-0-is at c.in-Ok-Some.ensures.acted) h so.after told (means_still _ _ h loop.invariant.handlers means) so.about so.stands in
           record {
             after = inner.after;
             stands = inner.stands;
@@ -49,7 +49,7 @@ loop-turn-preserved g c =
       me = c.acts_once.ensures.me ∙ loop.invariant.me;
       voter = c.acts_once.ensures.voter ∙ loop.invariant.voter;
       fares = fares_then g.V.Versions None before.rows.rows loop.self.rows.rows new.rows.rows loop.invariant.fares c.in-Ok-Some.ensures.fares;
-      asked = c.in-Ok-Some.ensures.asked ∙ loop.invariant.asked;
+      asked = (rw c.in-Ok-Some.field-0-is at c.in-Ok-Some.ensures.asked) ∙ loop.invariant.asked;
     }
 
 pub returns-in-Ok-None-clause-acted : goal.returns-in-Ok-None-clause-acted
@@ -58,7 +58,7 @@ returns-in-Ok-None-clause-acted g c h now told means about at =
     let before = c.args.self.now in
     let s = setting before.members before.me h in
     let so = loop.invariant.goes h now told means about at in
-    let inner = c.in-Ok-None.ensures.acted h so.after told (means_still _ _ h loop.invariant.handlers means) so.about so.stands in
+    let inner = (rw c.in-Ok-None.field-0-is at c.in-Ok-None.ensures.acted) h so.after told (means_still _ _ h loop.invariant.handlers means) so.about so.stands in
     record {
       after = inner.after;
       stands = inner.stands;

@@ -11,8 +11,8 @@ use Rattle.mega_actions.specs.Working.{work_of}
 use Rattle.mega_actions.proofs.Onward.{polls, reaches, seeks_least}
 use Rattle.mega_actions.proofs.replica.Replica.reads_on.Goals as goal
 
-pub returns-in-None-clause-acted : goal.returns-in-None-clause-acted
-returns-in-None-clause-acted g c h now told means of at =
+pub returns-in_default-clause-acted : goal.returns-in_default-clause-acted
+returns-in_default-clause-acted g c h now told means of at =
     let before = c.args.self.now in
     let s = setting before.members before.me h in
     let group = c.args.group in
@@ -23,7 +23,7 @@ returns-in-None-clause-acted g c h now told means of at =
       stands = at;
       work = λ was. c.in_ok-does.ensures now was ∙ ap (λ (one : Operation). work_of (keeps now one)) c.in_phase-operation.ensures;
       about = tt;
-      rule_is = λ again. polls s again now o group reading (sym c.through_of.ensures ∙ c.in-None.is);
+      rule_is = λ again. polls s again now o group reading (sym c.through_of.ensures ∙ c.in_default.is);
     }
 
 pub returns-then-is_reached-clause-acted : goal.returns-then-is_reached-clause-acted
