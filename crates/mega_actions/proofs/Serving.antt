@@ -17,13 +17,11 @@ use Rattle.mega_rules.specs.Operations.{Now, Operation, Phase, Proposes, Reads, 
 use Rattle.mega_rules.specs.Queues.{Posted, next_to_enter, next_to_handle, oldest_unhandled}
 use Rattle.mega_rules.specs.Steps.{begins, new_operation}
 use Rattle.mega_node_laws.specs.About.{IsAbout, IsOf}
-use Rattle.mega_actions.specs.declared.deed.Deed.{Deed}
 use Rattle.mega_actions.specs.declared.pumping.Pumped.{Pumped}
 use Rattle.mega_actions.specs.declared.pumping.Pumped.TheVariants.{Again, Done}
 use Rattle.mega_actions.specs.Acted.{IsNextAbout, IsNextAsked}
 use Rattle.mega_actions.specs.Asked.{IsAsked}
 use Rattle.mega_actions.specs.Built.{is_pump}
-use Rattle.mega_actions.specs.Deeds.{does}
 use Rattle.mega_actions.specs.Pumping.{is_entering, next_of, pumped_after, pumped_by, then_again}
 use Rattle.mega_actions.proofs.Doing.{does_met, does_stored}
 

@@ -1,5 +1,5 @@
 -- An operation that acts again and again in a step, by the turns that it has left.
-use Rattle.std.proofs.Common.{◌≡◌, ◌∙◌, ℕ, suc, ◌+◌, ◌-◌, ◌<◌, ◌≤◌, Option, Some, None, ap, subst, sym, arith}
+use Rattle.std.proofs.Common.{◌≡◌, ◌∙◌, ℕ, suc, ◌+◌, ◌-◌, ◌<◌, ◌≤◌, Some, None, ap, subst, sym, arith}
 use Rattle.mega_disk.specs.VersionMaps.{Versions}
 use Rattle.mega_handler.specs.Named.{Meanings}
 use Rattle.mega_node_laws.specs.About.{IsAbout}
@@ -31,7 +31,7 @@ no_turn s now after o next most turn le is = is ∙ ap (λ n. acts_within n s af
 
 -- an operation that acted once, and then again as often as it has turns left
 module _ {R V : Type 0} (version : V → Versions) (h : Meanings) (mid new : Replica R V) (was between made : Work) (s t : Setting) (now : Now) (o next : Operation) (same : t ≡ s)
-  (first : Acted version h mid was between now (λ again. acts s again now o) (Some next)) (rest : Acted version h new between made first.after (λ again. later t now first.after next) None) where
+    (first : Acted version h mid was between now (λ again. acts s again now o) (Some next)) (rest : Acted version h new between made first.after (λ again. later t now first.after next) None) where
   twice_is : goes_on s now o ≡ rest.after
   twice_is = goes_on_acts s now o ∙ first.rule_is (later s now) ∙ ap (λ (u : Setting). later u now first.after next) (sym same) ∙ rest.rule_is (later s now)
 

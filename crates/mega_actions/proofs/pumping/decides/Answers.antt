@@ -1,5 +1,4 @@
-use Rattle.std.proofs.Common.{◌≡◌, ◌≤◌, ◌∙◌, Bool, ap, sym, refl, arith}
-use Rattle.mega_entry.specs.declared.content.Enter.{Enter}
+use Rattle.std.proofs.Common.{◌≤◌, ◌∙◌, Bool, ap, sym, refl, arith}
 use Rattle.mega_outcome.specs.Answers.{rows_at as versions_at}
 use Rattle.mega_node_laws.proofs.Applied.{applied_within}
 use Rattle.mega_pumps.specs.Owns.{own_by}

@@ -1,4 +1,4 @@
-use Rattle.std.proofs.Common.{◌≡◌, ◌∙◌}
+use Rattle.std.proofs.Common.{◌∙◌}
 use Rattle.mega_rules.specs.Logs.{log_of}
 use Rattle.mega_actions.proofs.pumping.found_next.Goals as goal
 

@@ -1,4 +1,4 @@
-use Rattle.std.proofs.Common.{◌≡◌, sym}
+use Rattle.std.proofs.Common.{sym}
 use Rattle.mega_outcome.specs.declared.answer.Answer.TheVariants.{NothingToDo}
 use Rattle.mega_rules.specs.Acting.{ends}
 use Rattle.mega_actions.proofs.pumping.has_nothing.Goals as goal

@@ -1,4 +1,4 @@
-use Rattle.std.proofs.Common.{◌≡◌, ◌∙◌, Bool, ap, sym}
+use Rattle.std.proofs.Common.{◌∙◌, Bool, ap, sym}
 use Rattle.mega_pumps.specs.Owns.{picks_by}
 use Rattle.mega_actions.proofs.Serving.{serves_group, serves_message}
 use Rattle.mega_actions.proofs.pumping.picked_of.Goals as goal

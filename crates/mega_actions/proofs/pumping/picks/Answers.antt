@@ -1,4 +1,4 @@
-use Rattle.std.proofs.Common.{◌≡◌, ◌∙◌, refl}
+use Rattle.std.proofs.Common.{◌∙◌, refl}
 use Rattle.mega_operations.specs.Whole.{whole}
 use Rattle.mega_actions.specs.Stands.{setting}
 use Rattle.mega_actions.proofs.pumping.picks.Goals as goal

@@ -1,4 +1,4 @@
-use Rattle.std.proofs.Common.{◌≡◌, ◌∙◌, ap, sym, refl}
+use Rattle.std.proofs.Common.{◌∙◌, ap, sym, refl}
 use Rattle.mega_operations.specs.Whole.{whole}
 use Rattle.mega_pumps.specs.Picks.{serves}
 use Rattle.mega_actions.specs.Stands.{setting}

@@ -1,4 +1,4 @@
-use Rattle.std.proofs.Common.{◌≡◌, ◌∙◌, ap, sym}
+use Rattle.std.proofs.Common.{◌∙◌, ap, sym}
 use Rattle.mega_pumps.specs.Owns.{own_by}
 use Rattle.mega_rules.specs.Acting.{proposes}
 use Rattle.mega_rules.specs.Operations.{Replies}

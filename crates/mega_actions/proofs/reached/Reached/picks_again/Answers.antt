@@ -1,4 +1,4 @@
-use Rattle.std.proofs.Common.{◌≡◌, ◌∙◌}
+use Rattle.std.proofs.Common.{◌∙◌}
 use Rattle.mega_pumps.specs.Owns.{picks_by}
 use Rattle.mega_rules.specs.Operations.{Reads}
 use Rattle.mega_actions.specs.Reaching.{operation_of}

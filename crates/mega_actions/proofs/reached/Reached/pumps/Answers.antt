@@ -1,4 +1,4 @@
-use Rattle.std.proofs.Common.{◌≡◌, ◌∙◌, ap, sym}
+use Rattle.std.proofs.Common.{◌∙◌, sym}
 use Rattle.mega_replica.specs.Following.{progress_at}
 use Rattle.mega_actions.specs.Stands.{setting}
 use Rattle.mega_actions.proofs.Serving.{pump_full}

@@ -1,4 +1,4 @@
-use Rattle.std.proofs.Common.{◌≡◌, None, rules, subst, sym}
+use Rattle.std.proofs.Common.{None, rules, subst, sym}
 use Rattle.mega_meanings.proofs.Lasting.{means_still}
 use Rattle.mega_replica.specs.Faring.{Fares}
 use Rattle.mega_replica.proofs.Fared.{fares_then}

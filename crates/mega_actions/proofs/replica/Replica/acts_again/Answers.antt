@@ -1,4 +1,4 @@
-use Rattle.std.proofs.Common.{◌≡◌, ◌∙◌, ◌+◌, suc, length, ap, arith, sym}
+use Rattle.std.proofs.Common.{◌≡◌, ◌∙◌, ◌+◌, suc, length, ap, arith}
 use Rattle.mega_rules.specs.Acting.{acts_within}
 use Rattle.mega_rules.specs.Logs.{groups_of}
 use Rattle.mega_actions.specs.Stands.{setting}

@@ -1,8 +1,8 @@
-use Rattle.std.proofs.Common.{◌≡◌, ◌∙◌, Option, ap, subst, sym}
+use Rattle.std.proofs.Common.{◌≡◌, ◌∙◌, ap, subst, sym}
 use Rattle.mega_operations.specs.Phases.{phase_of, promised_of}
 use Rattle.mega_operations.specs.Whole.{whole}
 use Rattle.mega_rules.specs.Logs.{decided}
-use Rattle.mega_rules.specs.Operations.{Now, Operation, Proposes, Reads}
+use Rattle.mega_rules.specs.Operations.{Operation, Proposes, Reads}
 use Rattle.mega_rules.specs.Acting.{acts, unless_decided}
 use Rattle.mega_replica.specs.Following.{progress_at}
 use Rattle.mega_node_laws.specs.About.{IsAbout}

@@ -1,4 +1,4 @@
-use Rattle.std.proofs.Common.{◌≡◌, ◌∙◌, ◌||◌, sym}
+use Rattle.std.proofs.Common.{◌∙◌, sym}
 use Rattle.mega_actions.proofs.replica.Replica.begins.Goals as goal
 
 pub returns-then-is_pump-clause-state : goal.returns-then-is_pump-clause-state

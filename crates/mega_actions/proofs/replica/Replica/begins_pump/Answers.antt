@@ -1,17 +1,15 @@
-use Rattle.std.proofs.Common.{◌≡◌, ◌∙◌, ap, subst, sym}
-use Rattle.mega_operations.specs.Whole.{whole}
+use Rattle.std.proofs.Common.{◌∙◌, ap, subst, sym}
 use Rattle.mega_pumps.specs.Owns.{picks_by}
-use Rattle.mega_replica.specs.Following.{progress_at}
 use Rattle.mega_rules.specs.Acting.{goes_on}
 use Rattle.mega_rules.specs.Clock.{clock_of}
-use Rattle.mega_rules.specs.Operations.{Now, Operation}
-use Rattle.mega_rules.specs.Steps.{begins, new_operation}
+use Rattle.mega_rules.specs.Operations.{Now}
+use Rattle.mega_rules.specs.Steps.{new_operation}
 use Rattle.mega_actions.specs.declared.pumping.Pumped.{Pumped}
 use Rattle.mega_actions.specs.Asked.{IsAsked}
 use Rattle.mega_actions.specs.Built.{is_pump}
 use Rattle.mega_actions.specs.IsAt.{IsAt}
 use Rattle.mega_actions.specs.Pumping.{pumped_by}
-use Rattle.mega_actions.specs.Stands.{Stands, setting}
+use Rattle.mega_actions.specs.Stands.{setting}
 use Rattle.mega_actions.specs.Working.{work_of}
 use Rattle.mega_actions.proofs.Doing.{does_met, does_stored}
 use Rattle.mega_actions.proofs.Serving.{pump_about, pump_begins}

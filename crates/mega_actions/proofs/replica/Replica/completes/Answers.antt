@@ -1,4 +1,4 @@
-use Rattle.std.proofs.Common.{◌≡◌, None, rules}
+use Rattle.std.proofs.Common.{None, rules}
 use Rattle.mega_rules.specs.Acting.{completes_read}
 use Rattle.mega_node_laws.proofs.Completed.{completed_applied}
 use Rattle.mega_replica.specs.Faring.{Fares}

@@ -1,4 +1,4 @@
-use Rattle.std.proofs.Common.{◌≡◌, ◌∙◌, sym}
+use Rattle.std.proofs.Common.{◌∙◌, sym}
 use Rattle.mega_rules.specs.Acting.{finishes}
 use Rattle.mega_rules.specs.Operations.{Now, Operation}
 use Rattle.mega_actions.specs.Reaching.{operation_of}

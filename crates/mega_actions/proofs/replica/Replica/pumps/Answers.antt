@@ -1,4 +1,4 @@
-use Rattle.std.proofs.Common.{◌≡◌, ◌∙◌, Option, ap, subst, sym}
+use Rattle.std.proofs.Common.{◌∙◌, Option, ap, subst, sym}
 use Rattle.mega_replica.specs.Following.{progress_at}
 use Rattle.mega_rules.specs.Operations.{Operation}
 use Rattle.mega_actions.specs.Acted.{IsNextAbout, IsNextAsked}

@@ -1,11 +1,11 @@
-use Rattle.std.proofs.Common.{◌≡◌, ◌∙◌, ◌≤◌, ◌+◌, ap, subst, sym}
+use Rattle.std.proofs.Common.{◌∙◌, ◌≤◌, ◌+◌, ap, subst, sym}
 use Rattle.std.specs.Prelude.{nat_le}
 use Rattle.mega_operations.specs.Whole.{whole}
 use Rattle.mega_read.specs.Catching.{seeks}
 use Rattle.mega_rules.specs.Clock.{clock_of}
 use Rattle.mega_rules.specs.Logs.{prefix_of}
-use Rattle.mega_rules.specs.Operations.{Now, Operation, Reads}
-use Rattle.mega_rules.specs.Acting.{keeps, reader_of, reads_on, seeks_on}
+use Rattle.mega_rules.specs.Operations.{Operation, Reads}
+use Rattle.mega_rules.specs.Acting.{keeps, reader_of, seeks_on}
 use Rattle.mega_actions.specs.Stands.{setting}
 use Rattle.mega_actions.specs.Working.{work_of}
 use Rattle.mega_actions.proofs.Onward.{polls, reaches, seeks_least}
