@@ -46,7 +46,7 @@ use Rattle.mega_rules.specs.Queues.{Posted, enter_entry, is_named, names_entered
 use Rattle.mega_rules.specs.Members.{kind_of}
 use Rattle.mega_rules.specs.Operations.{Node, Now, Operation, Phase, Promised, Proposes, Reads, Replies, Results, Setting}
 use Rattle.mega_rules.specs.Acting.{acts, acts_within, applied_logs, applied_marks, batch_sealed, begins_read, committed, completes_read, ends, enters, finishes, goes_on, handles, handling, in_phase, is_taken, leader_after, listed_at, picks_group, picks_message, proposes, proposes_by, read_answer, read_begun, reader_of, reads_on, rows_answer, rows_at, sealed, sends_more, table_rows, unless_decided, unless_full, validated_by, validates, verdict, visiting}
-use Rattle.mega_rules.specs.Steps.{Heard, acts_in_turn, all_act, begins, does_due, find_begins, is_out, is_worn, last_answer, local_find_begins, missing_kind, onto, read_begins, refusal, ticked, unless_missing, unless_refused}
+use Rattle.mega_rules.specs.Steps.{Heard, acts_in_turn, all_act, applied_position, begins, does_due, find_begins, is_out, is_worn, last_answer, local_find_begins, missing_kind, onto, read_begins, refusal, snapshot_listed, stored_listed, ticked, unless_missing, unless_refused}
 use Rattle.mega_actions.specs.Indexing.{marks_then}
 use Rattle.mega_core.specs.Beginning.{marks_unless}
 use Rattle.mega_core.specs.Unshown.{is_plain, is_refresh, is_refused_plainly, is_unshown}
@@ -59,11 +59,11 @@ Quiet now = list_all is_unshown now.answers ≡ true
 
 all_push : (xs : List Met) (x : Met) → list_all is_unshown xs ≡ true → is_unshown x ≡ true → list_all is_unshown (xs ++ x ∷ []) ≡ true
 all_push [] x all one = ap (λ (b : Bool). b && true) one
-all_push (y ∷ xs) x all one = by (is_unshown y) all
+all_push (y ∷ xs) x all one = by (is_unshown y) (λ more. all_push xs x more one) all
   where
-    by : (b : Bool) → (b && list_all is_unshown xs) ≡ true → (b && list_all is_unshown (xs ++ x ∷ [])) ≡ true
-    by true more = all_push xs x more one
-    by false more = more
+    by : (b : Bool) → (list_all is_unshown xs ≡ true → list_all is_unshown (xs ++ x ∷ []) ≡ true) → (b && list_all is_unshown xs) ≡ true → (b && list_all is_unshown (xs ++ x ∷ [])) ≡ true
+    by true rest more = rest more
+    by false rest more = more
 
 ends_it : (now : Now) (op : OpId) (answer : Answer) → is_plain answer ≡ true → Quiet now → Quiet (ends now op answer)
 ends_it now op answer plain h = all_push now.answers (Answers op answer) h plain
@@ -230,8 +230,8 @@ module _ (s : Setting) where
 
   local_find_it : (now : Now) (o : Operation) (request : FindRequest) (group : GroupId) (mode : Mode) → Quiet now → Quiet (local_find_begins s now o request group mode)
   local_find_it now o request group Current h = begins_read_it (goes_on s) goes_on_it now o group None [] h
-  local_find_it now o request group Snapshot h = ends_it now o.id _ (local_plain s.cluster.schema request _ _) h
-  local_find_it now o request group Inconsistent h = ends_it now o.id _ (local_plain s.cluster.schema request _ _) h
+  local_find_it now o request group Snapshot h = ends_it now o.id _ (local_plain s.cluster.schema request (applied_position now group) (snapshot_listed now group)) h
+  local_find_it now o request group Inconsistent h = ends_it now o.id _ (local_plain s.cluster.schema request (applied_position now group) (stored_listed now group)) h
 
   find_begins_it : (now : Now) (o : Operation) (request : FindRequest) (group : Option GroupId) → Quiet now → Quiet (find_begins s now o request group)
   find_begins_it now o request None h = ends_it now o.id _ (global_plain s.cluster.schema now.met request) h

@@ -39,11 +39,11 @@ use Rattle.mega_core.specs.Unshown.{is_plain, is_unshown}
 
 all_both : (a b : List Met) → list_all is_unshown a ≡ true → list_all is_unshown b ≡ true → list_all is_unshown (a ++ b) ≡ true
 all_both [] b one two = two
-all_both (x ∷ a) b one two = by (is_unshown x) one
+all_both (x ∷ a) b one two = by (is_unshown x) (λ more. all_both a b more two) one
   where
-    by : (t : Bool) → (t && list_all is_unshown a) ≡ true → (t && list_all is_unshown (a ++ b)) ≡ true
-    by true more = all_both a b more two
-    by false more = more
+    by : (t : Bool) → (list_all is_unshown a ≡ true → list_all is_unshown (a ++ b) ≡ true) → (t && list_all is_unshown a) ≡ true → (t && list_all is_unshown (a ++ b)) ≡ true
+    by true rest more = rest more
+    by false rest more = more
 
 where_so : (test : Bool) (notes : List Met) → list_all is_unshown notes ≡ true → list_all is_unshown (cond test notes []) ≡ true
 where_so true notes h = h
@@ -121,7 +121,7 @@ leases_unshown s met now = where_so (is_full s.cluster s.me) (tick_notes s.clust
 
 -- ---- what is decided, applied and sent
 
-decision_unshown : (d : Option Decision) → list_all is_unshown (decision_note d) ≡ true
+pub decision_unshown : (d : Option Decision) → list_all is_unshown (decision_note d) ≡ true
 decision_unshown None = refl
 decision_unshown (Some d) = refl
 
@@ -180,11 +180,12 @@ one_stays (Answers op answer) met h = answer_stays op answer met h
 
 pub marks_after : (items met : List Met) → list_all is_unshown items ≡ true → refreshed_marks (onto items met) ≡ refreshed_marks met
 marks_after [] met h = refl
-marks_after (one ∷ items) met h = by (is_unshown one) refl h
+marks_after (one ∷ items) met h = by (is_unshown one) refl (λ more. marks_after items (one ∷ met) more) h
   where
-    by : (b : Bool) → is_unshown one ≡ b → (b && list_all is_unshown items) ≡ true → refreshed_marks (onto items (one ∷ met)) ≡ refreshed_marks met
-    by true is more = marks_after items (one ∷ met) more ∙ one_stays one met is
-    by false is more = absurd (cc)
+    by : (b : Bool) → is_unshown one ≡ b → (list_all is_unshown items ≡ true → refreshed_marks (onto items (one ∷ met)) ≡ refreshed_marks (one ∷ met))
+        → (b && list_all is_unshown items) ≡ true → refreshed_marks (onto items (one ∷ met)) ≡ refreshed_marks met
+    by true is rest more = rest more ∙ one_stays one met is
+    by false is rest more = absurd (cc)
 
 -- ---- the marks beside what else a step notes
 
