@@ -1,6 +1,6 @@
 -- What a request does that begins: it is answered at once, or acts in turn with the read of its group.
 use Rattle.std.proofs.Common.{◌≡◌, ◌∙◌, ℕ, ◌∷◌, [], true, false, List, Option, None, Some, refl, sym, ap}
-use Rattle.std.specs.Prelude.{◌&&◌, is_some, not}
+use Rattle.std.specs.Prelude.{◌&&◌, is_none, is_some, not}
 use Rattle.mega_base.specs.declared.names.GroupId.{GroupId}
 use Rattle.mega_base.specs.declared.names.OpId.{OpId}
 use Rattle.mega_outcome.specs.declared.answer.Answer.{Answer}
@@ -12,11 +12,13 @@ use Rattle.mega_outcome.specs.declared.request.Request.{Request}
 use Rattle.mega_outcome.specs.declared.request.Request.TheVariants.{Txn, Batch, Read, Find, PumpEnter, PumpHandle, Refresh}
 use Rattle.mega_read.specs.declared.reading.Move.{Move}
 use Rattle.mega_rules.specs.Clock.{clock_of}
+use Rattle.mega_rules.specs.Finding.{refreshed_marks}
 use Rattle.mega_rules.specs.Operations.{Now, Reads, Setting}
 use Rattle.mega_rules.specs.Acting.{begins_read, ends, goes_on, read_begun}
 use Rattle.mega_rules.specs.Steps.{Heard, acts_in_turn, begins, find_begins, is_current, local_find_begins, new_operation, read_begins}
 use Rattle.mega_node_laws.specs.About.{IsOf}
-use Rattle.mega_actions.specs.Built.{is_at_once, is_plain}
+use Rattle.mega_actions.specs.Built.{is_at_once, is_indexed, is_plain}
+use Rattle.mega_actions.specs.Indexing.{by_index, found_by_index, marks_then}
 use Rattle.mega_actions.specs.Showing.{at_once, looks, looks_in}
 
 module _ (s : Setting) (now : Now) (op : OpId) where
@@ -58,7 +60,22 @@ module _ (s : Setting) (now : Now) (op : OpId) where
   begins_answered PumpHandle clock answer is = cc
   begins_answered Refresh clock answer is = cc
 
-  -- so does a find in a group
+  -- so does one that the indexes answer
+  found_indexed : (request : FindRequest) (group : Option GroupId) (clock : ℕ) (answer : Answer) → found_by_index s.cluster.schema now request group ≡ Some answer
+      → find_begins s now (new_operation op (Find request) clock) request group ≡ ends now op answer
+  found_indexed request None clock answer is = ap ends_by is
+  found_indexed request (Some group) clock answer is = cc
+
+  pub begins_indexed : (request : Request) (clock : ℕ) (answer : Answer) → by_index s.cluster.schema now request ≡ Some answer → begins s now (new_operation op request clock) ≡ ends now op answer
+  begins_indexed (Txn transaction) clock answer is = cc
+  begins_indexed (Batch own transactions) clock answer is = cc
+  begins_indexed (Read request) clock answer is = cc
+  begins_indexed (Find request) clock answer is = found_indexed request request.group clock answer is
+  begins_indexed PumpEnter clock answer is = cc
+  begins_indexed PumpHandle clock answer is = cc
+  begins_indexed Refresh clock answer is = ap ends_by is
+
+  -- a find in a group that asks for current rows reads it
   find_current : (request : FindRequest) (group : GroupId) (clock : ℕ) (mode : Mode) → not (is_current mode) ≡ false
       → local_find_begins s now (new_operation op (Find request) clock) request group mode ≡ begins_read s (goes_on s) now (new_operation op (Find request) clock) group None []
   find_current request group clock Current current = refl
@@ -93,3 +110,40 @@ module _ (s : Setting) (now : Now) (op : OpId) where
       → acts_in_turn s now (begun request began visited group made) ≡ begins s now (new_operation op request (clock_of now.met))
   begins_in_turn request began visited group made clock first is built current of =
       (λ i. acts_in_turn s now (begun request (clock i) (first i) group (is i))) ∙ sym (begins_by request group (clock_of now.met) built current of)
+
+  indexed_met : (request : FindRequest) (group : Option GroupId) (clock : ℕ) → is_none group ≡ true → (find_begins s now (new_operation op (Find request) clock) request group).met ≡ now.met
+  indexed_met request None clock is = refl
+  indexed_met request (Some group) clock is = cc
+
+  indexed_stored : (request : FindRequest) (group : Option GroupId) (clock : ℕ) → is_none group ≡ true → (find_begins s now (new_operation op (Find request) clock) request group).stored ≡ now.stored
+  indexed_stored request None clock is = refl
+  indexed_stored request (Some group) clock is = cc
+
+  -- which changes nothing of what was met and stored
+  pub met_stays : (request : Request) (clock : ℕ) → is_indexed request ≡ true → (begins s now (new_operation op request clock)).met ≡ now.met
+  met_stays (Txn transaction) clock is = cc
+  met_stays (Batch own transactions) clock is = cc
+  met_stays (Read request) clock is = cc
+  met_stays (Find request) clock is = indexed_met request request.group clock is
+  met_stays PumpEnter clock is = cc
+  met_stays PumpHandle clock is = cc
+  met_stays Refresh clock is = refl
+
+  pub stored_stays : (request : Request) (clock : ℕ) → is_indexed request ≡ true → (begins s now (new_operation op request clock)).stored ≡ now.stored
+  stored_stays (Txn transaction) clock is = cc
+  stored_stays (Batch own transactions) clock is = cc
+  stored_stays (Read request) clock is = cc
+  stored_stays (Find request) clock is = indexed_stored request request.group clock is
+  stored_stays PumpEnter clock is = cc
+  stored_stays PumpHandle clock is = cc
+  stored_stays Refresh clock is = refl
+
+-- what is no refresh leaves the marks
+pub marks_stay : (now : Now) (request : Request) → is_indexed request ≡ false → marks_then now request ≡ refreshed_marks now.met
+marks_stay now (Txn transaction) is = refl
+marks_stay now (Batch own transactions) is = refl
+marks_stay now (Read request) is = refl
+marks_stay now (Find request) is = refl
+marks_stay now PumpEnter is = refl
+marks_stay now PumpHandle is = refl
+marks_stay now Refresh is = cc

@@ -1,5 +1,5 @@
--- What is served: transactions, batches of at most 16 of them, reads, finds in a group, and pumps.
-use Rattle.std.specs.Prelude.{Bool, true, false, not, ◌&&◌, ◌||◌, nat_le, length, List, [], ◌∷◌, Option, Some, None, is_some}
+-- What is served: transactions, batches of at most 16 of them, reads, finds, pumps and refreshes.
+use Rattle.std.specs.Prelude.{Bool, true, false, not, ◌&&◌, ◌||◌, nat_le, length, List, [], ◌∷◌, Option, Some, None, is_none, is_some}
 use Rattle.mega_base.specs.declared.names.GroupId.{GroupId}
 use Rattle.mega_outcome.specs.declared.request.Mode.{Mode}
 use Rattle.mega_outcome.specs.declared.request.Mode.TheVariants.{Current}
@@ -50,6 +50,16 @@ is_answered request = is_some (group_asked request)
 abbrev pub is_at_once : Request → Bool
 is_at_once request = is_answered request && not (is_current (mode_asked request))
 
+-- requests that the node's global indexes answer, at once
+abbrev pub is_indexed : Request → Bool
+is_indexed (Txn transaction) = false
+is_indexed (Batch group transactions) = false
+is_indexed (Read request) = false
+is_indexed (Find request) = is_none request.group
+is_indexed PumpEnter = false
+is_indexed PumpHandle = false
+is_indexed Refresh = true
+
 -- pumps
 abbrev pub is_pump : Request → Bool
 is_pump (Txn transaction) = false
@@ -69,4 +79,4 @@ abbrev pub is_open : Request → Bool
 is_open request = is_pump request || is_plain request
 
 abbrev pub is_built : Request → Bool
-is_built request = is_open request
+is_built request = is_indexed request || is_open request

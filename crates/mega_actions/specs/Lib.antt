@@ -14,3 +14,4 @@ pub mod Pumping
 pub mod Asked
 pub mod Acted
 pub mod Later
+pub mod Indexing

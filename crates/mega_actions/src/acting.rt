@@ -139,6 +139,7 @@ impl<R: Records, V: Versions> Replica<R, V> {
         ensures members { self.new.members ≡ self.old.members }
         ensures me { self.new.me ≡ self.old.me }
         ensures voter { self.new.voter ≡ self.old.voter }
+        ensures indexed { self.new.indexed ≡ self.old.indexed }
         ensures built { result ≡ Err Unbuilt → ⊥ }
     {
         let pumped = reached.pumps(
@@ -170,6 +171,7 @@ impl<R: Records, V: Versions> Replica<R, V> {
         ensures members { self.new.members ≡ self.old.members }
         ensures me { self.new.me ≡ self.old.me }
         ensures voter { self.new.voter ≡ self.old.voter }
+        ensures indexed { self.new.indexed ≡ self.old.indexed }
         ensures unbuilt { result ≡ Err Unbuilt → is_open reached.kept.request ≡ false }
     {
         if is_pump(&reached.kept.request) {
@@ -206,6 +208,7 @@ impl<R: Records, V: Versions> Replica<R, V> {
         ensures members { self.new.members ≡ self.old.members }
         ensures me { self.new.me ≡ self.old.me }
         ensures voter { self.new.voter ≡ self.old.voter }
+        ensures indexed { self.new.indexed ≡ self.old.indexed }
         ensures unbuilt { result ≡ Err Unbuilt → is_open reached.kept.request ≡ false }
     {
         match reads_through(
@@ -245,6 +248,7 @@ impl<R: Records, V: Versions> Replica<R, V> {
         ensures members { self.new.members ≡ self.old.members }
         ensures me { self.new.me ≡ self.old.me }
         ensures voter { self.new.voter ≡ self.old.voter }
+        ensures indexed { self.new.indexed ≡ self.old.indexed }
         ensures unbuilt { result ≡ Err Unbuilt → is_open kept.request ≡ false }
     {
         let Some(through) = reading.through_of() else {
@@ -298,6 +302,7 @@ impl<R: Records, V: Versions> Replica<R, V> {
         ensures members { self.new.members ≡ self.old.members }
         ensures me { self.new.me ≡ self.old.me }
         ensures voter { self.new.voter ≡ self.old.voter }
+        ensures indexed { self.new.indexed ≡ self.old.indexed }
         ensures unbuilt { result ≡ Err Unbuilt → is_open operation.request ≡ false }
     {
         let (kept, phase) = operation.parts();
@@ -342,6 +347,7 @@ impl<R: Records, V: Versions> Replica<R, V> {
         ensures members { self.new.members ≡ self.old.members }
         ensures me { self.new.me ≡ self.old.me }
         ensures voter { self.new.voter ≡ self.old.voter }
+        ensures indexed { self.new.indexed ≡ self.old.indexed }
         ensures unbuilt { result ≡ Err Unbuilt → is_open operation.request ≡ false }
     {
         let mut next = operation;
@@ -379,6 +385,7 @@ impl<R: Records, V: Versions> Replica<R, V> {
         ensures members { self.new.members ≡ self.old.members }
         ensures me { self.new.me ≡ self.old.me }
         ensures voter { self.new.voter ≡ self.old.voter }
+        ensures indexed { self.new.indexed ≡ self.old.indexed }
         ensures unbuilt { result ≡ Err Unbuilt → is_open operation.request ≡ false }
     {
         match self.acts_once(alloc, handlers, work, operation) {
@@ -407,6 +414,7 @@ impl<R: Records, V: Versions> Replica<R, V> {
         ensures members { self.new.members ≡ self.old.members }
         ensures me { self.new.me ≡ self.old.me }
         ensures voter { self.new.voter ≡ self.old.voter }
+        ensures indexed { self.new.indexed ≡ self.old.indexed }
         ensures unbuilt { result ≡ Err Unbuilt → is_open operation.request ≡ false }
     {
         match self.voter.groups(alloc) {

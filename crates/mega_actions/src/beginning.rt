@@ -11,15 +11,18 @@ ghost use Rattle.mega_rules.specs.Steps.{begins, new_operation};
 ghost use Rattle.mega_replica.specs.Faring.{Fares};
 ghost use Rattle.mega_voter.specs.Telling.{Tells};
 ghost use Rattle.mega_actions.specs.declared.fault.ActFault.TheVariants.{Unbuilt};
-ghost use Rattle.mega_actions.specs.Built.{is_at_once, is_built, is_plain, is_pump};
+ghost use Rattle.mega_actions.specs.Built.{is_at_once, is_built, is_indexed, is_plain, is_pump};
+ghost use Rattle.mega_actions.specs.Indexing.{marks_then};
+ghost use Rattle.mega_marks.specs.AreMarked.{AreMarked, IsIndexed};
 ghost use Rattle.mega_actions.specs.Faults.{failed_by};
 ghost use Rattle.mega_actions.specs.IsAt.{IsAt, setting_of};
 ghost use Rattle.mega_actions.specs.Stands.{setting};
 ghost use Rattle.mega_actions.specs.Working.{work_of};
 
-use crate::answering::{answer_now, group_asked, is_at_once};
+use crate::answering::{answer_now, group_asked, is_at_once, is_indexed};
 use crate::deed::{Deed, End};
 use crate::fault::ActFault;
+use crate::indexing::indexed_answer;
 use crate::pumping::{Pumped, is_entering, is_pump, picks};
 use crate::replica::Replica;
 use crate::work::Work;
@@ -88,8 +91,8 @@ struct FirstRead {
 }
 
 impl<R: Records, V: Versions> Replica<R, V> {
-    /// A request begins: a read or find that asks for no current rows is answered at once; any other reads its group, and goes on in the same
-    /// step where that read is local.
+    /// A request begins: a find in no group, a refresh, and a read or find that asks for no current rows are answered
+    /// at once; any other reads its group, and goes on in the same step where that read is local.
     #[tactic(auto, using(mega_replica::proofs::Fared::fares_here, crate::proofs::Refused::fares_apart))]
     pub fn begins<H: QueueHandlers>(
         &mut self,
@@ -104,15 +107,30 @@ impl<R: Records, V: Versions> Replica<R, V> {
             IsAt V.version h self.new
             (begins (setting_of self.old h) now (new_operation op request (clock_of now.met))).met (begins (setting_of self.old h) now (new_operation op request (clock_of now.met))).stored) }
         ensures work { OnOk result ((h : Meanings) (now : Now) → V.is_told ≡ true → Means (H.meant handlers.old) h →
-            IsAt V.version h self.old now.met now.stored →
+            IsAt V.version h self.old now.met now.stored → IsIndexed (self.old.members).schema self.old.indexed now.met →
             work.old ≡ work_of now → work.new ≡ work_of (begins (setting_of self.old h) now (new_operation op request (clock_of now.met)))) }
         ensures handlers { H.meant handlers.new ≡ H.meant handlers.old }
         ensures fares { Fares V.Versions (failed_by result) self.old.rows.rows self.new.rows.rows }
         ensures members { self.new.members ≡ self.old.members }
         ensures me { self.new.me ≡ self.old.me }
         ensures voter { self.new.voter ≡ self.old.voter }
+        ensures indexed { OnOk result ((h : Meanings) (now : Now) → V.is_told ≡ true →
+            IsAt V.version h self.old now.met now.stored → IsIndexed (self.old.members).schema self.old.indexed now.met →
+            AreMarked (self.old.members).schema self.new.indexed now.met (marks_then now request)) }
         ensures unbuilt { result ≡ Err Unbuilt → is_built request ≡ false }
     {
+        if is_indexed(&request) {
+            match self.answers_indexed(alloc, work, op, &request) {
+                Ok(()) => {
+                    drop(request);
+                    return Ok(());
+                }
+                Err(fault) => {
+                    drop(request);
+                    return Err(fault);
+                }
+            }
+        }
         if is_at_once(&request) {
             match self.answers_now(alloc, work, op, &request) {
                 Ok(()) => {
@@ -155,6 +173,7 @@ impl<R: Records, V: Versions> Replica<R, V> {
         ensures members { self.new.members ≡ self.old.members }
         ensures me { self.new.me ≡ self.old.me }
         ensures voter { self.new.voter ≡ self.old.voter }
+        ensures indexed { self.new.indexed ≡ self.old.indexed }
         ensures unbuilt { is_pump request ≡ true → result ≡ Err Unbuilt → ⊥ }
     {
         let entering = is_entering(&request);
@@ -190,6 +209,45 @@ impl<R: Records, V: Versions> Replica<R, V> {
         }
     }
 
+    /// An operation that the global indexes answer.
+    fn answers_indexed(
+        &mut self,
+        alloc: Global,
+        work: &mut Work,
+        op: OpId,
+        request: &Request,
+    ) -> Result<(), ActFault>
+        ensures state { OnOk result ((h : Meanings) (now : Now) → V.is_told ≡ true → is_indexed request.now ≡ true →
+            IsAt V.version h self.old now.met now.stored →
+            IsAt V.version h self.new
+            (begins (setting_of self.old h) now (new_operation op request.now (clock_of now.met))).met (begins (setting_of self.old h) now (new_operation op request.now (clock_of now.met))).stored) }
+        ensures work { OnOk result ((h : Meanings) (now : Now) → V.is_told ≡ true → is_indexed request.now ≡ true →
+            IsAt V.version h self.old now.met now.stored → IsIndexed (self.old.members).schema self.old.indexed now.met →
+            work.old ≡ work_of now → work.new ≡ work_of (begins (setting_of self.old h) now (new_operation op request.now (clock_of now.met)))) }
+        ensures fares { Fares V.Versions (failed_by result) self.old.rows.rows self.new.rows.rows }
+        ensures members { self.new.members ≡ self.old.members }
+        ensures me { self.new.me ≡ self.old.me }
+        ensures voter { self.new.voter ≡ self.old.voter }
+        ensures indexed { OnOk result ((h : Meanings) (now : Now) → V.is_told ≡ true → is_indexed request.now ≡ true →
+            IsAt V.version h self.old now.met now.stored → IsIndexed (self.old.members).schema self.old.indexed now.met →
+            AreMarked (self.old.members).schema self.new.indexed now.met (marks_then now request.now)) }
+        ensures unbuilt { result ≡ Err Unbuilt → is_indexed request.now ≡ false }
+    {
+        let answer = indexed_answer(
+            alloc,
+            &self.members,
+            &self.voter,
+            &self.rows,
+            &mut self.indexed,
+            request,
+        )?;
+        work.does(Deed {
+            sends: None,
+            end: End::Ends(op, answer),
+        })?;
+        Ok(())
+    }
+
     /// An operation that is answered at once.
     fn answers_now(
         &mut self,
@@ -209,6 +267,7 @@ impl<R: Records, V: Versions> Replica<R, V> {
         ensures members { self.new.members ≡ self.old.members }
         ensures me { self.new.me ≡ self.old.me }
         ensures voter { self.new.voter ≡ self.old.voter }
+        ensures indexed { self.new.indexed ≡ self.old.indexed }
         ensures unbuilt { result ≡ Err Unbuilt → is_at_once request.now ≡ false }
     {
         let answer = answer_now(alloc, &self.members, &self.voter, &mut self.rows, request)?;
@@ -241,6 +300,7 @@ impl<R: Records, V: Versions> Replica<R, V> {
         ensures members { self.new.members ≡ self.old.members }
         ensures me { self.new.me ≡ self.old.me }
         ensures voter { self.new.voter ≡ self.old.voter }
+        ensures indexed { self.new.indexed ≡ self.old.indexed }
         ensures unbuilt { result ≡ Err Unbuilt → is_plain request ≡ false }
     {
         match self.first_read(alloc, op, &request) {

@@ -3,9 +3,7 @@ ghost use Rattle.std.specs.Prelude.{◌≡◌, IfOk, Some, true, Err};
 ghost use Rattle.mega_disk.specs.VersionMaps.{SameVersions};
 ghost use Rattle.mega_index.specs.Rows.{Listed};
 ghost use Rattle.mega_outcome.specs.Answers.{rows_at};
-ghost use Rattle.mega_outcome.specs.declared.answer.Answer.TheVariants.{Turned};
-ghost use Rattle.mega_outcome.specs.declared.answer.Turn.TheVariants.{BadRow};
-ghost use Rattle.mega_rules.specs.Finding.{find_answer, local_found, mark_at};
+ghost use Rattle.mega_rules.specs.Finding.{local_found};
 ghost use Rattle.mega_replica.specs.Faring.{Fares};
 ghost use Rattle.mega_actions.specs.declared.fault.ActFault.TheVariants.{Unbuilt};
 ghost use Rattle.mega_actions.specs.Faults.{failed_by};
@@ -14,53 +12,13 @@ ghost use Rattle.mega_view.specs.Shows.{Shows};
 
 use crate::answering::fault_by;
 use crate::fault::ActFault;
-use mega_base::{Copied, GroupId, Items, NoMemory, Position};
+use mega_base::{GroupId, Position};
 use mega_disk::Versions;
-use mega_index::Found;
-use mega_outcome::{Answer, FindRequest, Mark, Turn};
+use mega_marks::{find_answer, mark_at};
+use mega_outcome::{Answer, FindRequest};
 use mega_schema::Schema;
 use mega_view::find_all;
 use std::alloc::Global;
-
-/// The mark of a group at a position from 1 on.
-fn mark_at(alloc: Global, group: &GroupId, position: u64) -> Result<Items<Mark>, NoMemory>
-    ensures { IfOk result (λ marks. marks ≡ mark_at group.now position) }
-{
-    let mut marks = Items::new(alloc);
-    if position > 0 {
-        let group = group.copy(alloc)?;
-        let position = Position(position);
-        marks.push(Mark { group, position })?;
-        return Ok(marks);
-    }
-    Ok(marks)
-}
-
-/// The answer of a find whose value at this place does not fit.
-fn turned(place: u64) -> Result<Answer, NoMemory>
-    ensures { IfOk result (λ answer. answer ≡ Turned (BadRow place)) }
-{
-    match u32::try_from(place) {
-        Ok(item) => Ok(Answer::Turned(Turn::BadRow { item })),
-        Err(_) => Err(NoMemory),
-    }
-}
-
-/// The answer of a find, at these marks: what is found, or that a value does not fit.
-pub(crate) fn find_answer(
-    marks: Items<Mark>,
-    found: Result<Items<Found>, u64>,
-) -> Result<Answer, NoMemory>
-    ensures { IfOk result (λ answer. answer ≡ find_answer marks found) }
-{
-    match found {
-        Ok(rows) => Ok(Answer::Found { marks, rows }),
-        Err(place) => {
-            drop(marks);
-            turned(place)
-        }
-    }
-}
 
 /// The answer of a find in a group over its rows at a position, as one of the position that it tells.
 pub(crate) fn found_at<V: Versions>(

@@ -12,6 +12,7 @@ mod entries;
 mod fault;
 mod finding;
 mod finishing;
+mod indexing;
 mod outcomes;
 mod proposing;
 mod pumping;

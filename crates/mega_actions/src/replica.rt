@@ -1,11 +1,13 @@
-//! What a node keeps beside its open operations: its logs, its leases and its rows.
+//! What a node keeps beside its open operations: its logs, its leases, its rows and its global indexes.
 use mega_disk::{Records, Versions};
 use mega_leases::Leases;
+use mega_marks::Indexed;
 use mega_operations::Members;
 use mega_replica::StoredRows;
 use mega_voter::Voter;
 
-/// What a node keeps beside its open operations: its cluster and number, its logs, its leases and its rows.
+/// What a node keeps beside its open operations: its cluster and number, its logs, its leases, its rows and its
+/// global indexes.
 #[derive(Drop)]
 pub struct Replica<R: Records, V: Versions> {
     pub members: Members,
@@ -13,4 +15,5 @@ pub struct Replica<R: Records, V: Versions> {
     pub voter: Voter<R>,
     pub leases: Leases,
     pub rows: StoredRows<V>,
+    pub indexed: Indexed,
 }

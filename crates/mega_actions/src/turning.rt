@@ -45,6 +45,7 @@ impl<R: Records, V: Versions> Replica<R, V> {
         ensures members { self.new.members ≡ self.old.members }
         ensures me { self.new.me ≡ self.old.me }
         ensures voter { self.new.voter ≡ self.old.voter }
+        ensures indexed { self.new.indexed ≡ self.old.indexed }
         ensures unbuilt { result ≡ Err Unbuilt → is_open heard.operation.request ≡ false }
     {
         let Heard { operation, sends } = heard;
@@ -81,6 +82,7 @@ impl<R: Records, V: Versions> Replica<R, V> {
         ensures members { self.new.members ≡ self.old.members }
         ensures me { self.new.me ≡ self.old.me }
         ensures voter { self.new.voter ≡ self.old.voter }
+        ensures indexed { self.new.indexed ≡ self.old.indexed }
         ensures unbuilt { result ≡ Err Unbuilt → All IsBuiltHeard heard → ⊥ }
     {
         for one in heard.into_vec() {
@@ -111,6 +113,7 @@ impl<R: Records, V: Versions> Replica<R, V> {
         ensures members { self.new.members ≡ self.old.members }
         ensures me { self.new.me ≡ self.old.me }
         ensures voter { self.new.voter ≡ self.old.voter }
+        ensures indexed { self.new.indexed ≡ self.old.indexed }
         ensures unbuilt { result ≡ Err Unbuilt → is_open operation.request ≡ false }
     {
         if operation.is_out(&self.members, clock) {
@@ -150,6 +153,7 @@ impl<R: Records, V: Versions> Replica<R, V> {
         ensures members { self.new.members ≡ self.old.members }
         ensures me { self.new.me ≡ self.old.me }
         ensures voter { self.new.voter ≡ self.old.voter }
+        ensures indexed { self.new.indexed ≡ self.old.indexed }
         ensures unbuilt { result ≡ Err Unbuilt → All IsBuilt operations → ⊥ }
     {
         for operation in operations.into_vec() {

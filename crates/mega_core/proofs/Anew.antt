@@ -40,6 +40,8 @@ use Rattle.mega_voter.proofs.Opened.{granted_without, slots_without}
 use Rattle.mega_node_laws.specs.About.{IsAbout}
 use Rattle.mega_node_laws.proofs.Ending.{onto_append}
 use Rattle.mega_node_laws.proofs.Logs.{log_after, log_is}
+use Rattle.mega_marks.specs.declared.indexed.Indexed.{Indexed}
+use Rattle.mega_marks.specs.AreMarked.{IsIndexed}
 use Rattle.mega_actions.specs.Stands.{setting}
 use Rattle.mega_actions.specs.Turns.{IsBuilt}
 use Rattle.mega_core.specs.Represents.{Represents}
@@ -186,16 +188,18 @@ logs_beside kept starts met owed are few recalls group =
     goes = (start_goes_on starts met owed are few recalls.later recalls.honest).0
 
 -- ---- the node is that of the rules
-pub restarted : (c : Cluster) (me : ℕ) (h : Meanings) (old kept : Kept) (leases : Leases) (version : Versions) (progress : GroupId → Progress) (starts : ℕ) (met owed : List Met)
+pub restarted : (c : Cluster) (me : ℕ) (h : Meanings) (old kept : Kept) (leases : Leases) (indexed : Indexed) (version : Versions) (progress : GroupId → Progress) (starts : ℕ) (met owed : List Met)
     → is_node c me ≡ true → IsSmall c.schema → AreOwed owed met → starts < 4294967295 → Recalls old starts (onto owed met) → Tells kept (onto owed (Starts (starts + 1) ∷ met))
     → TellsLeases c me leases (onto owed (Starts (starts + 1) ∷ met))
     → Follows version progress (log_of (onto owed (Starts (starts + 1) ∷ met))) (applied_at_start (setting c me h) (onto owed (Starts (starts + 1) ∷ met)))
-    → Represents (setting c me h) kept leases version progress [] 0 (start (setting c me h) (starts + 1) owed met)
-restarted c me h old kept leases version progress starts met owed member small are few recalls tells leased follows = record {
+    → IsIndexed c.schema indexed (start (setting c me h) (starts + 1) owed met).met
+    → Represents (setting c me h) kept leases indexed version progress [] 0 (start (setting c me h) (starts + 1) owed met)
+restarted c me h old kept leases indexed version progress starts met owed member small are few recalls tells leased follows marked = record {
   kind = record { member = member; small = small; idle = λ other. refl; bare = λ none group. ap (λ t. cond t (apply_all (onto owed met) group) 0) none };
   tells = subst (Tells kept) (sym all) (mute_told kept notes now mute tells);
   leased = subst (TellsLeases c me leases) (sym all) (alike_tells c me leases now (onto notes now) (all_apart_alike c me notes now (All-weaker IsQuiet IsApart (λ one quiet. quiet.apart) notes quiet)) leased);
   follows = coe 0 1 (i. Follows version progress (λ group. logs group i) (λ group. counts group i)) follows;
+  marked = marked;
   opened = refl;
   begun_is = sym (ap (λ n. min n last_number) begun);
   about = All-nil IsAbout;

@@ -22,6 +22,9 @@ use Rattle.mega_node_laws.specs.About.{IsAbout}
 use Rattle.mega_node_laws.specs.Acted.{acted_on}
 use Rattle.mega_node_laws.specs.Sending.{MaySend}
 use Rattle.mega_node_laws.proofs.Sent.{step_may}
+use Rattle.mega_rules.specs.Finding.{refreshed_marks}
+use Rattle.mega_marks.specs.declared.indexed.Indexed.{Indexed}
+use Rattle.mega_marks.specs.AreMarked.{AreMarked}
 use Rattle.mega_actions.specs.Stands.{Stands}
 use Rattle.mega_actions.specs.Turns.{IsBuilt}
 use Rattle.mega_actions.specs.Working.{work_of}
@@ -31,6 +34,8 @@ use Rattle.mega_core.specs.Kind.{FitsKind}
 use Rattle.mega_core.specs.Represents.{Represents}
 use Rattle.mega_core.specs.Ticking.{has_ticked}
 use Rattle.mega_core.proofs.Fitting.{tick_fits}
+use Rattle.mega_core.proofs.Quiet.{all_ticked_it}
+use Rattle.mega_core.proofs.Unshown.{acted_marked, lapses_unshown, leases_unshown}
 use Rattle.mega_core.proofs.Walked.{all_ticked_acted, all_ticked_served}
 
 -- what leases note begins nothing
@@ -65,14 +70,14 @@ module _ (s : Setting) (node : Node) (now : ℕ) where
   abbrev ticking_from : Now
   ticking_from = at_first (acted_on s node (Tick now)) (portion_of s node.met node.stored)
 
-  pub tick_acts : (t1 t2 : Setting) (kept0 kept kept2 : Kept) (leases0 leases2 : Leases) (version0 version2 : Versions) (progress0 progress2 : GroupId → Progress) (open_ones : List Operation) (begun : ℕ) (work : Work) (operations : List Operation)
-      → Represents s kept0 leases0 version0 progress0 open_ones begun node → operations ≡ node.open_operations → t1 ≡ s → t2 ≡ t1 → kept2 ≡ kept
+  pub tick_acts : {indexed0 indexed2 : Indexed} (t1 t2 : Setting) (kept0 kept kept2 : Kept) (leases0 leases2 : Leases) (version0 version2 : Versions) (progress0 progress2 : GroupId → Progress) (open_ones : List Operation) (begun : ℕ) (work : Work) (operations : List Operation)
+      → Represents s kept0 leases0 indexed0 version0 progress0 open_ones begun node → operations ≡ node.open_operations → t1 ≡ s → t2 ≡ t1 → kept2 ≡ kept → indexed2 ≡ indexed0
       → begun_of (acted_on s node (Tick now)) ≡ begun_of node.met
       → Tells kept (acted_on s node (Tick now))
       → Stands t2 kept2 leases2 version2 progress2 (fold (ticked t1 now) ticking_from operations).met (fold (ticked t1 now) ticking_from operations).stored
       → work ≡ work_of (fold (ticked t1 now) ticking_from operations)
-      → HasActed t2 kept2 leases2 version2 progress2 begun work (acted_on s node (Tick now)) (has_ticked s node now)
-  tick_acts t1 t2 kept0 kept kept2 leases0 leases2 version0 version2 progress0 progress2 open_ones begun work operations h opened t1_is t2_is kept_is stays tells stands worked =
+      → HasActed t2 kept2 leases2 indexed2 version2 progress2 begun work (acted_on s node (Tick now)) (has_ticked s node now)
+  tick_acts {indexed0} {indexed2} t1 t2 kept0 kept kept2 leases0 leases2 version0 version2 progress0 progress2 open_ones begun work operations h opened t1_is t2_is kept_is indexed_is stays tells stands worked =
       let after = coe 0 1 (i. Stands t2 kept2 leases2 version2 progress2 (fold (ticked (t1_is i) now) ticking_from (opened i)).met (fold (ticked (t1_is i) now) ticking_from (opened i)).stored) stands in
       let about = subst (All IsAbout) (sym h.opened) h.about in
       let built = subst (All IsBuilt) (sym h.opened) h.built in
@@ -81,6 +86,9 @@ module _ (s : Setting) (node : Node) (now : ℕ) where
         tells = subst (λ (one : Kept). Tells one (acted_on s node (Tick now))) (sym kept_is) tells;
         leased = after.leased;
         follows = after.follows;
+        marked = coe 1 0 (i. AreMarked ((t2_is ∙ t1_is) i).cluster.schema (indexed_is i) (acted_on s node (Tick now)) (refreshed_marks (onto (has_ticked s node now).answers (acted_on s node (Tick now)))))
+            (acted_marked s.cluster.schema indexed0 node (Ticks now) (lease_notes s node.met now) (lapse_notes s node.met now) (has_ticked s node now).answers refl
+            (leases_unshown s node.met now) (lapses_unshown s node.met now) (all_ticked_it s now node.open_operations ticking_from refl) h.marked);
         acted = all_ticked_acted s (acted_on s node (Tick now)) now node.open_operations ticking_from about (record { met_is = refl; valid = All-nil IsValidate; answers = All-nil IsEnd; about = All-nil IsAbout });
         built = all_ticked_served s now node.open_operations ticking_from built (All-nil IsBuilt);
         begun_is = h.begun_is ∙ ap (λ (n : ℕ). min n last_number) (sym stays);

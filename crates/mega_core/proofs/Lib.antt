@@ -20,3 +20,5 @@ pub mod Failing
 pub mod Untouched
 pub mod Watched
 pub mod Anew
+pub mod Quiet
+pub mod Unshown

@@ -35,6 +35,9 @@ use Rattle.mega_node_laws.specs.Sending.{MaySend}
 use Rattle.mega_node_laws.proofs.Logs.{decided_after}
 use Rattle.mega_node_laws.proofs.Sent.{step_may}
 use Rattle.mega_node_laws.specs.About.{IsAbout}
+use Rattle.mega_rules.specs.Finding.{refreshed_marks}
+use Rattle.mega_marks.specs.declared.indexed.Indexed.{Indexed}
+use Rattle.mega_marks.specs.AreMarked.{AreMarked}
 use Rattle.mega_actions.specs.Stands.{Stands}
 use Rattle.mega_actions.specs.Turns.{IsBuilt, IsBuiltHeard, IsHeardAbout}
 use Rattle.mega_actions.specs.Working.{work_of}
@@ -44,6 +47,8 @@ use Rattle.mega_core.specs.Kind.{FitsKind}
 use Rattle.mega_core.specs.Represents.{Represents}
 use Rattle.mega_view.specs.Small.{IsSmall}
 use Rattle.mega_core.proofs.Fitting.{take_fits}
+use Rattle.mega_core.proofs.Quiet.{all_act_it}
+use Rattle.mega_core.proofs.Unshown.{acted_marked, decision_unshown, told_unshown}
 use Rattle.mega_core.proofs.Walked.{all_acted, all_heard_built, all_served, heard_about}
 use Rattle.mega_core.specs.Taking.{has_taken, news_by}
 
@@ -170,13 +175,13 @@ module _ (s : Setting) (node : Node) (m : Message) where
   abbrev acting_from : Now
   acting_from = at_first (acted_on s node (Take m)) (stored_after s (acted_on s node (Take m)) node.stored (decision_in s node m))
 
-  pub take_acts : (t1 t2 : Setting) (kept0 kept kept2 : Kept) (leases0 leases2 : Leases) (version0 version2 : Versions) (progress0 progress2 : GroupId → Progress) (open_ones : List Operation) (begun : ℕ) (work : Work) (heard : List Heard)
-      → Represents s kept0 leases0 version0 progress0 open_ones begun node → heard ≡ heard_by → t1 ≡ s → t2 ≡ t1 → kept2 ≡ kept
+  pub take_acts : {indexed0 indexed2 : Indexed} (t1 t2 : Setting) (kept0 kept kept2 : Kept) (leases0 leases2 : Leases) (version0 version2 : Versions) (progress0 progress2 : GroupId → Progress) (open_ones : List Operation) (begun : ℕ) (work : Work) (heard : List Heard)
+      → Represents s kept0 leases0 indexed0 version0 progress0 open_ones begun node → heard ≡ heard_by → t1 ≡ s → t2 ≡ t1 → kept2 ≡ kept → indexed2 ≡ indexed0
       → Tells kept (acted_on s node (Take m))
       → Stands t2 kept2 leases2 version2 progress2 (all_act t1 acting_from heard).met (all_act t1 acting_from heard).stored
       → work ≡ work_of (all_act t1 acting_from heard)
-      → HasActed t2 kept2 leases2 version2 progress2 begun work (acted_on s node (Take m)) (has_taken s node m)
-  take_acts t1 t2 kept0 kept kept2 leases0 leases2 version0 version2 progress0 progress2 open_ones begun work heard h heard_is t1_is t2_is kept_is tells stands worked =
+      → HasActed t2 kept2 leases2 indexed2 version2 progress2 begun work (acted_on s node (Take m)) (has_taken s node m)
+  take_acts {indexed0} {indexed2} t1 t2 kept0 kept kept2 leases0 leases2 version0 version2 progress0 progress2 open_ones begun work heard h heard_is t1_is t2_is kept_is indexed_is tells stands worked =
       let after = coe 0 1 (i. Stands t2 kept2 leases2 version2 progress2 (all_act (t1_is i) acting_from (heard_is i)).met (all_act (t1_is i) acting_from (heard_is i)).stored) stands in
       let about = subst (All IsAbout) (sym h.opened) h.about in
       let built = subst (All IsBuilt) (sym h.opened) h.built in
@@ -185,16 +190,19 @@ module _ (s : Setting) (node : Node) (m : Message) where
         tells = subst (λ (one : Kept). Tells one (acted_on s node (Take m))) (sym kept_is) tells;
         leased = after.leased;
         follows = after.follows;
+        marked = coe 1 0 (i. AreMarked ((t2_is ∙ t1_is) i).cluster.schema (indexed_is i) (acted_on s node (Take m)) (refreshed_marks (onto (has_taken s node m).answers (acted_on s node (Take m)))))
+            (acted_marked s.cluster.schema indexed0 node (Takes m) (told_notes s node.met m.from m.body) (decision_note (decision_in s node m)) (has_taken s node m).answers refl
+            (told_unshown s node.met m.from m.body) (decision_unshown (decision_in s node m)) (all_act_it s heard_by acting_from refl) h.marked);
         acted = all_acted s (acted_on s node (Take m)) (clock_of node.met) m node.open_operations acting_from about (record { met_is = refl; valid = All-nil IsValidate; answers = All-nil IsEnd; about = All-nil IsAbout });
         built = all_served s heard_by acting_from (all_heard_built s (clock_of node.met) m node.open_operations built) (All-nil IsBuilt);
         begun_is = h.begun_is ∙ ap (λ (n : ℕ). min n last_number) (sym taken_begun);
         work_is = worked ∙ (λ i. work_of (all_act (t1_is i) acting_from (heard_is i)));
       }
 
-  pub heard_are_about : (kept : Kept) (leases : Leases) (version : Versions) (progress : GroupId → Progress) (open_ones : List Operation) (begun : ℕ) (heard : List Heard)
-      → Represents s kept leases version progress open_ones begun node → heard ≡ heard_by → All IsHeardAbout heard
+  pub heard_are_about : {indexed : Indexed} (kept : Kept) (leases : Leases) (version : Versions) (progress : GroupId → Progress) (open_ones : List Operation) (begun : ℕ) (heard : List Heard)
+      → Represents s kept leases indexed version progress open_ones begun node → heard ≡ heard_by → All IsHeardAbout heard
   heard_are_about kept leases version progress open_ones begun heard h is = subst (All IsHeardAbout) (sym is) (heard_about s (clock_of node.met) m node.open_operations (subst (All IsAbout) (sym h.opened) h.about))
 
-  pub heard_are_built : (kept : Kept) (leases : Leases) (version : Versions) (progress : GroupId → Progress) (open_ones : List Operation) (begun : ℕ) (heard : List Heard)
-      → Represents s kept leases version progress open_ones begun node → heard ≡ heard_by → All IsBuiltHeard heard
+  pub heard_are_built : {indexed : Indexed} (kept : Kept) (leases : Leases) (version : Versions) (progress : GroupId → Progress) (open_ones : List Operation) (begun : ℕ) (heard : List Heard)
+      → Represents s kept leases indexed version progress open_ones begun node → heard ≡ heard_by → All IsBuiltHeard heard
   heard_are_built kept leases version progress open_ones begun heard h is = subst (All IsBuiltHeard) (sym is) (all_heard_built s (clock_of node.met) m node.open_operations (subst (All IsBuilt) (sym h.opened) h.built))

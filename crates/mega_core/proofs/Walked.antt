@@ -1,5 +1,5 @@
 -- What operations leave as they act in a step: which things they add to what is met, and that those that stay open are served.
-use Rattle.std.proofs.Common.{◌≡◌, ℕ, List, [], ◌∷◌, map, fold, Option, Some, None, sym, ap, ◌∙◌}
+use Rattle.std.proofs.Common.{◌≡◌, ℕ, List, [], ◌∷◌, map, fold, Option, Some, None, sym, ap, ◌∙◌, true}
 use Rattle.std.specs.List.{All}
 use Rattle.std.proofs.lemmas.List.Elements.{All-cons, All-head, All-nil, All-push, All-tail}
 use Rattle.mega_base.specs.declared.names.GroupId.{GroupId}

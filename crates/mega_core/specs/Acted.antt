@@ -16,6 +16,9 @@ use Rattle.mega_leases.specs.Tells.{Tells as TellsLeases}
 use Rattle.mega_replica.specs.declared.progress.Progress.{Progress}
 use Rattle.mega_replica.specs.Following.{Follows}
 use Rattle.mega_node_laws.specs.About.{IsAbout}
+use Rattle.mega_rules.specs.Finding.{refreshed_marks}
+use Rattle.mega_marks.specs.declared.indexed.Indexed.{Indexed}
+use Rattle.mega_marks.specs.AreMarked.{AreMarked}
 use Rattle.mega_actions.specs.Turns.{IsBuilt}
 use Rattle.mega_actions.specs.Working.{work_of}
 use Rattle.mega_actions.specs.declared.work.Work.{Work}
@@ -40,13 +43,14 @@ pub record Acted (base : List Met) (now : Now) : Type 0 where
   pub answers : All IsEnd now.answers
   pub about : All IsAbout now.kept
 
--- the logs tell what was met before they acted, the leases and the rows what was met then; the node has what its kind has, and the step
--- has come to this work
-pub record HasActed (s : Setting) (kept : Kept) (leases : Leases) (version : Versions) (progress : GroupId → Progress) (begun : ℕ) (work : Work) (base : List Met) (now : Now) : Type 0 where
+-- the logs tell what was met before they acted, the leases and the rows what was met then; the global indexes are at the marks that the
+-- answers leave; the node has what its kind has, and the step has come to this work
+pub record HasActed (s : Setting) (kept : Kept) (leases : Leases) (indexed : Indexed) (version : Versions) (progress : GroupId → Progress) (begun : ℕ) (work : Work) (base : List Met) (now : Now) : Type 0 where
   pub kind : FitsKind s.cluster s.me now.kept now.stored
   pub tells : Tells kept base
   pub leased : TellsLeases s.cluster s.me leases now.met
   pub follows : Follows version progress (log_of now.met) now.stored
+  pub marked : AreMarked s.cluster.schema indexed base (refreshed_marks (onto now.answers base))
   pub acted : Acted base now
   pub built : All IsBuilt now.kept
   pub begun_is : begun ≡ min (begun_of base) last_number
@@ -58,4 +62,4 @@ ended s node own locks durable sends now = step_of node own locks durable (apply
 
 -- a replica as it is
 abbrev pub ActedAt : {R V : Type 0} → (V → Versions) → Meanings → Replica R V → ℕ → Work → List Met → Now → Type 0
-ActedAt version h one begun work base now = HasActed (setting_of one h) one.voter.logs.kept one.leases (version one.rows.rows) (progress_at one.rows.progress) begun work base now
+ActedAt version h one begun work base now = HasActed (setting_of one h) one.voter.logs.kept one.leases one.indexed (version one.rows.rows) (progress_at one.rows.progress) begun work base now

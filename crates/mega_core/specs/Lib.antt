@@ -14,3 +14,4 @@ pub mod Ticking
 pub mod Staging
 pub mod Restarting
 pub mod Standing
+pub mod Unshown

@@ -13,16 +13,20 @@ use Rattle.mega_leases.specs.Tells.{Tells as TellsLeases}
 use Rattle.mega_replica.specs.declared.progress.Progress.{Progress}
 use Rattle.mega_replica.specs.Following.{Follows}
 use Rattle.mega_node_laws.specs.About.{IsAbout}
+use Rattle.mega_marks.specs.declared.indexed.Indexed.{Indexed}
+use Rattle.mega_marks.specs.AreMarked.{IsIndexed}
 use Rattle.mega_actions.specs.Turns.{IsBuilt}
 use Rattle.mega_core.specs.Kind.{FitsKind}
 
--- its logs and leases tell what it met, its rows follow its logs, and its open operations, which are served and each about the group of
--- its request, are those of the rules; it has what its kind has, and counts what it began up to the last number
-pub record Represents (s : Setting) (kept : Kept) (leases : Leases) (version : Versions) (progress : GroupId → Progress) (open_ones : List Operation) (begun : ℕ) (node : Node) : Type 0 where
+-- its logs and leases tell what it met, its rows follow its logs, its global indexes are at the marks of the last refresh of this start, and
+-- its open operations, which are served and each about the group of its request, are those of the rules; it has what its kind has, and counts
+-- what it began up to the last number
+pub record Represents (s : Setting) (kept : Kept) (leases : Leases) (indexed : Indexed) (version : Versions) (progress : GroupId → Progress) (open_ones : List Operation) (begun : ℕ) (node : Node) : Type 0 where
   pub kind : FitsKind s.cluster s.me open_ones node.stored
   pub tells : Tells kept node.met
   pub leased : TellsLeases s.cluster s.me leases node.met
   pub follows : Follows version progress (log_of node.met) node.stored
+  pub marked : IsIndexed s.cluster.schema indexed node.met
   pub opened : node.open_operations ≡ open_ones
   pub begun_is : begun ≡ min (begun_of node.met) last_number
   pub about : All IsAbout open_ones

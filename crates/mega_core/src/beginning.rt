@@ -15,11 +15,13 @@ ghost use Rattle.mega_voter.specs.Telling.{Tells};
 ghost use Rattle.mega_actions.specs.declared.fault.ActFault.TheVariants.{Unbuilt};
 ghost use Rattle.mega_actions.specs.Built.{is_built};
 ghost use Rattle.mega_actions.specs.Faults.{failed_by};
+ghost use Rattle.mega_marks.specs.AreMarked.{AreMarked, IsIndexed};
+ghost use Rattle.mega_actions.specs.Indexing.{marks_then};
 ghost use Rattle.mega_actions.specs.IsAt.{IsAt, setting_of};
 ghost use Rattle.mega_actions.specs.Stands.{setting};
 ghost use Rattle.mega_actions.specs.Working.{work_of};
 ghost use Rattle.mega_core.specs.Acted.{ActedAt};
-ghost use Rattle.mega_core.specs.Beginning.{has_begun};
+ghost use Rattle.mega_core.specs.Beginning.{has_begun, marks_unless};
 ghost use Rattle.mega_core.specs.Standing.{StandsFor};
 
 use crate::kinds::{kind_of, missing_kind};
@@ -96,12 +98,15 @@ fn serves<R: Records, V: Versions, H: QueueHandlers>(
         IsAt V.version h replica.new
         (begins (setting_of replica.old h) now (new_operation op request (clock_of now.met))).met (begins (setting_of replica.old h) now (new_operation op request (clock_of now.met))).stored) }
     ensures work { OnOk result ((h : Meanings) (now : Now) → V.is_told ≡ true → Means (H.meant handlers.old) h →
-        IsAt V.version h replica.old now.met now.stored →
+        IsAt V.version h replica.old now.met now.stored → IsIndexed (replica.old.members).schema replica.old.indexed now.met →
         work.old ≡ work_of now → work.new ≡ work_of (begins (setting_of replica.old h) now (new_operation op request (clock_of now.met)))) }
     ensures handlers { H.meant handlers.new ≡ H.meant handlers.old }
     ensures members { replica.new.members ≡ replica.old.members }
     ensures me { replica.new.me ≡ replica.old.me }
     ensures voter { replica.new.voter ≡ replica.old.voter }
+    ensures indexed { OnOk result ((h : Meanings) (now : Now) → V.is_told ≡ true →
+        IsAt V.version h replica.old now.met now.stored → IsIndexed (replica.old.members).schema replica.old.indexed now.met →
+        AreMarked (replica.old.members).schema replica.new.indexed now.met (marks_then now request)) }
     ensures built { OnOk result (is_built request ≡ true) }
     ensures unbuilt { result ≡ Err Unbuilt → is_built request ≡ false }
     ensures fares { Fares V.Versions (failed_by result) replica.old.rows.rows replica.new.rows.rows }
@@ -128,12 +133,15 @@ fn unless_refused<R: Records, V: Versions, H: QueueHandlers>(
         IsAt V.version h replica.new
         (unless_refused (setting_of replica.old h) now (new_operation op request (clock_of now.met)) refusal).met (unless_refused (setting_of replica.old h) now (new_operation op request (clock_of now.met)) refusal).stored) }
     ensures work { OnOk result ((h : Meanings) (now : Now) → V.is_told ≡ true → Means (H.meant handlers.old) h →
-        IsAt V.version h replica.old now.met now.stored →
+        IsAt V.version h replica.old now.met now.stored → IsIndexed (replica.old.members).schema replica.old.indexed now.met →
         work.old ≡ work_of now → work.new ≡ work_of (unless_refused (setting_of replica.old h) now (new_operation op request (clock_of now.met)) refusal)) }
     ensures handlers { H.meant handlers.new ≡ H.meant handlers.old }
     ensures members { replica.new.members ≡ replica.old.members }
     ensures me { replica.new.me ≡ replica.old.me }
     ensures voter { replica.new.voter ≡ replica.old.voter }
+    ensures indexed { OnOk result ((h : Meanings) (now : Now) → V.is_told ≡ true →
+        IsAt V.version h replica.old now.met now.stored → IsIndexed (replica.old.members).schema replica.old.indexed now.met →
+        AreMarked (replica.old.members).schema replica.new.indexed now.met (marks_unless now request refusal)) }
     ensures built { OnOk result (refusal ≡ None → is_built request ≡ true) }
     ensures unbuilt { result ≡ Err Unbuilt → is_built request ≡ false }
     ensures fares { Fares V.Versions (failed_by result) replica.old.rows.rows replica.new.rows.rows }

@@ -34,6 +34,7 @@ use mega_actions::Replica;
 use mega_base::{Items, Text};
 use mega_cluster::Cluster;
 use mega_disk::{Records, Versions};
+use mega_marks::Indexed;
 use mega_meanings::QueueHandlers;
 use mega_operations::Operation;
 use mega_outcome::Request;
@@ -75,12 +76,14 @@ impl<R: Records + Drop, V: Versions + Drop> Node<R, V> {
         let voter = voter_of(alloc, logs)?;
         let leases = leases_of(alloc, members.cluster(), me);
         let rows = StoredRows::new(alloc, rows);
+        let indexed = Indexed::new(alloc);
         let replica = Replica {
             members,
             me,
             voter,
             leases,
             rows,
+            indexed,
         };
         Ok(Node {
             replica,

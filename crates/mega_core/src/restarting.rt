@@ -32,6 +32,7 @@ use mega_base::{Copied, Epoch, GroupId, Items, NoMemory, NodeId};
 use mega_cluster::Cluster;
 use mega_disk::{Records, Versions};
 use mega_leases::Leases;
+use mega_marks::Indexed;
 use mega_operations::Members;
 use mega_replica::StoredRows;
 use mega_voter::Voter;
@@ -232,12 +233,14 @@ impl<R: Records + Drop, V: Versions + Drop> Node<R, V> {
         let mut rows = StoredRows::new(alloc, rows);
         let leases = leases(alloc, members.cluster(), me, start, &voter);
         let notes = apply_where_kept(alloc, members.cluster(), me, &voter, &mut rows)?;
+        let indexed = Indexed::new(alloc);
         let replica = Replica {
             members,
             me,
             voter,
             leases,
             rows,
+            indexed,
         };
         Ok(Restarted {
             node: Node {

@@ -154,6 +154,7 @@ fn decides_by<R: Records, V: Versions>(
     ensures members { replica.new.members ≡ replica.old.members }
     ensures me { replica.new.me ≡ replica.old.me }
     ensures leases { replica.new.leases ≡ replica.old.leases }
+    ensures indexed { replica.new.indexed ≡ replica.old.indexed }
     ensures fares { Fares V.Versions None replica.old.rows.rows replica.new.rows.rows }
 {
     let found = decision(alloc, &message.body, heard)?;
@@ -219,6 +220,7 @@ pub(crate) fn takes<R: Records, V: Versions>(
         made.heard ≡ map (hears_message (setting_of replica.old h) (clock_of node.met) message.now) node.open_operations) }
     ensures members { replica.new.members ≡ replica.old.members }
     ensures me { replica.new.me ≡ replica.old.me }
+    ensures indexed { replica.new.indexed ≡ replica.old.indexed }
     ensures built { result ≢ Err Unbuilt }
     ensures stranger { result ≡ Err Stranger → IsByStranger message.now.from message.now.body }
     ensures late { result ≡ Err Late → (met : List Met) → TellsLeases replica.old.members replica.old.me replica.old.leases met → IsLate replica.old.members message.now.body }
@@ -259,6 +261,7 @@ pub(crate) fn acts<R: Records, V: Versions, H: QueueHandlers>(
     ensures members { replica.new.members ≡ replica.old.members }
     ensures me { replica.new.me ≡ replica.old.me }
     ensures voter { replica.new.voter ≡ replica.old.voter }
+    ensures indexed { replica.new.indexed ≡ replica.old.indexed }
     ensures unbuilt { result ≡ Err act.Unbuilt → All IsBuiltHeard heard → ⊥ }
     ensures fares { Fares V.Versions (failed_to_act result) replica.old.rows.rows replica.new.rows.rows }
 {

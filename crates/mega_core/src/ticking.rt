@@ -226,6 +226,7 @@ pub(crate) fn acts_ticked<R: Records, V: Versions, H: QueueHandlers>(
     ensures members { replica.new.members ≡ replica.old.members }
     ensures me { replica.new.me ≡ replica.old.me }
     ensures voter { replica.new.voter ≡ replica.old.voter }
+    ensures indexed { replica.new.indexed ≡ replica.old.indexed }
     ensures unbuilt { result ≡ Err act.Unbuilt → All IsBuilt operations → ⊥ }
     ensures fares { Fares V.Versions (failed_to_act result) replica.old.rows.rows replica.new.rows.rows }
 {
@@ -251,6 +252,7 @@ pub(crate) fn ticks<R: Records, V: Versions>(
     ensures records { replica.new.voter.logs.records ≡ replica.old.voter.logs.records }
     ensures members { replica.new.members ≡ replica.old.members }
     ensures me { replica.new.me ≡ replica.old.me }
+    ensures indexed { replica.new.indexed ≡ replica.old.indexed }
     ensures fares { Fares V.Versions None replica.old.rows.rows replica.new.rows.rows }
 {
     let again = replica.leases.does_again(now);

@@ -19,6 +19,7 @@ loop-turn-init g c = record {
   members = search rules;
   me = search rules;
   voter = search rules;
+  indexed = search rules;
   fares = search rules;
   asked = search rules;
 }
@@ -46,6 +47,7 @@ loop-turn-preserved g c =
       members = c.acts_once.ensures.members ∙ loop.invariant.members;
       me = c.acts_once.ensures.me ∙ loop.invariant.me;
       voter = c.acts_once.ensures.voter ∙ loop.invariant.voter;
+      indexed = c.acts_once.ensures.indexed ∙ loop.invariant.indexed;
       fares = fares_then g.V.Versions None before.rows.rows loop.self.rows.rows new.rows.rows loop.invariant.fares c.in-Ok-Some.ensures.fares;
       asked = (rw c.in-Ok-Some.field-0-is at c.in-Ok-Some.ensures.asked) ∙ loop.invariant.asked;
     }

@@ -18,6 +18,7 @@ invariant-loop-turn g l = record {
   members : l.self.members ≡ l.initial.self.members;
   me : l.self.me ≡ l.initial.self.me;
   voter : l.self.voter ≡ l.initial.self.voter;
+  indexed : l.self.indexed ≡ l.initial.self.indexed;
   fares : Fares g.V.Versions None l.initial.self.rows.rows l.self.rows.rows;
   asked : l.next.request ≡ l.initial.next.request;
 }

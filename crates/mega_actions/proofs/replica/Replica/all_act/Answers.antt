@@ -35,6 +35,7 @@ loop-one-preserved g c =
       members = c.in_ok-acts_in_turn.ensures.members ∙ loop.invariant.members;
       me = c.in_ok-acts_in_turn.ensures.me ∙ loop.invariant.me;
       voter = c.in_ok-acts_in_turn.ensures.voter ∙ loop.invariant.voter;
+      indexed = c.in_ok-acts_in_turn.ensures.indexed ∙ loop.invariant.indexed;
       fares = fares_then g.V.Versions None before.rows.rows loop.self.rows.rows new.rows.rows loop.invariant.fares c.in_ok-acts_in_turn.ensures.fares;
       built = λ all. All-rest IsBuiltHeard one (into_iter_items c.next.new.self) (into_iter_items loop.one-iterator) c.in-Some.ensures.steps.0 (loop.invariant.built all);
     }

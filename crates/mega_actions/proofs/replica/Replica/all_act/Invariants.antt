@@ -24,6 +24,7 @@ invariant-loop-one g l = record {
   members : l.self.members ≡ l.initial.self.members;
   me : l.self.me ≡ l.initial.self.me;
   voter : l.self.voter ≡ l.initial.self.voter;
+  indexed : l.self.indexed ≡ l.initial.self.indexed;
   fares : Fares g.V.Versions None l.initial.self.rows.rows l.self.rows.rows;
   built : All IsBuiltHeard l.fn.heard → All IsBuiltHeard (into_iter_items l.one-iterator);
 }

@@ -36,6 +36,7 @@ loop-operation-preserved g c =
       members = c.in_ok-ticked.ensures.members ∙ loop.invariant.members;
       me = c.in_ok-ticked.ensures.me ∙ loop.invariant.me;
       voter = c.in_ok-ticked.ensures.voter ∙ loop.invariant.voter;
+      indexed = c.in_ok-ticked.ensures.indexed ∙ loop.invariant.indexed;
       fares = fares_then g.V.Versions None before.rows.rows loop.self.rows.rows new.rows.rows loop.invariant.fares c.in_ok-ticked.ensures.fares;
       built = λ all. All-rest IsBuilt one (into_iter_items c.next.new.self) (into_iter_items loop.operation-iterator) c.in-Some.ensures.steps.0 (loop.invariant.built all);
     }

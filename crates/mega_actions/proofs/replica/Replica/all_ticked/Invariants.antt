@@ -25,6 +25,7 @@ invariant-loop-operation g l = record {
   members : l.self.members ≡ l.initial.self.members;
   me : l.self.me ≡ l.initial.self.me;
   voter : l.self.voter ≡ l.initial.self.voter;
+  indexed : l.self.indexed ≡ l.initial.self.indexed;
   fares : Fares g.V.Versions None l.initial.self.rows.rows l.self.rows.rows;
   built : All IsBuilt l.fn.operations → All IsBuilt (into_iter_items l.operation-iterator);
 }

@@ -25,7 +25,7 @@ returns-clause-acted g c = λ told h node text means represents owned.
     (c.next_op-op.ensures old.members h node.met represents.tells represents.begun_is)
     (c.refusal-refusal.ensures old.members old.me h node c.args.request missing_is (represents.opened ∙ sym opened) represents.begun_is)
     (c.at_open-work.ensures [] node.stored ∙ ap (λ (kept : List Operation). work_of (at_open (at_first [] node.stored) kept)) (c.replace-open.ensures.value ∙ sym represents.opened))
-    says.built (λ now. says.state h now told means) (λ now. says.work h now told means)
+    says.built (λ now. says.state h now told means) (λ now. says.work h now told means) (λ now. says.indexed h now told)
 
 pub returns-clause-built : goal.returns-clause-built
 returns-clause-built g c = λ h node represents none.

@@ -10,6 +10,7 @@ use Rattle.mega_actions.specs.Stands.{setting}
 use Rattle.mega_core.specs.Represents.{Represents}
 use Rattle.mega_core.specs.Restarting.{applied_at_start}
 use Rattle.mega_core.proofs.Anew.{restarted}
+use Rattle.mega_core.proofs.Unshown.{started_marks}
 use Rattle.mega_core.proofs.node.Node.restart.Goals as goal
 
 pub returns-clause-state : goal.returns-clause-state
@@ -29,8 +30,10 @@ returns-clause-state g c = λ h starts met owed are recalls none.
     (c.leases-leases.ensures met owed are (subst (λ n. Tells kept (onto owed (Starts n ∷ met))) (sym number) tells)) in
     let follows = coe 0 1 (i. Follows version progress (log_of now) (applied_at_start (setting ((c.cluster-2.ensures ∙ members_is) i) me h) now))
     (c.in_ok-notes.ensures.follows h now tells (c.new-rows.ensures.follows (log_of now) none)) in
-    let first = restarted cluster me h c.args.voter.logs.kept kept leases version progress starts met owed c.requires.member c.requires.served.small are few recalls tells leased follows in
-    coe 0 1 (i. Represents (setting (sym members_is i) me h) kept leases version progress (sym c.new.ensures i) 0 (start (setting cluster me h) (starts + 1) owed met)) first
+    let indexed = c.new-indexed.result in
+    let marked = c.new-indexed.ensures.indexed cluster.schema (start (setting cluster me h) (starts + 1) owed met).met (started_marks (setting cluster me h) (starts + 1) owed met are) in
+    let first = restarted cluster me h c.args.voter.logs.kept kept leases indexed version progress starts met owed c.requires.member c.requires.served.small are few recalls tells leased follows marked in
+    coe 0 1 (i. Represents (setting (sym members_is i) me h) kept leases indexed version progress (sym c.new.ensures i) 0 (start (setting cluster me h) (starts + 1) owed met)) first
 
 pub returns-clause-notes : goal.returns-clause-notes
 returns-clause-notes g c = λ h starts met owed are recalls.

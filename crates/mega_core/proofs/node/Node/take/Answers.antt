@@ -27,7 +27,7 @@ returns-in_err-work-clause-built g c = λ is h node represents.
     let version = g.V.Versions.version r0.rows.rows in
     let progress = progress_at r0.rows.progress in
     let s = setting r0.members r0.me h in
-    let opened = subst (λ (os : List Operation). Represents s r0.voter.logs.kept r0.leases version progress os c.args.self.now.begun node) (sym c.replace-opened.ensures.value) represents in
+    let opened = subst (λ (os : List Operation). Represents s r0.voter.logs.kept r0.leases r0.indexed version progress os c.args.self.now.begun node) (sym c.replace-opened.ensures.value) represents in
     let heard_is = c.in_ok-taken.ensures.heard h node c.args.self.now.begun opened in
     c.in_err-work.ensures.unbuilt (search (rules, unbuilt_is))
     (heard_are_built s node c.args.message.now r0.voter.logs.kept r0.leases version progress c.args.self.now.open c.args.self.now.begun c.in_ok-taken.taken.heard represents heard_is)
@@ -43,7 +43,7 @@ returns-clause-notes g c = λ told h node means represents owned placed.
     let progress = progress_at r0.rows.progress in
     let m = c.args.message.now in
     let s = setting r0.members r0.me h in
-    let opened = subst (λ (os : List Operation). Represents s r0.voter.logs.kept r0.leases version progress os begun node) (sym c.replace-opened.ensures.value) represents in
+    let opened = subst (λ (os : List Operation). Represents s r0.voter.logs.kept r0.leases r0.indexed version progress os begun node) (sym c.replace-opened.ensures.value) represents in
     let taken = c.in_ok-taken.ensures.taken h node begun opened owned placed in
     let heard = c.in_ok-taken.taken.heard in
     let t1 = setting r1.members r1.me h in
@@ -54,7 +54,7 @@ returns-clause-notes g c = λ told h node means represents owned placed.
     let base = acted_on s node (Take m) in
     let stored = stored_after s base node.stored (decision_in s node m) in
     let acted = take_acts s node m t1 t2 r0.voter.logs.kept r1.voter.logs.kept r2.voter.logs.kept r0.leases r2.leases version (g.V.Versions.version r2.rows.rows) progress (progress_at r2.rows.progress) own_open begun
-    c.in_ok-work.work heard represents taken.heard t1_is t2_is (λ i. (c.in_ok-work.ensures.voter i).logs.kept) taken.stands.tells
+    c.in_ok-work.work heard represents taken.heard t1_is t2_is (λ i. (c.in_ok-work.ensures.voter i).logs.kept) (c.in_ok-work.ensures.indexed ∙ c.in_ok-taken.ensures.indexed) taken.stands.tells
     (c.in_ok-work.ensures.state told h base stored means about taken.stands) (c.in_ok-work.ensures.work told h base stored means about taken.stands) in
     let is = take_is s node m t2 c.in_ok-taken.taken.sends c.new-2.result (t2_is ∙ t1_is) taken.sends c.new-2.ensures in
     let keeps = represents_keeps s r0.voter.logs.kept r0.leases version progress own_open begun node represents in
@@ -76,7 +76,7 @@ returns-clause-sends g c = λ told h node means represents owned placed.
     let progress = progress_at r0.rows.progress in
     let m = c.args.message.now in
     let s = setting r0.members r0.me h in
-    let opened = subst (λ (os : List Operation). Represents s r0.voter.logs.kept r0.leases version progress os begun node) (sym c.replace-opened.ensures.value) represents in
+    let opened = subst (λ (os : List Operation). Represents s r0.voter.logs.kept r0.leases r0.indexed version progress os begun node) (sym c.replace-opened.ensures.value) represents in
     let taken = c.in_ok-taken.ensures.taken h node begun opened owned placed in
     let heard = c.in_ok-taken.taken.heard in
     let t1 = setting r1.members r1.me h in
@@ -87,7 +87,7 @@ returns-clause-sends g c = λ told h node means represents owned placed.
     let base = acted_on s node (Take m) in
     let stored = stored_after s base node.stored (decision_in s node m) in
     let acted = take_acts s node m t1 t2 r0.voter.logs.kept r1.voter.logs.kept r2.voter.logs.kept r0.leases r2.leases version (g.V.Versions.version r2.rows.rows) progress (progress_at r2.rows.progress) own_open begun
-    c.in_ok-work.work heard represents taken.heard t1_is t2_is (λ i. (c.in_ok-work.ensures.voter i).logs.kept) taken.stands.tells
+    c.in_ok-work.work heard represents taken.heard t1_is t2_is (λ i. (c.in_ok-work.ensures.voter i).logs.kept) (c.in_ok-work.ensures.indexed ∙ c.in_ok-taken.ensures.indexed) taken.stands.tells
     (c.in_ok-work.ensures.state told h base stored means about taken.stands) (c.in_ok-work.ensures.work told h base stored means about taken.stands) in
     let is = take_is s node m t2 c.in_ok-taken.taken.sends c.new-2.result (t2_is ∙ t1_is) taken.sends c.new-2.ensures in
     let keeps = represents_keeps s r0.voter.logs.kept r0.leases version progress own_open begun node represents in
@@ -109,7 +109,7 @@ returns-clause-state g c = λ told h node means represents owned placed.
     let progress = progress_at r0.rows.progress in
     let m = c.args.message.now in
     let s = setting r0.members r0.me h in
-    let opened = subst (λ (os : List Operation). Represents s r0.voter.logs.kept r0.leases version progress os begun node) (sym c.replace-opened.ensures.value) represents in
+    let opened = subst (λ (os : List Operation). Represents s r0.voter.logs.kept r0.leases r0.indexed version progress os begun node) (sym c.replace-opened.ensures.value) represents in
     let taken = c.in_ok-taken.ensures.taken h node begun opened owned placed in
     let heard = c.in_ok-taken.taken.heard in
     let t1 = setting r1.members r1.me h in
@@ -120,7 +120,7 @@ returns-clause-state g c = λ told h node means represents owned placed.
     let base = acted_on s node (Take m) in
     let stored = stored_after s base node.stored (decision_in s node m) in
     let acted = take_acts s node m t1 t2 r0.voter.logs.kept r1.voter.logs.kept r2.voter.logs.kept r0.leases r2.leases version (g.V.Versions.version r2.rows.rows) progress (progress_at r2.rows.progress) own_open begun
-    c.in_ok-work.work heard represents taken.heard t1_is t2_is (λ i. (c.in_ok-work.ensures.voter i).logs.kept) taken.stands.tells
+    c.in_ok-work.work heard represents taken.heard t1_is t2_is (λ i. (c.in_ok-work.ensures.voter i).logs.kept) (c.in_ok-work.ensures.indexed ∙ c.in_ok-taken.ensures.indexed) taken.stands.tells
     (c.in_ok-work.ensures.state told h base stored means about taken.stands) (c.in_ok-work.ensures.work told h base stored means about taken.stands) in
     let is = take_is s node m t2 c.in_ok-taken.taken.sends c.new-2.result (t2_is ∙ t1_is) taken.sends c.new-2.ensures in
     let keeps = represents_keeps s r0.voter.logs.kept r0.leases version progress own_open begun node represents in
@@ -130,7 +130,7 @@ returns-clause-state g c = λ told h node means represents owned placed.
     let noted = watched_noted s t2 node groups c.in_ok-before.before (has_taken s node m) (t2_is ∙ t1_is) before (take_noted s node m (map (before_at node.met node.stored) groups) (subst (All IsBuilt) (sym represents.opened) represents.built) acted.acted refl) in
     let made = c.in_ok-step.ensures.made h node (Takes m) (told_notes s node.met m.from m.body) (decision_note (decision_in s node m)) (has_taken s node m) noted acted taken.notes (take_may s node m _ is) in
     let new = c.ends.new.self in
-    subst (λ (step : RuleStep). Represents (setting new.replica.members new.replica.me h) new.replica.voter.logs.kept new.replica.leases (g.V.Versions.version new.replica.rows.rows) (progress_at new.replica.rows.progress) new.open new.begun step.node) is made.state
+    subst (λ (step : RuleStep). Represents (setting new.replica.members new.replica.me h) new.replica.voter.logs.kept new.replica.leases new.replica.indexed (g.V.Versions.version new.replica.rows.rows) (progress_at new.replica.rows.progress) new.open new.begun step.node) is made.state
 
 pub returns-clause-staged : goal.returns-clause-staged
 returns-clause-staged g c = λ told h node since means represents owned placed stages.
@@ -143,7 +143,7 @@ returns-clause-staged g c = λ told h node since means represents owned placed s
     let progress = progress_at r0.rows.progress in
     let m = c.args.message.now in
     let s = setting r0.members r0.me h in
-    let opened = subst (λ (os : List Operation). Represents s r0.voter.logs.kept r0.leases version progress os begun node) (sym c.replace-opened.ensures.value) represents in
+    let opened = subst (λ (os : List Operation). Represents s r0.voter.logs.kept r0.leases r0.indexed version progress os begun node) (sym c.replace-opened.ensures.value) represents in
     let taken = c.in_ok-taken.ensures.taken h node begun opened owned placed in
     let heard = c.in_ok-taken.taken.heard in
     let t1 = setting r1.members r1.me h in
@@ -154,7 +154,7 @@ returns-clause-staged g c = λ told h node since means represents owned placed s
     let base = acted_on s node (Take m) in
     let stored = stored_after s base node.stored (decision_in s node m) in
     let acted = take_acts s node m t1 t2 r0.voter.logs.kept r1.voter.logs.kept r2.voter.logs.kept r0.leases r2.leases version (g.V.Versions.version r2.rows.rows) progress (progress_at r2.rows.progress) own_open begun
-    c.in_ok-work.work heard represents taken.heard t1_is t2_is (λ i. (c.in_ok-work.ensures.voter i).logs.kept) taken.stands.tells
+    c.in_ok-work.work heard represents taken.heard t1_is t2_is (λ i. (c.in_ok-work.ensures.voter i).logs.kept) (c.in_ok-work.ensures.indexed ∙ c.in_ok-taken.ensures.indexed) taken.stands.tells
     (c.in_ok-work.ensures.state told h base stored means about taken.stands) (c.in_ok-work.ensures.work told h base stored means about taken.stands) in
     let is = take_is s node m t2 c.in_ok-taken.taken.sends c.new-2.result (t2_is ∙ t1_is) taken.sends c.new-2.ensures in
     let mid = coe 1 0 (i. Stages (c.in_ok-work.ensures.voter i).logs.staged.items since base) (c.in_ok-taken.ensures.staged h node begun since opened stages) in
