@@ -1,4 +1,4 @@
--- What is served: transactions, batches of at most 16 of them, reads, finds and refreshes.
+-- What is served: transactions, batches of at most 16 of them, reads, finds, pumps and refreshes.
 use Rattle.std.specs.Prelude.{Bool, true, false, not, ◌&&◌, ◌||◌, nat_le, length, List, [], ◌∷◌, Option, Some, None, is_none, is_some}
 use Rattle.mega_base.specs.declared.names.GroupId.{GroupId}
 use Rattle.mega_outcome.specs.declared.request.Mode.{Mode}
@@ -60,9 +60,23 @@ is_indexed PumpEnter = false
 is_indexed PumpHandle = false
 is_indexed Refresh = true
 
+-- pumps
+abbrev pub is_pump : Request → Bool
+is_pump (Txn transaction) = false
+is_pump (Batch group transactions) = false
+is_pump (Read request) = false
+is_pump (Find request) = false
+is_pump PumpEnter = true
+is_pump PumpHandle = true
+is_pump Refresh = false
+
+-- requests whose operation looks at one group alone, that of its request
+abbrev pub is_plain : Request → Bool
+is_plain request = is_proposed request || is_answered request
+
 -- requests whose operations may stay open, and all that are served
 abbrev pub is_open : Request → Bool
-is_open request = is_proposed request || is_answered request
+is_open request = is_pump request || is_plain request
 
 abbrev pub is_built : Request → Bool
 is_built request = is_indexed request || is_open request

@@ -10,4 +10,8 @@ pub mod Sees
 pub mod Coming
 pub mod Showing
 pub mod Turns
+pub mod Pumping
+pub mod Asked
+pub mod Acted
+pub mod Later
 pub mod Indexing

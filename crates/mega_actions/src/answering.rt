@@ -17,7 +17,7 @@ ghost use Rattle.mega_node_laws.specs.About.{IsOf};
 ghost use Rattle.mega_replica.specs.Faring.{Fares};
 ghost use Rattle.mega_replica.specs.Following.{progress_at};
 ghost use Rattle.mega_actions.specs.declared.fault.ActFault.TheVariants.{Unbuilt};
-ghost use Rattle.mega_actions.specs.Built.{group_asked, is_answered, is_at_once, is_built, is_indexed, is_named, mode_asked};
+ghost use Rattle.mega_actions.specs.Built.{group_asked, is_answered, is_at_once, is_built, is_indexed, is_named, is_plain, mode_asked};
 ghost use Rattle.mega_actions.specs.Faults.{error_of, failed_by, of_store};
 ghost use Rattle.mega_actions.specs.Showing.{at_once, place_by, reading, shown, told};
 ghost use Rattle.mega_actions.specs.Stands.{Stands, setting};
@@ -28,6 +28,7 @@ use crate::came::is_proposed;
 use crate::fault::ActFault;
 use crate::finding::found_at;
 use crate::outcomes::outcome_at;
+use crate::pumping::is_pump;
 use mega_base::{Copied, GroupId, Items, NoMemory, Position};
 use mega_disk::{Records, StoreError, Versions};
 use mega_operations::Members;
@@ -91,11 +92,19 @@ pub(crate) fn is_indexed(request: &Request) -> bool
     }
 }
 
-/// Whether a request is served: a transaction, a batch of at most 16, a read, a find, or a refresh.
+/// Whether a request is served whose operation looks at one group alone: a transaction, a batch of at most 16, a read,
+/// or a find in a group.
+pub(crate) fn is_plain(request: &Request) -> bool
+    ensures { result ≡ is_plain request.now }
+{
+    is_proposed(request) || is_answered(request)
+}
+
+/// Whether a request is served: a transaction, a batch of at most 16, a read, a find, a pump, or a refresh.
 pub fn is_built(request: &Request) -> bool
     ensures { result ≡ is_built request.now }
 {
-    is_indexed(request) || (is_proposed(request) || is_answered(request))
+    is_indexed(request) || (is_pump(request) || is_plain(request))
 }
 
 /// Whether a mode asks for current rows.

@@ -84,11 +84,11 @@ served_walks = record {
 
 in_any : (os : List Operation) → All (IsIn IsAny) os
 in_any [] = All-nil (IsIn IsAny)
-in_any (o ∷ os) = All-cons (IsIn IsAny) o os tt (in_any os)
+in_any (o ∷ os) = All-cons (IsIn IsAny) o os (tt, λ pump group. tt) (in_any os)
 
 heard_in_any : (ts : List Heard) → All (IsHeardIn IsAny) ts
 heard_in_any [] = All-nil (IsHeardIn IsAny)
-heard_in_any (t ∷ ts) = All-cons (IsHeardIn IsAny) t ts tt (heard_in_any ts)
+heard_in_any (t ∷ ts) = All-cons (IsHeardIn IsAny) t ts (tt, λ pump group. tt) (heard_in_any ts)
 
 all_any : (groups : List GroupId) → All IsAny groups
 all_any [] = All-nil IsAny
@@ -111,4 +111,4 @@ pub all_ticked_served : (s : Setting) (clock : ℕ) (os : List Operation) (now :
 all_ticked_served s clock os now are h = all_ticked_walked Served IsAny served_walks s clock os now are (in_any os) h
 
 pub begun_served : (s : Setting) (now : Now) (o : Operation) (refusal : Option Answer) → (refusal ≡ None → is_built o.request ≡ true) → Served now → Served (unless_refused s now o refusal)
-begun_served s now o refusal is h = begun_walked Served IsAny served_walks s now o refusal is (all_any (asked_groups o.request)) h
+begun_served s now o refusal is h = begun_walked Served IsAny served_walks s now o refusal is (all_any (asked_groups o.request)) (λ pump group. tt) h

@@ -29,7 +29,7 @@ use crate::starting::{leases_of, members_of, voter_of};
 use crate::step::Step;
 use crate::taking::{Taken, acts, takes};
 use crate::ticking::{Ticked, acts_ticked, ticks};
-use crate::touching::{asked_groups, touched};
+use crate::touching::{begun_groups, touched};
 use mega_actions::Replica;
 use mega_base::{Items, Text};
 use mega_cluster::Cluster;
@@ -125,7 +125,8 @@ impl<R: Records, V: Versions> Node<R, V> {
         ensures late { result ≡ Err Late → (h : Meanings) (node : RuleNode) → StandsFor V.version h self.old node → IsLate self.old.replica.members message.now.body }
         ensures fares { Fares V.Versions (failed_by result) self.old.replica.rows.rows self.new.replica.rows.rows }
     {
-        let groups = touched(alloc, &message.body, self.open.as_slice())?;
+        let voter = &self.replica.voter;
+        let groups = touched(alloc, voter, &message.body, self.open.as_slice())?;
         let before = watched(alloc, &self.replica, groups)?;
         let opened = mem::replace(&mut self.open, Items::new(alloc));
         let taken = takes(alloc, &mut self.replica, opened, message)?;
@@ -171,7 +172,7 @@ impl<R: Records, V: Versions> Node<R, V> {
         ensures late { result ≢ Err Late }
         ensures fares { Fares V.Versions (failed_by result) self.old.replica.rows.rows self.new.replica.rows.rows }
     {
-        let groups = asked_groups(alloc, &request)?;
+        let groups = begun_groups(alloc, &self.replica.voter, &request)?;
         let before = watched(alloc, &self.replica, groups)?;
         let work = self.begins(alloc, handlers, request)?;
         let none = Items::new(alloc);

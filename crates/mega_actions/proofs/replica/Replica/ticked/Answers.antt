@@ -29,8 +29,8 @@ returns-then-is_out-clause-work g c h now told means about stands same =
 pub returns-in_err-acts_in_turn-clause-unbuilt : goal.returns-in_err-acts_in_turn-clause-unbuilt
 returns-in_err-acts_in_turn-clause-unbuilt g c is =
     let s = setting c.args.self.now.members c.args.self.now.me [] in
-    let built : is_open c.in_ok-heard.heard.operation.request ≡ false = search rules in
-    ap is_open (sym (ap (λ (t : Heard). t.operation.request) (c.in_ok-heard.ensures s refl) ∙ due_request s c.args.clock c.args.operation)) ∙ built
+    let none : is_open c.in_ok-heard.heard.operation.request ≡ false = search rules in
+    ap is_open (sym (ap (λ (t : Heard). t.operation.request) (c.in_ok-heard.ensures s refl) ∙ due_request s c.args.clock c.args.operation)) ∙ none
 
 pub returns-clause-state : goal.returns-clause-state
 returns-clause-state g c h now told means about stands =

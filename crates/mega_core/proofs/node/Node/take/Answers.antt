@@ -58,8 +58,8 @@ returns-clause-notes g c = λ told h node means represents owned placed.
     (c.in_ok-work.ensures.state told h base stored means about taken.stands) (c.in_ok-work.ensures.work told h base stored means about taken.stands) in
     let is = take_is s node m t2 c.in_ok-taken.taken.sends c.new-2.result (t2_is ∙ t1_is) taken.sends c.new-2.ensures in
     let keeps = represents_keeps s r0.voter.logs.kept r0.leases version progress own_open begun node represents in
-    let groups = touched m.body node.open_operations in
-    let groups_are : c.in_ok-groups.groups ≡ groups = c.in_ok-groups.ensures ∙ ap (touched m.body) (c.as_slice.ensures ∙ sym represents.opened) in
+    let groups = touched node.met m.body node.open_operations in
+    let groups_are : c.in_ok-groups.groups ≡ groups = c.in_ok-groups.ensures node.met represents.tells ∙ ap (touched node.met m.body) (c.as_slice.ensures ∙ sym represents.opened) in
     let before = c.in_ok-before.ensures node.met node.stored keeps ∙ ap (λ (some : List GroupId). cond (has_rows r0.members r0.me) (map (before_at node.met node.stored) some) []) groups_are in
     let noted = watched_noted s t2 node groups c.in_ok-before.before (has_taken s node m) (t2_is ∙ t1_is) before (take_noted s node m (map (before_at node.met node.stored) groups) (subst (All IsBuilt) (sym represents.opened) represents.built) acted.acted refl) in
     let made = c.in_ok-step.ensures.made h node (Takes m) (told_notes s node.met m.from m.body) (decision_note (decision_in s node m)) (has_taken s node m) noted acted taken.notes (take_may s node m _ is) in
@@ -91,8 +91,8 @@ returns-clause-sends g c = λ told h node means represents owned placed.
     (c.in_ok-work.ensures.state told h base stored means about taken.stands) (c.in_ok-work.ensures.work told h base stored means about taken.stands) in
     let is = take_is s node m t2 c.in_ok-taken.taken.sends c.new-2.result (t2_is ∙ t1_is) taken.sends c.new-2.ensures in
     let keeps = represents_keeps s r0.voter.logs.kept r0.leases version progress own_open begun node represents in
-    let groups = touched m.body node.open_operations in
-    let groups_are : c.in_ok-groups.groups ≡ groups = c.in_ok-groups.ensures ∙ ap (touched m.body) (c.as_slice.ensures ∙ sym represents.opened) in
+    let groups = touched node.met m.body node.open_operations in
+    let groups_are : c.in_ok-groups.groups ≡ groups = c.in_ok-groups.ensures node.met represents.tells ∙ ap (touched node.met m.body) (c.as_slice.ensures ∙ sym represents.opened) in
     let before = c.in_ok-before.ensures node.met node.stored keeps ∙ ap (λ (some : List GroupId). cond (has_rows r0.members r0.me) (map (before_at node.met node.stored) some) []) groups_are in
     let noted = watched_noted s t2 node groups c.in_ok-before.before (has_taken s node m) (t2_is ∙ t1_is) before (take_noted s node m (map (before_at node.met node.stored) groups) (subst (All IsBuilt) (sym represents.opened) represents.built) acted.acted refl) in
     let made = c.in_ok-step.ensures.made h node (Takes m) (told_notes s node.met m.from m.body) (decision_note (decision_in s node m)) (has_taken s node m) noted acted taken.notes (take_may s node m _ is) in
@@ -124,8 +124,8 @@ returns-clause-state g c = λ told h node means represents owned placed.
     (c.in_ok-work.ensures.state told h base stored means about taken.stands) (c.in_ok-work.ensures.work told h base stored means about taken.stands) in
     let is = take_is s node m t2 c.in_ok-taken.taken.sends c.new-2.result (t2_is ∙ t1_is) taken.sends c.new-2.ensures in
     let keeps = represents_keeps s r0.voter.logs.kept r0.leases version progress own_open begun node represents in
-    let groups = touched m.body node.open_operations in
-    let groups_are : c.in_ok-groups.groups ≡ groups = c.in_ok-groups.ensures ∙ ap (touched m.body) (c.as_slice.ensures ∙ sym represents.opened) in
+    let groups = touched node.met m.body node.open_operations in
+    let groups_are : c.in_ok-groups.groups ≡ groups = c.in_ok-groups.ensures node.met represents.tells ∙ ap (touched node.met m.body) (c.as_slice.ensures ∙ sym represents.opened) in
     let before = c.in_ok-before.ensures node.met node.stored keeps ∙ ap (λ (some : List GroupId). cond (has_rows r0.members r0.me) (map (before_at node.met node.stored) some) []) groups_are in
     let noted = watched_noted s t2 node groups c.in_ok-before.before (has_taken s node m) (t2_is ∙ t1_is) before (take_noted s node m (map (before_at node.met node.stored) groups) (subst (All IsBuilt) (sym represents.opened) represents.built) acted.acted refl) in
     let made = c.in_ok-step.ensures.made h node (Takes m) (told_notes s node.met m.from m.body) (decision_note (decision_in s node m)) (has_taken s node m) noted acted taken.notes (take_may s node m _ is) in
