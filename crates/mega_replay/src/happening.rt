@@ -55,7 +55,6 @@ fn happen(
     match world.apply(alloc, &mut handlers, event, tape) {
         Ok(()) => Ok(()),
         Err(WorldFault::Refused { why }) => Err(Stop::Refused { line: number, why }),
-        Err(WorldFault::Strange) => unreachable!(),
         Err(WorldFault::Limit) => Err(Stop::Limit { line: number }),
         Err(WorldFault::NoMemory) => Err(Stop::NoMemory),
     }
