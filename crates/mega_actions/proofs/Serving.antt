@@ -21,7 +21,7 @@ use Rattle.mega_actions.specs.declared.pumping.Pumped.{Pumped}
 use Rattle.mega_actions.specs.declared.pumping.Pumped.TheVariants.{Again, Done}
 use Rattle.mega_actions.specs.Acted.{IsNextAbout, IsNextAsked}
 use Rattle.mega_actions.specs.Asked.{IsAsked}
-use Rattle.mega_actions.specs.Built.{is_pump}
+use Rattle.mega_actions.specs.Servable.{is_pump}
 use Rattle.mega_actions.specs.Pumping.{is_entering, next_of, pumped_after, pumped_by, then_again}
 use Rattle.mega_actions.proofs.Doing.{does_met, does_stored}
 

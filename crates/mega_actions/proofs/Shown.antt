@@ -31,7 +31,7 @@ use Rattle.mega_replica.proofs.Reading.{stored_is}
 use Rattle.mega_rules.specs.Operations.{Setting}
 use Rattle.mega_rules.specs.Acting.{read_answer, rows_answer}
 use Rattle.mega_node_laws.specs.Own.{HasOwnRows}
-use Rattle.mega_actions.specs.Built.{is_named}
+use Rattle.mega_actions.specs.Servable.{is_named}
 use Rattle.mega_actions.specs.Showing.{reading, told}
 
 -- its entry is short

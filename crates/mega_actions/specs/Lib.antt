@@ -4,7 +4,7 @@ pub mod Completed
 pub mod Reaching
 pub mod Stands
 pub mod IsAt
-pub mod Built
+pub mod Servable
 pub mod Faults
 pub mod Sees
 pub mod Coming

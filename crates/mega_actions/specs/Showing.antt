@@ -16,7 +16,7 @@ use Rattle.mega_rules.specs.Operations.{Now, Setting}
 use Rattle.mega_rules.specs.Acting.{read_answer}
 use Rattle.mega_rules.specs.Finding.{local_found}
 use Rattle.mega_rules.specs.Steps.{applied_position, snapshot_listed, snapshot_rows, stored_listed, stored_rows}
-use Rattle.mega_actions.specs.Built.{group_asked, mode_asked}
+use Rattle.mega_actions.specs.Servable.{group_asked, mode_asked}
 
 -- a read of named rows is a transaction that only reads
 abbrev pub reading : GroupId → List RowRef → Transaction

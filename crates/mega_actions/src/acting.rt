@@ -12,10 +12,10 @@ ghost use Rattle.mega_rules.specs.Acting.{acts, acts_within, completes_read, fin
 ghost use Rattle.mega_replica.specs.Applying.{applied};
 ghost use Rattle.mega_read.specs.Catching.{seeks};
 ghost use Rattle.mega_replica.specs.Faring.{Fares};
-ghost use Rattle.mega_actions.specs.declared.fault.ActFault.TheVariants.{NoMemory as OutOfMemory, Unbuilt};
+ghost use Rattle.mega_actions.specs.declared.fault.ActFault.TheVariants.{NoMemory as OutOfMemory, Unserved};
 ghost use Rattle.mega_voter.specs.Telling.{Tells};
 ghost use Rattle.mega_actions.specs.Acted.{Acted, IsNextAsked};
-ghost use Rattle.mega_actions.specs.Built.{is_open, is_pump};
+ghost use Rattle.mega_actions.specs.Servable.{is_open, is_pump};
 ghost use Rattle.mega_actions.specs.Later.{later};
 ghost use Rattle.mega_actions.specs.Faults.{failed_by};
 ghost use Rattle.mega_actions.specs.IsAt.{IsAt, setting_of};
@@ -140,7 +140,7 @@ impl<R: Records, V: Versions> Replica<R, V> {
         ensures me { self.new.me ≡ self.old.me }
         ensures voter { self.new.voter ≡ self.old.voter }
         ensures indexed { self.new.indexed ≡ self.old.indexed }
-        ensures built { result ≡ Err Unbuilt → ⊥ }
+        ensures built { result ≡ Err Unserved → ⊥ }
     {
         let pumped = reached.pumps(
             alloc,
@@ -172,7 +172,7 @@ impl<R: Records, V: Versions> Replica<R, V> {
         ensures me { self.new.me ≡ self.old.me }
         ensures voter { self.new.voter ≡ self.old.voter }
         ensures indexed { self.new.indexed ≡ self.old.indexed }
-        ensures unbuilt { result ≡ Err Unbuilt → is_open reached.kept.request ≡ false }
+        ensures unserved { result ≡ Err Unserved → is_open reached.kept.request ≡ false }
     {
         if is_pump(&reached.kept.request) {
             let next = self.pumps(alloc, handlers, work, reached)?;
@@ -209,7 +209,7 @@ impl<R: Records, V: Versions> Replica<R, V> {
         ensures me { self.new.me ≡ self.old.me }
         ensures voter { self.new.voter ≡ self.old.voter }
         ensures indexed { self.new.indexed ≡ self.old.indexed }
-        ensures unbuilt { result ≡ Err Unbuilt → is_open reached.kept.request ≡ false }
+        ensures unserved { result ≡ Err Unserved → is_open reached.kept.request ≡ false }
     {
         match reads_through(
             alloc,
@@ -249,7 +249,7 @@ impl<R: Records, V: Versions> Replica<R, V> {
         ensures me { self.new.me ≡ self.old.me }
         ensures voter { self.new.voter ≡ self.old.voter }
         ensures indexed { self.new.indexed ≡ self.old.indexed }
-        ensures unbuilt { result ≡ Err Unbuilt → is_open kept.request ≡ false }
+        ensures unserved { result ≡ Err Unserved → is_open kept.request ≡ false }
     {
         let Some(through) = reading.through_of() else {
             let operation = kept.in_phase(Phase::Reads { group, reading });
@@ -303,7 +303,7 @@ impl<R: Records, V: Versions> Replica<R, V> {
         ensures me { self.new.me ≡ self.old.me }
         ensures voter { self.new.voter ≡ self.old.voter }
         ensures indexed { self.new.indexed ≡ self.old.indexed }
-        ensures unbuilt { result ≡ Err Unbuilt → is_open operation.request ≡ false }
+        ensures unserved { result ≡ Err Unserved → is_open operation.request ≡ false }
     {
         let (kept, phase) = operation.parts();
         match phase {
@@ -348,7 +348,7 @@ impl<R: Records, V: Versions> Replica<R, V> {
         ensures me { self.new.me ≡ self.old.me }
         ensures voter { self.new.voter ≡ self.old.voter }
         ensures indexed { self.new.indexed ≡ self.old.indexed }
-        ensures unbuilt { result ≡ Err Unbuilt → is_open operation.request ≡ false }
+        ensures unserved { result ≡ Err Unserved → is_open operation.request ≡ false }
     {
         let mut next = operation;
         for _turn in 0..most {
@@ -386,7 +386,7 @@ impl<R: Records, V: Versions> Replica<R, V> {
         ensures me { self.new.me ≡ self.old.me }
         ensures voter { self.new.voter ≡ self.old.voter }
         ensures indexed { self.new.indexed ≡ self.old.indexed }
-        ensures unbuilt { result ≡ Err Unbuilt → is_open operation.request ≡ false }
+        ensures unserved { result ≡ Err Unserved → is_open operation.request ≡ false }
     {
         match self.acts_once(alloc, handlers, work, operation) {
             Ok(Some(next)) => {
@@ -415,7 +415,7 @@ impl<R: Records, V: Versions> Replica<R, V> {
         ensures me { self.new.me ≡ self.old.me }
         ensures voter { self.new.voter ≡ self.old.voter }
         ensures indexed { self.new.indexed ≡ self.old.indexed }
-        ensures unbuilt { result ≡ Err Unbuilt → is_open operation.request ≡ false }
+        ensures unserved { result ≡ Err Unserved → is_open operation.request ≡ false }
     {
         match self.voter.groups(alloc) {
             Ok(groups) => {

@@ -10,8 +10,8 @@ ghost use Rattle.mega_node_laws.specs.About.{IsOf};
 ghost use Rattle.mega_rules.specs.Steps.{begins, new_operation};
 ghost use Rattle.mega_replica.specs.Faring.{Fares};
 ghost use Rattle.mega_voter.specs.Telling.{Tells};
-ghost use Rattle.mega_actions.specs.declared.fault.ActFault.TheVariants.{Unbuilt};
-ghost use Rattle.mega_actions.specs.Built.{is_at_once, is_built, is_indexed, is_plain, is_pump};
+ghost use Rattle.mega_actions.specs.declared.fault.ActFault.TheVariants.{Unserved};
+ghost use Rattle.mega_actions.specs.Servable.{is_at_once, is_served, is_indexed, is_plain, is_pump};
 ghost use Rattle.mega_actions.specs.Indexing.{marks_then};
 ghost use Rattle.mega_marks.specs.AreMarked.{AreMarked, IsIndexed};
 ghost use Rattle.mega_actions.specs.Faults.{failed_by};
@@ -62,14 +62,14 @@ fn read_begun<R: Records>(
 fn group_of(alloc: Global, request: &Request) -> Result<GroupId, ActFault>
     ensures group { IfOk result (λ group. (is_plain request.now ≡ true) × IsOf request.now group) }
     ensures apart { failed_by result ≡ None }
-    ensures unbuilt { result ≡ Err Unbuilt → is_plain request.now ≡ false }
+    ensures unserved { result ≡ Err Unserved → is_plain request.now ≡ false }
 {
     match request {
         Request::Txn(txn) => Ok(txn.group.copy(alloc)?),
         Request::Batch(group, txns) if txns.len() <= 16 => Ok(group.copy(alloc)?),
         _ => match group_asked(request) {
             Some(group) => Ok(group.copy(alloc)?),
-            None => Err(ActFault::Unbuilt),
+            None => Err(ActFault::Unserved),
         },
     }
 }
@@ -117,7 +117,7 @@ impl<R: Records, V: Versions> Replica<R, V> {
         ensures indexed { OnOk result ((h : Meanings) (now : Now) → V.is_told ≡ true →
             IsAt V.version h self.old now.met now.stored → IsIndexed (self.old.members).schema self.old.indexed now.met →
             AreMarked (self.old.members).schema self.new.indexed now.met (marks_then now request)) }
-        ensures unbuilt { result ≡ Err Unbuilt → is_built request ≡ false }
+        ensures unserved { result ≡ Err Unserved → is_served request ≡ false }
     {
         if is_indexed(&request) {
             match self.answers_indexed(alloc, work, op, &request) {
@@ -174,7 +174,7 @@ impl<R: Records, V: Versions> Replica<R, V> {
         ensures me { self.new.me ≡ self.old.me }
         ensures voter { self.new.voter ≡ self.old.voter }
         ensures indexed { self.new.indexed ≡ self.old.indexed }
-        ensures unbuilt { is_pump request ≡ true → result ≡ Err Unbuilt → ⊥ }
+        ensures unserved { is_pump request ≡ true → result ≡ Err Unserved → ⊥ }
     {
         let entering = is_entering(&request);
         let began = self.leases.now();
@@ -231,7 +231,7 @@ impl<R: Records, V: Versions> Replica<R, V> {
         ensures indexed { OnOk result ((h : Meanings) (now : Now) → V.is_told ≡ true → is_indexed request.now ≡ true →
             IsAt V.version h self.old now.met now.stored → IsIndexed (self.old.members).schema self.old.indexed now.met →
             AreMarked (self.old.members).schema self.new.indexed now.met (marks_then now request.now)) }
-        ensures unbuilt { result ≡ Err Unbuilt → is_indexed request.now ≡ false }
+        ensures unserved { result ≡ Err Unserved → is_indexed request.now ≡ false }
     {
         let answer = indexed_answer(
             alloc,
@@ -268,7 +268,7 @@ impl<R: Records, V: Versions> Replica<R, V> {
         ensures me { self.new.me ≡ self.old.me }
         ensures voter { self.new.voter ≡ self.old.voter }
         ensures indexed { self.new.indexed ≡ self.old.indexed }
-        ensures unbuilt { result ≡ Err Unbuilt → is_at_once request.now ≡ false }
+        ensures unserved { result ≡ Err Unserved → is_at_once request.now ≡ false }
     {
         let answer = answer_now(alloc, &self.members, &self.voter, &mut self.rows, request)?;
         work.does(Deed {
@@ -301,7 +301,7 @@ impl<R: Records, V: Versions> Replica<R, V> {
         ensures me { self.new.me ≡ self.old.me }
         ensures voter { self.new.voter ≡ self.old.voter }
         ensures indexed { self.new.indexed ≡ self.old.indexed }
-        ensures unbuilt { result ≡ Err Unbuilt → is_plain request ≡ false }
+        ensures unserved { result ≡ Err Unserved → is_plain request ≡ false }
     {
         match self.first_read(alloc, op, &request) {
             Ok(first) => {
@@ -336,7 +336,7 @@ impl<R: Records, V: Versions> Replica<R, V> {
         ensures visited { IfOk result (λ first. first.visited ≡ first.group ∷ []) }
         ensures group { IfOk result (λ first. (is_plain request.now ≡ true) × IsOf request.now first.group) }
         ensures apart { failed_by result ≡ None }
-        ensures unbuilt { result ≡ Err Unbuilt → is_plain request.now ≡ false }
+        ensures unserved { result ≡ Err Unserved → is_plain request.now ≡ false }
     {
         let group = group_of(alloc, request)?;
         let visited = visited_by(alloc, &group)?;

@@ -13,8 +13,8 @@ ghost use Rattle.mega_replica.specs.Faring.{Fares};
 ghost use Rattle.mega_replica.specs.Following.{Follows, progress_at};
 ghost use Rattle.mega_voter.specs.Telling.{Tells};
 ghost use Rattle.mega_actions.specs.Completed.{completed, stored_through, valid_if};
-ghost use Rattle.mega_actions.specs.declared.fault.ActFault.TheVariants.{Unbuilt};
-ghost use Rattle.mega_actions.specs.Built.{is_plain};
+ghost use Rattle.mega_actions.specs.declared.fault.ActFault.TheVariants.{Unserved};
+ghost use Rattle.mega_actions.specs.Servable.{is_plain};
 ghost use Rattle.mega_actions.specs.Faults.{failed_by};
 ghost use Rattle.mega_actions.specs.Reaching.{operation_of};
 ghost use Rattle.mega_actions.specs.Stands.{Stands, setting};
@@ -44,7 +44,7 @@ fn stores_through<R: Records, V: Versions>(
         Follows (V.version rows.old.rows) (progress_at rows.old.progress) (log_of now.met) now.stored →
         Follows (V.version rows.new.rows) (progress_at rows.new.progress) (log_of now.met) (stored_through now group.now position).stored) }
     ensures fares { Fares V.Versions (failed_by result) rows.old.rows rows.new.rows }
-    ensures built { result ≡ Err Unbuilt → ⊥ }
+    ensures built { result ≡ Err Unserved → ⊥ }
 {
     match rows.apply_through(alloc, group, &voter.logs, Position(position)) {
         Ok(()) => Ok(()),
@@ -90,7 +90,7 @@ fn completes_read<R: Records, V: Versions>(
         Stands (setting c me h) voter.now.logs.kept leases.new (V.version rows.new.rows) (progress_at rows.new.progress)
         (completed now group.now position made).met (completed now group.now position made).stored) }
     ensures fares { Fares V.Versions (failed_by result) rows.old.rows rows.new.rows }
-    ensures built { result ≡ Err Unbuilt → ⊥ }
+    ensures built { result ≡ Err Unserved → ⊥ }
 {
     stores_through(alloc, voter, rows, group, position)?;
     let made = validates(leases, group, position, reading.noted)?;
@@ -116,7 +116,7 @@ pub(crate) fn reads_through<R: Records, V: Versions>(
         Stands (setting c me h) voter.now.logs.kept leases.old (V.version rows.old.rows) (progress_at rows.old.progress) now.met now.stored →
         work.old ≡ work_of now → work.new ≡ work_of (completes_read (setting c me h) now reached.now.group reached.now.reading reached.now.position)) }
     ensures fares { Fares V.Versions (failed_by result) rows.old.rows rows.new.rows }
-    ensures built { result ≡ Err Unbuilt → ⊥ }
+    ensures built { result ≡ Err Unserved → ⊥ }
 {
     let made = completes_read(
         alloc,
@@ -153,7 +153,7 @@ pub(crate) fn goes<R: Records, V: Versions>(
         Stands (setting members.now me h) voter.now.logs.kept leases (V.version rows.old.rows) (progress_at rows.old.progress) now.met now.stored →
         work.old ≡ work_of now → work.new ≡ work_of (finishes (setting members.now me h) again now (operation_of reached) reached.group reached.reading reached.position)) }
     ensures fares { Fares V.Versions (failed_by result) rows.old.rows rows.new.rows }
-    ensures unbuilt { result ≡ Err Unbuilt → is_plain reached.kept.request ≡ false }
+    ensures unserved { result ≡ Err Unserved → is_plain reached.kept.request ≡ false }
 {
     let deed = reached.finishes(alloc, members, voter, clock, &mut rows.rows)?;
     work.does(deed)?;

@@ -21,7 +21,7 @@ mod replica;
 mod turning;
 mod work;
 
-pub use answering::is_built;
+pub use answering::is_served;
 pub use came::Came;
 pub use deed::{Deed, End};
 pub use fault::ActFault;

@@ -16,9 +16,9 @@ ghost use Rattle.mega_voter.specs.Telling.{Tells};
 ghost use Rattle.mega_replica.specs.Applying.{applied};
 ghost use Rattle.mega_replica.specs.Faring.{Fares};
 ghost use Rattle.mega_replica.specs.Following.{Follows, progress_at};
-ghost use Rattle.mega_actions.specs.declared.fault.ActFault.TheVariants.{Unbuilt};
+ghost use Rattle.mega_actions.specs.declared.fault.ActFault.TheVariants.{Unserved};
 ghost use Rattle.mega_actions.specs.Asked.{IsAsked};
-ghost use Rattle.mega_actions.specs.Built.{is_pump};
+ghost use Rattle.mega_actions.specs.Servable.{is_pump};
 ghost use Rattle.mega_actions.specs.Faults.{failed_by};
 ghost use Rattle.mega_actions.specs.Pumping.{is_entering, next_of, pumped_after, pumped_by};
 ghost use Rattle.mega_actions.specs.Reaching.{operation_of};
@@ -230,7 +230,7 @@ fn decides<R: Records, V: Versions, H: QueueHandlers>(
     ensures versions { SameVersions (V.version rows.old) (V.version rows.new) }
     ensures handlers { H.meant handlers.new ≡ H.meant handlers.old }
     ensures fares { Fares V.Versions (failed_by result) rows.old rows.new }
-    ensures built { result ≡ Err Unbuilt → ⊥ }
+    ensures built { result ≡ Err Unserved → ⊥ }
 {
     let digest = Digest::new(alloc);
     let op = reached.kept.id;
@@ -336,7 +336,7 @@ impl Reached {
         ensures progress { rows.new.progress ≡ rows.old.progress }
         ensures handlers { H.meant handlers.new ≡ H.meant handlers.old }
         ensures fares { Fares V.Versions (failed_by result) rows.old.rows rows.new.rows }
-        ensures built { result ≡ Err Unbuilt → ⊥ }
+        ensures built { result ≡ Err Unserved → ⊥ }
     {
         if is_limit(members, self.position) {
             let position = Position(self.position);

@@ -43,7 +43,7 @@ use Rattle.mega_node_laws.proofs.Logs.{log_after, log_is}
 use Rattle.mega_marks.specs.declared.indexed.Indexed.{Indexed}
 use Rattle.mega_marks.specs.AreMarked.{IsIndexed}
 use Rattle.mega_actions.specs.Stands.{setting}
-use Rattle.mega_actions.specs.Turns.{IsBuilt}
+use Rattle.mega_actions.specs.Turns.{IsServable}
 use Rattle.mega_core.specs.Represents.{Represents}
 use Rattle.mega_view.specs.Small.{IsSmall}
 use Rattle.mega_core.specs.Restarting.{applied_at_start}
@@ -203,7 +203,7 @@ restarted c me h old kept leases indexed version progress starts met owed member
   opened = refl;
   begun_is = sym (ap (λ n. min n last_number) begun);
   about = All-nil IsAbout;
-  built = All-nil IsBuilt;
+  built = All-nil IsServable;
 }
   where
     now : List Met

@@ -22,8 +22,8 @@ use Rattle.mega_rules.specs.Steps.{Decision, Heard, Take, Tick, applied_at, appl
 use Rattle.mega_node_laws.specs.About.{group_in}
 use Rattle.mega_node_laws.specs.Acted.{acted_on, decision_in, or_settled}
 use Rattle.mega_node_laws.proofs.Logs.{groups_after, log_after, log_stays, other_log}
-use Rattle.mega_actions.specs.Built.{is_built, is_pump}
-use Rattle.mega_actions.specs.Turns.{IsBuilt}
+use Rattle.mega_actions.specs.Servable.{is_served, is_pump}
+use Rattle.mega_actions.specs.Turns.{IsServable}
 use Rattle.mega_core.specs.declared.applying.Before.{Before}
 use Rattle.mega_core.specs.Acted.{Acted, IsValidate}
 use Rattle.mega_core.specs.Beginning.{at_begin, has_begun}
@@ -227,7 +227,7 @@ module _ (group : GroupId) where
         ∙ (log_after (told_notes s node.met m.from m.body) (Takes m ∷ node.met) group (plain_undecided (told_notes s node.met m.from m.body) (told_plain s node.met m.from m.body))
         ∙ log_stays (Takes m) node.met group refl)
 
-    pub take_still : All IsBuilt node.open_operations → list_any roams node.open_operations ≡ false → Acted (acted_on s node (Take m)) (has_taken s node m)
+    pub take_still : All IsServable node.open_operations → list_any roams node.open_operations ≡ false → Acted (acted_on s node (Take m)) (has_taken s node m)
         → applied_at (has_taken s node m).met (has_taken s node m).stored group ≡ applied_at node.met node.stored group
     take_still built none acted = still_applied (acted_on s node (Take m)) node.met node.stored (has_taken s node m) acted log_is
         (all_walked (Still (node.stored group)) IsOther (still_walks (node.stored group)) s heard_by
@@ -264,7 +264,7 @@ module _ (group : GroupId) where
   asked_apart PumpHandle none = All-nil IsOther
   asked_apart Refresh none = All-nil IsOther
 
-  begin_still : (s : Setting) (node : Node) (request : Request) (text : List ℕ) → (refusal s node request ≡ None → is_built request ≡ true) → is_pump request ≡ false → has group (asked_groups request) ≡ false
+  begin_still : (s : Setting) (node : Node) (request : Request) (text : List ℕ) → (refusal s node request ≡ None → is_served request ≡ true) → is_pump request ≡ false → has group (asked_groups request) ≡ false
       → Acted (Begins (op_of s node.met) text ∷ node.met) (has_begun s node request text) → applied_at (has_begun s node request text).met (has_begun s node request text).stored group ≡ applied_at node.met node.stored group
   begin_still s node request text built pump none acted =
       still_applied (Begins (op_of s node.met) text ∷ node.met) node.met node.stored (has_begun s node request text) acted (log_stays (Begins (op_of s node.met) text) node.met group refl)
@@ -301,7 +301,7 @@ noted_of node groups before now one before_is groups_are still =
     ap (λ (some : List Before). flat_map (note_since now.met now.stored) some) (before_is ∙ ap (map (before_at node.met node.stored)) groups_are)
     ∙ all_noted node.met node.stored now.met now.stored one (λ group none. still group (ap (λ (some : List GroupId). has group some) groups_are ∙ none))
 
-pub take_noted : (s : Setting) (node : Node) (m : Message) (before : List Before) → All IsBuilt node.open_operations → Acted (acted_on s node (Take m)) (has_taken s node m)
+pub take_noted : (s : Setting) (node : Node) (m : Message) (before : List Before) → All IsServable node.open_operations → Acted (acted_on s node (Take m)) (has_taken s node m)
     → before ≡ map (before_at node.met node.stored) (touched node.met m.body node.open_operations) → Noted node before (has_taken s node m)
 take_noted s node m before built acted is = by (list_any roams os) refl is
   where
@@ -331,7 +331,7 @@ take_noted s node m before built acted is = by (list_any roams os) refl is
     by true roaming before_is =
         noted_of node (fold with_phase (groups_of (onto told node.met)) os) before now (onto (map of_phase os) (onto told node.met)) before_is (folded os (onto told node.met)) (λ group none. never group none)
 
-pub begin_noted : (s : Setting) (node : Node) (request : Request) (text : List ℕ) (before : List Before) → (refusal s node request ≡ None → is_built request ≡ true)
+pub begin_noted : (s : Setting) (node : Node) (request : Request) (text : List ℕ) (before : List Before) → (refusal s node request ≡ None → is_served request ≡ true)
     → Acted (Begins (op_of s node.met) text ∷ node.met) (has_begun s node request text)
     → before ≡ map (before_at node.met node.stored) (begun_groups node.met request) → Noted node before (has_begun s node request text)
 begin_noted s node request text before built acted is = by (is_pump request) refl is

@@ -10,7 +10,7 @@ use Rattle.mega_rules.specs.Met.{Met}
 use Rattle.mega_rules.specs.Operations.{Operation}
 use Rattle.mega_rules.specs.Steps.{decision_note, onto, told_decision}
 use Rattle.mega_node_laws.specs.About.{group_in}
-use Rattle.mega_actions.specs.Built.{is_pump}
+use Rattle.mega_actions.specs.Servable.{is_pump}
 
 -- where a message is taken, that of the decision that it tells, and those in which the open operations read or propose
 abbrev pub with_phase : List GroupId → Operation → List GroupId

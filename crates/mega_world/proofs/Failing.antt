@@ -18,7 +18,7 @@ no_rows store fault.DiskFault old new fares whole good =
     let rose : Rose (store.faults old) (store.faults new) = fares.cause refl in absurd (omega (arith, rose, whole old, whole new))
 no_rows store (fault.Full n) old new fares whole good = absurd (fares.never_full n refl)
 no_rows store (fault.BadRecord n) old new fares whole good = absurd (good old n (fares.bad n refl))
-no_rows store fault.Unbuilt old new fares whole good = refl
+no_rows store fault.Unserved old new fares whole good = refl
 no_rows store fault.Stranger old new fares whole good = refl
 no_rows store fault.Late old new fares whole good = refl
 no_rows store fault.NoMemory old new fares whole good = refl
@@ -35,11 +35,11 @@ log_memory store length (log.BadRecord n) old new fares open_now short not_disk 
 log_memory store length log.NoMemory old new fares open_now short not_disk = refl
 
 -- no fault of these is strange
-pub not_strange : (why : StepFault) → (why ≡ fault.Unbuilt → ⊥) → (why ≡ fault.Stranger → ⊥) → (why ≡ fault.Late → ⊥) → is_strange why ≡ false
+pub not_strange : (why : StepFault) → (why ≡ fault.Unserved → ⊥) → (why ≡ fault.Stranger → ⊥) → (why ≡ fault.Late → ⊥) → is_strange why ≡ false
 not_strange fault.DiskFault built ours timely = refl
 not_strange (fault.Full n) built ours timely = refl
 not_strange (fault.BadRecord n) built ours timely = refl
-not_strange fault.Unbuilt built ours timely = absurd (built refl)
+not_strange fault.Unserved built ours timely = absurd (built refl)
 not_strange fault.Stranger built ours timely = absurd (ours refl)
 not_strange fault.Late built ours timely = absurd (timely refl)
 not_strange fault.NoMemory built ours timely = refl

@@ -9,7 +9,7 @@ use Rattle.mega_world.specs.declared.fault.WorldFault.TheVariants.{NoMemory}
 
 -- a fault that only what comes from outside the cluster brings, and none where all requests are served
 abbrev pub is_strange : StepFault → Bool
-is_strange step.Unbuilt = true
+is_strange step.Unserved = true
 is_strange step.Stranger = true
 is_strange step.Late = true
 is_strange _ = false
@@ -19,7 +19,7 @@ abbrev pub fault_of : StepFault → Option WorldFault
 fault_of step.DiskFault = None
 fault_of (step.Full n) = None
 fault_of (step.BadRecord n) = None
-fault_of step.Unbuilt = None
+fault_of step.Unserved = None
 fault_of step.Stranger = None
 fault_of step.Late = None
 fault_of step.NoMemory = Some NoMemory

@@ -10,7 +10,7 @@ use Rattle.mega_node_laws.specs.Acted.{own_item}
 use Rattle.mega_rules.specs.Met.{Crashes}
 use Rattle.mega_rules.specs.Operations.{Node as RuleNode}
 use Rattle.mega_leases.specs.Taking.{IsByStranger, IsLate}
-use Rattle.mega_actions.specs.Built.{is_built}
+use Rattle.mega_actions.specs.Servable.{is_served}
 use Rattle.mega_rules.specs.Steps.{Begin, Event, Step as RuleStep, Take, Tick, step}
 use Rattle.mega_core.specs.declared.step.Step.{Step}
 use Rattle.mega_core.specs.Notes.{met_of}
@@ -38,7 +38,7 @@ AtEachNode makes member event Is =
 -- what a node takes is of its cluster and not too late, and what begins is of at most 16 transactions
 abbrev pub IsNear : Cluster → Event → Type 0
 IsNear c (Take message) = IsByStranger message.from message.body ⊎ IsLate c message.body → ⊥
-IsNear c (Begin request text) = is_built request ≡ true
+IsNear c (Begin request text) = is_served request ≡ true
 IsNear c (Tick clock) = Unit {0}
 
 -- there is such a node

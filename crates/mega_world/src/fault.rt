@@ -38,14 +38,12 @@ pub(crate) fn fault_of(fault: StepFault) -> WorldFault
 {
     match fault {
         StepFault::NoMemory => WorldFault::NoMemory,
-        StepFault::Unbuilt
+        StepFault::Unserved
         | StepFault::Stranger
         | StepFault::Late
         | StepFault::DiskFault
         | StepFault::Full { .. }
-        | StepFault::BadRecord { .. } => {
-            unreachable!()
-        }
+        | StepFault::BadRecord { .. } => { unreachable!() }
     }
 }
 

@@ -12,7 +12,7 @@ use Rattle.mega_voter.specs.Journal.{journal_of}
 use Rattle.mega_node_laws.specs.About.{IsOf}
 use Rattle.mega_node_laws.proofs.Logs.{log_is}
 use Rattle.mega_node_laws.proofs.Owned.{outcome_is}
-use Rattle.mega_actions.specs.Built.{mode_asked}
+use Rattle.mega_actions.specs.Servable.{mode_asked}
 use Rattle.mega_actions.specs.Showing.{looks_in, place_by}
 use Rattle.mega_actions.specs.Stands.{setting}
 use Rattle.mega_view.specs.Small.{IsSmall}

@@ -6,7 +6,7 @@ use Rattle.mega_rules.specs.Operations.{Now}
 use Rattle.mega_rules.specs.Steps.{new_operation}
 use Rattle.mega_actions.specs.declared.pumping.Pumped.{Pumped}
 use Rattle.mega_actions.specs.Asked.{IsAsked}
-use Rattle.mega_actions.specs.Built.{is_pump}
+use Rattle.mega_actions.specs.Servable.{is_pump}
 use Rattle.mega_actions.specs.IsAt.{IsAt}
 use Rattle.mega_actions.specs.Pumping.{pumped_by}
 use Rattle.mega_actions.specs.Stands.{setting}

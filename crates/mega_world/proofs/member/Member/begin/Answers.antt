@@ -61,6 +61,6 @@ log_fault_of-requires g c =
 pub fault_of-requires-clause-own : goal.fault_of-requires-clause-own
 fault_of-requires-clause-own g c =
     not_strange c.in-Err-Step.fault
-    (λ is. let clash : true ≡ false = sym c.requires.known.near ∙ c.in-Err-Step.ensures.unbuilt (ap Err (c.in-Err-Step.field-0-is ∙ ap Failed is)) in cc)
+    (λ is. let clash : true ≡ false = sym c.requires.known.near ∙ c.in-Err-Step.ensures.unserved (ap Err (c.in-Err-Step.field-0-is ∙ ap Failed is)) in cc)
     (λ is. c.in-Err-Step.ensures.stranger (ap Err (c.in-Err-Step.field-0-is ∙ ap Failed is)))
     (λ is. c.in-Err-Step.ensures.late (ap Err (c.in-Err-Step.field-0-is ∙ ap Failed is)))

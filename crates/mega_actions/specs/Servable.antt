@@ -78,5 +78,5 @@ is_plain request = is_proposed request || is_answered request
 abbrev pub is_open : Request → Bool
 is_open request = is_pump request || is_plain request
 
-abbrev pub is_built : Request → Bool
-is_built request = is_indexed request || is_open request
+abbrev pub is_served : Request → Bool
+is_served request = is_indexed request || is_open request
