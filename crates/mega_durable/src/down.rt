@@ -12,8 +12,8 @@ use mega_replica::StoredRows;
 use mega_voter::Voter;
 use std::alloc::Global;
 
-/// A node that is down: its logs over their records, and its rows. Where nothing is staged in the logs, they are what an
-/// opening of the records would give.
+/// A node that is down: its logs over their records, and its rows. Where nothing is staged in the logs, they tell what an
+/// opening of the records would tell.
 #[derive(Drop)]
 pub struct Down<R: Records, V: Versions> {
     pub voter: Voter<R>,
