@@ -67,11 +67,11 @@ fn restarted(
     requires most { me ≤ length places.old.items }
     requires served { IsServed cluster }
     requires member { is_node cluster me ≡ true }
-    requires known { IsStartable fallen }
+    requires known { IsStartable cluster me fallen }
     ensures reopens { IfOk result (λ shown. (now : Standing) (was : List PlaceValue) → AreNodes cluster was now → me ≤ length was → ((place : PlaceValue) → set places.old.items (me - 1) place ≡ set was (me - 1) place) →
-        IsFallen fallen (now.starts me) (now.owed me) (now.node me).met (now.log_fuse me) → OpensOr cluster now me places.new.items shown) }
+        IsFallen cluster me fallen (now.starts me) (now.owed me) (now.node me).met (now.log_fuse me) → OpensOr cluster now me places.new.items shown) }
     ensures small { IfOk result (λ shown. IfSome shown (λ one. IsU32 one.start)) }
-    ensures limit { result ≡ Err Limit → AtEachFallen fallen (λ starts owed met fuse. starts ≡ 4294967295) }
+    ensures limit { result ≡ Err Limit → AtEachFallen cluster me fallen (λ starts owed met fuse. starts ≡ 4294967295) }
     ensures served { (why : ℕ) → result ≢ Err (Refused why) }
 {
     match fallen.start(alloc, cluster, me) {
