@@ -1,16 +1,17 @@
 -- What the kind of a node tells: a full node keeps rows; one that is not full serves what ends in the step in which it begins.
 use Rattle.std.proofs.Common.{◌≡◌, ◌≤◌, ◌<◌, ◌-◌, ◌&&◌, nat_le, ℕ, Bool, true, false, List, length, Option, Some, None, refl, arith}
-use Rattle.std.specs.Prelude.{cond, get_or}
+use Rattle.std.specs.Prelude.{cond, get_or, slice_get}
 use Rattle.std.proofs.lemmas.Bool.Decides.{nat_tests}
 use Rattle.std.proofs.lemmas.Option.{slice_get-get_or}
 use Rattle.mega_base.specs.declared.values.NodeKind.{NodeKind}
 use Rattle.mega_base.specs.declared.values.NodeKind.TheVariants.{Full, Witness, Read}
 use Rattle.mega_cluster.specs.declared.cluster.Cluster.{Cluster}
-use Rattle.mega_outcome.specs.declared.answer.Answer.TheVariants.{Worn}
+use Rattle.mega_outcome.specs.declared.answer.Answer.{Answer}
+use Rattle.mega_outcome.specs.declared.answer.Answer.TheVariants.{NotHere, Worn}
 use Rattle.mega_outcome.specs.declared.request.Request.{Request}
 use Rattle.mega_rules.specs.Members.{has_rows, is_full, is_node, keeps_rows, kind_of, runs}
 use Rattle.mega_rules.specs.Operations.{Node, Operation, Setting}
-use Rattle.mega_rules.specs.Steps.{is_worn, missing_kind, needs_full, refusal, unless_missing}
+use Rattle.mega_rules.specs.Steps.{is_worn, missing_kind, needs_full, refusal, unless_busy, unless_missing}
 
 first_of : (a b : Bool) → (a && b) ≡ true → a ≡ true
 first_of true b h = refl

@@ -1,4 +1,4 @@
-use Rattle.std.proofs.Common.{◌≡◌, ◌++◌, List, length, map, flat_map}
+use Rattle.std.proofs.Common.{◌≡◌, ◌++◌, ℕ, List, length, map, flat_map}
 use Rattle.std.specs.Vec.Iter.{into_iter_items, into_iter_len}
 use Rattle.mega_rules.specs.Met.{Met}
 use Rattle.mega_rules.specs.Logs.{groups_of, log_of}

@@ -1,4 +1,4 @@
-use Rattle.std.proofs.Common.{◌∷◌, subst, sym}
+use Rattle.std.proofs.Common.{◌≡◌, ◌∷◌, subst, sym}
 use Rattle.mega_leases.specs.declared.note.Note.{Note}
 use Rattle.mega_leases.specs.Notes.{met_of}
 use Rattle.mega_core.specs.Staging.{Stages}
