@@ -1,3 +1,4 @@
 pub mod Means
 pub mod Tables
 pub mod Stores
+pub mod BuiltIn

@@ -3,7 +3,9 @@ use Rattle.std.proofs.Common.{◌≡◌, ℕ, zero, suc, ◌+◌, Option, Some, 
 use Rattle.std.proofs.lemmas.List.Sums.{fold-append}
 use Rattle.mega_cluster.specs.declared.cluster.Cluster.{Cluster}
 use Rattle.mega_handler.specs.Named.{Meaning, Meanings}
+use Rattle.mega_meanings.specs.BuiltIn.{built_in, key_property}
 use Rattle.mega_meanings.specs.Means.{Means}
+use Rattle.mega_format_laws.proofs.Brought.{copy_formed, credit_formed}
 use Rattle.mega_schedule.specs.declared.world_event.WorldEvent.{WorldEvent}
 use Rattle.mega_schedule.specs.declared.world_event.WorldEvent.TheVariants.{Tick, Deliver, Drop, Drain, Crash, Start, Fuse, Begin}
 use Rattle.mega_schedule.specs.Events.{event_of}
@@ -37,11 +39,11 @@ use Rattle.mega_replay.proofs.Growing.{event_adds}
 use Rattle.mega_replay.proofs.Holding.{means_values}
 
 -- the run over events, the newest first, is that over the events in order
-turned : (c : Cluster) (events rest : List Happening) → goes_on c by_fuse (opening c []) (in_turn events rest) ≡ goes_on c by_fuse (stood c events) rest
+turned : (c : Cluster) (events rest : List Happening) → goes_on c by_fuse (opening c built_in) (in_turn events rest) ≡ goes_on c by_fuse (stood c events) rest
 turned c [] rest = refl
 turned c (one ∷ events) rest = turned c events (one ∷ rest)
 
-is_run : (c : Cluster) (events : List Happening) → IsRun c [] (in_turn events []) (stood c events).tape
+is_run : (c : Cluster) (events : List Happening) → IsRun c built_in (in_turn events []) (stood c events).tape
 is_run c events = record { cuts = by_fuse; tape_is = ap (λ (now : Standing). now.tape) (sym (turned c events [])) }
 
 -- each text means its request
@@ -56,7 +58,7 @@ meant c number line (Start node) spelled = tt
 meant c number line (Fuse node calls image device) spelled = tt
 
 fits_one : (c : Cluster) (number : ℕ) (line : List ℕ) (now : Standing) (one : Happening) → Happens c number line now one → FitsOne (usage c.schema) one
-fits_one c number line now one happens = record { brought = record { moment = []; is = sym happens.unhandled }; meant = meant c number line one.event happens.spelled }
+fits_one c number line now one happens = record { brought = record { moment = []; is = sym happens.handled }; meant = meant c number line one.event happens.spelled }
 
 fits_turned : (c : Cluster) (lines : List (List ℕ)) (events rest : List Happening) → AllHappen c lines events → Fits (usage c.schema) rest → Fits (usage c.schema) (in_turn events rest)
 fits_turned c [] [] rest happen fits = fits
@@ -70,16 +72,16 @@ replayed c lines events declared happen =
     let run = is_run c events in
     let fits = fits_turned c lines events [] happen tt in
     let tape = (stood c events).tape in
-    let writes = run_written c (usage c.schema) [] (in_turn events []) tape run fits in
+    let writes = run_written c (usage c.schema) built_in (in_turn events []) tape run fits in
     let values = asks_values (meaning_in c.schema) (means_values c.schema) tape in
     record {
       happen = happen;
       run = run;
       by_fuses = ap (λ (now : Standing). now.tape) (sym (turned c events []));
-      agree = agreement c (stood c events).tape (run_lawful c [] (in_turn events []) (stood c events).tape run);
-      serial = serial c (usage c.schema) (stood c events).tape (run_answered c (usage c.schema) [] (in_turn events []) (stood c events).tape run fits);
-      messages = messages c (usage c.schema) tape [] (λ moment. refl) writes;
-      causes = run_causes c (usage c.schema) [] (in_turn events []) tape run fits [];
+      agree = agreement c (stood c events).tape (run_lawful c built_in (in_turn events []) (stood c events).tape run);
+      serial = serial c (usage c.schema) (stood c events).tape (run_answered c (usage c.schema) built_in (in_turn events []) (stood c events).tape run fits);
+      messages = messages c (usage c.schema) tape built_in (λ moment. refl) writes;
+      causes = run_causes c (usage c.schema) built_in (in_turn events []) tape run fits built_in;
       indexed = indexed c (usage c.schema) tape writes declared values;
       rows = rows_fit c (usage c.schema) tape writes declared values;
     }
@@ -101,49 +103,49 @@ asked c number line (Fuse node calls image device) spelled = tt
 
 -- the steps of what comes next act on rows of each group's own
 module _ (c : Cluster) (declared : IsDeclared c.schema) where
-  owns_delivered : (done : List Happening) (number : ℕ) (now : Standing) → Fits (usage c.schema) done → goes_on c by_fuse (opening c []) done ≡ now → refusal c now (Deliver number) ≡ None → OwnsDelivered c [] now number
+  owns_delivered : (done : List Happening) (number : ℕ) (now : Standing) → Fits (usage c.schema) done → goes_on c by_fuse (opening c built_in) done ≡ now → refusal c now (Deliver number) ≡ None → OwnsDelivered c built_in now number
   owns_delivered done number now fits is allowed = by (message_of now.tape number) refl
     where
-      by : (found : Option Message) → message_of now.tape number ≡ found → OwnsTaken c [] now found
+      by : (found : Option Message) → message_of now.tape number ≡ found → OwnsTaken c built_in now found
       by None none = tt
       by (Some message) some =
-          subst (λ (at : Standing). OwnsStep c [] at message.to (Take message)) is
-          (take_owns c (usage c.schema) declared [] by_fuse done fits [] number message (record { brought = record { moment = []; is = refl }; meant = tt })
+          subst (λ (at : Standing). OwnsStep c built_in at message.to (Take message)) is
+          (take_owns c (usage c.schema) declared built_in by_fuse done fits built_in number message (record { brought = record { moment = []; is = refl }; meant = tt })
           (subst (λ (at : Standing). refusal c at (Deliver number) ≡ None) (sym is) allowed) (ap (λ (at : Standing). message_of at.tape number) is ∙ some))
 
-  one_more : (done : List Happening) (number : ℕ) (now : Standing) → goes_on c by_fuse (opening c []) done ≡ now → refusal c now (Deliver number) ≡ None
-      → goes_on c by_fuse (opening c []) (done ++ record { handlers = []; event = Deliver number } ∷ []) ≡ delivered c [] by_fuse now number
+  one_more : (done : List Happening) (number : ℕ) (now : Standing) → goes_on c by_fuse (opening c built_in) done ≡ now → refusal c now (Deliver number) ≡ None
+      → goes_on c by_fuse (opening c built_in) (done ++ record { handlers = built_in; event = Deliver number } ∷ []) ≡ delivered c built_in by_fuse now number
   one_more done number now is allowed =
-      fold-append (λ at one. unless_refused at (after_event c one.handlers by_fuse at one.event) (refusal c at one.event)) (opening c []) done (record { handlers = []; event = Deliver number } ∷ [])
-      ∙ ap (λ at. goes_on c by_fuse at (record { handlers = []; event = Deliver number } ∷ [])) is
-      ∙ ap (unless_refused now (delivered c [] by_fuse now number)) allowed
+      fold-append (λ at one. unless_refused at (after_event c one.handlers by_fuse at one.event) (refusal c at one.event)) (opening c built_in) done (record { handlers = built_in; event = Deliver number } ∷ [])
+      ∙ ap (λ at. goes_on c by_fuse at (record { handlers = built_in; event = Deliver number } ∷ [])) is
+      ∙ ap (unless_refused now (delivered c built_in by_fuse now number)) allowed
 
-  owns_drained : (most : ℕ) (done : List Happening) (now : Standing) → Fits (usage c.schema) done → goes_on c by_fuse (opening c []) done ≡ now → OwnsDrained c [] most now
+  owns_drained : (most : ℕ) (done : List Happening) (now : Standing) → Fits (usage c.schema) done → goes_on c by_fuse (opening c built_in) done ≡ now → OwnsDrained c built_in most now
   owns_drained zero done now fits is = tt
   owns_drained (suc most) done now fits is = by (next_delivery (up now) now.tape) refl (owns_drained most)
     where
       next : ℕ → Happening
-      next number = record { handlers = []; event = Deliver number }
+      next number = record { handlers = built_in; event = Deliver number }
 
       by : (found : Option ℕ) → next_delivery (up now) now.tape ≡ found
-          → ((more : List Happening) (at : Standing) → Fits (usage c.schema) more → goes_on c by_fuse (opening c []) more ≡ at → OwnsDrained c [] most at)
-          → IfNext (λ number. OwnsDelivered c [] now number × OwnsDrained c [] most (delivered c [] by_fuse now number)) found
+          → ((more : List Happening) (at : Standing) → Fits (usage c.schema) more → goes_on c by_fuse (opening c built_in) more ≡ at → OwnsDrained c built_in most at)
+          → IfNext (λ number. OwnsDelivered c built_in now number × OwnsDrained c built_in most (delivered c built_in by_fuse now number)) found
       by None none rest = tt
       by (Some number) some rest =
           let allowed = next_allowed c now number some in (
             owns_delivered done number now fits is allowed,
-            rest (done ++ next number ∷ []) (delivered c [] by_fuse now number)
+            rest (done ++ next number ∷ []) (delivered c built_in by_fuse now number)
                 (each_append (FitsOne (usage c.schema)) done (next number ∷ []) fits (record { brought = record { moment = []; is = refl }; meant = tt }, tt)) (one_more done number now is allowed),
           )
 
-  owns : (done : List Happening) (now : Standing) (event : WorldEvent) → Fits (usage c.schema) done → FitsOne (usage c.schema) (record { handlers = []; event = event }) → goes_on c by_fuse (opening c []) done ≡ now → refusal c now event ≡ None
-      → Owns c [] now event
+  owns : (done : List Happening) (now : Standing) (event : WorldEvent) → Fits (usage c.schema) done → FitsOne (usage c.schema) (record { handlers = built_in; event = event }) → goes_on c by_fuse (opening c built_in) done ≡ now → refusal c now event ≡ None
+      → Owns c built_in now event
   owns done now (Tick node clock) fits first is allowed =
-      subst (λ (at : Standing). OwnsStep c [] at node.0 (TickStep clock)) is
-      (tick_owns c (usage c.schema) declared [] by_fuse done fits [] node clock first (subst (λ (at : Standing). refusal c at (Tick node clock) ≡ None) (sym is) allowed))
+      subst (λ (at : Standing). OwnsStep c built_in at node.0 (TickStep clock)) is
+      (tick_owns c (usage c.schema) declared built_in by_fuse done fits built_in node clock first (subst (λ (at : Standing). refusal c at (Tick node clock) ≡ None) (sym is) allowed))
   owns done now (Begin node request text) fits first is allowed =
-      subst (λ (at : Standing). OwnsStep c [] at node.0 (BeginStep request text)) is
-      (begin_owns c (usage c.schema) declared [] by_fuse done fits [] node request text first (subst (λ (at : Standing). refusal c at (Begin node request text) ≡ None) (sym is) allowed))
+      subst (λ (at : Standing). OwnsStep c built_in at node.0 (BeginStep request text)) is
+      (begin_owns c (usage c.schema) declared built_in by_fuse done fits built_in node request text first (subst (λ (at : Standing). refusal c at (Begin node request text) ≡ None) (sym is) allowed))
   owns done now (Deliver number) fits first is allowed = owns_delivered done number now fits is allowed
   owns done now (Drain most) fits first is allowed = owns_drained most done now fits is
   owns done now (Drop message) fits first is allowed = tt
@@ -152,21 +154,21 @@ module _ (c : Cluster) (declared : IsDeclared c.schema) where
   owns done now (Fuse node calls image device) fits first is allowed = tt
 
 pub sound : {makes : List ℕ → Option Meaning} (c : Cluster) (lines : List (List ℕ)) (events : List Happening) (number : ℕ) (line : List ℕ) (event : WorldEvent) → IsDeclared c.schema → AllHappen c lines events → event_of c.schema number line ≡ Ok event
-    → refusal c (stood c events) event ≡ None → Means makes [] → IsSound makes c [] (stood c events) event
+    → refusal c (stood c events) event ≡ None → Means makes built_in → IsSound makes c built_in (stood c events) event
 sound c lines events number line event declared happen spelled allowed means =
-    let first : FitsOne (usage c.schema) (record { handlers = []; event = event }) = record { brought = record { moment = []; is = refl }; meant = meant c number line event spelled } in record {
+    let first : FitsOne (usage c.schema) (record { handlers = built_in; event = event }) = record { brought = record { moment = []; is = refl }; meant = meant c number line event spelled } in record {
       means = means;
-      handlers = tt;
+      handlers = (credit_formed key_property, (copy_formed, tt));
       asked = asked c number line event spelled;
       own = owns c declared (in_turn events []) (stood c events) event (fits_turned c lines events [] happen tt) first (turned c events []) allowed;
     }
 
 pub went : (c : Cluster) (number : ℕ) (line : List ℕ) (events : List Happening) (event : WorldEvent) (world : World) (items : List Item) → event_of c.schema number line ≡ Ok event → refusal c (stood c events) event ≡ None
-    → IsAt c world items (after_event c [] by_fuse (stood c events) event) → Went c number line events world items
+    → IsAt c world items (after_event c built_in by_fuse (stood c events) event) → Went c number line events world items
 went c number line events event world items spelled allowed here = record {
-  one = record { handlers = []; event = event };
-  happens = record { spelled = spelled; unhandled = refl; allowed = allowed };
-  here = subst (IsAt c world items) (sym (went_on c events [] event allowed)) here;
+  one = record { handlers = built_in; event = event };
+  happens = record { spelled = spelled; handled = refl; allowed = allowed };
+  here = subst (IsAt c world items) (sym (went_on c events built_in event allowed)) here;
 }
 
 pub line_adds : (c : Cluster) (number : ℕ) (line : List ℕ) (events : List Happening) (world : World) (items : List Item) → Went c number line events world items

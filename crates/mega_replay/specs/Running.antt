@@ -3,6 +3,7 @@ use Rattle.std.specs.Prelude.{◌≡◌, ℕ, ◌+◌, true, List, [], ◌∷◌
 use Rattle.mega_base.specs.declared.names.GroupId.{GroupId}
 use Rattle.mega_base.specs.declared.names.OpId.{OpId}
 use Rattle.mega_cluster.specs.declared.cluster.Cluster.{Cluster}
+use Rattle.mega_meanings.specs.BuiltIn.{built_in}
 use Rattle.mega_index.specs.Rows.{list_after}
 use Rattle.mega_schedule.specs.Events.{event_of}
 use Rattle.mega_outcome.specs.declared.answer.Answer.{Answer}
@@ -22,13 +23,13 @@ use Rattle.mega_line_laws.specs.Meanings.{meaning_in}
 -- how a cluster stands after these events: its nodes as the header has them, and each event on what those before it left; a fuse on a log
 -- cuts the append that it names
 abbrev pub stood : Cluster → List Happening → Standing
-stood c [] = opening c []
+stood c [] = opening c built_in
 stood c (one ∷ earlier) = unless_refused (stood c earlier) (after_event c one.handlers by_fuse (stood c earlier) one.event) (refusal c (stood c earlier) one.event)
 
--- the line of this number spells the event under the schema of the cluster, and it is not refused; no handlers are there
+-- the line of this number spells the event under the schema of the cluster, and it is not refused; the handlers are those that the store brings
 pub record Happens (c : Cluster) (number : ℕ) (line : List ℕ) (now : Standing) (one : Happening) : Type 0 where
   pub spelled : event_of c.schema number line ≡ Ok one.event
-  pub unhandled : one.handlers ≡ []
+  pub handled : one.handlers ≡ built_in
   pub allowed : refusal c now one.event ≡ None
 
 -- so does each of these lines
@@ -47,7 +48,7 @@ in_turn (one ∷ earlier) rest = in_turn earlier (one ∷ rest)
 abbrev pub HaveCauses : Cluster → List Item → Type 0
 HaveCauses c tape =
     (op : OpId) (request : Request) (answer : Answer) (before : List Item) → StoodOn (Answered op answer) before tape → asked_for (meaning_in c.schema) before op ≡ Some request
-    → is_told request answer ≡ true → HasCause c (meaning_in c.schema) [] before op answer
+    → is_told request answer ≡ true → HasCause c (meaning_in c.schema) built_in before op answer
 
 -- the lines' events happen, and the tape is a run of the cluster over them, in order, in which a fuse on a log cuts the append that it names: so what nodes decided at one position is one entry; an
 -- entry with the id of an operation is what that came to over the entries below, and answers are as of one thread; messages between groups
@@ -55,11 +56,11 @@ HaveCauses c tape =
 -- tables' rows, each of which fits and stands under its own key
 pub record Replayed (c : Cluster) (lines : List (List ℕ)) (events : List Happening) : Type 0 where
   pub happen : AllHappen c lines events
-  pub run : IsRun c [] (in_turn events []) (stood c events).tape
-  pub by_fuses : (stood c events).tape ≡ (goes_on c by_fuse (opening c []) (in_turn events [])).tape
+  pub run : IsRun c built_in (in_turn events []) (stood c events).tape
+  pub by_fuses : (stood c events).tape ≡ (goes_on c by_fuse (opening c built_in) (in_turn events [])).tape
   pub agree : Agree (stood c events).tape
   pub serial : IsSerial c.schema (meaning_in c.schema) (stood c events).tape
-  pub messages : AreMessages c.schema [] (stood c events).tape
+  pub messages : AreMessages c.schema built_in (stood c events).tape
   pub causes : HaveCauses c (stood c events).tape
   pub indexed : (group : GroupId) (p : ℕ) → IsIndexed c.schema group (list_after (take p (log_of (stood c events).tape group)) [])
   pub rows : (group : GroupId) (p : ℕ) → AreRows c.schema group (list_after (take p (log_of (stood c events).tape group)) [])

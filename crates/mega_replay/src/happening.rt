@@ -9,7 +9,7 @@ ghost use Rattle.mega_replay.specs.Stops.{IsEventStop, IsLineStop, IsWorldStop};
 
 use crate::status::Stop;
 use mega_cluster::Cluster;
-use mega_meanings::NoHandlers;
+use mega_meanings::BuiltIn;
 use mega_schedule::{LineFault, WorldEvent, event};
 use mega_schema::Schema;
 use mega_transcript::Tape;
@@ -52,7 +52,7 @@ fn happen(
     ensures only { IfErr result IsWorldStop }
     ensures lines { OnOk result (All HasLine tape.new.items) }
 {
-    let mut handlers = NoHandlers;
+    let mut handlers = BuiltIn::new();
     match world.apply(alloc, &mut handlers, event, tape) {
         Ok(()) => Ok(()),
         Err(WorldFault::Refused { why }) => Err(Stop::Refused { line: number, why }),

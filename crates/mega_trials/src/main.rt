@@ -1,4 +1,4 @@
-//! Trials: each schedule that `names` lists is replayed, and what is written is compared with the transcript beside it.
+//! Trials: each schedule that `names` lists is replayed, and what is written is compared with the transcript and the summary beside it.
 #![tactic(auto)]
 
 use mega_base::Text;
@@ -13,16 +13,32 @@ struct Trial {
     is_same: bool,
 }
 
-/// Replays one schedule.
-fn tried(rt: &HostRuntime, name: &str) -> io::Result<Trial> {
+impl Trial {
+    /// Whether what was written is what was wanted.
+    fn word(&self) -> &'static str {
+        if self.is_same { "same" } else { "other" }
+    }
+}
+
+/// The words of a replay.
+fn words_of(rt: &HostRuntime, is_summary: bool) -> io::Result<Vec<Text>> {
     let alloc = rt.alloc();
-    let schedule = fs::read(rt, format!(in alloc; "{name}.in")?)?;
-    let wanted = fs::read(rt, format!(in alloc; "{name}.out")?)?;
     let mut words = Vec::new(alloc);
     words.push(Text::from_string(format!(in alloc; "replay")?))?;
+    if is_summary {
+        words.push(Text::from_string(format!(in alloc; "--summary")?))?;
+    }
+    Ok(words)
+}
+
+/// Replays one schedule, and compares what is written with the file that has this ending.
+fn tried(rt: &HostRuntime, name: &str, words: &[Text], ending: &str) -> io::Result<Trial> {
+    let alloc = rt.alloc();
+    let schedule = fs::read(rt, format!(in alloc; "{name}.in")?)?;
+    let wanted = fs::read(rt, format!(in alloc; "{name}.{ending}")?)?;
     let mut input = MemSource::new(schedule, Vec::new(alloc));
     let mut out = MemSink::new(alloc, Vec::new(alloc));
-    let status = run(alloc, words.as_slice(), &mut input, &mut out);
+    let status = run(alloc, words, &mut input, &mut out);
     Ok(Trial {
         status,
         is_same: out.bytes() == wanted.as_slice(),
@@ -31,10 +47,18 @@ fn tried(rt: &HostRuntime, name: &str) -> io::Result<Trial> {
 
 fn main(rt: HostRuntime) -> io::Result<()> {
     let names = fs::read_to_string(&rt, "names")?;
+    let transcript = words_of(&rt, false)?;
+    let summary = words_of(&rt, true)?;
     for name in names.lines() {
-        let trial = tried(&rt, name)?;
-        let word = if trial.is_same { "same" } else { "other" };
-        println!(rt; "{name}: status {}, {word}", trial.status)?;
+        let whole = tried(&rt, name, transcript.as_slice(), "out")?;
+        let counts = tried(&rt, name, summary.as_slice(), "summary")?;
+        println!(rt;
+            "{name}: status {}, {}; summary {}, {}",
+            whole.status,
+            whole.word(),
+            counts.status,
+            counts.word()
+        )?;
     }
     Ok(())
 }

@@ -1,5 +1,6 @@
 use Rattle.std.proofs.Common.{ℕ, ◌≡◌, [], Some, None, Err, ap, subst, sym}
-use Rattle.mega_meanings.proofs.Lasting.{none_mean}
+use Rattle.mega_meanings.proofs.Lasting.{built_in_means}
+use Rattle.mega_meanings.specs.BuiltIn.{built_in}
 use Rattle.mega_promises.specs.Runs.{refusal}
 use Rattle.mega_replay.specs.Running.{stood}
 use Rattle.mega_replay.proofs.Running.{sound, went}
@@ -12,7 +13,7 @@ returns-in-Ok-clause-state c done events after =
     let line = c.args.line.now in
     let allowed = c.in-Ok.ensures.happens cluster (stood cluster events) after.here in
     went cluster number line events c.args.event c.apply.new.self c.apply.new.tape.items c.requires.spelled allowed
-    (c.in-Ok.ensures.state cluster [] (stood cluster events) after.here (sound cluster done events number line c.args.event after.declared after.happen c.requires.spelled allowed none_mean))
+    (c.in-Ok.ensures.state cluster built_in (stood cluster events) after.here (sound cluster done events number line c.args.event after.declared after.happen c.requires.spelled allowed (built_in_means _ c.new-handlers.ensures)))
 
 pub returns-in-Ok-clause-lines : goal.returns-in-Ok-clause-lines
 returns-in-Ok-clause-lines c =
@@ -21,7 +22,7 @@ returns-in-Ok-clause-lines c =
     let events = c.requires.standing.1 in
     let after = c.requires.standing.2 in
     let allowed = c.in-Ok.ensures.happens cluster (stood cluster events) after.here in
-    c.in-Ok.ensures.lines cluster [] (stood cluster events) after.here (sound cluster done events c.args.number c.args.line.now c.args.event after.declared after.happen c.requires.spelled allowed none_mean) c.requires.lines
+    c.in-Ok.ensures.lines cluster built_in (stood cluster events) after.here (sound cluster done events c.args.number c.args.line.now c.args.event after.declared after.happen c.requires.spelled allowed (built_in_means _ c.new-handlers.ensures)) c.requires.lines
 
 pub returns-in-Err-Refused-clause-refused : goal.returns-in-Err-Refused-clause-refused
 returns-in-Err-Refused-clause-refused c at why is done events after =
@@ -53,10 +54,10 @@ apply-requires c =
     let after = c.requires.standing.2 in record {
       known = record {
         cluster = cluster;
-        handlers = [];
+        handlers = built_in;
         now = stood cluster events;
         at = after.here;
-        sound = λ allowed. sound cluster done events c.args.number c.args.line.now c.args.event after.declared after.happen c.requires.spelled allowed none_mean;
+        sound = λ allowed. sound cluster done events c.args.number c.args.line.now c.args.event after.declared after.happen c.requires.spelled allowed (built_in_means _ c.new-handlers.ensures);
       };
     }
 

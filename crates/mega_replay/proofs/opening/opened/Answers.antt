@@ -1,4 +1,4 @@
-use Rattle.std.proofs.Common.{[]}
+use Rattle.mega_meanings.specs.BuiltIn.{built_in}
 use Rattle.mega_replay.proofs.Starts.{declared, small, starts}
 use Rattle.mega_replay.proofs.opening.opened.Goals as goal
 
@@ -24,4 +24,4 @@ pub new-requires-clause-small : goal.new-requires-clause-small
 new-requires-clause-small c = small c.args.cluster.now c.requires.read
 
 pub returns-in-Ok-clause-state : goal.returns-in-Ok-clause-state
-returns-in-Ok-clause-state c = record { declared = declared c.args.cluster.now c.requires.read; happen = tt; here = c.in-Ok.ensures.state [] }
+returns-in-Ok-clause-state c = record { declared = declared c.args.cluster.now c.requires.read; happen = tt; here = c.in-Ok.ensures.state built_in }

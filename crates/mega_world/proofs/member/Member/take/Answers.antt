@@ -12,7 +12,7 @@ pub take-requires : goal.take-requires
 take-requires g c =
     let k = c.requires.known in
     let here = is_here k.cluster k.handlers k.me c.args.self.now k.ruled k.is in
-    let may = subst (λ (s : Setting). MayHappen _ s k.ruled (Take c.args.message.now)) (own_setting k.cluster k.handlers k.me c.args.self.now k.ruled k.is) k.may in record { known = (refl, (k.handlers, (k.ruled, (record { stands = here.stands; empty = here.empty; ready = here.ready; holds = here.holds; granted = here.granted }), may))) }
+    let may = subst (λ (s : Setting). MayHappen (g.H.QueueHandlers.meant c.args.handlers.now) s k.ruled (Take c.args.message.now)) (own_setting k.cluster k.handlers k.me c.args.self.now k.ruled k.is) k.may in record { known = (refl, (k.handlers, (k.ruled, (record { stands = here.stands; empty = here.empty; ready = here.ready; holds = here.holds; granted = here.granted }), may))) }
 
 pub returns-in-Ok-clause-made : goal.returns-in-Ok-clause-made
 returns-in-Ok-clause-made g c cluster h me ruled fuse is fused may =
@@ -54,5 +54,5 @@ pub log_fault_of-requires : goal.log_fault_of-requires
 log_fault_of-requires g c =
     let k = c.requires.known in
     let here = is_here k.cluster k.handlers k.me c.args.self.now k.ruled k.is in
-    let may = subst (λ (s : Setting). MayHappen _ s k.ruled (Take c.args.message.now)) (own_setting k.cluster k.handlers k.me c.args.self.now k.ruled k.is) k.may in
+    let may = subst (λ (s : Setting). MayHappen (g.H.QueueHandlers.meant c.args.handlers.now) s k.ruled (Take c.args.message.now)) (own_setting k.cluster k.handlers k.me c.args.self.now k.ruled k.is) k.may in
     log_memory _ _ c.in-Err-Log.fault _ _ (rw c.in-Err-Log.field-0-is at c.in-Err-Log.ensures.went.1) k.is.ready refl (rw c.in-Err-Log.field-0-is at (c.in-Err-Log.ensures.owed k.handlers k.ruled (record { stands = here.stands; empty = here.empty; ready = here.ready; holds = here.holds; granted = here.granted }) may))
