@@ -197,7 +197,7 @@ module _ (group : GroupId) where
       All-weaker (IsThere (groups_of (onto (map of_phase os) met))) IsOtherOpen (λ o there. apart_from (groups_of (onto (map of_phase os) met)) group (group_in o.phase) none there) os (each_there os met)
 
   stays_apart : (request : Request) → is_pump request ≡ false → is_pump request ≡ true → (other : GroupId) → IsOther other
-  stays_apart request no yes other = absurd (let none : true ≡ false = sym yes ∙ no in cc)
+  stays_apart request plain pump other = absurd (let never : true ≡ false = sym pump ∙ plain in cc)
 
   others_in : (os : List Operation) → All IsOtherOpen os → list_any roams os ≡ false → All (IsIn IsOther) os
   others_in [] others none = All-nil (IsIn IsOther)

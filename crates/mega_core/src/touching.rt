@@ -182,7 +182,8 @@ fn told_groups<R: Records>(
         let groups = all_groups(alloc, voter)?;
         return with_told(alloc, groups, body);
     }
-    with_told(alloc, Items::new(alloc), body)
+    let told = with_told(alloc, Items::new(alloc), body)?;
+    Ok(told)
 }
 
 /// The groups of which a step may apply more in which a message is taken.
