@@ -1,5 +1,5 @@
 -- The handlers that the store brings.
-use Rattle.std.specs.Prelude.{ℕ, [], ◌∷◌, codes}
+use Rattle.std.specs.Prelude.{ℕ, List, [], ◌∷◌, codes}
 use Rattle.mega_handler.specs.Effects.{copy_writes, credit_writes}
 use Rattle.mega_handler.specs.Named.{Meaning, Meanings}
 
