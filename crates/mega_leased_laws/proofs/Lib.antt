@@ -9,3 +9,6 @@ pub mod Pressing
 pub mod Reached
 pub mod Epochs
 pub mod Polls
+pub mod Walk
+pub mod Wheres
+pub mod Asking
