@@ -12,3 +12,5 @@ pub mod Polls
 pub mod Walk
 pub mod Wheres
 pub mod Asking
+pub mod Beating
+pub mod Validating
