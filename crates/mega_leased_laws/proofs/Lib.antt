@@ -14,3 +14,4 @@ pub mod Wheres
 pub mod Asking
 pub mod Beating
 pub mod Validating
+pub mod Leased

@@ -9,6 +9,8 @@ ghost use Rattle.mega_leased_laws.specs.Cells.{IsFreed};
 ghost use Rattle.mega_leased_laws.specs.Invalidations.{IsObeyed, IsPressed};
 ghost use Rattle.mega_leased_laws.specs.Items.{Are};
 ghost use Rattle.mega_leased_laws.specs.Serving.{IsServing};
+ghost use Rattle.mega_leased_laws.specs.Validation.{IsValidated};
+ghost use Rattle.mega_valid_laws.specs.Leases.{AreLeased};
 
 /// In every run of at most nine nodes a cell that says that it holds nothing for a node was asked, and holds nothing: the last epoch that it granted the
 /// node lapsed there, or there is none (CIDR 2011, coordinators).
@@ -30,4 +32,15 @@ pub fn a_node_obeys_behind_a_question()
 /// In every run an operation tells a node to invalidate a position where a majority of the voters accepted some entry (CIDR 2011, write algorithm).
 pub fn an_operation_invalidates_what_was_accepted()
     ensures { (c : Cluster) (first : Meanings) (events : List Happening) (tape : List Item) → IsRun c first events tape → Are (IsPressed c) tape }
+{}
+
+/// In every run of at most nine nodes a group becomes valid only by a poll that began while the epoch served that serves now: a majority of the voters told
+/// it no position above this one, which is decided, and no lower than each at which the group was invalidated since (CIDR 2011, coordinators).
+pub fn a_group_is_valid_by_a_poll()
+    ensures { (c : Cluster) (first : Meanings) (events : List Happening) (tape : List Item) → length c.nodes ≤ 9 → IsRun c first events tape → Are (IsValidated c) tape }
+{}
+
+/// So the leases of every run of at most nine nodes are as the rules have them, item by item.
+pub fn leases_are_as_the_rules_have_them()
+    ensures { (c : Cluster) (first : Meanings) (events : List Happening) (tape : List Item) → length c.nodes ≤ 9 → IsRun c first events tape → AreLeased c tape }
 {}
