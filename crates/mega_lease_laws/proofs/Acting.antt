@@ -1,6 +1,7 @@
 -- What a node sends of its own accord asks: none of it is a reply.
-use Rattle.std.proofs.Common.{ℕ, nat_lt, ◌&&◌, Bool, true, false, cond, List, [], ◌∷◌, map, flat_map, Option, Some, None, refl}
+use Rattle.std.proofs.Common.{◌≡◌, ℕ, nat_lt, ◌&&◌, Bool, true, false, cond, List, [], ◌∷◌, map, flat_map, Option, Some, None, refl}
 use Rattle.std.specs.List.{All}
+use Rattle.std.proofs.lemmas.List.Elements.{All-cons, All-nil}
 use Rattle.mega_base.specs.declared.names.Epoch.{Epoch}
 use Rattle.mega_cluster.specs.declared.cluster.Cluster.{Cluster}
 use Rattle.mega_coordinator.specs.History.{Call, Ticks as Told, counted_cells, epoch_after, serving}
@@ -52,13 +53,32 @@ background_asks s met now =
     (λ group. if_so (nat_lt (prefix_of met group) (newest_of met group)) (map (fetch_to s met group) (others s.me (voters s.cluster))) (to_each (fetch_to s met group) (λ to. refl) (others s.me (voters s.cluster))))
     (groups_of met))
 
-acquires_ask : (c : Cluster) (me : ℕ) (calls : List Call) (start now : ℕ) (epoch : Option Epoch) → All Asks (acquires c me calls start now epoch)
-acquires_ask c me calls start now None = none
-acquires_ask c me calls start now (Some epoch) =
-    to_each (acquire_to me epoch now) (λ cell. refl) (asked_cells c (counted_cells start c.cells calls) (serving start c.cells calls))
+-- what it asks the cells for is its present epoch, as a full node
+pub record Acquires (c : Cluster) (me : ℕ) (met : List Met) (now : ℕ) (m : Message) : Type 0 where
+  pub cell : ℕ
+  pub epoch : Epoch
+  pub is : m ≡ acquire_to me epoch now cell
+  pub full : is_full c me ≡ true
+  pub present : epoch_after (start_of met) c.cells (Told now ∷ coordinator_calls c met) ≡ Some epoch
 
-pub acquires_at_asks : (c : Cluster) (me : ℕ) (met : List Met) (now : ℕ) → All Asks (acquires_at c me met now)
-acquires_at_asks c me met now =
-    if_so (is_full c me && does_again c.retry (ticks_of met) now)
-    (acquires c me (Told now ∷ coordinator_calls c met) (start_of met) now (epoch_after (start_of met) c.cells (Told now ∷ coordinator_calls c met)))
-    (acquires_ask c me (Told now ∷ coordinator_calls c met) (start_of met) now (epoch_after (start_of met) c.cells (Told now ∷ coordinator_calls c met)))
+acquires_each : (c : Cluster) (me : ℕ) (met : List Met) (now : ℕ) (epoch : Epoch) → is_full c me ≡ true → epoch_after (start_of met) c.cells (Told now ∷ coordinator_calls c met) ≡ Some epoch → (cells : List ℕ)
+    → All (Acquires c me met now) (map (acquire_to me epoch now) cells)
+acquires_each c me met now epoch full present [] = All-nil (Acquires c me met now)
+acquires_each c me met now epoch full present (cell ∷ cells) =
+    All-cons (Acquires c me met now) (acquire_to me epoch now cell) (map (acquire_to me epoch now) cells)
+    (record { cell = cell; epoch = epoch; is = refl; full = full; present = present }) (acquires_each c me met now epoch full present cells)
+
+pub acquires_are : (c : Cluster) (me : ℕ) (met : List Met) (now : ℕ) → All (Acquires c me met now) (acquires_at c me met now)
+acquires_are c me met now = by (is_full c me) (does_again c.retry (ticks_of met) now) refl
+  where
+    calls : List Call
+    calls = Told now ∷ coordinator_calls c met
+
+    of : (o : Option Epoch) → is_full c me ≡ true → epoch_after (start_of met) c.cells calls ≡ o → All (Acquires c me met now) (acquires c me calls (start_of met) now o)
+    of None full is = All-nil (Acquires c me met now)
+    of (Some epoch) full is = acquires_each c me met now epoch full is (asked_cells c (counted_cells (start_of met) c.cells calls) (serving (start_of met) c.cells calls))
+
+    by : (t u : Bool) → is_full c me ≡ t → All (Acquires c me met now) (cond (t && u) (acquires c me calls (start_of met) now (epoch_after (start_of met) c.cells calls)) [])
+    by true true full = of (epoch_after (start_of met) c.cells calls) full refl
+    by true false full = All-nil (Acquires c me met now)
+    by false u full = All-nil (Acquires c me met now)

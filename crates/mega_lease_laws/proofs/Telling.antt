@@ -36,15 +36,15 @@ use Rattle.mega_node_laws.proofs.Ending.{taken_by}
 use Rattle.mega_tape_laws.specs.Places.{In}
 use Rattle.mega_run_laws.proofs.Whole.{in_left}
 use Rattle.mega_lease_laws.specs.Questions.{Asks, is_question}
-use Rattle.mega_lease_laws.proofs.Acting.{acquires_at_asks, background_asks, hears_message_asks, news_ask}
+use Rattle.mega_lease_laws.proofs.Acting.{Acquires, acquires_are, background_asks, hears_message_asks, news_ask}
 use Rattle.mega_lease_laws.proofs.Lasting.{IsHeard, Lasts, all_act_it, all_ticked_it, begun_it}
 
 -- ---- all that operations send asks
 
-abbrev AllAsk : Now → Type 0
+abbrev pub AllAsk : Now → Type 0
 AllAsk now = All Asks now.sends
 
-ask_lasts : Lasts AllAsk ⊥
+pub ask_lasts : Lasts AllAsk ⊥
 ask_lasts = record {
   keeps_it = λ now o about h. h;
   ends_it = λ now op answer h. h;
@@ -131,14 +131,14 @@ reply_tells me notes more to (Some body) h = All-cons (Tells me (notes ++ more))
 -- ---- a whole step
 
 -- the notes behind what a message tells cell and coordinator
-rejoined : {X : Type 0} (a b c d e : List X) → (((a ++ b) ++ c) ++ d) ++ e ≡ a ++ (((b ++ c) ++ d) ++ e)
+pub rejoined : {X : Type 0} (a b c d e : List X) → (((a ++ b) ++ c) ++ d) ++ e ≡ a ++ (((b ++ c) ++ d) ++ e)
 rejoined [] b c d e = refl
 rejoined (x ∷ a) b c d e = ap (λ xs. x ∷ xs) (rejoined a b c d e)
 
-none : All Asks []
+pub none : All Asks []
 none = All-nil Asks
 
-all_heard : (s : Setting) (clock : ℕ) (m : Message) (os : List Operation) → All (IsHeard ⊥) (map (hears_message s clock m) os)
+pub all_heard : (s : Setting) (clock : ℕ) (m : Message) (os : List Operation) → All (IsHeard ⊥) (map (hears_message s clock m) os)
 all_heard s clock m [] = All-nil (IsHeard ⊥)
 all_heard s clock m (o ∷ os) =
     All-cons (IsHeard ⊥) (hears_message s clock m o) (map (hears_message s clock m) os)
@@ -178,17 +178,20 @@ take_tells s node m = taken_by_tells s node m (map (hears_message s (clock_of no
 
 tick_tells : (s : Setting) (node : Node) (now : ℕ) → All (Tells s.me (tick_step s node now).notes) (tick_step s node now).sends
 tick_tells s node now =
-    questions_tell s.me (tick_step s node now).notes ((acquires_at s.cluster s.me node.met now ++ acc.sends) ++ background s node.met now)
-    (All-append Asks (acquires_at s.cluster s.me node.met now ++ acc.sends) (background s node.met now)
-    (All-append Asks (acquires_at s.cluster s.me node.met now) acc.sends (acquires_at_asks s.cluster s.me node.met now)
-    (all_ticked_it AllAsk ⊥ ask_lasts s now node.open_operations (at_first base (portion_of s node.met node.stored)) (λ impossible. absurd impossible) none))
-    (background_asks s node.met now))
+    All-append (Tells s.me notes) (acquires_at s.cluster s.me node.met now ++ acc.sends) (background s node.met now)
+    (All-append (Tells s.me notes) (acquires_at s.cluster s.me node.met now) acc.sends
+    (All-weaker (Acquires s.cluster s.me node.met now) (Tells s.me notes) (λ m a. subst (Tells s.me notes) (sym a.is) tt) (acquires_at s.cluster s.me node.met now) (acquires_are s.cluster s.me node.met now))
+    (questions_tell s.me notes acc.sends (all_ticked_it AllAsk ⊥ ask_lasts s now node.open_operations (at_first base (portion_of s node.met node.stored)) (λ impossible. absurd impossible) none)))
+    (questions_tell s.me notes (background s node.met now) (background_asks s node.met now))
   where
     base : List Met
     base = onto (lapse_notes s node.met now) (onto (lease_notes s node.met now) (Ticks now ∷ node.met))
 
     acc : Now
     acc = fold (ticked s now) (at_first base (portion_of s node.met node.stored)) node.open_operations
+
+    notes : List Met
+    notes = (tick_step s node now).notes
 
 begin_tells : (s : Setting) (node : Node) (request : Request) (text : List ℕ) → All (Tells s.me (begin_step s node request text).notes) (begin_step s node request text).sends
 begin_tells s node request text =

@@ -1,5 +1,5 @@
--- Messages that a node sends of its own accord: those of its operations, what it tells of decisions, and what it asks the cells for. All others are
--- replies.
+-- Messages that a node sends of its own accord: those of its operations, and what it tells of decisions. What it asks the cells for is apart; all others
+-- are replies.
 use Rattle.std.specs.Prelude.{◌≡◌, Bool, true, false}
 use Rattle.mega_wire.specs.declared.message.Message.{Message}
 use Rattle.mega_wire.specs.declared.message.Body.{Body}
@@ -13,7 +13,7 @@ is_question (Invalidate op group position) = true
 is_question (Dead op cell node) = true
 is_question (Decide group position entry) = true
 is_question (Fetch op group position) = true
-is_question (Acquire cell epoch clock) = true
+is_question (Acquire cell epoch clock) = false
 is_question (Top op group position) = false
 is_question (Accepted op group position ballot entry) = false
 is_question (Refused op group position asked shown entry) = false

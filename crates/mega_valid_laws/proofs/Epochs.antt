@@ -81,7 +81,7 @@ granted_from cell node e (Lapse other to epoch ∷ before) (inr s) =
 granted_from cell node e (_ ∷ before) (inr s) = granted_from cell node e before s
 
 -- it stands, and where it is not held its lapse stands
-abbrev Shown : ℕ → ℕ → List Item → Option (Epoch × Bool) → Type 0
+abbrev pub Shown : ℕ → ℕ → List Item → Option (Epoch × Bool) → Type 0
 Shown cell node tape None = Unit {0}
 Shown cell node tape (Some last) = Stands (Grant cell (number node) last.0) tape × (last.1 ≡ false → Stands (Lapse cell (number node) last.0) tape)
 
@@ -89,7 +89,7 @@ shown_on : (cell node : ℕ) (tape : List Item) (item : Item) (o : Option (Epoch
 shown_on cell node tape item None h = tt
 shown_on cell node tape item (Some last) h = (inr h.0, λ lapsed. inr (h.1 lapsed))
 
-granted_shown : (cell node : ℕ) (tape : List Item) → Shown cell node tape (granted_on tape cell node)
+pub granted_shown : (cell node : ℕ) (tape : List Item) → Shown cell node tape (granted_on tape cell node)
 granted_shown cell node [] = tt
 granted_shown cell node (Grant other to epoch ∷ before) = by (other == cell && to.0 == node) refl (granted_shown cell node before)
   where

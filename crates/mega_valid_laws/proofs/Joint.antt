@@ -84,13 +84,13 @@ acts_behind (item ∷ later) tape voter p act i = in_tail (act_of voter p item) 
 acts_on : (moment tape : List Item) → Earlier moment tape → (voter : ℕ) (p : Place) (act : Act) → In act (acts moment voter p) → In act (acts tape voter p)
 acts_on moment tape e voter p act i = subst (λ t. In act (acts t voter p)) (sym e.is) (acts_behind e.later moment voter p act i)
 
-chosen_on : (c : Cluster) (moment tape : List Item) → Earlier moment tape → (p : Place) → WasChosen c moment p → WasChosen c tape p
+pub chosen_on : (c : Cluster) (moment tape : List Item) → Earlier moment tape → (p : Place) → WasChosen c moment p → WasChosen c tape p
 chosen_on c moment tape e p w = record {
   entry = w.entry;
   chosen = record { ballot = (w.chosen).ballot; test = (w.chosen).test; majority = (w.chosen).majority; each = λ voter t. acts_on moment tape e voter p (Voted (w.chosen).ballot w.entry) ((w.chosen).each voter t) };
 }
 
-vote_heard : (tape : List Item) (p : Place) (key voter to : ℕ) (op : OpId) (b : Ballot) (e : Content) → Stands (Sent key (message voter to (Accepted op p.group p.position b e))) tape → In (Voted b e) (acts tape voter p)
+pub vote_heard : (tape : List Item) (p : Place) (key voter to : ℕ) (op : OpId) (b : Ballot) (e : Content) → Stands (Sent key (message voter to (Accepted op p.group p.position b e))) tape → In (Voted b e) (acts tape voter p)
 vote_heard tape p key voter to op b e s = kept (act_of voter p) (Sent key (message voter to (Accepted op p.group p.position b e))) (Voted b e) tape told s
   where
     told : act_of voter p (Sent key (message voter to (Accepted op p.group p.position b e))) ≡ Some (Voted b e)

@@ -27,7 +27,7 @@ either_true false b h = inr h
 pub epoch_is : (a b : Epoch) → is_same_epoch a b ≡ true → a ≡ b
 epoch_is a b h = let parts = both (a.start == b.start) (a.count == b.count) h in λ i. record { start = number_is a.start b.start parts.0 i; count = number_is a.count b.count parts.1 i }
 
-abbrev Below : Epoch → Epoch → Type 0
+abbrev pub Below : Epoch → Epoch → Type 0
 Below a b = (a.start < b.start) ⊎ ((a.start ≡ b.start) × (a.count < b.count))
 
 is_less : (a b : ℕ) → nat_lt a b ≡ true → a < b
@@ -51,7 +51,7 @@ joined : (a b : Bool) → a ≡ true → b ≡ true → (a && b) ≡ true
 joined true b h k = k
 joined false b h k = cc
 
-below_of : (a b : Epoch) → is_epoch_below a b ≡ true → Below a b
+pub below_of : (a b : Epoch) → is_epoch_below a b ≡ true → Below a b
 below_of a b h = elim (either_true (nat_lt a.start b.start) (a.start == b.start && nat_lt a.count b.count) h) [
   | inl e ↦ inl (is_less a.start b.start e)
   | inr e ↦ let parts = both (a.start == b.start) (nat_lt a.count b.count) e in inr (number_is a.start b.start parts.0, is_less a.count b.count parts.1)

@@ -126,11 +126,11 @@ step_met s node (Take m) = by (told_decision m.body)
 
 -- ---- standings
 
-record ShownAt (c : Cluster) (now : Standing) : Type 0 where
-  serving : (v : ℕ) → serving_on now.tape v ≡ serving_met (now.node v).met
-  valid : (group : GroupId) (v : ℕ) → valid_on now.tape v group ≡ valid_met (now.node v).met group
-  agrees : (v : ℕ) → is_full c v ≡ true → is_up (now.node v).met ≡ true → AgreesAt c (now.node v).met
-  owed : (v : ℕ) → Each IsNeutral (now.owed v)
+pub record ShownAt (c : Cluster) (now : Standing) : Type 0 where
+  pub serving : (v : ℕ) → serving_on now.tape v ≡ serving_met (now.node v).met
+  pub valid : (group : GroupId) (v : ℕ) → valid_on now.tape v group ≡ valid_met (now.node v).met group
+  pub agrees : (v : ℕ) → is_full c v ≡ true → is_up (now.node v).met ≡ true → AgreesAt c (now.node v).met
+  pub owed : (v : ℕ) → Each IsNeutral (now.owed v)
 
 durable_neutral : (one : Met) → is_durable one ≡ true → IsNeutral one
 durable_neutral (Grants node epoch) h = tt
@@ -273,7 +273,7 @@ module _ (c : Cluster) where
     owed = q.owed;
   }
 
-  shown_keeps : Keeps c (ShownAt c)
+  pub shown_keeps : Keeps c (ShownAt c)
   shown_keeps = record {
     ticks = λ h now me clock cut g up q. fated_shown h now me (TickItem (number me) clock) (Tick clock) (fate_by now me cut (calls_of c h now me (Tick clock) (step (setting c h me) (now.node me) (Tick clock)))) tt tt (λ nodes. refl) up q;
     takes = λ h now j m cut g up stands q. fated_shown h now m.to (Taken j) (Take m) (fate_by now m.to cut (calls_of c h now m.to (Take m) (step (setting c h m.to) (now.node m.to) (Take m)))) tt tt (λ nodes. refl) up q;
@@ -285,7 +285,7 @@ module _ (c : Cluster) where
     fuses = λ now log_fuse data_fuse q. record { serving = q.serving; valid = q.valid; agrees = q.agrees; owed = q.owed };
   }
 
-nothing_shown : (c : Cluster) → ShownAt c nothing_yet
+pub nothing_shown : (c : Cluster) → ShownAt c nothing_yet
 nothing_shown c = record { serving = λ v. refl; valid = λ group v. refl; agrees = λ v full up. cc; owed = λ v. tt }
 
 abbrev stands_then : (c : Cluster) (first : Meanings) (events : List Happening) (tape : List Item) → IsRun c first events tape → Standing

@@ -1,0 +1,17 @@
+pub mod Forms
+pub mod Notes
+pub mod Tapes
+pub mod Told
+pub mod Locks
+pub mod Cells
+pub mod Obeying
+pub mod Pressing
+pub mod Reached
+pub mod Epochs
+pub mod Polls
+pub mod Walk
+pub mod Wheres
+pub mod Asking
+pub mod Beating
+pub mod Validating
+pub mod Leased

@@ -1,0 +1,5 @@
+pub mod Items
+pub mod Cells
+pub mod Invalidations
+pub mod Serving
+pub mod Validation
