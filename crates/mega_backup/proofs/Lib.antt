@@ -1,0 +1,5 @@
+pub mod Streams
+pub mod Decided
+pub mod Logged
+pub mod NoFloats
+pub mod Cells
