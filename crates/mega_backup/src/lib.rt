@@ -3,17 +3,17 @@
 
 mod fault;
 mod heads;
-mod line;
 mod puts;
 mod reading;
 mod restoring;
 mod rows;
 mod showing;
+mod spelling;
 mod tables;
 mod words;
 mod writing;
 
 pub use fault::BackupFault;
-pub use line::line;
+pub use spelling::line;
 pub use restoring::read;
 pub use writing::write;

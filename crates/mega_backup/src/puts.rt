@@ -88,15 +88,15 @@ fn is_large(alloc: Global, schema: &Schema, txn: &Transaction) -> Result<bool, N
     let mut rows = MemVersions::new(alloc);
     match run(alloc, schema, txn, &mut rows, Position(0)) {
         Ok(_) => Ok(false),
-        Err(Turn::TooLarge(_)) => Ok(true),
+        Err(Turn::TooLarge { .. }) => Ok(true),
         Err(
-            Turn::OtherGroup(_)
-            | Turn::BadRow(_)
-            | Turn::CheckFailed(_)
-            | Turn::NoRow(_)
-            | Turn::Overflow(_),
+            Turn::OtherGroup { .. }
+            | Turn::BadRow { .. }
+            | Turn::CheckFailed { .. }
+            | Turn::NoRow { .. }
+            | Turn::Overflow { .. },
         ) => Ok(false),
-        Err(Turn::DiskFault | Turn::Full(_) | Turn::BadRecord(_) | Turn::NoMemory) => {
+        Err(Turn::DiskFault | Turn::Full { .. } | Turn::BadRecord { .. } | Turn::NoMemory) => {
             Err(NoMemory)
         }
     }
@@ -120,8 +120,10 @@ fn add_put(
         let key = key.copy(alloc)?;
         return Err(BackupFault::TooLarge { key });
     }
-    txns.push(txn)?;
-    Ok(())
+    match txns.push(txn) {
+        Ok(()) => Ok(()),
+        Err(_) => Err(BackupFault::NoMemory),
+    }
 }
 
 /// The puts of rows, in order of key. `TooLarge` comes exactly with the first key whose put is too large.

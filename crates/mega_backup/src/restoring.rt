@@ -1,5 +1,5 @@
 //! The transactions that bring back the rows of a backup at a position.
-ghost use Rattle.std.specs.Prelude.{◌≡◌, take, length};
+ghost use Rattle.std.specs.Prelude.{◌≡◌, ◌≤◌, take, length};
 ghost use Rattle.mega_backup.specs.Faults.{GivesBy};
 ghost use Rattle.mega_backup.specs.Restoring.{from_backup, read_of, restoring};
 
