@@ -3,3 +3,8 @@ pub mod Decided
 pub mod Logged
 pub mod NoFloats
 pub mod Cells
+pub mod Emptied
+pub mod Numbered
+pub mod Refused
+pub mod Spaces
+pub mod Joined

@@ -1,8 +1,9 @@
 //! The puts that bring rows back, one for each row that fits a table of the group.
-ghost use Rattle.std.specs.Prelude.{◌≡◌, IfOk, Some, None};
+ghost use Rattle.std.specs.Prelude.{◌≡◌, IfOk, Some, None, Err, false};
+ghost use Rattle.mega_outcome.specs.Answers.{is_outside};
 ghost use Rattle.mega_index.specs.Fits.{numbered, stands_in};
 ghost use Rattle.mega_backup.specs.Faults.{GivesOrKey};
-ghost use Rattle.mega_backup.specs.Restoring.{Adds, is_large, put_at, put_in, put_of, puts_of, with_put};
+ghost use Rattle.mega_backup.specs.Restoring.{Adds, is_large, is_large_turn, put_at, put_in, put_of, puts_of, with_put};
 
 use crate::fault::BackupFault;
 use crate::rows::Rows;
@@ -81,23 +82,34 @@ fn put_in(
     }
 }
 
+/// Whether a put was refused as too large. A refusal that tells of the store says nothing, and a store in memory has none.
+fn is_too_large(turn: Turn) -> Result<bool, NoMemory>
+    ensures inside { IfOk result (λ large. is_outside turn ≡ false) }
+    ensures exact { IfOk result (λ large. large ≡ is_large_turn (Err turn)) }
+{
+    match turn {
+        Turn::TooLarge { .. } => Ok(true),
+        Turn::OtherGroup { .. }
+        | Turn::BadRow { .. }
+        | Turn::CheckFailed { .. }
+        | Turn::NoRow { .. }
+        | Turn::Overflow { .. } => Ok(false),
+        Turn::DiskFault | Turn::Full { .. } | Turn::BadRecord { .. } | Turn::NoMemory => {
+            Err(NoMemory)
+        }
+    }
+}
+
 /// Whether a put alone on an empty group is refused as too large.
 fn is_large(alloc: Global, schema: &Schema, txn: &Transaction) -> Result<bool, NoMemory>
-    ensures { IfOk result (λ is. is ≡ is_large schema.now txn.now) }
+    ensures { IfOk result (λ large. large ≡ is_large schema.now txn.now) }
 {
     let mut rows = MemVersions::new(alloc);
     match run(alloc, schema, txn, &mut rows, Position(0)) {
         Ok(_) => Ok(false),
-        Err(Turn::TooLarge { .. }) => Ok(true),
-        Err(
-            Turn::OtherGroup { .. }
-            | Turn::BadRow { .. }
-            | Turn::CheckFailed { .. }
-            | Turn::NoRow { .. }
-            | Turn::Overflow { .. },
-        ) => Ok(false),
-        Err(Turn::DiskFault | Turn::Full { .. } | Turn::BadRecord { .. } | Turn::NoMemory) => {
-            Err(NoMemory)
+        Err(turn) => {
+            let large = is_too_large(turn)?;
+            Ok(large)
         }
     }
 }
