@@ -3,6 +3,7 @@ pub mod Decided
 pub mod Logged
 pub mod NoFloats
 pub mod Cells
+pub mod Answered
 pub mod Emptied
 pub mod Numbered
 pub mod Refused
