@@ -85,11 +85,15 @@ module _ (s : Schema) (d : IsDeclared s) (group : GroupId) where
       by false is (Err large) more_is g = absurd (cc)
       by false is (Ok rest) more_is g = record { rest = rest; small = is; rest_is = more_is; whole = let e : txn ∷ rest ≡ txns = cc in e }
 
+  -- what the puts of rows leave, over any rows
+  abbrev On : Listed → Type 0
+  On listed = (txns : List Transaction) (rows : Rows) → Kept s group.key rows → Stand listed → Free listed rows → puts_of s group listed ≡ Ok txns → Chain rows listed (fold (after_one s) rows txns)
+
   pub chain : (listed : Listed) (txns : List Transaction) (rows : Rows) → Ascends listed → Kept s group.key rows → Stand listed → Free listed rows → puts_of s group listed ≡ Ok txns → Chain rows listed (fold (after_one s) rows txns)
   chain [] txns rows up kept stand free h =
       let none : [] ≡ txns = cc in
       subst (λ (ts : List Transaction). Chain rows [] (fold (after_one s) rows ts)) none (record { kept = kept; at = λ m n u values k of there own. refl })
-  chain (one ∷ more) txns rows up kept stand free h = by (table_of s group.key one.0) refl h
+  chain (one ∷ more) txns rows up kept stand free h = by (λ txns rows kept stand free h. chain more txns rows up.1 kept stand free h) (table_of s group.key one.0) refl h
     where
       stand_more : Stand more
       stand_more k n row of is = stand k n row of (under_more one more k row up is)
@@ -104,8 +108,8 @@ module _ (s : Schema) (d : IsDeclared s) (group : GroupId) where
           other : (k : List ℕ) (n : ℕ) → table_of s group.key k ≡ Some n → k ≡ one.0 → ⊥
           other k n of same = let e : None ≡ Some n = sym none ∙ sym is ∙ ap (table_of s group.key) (sym same) ∙ of in cc
 
-      put : (n : ℕ) → table_of s group.key one.0 ≡ Some n → with_put s one.0 (put_at s group (Some n) one.0 one.1) (puts_of s group more) ≡ Ok txns → Chain rows (one ∷ more) (fold (after_one s) rows txns)
-      put n of g =
+      put : On more → (n : ℕ) → table_of s group.key one.0 ≡ Some n → with_put s one.0 (put_at s group (Some n) one.0 one.1) (puts_of s group more) ≡ Ok txns → Chain rows (one ∷ more) (fold (after_one s) rows txns)
+      put go n of g =
           subst (λ (ts : List Transaction). Chain rows (one ∷ more) (fold (after_one s) rows ts)) p.whole
           (subst (λ (R : Rows). Chain rows (one ∷ more) (fold (after_one s) R p.rest)) (sym now_is) put_first)
         where
@@ -144,7 +148,7 @@ module _ (s : Schema) (d : IsDeclared s) (group : GroupId) where
               first_again k row same is = let e : None ≡ Some row = sym (none_first one more up) ∙ ap (under more) same ∙ is in cc
 
           rest : Chain (written (replaced s n one.0 (rows one.0) (Some one.1)) rows) more (fold (after_one s) (written (replaced s n one.0 (rows one.0) (Some one.1)) rows) p.rest)
-          rest = chain more p.rest (written (replaced s n one.0 (rows one.0) (Some one.1)) rows) up.1 kept_now stand_more free_now p.rest_is
+          rest = go p.rest (written (replaced s n one.0 (rows one.0) (Some one.1)) rows) kept_now stand_more free_now p.rest_is
 
           put_first : Chain rows (one ∷ more) (fold (after_one s) (written (replaced s n one.0 (rows one.0) (Some one.1)) rows) p.rest)
           put_first = record {
@@ -164,6 +168,6 @@ module _ (s : Schema) (d : IsDeclared s) (group : GroupId) where
                   ap (λ b. or_old (under more k) (cond b (Some one.1) (rows k))) apart
                   ∙ ap (λ b. or_old (cond b (Some one.1) (under more k)) (rows k)) (sym (not_key k one.0 (λ same. key_apart one.0 k apart (sym same))))
 
-      by : (o : Option ℕ) → table_of s group.key one.0 ≡ o → with_put s one.0 (put_at s group o one.0 one.1) (puts_of s group more) ≡ Ok txns → Chain rows (one ∷ more) (fold (after_one s) rows txns)
-      by None is g = left_out None refl is (chain more txns rows up.1 kept stand_more (λ k n row of there. free k n row of (under_more one more k row up there)) g)
-      by (Some n) is g = put n is g
+      by : On more → (o : Option ℕ) → table_of s group.key one.0 ≡ o → with_put s one.0 (put_at s group o one.0 one.1) (puts_of s group more) ≡ Ok txns → Chain rows (one ∷ more) (fold (after_one s) rows txns)
+      by go None is g = left_out None refl is (go txns rows kept stand_more (λ k n row of there. free k n row of (under_more one more k row up there)) g)
+      by go (Some n) is g = put go n is g
