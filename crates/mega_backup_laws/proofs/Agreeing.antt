@@ -1,8 +1,9 @@
 -- Rows that are kept and agree under row keys agree everywhere; so what is restored is what was there.
-use Rattle.std.proofs.Common.{◌≡◌, ℕ, ◌≤◌, List, [], length, take, refl, sym, ap, ◌∙◌, subst, Option, Some, None, Result, Ok, Err}
+use Rattle.std.proofs.Common.{◌≡◌, ℕ, ◌≤◌, cond, Bool, true, false, nat_le, List, [], length, take, refl, sym, ap, ◌∙◌, subst, Option, Some, None, Result, Ok, Err}
 use Rattle.mega_base.specs.declared.names.GroupId.{GroupId}
 use Rattle.mega_base.specs.declared.values.Value.{Value}
 use Rattle.mega_base.specs.declared.values.Row.{Row}
+use Rattle.mega_entry.specs.declared.content.Content.{Content}
 use Rattle.mega_cluster.specs.declared.cluster.Cluster.{Cluster}
 use Rattle.mega_schema.specs.declared.schema.Table.{Table}
 use Rattle.mega_schema.specs.declared.schema.Schema.{Schema}
@@ -21,7 +22,12 @@ use Rattle.mega_tape_laws.proofs.RowKeys.{Standing, OfTable, of_table}
 use Rattle.mega_tape_laws.proofs.IndexKept.{Kept, Owner}
 use Rattle.mega_tape_laws.proofs.IndexSteps.{changes_kept, fitted_kept}
 use Rattle.mega_tape_laws.proofs.LogSteps.{Keeps, log_keeps}
-use Rattle.mega_backup.specs.Restoring.{puts_of, restored, restoring, unless_large}
+use Rattle.mega_backup.specs.declared.fault.BackupFault.TheVariants.{Short}
+use Rattle.mega_backup.specs.declared.reading.Backup.{Backup}
+use Rattle.mega_backup.specs.Lines.{backup_in}
+use Rattle.mega_backup.specs.Restoring.{from_backup, puts_of, read_of, restored, restoring, unless_large}
+use Rattle.mega_backup_laws.specs.Made.{AreMade}
+use Rattle.mega_backup_laws.proofs.Making.{entries_kept}
 use Rattle.mega_backup_laws.proofs.Chains.{or_old, Chain, chain}
 
 none_kept : (s : Schema) (group : List ℕ) → Kept s group no_rows
@@ -95,13 +101,30 @@ small_puts : (r : Result (List Transaction) (List ℕ)) (txns : List Transaction
 small_puts (Ok found) txns h = let same : found ≡ txns = cc in ap Ok same
 small_puts (Err key) txns h = absurd (cc)
 
+-- of any entries after which the rows are kept
+listed_back : (s : Schema) → IsDeclared s → (group : GroupId) (log : List Content) → Kept s group.key (after log no_rows) → (txns : List Transaction) → unless_large (puts_of s group (list_after log [])) ≡ Ok txns
+    → (key : List ℕ) → restored s txns key ≡ after log no_rows key
+listed_back s d group log kept txns h key =
+    all_agree s d group (list_after log []) (after-ascends log [] tt) (subst (Kept s group.key) (sym (after_is log [] tt)) kept) txns (small_puts (puts_of s group (list_after log [])) txns h) key
+    ∙ ap (λ (R : Rows). R key) (after_is log [] tt)
+
+pub made_back : (s : Schema) → IsDeclared s → (group : GroupId) (entries : List Content) → AreMade s group no_rows entries → (q : ℕ) (txns : List Transaction) → restoring s group entries q ≡ Ok txns
+    → (key : List ℕ) → restored s txns key ≡ after (take q entries) no_rows key
+made_back s d group entries made q txns h = listed_back s d group (take q entries) (entries_kept s d.most group entries q no_rows (none_kept s group.key) made) txns h
+
+-- what is read of the lines of a backup
+pub read_back : (s : Schema) → IsDeclared s → (lines : List (List ℕ)) (backup : Backup) → backup_in lines ≡ Ok backup → AreMade s backup.group no_rows backup.entries → (q : ℕ) (txns : List Transaction) → read_of s lines q ≡ Ok txns
+    → (key : List ℕ) → restored s txns key ≡ after (take q backup.entries) no_rows key
+read_back s d lines backup is made q txns h = made_back s d backup.group backup.entries made q txns (there (nat_le q (length backup.entries)) (ap (from_backup s q) (sym is) ∙ h))
+  where
+    there : (b : Bool) → cond b (restoring s backup.group backup.entries q) (Err (Short (record { 0 = length backup.entries }))) ≡ Ok txns → restoring s backup.group backup.entries q ≡ Ok txns
+    there true g = g
+    there false g = absurd (cc)
+
 pub brought_back : (c : Cluster) (usage : Usage) (tape : List Item) → LawfulWrites c usage tape → IsDeclared c.schema → AskValues usage tape → (group : GroupId) (entries : ℕ) (txns : List Transaction)
     → restoring c.schema group (log_of tape group) entries ≡ Ok txns → (key : List ℕ) → restored c.schema txns key ≡ after (take entries (log_of tape group)) no_rows key
-brought_back c usage tape l d ask group entries txns h key =
+brought_back c usage tape l d ask group entries txns h =
     let s = c.schema in
-    let log = take entries (log_of tape group) in
     let kept = log_keeps c usage tape group (Kept s group.key) (λ (t : Transaction). PutValues t.writes) AllPutValues l (kept_keeps s d.most group.key)
     (λ op transaction asked. ask op _ asked) (λ op transactions asked. ask op _ asked) entries in
-    let listed_kept : Kept s group.key (row_under (list_after log [])) = subst (Kept s group.key) (sym (after_is log [] tt)) kept in
-    all_agree s d group (list_after log []) (after-ascends log [] tt) listed_kept txns (small_puts (puts_of s group (list_after log [])) txns h) key
-    ∙ ap (λ (R : Rows). R key) (after_is log [] tt)
+    listed_back s d group (take entries (log_of tape group)) kept txns h

@@ -1,3 +1,4 @@
 pub mod Puts
+pub mod Making
 pub mod Chains
 pub mod Agreeing
