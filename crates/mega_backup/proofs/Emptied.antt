@@ -1,9 +1,9 @@
 -- Over a store with nothing in it the outcome is that over no rows.
-use Rattle.std.proofs.Common.{◌≡◌, ℕ, List, Bool, false, Option, Some, None, Result, Err, ap, subst, ◌∙◌, sym}
+use Rattle.std.proofs.Common.{◌≡◌, ℕ, List, Bool, false, Option, None, Result, Err, ap, subst, ◌∙◌, sym}
 use Rattle.mega_base.specs.declared.values.Row.{Row}
 use Rattle.mega_disk.specs.VersionMaps.{Versions, row_of, version_at}
 use Rattle.mega_schema.specs.declared.schema.Schema.{Schema}
-use Rattle.mega_index.specs.Rows.{Rows, no_rows}
+use Rattle.mega_index.specs.Rows.{no_rows}
 use Rattle.mega_outcome.specs.declared.answer.Done.{Done}
 use Rattle.mega_outcome.specs.declared.answer.Turn.{Turn}
 use Rattle.mega_outcome.specs.declared.transaction.Transaction.{Transaction}

@@ -1,5 +1,5 @@
 -- What a line shows as JSON has no float in it.
-use Rattle.std.proofs.Common.{◌≡◌, ℕ, ◌||◌, pos, negsuc, List, [], ◌∷◌, map, Bool, true, false, Option, Some, None, Result, Ok, Err, refl, Ordering, Less, Equal, Greater, nat_cmp}
+use Rattle.std.proofs.Common.{◌≡◌, ℕ, ◌||◌, pos, negsuc, List, [], ◌∷◌, map, Bool, true, false, Option, Some, None, refl, Ordering, Less, Equal, Greater, nat_cmp}
 use Rattle.std.proofs.lemmas.Bool.{or_parts}
 use Rattle.std.specs.Ordering.{match_ordering}
 use Rattle.std.specs.Cmp.Lexicographic.{slice_cmp}

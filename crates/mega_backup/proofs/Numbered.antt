@@ -1,5 +1,5 @@
 -- Tables by their numbers: the first one has the number 1.
-use Rattle.std.proofs.Common.{◌≡◌, ℕ, zero, suc, ◌+◌, ◌-◌, ◌<◌, cond, eqb, Bool, false, List, [], ◌∷◌, length, take, get_or, slice_get, refl, sym, ap, ◌∙◌, arith, Option, Some, None}
+use Rattle.std.proofs.Common.{◌≡◌, ℕ, zero, suc, ◌+◌, ◌-◌, ◌<◌, cond, eqb, Bool, false, List, [], ◌∷◌, length, take, get_or, slice_get, refl, sym, ap, ◌∙◌, arith, Some, None}
 use Rattle.std.proofs.lemmas.Bool.Decides.{nat_tests}
 use Rattle.std.proofs.lemmas.Option.{slice_get_read}
 use Rattle.mega_schema.specs.declared.schema.Table.{Table}

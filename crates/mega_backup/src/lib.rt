@@ -14,6 +14,6 @@ mod words;
 mod writing;
 
 pub use fault::BackupFault;
-pub use spelling::line;
 pub use restoring::read;
+pub use spelling::line;
 pub use writing::write;

@@ -14,12 +14,7 @@ use std::alloc::Global;
 
 /// Appends bytes and a value as compact JSON. A refusal may leave a part of it in `out`.
 #[tactic(auto, using(mega_base::proofs::Keeps::keeps_front))]
-fn put_json(
-    alloc: Global,
-    front: &[u8],
-    value: &Json,
-    out: &mut Bytes,
-) -> Result<(), NoMemory>
+fn put_json(alloc: Global, front: &[u8], value: &Json, out: &mut Bytes) -> Result<(), NoMemory>
     requires { has_float (view value.now) ≡ false }
     ensures ok { OnOk result (out.new ≡ out.old ++ (front.now ++ compact_text (view value.now))) }
     ensures err { OnErr result (take (length out.old) out.new ≡ out.old) }

@@ -1,4 +1,4 @@
-use Rattle.std.proofs.Common.{◌∙◌, refl, Ok, Err}
+use Rattle.std.proofs.Common.{◌∙◌, refl, Ok}
 use Rattle.mega_disk.specs.MemVersions.{version_in}
 use Rattle.mega_backup.proofs.Emptied.{large_by, large_turn}
 use Rattle.mega_backup.proofs.puts.is_large.Goals as goal

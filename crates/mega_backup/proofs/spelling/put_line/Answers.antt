@@ -4,7 +4,7 @@ use Rattle.serde_json.specs.Data.{string}
 use Rattle.serde_json.specs.View.{view}
 use Rattle.serde_json.specs.Written.{compact_text}
 use Rattle.mega_index.specs.Fits.{numbered}
-use Rattle.mega_backup.specs.Spelling.{group_data, name_of, put_line, row_data}
+use Rattle.mega_backup.specs.Spelling.{group_data, name_of, row_data}
 use Rattle.mega_backup.proofs.Joined.{joined}
 use Rattle.mega_backup.proofs.spelling.put_line.Goals as goal
 
@@ -22,7 +22,7 @@ returns-clause-ok c =
     let row : view c.in_ok-row.row ≡ row_data (numbered s.tables n) c.args.row.now = search rules in
     IfOk-weaker c.extend_from_slice.result _ _
     (λ _ last.
-        joined out c.put_json.new.out c.put_json-2.new.out c.put_json-3.new.out c.extend_from_slice.new.self a (compact_text (view c.in_ok-group.group)) b (compact_text (view c.in_ok-name.name)) d (compact_text (view c.in_ok-row.row)) e
-        c.in_ok-put_json.ensures.ok c.in_ok-put_json-2.ensures.ok c.in_ok-put_json-3.ensures.ok last
-        ∙ (λ i. out ++ (a ++ (compact_text (group i) ++ (b ++ (compact_text (name i) ++ (d ++ (compact_text (row i) ++ e))))))))
+    joined out c.put_json.new.out c.put_json-2.new.out c.put_json-3.new.out c.extend_from_slice.new.self a (compact_text (view c.in_ok-group.group)) b (compact_text (view c.in_ok-name.name)) d (compact_text (view c.in_ok-row.row)) e
+    c.in_ok-put_json.ensures.ok c.in_ok-put_json-2.ensures.ok c.in_ok-put_json-3.ensures.ok last
+    ∙ (λ i. out ++ (a ++ (compact_text (group i) ++ (b ++ (compact_text (name i) ++ (d ++ (compact_text (row i) ++ e))))))))
     c.extend_from_slice.ensures.ok

@@ -1,10 +1,8 @@
-use Rattle.std.proofs.Common.{◌≡◌, ◌+◌, ◌∙◌, List, Some, ap, sym, subst, arith}
+use Rattle.std.proofs.Common.{◌+◌, sym, subst, arith}
 use Rattle.std.specs.Io.KnownBytes.{Appends}
 use Rattle.mega_io.specs.Pieces.{AppendsFront}
 use Rattle.mega_io.proofs.Writing.{Written}
-use Rattle.mega_wal.specs.declared.item.JournalItem.{JournalItem}
 use Rattle.mega_wal.specs.History.{decided_of}
-use Rattle.mega_wal.specs.Kept.{Represents}
 use Rattle.mega_backup.specs.Texts.{entry_line}
 use Rattle.mega_backup.proofs.Answered.{on_err}
 use Rattle.mega_backup.proofs.Decided.{decided_entry}
@@ -19,16 +17,16 @@ write_entry-requires g c =
 pub returns-in_err-write_entry-in-Some-clause-err : goal.returns-in_err-write_entry-in-Some-clause-err
 returns-in_err-write_entry-in-Some-clause-err g c =
     on_err c.from_residual.result _ (λ items kept.
-        let decided = decided_of items c.args.group.now in
-        let whole = text_from decided c.args.most 0 in
-        let line = entry_line c.in-Some.entry.now in
-        let rest = text_from decided c.args.most (c.loop-n.n + 1) in
-        let a = g.O.Sink.held c.args.out.now in
-        let b = g.O.Sink.held c.loop-n.out in
-        let d = g.O.Sink.held c.write_entry.new.out in
-        let parted = text_some decided c.args.most c.loop-n.n c.in-Some.entry.now c.loop-n-test.true (sym (c.in-Some.ensures items kept)) in
-        subst (AppendsFront a d) (sym (text_all decided c.args.most))
-        (wrote_front a b d whole line rest (subst (Written a b whole) parted (c.loop-n.invariant.written items kept)) c.in_err-write_entry-in-Some.ensures.err))
+    let decided = decided_of items c.args.group.now in
+    let whole = text_from decided c.args.most 0 in
+    let line = entry_line c.in-Some.entry.now in
+    let rest = text_from decided c.args.most (c.loop-n.n + 1) in
+    let a = g.O.Sink.held c.args.out.now in
+    let b = g.O.Sink.held c.loop-n.out in
+    let d = g.O.Sink.held c.write_entry.new.out in
+    let parted = text_some decided c.args.most c.loop-n.n c.in-Some.entry.now c.loop-n-test.true (sym (c.in-Some.ensures items kept)) in
+    subst (AppendsFront a d) (sym (text_all decided c.args.most))
+    (wrote_front a b d whole line rest (subst (Written a b whole) parted (c.loop-n.invariant.written items kept)) c.in_err-write_entry-in-Some.ensures.err))
 
 pub returns-in-None-clause-ok : goal.returns-in-None-clause-ok
 returns-in-None-clause-ok g c items kept =

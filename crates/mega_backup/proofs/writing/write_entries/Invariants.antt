@@ -1,4 +1,4 @@
-use Rattle.std.proofs.Common.{ℕ, ◌≤◌, List}
+use Rattle.std.proofs.Common.{◌≤◌, List}
 use Rattle.mega_io.proofs.Writing.{Written}
 use Rattle.mega_wal.specs.declared.item.JournalItem.{JournalItem}
 use Rattle.mega_wal.specs.History.{decided_of}
