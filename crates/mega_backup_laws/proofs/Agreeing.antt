@@ -1,7 +1,6 @@
 -- Rows that are kept and agree under row keys agree everywhere; so what is restored is what was there.
 use Rattle.std.proofs.Common.{◌≡◌, ℕ, ◌≤◌, cond, Bool, true, false, nat_le, List, [], length, take, refl, sym, ap, ◌∙◌, subst, Option, Some, None, Result, Ok, Err}
 use Rattle.mega_base.specs.declared.names.GroupId.{GroupId}
-use Rattle.mega_base.specs.declared.values.Value.{Value}
 use Rattle.mega_base.specs.declared.values.Row.{Row}
 use Rattle.mega_entry.specs.declared.content.Content.{Content}
 use Rattle.mega_cluster.specs.declared.cluster.Cluster.{Cluster}
@@ -9,7 +8,7 @@ use Rattle.mega_schema.specs.declared.schema.Table.{Table}
 use Rattle.mega_schema.specs.declared.schema.Schema.{Schema}
 use Rattle.mega_index.specs.Rows.{Rows, Listed, row_under, no_rows, after, list_after}
 use Rattle.mega_index.specs.Cells.{key_values}
-use Rattle.mega_index.specs.Fits.{numbered, key_of}
+use Rattle.mega_index.specs.Fits.{numbered}
 use Rattle.mega_index.specs.Fitted.{table_of}
 use Rattle.mega_outcome.specs.declared.transaction.Transaction.{Transaction}
 use Rattle.mega_outcome.specs.Outcome.{first_change}

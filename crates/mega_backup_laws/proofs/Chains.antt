@@ -1,14 +1,13 @@
 -- What a list of puts leaves, one after another, over rows that are kept along with their index rows.
-use Rattle.std.proofs.Common.{◌≡◌, ◌⊎◌, inl, inr, ℕ, ◌≤◌, cond, Bool, true, false, List, [], ◌∷◌, fold, refl, sym, ap, ◌∙◌, subst, Option, Some, None, Result, Ok, Err}
+use Rattle.std.proofs.Common.{◌≡◌, ◌⊎◌, inl, inr, ℕ, cond, Bool, true, false, List, [], ◌∷◌, fold, refl, sym, ap, ◌∙◌, subst, Option, Some, None, Result, Ok, Err}
 use Rattle.std.specs.declared.cmp.Ordering.TheVariants.{Less}
 use Rattle.std.specs.Ordering.{is_eq}
 use Rattle.mega_base.specs.declared.names.GroupId.{GroupId}
 use Rattle.mega_base.specs.declared.values.Value.{Value}
 use Rattle.mega_base.specs.declared.values.Row.{Row}
-use Rattle.mega_entry.specs.declared.content.Write.{Write}
 use Rattle.mega_schema.specs.declared.schema.Table.{Table}
 use Rattle.mega_schema.specs.declared.schema.Schema.{Schema}
-use Rattle.mega_index.specs.Rows.{Rows, Listed, key_cmp, same_key, row_under, changed, written}
+use Rattle.mega_index.specs.Rows.{Rows, Listed, key_cmp, same_key, changed, written}
 use Rattle.mega_index.specs.Fits.{numbered, key_of, stands_in}
 use Rattle.mega_index.specs.Fitted.{table_of}
 use Rattle.mega_index.specs.Entries.{local_entries}
@@ -18,10 +17,10 @@ use Rattle.mega_outcome.specs.Changes.{replaced}
 use Rattle.mega_tape_laws.specs.Places.{In}
 use Rattle.mega_tape_laws.specs.Indexed.{IsDeclared}
 use Rattle.mega_tape_laws.proofs.Placed.{same_self, same_or_not, not_key, key_apart, under, Below, Ascends, in_under, under_in}
-use Rattle.mega_tape_laws.proofs.RowKeys.{Standing, IsKeyOf, stands}
+use Rattle.mega_tape_laws.proofs.RowKeys.{Standing, stands}
 use Rattle.mega_tape_laws.proofs.RootKeys.{no_entry}
 use Rattle.mega_tape_laws.proofs.IndexKept.{Kept, key_of_table, turned_leaves, replaced_kept}
-use Rattle.mega_backup.specs.Restoring.{put_of, put_at, put_in, put_before, is_large, with_put, puts_of, after_one}
+use Rattle.mega_backup.specs.Restoring.{put_of, put_at, put_before, is_large, with_put, puts_of, after_one}
 use Rattle.mega_backup_laws.proofs.Puts.{one_put}
 
 -- a key below all others is none of them

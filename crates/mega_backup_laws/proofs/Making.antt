@@ -1,12 +1,12 @@
 -- Entries that a store makes keep rows and index rows together.
-use Rattle.std.proofs.Common.{◌≡◌, ℕ, zero, suc, ◌≤◌, cond, Bool, true, false, if◌then◌else◌, List, [], ◌∷◌, ◌++◌, length, take, fold, nat_lt, refl, sym, ap, ◌∙◌, subst, Option, Some, None, Result, Ok, Err}
+use Rattle.std.proofs.Common.{◌≡◌, ℕ, zero, suc, ◌≤◌, cond, Bool, true, false, if◌then◌else◌, List, [], ◌∷◌, ◌++◌, length, take, fold, nat_lt, refl, sym, ap, ◌∙◌, subst, Result, Ok, Err}
 use Rattle.std.proofs.lemmas.List.Sums.{fold-append}
 use Rattle.mega_base.specs.declared.names.GroupId.{GroupId}
 use Rattle.mega_entry.specs.declared.content.Write.{Write}
 use Rattle.mega_entry.specs.declared.content.Content.{Content}
 use Rattle.mega_schema.specs.declared.schema.Schema.{Schema}
 use Rattle.mega_index.specs.Rows.{Rows, changed, written, after}
-use Rattle.mega_index.specs.Fitted.{fitted_writes, most_bytes}
+use Rattle.mega_index.specs.Fitted.{most_bytes}
 use Rattle.mega_outcome.specs.declared.answer.Turn.{Turn}
 use Rattle.mega_outcome.specs.declared.answer.Turn.TheVariants.{TooLarge}
 use Rattle.mega_outcome.specs.declared.answer.Done.{Done}
@@ -16,7 +16,7 @@ use Rattle.mega_outcome.specs.Places.{◌>>=◌}
 use Rattle.mega_outcome.specs.Checks.{all_checks}
 use Rattle.mega_outcome.specs.Reads.{all_reads}
 use Rattle.mega_outcome.specs.Changes.{all_changes}
-use Rattle.mega_outcome.specs.Outcome.{all_sends, longest, unless_large, first_read, first_change, first_send, outcome_in, no_batch, left_out, taken, batch_length, with_result, with_next, batch_outcome}
+use Rattle.mega_outcome.specs.Outcome.{all_sends, longest, unless_large, first_read, first_change, first_send, outcome_in, no_batch, left_out, taken, batch_length, with_result, with_next}
 use Rattle.mega_tape_laws.specs.Indexed.{AllPutValues, PutValues}
 use Rattle.mega_tape_laws.proofs.Replacing.{bind_turn}
 use Rattle.mega_tape_laws.proofs.IndexKept.{Kept}

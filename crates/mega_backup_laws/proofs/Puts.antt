@@ -1,25 +1,23 @@
 -- What the put of one row does over rows under whose key none stands.
-use Rattle.std.proofs.Common.{◌≡◌, ℕ, cond, Bool, true, false, if◌then◌else◌, List, [], ◌∷◌, ◌++◌, refl, sym, ap, ◌∙◌, subst, append-nil, Option, Some, None, Result, Ok, Err}
+use Rattle.std.proofs.Common.{◌≡◌, ℕ, cond, Bool, true, false, if◌then◌else◌, List, [], ◌++◌, refl, sym, ap, ◌∙◌, append-nil, Some, None, Result, Ok, Err}
 use Rattle.std.specs.Prelude.{nat_lt}
 use Rattle.mega_base.specs.declared.names.GroupId.{GroupId}
 use Rattle.mega_base.specs.declared.values.Value.{Value}
 use Rattle.mega_base.specs.declared.values.Row.{Row}
 use Rattle.mega_entry.specs.declared.content.Write.{Write}
-use Rattle.mega_keys.specs.declared.fault.KeyFault.{KeyFault}
 use Rattle.mega_keys.specs.Spelling.{root_part, group_bytes}
 use Rattle.mega_schema.specs.declared.schema.Table.{Table}
 use Rattle.mega_schema.specs.declared.schema.Schema.{Schema}
 use Rattle.mega_schema.specs.Shaping.{shape_of}
-use Rattle.mega_index.specs.Rows.{Rows, no_rows, same_key, written}
+use Rattle.mega_index.specs.Rows.{Rows, no_rows, written}
 use Rattle.mega_index.specs.Cells.{key_values}
-use Rattle.mega_index.specs.Fits.{numbered, group_of, key_of, fits, fits_in}
+use Rattle.mega_index.specs.Fits.{numbered, group_of, fits, fits_in}
 use Rattle.mega_index.specs.Fitted.{most_bytes}
 use Rattle.mega_outcome.specs.declared.answer.Done.{Done}
 use Rattle.mega_outcome.specs.declared.answer.Turn.{Turn}
 use Rattle.mega_outcome.specs.declared.answer.Turn.TheVariants.{OtherGroup, BadRow, TooLarge}
 use Rattle.mega_outcome.specs.Places.{◌>>=◌, spelled, placed, key_in, key_in_table}
-use Rattle.mega_outcome.specs.Changes.{replaced, put_in, change}
-use Rattle.mega_outcome.specs.declared.transaction.Change.TheVariants.{Put}
+use Rattle.mega_outcome.specs.Changes.{replaced, put_in}
 use Rattle.mega_outcome.specs.Outcome.{longest, outcome, unless_large}
 use Rattle.mega_tape_laws.proofs.Placed.{same_self}
 use Rattle.mega_tape_laws.proofs.RowKeys.{Standing, IsKeyOf, group_of_key, of_ok, group_is}

@@ -1,5 +1,5 @@
 -- The lines of a backup are read as the group and the entries that were written.
-use Rattle.std.proofs.Common.{◌≡◌, ℕ, zero, suc, ◌+◌, ◌-◌, ◌*◌, ◌/◌, ◌%◌, ◌^◌, ◌<◌, ◌≤◌, ◌&&◌, ◌==◌, cond, eqb, ltb, Bool, true, false, nat_le, nat_lt, List, [], ◌∷◌, ◌++◌, length, take, drop, map, min, not, codes, decimal, get_or, length-append, refl, sym, ap, ◌∙◌, subst, arith, append_assoc, ◌⊎◌, inl, inr, Option, Some, None, option_and_then, option_map, Result, Ok, Err}
+use Rattle.std.proofs.Common.{◌≡◌, ℕ, zero, suc, ◌+◌, ◌-◌, ◌*◌, ◌/◌, ◌%◌, ◌^◌, ◌<◌, ◌≤◌, ◌&&◌, ◌==◌, cond, eqb, ltb, Bool, true, false, nat_le, List, [], ◌∷◌, ◌++◌, length, take, drop, map, min, not, codes, decimal, get_or, length-append, refl, sym, ap, ◌∙◌, arith, append_assoc, inl, inr, Option, Some, None, option_and_then, option_map, Ok, Err}
 use Rattle.std.specs.Prelude.{All, position, slice_index}
 use Rattle.std.specs.List.{list_all, position_or_len}
 use Rattle.std.specs.Result.{result_ok}
@@ -14,15 +14,14 @@ use Rattle.hex.proofs.HexLemmas.{decode_of-encode_lower, length-encode_with}
 use Rattle.mega_base.specs.Lists.{All-head, All-tail}
 use Rattle.mega_base.specs.Codec.{IsText}
 use Rattle.mega_base.specs.Whole.{whole_only}
-use Rattle.mega_base.specs.Reading.{whole_of}
 use Rattle.mega_base.specs.declared.names.GroupId.{GroupId}
 use Rattle.mega_entry.specs.declared.content.Content.{Content}
 use Rattle.mega_entry.specs.Entries.{entry_at, entry_text, IsEntry}
 use Rattle.mega_entry.specs.EntryLaws.{entry_codec}
 use Rattle.mega_transcript.specs.Plain.{IsWritten}
-use Rattle.mega_backup.specs.Words.{behind, hex_in, is_decimal, is_digit, most, number_in, number_on, with_digit}
+use Rattle.mega_backup.specs.Words.{hex_in, is_digit, number_in, number_on, with_digit}
 use Rattle.mega_backup.specs.Lines.{backup_in, behind_head, counted, entries_from, entry_in, entry_of, group_in, head_at, head_in, head_of, with_entry, with_group}
-use Rattle.mega_backup.specs.Texts.{backup_text, entries_text, entry_line, head_line}
+use Rattle.mega_backup.specs.Texts.{backup_text, entries_text, entry_line}
 use Rattle.mega_backup_laws.specs.Written.{backup_lines, entry_words, head_words, lines_text, is_above_feed, HasNoFeed}
 
 -- ---- hex

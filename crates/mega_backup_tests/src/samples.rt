@@ -1,10 +1,12 @@
 //! Backups of groups, and what a restore of each writes.
 
 /// The schema of a group with a row of one user.
-pub const USER_SCHEMA: &str = r#"CREATE SCHEMA S; CREATE TABLE User { required int64 user_id; required string name; } PRIMARY KEY(user_id), ENTITY GROUP ROOT;"#;
+pub const USER_SCHEMA: &str =
+    r#"CREATE SCHEMA S; CREATE TABLE User { required int64 user_id; required string name; } PRIMARY KEY(user_id), ENTITY GROUP ROOT;"#;
 
 /// The entry with which that row was put.
-pub const USER_ENTRY: &str = "010101000000010000000101000000010000000a0180000000000000650101020100000001020000000000000065020000000104000000044a6f686e000000000000000000000000";
+pub const USER_ENTRY: &str =
+    "010101000000010000000101000000010000000a0180000000000000650101020100000001020000000000000065020000000104000000044a6f686e000000000000000000000000";
 
 pub const USER_BACKUP: &str = "backup 018000000000000065 1
 entry 010101000000010000000101000000010000000a0180000000000000650101020100000001020000000000000065020000000104000000044a6f686e000000000000000000000000
@@ -16,7 +18,8 @@ pub const USER_ROWS: &str = r#"0
 2 short 1"#;
 
 /// The schema of a group with a user and photos, with a local index.
-pub const PHOTO_SCHEMA: &str = r#"CREATE SCHEMA PhotoApp; CREATE TABLE User { required int64 user_id; required string name; optional int64 points; } PRIMARY KEY(user_id), ENTITY GROUP ROOT; CREATE TABLE Photo { required int64 user_id; required int32 photo_id; required int64 time; required string full_url; optional string thumbnail_url; repeated string tag; } PRIMARY KEY(user_id, photo_id), IN TABLE User, ENTITY GROUP KEY(user_id) REFERENCES User; CREATE LOCAL INDEX PhotosByTime ON Photo(user_id, time); CREATE GLOBAL INDEX PhotosByTag ON Photo(tag) STORING (thumbnail_url); CREATE LOCAL INDEX TagsHere ON Photo(tag, time) STORING (full_url, thumbnail_url); ALTER TABLE Photo ADD { optional bool public; repeated int32 likes; }; CREATE GLOBAL INDEX Likes ON Photo(likes, public) STORING (time);"#;
+pub const PHOTO_SCHEMA: &str =
+    r#"CREATE SCHEMA PhotoApp; CREATE TABLE User { required int64 user_id; required string name; optional int64 points; } PRIMARY KEY(user_id), ENTITY GROUP ROOT; CREATE TABLE Photo { required int64 user_id; required int32 photo_id; required int64 time; required string full_url; optional string thumbnail_url; repeated string tag; } PRIMARY KEY(user_id, photo_id), IN TABLE User, ENTITY GROUP KEY(user_id) REFERENCES User; CREATE LOCAL INDEX PhotosByTime ON Photo(user_id, time); CREATE GLOBAL INDEX PhotosByTag ON Photo(tag) STORING (thumbnail_url); CREATE LOCAL INDEX TagsHere ON Photo(tag, time) STORING (full_url, thumbnail_url); ALTER TABLE Photo ADD { optional bool public; repeated int32 likes; }; CREATE GLOBAL INDEX Likes ON Photo(likes, public) STORING (time);"#;
 
 /// A batch puts and deletes rows over and over; an index row stands beside the photo at 2.
 pub const PHOTO_BACKUP: &str = "backup 018000000000000064 5
@@ -27,7 +30,8 @@ entry 010103000000010000000603000000010000000a0180000000000000640101020100000001
 entry 01010300000001000000090300000000000000000000000000000000
 ";
 
-pub const PHOTO_ROWS: &str = r#"1 {"checks":[],"do":"txn","group":["User",[100]],"node":1,"reads":[],"sends":[],"writes":[{"put":"User","row":{"name":"ab","user_id":100}}]}
+pub const PHOTO_ROWS: &str =
+    r#"1 {"checks":[],"do":"txn","group":["User",[100]],"node":1,"reads":[],"sends":[],"writes":[{"put":"User","row":{"name":"ab","user_id":100}}]}
 2 {"checks":[],"do":"txn","group":["User",[100]],"node":1,"reads":[],"sends":[],"writes":[{"put":"Photo","row":{"full_url":"b","photo_id":3,"public":true,"thumbnail_url":"Paris","time":1,"user_id":100}}]}
 3 {"checks":[],"do":"txn","group":["User",[100]],"node":1,"reads":[],"sends":[],"writes":[{"put":"User","row":{"name":"b","points":-7,"user_id":100}}]}
 5 {"checks":[],"do":"txn","group":["User",[100]],"node":1,"reads":[],"sends":[],"writes":[{"put":"User","row":{"name":"é\"\\\n","user_id":100}}]}

@@ -32,11 +32,7 @@ fn entry(alloc: Global, text: &[u8]) -> Result<Entry, EntryFault>
 }
 
 /// Logs with this entry decided at position 1.
-fn logs_with(
-    alloc: Global,
-    group: &GroupId,
-    entry: Entry,
-) -> Result<Logs<MemRecords>, LogFault>
+fn logs_with(alloc: Global, group: &GroupId, entry: Entry) -> Result<Logs<MemRecords>, LogFault>
     requires group { length group.now.key ≤ 65536 }
     requires entry { IsNested 65536 entry_text IsEntry entry }
     ensures { IfOk result (λ logs. IsOfFormat logs.kept) }
