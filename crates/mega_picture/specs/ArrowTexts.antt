@@ -5,7 +5,7 @@ use Rattle.mega_picture.specs.declared.sheet.Sheet.{Sheet}
 use Rattle.mega_picture.specs.declared.arrows.End.{End}
 use Rattle.mega_picture.specs.declared.arrows.End.TheVariants.{Taken, Dropped, Fades, Again}
 use Rattle.mega_picture.specs.declared.arrows.Arrow.{Arrow}
-use Rattle.mega_picture.specs.Escape.{shortened}
+use Rattle.mega_picture.specs.Escape.{fitted}
 use Rattle.mega_picture.specs.Kinds.{tone_of}
 use Rattle.mega_picture.specs.Sheets.{lane, step, title_room}
 use Rattle.mega_picture.specs.Arrows.{arrow_of}
@@ -62,7 +62,7 @@ drawn path = codes "</title><path d=\"" ++ (path ++ codes "\"/>")
 -- an arrow, with the line of the transcript as its title
 unfoldable pub arrow_text : Sheet → Arrow → List ℕ → List ℕ
 arrow_text sheet arrow line =
-    opening_of arrow ++ (shortened (title_room sheet) line ++ (drawn (path_of sheet arrow) ++ codes "</g>\n"))
+    opening_of arrow ++ (fitted (title_room sheet) line ++ (drawn (path_of sheet arrow) ++ codes "</g>\n"))
 
 abbrev pub text_if : Sheet → List ℕ → Option Arrow → List ℕ
 text_if sheet line None = []

@@ -5,7 +5,7 @@ use Rattle.mega_picture.specs.declared.sheet.Sheet.{Sheet}
 use Rattle.mega_picture.specs.declared.marks.Place.{Place}
 use Rattle.mega_picture.specs.declared.marks.Place.TheVariants.{Right, Left, Across}
 use Rattle.mega_picture.specs.declared.marks.Mark.{Mark}
-use Rattle.mega_picture.specs.Escape.{shortened}
+use Rattle.mega_picture.specs.Escape.{shortened, fitted}
 use Rattle.mega_picture.specs.Kinds.{tone_of}
 use Rattle.mega_picture.specs.Sheets.{lane, step, width, label_room, title_room}
 use Rattle.mega_picture.specs.Labels.{label_of}
@@ -51,7 +51,7 @@ caption_text sheet row place label =
 -- a mark in a row, with the line of the transcript as its title, and a label beside it
 unfoldable pub mark_text : Sheet → ℕ → Mark → List ℕ → List ℕ → List ℕ
 mark_text sheet row mark line label =
-    mark_opening (tone_of mark.position) ++ (shortened (title_room sheet) line ++ (use_text (word_of mark.shape) (x_of sheet mark.place) (step row) ++ caption_text sheet row mark.place label))
+    mark_opening (tone_of mark.position) ++ (fitted (title_room sheet) line ++ (use_text (word_of mark.shape) (x_of sheet mark.place) (step row) ++ caption_text sheet row mark.place label))
 
 -- the mark of a line, where it has one
 abbrev pub text_if : Sheet → List (List ℕ) → ℕ → Told → Option Mark → List ℕ

@@ -29,6 +29,6 @@ height sheet notes = foot sheet + 34 + notes * 22
 unfoldable pub label_room : Sheet → ℕ
 label_room sheet = (gap sheet - 24) / 7
 
--- how many bytes of its line a title has room for: titles have 640,000 together, and of 60 lines none has more
+-- how many bytes of the page a title has room for: those of all steps have 800,000 together, and of 60 none has more
 unfoldable pub title_room : Sheet → ℕ
-title_room sheet = 640000 / max sheet.steps 60
+title_room sheet = 800000 / max sheet.steps 60

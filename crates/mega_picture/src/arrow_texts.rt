@@ -4,7 +4,7 @@ ghost use Rattle.mega_picture.specs.Rows.{Follows};
 ghost use Rattle.mega_picture.specs.ArrowTexts.{class_of, line_path, bow_path, bend_of, short_of, path_between, path_back, path_of, opening_of, drawn, arrow_text, text_if, arrow_texts};
 
 use crate::arrows::{Arrow, End, arrow_of};
-use crate::escape::put_cut;
+use crate::escape::put_fitted;
 use crate::journeys::Journeys;
 use crate::kinds::tone_of;
 use crate::sheet::{Sheet, step};
@@ -157,7 +157,7 @@ fn put_arrow(
     ensures { OnOk result (out.new ≡ out.old ++ arrow_text sheet arrow line.now) }
 {
     put_opening(alloc, out, arrow)?;
-    put_cut(out, line, sheet.title_room())?;
+    put_fitted(out, line, sheet.title_room())?;
     put_path(alloc, out, sheet, arrow)?;
     out.extend_from_slice(b"</g>\n")
 }

@@ -3,7 +3,7 @@ ghost use Rattle.std.specs.Prelude.{◌≡◌, ◌≤◌, ◌++◌, OnOk, length
 ghost use Rattle.mega_picture.specs.Rows.{Follows};
 ghost use Rattle.mega_picture.specs.MarkTexts.{x_of, beside_of, class_of, room_of, mark_opening, use_text, text_opening, caption_text, mark_text, text_if, mark_texts};
 
-use crate::escape::put_cut;
+use crate::escape::{put_cut, put_fitted};
 use crate::groups::Groups;
 use crate::journeys::Journeys;
 use crate::kinds::tone_of;
@@ -131,7 +131,7 @@ fn put_mark(
     ensures { OnOk result (out.new ≡ out.old ++ mark_text sheet row mark line.now label.now) }
 {
     put_mark_opening(alloc, out, tone_of(mark.position))?;
-    put_cut(out, line, sheet.title_room())?;
+    put_fitted(out, line, sheet.title_room())?;
     put_use(
         alloc,
         out,
