@@ -45,11 +45,11 @@ whole_fits room text whole =
 
 -- what is written of a text takes no more than the room, and three dots
 pub fitted_fits : (room : ℕ) (text : List ℕ) → length (fitted room text) ≤ room + 3
-unfolding shortened
+unfolding fitted shortened
 fitted_fits room text =
     either (nat_le (length text) (fitting room text)) room text (take (cut_at text (fitting room text)) text)
-        (λ whole. whole_fits room text (grind (arith, nat_tests, whole)))
-        (fitting_fits 0 0 room (cut_at text (fitting room text)) text (cut_before text (fitting room text)))
+    (λ whole. whole_fits room text (grind (arith, nat_tests, whole)))
+    (fitting_fits 0 0 room (cut_at text (fitting room text)) text (cut_before text (fitting room text)))
 
 pub put_fits : (out : List ℕ) (room : ℕ) (text : List ℕ) → length (out ++ fitted room text) ≤ length out + (room + 3)
 put_fits out room text = grind (arith, fitted_fits room text, length-append out (fitted room text))

@@ -21,10 +21,14 @@ class_of (Again row) = codes "again"
 abbrev pub line_path : ℕ → ℕ → ℕ → ℕ → List ℕ
 line_path x y to_x to_y = codes "M" ++ (decimal x ++ (codes " " ++ (decimal y ++ (codes "L" ++ (decimal to_x ++ (codes " " ++ decimal to_y))))))
 
+-- the last part of a line that comes back so far down, and so far aside
+unfoldable pub back_path : ℕ → List ℕ → List ℕ
+back_path down aside = decimal down ++ (codes " " ++ (aside ++ (codes " " ++ decimal down)))
+
 -- a line that goes out to the left, bent so far, and comes back
 abbrev pub bow_path : ℕ → ℕ → ℕ → List ℕ → ℕ → List ℕ
 bow_path x y bend aside to_y =
-    codes "M" ++ (decimal x ++ (codes " " ++ (decimal y ++ (codes "c-" ++ (decimal bend ++ (codes " 0 -" ++ (decimal bend ++ (codes " " ++ (decimal (to_y - y) ++ (codes " " ++ (aside ++ (codes " " ++ decimal (to_y - y)))))))))))))
+    codes "M" ++ (decimal x ++ (codes " " ++ (decimal y ++ (codes "c-" ++ (decimal bend ++ (codes " 0 -" ++ (decimal bend ++ (codes " " ++ back_path (to_y - y) aside))))))))
 
 -- how far out the line from a row is bent: otherwise than those from the six rows before
 abbrev pub bend_of : ℕ → ℕ

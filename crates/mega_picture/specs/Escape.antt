@@ -53,5 +53,5 @@ shortened most text =
     if nat_le (length text) most then escape text else escape (take (cut_at text most) text) ++ codes "..."
 
 -- the text, or where it would take more bytes of a page than there is room for, its front and three dots
-abbrev pub fitted : ℕ → List ℕ → List ℕ
+unfoldable pub fitted : ℕ → List ℕ → List ℕ
 fitted room text = shortened (fitting room text) text

@@ -1,7 +1,7 @@
 //! How arrows are spelled in a page.
 ghost use Rattle.std.specs.Prelude.{◌≡◌, ◌≤◌, ◌++◌, OnOk, IfOk, length, string_bytes};
 ghost use Rattle.mega_picture.specs.Rows.{Follows};
-ghost use Rattle.mega_picture.specs.ArrowTexts.{class_of, line_path, bow_path, bend_of, short_of, path_between, path_back, path_of, opening_of, drawn, arrow_text, text_if, arrow_texts};
+ghost use Rattle.mega_picture.specs.ArrowTexts.{class_of, line_path, back_path, bow_path, bend_of, short_of, path_between, path_back, path_of, opening_of, drawn, arrow_text, text_if, arrow_texts};
 
 use crate::arrows::{Arrow, End, arrow_of};
 use crate::escape::put_fitted;
@@ -38,6 +38,15 @@ fn line_path(alloc: Global, x: u64, y: u64, to_x: u64, to_y: u64) -> Result<Stri
     Ok(path)
 }
 
+/// The last part of a line that comes back so far down, and so far aside.
+#[tactic(auto, unfolding(crate::specs::ArrowTexts::back_path))]
+fn back_path(alloc: Global, down: u64, aside: &str) -> Result<String, NoMemory>
+    ensures { IfOk result (λ path. string_bytes path ≡ back_path down aside.now) }
+{
+    let path = format!(in alloc; "{down} {aside} {down}")?;
+    Ok(path)
+}
+
 /// The line from a point out to the left, bent so far, and back to a place below, so far aside.
 fn bow_path(
     alloc: Global,
@@ -49,8 +58,8 @@ fn bow_path(
 ) -> Result<String, NoMemory>
     ensures { IfOk result (λ path. string_bytes path ≡ bow_path x y bend aside.now to_y) }
 {
-    let down = to_y.saturating_sub(y);
-    let path = format!(in alloc; "M{x} {y}c-{bend} 0 -{bend} {down} {aside} {down}")?;
+    let back = back_path(alloc, to_y.saturating_sub(y), aside)?;
+    let path = format!(in alloc; "M{x} {y}c-{bend} 0 -{bend} {back}")?;
     Ok(path)
 }
 

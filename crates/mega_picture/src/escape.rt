@@ -117,7 +117,7 @@ pub fn put_cut(out: &mut Bytes, text: &[u8], most: usize) -> Result<(), NoMemory
 }
 
 /// Appends a text with no markup, or, where it would take more than so many bytes of the page, its front and three dots.
-#[tactic(auto, using(crate::proofs::Fitting::put_fits))]
+#[tactic(auto, using(crate::proofs::Fitting::put_fits), unfolding(crate::specs::Escape::fitted))]
 pub fn put_fitted(out: &mut Bytes, text: &[u8], room: usize) -> Result<(), NoMemory>
     ensures text { OnOk result (out.new ≡ out.old ++ fitted room text.now) }
     ensures room { OnOk result (length out.new ≤ length out.old + (room + 3)) }
