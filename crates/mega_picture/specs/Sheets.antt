@@ -8,14 +8,14 @@ gap sheet = if nat_le sheet.nodes 3 then 272 else (if nat_le sheet.nodes 5 then 
 
 -- where the lane of a node stands, counted from 1; 0 stands for clients
 unfoldable pub lane : Sheet → ℕ → ℕ
-lane sheet node = if node == 0 then 66 else 124 + (node - 1) * gap sheet
+lane sheet node = if node == 0 then 66 else 148 + (node - 1) * gap sheet
 
 -- where a step stands; before every fortieth one is left free
 unfoldable pub step : ℕ → ℕ
 step row = 66 + (row + row / 40) * 22
 
 unfoldable pub width : Sheet → ℕ
-width sheet = 124 + sheet.nodes * gap sheet
+width sheet = 148 + sheet.nodes * gap sheet
 
 -- where the lanes end
 abbrev pub foot : Sheet → ℕ

@@ -12,7 +12,7 @@ const STEP: u64 = 22;
 pub const NAMED: u32 = 40;
 
 /// Where the lane of the first node stands, and that of clients.
-const FIRST_LANE: u64 = 124;
+const FIRST_LANE: u64 = 148;
 
 const CLIENT_LANE: u64 = 66;
 
