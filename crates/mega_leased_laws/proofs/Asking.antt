@@ -280,7 +280,7 @@ record Lawful (now : Option Epoch) (least p : ℕ) (noted : Epoch) : Type 0 wher
   serves : now ≡ Some noted
   above : least ≤ p
 
-same_is : (a b : Epoch) → is_same a b ≡ true → a ≡ b
+pub same_is : (a b : Epoch) → is_same a b ≡ true → a ≡ b
 same_is a b h = let parts = both (a.start == b.start) (a.count == b.count) h in λ i. record { start = is_number a.start b.start parts.0 i; count = is_number a.count b.count parts.1 i }
   where
     both : (x y : Bool) → (x && y) ≡ true → (x ≡ true) × (y ≡ true)

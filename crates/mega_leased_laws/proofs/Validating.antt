@@ -944,7 +944,7 @@ module _ (c : Cluster) (h : Meanings) (now : Standing) (me : ℕ) (up : is_up (n
 
 -- ---- starts, crashes and marks
 
-owed_no_call : (notes : List Met) → Each IsOwed notes → Each IsNoCall notes
+pub owed_no_call : (notes : List Met) → Each IsOwed notes → Each IsNoCall notes
 owed_no_call notes h = each_on IsOwed IsNoCall one notes h
   where
     one : (note : Met) → IsOwed note → IsNoCall note
