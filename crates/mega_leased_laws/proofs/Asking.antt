@@ -6,13 +6,11 @@ use Rattle.std.specs.List.{list_any}
 use Rattle.mega_base.specs.declared.names.Epoch.{Epoch}
 use Rattle.mega_base.specs.declared.names.GroupId.{GroupId}
 use Rattle.mega_base.specs.declared.names.OpId.{OpId}
-use Rattle.mega_base.specs.declared.names.Position.{Position}
 use Rattle.mega_cluster.specs.declared.cluster.Cluster.{Cluster}
 use Rattle.mega_coordinator.specs.Groups.{is_same, refusal as not_valid}
 use Rattle.mega_coordinator.specs.History.{beaten, serving}
 use Rattle.mega_coordinator.specs.declared.answers.NotValid.{NotValid}
 use Rattle.mega_coordinator.specs.declared.answers.NotValid.TheVariants.{Beaten, OtherEpoch}
-use Rattle.mega_entry.specs.declared.content.Content.{Content}
 use Rattle.mega_entry.specs.declared.content.Enter.{Enter}
 use Rattle.mega_outcome.specs.declared.answer.Answer.{Answer}
 use Rattle.mega_outcome.specs.declared.request.Request.{Request}
@@ -20,15 +18,13 @@ use Rattle.mega_wire.specs.declared.message.Message.{Message}
 use Rattle.mega_wire.specs.declared.message.Body.{Body}
 use Rattle.mega_wire.specs.declared.message.Body.TheVariants.{Where}
 use Rattle.mega_wal.specs.Same.{same_group, same_op}
-use Rattle.mega_wal.proofs.Sames.{same_group_self, same_group_equal, same_op_equal}
+use Rattle.mega_wal.proofs.Sames.{same_group_self, same_group_equal}
 use Rattle.mega_transcript.specs.declared.item.Item.{Item}
-use Rattle.mega_propose.specs.Rounds.{asks}
-use Rattle.mega_read.specs.declared.reading.Reading.{Reading}
 use Rattle.mega_read.specs.declared.reading.Search.{Search}
 use Rattle.mega_read.specs.declared.reading.Stage.{Stage}
 use Rattle.mega_read.specs.declared.reading.Stage.TheVariants.{Polling, Catching}
 use Rattle.mega_read.specs.declared.reading.Move.{Move as ReadMove}
-use Rattle.mega_read.specs.Catching.{asked_by, local_read, polled_read, seeks, site}
+use Rattle.mega_read.specs.Catching.{asked_by, local_read, polled_read, site}
 use Rattle.mega_rules.specs.Met.{Met, Validates}
 use Rattle.mega_rules.specs.Clock.{clock_of, start_of}
 use Rattle.mega_rules.specs.Coordinators.{coordinator_calls, refused_at, serves_at, valid_at, validated}
@@ -47,9 +43,9 @@ use Rattle.mega_settled_laws.specs.Covering.{Earlier}
 use Rattle.mega_settled_laws.proofs.Tapes.{each_both, earlier_stood, then_later}
 use Rattle.mega_settled_laws.proofs.Turns.{numbers_apart}
 use Rattle.mega_valid_laws.specs.Leases.{asks_end, has_polled, serving_on}
-use Rattle.mega_leased_laws.proofs.Polls.{ReadPolls, StagePolls, ToldAtMost, Tops, due_polls, hears_polls, local_begins, no_tops, seeks_polls}
+use Rattle.mega_leased_laws.proofs.Polls.{ReadPolls, StagePolls, Tops, due_polls, hears_polls, no_tops, seeks_polls}
 use Rattle.mega_leased_laws.proofs.Walk.{Walks, begun_it, goes_on_it}
-use Rattle.mega_leased_laws.proofs.Wheres.{EndsBody, EndsOf, falls_due_ends, hears_ends, local_ends, polled_ends, seeks_ends, takes_ends, asks_ends, due_ends}
+use Rattle.mega_leased_laws.proofs.Wheres.{EndsBody, EndsOf, falls_due_ends, hears_ends, polled_ends, seeks_ends, takes_ends, asks_ends, due_ends}
 
 -- ---- messages that ask where a log ends
 

@@ -10,8 +10,8 @@ use Rattle.mega_cluster.specs.declared.cluster.Cluster.{Cluster}
 use Rattle.mega_coordinator.specs.declared.answers.Counted.{Counted}
 use Rattle.mega_coordinator.specs.declared.answers.Counted.TheVariants.{No, Yes, Serving as ServingAnswer}
 use Rattle.mega_coordinator.specs.declared.lease.Lease.{Lease}
-use Rattle.mega_coordinator.specs.Lease.{after_grant, after_tick, counted_by, counts, epoch_of, first_lease, granted_answer, granted_lease, is_due, is_majority, is_present, left, next_lease, none_counted, past_ends, past_lease, state_of, tick_ends, until_with}
-use Rattle.mega_coordinator.specs.History.{Call, Ticks as TickCall, Grants as GrantCall, Passes, Invalidates as InvalidCall, Validates as ValidCall, epoch_after, lease_of, serving}
+use Rattle.mega_coordinator.specs.Lease.{after_grant, counted_by, counts, epoch_of, granted_answer, is_due, is_majority, is_present, left, next_lease, none_counted, past_ends, tick_ends, until_with}
+use Rattle.mega_coordinator.specs.History.{Call, Ticks as TickCall, Grants as GrantCall, Passes, Invalidates as InvalidCall, Validates as ValidCall, epoch_after, lease_of}
 use Rattle.mega_coordinator.specs.Laws.{endings}
 use Rattle.mega_coordinator.proofs.Epochs.{serves_alone}
 use Rattle.mega_locks.specs.declared.asked.Asked.{Asked}
@@ -22,7 +22,7 @@ use Rattle.mega_wire.specs.declared.message.Message.{Message}
 use Rattle.mega_wire.specs.declared.message.Body.{Body}
 use Rattle.mega_wire.specs.declared.message.Body.TheVariants.{Acquire, Granted as GrantedBody, Invalidate, Past}
 use Rattle.mega_transcript.specs.declared.item.Item.{Item}
-use Rattle.mega_transcript.specs.declared.item.Item.TheVariants.{Answer, Apply, Begin as BeginItem, Counts as CountsItem, Crash, Cut as CutItem, Decide, Dropped, Forgets as ForgetsItem, Grant, Invalid, Lapse, Lost, Sent, Serving, Start, Taken, Tick as TickItem, Unsent, Valid}
+use Rattle.mega_transcript.specs.declared.item.Item.TheVariants.{Answer, Apply, Begin as BeginItem, Counts as CountsItem, Crash, Cut as CutItem, Decide, Dropped, Forgets as ForgetsItem, Grant, Invalid, Lapse, Lost, Serving, Start, Taken, Tick as TickItem, Unsent, Valid}
 use Rattle.mega_promises.specs.Items.{number, shown}
 use Rattle.mega_promises.specs.Runs.{met_in, with_item, with_items}
 use Rattle.mega_propose.specs.Members.{has}
@@ -32,7 +32,7 @@ use Rattle.mega_rules.specs.Coordinators.{coordinator_calls, counts_notes, forge
 use Rattle.mega_rules.specs.Locks.{asked_for, cell_calls, grant_note, lapse_note, lapses_at}
 use Rattle.mega_rules.specs.Members.{cells, is_full, keep_of}
 use Rattle.mega_rules.specs.Operations.{Node, Setting}
-use Rattle.mega_rules.specs.Steps.{Begin, Event, Step, Take, Tick, lapse_notes, lease_notes, onto, step, told_notes}
+use Rattle.mega_rules.specs.Steps.{Begin, Event, Take, Tick, lapse_notes, lease_notes, onto, step, told_notes}
 use Rattle.mega_tape_laws.specs.Places.{count}
 use Rattle.mega_tape_laws.specs.Settled.{IsCellMajority}
 use Rattle.mega_tape_laws.proofs.Ballots.{number_is, number_self}
@@ -590,9 +590,6 @@ module _ (s : Setting) (full : is_full s.cluster s.me ≡ true) (few : (s.cluste
 pub step_counts : (s : Setting) → is_full s.cluster s.me ≡ true → (s.cluster).cells ≤ 5 → (node : Node) (event : Event) → Counting s.cluster node.met → CountsAt s.cluster node.met → CountsAt s.cluster ((step s node event).node).met
 step_counts s full few node event k h = counts_same s.cluster ((step s node event).node).met (behind_fronts s node event) (step_same s node event) behind
   where
-    first : List Met
-    first = met_in s node.met event ∷ node.met
-
     u : Uncalled s.cluster (behind_fronts s node event) (met_in s node.met event ∷ node.met)
     u = uncalled_all s.cluster (fronts s node event) (met_in s node.met event ∷ node.met) (fronts_no_call s node event)
 
@@ -622,9 +619,6 @@ pub step_counted : (s : Setting) (node : Node) (event : Event) → Each (CountNo
 step_counted s node event = let parts = step_parts s node event in
     subst (Each (CountNote (CountsNow s.cluster node.met))) (sym parts.is) (each_both (CountNote (CountsNow s.cluster node.met)) (fronts s node event) parts.rest (by event) (no_counts (CountsNow s.cluster node.met) parts.rest parts.each))
   where
-    G : ℕ → Epoch → Type 0
-    G = CountsNow s.cluster node.met
-
     grants : (t : Bool) (from : ℕ) (epoch : Epoch) (a : Asked) → Each (CountNote (CountsNow s.cluster node.met)) (cond t (grant_note from epoch a) [])
     grants false from epoch a = tt
     grants true from epoch Granted = (tt, tt)

@@ -1,5 +1,5 @@
 -- As long as leases are safe an epoch that serves is held, and so what a node has of a group that is valid there covers each decision.
-use Rattle.std.proofs.Common.{◌≡◌, ◌⊎◌, inl, inr, ℕ, zero, suc, ◌+◌, nat_le, ◌==◌, ◌&&◌, ◌≤◌, ◌<◌, Bool, true, false, cond, List, [], ◌∷◌, filter, length, Option, Some, None, refl, sym, ap, ◌∙◌, subst, arith}
+use Rattle.std.proofs.Common.{◌≡◌, ◌⊎◌, inl, inr, ℕ, zero, suc, ◌+◌, nat_le, ◌==◌, ◌&&◌, ◌≤◌, ◌<◌, Bool, true, false, cond, List, [], ◌∷◌, filter, length, Some, refl, sym, ap, ◌∙◌, subst, arith}
 use Rattle.std.specs.List.{range_with_len}
 use Rattle.std.proofs.lemmas.Bool.Decides.{nat_tests}
 use Rattle.mega_base.specs.declared.names.Epoch.{Epoch}
@@ -12,11 +12,10 @@ use Rattle.mega_coordinator.proofs.Validity.{validated_above}
 use Rattle.mega_entry.specs.declared.content.Content.{Content}
 use Rattle.mega_handler.specs.Named.{Meanings}
 use Rattle.mega_transcript.specs.declared.item.Item.{Item}
-use Rattle.mega_transcript.specs.declared.item.Item.TheVariants.{Decide, Lapse}
-use Rattle.mega_promises.specs.Items.{number}
+use Rattle.mega_transcript.specs.declared.item.Item.TheVariants.{Decide}
 use Rattle.mega_promises.specs.Messages.{is_unsafe}
 use Rattle.mega_promises.specs.Promises.{Stands}
-use Rattle.mega_promises.specs.Runs.{Happening, IsRun, Standing, goes_on, has_lapsed, nothing_yet, opening}
+use Rattle.mega_promises.specs.Runs.{Happening, IsRun, Standing, goes_on, has_lapsed, opening}
 use Rattle.mega_rules.specs.Clock.{is_up, start_of}
 use Rattle.mega_rules.specs.Coordinators.{coordinator_calls, serves_at, valid_at}
 use Rattle.mega_rules.specs.Members.{full_nodes, is_full, nodes}

@@ -1,5 +1,5 @@
 -- As long as leases are safe no node counts a cell under an epoch that the cell lapsed.
-use Rattle.std.proofs.Common.{◌≡◌, ◌⊎◌, inl, inr, ℕ, zero, suc, ◌+◌, ◌-◌, ◌==◌, ◌&&◌, ◌||◌, ◌≤◌, ◌<◌, nat_lt, not, Bool, true, false, cond, List, [], ◌∷◌, ◌++◌, flat_map, get_or, length, map, Option, Some, None, is_some, refl, sym, ap, ◌∙◌, subst, arith}
+use Rattle.std.proofs.Common.{◌≡◌, ◌⊎◌, inl, inr, ℕ, zero, suc, ◌+◌, ◌-◌, ◌==◌, ◌&&◌, ◌||◌, ◌≤◌, ◌<◌, not, Bool, true, false, cond, List, [], ◌∷◌, ◌++◌, flat_map, get_or, map, Some, None, is_some, refl, sym, ap, ◌∙◌, subst, arith}
 use Rattle.mega_base.specs.declared.names.Epoch.{Epoch}
 use Rattle.mega_cluster.specs.declared.cluster.Cluster.{Cluster}
 use Rattle.mega_coordinator.specs.Groups.{is_same}
@@ -30,13 +30,13 @@ use Rattle.mega_run_laws.proofs.Turns.{each_on}
 use Rattle.mega_settled_laws.proofs.Tapes.{each_both}
 use Rattle.mega_valid_laws.specs.Leases.{counted_on}
 use Rattle.mega_valid_laws.proofs.Folds.{IsOwn, IsOwnNote, Told, with_told}
-use Rattle.mega_leased_laws.proofs.Forms.{Holds, Occurs, down, stepped}
+use Rattle.mega_leased_laws.proofs.Forms.{Holds, down, stepped}
 use Rattle.mega_leased_laws.proofs.Told.{cuts_told, falls_told, marks_told, starts_told, step_met, steps_told}
 use Rattle.mega_leased_laws.proofs.Locks.{IsOwed, IsStill}
-use Rattle.mega_leased_laws.proofs.Cells.{at_me, by_node, occurs_own, own_noted, sends_still, start_owed, step_still}
-use Rattle.mega_leased_laws.proofs.Reached.{Grown, IsPresent, IsWithin, Reached, asked_present, ended, grown_onto, present_before, present_reached, reached_grown, reached_start}
+use Rattle.mega_leased_laws.proofs.Cells.{by_node, occurs_own, own_noted, sends_still, start_owed, step_still}
+use Rattle.mega_leased_laws.proofs.Reached.{Grown, IsWithin, Reached, asked_present, grown_onto, present_before, present_reached, reached_grown, reached_start}
 use Rattle.mega_leased_laws.proofs.Asking.{same_is}
-use Rattle.mega_leased_laws.proofs.Beating.{IsNoCall, Uncalled, uncalled_all}
+use Rattle.mega_leased_laws.proofs.Beating.{Uncalled, uncalled_all}
 use Rattle.mega_leased_laws.proofs.Counting.{CountNote, Counting, CountsAt, CountsNow, counted_met, counted_then, lease_at, next_counted, none_slot, present_at, step_counted, step_counts, tells_counted}
 use Rattle.mega_leased_laws.proofs.Validating.{Ruled, owed_no_call}
 

@@ -1,11 +1,8 @@
 -- The greatest position that a node accepted or decided is no lower than any that its tape shows of it.
-use Rattle.std.proofs.Common.{◌≡◌, inl, inr, ℕ, zero, suc, ◌+◌, max, ◌==◌, ◌≤◌, ◌<◌, Bool, true, false, cond, List, [], ◌∷◌, ◌++◌, flat_map, length, map, Option, Some, None, refl, sym, ap, ◌∙◌, subst, arith}
-use Rattle.mega_base.specs.declared.names.Epoch.{Epoch}
+use Rattle.std.proofs.Common.{◌≡◌, inl, inr, ℕ, zero, suc, ◌+◌, max, ◌≤◌, ◌<◌, Bool, true, false, cond, List, [], ◌∷◌, flat_map, length, map, refl, sym, subst, arith}
 use Rattle.mega_base.specs.declared.names.GroupId.{GroupId}
 use Rattle.mega_base.specs.declared.names.NodeId.{NodeId}
-use Rattle.mega_base.specs.declared.names.OpId.{OpId}
 use Rattle.mega_base.specs.declared.names.Position.{Position}
-use Rattle.mega_ballot.specs.declared.ballot.Ballot.{Ballot}
 use Rattle.mega_cluster.specs.declared.cluster.Cluster.{Cluster}
 use Rattle.mega_entry.specs.declared.content.Content.{Content}
 use Rattle.mega_handler.specs.Named.{Meanings}
@@ -20,7 +17,7 @@ use Rattle.mega_transcript.specs.Tape.{sent_count}
 use Rattle.mega_promises.specs.Items.{number, shown}
 use Rattle.mega_promises.specs.Messages.{is_unsafe}
 use Rattle.mega_promises.specs.Promises.{Stands}
-use Rattle.mega_promises.specs.Runs.{Happening, IsRun, Standing, goes_on, met_in, nothing_yet, opening, set_at, setting, with_items}
+use Rattle.mega_promises.specs.Runs.{Happening, IsRun, Standing, goes_on, met_in, opening, set_at, setting, with_items}
 use Rattle.mega_rules.specs.Met.{Met, Starts, Crashes, Ticks, Begins, Takes, Sends, Unsends, Grants, Lapses, Counts, Forgets, Serves, Loses, Validates, Invalidates, Decides, Applies, Answers}
 use Rattle.mega_rules.specs.Clock.{is_up}
 use Rattle.mega_rules.specs.Coordinators.{valid_at}
@@ -29,14 +26,14 @@ use Rattle.mega_rules.specs.Members.{is_full}
 use Rattle.mega_rules.specs.Operations.{Node, Setting}
 use Rattle.mega_rules.specs.Steps.{Begin, Event, Step, Take, Tick, crashed, onto, start, start_items, step}
 use Rattle.mega_tape_laws.specs.Lawful.{message}
-use Rattle.mega_run_laws.specs.Vouched.{Each, sent}
+use Rattle.mega_run_laws.specs.Vouched.{Each}
 use Rattle.mega_run_laws.proofs.Runs.{IsMark}
 use Rattle.mega_run_laws.proofs.Turns.{each_on, each_zip}
 use Rattle.mega_lease_laws.specs.Questions.{is_question}
 use Rattle.mega_valid_laws.specs.Leases.{HasAtLeast, accepted, decided}
 use Rattle.mega_valid_laws.proofs.Folds.{IsOwn}
 use Rattle.mega_leased_laws.specs.Items.{Are}
-use Rattle.mega_leased_laws.proofs.Forms.{Anything, Holds, Occurs, any_keeps, down, run_holds, stepped}
+use Rattle.mega_leased_laws.proofs.Forms.{Anything, Holds, any_keeps, down, run_holds, stepped}
 use Rattle.mega_leased_laws.proofs.Notes.{Origin, step_origins}
 use Rattle.mega_leased_laws.proofs.Tapes.{IsFree, are_items, are_sent, free_follows, free_notes}
 use Rattle.mega_leased_laws.proofs.Told.{step_met}
@@ -211,22 +208,22 @@ module _ (c : Cluster) (h : Meanings) (now : Standing) (me : ℕ) (q : Are (IsTo
         (each_zip (Origin s (now.node me).met event) (TopMessage (λ g. top_of (those event me).met g)) Topped (sent_by event) (made event).sends (step_origins s (now.node me) event) mine) second_topped
 
     cuts_topping : Are (IsTopped (set_at now.node me (down (met_in s (now.node me).met event) (now.node me)))) (Crash (number me) ∷ item ∷ now.tape)
-    cuts_topping = (tt, (own_topped _ now.tape item own_is, topped_on now.node (set_at now.node me (down (met_in s (now.node me).met event) (now.node me))) (grows_at now.node me (down (met_in s (now.node me).met event) (now.node me)) own_grows) now.tape q))
+    cuts_topping = (tt, (own_topped (set_at now.node me (down (met_in s (now.node me).met event) (now.node me))) now.tape item own_is, topped_on now.node (set_at now.node me (down (met_in s (now.node me).met event) (now.node me))) (grows_at now.node me (down (met_in s (now.node me).met event) (now.node me)) own_grows) now.tape q))
 
-starts_topping : (c : Cluster) (h : Meanings) (now : Standing) (me count : ℕ) → Are (IsTopped now.node) now.tape
-    → Are (IsTopped (set_at now.node me (start (setting c h me) count (now.owed me) (now.node me).met))) (with_items c (set_at now.node me (start (setting c h me) count (now.owed me) (now.node me).met)) now.tape (flat_map (shown me) (start_items (setting c h me) count (now.owed me) (now.node me).met)))
-starts_topping c h now me count q = notes_shown those me c those items now.tape
-    (subst (λ (node : Node). Each (TopNote (λ g. top_of node.met g)) items) (sym (at_me now.node me fresh)) (notes_top items (now.node me).met))
-    (topped_on now.node those (grows_at now.node me fresh (λ g. top_onto items (now.node me).met g)) now.tape q)
-  where
-    abbrev items : List Met
-    items = start_items (setting c h me) count (now.owed me) (now.node me).met
+module _ (c : Cluster) (h : Meanings) (now : Standing) (me count : ℕ) (q : Are (IsTopped now.node) now.tape) where
+  abbrev items : List Met
+  items = start_items (setting c h me) count (now.owed me) (now.node me).met
 
-    abbrev fresh : Node
-    fresh = start (setting c h me) count (now.owed me) (now.node me).met
+  abbrev fresh : Node
+  fresh = start (setting c h me) count (now.owed me) (now.node me).met
 
-    abbrev those : ℕ → Node
-    those = set_at now.node me fresh
+  abbrev begun_nodes : ℕ → Node
+  begun_nodes = set_at now.node me fresh
+
+  starts_topping : Are (IsTopped begun_nodes) (with_items c begun_nodes now.tape (flat_map (shown me) items))
+  starts_topping = notes_shown begun_nodes me c begun_nodes items now.tape
+      (subst (λ (node : Node). Each (TopNote (λ g. top_of node.met g)) items) (sym (at_me now.node me fresh)) (notes_top items (now.node me).met))
+      (topped_on now.node begun_nodes (grows_at now.node me fresh (λ g. top_onto items (now.node me).met g)) now.tape q)
 
 mark_topped : (nodes : ℕ → Node) (t : List Item) (x : Item) → IsMark x → IsTopped nodes t x
 mark_topped nodes t (Sent key m) h = absurd h
