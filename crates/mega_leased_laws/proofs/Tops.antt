@@ -1,5 +1,5 @@
 -- The greatest position that a node accepted or decided is no lower than any that its tape shows of it.
-use Rattle.std.proofs.Common.{◌≡◌, inl, inr, ℕ, zero, suc, ◌+◌, max, ◌≤◌, ◌<◌, Bool, true, false, cond, List, [], ◌∷◌, flat_map, length, map, refl, sym, subst, arith}
+use Rattle.std.proofs.Common.{◌≡◌, inl, inr, ℕ, zero, suc, ◌+◌, max, ◌≤◌, ◌<◌, Bool, true, false, cond, List, [], ◌∷◌, flat_map, length, map, refl, sym, subst, arith, Some, None, ap, ◌∙◌}
 use Rattle.mega_base.specs.declared.names.GroupId.{GroupId}
 use Rattle.mega_base.specs.declared.names.NodeId.{NodeId}
 use Rattle.mega_base.specs.declared.names.Position.{Position}
@@ -19,11 +19,14 @@ use Rattle.mega_promises.specs.Messages.{is_unsafe}
 use Rattle.mega_promises.specs.Promises.{Stands}
 use Rattle.mega_promises.specs.Runs.{Happening, IsRun, Standing, goes_on, met_in, opening, set_at, setting, with_items}
 use Rattle.mega_rules.specs.Met.{Met, Starts, Crashes, Ticks, Begins, Takes, Sends, Unsends, Grants, Lapses, Counts, Forgets, Serves, Loses, Validates, Invalidates, Decides, Applies, Answers}
-use Rattle.mega_rules.specs.Clock.{is_up}
-use Rattle.mega_rules.specs.Coordinators.{valid_at}
+use Rattle.mega_read.specs.declared.reading.Move.{Move as ReadMove}
+use Rattle.mega_read.specs.Catching.{local_read, polled_read, through_of}
+use Rattle.mega_rules.specs.Clock.{clock_of, is_up}
+use Rattle.mega_rules.specs.Coordinators.{serves_at, valid_at}
 use Rattle.mega_rules.specs.Logs.{accepted_at, top_of}
 use Rattle.mega_rules.specs.Members.{is_full}
-use Rattle.mega_rules.specs.Operations.{Node, Setting}
+use Rattle.mega_rules.specs.Operations.{Node, Now, Operation, Setting}
+use Rattle.mega_rules.specs.Acting.{is_visited, read_begun, reader_of}
 use Rattle.mega_rules.specs.Steps.{Begin, Event, Step, Take, Tick, crashed, onto, start, start_items, step}
 use Rattle.mega_tape_laws.specs.Lawful.{message}
 use Rattle.mega_run_laws.specs.Vouched.{Each}
@@ -280,3 +283,25 @@ run_fresh c first events tape few five run un node full up group valid n entry o
       where
         less : (a : ℕ) → 0 < suc a
         less a = omega arith
+
+-- ---- a read that begins
+
+pub run_begins : (c : Cluster) (first : Meanings) (events : List Happening) (tape : List Item) → length c.nodes ≤ 9 → c.cells ≤ 5 → (run : IsRun c first events tape) → is_unsafe tape ≡ false
+    → (node : ℕ) → is_full c node ≡ true → is_up ((goes_on c run.cuts (opening c first) events).node node).met ≡ true
+    → (h : Meanings) (now : Now) (o : Operation) (text : List ℕ) → now.met ≡ Begins o.id text ∷ ((goes_on c run.cuts (opening c first) events).node node).met
+    → (group : GroupId) (p : ℕ) → through_of (read_begun (setting c h node) now o group []).reading ≡ Some p
+    → (n : Position) (entry : Content) (other : NodeId) → Stands (Decide other group n entry) tape → n.0 ≤ p
+run_begins c first events tape few five run un node full up h now o text is group p reads n entry other stands = by (is_visited o group) (valid_at c now.met group) refl reads
+  where
+    some_same : (a b : ℕ) → Some a ≡ Some b → a ≡ b
+    some_same a b k = cc
+
+    local : valid_at c now.met group ≡ true → top_of now.met group ≡ p → n.0 ≤ p
+    local valid at = subst (λ a. n.0 ≤ a) (sym (ap (λ met. top_of met group) is) ∙ at)
+        (run_fresh c first events tape few five run un node full up group (sym (ap (λ met. valid_at c met group) is) ∙ valid) n entry other stands)
+
+    by : (t u : Bool) → valid_at c now.met group ≡ u → through_of (cond {A = ReadMove} t (polled_read (reader_of (setting c h node) o.id group) None [] (clock_of now.met))
+        (cond u (local_read [] (top_of now.met group)) (polled_read (reader_of (setting c h node) o.id group) (serves_at c now.met) [] (clock_of now.met)))).reading ≡ Some p → n.0 ≤ p
+    by true u valid k = absurd (let none = k in cc)
+    by false true valid k = local valid (some_same (top_of now.met group) p k)
+    by false false valid k = absurd (let none = k in cc)
