@@ -419,15 +419,18 @@ module _ (s : Setting) (tape : List Item) (base : List Met) (shows : (e : Epoch)
   validates_busy now group p noted (Some why) op visited is all through a = a
   validates_busy now group p noted None op visited is all through a = record {
     same = validate_same s.cluster base now.met group p a.same;
-    valid = each_both (ValidNote s.cluster tape s.me base) now.valid (Validates group p ∷ []) a.valid (record {
-      epoch = noted;
-      serves = sym (a.same).serves ∙ lawful.serves;
-      op = op;
-      began = through.0.1;
-      polled = through.1;
-      has = has_prefix now group p a.same all;
-      above = subst (λ least. least ≤ p) ((a.same).beaten group) lawful.above;
-    }, tt);
+    valid = each_both (ValidNote s.cluster tape s.me base) now.valid (Validates group p ∷ []) a.valid (
+      record {
+        epoch = noted;
+        serves = sym (a.same).serves ∙ lawful.serves;
+        op = op;
+        began = through.0.1;
+        polled = through.1;
+        has = has_prefix now group p a.same all;
+        above = subst (λ least. least ≤ p) ((a.same).beaten group) lawful.above;
+      },
+      tt,
+    );
     kept = a.kept;
     own = a.own;
     node = a.node;
@@ -497,15 +500,18 @@ module _ (s : Setting) (tape : List Item) (base : List Met) (shows : (e : Epoch)
     pub ones : Each (OfOne (t.operation).id) t.sends
 
   acts_first : (k : ℕ) (now : Now) (t : HeardBy) → k ≤ ((t.operation).id).number → Acted s.cluster tape s.me base k now → Heeds t → ActsAt (sends_more now t.sends) t.operation
-  acts_first k now t le a h = (record {
-    same = a.same;
-    valid = a.valid;
-    kept = kept_sends s.cluster tape now.sends t.sends s.me k op le h.ones now.kept a.kept;
-    own = each_both (Own s.me (op.number + 1)) now.sends t.sends (each_on (Own s.me k) (Own s.me (op.number + 1)) (own_more s.me k (op.number + 1) (omega (arith, le))) now.sends a.own)
-        (each_on (OfOne op) (Own s.me (op.number + 1)) (own_one s.me (op.number + 1) op h.node (next_of op.number)) t.sends h.ones);
-    node = h.node;
-    quiet = λ g unseen. let was = h.quiet g unseen in (was.0, polls_both now.sends t.sends op g (below_silent s.me k op g now.sends le a.own) was.1);
-  }, h.knows)
+  acts_first k now t le a h = (
+    record {
+      same = a.same;
+      valid = a.valid;
+      kept = kept_sends s.cluster tape now.sends t.sends s.me k op le h.ones now.kept a.kept;
+      own = each_both (Own s.me (op.number + 1)) now.sends t.sends (each_on (Own s.me k) (Own s.me (op.number + 1)) (own_more s.me k (op.number + 1) (omega (arith, le))) now.sends a.own)
+          (each_on (OfOne op) (Own s.me (op.number + 1)) (own_one s.me (op.number + 1) op h.node (next_of op.number)) t.sends h.ones);
+      node = h.node;
+      quiet = λ g unseen. let was = h.quiet g unseen in (was.0, polls_both now.sends t.sends op g (below_silent s.me k op g now.sends le a.own) was.1);
+    },
+    h.knows,
+  )
     where
       op : OpId
       op = (t.operation).id

@@ -511,12 +511,21 @@ module _ (c : Cluster) (nodes' : ℕ → Node) (me : ℕ) where
 
     rest_follow : (notes : List Met) (tape : List Item) → ReadyAt tape → Each (RestNote c start_tape me base) notes → Follows (IsByPoll c) (λ t. tt) c nodes' tape (flat_map (shown me) notes)
     rest_follow [] tape r h = tt
-    rest_follow (Validates group p ∷ notes) tape r h = (by_poll tape group p r h.0, rest_follow notes (Valid (number me) group (record { 0 = p }) ∷ tape)
-        (record { later = one_later start_tape tape (Valid (number me) group (record { 0 = p })) r.later; serves = r.serves; known = λ g n e k. inr (r.known g n e k); above = r.above }) h.1)
-    rest_follow (Applies group p ∷ notes) tape r h = (tt, rest_follow notes (Apply (number me) group (record { 0 = p }) ∷ tape)
-        (record { later = one_later start_tape tape (Apply (number me) group (record { 0 = p })) r.later; serves = r.serves; known = λ g n e k. inr (r.known g n e k); above = r.above }) h.1)
-    rest_follow (Answers op answer ∷ notes) tape r h = (tt, rest_follow notes (AnswerItem op answer ∷ tape)
-        (record { later = one_later start_tape tape (AnswerItem op answer) r.later; serves = r.serves; known = λ g n e k. inr (r.known g n e k); above = r.above }) h.1)
+    rest_follow (Validates group p ∷ notes) tape r h = (
+      by_poll tape group p r h.0,
+      rest_follow notes (Valid (number me) group (record { 0 = p }) ∷ tape)
+          (record { later = one_later start_tape tape (Valid (number me) group (record { 0 = p })) r.later; serves = r.serves; known = λ g n e k. inr (r.known g n e k); above = r.above }) h.1,
+    )
+    rest_follow (Applies group p ∷ notes) tape r h = (
+      tt,
+      rest_follow notes (Apply (number me) group (record { 0 = p }) ∷ tape)
+          (record { later = one_later start_tape tape (Apply (number me) group (record { 0 = p })) r.later; serves = r.serves; known = λ g n e k. inr (r.known g n e k); above = r.above }) h.1,
+    )
+    rest_follow (Answers op answer ∷ notes) tape r h = (
+      tt,
+      rest_follow notes (AnswerItem op answer ∷ tape)
+          (record { later = one_later start_tape tape (AnswerItem op answer) r.later; serves = r.serves; known = λ g n e k. inr (r.known g n e k); above = r.above }) h.1,
+    )
     rest_follow (_ ∷ notes) tape r h = absurd h.0
 
   -- a decision becomes known as it stands
@@ -894,7 +903,7 @@ module _ (c : Cluster) (h : Meanings) (now : Standing) (me : ℕ) (up : is_up (n
           quiet = λ group unseen. let was = kept.quiet group unseen in (sent_polled (sent_count now.tape + 1) (made event).sends second x.id group was.1 (second_polled x.id group ∙ sym (behind_polled x.id group) ∙ was.0), refl);
         }) ((made event).node).open_operations knows.opens)
         (λ v apart. each_on (OpenAt c now.tape v) (OpenAt c third v) (open_on c now.tape third v third_later (λ x at group was.
-            sent_polled (sent_count now.tape + 1) (made event).sends second x group (polls_foreign me knows.k x group (made event).sends (ap (λ w. me == w) at ∙ apart) knows.own) (second_polled x group ∙ was))) (now.node v).open_operations (q.opens v))
+        sent_polled (sent_count now.tape + 1) (made event).sends second x group (polls_foreign me knows.k x group (made event).sends (ap (λ w. me == w) at ∙ apart) knows.own) (second_polled x group ∙ was))) (now.node v).open_operations (q.opens v))
 
     steps_validating : Validating c third nodes' now.owed
     steps_validating = record {
@@ -975,7 +984,7 @@ module _ (c : Cluster) (h : Meanings) (now : Standing) (me count : ℕ) (p : Rul
     rules = are_items (IsByPoll c) (λ t. tt) c begun_nodes (flat_map (shown me) (Starts count ∷ shows_then)) now.tape (tt, no_call_follow c begun_nodes me shows_then _ then_no_call) q.rules;
     opens = by_node (λ v x. Each (OpenAt c start_tape v) x.open_operations) now.node me fresh tt
         (λ v apart. each_on (OpenAt c now.tape v) (OpenAt c start_tape v) (open_on c now.tape start_tape v start_later (λ x at group was.
-            items_polled c begun_nodes (flat_map (shown me) (Starts count ∷ shows_then)) now.tape x group (notes_silent me (Starts count ∷ shows_then)) ∙ was)) (now.node v).open_operations (q.opens v));
+        items_polled c begun_nodes (flat_map (shown me) (Starts count ∷ shows_then)) now.tape x group (notes_silent me (Starts count ∷ shows_then)) ∙ was)) (now.node v).open_operations (q.opens v));
     idle = by_node (λ v x. is_full c v ≡ false → IsIdle c x.met) now.node me fresh (λ none. idle_same (fresh_uncalled)) (λ v apart. q.idle v);
     beats = by_node (λ v x. is_full c v ≡ true → is_up x.met ≡ true → Beats c x.met) now.node me fresh (λ full still e is group. absurd (let some = sym is ∙ fresh_none in cc)) (λ v apart. q.beats v);
     told = λ group. starts_told (λ t v. beaten_on t v group) (next_beaten group) (tells_beaten group) (λ met. beaten_met met group) (beaten_each group) c now.tape now.node (q.told group) begun_nodes me fresh (start_items begun count (now.owed me) was) refl;
