@@ -6,13 +6,11 @@ use Rattle.std.specs.List.{list_any}
 use Rattle.mega_base.specs.declared.names.Epoch.{Epoch}
 use Rattle.mega_base.specs.declared.names.GroupId.{GroupId}
 use Rattle.mega_base.specs.declared.names.OpId.{OpId}
-use Rattle.mega_base.specs.declared.names.Position.{Position}
 use Rattle.mega_cluster.specs.declared.cluster.Cluster.{Cluster}
 use Rattle.mega_coordinator.specs.Groups.{is_same, refusal as not_valid}
 use Rattle.mega_coordinator.specs.History.{beaten, serving}
 use Rattle.mega_coordinator.specs.declared.answers.NotValid.{NotValid}
 use Rattle.mega_coordinator.specs.declared.answers.NotValid.TheVariants.{Beaten, OtherEpoch}
-use Rattle.mega_entry.specs.declared.content.Content.{Content}
 use Rattle.mega_entry.specs.declared.content.Enter.{Enter}
 use Rattle.mega_outcome.specs.declared.answer.Answer.{Answer}
 use Rattle.mega_outcome.specs.declared.request.Request.{Request}
@@ -20,15 +18,13 @@ use Rattle.mega_wire.specs.declared.message.Message.{Message}
 use Rattle.mega_wire.specs.declared.message.Body.{Body}
 use Rattle.mega_wire.specs.declared.message.Body.TheVariants.{Where}
 use Rattle.mega_wal.specs.Same.{same_group, same_op}
-use Rattle.mega_wal.proofs.Sames.{same_group_self, same_group_equal, same_op_equal}
+use Rattle.mega_wal.proofs.Sames.{same_group_self, same_group_equal}
 use Rattle.mega_transcript.specs.declared.item.Item.{Item}
-use Rattle.mega_propose.specs.Rounds.{asks}
-use Rattle.mega_read.specs.declared.reading.Reading.{Reading}
 use Rattle.mega_read.specs.declared.reading.Search.{Search}
 use Rattle.mega_read.specs.declared.reading.Stage.{Stage}
 use Rattle.mega_read.specs.declared.reading.Stage.TheVariants.{Polling, Catching}
 use Rattle.mega_read.specs.declared.reading.Move.{Move as ReadMove}
-use Rattle.mega_read.specs.Catching.{asked_by, local_read, polled_read, seeks, site}
+use Rattle.mega_read.specs.Catching.{asked_by, local_read, polled_read, site}
 use Rattle.mega_rules.specs.Met.{Met, Validates}
 use Rattle.mega_rules.specs.Clock.{clock_of, start_of}
 use Rattle.mega_rules.specs.Coordinators.{coordinator_calls, refused_at, serves_at, valid_at, validated}
@@ -47,9 +43,9 @@ use Rattle.mega_settled_laws.specs.Covering.{Earlier}
 use Rattle.mega_settled_laws.proofs.Tapes.{each_both, earlier_stood, then_later}
 use Rattle.mega_settled_laws.proofs.Turns.{numbers_apart}
 use Rattle.mega_valid_laws.specs.Leases.{asks_end, has_polled, serving_on}
-use Rattle.mega_leased_laws.proofs.Polls.{ReadPolls, StagePolls, ToldAtMost, Tops, due_polls, hears_polls, local_begins, no_tops, seeks_polls}
+use Rattle.mega_leased_laws.proofs.Polls.{ReadPolls, StagePolls, Tops, due_polls, hears_polls, no_tops, seeks_polls}
 use Rattle.mega_leased_laws.proofs.Walk.{Walks, begun_it, goes_on_it}
-use Rattle.mega_leased_laws.proofs.Wheres.{EndsBody, EndsOf, falls_due_ends, hears_ends, local_ends, polled_ends, seeks_ends, takes_ends, asks_ends, due_ends}
+use Rattle.mega_leased_laws.proofs.Wheres.{EndsBody, EndsOf, falls_due_ends, hears_ends, polled_ends, seeks_ends, takes_ends, asks_ends, due_ends}
 
 -- ---- messages that ask where a log ends
 
@@ -280,7 +276,7 @@ record Lawful (now : Option Epoch) (least p : ℕ) (noted : Epoch) : Type 0 wher
   serves : now ≡ Some noted
   above : least ≤ p
 
-same_is : (a b : Epoch) → is_same a b ≡ true → a ≡ b
+pub same_is : (a b : Epoch) → is_same a b ≡ true → a ≡ b
 same_is a b h = let parts = both (a.start == b.start) (a.count == b.count) h in λ i. record { start = is_number a.start b.start parts.0 i; count = is_number a.count b.count parts.1 i }
   where
     both : (x y : Bool) → (x && y) ≡ true → (x ≡ true) × (y ≡ true)
@@ -423,15 +419,18 @@ module _ (s : Setting) (tape : List Item) (base : List Met) (shows : (e : Epoch)
   validates_busy now group p noted (Some why) op visited is all through a = a
   validates_busy now group p noted None op visited is all through a = record {
     same = validate_same s.cluster base now.met group p a.same;
-    valid = each_both (ValidNote s.cluster tape s.me base) now.valid (Validates group p ∷ []) a.valid (record {
-      epoch = noted;
-      serves = sym (a.same).serves ∙ lawful.serves;
-      op = op;
-      began = through.0.1;
-      polled = through.1;
-      has = has_prefix now group p a.same all;
-      above = subst (λ least. least ≤ p) ((a.same).beaten group) lawful.above;
-    }, tt);
+    valid = each_both (ValidNote s.cluster tape s.me base) now.valid (Validates group p ∷ []) a.valid (
+      record {
+        epoch = noted;
+        serves = sym (a.same).serves ∙ lawful.serves;
+        op = op;
+        began = through.0.1;
+        polled = through.1;
+        has = has_prefix now group p a.same all;
+        above = subst (λ least. least ≤ p) ((a.same).beaten group) lawful.above;
+      },
+      tt,
+    );
     kept = a.kept;
     own = a.own;
     node = a.node;
@@ -501,15 +500,18 @@ module _ (s : Setting) (tape : List Item) (base : List Met) (shows : (e : Epoch)
     pub ones : Each (OfOne (t.operation).id) t.sends
 
   acts_first : (k : ℕ) (now : Now) (t : HeardBy) → k ≤ ((t.operation).id).number → Acted s.cluster tape s.me base k now → Heeds t → ActsAt (sends_more now t.sends) t.operation
-  acts_first k now t le a h = (record {
-    same = a.same;
-    valid = a.valid;
-    kept = kept_sends s.cluster tape now.sends t.sends s.me k op le h.ones now.kept a.kept;
-    own = each_both (Own s.me (op.number + 1)) now.sends t.sends (each_on (Own s.me k) (Own s.me (op.number + 1)) (own_more s.me k (op.number + 1) (omega (arith, le))) now.sends a.own)
-        (each_on (OfOne op) (Own s.me (op.number + 1)) (own_one s.me (op.number + 1) op h.node (next_of op.number)) t.sends h.ones);
-    node = h.node;
-    quiet = λ g unseen. let was = h.quiet g unseen in (was.0, polls_both now.sends t.sends op g (below_silent s.me k op g now.sends le a.own) was.1);
-  }, h.knows)
+  acts_first k now t le a h = (
+    record {
+      same = a.same;
+      valid = a.valid;
+      kept = kept_sends s.cluster tape now.sends t.sends s.me k op le h.ones now.kept a.kept;
+      own = each_both (Own s.me (op.number + 1)) now.sends t.sends (each_on (Own s.me k) (Own s.me (op.number + 1)) (own_more s.me k (op.number + 1) (omega (arith, le))) now.sends a.own)
+          (each_on (OfOne op) (Own s.me (op.number + 1)) (own_one s.me (op.number + 1) op h.node (next_of op.number)) t.sends h.ones);
+      node = h.node;
+      quiet = λ g unseen. let was = h.quiet g unseen in (was.0, polls_both now.sends t.sends op g (below_silent s.me k op g now.sends le a.own) was.1);
+    },
+    h.knows,
+  )
     where
       op : OpId
       op = (t.operation).id

@@ -1,5 +1,5 @@
 -- The greatest position at which a group was invalidated since its node's epoch began to serve: as a tape tells it, and as a coordinator keeps it.
-use Rattle.std.proofs.Common.{◌≡◌, ◌⊎◌, inl, inr, ℕ, ◌+◌, max, ◌==◌, ◌&&◌, ◌||◌, ◌≤◌, nat_le, not, Bool, true, false, cond, List, [], ◌∷◌, ◌++◌, filter, flat_map, map, Option, Some, None, is_some, refl, sym, ap, ◌∙◌, subst, arith}
+use Rattle.std.proofs.Common.{◌≡◌, inl, inr, ℕ, ◌+◌, max, ◌==◌, ◌&&◌, ◌||◌, ◌≤◌, nat_le, not, Bool, true, false, cond, List, [], ◌∷◌, ◌++◌, filter, flat_map, map, Option, Some, None, is_some, refl, sym, ap, ◌∙◌, subst, arith}
 use Rattle.mega_base.specs.declared.names.Epoch.{Epoch}
 use Rattle.mega_base.specs.declared.names.GroupId.{GroupId}
 use Rattle.mega_base.specs.declared.names.Position.{Position}
@@ -9,7 +9,7 @@ use Rattle.mega_coordinator.specs.declared.answers.Counted.TheVariants.{No, Yes,
 use Rattle.mega_coordinator.specs.declared.lease.Lease.{Lease}
 use Rattle.mega_coordinator.specs.Groups.{is_group}
 use Rattle.mega_coordinator.specs.Lease.{after_grant, counted_by, counts, epoch_of, granted_answer, is_majority, left, next_lease, past_ends, state_of, tick_ends, until_with}
-use Rattle.mega_coordinator.specs.History.{Call, Ticks as TickCall, Grants as GrantCall, Passes, Invalidates as InvalidCall, beaten, epoch_after, lease_of, serving}
+use Rattle.mega_coordinator.specs.History.{Call, Ticks as TickCall, Grants as GrantCall, Passes, beaten, epoch_after, lease_of, serving}
 use Rattle.mega_locks.specs.declared.asked.Asked.{Asked}
 use Rattle.mega_locks.specs.declared.asked.Asked.TheVariants.{Granted, Renewed, Taken as TakenBy, Over}
 use Rattle.mega_locks.specs.History.{lapse_for, nodes as lock_nodes}
@@ -20,7 +20,7 @@ use Rattle.mega_wire.specs.declared.message.Message.{Message}
 use Rattle.mega_wire.specs.declared.message.Body.{Body}
 use Rattle.mega_wire.specs.declared.message.Body.TheVariants.{Acquire, Granted as GrantedBody, Invalidate, Past}
 use Rattle.mega_transcript.specs.declared.item.Item.{Item}
-use Rattle.mega_transcript.specs.declared.item.Item.TheVariants.{Answer, Apply, Begin as BeginItem, Counts as CountsItem, Crash, Cut as CutItem, Decide, Dropped, Forgets as ForgetsItem, Grant, Invalid, Lapse, Lost, Sent, Serving, Start, Taken, Tick as TickItem, Unsent, Valid}
+use Rattle.mega_transcript.specs.declared.item.Item.TheVariants.{Answer, Apply, Begin as BeginItem, Counts as CountsItem, Crash, Cut as CutItem, Decide, Dropped, Forgets as ForgetsItem, Grant, Invalid, Lapse, Lost, Serving, Start, Taken, Tick as TickItem, Unsent, Valid}
 use Rattle.mega_promises.specs.Items.{number, shown}
 use Rattle.mega_promises.specs.Promises.{Stands, StoodBefore}
 use Rattle.mega_promises.specs.Runs.{met_in, with_item, with_items}
@@ -30,12 +30,12 @@ use Rattle.mega_rules.specs.Coordinators.{coordinator_calls, counts_notes, forge
 use Rattle.mega_rules.specs.Locks.{asked_for, cell_calls, grant_note, lapse_note, lapses_at}
 use Rattle.mega_rules.specs.Members.{cells, is_full, keep_of}
 use Rattle.mega_rules.specs.Operations.{Node, Setting}
-use Rattle.mega_rules.specs.Steps.{Begin, Event, Step, Take, Tick, lapse_notes, lease_notes, onto, step, told_notes}
+use Rattle.mega_rules.specs.Steps.{Begin, Event, Take, Tick, lapse_notes, lease_notes, onto, step, told_notes}
 use Rattle.mega_tape_laws.proofs.Ballots.{number_is, number_self}
 use Rattle.mega_run_laws.specs.Vouched.{Each}
 use Rattle.mega_run_laws.proofs.Events.{onto_append}
 use Rattle.mega_settled_laws.proofs.Tapes.{each_both}
-use Rattle.mega_valid_laws.specs.Leases.{MayServe, serving_on}
+use Rattle.mega_valid_laws.specs.Leases.{serving_on}
 use Rattle.mega_valid_laws.proofs.Folds.{IsOwn, IsOwnNote, Told, with_told}
 use Rattle.mega_valid_laws.proofs.Orders.{stood_first}
 use Rattle.mega_leased_laws.specs.Items.{Are}

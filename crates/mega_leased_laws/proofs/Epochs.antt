@@ -79,7 +79,7 @@ use Rattle.mega_leased_laws.proofs.Reached.{Grown, IsPresent, IsWithin, Reached,
 
 -- ---- tapes
 
-are_map : (P Q : List Item → Item → Type 0) → ((t : List Item) (item : Item) → P t item → Q t item) → (tape : List Item) → Are P tape → Are Q tape
+pub are_map : (P Q : List Item → Item → Type 0) → ((t : List Item) (item : Item) → P t item → Q t item) → (tape : List Item) → Are P tape → Are Q tape
 are_map P Q f [] h = tt
 are_map P Q f (item ∷ before) h = (f before item h.0, are_map P Q f before h.1)
 
@@ -147,13 +147,13 @@ clash : {X : Type 0} (t : Bool) → t ≡ true → t ≡ false → X
 clash t h k = absurd (let both = sym h ∙ k in cc)
 
 module _ (c : Cluster) (now : Standing) (shown_now : ShownAt c now) (q : Epoching c now.tape now.node now.owed) where
-  served_at : (v : ℕ) (e : Epoch) → Stands (ServingItem (number v) e) now.tape → ServedAt c v (now.node v).met e
+  pub served_at : (v : ℕ) (e : Epoch) → Stands (ServingItem (number v) e) now.tape → ServedAt c v (now.node v).met e
   served_at v e s = (are_at (IsServed c now.node) now.tape (ServingItem (number v) e) q.served s).holds
 
   come_at : (cell v : ℕ) (e : Epoch) → Stands (Grant cell (number v) e) now.tape → Reached c (now.node v).met e
   come_at cell v e s = (are_at (IsCome c now.node) now.tape (Grant cell (number v) e) q.come s).holds
 
-  up_of : (v : ℕ) (e : Epoch) → serving_met (now.node v).met ≡ Some e → is_up (now.node v).met ≡ true
+  pub up_of : (v : ℕ) (e : Epoch) → serving_met (now.node v).met ≡ Some e → is_up (now.node v).met ≡ true
   up_of v e s = by (is_up (now.node v).met) refl
     where
       by : (t : Bool) → is_up (now.node v).met ≡ t → t ≡ true

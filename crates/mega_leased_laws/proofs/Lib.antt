@@ -15,3 +15,7 @@ pub mod Asking
 pub mod Beating
 pub mod Validating
 pub mod Leased
+pub mod Counting
+pub mod Safety
+pub mod Held
+pub mod Tops

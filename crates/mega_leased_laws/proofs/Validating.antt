@@ -30,32 +30,31 @@ use Rattle.mega_wire.specs.declared.message.Message.{Message}
 use Rattle.mega_wire.specs.declared.message.Body.{Body}
 use Rattle.mega_wire.specs.declared.message.Body.TheVariants.{Accept, Acquire, Dead, Fetch, Granted as GrantedBody, Invalidate, Invalidated, Prepare, Top, Where}
 use Rattle.mega_transcript.specs.declared.item.Item.{Item}
-use Rattle.mega_transcript.specs.declared.item.Item.TheVariants.{Answer as AnswerItem, Apply, Crash, Cut as CutItem, Decide, Dropped, Grant, Invalid, Sent, Serving, Taken, Unsafe, Valid}
+use Rattle.mega_transcript.specs.declared.item.Item.TheVariants.{Answer as AnswerItem, Apply, Crash, Decide, Sent, Unsafe, Valid}
 use Rattle.mega_transcript.specs.Tape.{sent_count}
 use Rattle.mega_promises.specs.Items.{number, shown}
 use Rattle.mega_promises.specs.Messages.{is_unsafe}
-use Rattle.mega_promises.specs.Promises.{Stands, StoodBefore}
+use Rattle.mega_promises.specs.Promises.{Stands}
 use Rattle.mega_promises.specs.Runs.{Happening, IsRun, Standing, breaks, met_in, nothing_yet, set_at, setting, with_item, with_items}
 use Rattle.mega_rules.specs.Met.{Met, Starts, Crashes, Ticks, Begins, Takes, Sends, Unsends, Grants, Lapses, Counts, Forgets, Serves, Loses, Validates, Invalidates, Decides, Applies, Answers}
 use Rattle.mega_rules.specs.Clock.{begun_of, clock_of, does_again, is_up, last_number, start_of, ticks_of}
-use Rattle.mega_rules.specs.Coordinators.{acquires_at, coordinator_calls, serves_at}
+use Rattle.mega_rules.specs.Coordinators.{acquires_at, serves_at}
 use Rattle.mega_rules.specs.Locks.{asked_for, held_answer, held_at, lock_answer}
 use Rattle.mega_rules.specs.Logs.{decided, first_of, groups_of, newest_of, prefix_of, top_of}
 use Rattle.mega_rules.specs.Members.{has_rows, is_cell, is_full, is_voter, kind_of, nodes, voters}
 use Rattle.mega_rules.specs.Operations.{Node, Now, Operation, Setting}
-use Rattle.mega_rules.specs.Acting.{ends, validated_by}
+use Rattle.mega_rules.specs.Acting.{validated_by}
 use Rattle.mega_rules.specs.Replies.{answer_to, fetched, reply_message, reply_to, where_served}
 use Rattle.mega_rules.specs.Steps.{Begin, Decision, Event, Heard as HeardBy, Step, Take, Tick, all_act, applied_at, apply_note, apply_notes, at_first, at_open, background, begin_step, crashed, decide_to, decision_note, fetch_to, fetches_for, first_settled, hears_message, if_new, is_worn, lapse_notes, lease_notes, missing_kind, new_operation, news, onto, op_of, portion_of, refusal, start, start_items, start_notes, step, stored_after, take_step, taken, tick_step, ticked, told_decision, told_notes, unless_missing, unless_refused}
 use Rattle.mega_rules.specs.Voting.{acts, prepared, promise_body, vote_body, voted}
-use Rattle.mega_tape_laws.specs.Lawful.{Heard, message}
-use Rattle.mega_tape_laws.specs.Places.{IsMajority, Took}
+use Rattle.mega_tape_laws.specs.Lawful.{message}
+use Rattle.mega_tape_laws.specs.Places.{Took}
 use Rattle.mega_tape_laws.specs.Polls.{IsPolled, has_asked, is_asking}
 use Rattle.mega_tape_laws.proofs.Ballots.{number_is, number_self}
 use Rattle.mega_tape_laws.proofs.Lists.{some_is}
 use Rattle.mega_run_laws.specs.Vouched.{Each, sent}
 use Rattle.mega_run_laws.proofs.Events.{IsAnswer, IsPlain, lapses_plain, lease_plain, onto_append, told_plain}
 use Rattle.mega_run_laws.proofs.Noting.{Lasts, all_act_it, begun_it, ticked_it}
-use Rattle.mega_run_laws.proofs.Prefixes.{IsDecided}
 use Rattle.mega_run_laws.proofs.Runs.{IsMark, Keeps, nobody}
 use Rattle.mega_run_laws.proofs.Sending.{took_on}
 use Rattle.mega_run_laws.proofs.Standing.{Good}
@@ -64,23 +63,23 @@ use Rattle.mega_run_laws.proofs.Turns.{Held, IsRising, Known, each_on}
 use Rattle.mega_settled_laws.specs.Covering.{Earlier}
 use Rattle.mega_settled_laws.proofs.Tapes.{IsSilent, each_both, earlier_stood, items_later, notes_silent, now_is, one_later, sent_later, then_later}
 use Rattle.mega_lease_laws.proofs.Acting.{Acquires, acquires_are}
-use Rattle.mega_valid_laws.specs.Leases.{MayBeValid, asks_end, has_polled, serving_on}
+use Rattle.mega_valid_laws.specs.Leases.{asks_end, has_polled, serving_on}
 use Rattle.mega_valid_laws.specs.Showing.{next_serving, serving_met}
-use Rattle.mega_valid_laws.proofs.Folds.{IsOwn, IsOwnNote, tells_serving}
+use Rattle.mega_valid_laws.proofs.Folds.{IsOwn, tells_serving}
 use Rattle.mega_valid_laws.proofs.Shows.{ShownAt, nothing_shown, shown_keeps}
 use Rattle.mega_valid_laws.proofs.Walked.{step_agrees}
 use Rattle.mega_leased_laws.specs.Items.{Are}
 use Rattle.mega_leased_laws.specs.Serving.{IsServing}
 use Rattle.mega_leased_laws.specs.Validation.{IsValidated}
 use Rattle.mega_leased_laws.proofs.Forms.{Holds, Occurs, both_keep, down, run_holds, stepped}
-use Rattle.mega_leased_laws.proofs.Notes.{IsRest, front_apart, fronts, step_parts}
+use Rattle.mega_leased_laws.proofs.Notes.{front_apart, fronts, step_parts}
 use Rattle.mega_leased_laws.proofs.Tapes.{Follows, IsFree, are_items, both_follow, free_follows, free_notes}
 use Rattle.mega_leased_laws.proofs.Told.{cuts_told, falls_told, marks_told, starts_told, step_met, steps_told, told_notes_of}
 use Rattle.mega_leased_laws.proofs.Locks.{IsOwed}
 use Rattle.mega_leased_laws.proofs.Cells.{Celling, IsGiven, at_me, by_node, celling_holds, nothing_celling, occurs_own, of_given, own_noted, start_owed}
 use Rattle.mega_leased_laws.proofs.Epochs.{Before, Epoching, IsTold, Tells, epoching_holds, nothing_epoching, rest_serves, sends_serve}
-use Rattle.mega_leased_laws.proofs.Asking.{AllActed, Kept, MayNote, OpenAt, Own, OwnBody, Quiet, ValidNote, all_heard_acted, all_ticked_acted, begins_acted, phase_on, polls_both, polls_in}
-use Rattle.mega_leased_laws.proofs.Beating.{Beats, IsIdle, IsNoCall, NoGrant, NoGrantBody, Uncalled, Unchanged, beaten_at, beaten_met, beaten_on, fronts_beat, fronts_no_call, idle_none, invalid_most, next_beaten, step_beats, step_idle, step_unchanged, tells_beaten, uncalled_all, uncalled_idle, uncalled_serves, own_idle}
+use Rattle.mega_leased_laws.proofs.Asking.{AllActed, Kept, MayNote, OpenAt, Own, OwnBody, ValidNote, all_heard_acted, all_ticked_acted, begins_acted, phase_on, polls_both, polls_in}
+use Rattle.mega_leased_laws.proofs.Beating.{Beats, IsIdle, IsNoCall, NoGrant, NoGrantBody, Uncalled, beaten_at, beaten_met, beaten_on, fronts_beat, fronts_no_call, idle_none, invalid_most, next_beaten, step_beats, step_idle, step_unchanged, tells_beaten, uncalled_all, uncalled_idle, uncalled_serves, own_idle}
 
 -- ---- what a node sends by itself, and its reply, asks no end of a log
 
@@ -512,12 +511,21 @@ module _ (c : Cluster) (nodes' : ℕ → Node) (me : ℕ) where
 
     rest_follow : (notes : List Met) (tape : List Item) → ReadyAt tape → Each (RestNote c start_tape me base) notes → Follows (IsByPoll c) (λ t. tt) c nodes' tape (flat_map (shown me) notes)
     rest_follow [] tape r h = tt
-    rest_follow (Validates group p ∷ notes) tape r h = (by_poll tape group p r h.0, rest_follow notes (Valid (number me) group (record { 0 = p }) ∷ tape)
-        (record { later = one_later start_tape tape (Valid (number me) group (record { 0 = p })) r.later; serves = r.serves; known = λ g n e k. inr (r.known g n e k); above = r.above }) h.1)
-    rest_follow (Applies group p ∷ notes) tape r h = (tt, rest_follow notes (Apply (number me) group (record { 0 = p }) ∷ tape)
-        (record { later = one_later start_tape tape (Apply (number me) group (record { 0 = p })) r.later; serves = r.serves; known = λ g n e k. inr (r.known g n e k); above = r.above }) h.1)
-    rest_follow (Answers op answer ∷ notes) tape r h = (tt, rest_follow notes (AnswerItem op answer ∷ tape)
-        (record { later = one_later start_tape tape (AnswerItem op answer) r.later; serves = r.serves; known = λ g n e k. inr (r.known g n e k); above = r.above }) h.1)
+    rest_follow (Validates group p ∷ notes) tape r h = (
+      by_poll tape group p r h.0,
+      rest_follow notes (Valid (number me) group (record { 0 = p }) ∷ tape)
+          (record { later = one_later start_tape tape (Valid (number me) group (record { 0 = p })) r.later; serves = r.serves; known = λ g n e k. inr (r.known g n e k); above = r.above }) h.1,
+    )
+    rest_follow (Applies group p ∷ notes) tape r h = (
+      tt,
+      rest_follow notes (Apply (number me) group (record { 0 = p }) ∷ tape)
+          (record { later = one_later start_tape tape (Apply (number me) group (record { 0 = p })) r.later; serves = r.serves; known = λ g n e k. inr (r.known g n e k); above = r.above }) h.1,
+    )
+    rest_follow (Answers op answer ∷ notes) tape r h = (
+      tt,
+      rest_follow notes (AnswerItem op answer ∷ tape)
+          (record { later = one_later start_tape tape (AnswerItem op answer) r.later; serves = r.serves; known = λ g n e k. inr (r.known g n e k); above = r.above }) h.1,
+    )
     rest_follow (_ ∷ notes) tape r h = absurd h.0
 
   -- a decision becomes known as it stands
@@ -823,11 +831,8 @@ module _ (c : Cluster) (h : Meanings) (now : Standing) (me : ℕ) (up : is_up (n
     behind_opens = each_on (OpenAt c now.tape me) (OpenAt c behind me) (open_on c now.tape behind me now_behind (λ x at group was. behind_polled x group ∙ was)) node.open_operations (q.opens me)
 
     knows : StepKnows s behind node event (made event)
-    knows = by event o behind behind_opens behind_later first_polls shows
+    knows = by event o behind behind_opens behind_later behind_polled shows
       where
-        first_polls : (x : OpId) (group : GroupId) → has_polled behind x group ≡ has_polled now.tape x group
-        first_polls = behind_polled
-
         by : (event : Event) → Occurs now.tape s node.met item event → (tape : List Item) → Each (OpenAt c tape me) node.open_operations → Earlier first tape → ((x : OpId) (group : GroupId) → has_polled tape x group ≡ has_polled now.tape x group)
             → ((e : Epoch) → serves_at c (behind_fronts s node event) ≡ Some e → serving_on tape me ≡ Some e) → StepKnows s tape node event (step s node event)
         by (Tick clock) o tape opens later polls shows = tick_knows s tape node clock (g.node me).rising opens shows
@@ -898,7 +903,7 @@ module _ (c : Cluster) (h : Meanings) (now : Standing) (me : ℕ) (up : is_up (n
           quiet = λ group unseen. let was = kept.quiet group unseen in (sent_polled (sent_count now.tape + 1) (made event).sends second x.id group was.1 (second_polled x.id group ∙ sym (behind_polled x.id group) ∙ was.0), refl);
         }) ((made event).node).open_operations knows.opens)
         (λ v apart. each_on (OpenAt c now.tape v) (OpenAt c third v) (open_on c now.tape third v third_later (λ x at group was.
-            sent_polled (sent_count now.tape + 1) (made event).sends second x group (polls_foreign me knows.k x group (made event).sends (ap (λ w. me == w) at ∙ apart) knows.own) (second_polled x group ∙ was))) (now.node v).open_operations (q.opens v))
+        sent_polled (sent_count now.tape + 1) (made event).sends second x group (polls_foreign me knows.k x group (made event).sends (ap (λ w. me == w) at ∙ apart) knows.own) (second_polled x group ∙ was))) (now.node v).open_operations (q.opens v))
 
     steps_validating : Validating c third nodes' now.owed
     steps_validating = record {
@@ -919,7 +924,7 @@ module _ (c : Cluster) (h : Meanings) (now : Standing) (me : ℕ) (up : is_up (n
       rules = (tt, (own_free c now.tape item own_is, q.rules));
       opens = by_node (λ v x. Each (OpenAt c cut v) x.open_operations) now.node me node2 tt
           (λ v apart. each_on (OpenAt c now.tape v) (OpenAt c cut v) (open_on c now.tape cut v cut_later (λ x at group was. silent_polled now.tape item x group (own_item item own_is) ∙ was)) (now.node v).open_operations (q.opens v));
-      idle = by_node (λ v x. is_full c v ≡ false → IsIdle c x.met) now.node me node2 (λ none. idle_own none event o) (λ v apart. q.idle v);
+      idle = by_node (λ v x. is_full c v ≡ false → IsIdle c x.met) now.node me node2 (λ none. own_idle s node.met event (no_grant none) (q.idle me none)) (λ v apart. q.idle v);
       beats = by_node (λ v x. is_full c v ≡ true → is_up x.met ≡ true → Beats c x.met) now.node me node2 (λ full still. cc) (λ v apart. q.beats v);
       told = λ group. cuts_told (λ t v. beaten_on t v group) (next_beaten group) (tells_beaten group) (λ met. beaten_met met group) (beaten_each group) c now.tape now.node (q.told group) me item (met_in s node.met event) node2 own_is (own_noted s node.met event) refl;
     }
@@ -930,21 +935,9 @@ module _ (c : Cluster) (h : Meanings) (now : Standing) (me : ℕ) (up : is_up (n
         cut_later : Earlier now.tape cut
         cut_later = one_later now.tape first (Crash (number me)) first_later
 
-        idle_own : is_full c me ≡ false → (event : Event) → Occurs now.tape s node.met item event → IsIdle c (down (met_in s node.met event) node).met
-        idle_own none event o = own_idle s node.met event (no_grant_of none event o) (q.idle me none)
-          where
-            of_body : (to : ℕ) (body : Body) → to ≡ me → FullIf c to body → NoGrantBody body
-            of_body to (GrantedBody cell epoch clock) same full = clash (is_full c me) (ap (is_full c) (sym same) ∙ full) none
-            of_body to _ same full = tt
-
-            no_grant_of : is_full c me ≡ false → (event : Event) → Occurs now.tape s node.met item event → NoGrant event
-            no_grant_of none (Tick clock) o = tt
-            no_grant_of none (Begin request text) o = tt
-            no_grant_of none (Take m) o = of_body m.to m.body o.3 (granted_full c o.0 m now.tape (p.1).told ((p.0).1).grants o.2)
-
 -- ---- starts, crashes and marks
 
-owed_no_call : (notes : List Met) → Each IsOwed notes → Each IsNoCall notes
+pub owed_no_call : (notes : List Met) → Each IsOwed notes → Each IsNoCall notes
 owed_no_call notes h = each_on IsOwed IsNoCall one notes h
   where
     one : (note : Met) → IsOwed note → IsNoCall note
@@ -991,7 +984,7 @@ module _ (c : Cluster) (h : Meanings) (now : Standing) (me count : ℕ) (p : Rul
     rules = are_items (IsByPoll c) (λ t. tt) c begun_nodes (flat_map (shown me) (Starts count ∷ shows_then)) now.tape (tt, no_call_follow c begun_nodes me shows_then _ then_no_call) q.rules;
     opens = by_node (λ v x. Each (OpenAt c start_tape v) x.open_operations) now.node me fresh tt
         (λ v apart. each_on (OpenAt c now.tape v) (OpenAt c start_tape v) (open_on c now.tape start_tape v start_later (λ x at group was.
-            items_polled c begun_nodes (flat_map (shown me) (Starts count ∷ shows_then)) now.tape x group (notes_silent me (Starts count ∷ shows_then)) ∙ was)) (now.node v).open_operations (q.opens v));
+        items_polled c begun_nodes (flat_map (shown me) (Starts count ∷ shows_then)) now.tape x group (notes_silent me (Starts count ∷ shows_then)) ∙ was)) (now.node v).open_operations (q.opens v));
     idle = by_node (λ v x. is_full c v ≡ false → IsIdle c x.met) now.node me fresh (λ none. idle_same (fresh_uncalled)) (λ v apart. q.idle v);
     beats = by_node (λ v x. is_full c v ≡ true → is_up x.met ≡ true → Beats c x.met) now.node me fresh (λ full still e is group. absurd (let some = sym is ∙ fresh_none in cc)) (λ v apart. q.beats v);
     told = λ group. starts_told (λ t v. beaten_on t v group) (next_beaten group) (tells_beaten group) (λ met. beaten_met met group) (beaten_each group) c now.tape now.node (q.told group) begun_nodes me fresh (start_items begun count (now.owed me) was) refl;

@@ -50,7 +50,6 @@ abbrev fetched_by : Reader → Reading → ℕ → ℕ → ℕ → List ℕ → 
 fetched_by who r through position now [] = fills who r through position now
 fetched_by who r through position now (voter ∷ voters) = move r (Catching through (Some (Fetching position [] now))) (map (fetch_to who position) (voter ∷ voters))
 
-
 -- ---- rounds
 
 module _ (op : OpId) (group : GroupId) where
