@@ -5,14 +5,14 @@ use Rattle.mega_replay.specs.Progress.{Writes, WritesFront}
 use Rattle.mega_replay.specs.Running.{stood}
 use Rattle.mega_replay.specs.Texts.{so_far}
 use Rattle.mega_replay.proofs.Progress.{all_lost}
-use Rattle.mega_replay.proofs.Starts.{declared}
+use Rattle.mega_replay.proofs.Starts.{starts}
 use Rattle.mega_replay.proofs.Steps.{cut_before, cut_first}
 use Rattle.mega_replay.proofs.replay.run_schedule.Goals as goal
 
 pub returns-in-Err-clause-cut : goal.returns-in-Err-clause-cut
 returns-in-Err-clause-cut g c =
     let held = g.O.Sink.held c.args.out.now in
-    cut_before c.args.report c.args.cluster.now (prepend_known c.args.reader.now (g.I.Source.left c.args.input.now)) (WritesFront held held c.args.waiting.now) (declared c.args.cluster.now c.requires.read)
+    cut_before c.args.report c.args.cluster.now (prepend_known c.args.reader.now (g.I.Source.left c.args.input.now)) (WritesFront held held c.args.waiting.now) (starts c.args.cluster.now c.requires.read)
     (all_lost held c.args.waiting.now (so_far c.args.report (c.args.cluster.now).schema (newest (stood c.args.cluster.now []).tape)) c.requires.none_waits)
 
 pub returns-in-Err-write_from-clause-cut : goal.returns-in-Err-write_from-clause-cut
