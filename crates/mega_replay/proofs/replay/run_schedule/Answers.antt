@@ -29,3 +29,17 @@ returns-clause-limit g c at is =
     let items = c.opened.new.tape.items in
     let fresh = subst (λ (xs : List ℕ). Writes before (g.O.Sink.held c.write_from.new.out) c.write_from.new.waiting (xs ++ so_far c.args.report (c.args.cluster.now).schema items)) c.requires.none_waits c.in-Ok-write_from.ensures.text in
     c.run_whole.ensures.limit at is before fresh
+
+pub returns-clause-none : goal.returns-clause-none
+returns-clause-none g c at reason is =
+    let before = g.O.Sink.held c.args.out.now in
+    let items = c.opened.new.tape.items in
+    let fresh = subst (λ (xs : List ℕ). Writes before (g.O.Sink.held c.write_from.new.out) c.write_from.new.waiting (xs ++ so_far c.args.report (c.args.cluster.now).schema items)) c.requires.none_waits c.in-Ok-write_from.ensures.text in
+    c.run_whole.ensures.none at reason is before fresh
+
+pub returns-clause-refused : goal.returns-clause-refused
+returns-clause-refused g c at why is =
+    let before = g.O.Sink.held c.args.out.now in
+    let items = c.opened.new.tape.items in
+    let fresh = subst (λ (xs : List ℕ). Writes before (g.O.Sink.held c.write_from.new.out) c.write_from.new.waiting (xs ++ so_far c.args.report (c.args.cluster.now).schema items)) c.requires.none_waits c.in-Ok-write_from.ensures.text in
+    c.run_whole.ensures.refused at why is before fresh
