@@ -1,5 +1,6 @@
 -- Each request of the format is one that is served.
 use Rattle.std.proofs.Common.{◌≡◌, ℕ, ◌≤◌, ◌||◌, nat_le, true, false, Option, Some, None, is_some, length, refl, ap, arith}
+use Rattle.std.proofs.lemmas.Bool.Decides.{nat_tests}
 use Rattle.std.specs.Prelude.{is_none}
 use Rattle.mega_base.specs.declared.names.GroupId.{GroupId}
 use Rattle.mega_outcome.specs.declared.request.Request.{Request}
