@@ -18,7 +18,7 @@ use Rattle.mega_rules.specs.Operations.{Now, Setting}
 use Rattle.mega_rules.specs.Steps.{applied_position, snapshot_listed, snapshot_rows, stored_listed, stored_rows}
 use Rattle.mega_outcome.specs.declared.answer.Mark.{Mark}
 use Rattle.mega_node_laws.specs.About.{IsOf}
-use Rattle.mega_actions.specs.Built.{group_asked, is_open, is_proposed}
+use Rattle.mega_actions.specs.Servable.{group_asked, is_plain, is_proposed}
 use Rattle.mega_actions.specs.Showing.{looks, place_by, shown}
 
 some_is : {A : Type 0} (a b : A) → Some a ≡ Some b → a ≡ b
@@ -37,8 +37,8 @@ or_true : (a : Bool) → (a || true) ≡ true
 or_true true = refl
 or_true false = refl
 
-pub asked_open : (request : Request) (group : GroupId) → group_asked request ≡ Some group → is_open request ≡ true
-asked_open request group is = ap (λ (asked : Option GroupId). is_proposed request || is_some asked) is ∙ or_true (is_proposed request)
+pub asked_plain : (request : Request) (group : GroupId) → group_asked request ≡ Some group → is_plain request ≡ true
+asked_plain request group is = ap (λ (asked : Option GroupId). is_proposed request || is_some asked) is ∙ or_true (is_proposed request)
 
 -- what is answered at once, by where the request looks
 pub answered_at_once : (s : Setting) (now : Now) (request : Request) (group : GroupId) (mode : Mode) (applied prefix at : ℕ) (answer : Answer) → applied ≡ applied_position now group → place_by mode applied prefix ≡ Some at

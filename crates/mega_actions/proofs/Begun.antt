@@ -17,7 +17,7 @@ use Rattle.mega_rules.specs.Operations.{Now, Reads, Setting}
 use Rattle.mega_rules.specs.Acting.{begins_read, ends, goes_on, read_begun}
 use Rattle.mega_rules.specs.Steps.{Heard, acts_in_turn, begins, find_begins, is_current, local_find_begins, new_operation, read_begins}
 use Rattle.mega_node_laws.specs.About.{IsOf}
-use Rattle.mega_actions.specs.Built.{is_at_once, is_indexed, is_open}
+use Rattle.mega_actions.specs.Servable.{is_at_once, is_indexed, is_plain}
 use Rattle.mega_actions.specs.Indexing.{by_index, found_by_index, marks_then}
 use Rattle.mega_actions.specs.Showing.{at_once, looks, looks_in}
 
@@ -88,7 +88,7 @@ module _ (s : Setting) (now : Now) (op : OpId) where
       ap (find_begins s now (new_operation op (Find request) clock) request) of
       ∙ find_current request group clock request.mode (ap (λ (o : Option GroupId). is_some o && not (is_current request.mode)) (sym of) ∙ current)
 
-  pub begins_by : (request : Request) (group : GroupId) (clock : ℕ) → is_open request ≡ true → is_at_once request ≡ false → IsOf request group
+  pub begins_by : (request : Request) (group : GroupId) (clock : ℕ) → is_plain request ≡ true → is_at_once request ≡ false → IsOf request group
       → begins s now (new_operation op request clock) ≡ begins_read s (goes_on s) now (new_operation op request clock) group None []
   begins_by (Txn transaction) group clock built current of = ap (λ (own : GroupId). begins_read s (goes_on s) now (new_operation op (Txn transaction) clock) own None []) of
   begins_by (Batch own transactions) group clock built current of = ap (λ (own' : GroupId). begins_read s (goes_on s) now (new_operation op (Batch own transactions) clock) own' None []) of
@@ -106,7 +106,7 @@ module _ (s : Setting) (now : Now) (op : OpId) where
   }
 
   pub begins_in_turn : (request : Request) (began : ℕ) (visited : List GroupId) (group : GroupId) (made : Move) → began ≡ clock_of now.met → visited ≡ group ∷ []
-      → made ≡ read_begun s now (new_operation op request (clock_of now.met)) group [] → is_open request ≡ true → is_at_once request ≡ false → IsOf request group
+      → made ≡ read_begun s now (new_operation op request (clock_of now.met)) group [] → is_plain request ≡ true → is_at_once request ≡ false → IsOf request group
       → acts_in_turn s now (begun request began visited group made) ≡ begins s now (new_operation op request (clock_of now.met))
   begins_in_turn request began visited group made clock first is built current of =
       (λ i. acts_in_turn s now (begun request (clock i) (first i) group (is i))) ∙ sym (begins_by request group (clock_of now.met) built current of)

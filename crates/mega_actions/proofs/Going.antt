@@ -18,7 +18,7 @@ use Rattle.mega_rules.specs.Acting.{batch_sealed, ends, finishes, listed_at, row
 use Rattle.mega_node_laws.specs.About.{IsOf}
 use Rattle.mega_actions.specs.declared.came.Came.{Came}
 use Rattle.mega_actions.specs.declared.came.Came.TheVariants.{Alone, Batched}
-use Rattle.mega_actions.specs.Built.{is_proposed}
+use Rattle.mega_actions.specs.Servable.{is_proposed}
 use Rattle.mega_actions.specs.Coming.{comes, sealed_by}
 use Rattle.mega_actions.specs.Sees.{Sees}
 use Rattle.mega_actions.specs.Showing.{shown}

@@ -9,3 +9,5 @@ mod Onward
 mod Within
 mod InTurn
 mod Begun
+mod Serving
+mod Turned

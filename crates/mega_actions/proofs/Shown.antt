@@ -1,6 +1,6 @@
 -- What reads show: of named rows what a transaction shows that only reads them, and else all rows of the group's tables.
 use Rattle.std.proofs.Common.{◌≡◌, ◌∙◌, ℕ, List, [], ◌∷◌, Bool, true, false, cond, length, sym, ap, refl, arith}
-use Rattle.std.specs.Prelude.{Option, Some, Result, Ok, Err, nat_lt}
+use Rattle.std.specs.Prelude.{Option, Result, Ok, Err, nat_lt}
 use Rattle.std.proofs.lemmas.List.{take_all}
 use Rattle.mega_base.specs.declared.names.GroupId.{GroupId}
 use Rattle.mega_entry.specs.declared.content.Content.{Content}
@@ -28,10 +28,10 @@ use Rattle.mega_replica.specs.declared.progress.Progress.{Progress}
 use Rattle.mega_replica.specs.Stored.{Counts, GroupLogs}
 use Rattle.mega_replica.specs.Following.{Follows}
 use Rattle.mega_replica.proofs.Reading.{stored_is}
-use Rattle.mega_rules.specs.Operations.{Now, Setting}
+use Rattle.mega_rules.specs.Operations.{Setting}
 use Rattle.mega_rules.specs.Acting.{read_answer, rows_answer}
 use Rattle.mega_node_laws.specs.Own.{HasOwnRows}
-use Rattle.mega_actions.specs.Built.{is_named}
+use Rattle.mega_actions.specs.Servable.{is_named}
 use Rattle.mega_actions.specs.Showing.{reading, told}
 
 -- its entry is short

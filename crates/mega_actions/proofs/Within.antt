@@ -8,9 +8,7 @@ use Rattle.mega_operations.specs.Whole.{whole}
 use Rattle.mega_rules.specs.Logs.{decided, groups_of}
 use Rattle.mega_rules.specs.Operations.{Now, Operation, Promised, Proposes, Reads, Setting}
 use Rattle.mega_rules.specs.Acting.{acts, acts_within, goes_on, reads_on, unless_decided}
-
-abbrev pub later : Setting → Now → Now → Operation → Now
-later s now = acts_within (suc (length (groups_of now.met))) s
+use Rattle.mega_actions.specs.Later.{later}
 
 two_more : (n : ℕ) → n + 2 ≡ suc (suc n)
 two_more n = grind (arith)

@@ -5,7 +5,7 @@ use Rattle.mega_disk.specs.declared.versions.StoreError.TheVariants as store
 use Rattle.mega_outcome.specs.declared.answer.Turn.{Turn}
 use Rattle.mega_outcome.specs.declared.answer.Turn.TheVariants as turn
 use Rattle.mega_actions.specs.declared.fault.ActFault.{ActFault}
-use Rattle.mega_actions.specs.declared.fault.ActFault.TheVariants.{BadRecord, DiskFault, Full, NoMemory, Unbuilt}
+use Rattle.mega_actions.specs.declared.fault.ActFault.TheVariants.{BadRecord, DiskFault, Full, NoMemory, Unserved}
 
 abbrev pub fault_of : Turn → Option ActFault
 fault_of (turn.OtherGroup i) = None
@@ -24,7 +24,7 @@ abbrev pub of_store : ActFault → Option StoreError
 of_store DiskFault = Some store.DiskFault
 of_store (Full n) = Some (store.Full n)
 of_store (BadRecord n) = Some (store.BadRecord n)
-of_store Unbuilt = None
+of_store Unserved = None
 of_store NoMemory = None
 
 -- the store's own errors, of which want of memory is none

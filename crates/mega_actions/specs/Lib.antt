@@ -4,10 +4,14 @@ pub mod Completed
 pub mod Reaching
 pub mod Stands
 pub mod IsAt
-pub mod Built
+pub mod Servable
 pub mod Faults
 pub mod Sees
 pub mod Coming
 pub mod Showing
 pub mod Turns
+pub mod Pumping
+pub mod Asked
+pub mod Acted
+pub mod Later
 pub mod Indexing

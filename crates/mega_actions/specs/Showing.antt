@@ -10,14 +10,13 @@ use Rattle.mega_outcome.specs.declared.transaction.RowRef.{RowRef}
 use Rattle.mega_outcome.specs.declared.transaction.Transaction.{Transaction}
 use Rattle.mega_outcome.specs.declared.request.Mode.{Mode}
 use Rattle.mega_outcome.specs.declared.request.Mode.TheVariants.{Current, Snapshot, Inconsistent}
-use Rattle.mega_outcome.specs.declared.request.ReadRequest.{ReadRequest}
 use Rattle.mega_outcome.specs.declared.request.Request.{Request}
 use Rattle.mega_outcome.specs.declared.request.Request.TheVariants.{Txn, Batch, Read, Find, PumpEnter, PumpHandle, Refresh}
 use Rattle.mega_rules.specs.Operations.{Now, Setting}
 use Rattle.mega_rules.specs.Acting.{read_answer}
 use Rattle.mega_rules.specs.Finding.{local_found}
 use Rattle.mega_rules.specs.Steps.{applied_position, snapshot_listed, snapshot_rows, stored_listed, stored_rows}
-use Rattle.mega_actions.specs.Built.{group_asked, mode_asked}
+use Rattle.mega_actions.specs.Servable.{group_asked, mode_asked}
 
 -- a read of named rows is a transaction that only reads
 abbrev pub reading : GroupId → List RowRef → Transaction

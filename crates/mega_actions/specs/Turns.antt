@@ -3,13 +3,13 @@ use Rattle.std.specs.Prelude.{◌≡◌, true}
 use Rattle.mega_rules.specs.Operations.{Operation}
 use Rattle.mega_rules.specs.Steps.{Heard}
 use Rattle.mega_node_laws.specs.About.{IsAbout}
-use Rattle.mega_actions.specs.Built.{is_open}
+use Rattle.mega_actions.specs.Servable.{is_open}
 
 abbrev pub IsHeardAbout : Heard → Type 0
 IsHeardAbout t = IsAbout t.operation
 
-abbrev pub IsBuilt : Operation → Type 0
-IsBuilt o = is_open o.request ≡ true
+abbrev pub IsServable : Operation → Type 0
+IsServable o = is_open o.request ≡ true
 
-abbrev pub IsBuiltHeard : Heard → Type 0
-IsBuiltHeard t = IsBuilt t.operation
+abbrev pub IsServableHeard : Heard → Type 0
+IsServableHeard t = IsServable t.operation

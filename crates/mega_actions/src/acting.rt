@@ -1,19 +1,22 @@
 //! What an operation does that acts: it reads, seeks, finishes or ends.
-ghost use Rattle.std.specs.Prelude.{◌≡◌, ◌≤◌, ◌+◌, ◌<◌, ◌^◌, nat_le, IfOk, OnOk, OnErr, Err, false, true};
+ghost use Rattle.std.specs.Prelude.{◌≡◌, ◌≤◌, ◌+◌, ◌<◌, ◌^◌, nat_le, IfOk, OnOk, OnErr, Err, None, false, true};
 ghost use Rattle.mega_handler.specs.Named.{Meanings};
 ghost use Rattle.mega_meanings.specs.Means.{Means};
 ghost use Rattle.mega_node_laws.specs.About.{IsAbout, IsOf};
 ghost use Rattle.mega_operations.specs.Whole.{whole};
 ghost use Rattle.mega_operations.specs.Phases.{promised_of};
 ghost use Rattle.mega_rules.specs.Clock.{clock_of};
-ghost use Rattle.mega_rules.specs.Logs.{decided, prefix_of};
+ghost use Rattle.mega_rules.specs.Logs.{decided, log_of, prefix_of};
 ghost use Rattle.mega_rules.specs.Operations.{Now, Operation as Open, Proposes, Reads};
-ghost use Rattle.mega_rules.specs.Acting.{completes_read, finishes, goes_on, reader_of, reads_on, seeks_on, unless_decided};
+ghost use Rattle.mega_rules.specs.Acting.{acts, acts_within, completes_read, finishes, goes_on, reader_of, reads_on, seeks_on, unless_decided};
+ghost use Rattle.mega_replica.specs.Applying.{applied};
 ghost use Rattle.mega_read.specs.Catching.{seeks};
 ghost use Rattle.mega_replica.specs.Faring.{Fares};
-ghost use Rattle.mega_actions.specs.declared.fault.ActFault.TheVariants.{NoMemory as OutOfMemory, Unbuilt};
+ghost use Rattle.mega_actions.specs.declared.fault.ActFault.TheVariants.{NoMemory as OutOfMemory, Unserved};
 ghost use Rattle.mega_voter.specs.Telling.{Tells};
-ghost use Rattle.mega_actions.specs.Built.{is_open};
+ghost use Rattle.mega_actions.specs.Acted.{Acted, IsNextAsked};
+ghost use Rattle.mega_actions.specs.Servable.{is_open, is_pump};
+ghost use Rattle.mega_actions.specs.Later.{later};
 ghost use Rattle.mega_actions.specs.Faults.{failed_by};
 ghost use Rattle.mega_actions.specs.IsAt.{IsAt, setting_of};
 ghost use Rattle.mega_actions.specs.Deeds.{does};
@@ -25,6 +28,7 @@ use crate::completing::{goes, reads_through};
 use crate::deed::{Deed, End};
 use crate::fault::ActFault;
 use crate::proposing::{Proposing, unless_decided};
+use crate::pumping::is_pump;
 use crate::reached::Reached;
 use crate::replica::Replica;
 use crate::work::Work;
@@ -117,6 +121,76 @@ fn is_reached(through: u64, prefix: u64) -> bool
 }
 
 impl<R: Records, V: Versions> Replica<R, V> {
+    /// A pump whose read is complete goes on to what it asks; where it picks again, its operation comes back.
+    #[tactic(auto, using(crate::proofs::Refused::fares_unkept))]
+    fn pumps<H: QueueHandlers>(
+        &mut self,
+        alloc: Global,
+        handlers: &mut H,
+        work: &mut Work,
+        reached: Reached,
+    ) -> Result<Option<Operation>, ActFault>
+        ensures acted { IfOk result (λ next. (h : Meanings) (now : Now) → V.is_told ≡ true → Means (H.meant handlers.old) h → is_pump reached.kept.request ≡ true →
+            reached.position ≤ applied (log_of now.met reached.group) (now.stored reached.group) → IsAt V.version h self.old now.met now.stored →
+            Acted V.version h self.new work.old work.new now (λ again. finishes (setting_of self.old h) again now (operation_of reached) reached.group reached.reading reached.position) next) }
+        ensures asked { IfOk result (λ next. IsNextAsked next reached.kept.request) }
+        ensures handlers { H.meant handlers.new ≡ H.meant handlers.old }
+        ensures fares { Fares V.Versions (failed_by result) self.old.rows.rows self.new.rows.rows }
+        ensures members { self.new.members ≡ self.old.members }
+        ensures me { self.new.me ≡ self.old.me }
+        ensures voter { self.new.voter ≡ self.old.voter }
+        ensures indexed { self.new.indexed ≡ self.old.indexed }
+        ensures built { result ≡ Err Unserved → ⊥ }
+    {
+        let pumped = reached.pumps(
+            alloc,
+            &self.members,
+            &self.voter,
+            &self.leases,
+            &mut self.rows,
+            handlers,
+        )?;
+        let next = work.takes(pumped)?;
+        Ok(next)
+    }
+
+    /// An operation whose read is complete goes on to what it asks; where it picks again, it comes back.
+    fn goes_by<H: QueueHandlers>(
+        &mut self,
+        alloc: Global,
+        handlers: &mut H,
+        work: &mut Work,
+        reached: Reached,
+    ) -> Result<Option<Operation>, ActFault>
+        ensures acted { IfOk result (λ next. (h : Meanings) (now : Now) → V.is_told ≡ true → Means (H.meant handlers.old) h → IsOf reached.kept.request reached.group →
+            reached.position ≤ applied (log_of now.met reached.group) (now.stored reached.group) → IsAt V.version h self.old now.met now.stored →
+            Acted V.version h self.new work.old work.new now (λ again. finishes (setting_of self.old h) again now (operation_of reached) reached.group reached.reading reached.position) next) }
+        ensures asked { IfOk result (λ next. IsNextAsked next reached.kept.request) }
+        ensures handlers { H.meant handlers.new ≡ H.meant handlers.old }
+        ensures fares { Fares V.Versions (failed_by result) self.old.rows.rows self.new.rows.rows }
+        ensures members { self.new.members ≡ self.old.members }
+        ensures me { self.new.me ≡ self.old.me }
+        ensures voter { self.new.voter ≡ self.old.voter }
+        ensures indexed { self.new.indexed ≡ self.old.indexed }
+        ensures unserved { result ≡ Err Unserved → is_open reached.kept.request ≡ false }
+    {
+        if is_pump(&reached.kept.request) {
+            let next = self.pumps(alloc, handlers, work, reached)?;
+            return Ok(next);
+        }
+        let clock = self.leases.now();
+        goes(
+            alloc,
+            &self.members,
+            &self.voter,
+            clock,
+            &mut self.rows,
+            work,
+            reached,
+        )?;
+        Ok(None)
+    }
+
     /// The read of an operation completes through a decided position, and the operation goes on to what it asks.
     fn completes<H: QueueHandlers>(
         &mut self,
@@ -124,23 +198,18 @@ impl<R: Records, V: Versions> Replica<R, V> {
         handlers: &mut H,
         work: &mut Work,
         reached: Reached,
-    ) -> Result<(), ActFault>
-        ensures state { OnOk result ((h : Meanings) (now : Now) (again : Now → Open → Now) → V.is_told ≡ true → Means (H.meant handlers.old) h → IsOf reached.kept.request reached.group → reached.position ≤ prefix_of now.met reached.group →
-            IsAt V.version h self.old now.met now.stored →
-            IsAt V.version h self.new
-            (finishes (setting_of self.old h) again (completes_read (setting_of self.old h) now reached.group reached.reading reached.position) (operation_of reached) reached.group reached.reading reached.position).met
-            (finishes (setting_of self.old h) again (completes_read (setting_of self.old h) now reached.group reached.reading reached.position) (operation_of reached) reached.group reached.reading reached.position).stored) }
-        ensures work { OnOk result ((h : Meanings) (now : Now) (again : Now → Open → Now) → V.is_told ≡ true → Means (H.meant handlers.old) h → IsOf reached.kept.request reached.group → reached.position ≤ prefix_of now.met reached.group →
-            IsAt V.version h self.old now.met now.stored →
-            work.old ≡ work_of now →
-            work.new ≡ work_of (finishes (setting_of self.old h) again (completes_read (setting_of self.old h) now reached.group reached.reading reached.position) (operation_of reached) reached.group reached.reading reached.position)) }
+    ) -> Result<Option<Operation>, ActFault>
+        ensures acted { IfOk result (λ next. (h : Meanings) (now : Now) → V.is_told ≡ true → Means (H.meant handlers.old) h → IsOf reached.kept.request reached.group →
+            reached.position ≤ prefix_of now.met reached.group → IsAt V.version h self.old now.met now.stored →
+            Acted V.version h self.new work.old work.new now (λ again. finishes (setting_of self.old h) again (completes_read (setting_of self.old h) now reached.group reached.reading reached.position) (operation_of reached) reached.group reached.reading reached.position) next) }
+        ensures asked { IfOk result (λ next. IsNextAsked next reached.kept.request) }
         ensures handlers { H.meant handlers.new ≡ H.meant handlers.old }
         ensures fares { Fares V.Versions (failed_by result) self.old.rows.rows self.new.rows.rows }
         ensures members { self.new.members ≡ self.old.members }
         ensures me { self.new.me ≡ self.old.me }
         ensures voter { self.new.voter ≡ self.old.voter }
         ensures indexed { self.new.indexed ≡ self.old.indexed }
-        ensures unbuilt { result ≡ Err Unbuilt → is_open reached.kept.request ≡ false }
+        ensures unserved { result ≡ Err Unserved → is_open reached.kept.request ≡ false }
     {
         match reads_through(
             alloc,
@@ -156,22 +225,147 @@ impl<R: Records, V: Versions> Replica<R, V> {
                 return Err(fault);
             }
         }
+        let next = self.goes_by(alloc, handlers, work, reached)?;
+        Ok(next)
+    }
+
+    /// An operation reads on.
+    #[tactic(auto, using(mega_replica::proofs::Fared::fares_here, crate::proofs::Refused::fares_unkept))]
+    fn reads_on<H: QueueHandlers>(
+        &mut self,
+        alloc: Global,
+        handlers: &mut H,
+        work: &mut Work,
+        kept: Kept,
+        group: GroupId,
+        reading: Reading,
+    ) -> Result<Option<Operation>, ActFault>
+        ensures acted { IfOk result (λ next. (h : Meanings) (now : Now) → V.is_told ≡ true → Means (H.meant handlers.old) h → IsOf kept.request group → IsAt V.version h self.old now.met now.stored →
+            Acted V.version h self.new work.old work.new now (λ again. reads_on (setting_of self.old h) again now (whole kept (Reads group reading)) group reading) next) }
+        ensures asked { IfOk result (λ next. IsNextAsked next kept.request) }
+        ensures handlers { H.meant handlers.new ≡ H.meant handlers.old }
+        ensures fares { Fares V.Versions (failed_by result) self.old.rows.rows self.new.rows.rows }
+        ensures members { self.new.members ≡ self.old.members }
+        ensures me { self.new.me ≡ self.old.me }
+        ensures voter { self.new.voter ≡ self.old.voter }
+        ensures indexed { self.new.indexed ≡ self.old.indexed }
+        ensures unserved { result ≡ Err Unserved → is_open kept.request ≡ false }
+    {
+        let Some(through) = reading.through_of() else {
+            let operation = kept.in_phase(Phase::Reads { group, reading });
+            work.does(Deed {
+                sends: None,
+                end: End::Stays(operation),
+            })?;
+            return Ok(None);
+        };
+        let prefix = self.voter.prefix(&group).0;
+        if is_reached(through, prefix) {
+            let reached = Reached {
+                kept,
+                group,
+                reading,
+                position: through,
+            };
+            let next = self.completes(alloc, handlers, work, reached)?;
+            return Ok(next);
+        }
         let clock = self.leases.now();
-        goes(
+        let deed = seeks(
             alloc,
             &self.members,
-            &self.voter,
             clock,
-            &mut self.rows,
-            handlers,
-            work,
-            reached,
+            kept,
+            group,
+            reading,
+            prefix + 1,
         )?;
+        work.does(deed)?;
+        Ok(None)
+    }
+
+    /// An operation acts once: one whose position is decided ends, and one that reads completes its read, or seeks what is not
+    /// decided. A pump that picks again comes back, to act again in the same step.
+    #[tactic(auto, using(mega_replica::proofs::Fared::fares_here, crate::proofs::Refused::fares_unkept))]
+    fn acts_once<H: QueueHandlers>(
+        &mut self,
+        alloc: Global,
+        handlers: &mut H,
+        work: &mut Work,
+        operation: Operation,
+    ) -> Result<Option<Operation>, ActFault>
+        ensures acted { IfOk result (λ next. (h : Meanings) (now : Now) → V.is_told ≡ true → Means (H.meant handlers.old) h → IsAbout operation → IsAt V.version h self.old now.met now.stored →
+            Acted V.version h self.new work.old work.new now (λ again. acts (setting_of self.old h) again now operation) next) }
+        ensures asked { IfOk result (λ next. IsNextAsked next operation.request) }
+        ensures handlers { H.meant handlers.new ≡ H.meant handlers.old }
+        ensures fares { Fares V.Versions (failed_by result) self.old.rows.rows self.new.rows.rows }
+        ensures members { self.new.members ≡ self.old.members }
+        ensures me { self.new.me ≡ self.old.me }
+        ensures voter { self.new.voter ≡ self.old.voter }
+        ensures indexed { self.new.indexed ≡ self.old.indexed }
+        ensures unserved { result ≡ Err Unserved → is_open operation.request ≡ false }
+    {
+        let (kept, phase) = operation.parts();
+        match phase {
+            Phase::Reads { group, reading } => {
+                let next = self.reads_on(alloc, handlers, work, kept, group, reading)?;
+                Ok(next)
+            }
+            Phase::Proposes {
+                group,
+                position,
+                asked,
+                proposal,
+                promised,
+            } => {
+                let own = Proposing {
+                    group,
+                    position,
+                    asked,
+                    proposal,
+                    promised,
+                };
+                checks(&self.voter, work, kept, own)?;
+                Ok(None)
+            }
+        }
+    }
+
+    /// An operation acts, again and again while it picks again, but at most so often.
+    fn acts_within<H: QueueHandlers>(
+        &mut self,
+        alloc: Global,
+        handlers: &mut H,
+        work: &mut Work,
+        most: usize,
+        operation: Operation,
+    ) -> Result<(), ActFault>
+        ensures acted { OnOk result ((h : Meanings) (now : Now) → V.is_told ≡ true → Means (H.meant handlers.old) h → IsAbout operation → IsAt V.version h self.old now.met now.stored →
+            Acted V.version h self.new work.old work.new now (λ again. acts_within most (setting_of self.old h) now operation) None) }
+        ensures handlers { H.meant handlers.new ≡ H.meant handlers.old }
+        ensures fares { Fares V.Versions (failed_by result) self.old.rows.rows self.new.rows.rows }
+        ensures members { self.new.members ≡ self.old.members }
+        ensures me { self.new.me ≡ self.old.me }
+        ensures voter { self.new.voter ≡ self.old.voter }
+        ensures indexed { self.new.indexed ≡ self.old.indexed }
+        ensures unserved { result ≡ Err Unserved → is_open operation.request ≡ false }
+    {
+        let mut next = operation;
+        for _turn in 0..most {
+            match self.acts_once(alloc, handlers, work, next) {
+                Ok(Some(again)) => next = again,
+                Ok(None) => return Ok(()),
+                Err(fault) => return Err(fault),
+            }
+        }
+        work.does(Deed {
+            sends: None,
+            end: End::Stays(next),
+        })?;
         Ok(())
     }
 
-    /// An operation acts: one whose position is decided ends, and one that reads completes its read, or seeks what is not decided.
-    #[tactic(auto, using(mega_replica::proofs::Fared::fares_here, crate::proofs::Refused::fares_unkept))]
+    /// An operation acts, and a pump again while it picks again: at most as often as there are groups, and two times more.
     pub fn acts<H: QueueHandlers>(
         &mut self,
         alloc: Global,
@@ -192,90 +386,47 @@ impl<R: Records, V: Versions> Replica<R, V> {
         ensures me { self.new.me ≡ self.old.me }
         ensures voter { self.new.voter ≡ self.old.voter }
         ensures indexed { self.new.indexed ≡ self.old.indexed }
-        ensures unbuilt { result ≡ Err Unbuilt → is_open operation.request ≡ false }
+        ensures unserved { result ≡ Err Unserved → is_open operation.request ≡ false }
     {
-        let (kept, phase) = operation.parts();
-        match phase {
-            Phase::Reads { group, reading } => {
-                self.reads_on(alloc, handlers, work, kept, group, reading)?;
+        match self.acts_once(alloc, handlers, work, operation) {
+            Ok(Some(next)) => {
+                self.acts_again(alloc, handlers, work, next)?;
                 Ok(())
             }
-            Phase::Proposes {
-                group,
-                position,
-                asked,
-                proposal,
-                promised,
-            } => {
-                let own = Proposing {
-                    group,
-                    position,
-                    asked,
-                    proposal,
-                    promised,
-                };
-                checks(&self.voter, work, kept, own)?;
-                Ok(())
-            }
+            Ok(None) => Ok(()),
+            Err(fault) => Err(fault),
         }
     }
 
-    /// An operation reads on.
-    #[tactic(auto, using(mega_replica::proofs::Fared::fares_here, crate::proofs::Refused::fares_unkept))]
-    fn reads_on<H: QueueHandlers>(
+    /// A pump that picked again acts again, at most as often as there are groups, and once more.
+    fn acts_again<H: QueueHandlers>(
         &mut self,
         alloc: Global,
         handlers: &mut H,
         work: &mut Work,
-        kept: Kept,
-        group: GroupId,
-        reading: Reading,
+        operation: Operation,
     ) -> Result<(), ActFault>
-        ensures state { OnOk result ((h : Meanings) (now : Now) (again : Now → Open → Now) → V.is_told ≡ true → Means (H.meant handlers.old) h → IsOf kept.request group →
+        ensures acted { OnOk result ((h : Meanings) (now before : Now) → V.is_told ≡ true → Means (H.meant handlers.old) h → IsAbout operation → Tells self.old.voter.logs.kept before.met →
             IsAt V.version h self.old now.met now.stored →
-            IsAt V.version h self.new
-            (reads_on (setting_of self.old h) again now (whole kept (Reads group reading)) group reading).met (reads_on (setting_of self.old h) again now (whole kept (Reads group reading)) group reading).stored) }
-        ensures work { OnOk result ((h : Meanings) (now : Now) (again : Now → Open → Now) → V.is_told ≡ true → Means (H.meant handlers.old) h → IsOf kept.request group →
-            IsAt V.version h self.old now.met now.stored →
-            work.old ≡ work_of now → work.new ≡ work_of (reads_on (setting_of self.old h) again now (whole kept (Reads group reading)) group reading)) }
+            Acted V.version h self.new work.old work.new now (λ again. later (setting_of self.old h) before now operation) None) }
         ensures handlers { H.meant handlers.new ≡ H.meant handlers.old }
         ensures fares { Fares V.Versions (failed_by result) self.old.rows.rows self.new.rows.rows }
         ensures members { self.new.members ≡ self.old.members }
         ensures me { self.new.me ≡ self.old.me }
         ensures voter { self.new.voter ≡ self.old.voter }
         ensures indexed { self.new.indexed ≡ self.old.indexed }
-        ensures unbuilt { result ≡ Err Unbuilt → is_open kept.request ≡ false }
+        ensures unserved { result ≡ Err Unserved → is_open operation.request ≡ false }
     {
-        let Some(through) = reading.through_of() else {
-            let operation = kept.in_phase(Phase::Reads { group, reading });
-            work.does(Deed {
-                sends: None,
-                end: End::Stays(operation),
-            })?;
-            return Ok(());
-        };
-        let prefix = self.voter.prefix(&group).0;
-        if is_reached(through, prefix) {
-            let reached = Reached {
-                kept,
-                group,
-                reading,
-                position: through,
-            };
-            self.completes(alloc, handlers, work, reached)?;
-            return Ok(());
+        match self.voter.groups(alloc) {
+            Ok(groups) => {
+                let most = groups.as_slice().len() + 1;
+                self.acts_within(alloc, handlers, work, most, operation)?;
+                Ok(())
+            }
+            Err(refused) => {
+                drop(operation);
+                Err(refused.into())
+            }
         }
-        let clock = self.leases.now();
-        let deed = seeks(
-            alloc,
-            &self.members,
-            clock,
-            kept,
-            group,
-            reading,
-            prefix + 1,
-        )?;
-        work.does(deed)?;
-        Ok(())
     }
 }

@@ -16,8 +16,8 @@ ghost use Rattle.mega_rules.specs.Steps.{is_current};
 ghost use Rattle.mega_node_laws.specs.About.{IsOf};
 ghost use Rattle.mega_replica.specs.Faring.{Fares};
 ghost use Rattle.mega_replica.specs.Following.{progress_at};
-ghost use Rattle.mega_actions.specs.declared.fault.ActFault.TheVariants.{Unbuilt};
-ghost use Rattle.mega_actions.specs.Built.{group_asked, is_answered, is_at_once, is_built, is_indexed, is_named, mode_asked};
+ghost use Rattle.mega_actions.specs.declared.fault.ActFault.TheVariants.{Unserved};
+ghost use Rattle.mega_actions.specs.Servable.{group_asked, is_answered, is_at_once, is_served, is_indexed, is_named, is_plain, mode_asked};
 ghost use Rattle.mega_actions.specs.Faults.{error_of, failed_by, of_store};
 ghost use Rattle.mega_actions.specs.Showing.{at_once, place_by, reading, shown, told};
 ghost use Rattle.mega_actions.specs.Stands.{Stands, setting};
@@ -28,6 +28,7 @@ use crate::came::is_proposed;
 use crate::fault::ActFault;
 use crate::finding::found_at;
 use crate::outcomes::outcome_at;
+use crate::pumping::is_pump;
 use mega_base::{Copied, GroupId, Items, NoMemory, Position};
 use mega_disk::{Records, StoreError, Versions};
 use mega_operations::Members;
@@ -91,11 +92,19 @@ pub(crate) fn is_indexed(request: &Request) -> bool
     }
 }
 
-/// Whether a request is served: a transaction, a batch of at most 16, a read, a find, or a refresh.
-pub fn is_built(request: &Request) -> bool
-    ensures { result ≡ is_built request.now }
+/// Whether a request is served whose operation looks at one group alone: a transaction, a batch of at most 16, a read,
+/// or a find in a group.
+pub(crate) fn is_plain(request: &Request) -> bool
+    ensures { result ≡ is_plain request.now }
 {
-    is_indexed(request) || (is_proposed(request) || is_answered(request))
+    is_proposed(request) || is_answered(request)
+}
+
+/// Whether a request is served: a transaction, a batch of at most 16, a read, a find, a pump, or a refresh.
+pub fn is_served(request: &Request) -> bool
+    ensures { result ≡ is_served request.now }
+{
+    is_indexed(request) || (is_pump(request) || is_plain(request))
 }
 
 /// Whether a mode asks for current rows.
@@ -166,7 +175,7 @@ fn read_at<V: Versions>(
         read_answer s read.now position seen listed ≡ answer) }
     ensures versions { SameVersions (V.version rows.old) (V.version rows.new) }
     ensures fares { Fares V.Versions (failed_by result) rows.old rows.new }
-    ensures built { result ≡ Err Unbuilt → ⊥ }
+    ensures built { result ≡ Err Unserved → ⊥ }
 {
     let txn = reading(alloc, read)?;
     match outcome_at(alloc, schema, &txn, rows, at) {
@@ -178,7 +187,7 @@ fn read_at<V: Versions>(
 /// The fault that an error of the store is.
 pub(crate) fn fault_by(error: StoreError) -> ActFault
     ensures exact { of_store result ≡ error_of error }
-    ensures built { result ≡ Unbuilt → ⊥ }
+    ensures built { result ≡ Unserved → ⊥ }
 {
     match error {
         StoreError::DiskFault => ActFault::DiskFault,
@@ -202,7 +211,7 @@ fn all_at<V: Versions>(
         read_answer s read.now position seen listed ≡ answer) }
     ensures versions { SameVersions (V.version rows.old) (V.version rows.new) }
     ensures fares { Fares V.Versions (failed_by result) rows.old rows.new }
-    ensures built { result ≡ Err Unbuilt → ⊥ }
+    ensures built { result ≡ Err Unserved → ⊥ }
 {
     match read_all(
         alloc,
@@ -232,7 +241,7 @@ fn shown_at<V: Versions>(
         read_answer s read.now position seen listed ≡ answer) }
     ensures versions { SameVersions (V.version rows.old) (V.version rows.new) }
     ensures fares { Fares V.Versions (failed_by result) rows.old rows.new }
-    ensures built { result ≡ Err Unbuilt → ⊥ }
+    ensures built { result ≡ Err Unserved → ⊥ }
 {
     if is_named(read.rows.as_slice()) {
         let answer = read_at(alloc, schema, read, rows, at, position)?;
@@ -257,7 +266,7 @@ pub(crate) fn answer_at<V: Versions>(
         shown s request.now position seen listed ≡ Some answer) }
     ensures versions { SameVersions (V.version rows.old) (V.version rows.new) }
     ensures fares { Fares V.Versions (failed_by result) rows.old rows.new }
-    ensures unbuilt { result ≡ Err Unbuilt → is_answered request.now ≡ false }
+    ensures unserved { result ≡ Err Unserved → is_answered request.now ≡ false }
 {
     match request {
         Request::Read(read) => {
@@ -266,12 +275,12 @@ pub(crate) fn answer_at<V: Versions>(
         }
         Request::Find(find) => {
             let Some(group) = &find.group else {
-                return Err(ActFault::Unbuilt);
+                return Err(ActFault::Unserved);
             };
             let answer = found_at(alloc, schema, find, group, rows, at, position)?;
             Ok(answer)
         }
-        _ => Err(ActFault::Unbuilt),
+        _ => Err(ActFault::Unserved),
     }
 }
 
@@ -300,15 +309,15 @@ pub(crate) fn answer_now<R: Records, V: Versions>(
     ensures versions { SameVersions (V.version rows.old.rows) (V.version rows.new.rows) }
     ensures progress { rows.new.progress ≡ rows.old.progress }
     ensures fares { Fares V.Versions (failed_by result) rows.old.rows rows.new.rows }
-    ensures unbuilt { result ≡ Err Unbuilt → is_at_once request.now ≡ false }
+    ensures unserved { result ≡ Err Unserved → is_at_once request.now ≡ false }
 {
     let Some(group) = group_asked(request) else {
-        return Err(ActFault::Unbuilt);
+        return Err(ActFault::Unserved);
     };
     let applied = rows.applied(group, &voter.logs).0;
     let prefix = voter.prefix(group).0;
     let Some(at) = place_by(mode_asked(request), applied, prefix) else {
-        return Err(ActFault::Unbuilt);
+        return Err(ActFault::Unserved);
     };
     let schema = &members.cluster().schema;
     let answer = answer_at(alloc, schema, request, &mut rows.rows, at, applied)?;

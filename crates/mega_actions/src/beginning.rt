@@ -10,8 +10,8 @@ ghost use Rattle.mega_node_laws.specs.About.{IsOf};
 ghost use Rattle.mega_rules.specs.Steps.{begins, new_operation};
 ghost use Rattle.mega_replica.specs.Faring.{Fares};
 ghost use Rattle.mega_voter.specs.Telling.{Tells};
-ghost use Rattle.mega_actions.specs.declared.fault.ActFault.TheVariants.{Unbuilt};
-ghost use Rattle.mega_actions.specs.Built.{is_at_once, is_built, is_indexed, is_open};
+ghost use Rattle.mega_actions.specs.declared.fault.ActFault.TheVariants.{Unserved};
+ghost use Rattle.mega_actions.specs.Servable.{is_at_once, is_served, is_indexed, is_plain, is_pump};
 ghost use Rattle.mega_actions.specs.Indexing.{marks_then};
 ghost use Rattle.mega_marks.specs.AreMarked.{AreMarked, IsIndexed};
 ghost use Rattle.mega_actions.specs.Faults.{failed_by};
@@ -23,13 +23,14 @@ use crate::answering::{answer_now, group_asked, is_at_once, is_indexed};
 use crate::deed::{Deed, End};
 use crate::fault::ActFault;
 use crate::indexing::indexed_answer;
+use crate::pumping::{Pumped, is_entering, is_pump, picks};
 use crate::replica::Replica;
 use crate::work::Work;
 use mega_base::{Copied, GroupId, Items, NoMemory, OpId};
 use mega_disk::{Records, Versions};
 use mega_leases::Leases;
 use mega_meanings::QueueHandlers;
-use mega_operations::{Heard, Members, Operation, Phase};
+use mega_operations::{Heard, Kept, Members, Operation, Phase};
 use mega_outcome::Request;
 use mega_read::local_read;
 use mega_voter::Voter;
@@ -59,16 +60,16 @@ fn read_begun<R: Records>(
 
 /// The group that a request reads and writes, where it is served.
 fn group_of(alloc: Global, request: &Request) -> Result<GroupId, ActFault>
-    ensures group { IfOk result (λ group. (is_open request.now ≡ true) × IsOf request.now group) }
+    ensures group { IfOk result (λ group. (is_plain request.now ≡ true) × IsOf request.now group) }
     ensures apart { failed_by result ≡ None }
-    ensures unbuilt { result ≡ Err Unbuilt → is_open request.now ≡ false }
+    ensures unserved { result ≡ Err Unserved → is_plain request.now ≡ false }
 {
     match request {
         Request::Txn(txn) => Ok(txn.group.copy(alloc)?),
         Request::Batch(group, txns) if txns.len() <= 16 => Ok(group.copy(alloc)?),
         _ => match group_asked(request) {
             Some(group) => Ok(group.copy(alloc)?),
-            None => Err(ActFault::Unbuilt),
+            None => Err(ActFault::Unserved),
         },
     }
 }
@@ -116,7 +117,7 @@ impl<R: Records, V: Versions> Replica<R, V> {
         ensures indexed { OnOk result ((h : Meanings) (now : Now) → V.is_told ≡ true →
             IsAt V.version h self.old now.met now.stored → IsIndexed (self.old.members).schema self.old.indexed now.met →
             AreMarked (self.old.members).schema self.new.indexed now.met (marks_then now request)) }
-        ensures unbuilt { result ≡ Err Unbuilt → is_built request ≡ false }
+        ensures unserved { result ≡ Err Unserved → is_served request ≡ false }
     {
         if is_indexed(&request) {
             match self.answers_indexed(alloc, work, op, &request) {
@@ -142,8 +143,70 @@ impl<R: Records, V: Versions> Replica<R, V> {
                 }
             }
         }
+        if is_pump(&request) {
+            self.begins_pump(alloc, handlers, work, op, request)?;
+            return Ok(());
+        }
         self.begins_read(alloc, handlers, work, op, request)?;
         Ok(())
+    }
+
+    /// A pump begins: it picks, and reads the group of that in the same step where that read is local.
+    #[tactic(auto, using(mega_replica::proofs::Fared::fares_here, crate::proofs::Refused::fares_apart))]
+    fn begins_pump<H: QueueHandlers>(
+        &mut self,
+        alloc: Global,
+        handlers: &mut H,
+        work: &mut Work,
+        op: OpId,
+        request: Request,
+    ) -> Result<(), ActFault>
+        ensures state { OnOk result ((h : Meanings) (now : Now) → V.is_told ≡ true → Means (H.meant handlers.old) h → is_pump request ≡ true →
+            IsAt V.version h self.old now.met now.stored →
+            IsAt V.version h self.new
+            (begins (setting_of self.old h) now (new_operation op request (clock_of now.met))).met (begins (setting_of self.old h) now (new_operation op request (clock_of now.met))).stored) }
+        ensures work { OnOk result ((h : Meanings) (now : Now) → V.is_told ≡ true → Means (H.meant handlers.old) h → is_pump request ≡ true →
+            IsAt V.version h self.old now.met now.stored →
+            work.old ≡ work_of now → work.new ≡ work_of (begins (setting_of self.old h) now (new_operation op request (clock_of now.met)))) }
+        ensures handlers { H.meant handlers.new ≡ H.meant handlers.old }
+        ensures fares { Fares V.Versions (failed_by result) self.old.rows.rows self.new.rows.rows }
+        ensures members { self.new.members ≡ self.old.members }
+        ensures me { self.new.me ≡ self.old.me }
+        ensures voter { self.new.voter ≡ self.old.voter }
+        ensures indexed { self.new.indexed ≡ self.old.indexed }
+        ensures unserved { is_pump request ≡ true → result ≡ Err Unserved → ⊥ }
+    {
+        let entering = is_entering(&request);
+        let began = self.leases.now();
+        let visited = Items::new(alloc);
+        let kept = Kept {
+            id: op,
+            request,
+            began,
+            visited,
+            message: None,
+        };
+        let asked = Items::new(alloc);
+        let pumped = picks(
+            alloc,
+            &self.members,
+            &self.voter,
+            &self.leases,
+            &self.rows,
+            kept,
+            asked,
+            entering,
+        )?;
+        match pumped {
+            Pumped::Done(deed) => {
+                work.does(deed)?;
+                Ok(())
+            }
+            Pumped::Again(heard) => {
+                self.acts_in_turn(alloc, handlers, work, heard)?;
+                Ok(())
+            }
+        }
     }
 
     /// An operation that the global indexes answer.
@@ -168,7 +231,7 @@ impl<R: Records, V: Versions> Replica<R, V> {
         ensures indexed { OnOk result ((h : Meanings) (now : Now) → V.is_told ≡ true → is_indexed request.now ≡ true →
             IsAt V.version h self.old now.met now.stored → IsIndexed (self.old.members).schema self.old.indexed now.met →
             AreMarked (self.old.members).schema self.new.indexed now.met (marks_then now request.now)) }
-        ensures unbuilt { result ≡ Err Unbuilt → is_indexed request.now ≡ false }
+        ensures unserved { result ≡ Err Unserved → is_indexed request.now ≡ false }
     {
         let answer = indexed_answer(
             alloc,
@@ -205,7 +268,7 @@ impl<R: Records, V: Versions> Replica<R, V> {
         ensures me { self.new.me ≡ self.old.me }
         ensures voter { self.new.voter ≡ self.old.voter }
         ensures indexed { self.new.indexed ≡ self.old.indexed }
-        ensures unbuilt { result ≡ Err Unbuilt → is_at_once request.now ≡ false }
+        ensures unserved { result ≡ Err Unserved → is_at_once request.now ≡ false }
     {
         let answer = answer_now(alloc, &self.members, &self.voter, &mut self.rows, request)?;
         work.does(Deed {
@@ -238,7 +301,7 @@ impl<R: Records, V: Versions> Replica<R, V> {
         ensures me { self.new.me ≡ self.old.me }
         ensures voter { self.new.voter ≡ self.old.voter }
         ensures indexed { self.new.indexed ≡ self.old.indexed }
-        ensures unbuilt { result ≡ Err Unbuilt → is_open request ≡ false }
+        ensures unserved { result ≡ Err Unserved → is_plain request ≡ false }
     {
         match self.first_read(alloc, op, &request) {
             Ok(first) => {
@@ -271,9 +334,9 @@ impl<R: Records, V: Versions> Replica<R, V> {
         ensures read { IfOk result (λ first. (h : Meanings) (now : Now) (o : Open) → o.id ≡ op → o.visited ≡ [] → Tells self.now.voter.logs.kept now.met →
             TellsLeases self.now.members self.now.me self.now.leases now.met → first.made ≡ read_begun (setting_of self.now h) now o first.group []) }
         ensures visited { IfOk result (λ first. first.visited ≡ first.group ∷ []) }
-        ensures group { IfOk result (λ first. (is_open request.now ≡ true) × IsOf request.now first.group) }
+        ensures group { IfOk result (λ first. (is_plain request.now ≡ true) × IsOf request.now first.group) }
         ensures apart { failed_by result ≡ None }
-        ensures unbuilt { result ≡ Err Unbuilt → is_open request.now ≡ false }
+        ensures unserved { result ≡ Err Unserved → is_plain request.now ≡ false }
     {
         let group = group_of(alloc, request)?;
         let visited = visited_by(alloc, &group)?;

@@ -3,8 +3,8 @@ ghost use Rattle.std.specs.Prelude.{◌≡◌, IfOk, Some, true, false, Err};
 ghost use Rattle.mega_disk.specs.VersionMaps.{SameVersions};
 ghost use Rattle.mega_outcome.specs.Answers.{rows_at};
 ghost use Rattle.mega_replica.specs.Faring.{Fares};
-ghost use Rattle.mega_actions.specs.declared.fault.ActFault.TheVariants.{Unbuilt};
-ghost use Rattle.mega_actions.specs.Built.{is_proposed};
+ghost use Rattle.mega_actions.specs.declared.fault.ActFault.TheVariants.{Unserved};
+ghost use Rattle.mega_actions.specs.Servable.{is_proposed};
 ghost use Rattle.mega_actions.specs.Coming.{comes};
 ghost use Rattle.mega_actions.specs.Faults.{failed_by};
 
@@ -47,7 +47,7 @@ pub(crate) fn comes_to<V: Versions>(
     ensures exact { IfOk result (λ came. V.is_told ≡ true → comes schema.now request.now (rows_at (V.version rows.old) position) ≡ Some came) }
     ensures versions { SameVersions (V.version rows.old) (V.version rows.new) }
     ensures fares { Fares V.Versions (failed_by result) rows.old rows.new }
-    ensures unbuilt { result ≡ Err Unbuilt → is_proposed request.now ≡ false }
+    ensures unserved { result ≡ Err Unserved → is_proposed request.now ≡ false }
 {
     match request {
         Request::Txn(txn) => {
@@ -57,11 +57,11 @@ pub(crate) fn comes_to<V: Versions>(
         Request::Batch(group, txns) => {
             let txns = txns.as_slice();
             if txns.len() > 16 {
-                return Err(ActFault::Unbuilt);
+                return Err(ActFault::Unserved);
             }
             let came = batch_at(alloc, schema, group, txns, rows, position)?;
             Ok(Came::Batched(came))
         }
-        _ => Err(ActFault::Unbuilt),
+        _ => Err(ActFault::Unserved),
     }
 }

@@ -1,7 +1,6 @@
 //! A read completes: its entries are stored, and its group is made valid where its epoch serves.
 ghost use Rattle.std.specs.Prelude.{◌≡◌, ◌≤◌, IfOk, OnOk, Err, true, false};
 ghost use Rattle.mega_handler.specs.Named.{Meanings};
-ghost use Rattle.mega_meanings.specs.Means.{Means};
 ghost use Rattle.mega_rules.specs.Logs.{log_of};
 ghost use Rattle.mega_node_laws.specs.About.{IsOf};
 ghost use Rattle.mega_leases.specs.declared.leases.Leases.{Leases as LeasesKept};
@@ -14,8 +13,8 @@ ghost use Rattle.mega_replica.specs.Faring.{Fares};
 ghost use Rattle.mega_replica.specs.Following.{Follows, progress_at};
 ghost use Rattle.mega_voter.specs.Telling.{Tells};
 ghost use Rattle.mega_actions.specs.Completed.{completed, stored_through, valid_if};
-ghost use Rattle.mega_actions.specs.declared.fault.ActFault.TheVariants.{Unbuilt};
-ghost use Rattle.mega_actions.specs.Built.{is_open};
+ghost use Rattle.mega_actions.specs.declared.fault.ActFault.TheVariants.{Unserved};
+ghost use Rattle.mega_actions.specs.Servable.{is_plain};
 ghost use Rattle.mega_actions.specs.Faults.{failed_by};
 ghost use Rattle.mega_actions.specs.Reaching.{operation_of};
 ghost use Rattle.mega_actions.specs.Stands.{Stands, setting};
@@ -27,7 +26,6 @@ use crate::work::Work;
 use mega_base::{Epoch, GroupId, NoMemory, Position};
 use mega_disk::{Records, Versions};
 use mega_leases::Leases;
-use mega_meanings::QueueHandlers;
 use mega_operations::Members;
 use mega_read::Reading;
 use mega_replica::StoredRows;
@@ -46,7 +44,7 @@ fn stores_through<R: Records, V: Versions>(
         Follows (V.version rows.old.rows) (progress_at rows.old.progress) (log_of now.met) now.stored →
         Follows (V.version rows.new.rows) (progress_at rows.new.progress) (log_of now.met) (stored_through now group.now position).stored) }
     ensures fares { Fares V.Versions (failed_by result) rows.old.rows rows.new.rows }
-    ensures built { result ≡ Err Unbuilt → ⊥ }
+    ensures built { result ≡ Err Unserved → ⊥ }
 {
     match rows.apply_through(alloc, group, &voter.logs, Position(position)) {
         Ok(()) => Ok(()),
@@ -92,7 +90,7 @@ fn completes_read<R: Records, V: Versions>(
         Stands (setting c me h) voter.now.logs.kept leases.new (V.version rows.new.rows) (progress_at rows.new.progress)
         (completed now group.now position made).met (completed now group.now position made).stored) }
     ensures fares { Fares V.Versions (failed_by result) rows.old.rows rows.new.rows }
-    ensures built { result ≡ Err Unbuilt → ⊥ }
+    ensures built { result ≡ Err Unserved → ⊥ }
 {
     stores_through(alloc, voter, rows, group, position)?;
     let made = validates(leases, group, position, reading.noted)?;
@@ -118,7 +116,7 @@ pub(crate) fn reads_through<R: Records, V: Versions>(
         Stands (setting c me h) voter.now.logs.kept leases.old (V.version rows.old.rows) (progress_at rows.old.progress) now.met now.stored →
         work.old ≡ work_of now → work.new ≡ work_of (completes_read (setting c me h) now reached.now.group reached.now.reading reached.now.position)) }
     ensures fares { Fares V.Versions (failed_by result) rows.old.rows rows.new.rows }
-    ensures built { result ≡ Err Unbuilt → ⊥ }
+    ensures built { result ≡ Err Unserved → ⊥ }
 {
     let made = completes_read(
         alloc,
@@ -135,29 +133,27 @@ pub(crate) fn reads_through<R: Records, V: Versions>(
 
 /// An operation whose read is complete goes on to what it asks.
 #[tactic(auto, using(crate::proofs::Refused::fares_unkept))]
-pub(crate) fn goes<R: Records, V: Versions, H: QueueHandlers>(
+pub(crate) fn goes<R: Records, V: Versions>(
     alloc: Global,
     members: &Members,
     voter: &Voter<R>,
     clock: u64,
     rows: &mut StoredRows<V>,
-    handlers: &mut H,
     work: &mut Work,
     reached: Reached,
 ) -> Result<(), ActFault>
-    ensures state { OnOk result ((me : _) (h : Meanings) (leases : LeasesKept) (now : Now) (again : Now → Open → Now) → V.is_told ≡ true → Means (H.meant handlers.old) h → IsOf reached.kept.request reached.group →
+    ensures state { OnOk result ((me : _) (h : Meanings) (leases : LeasesKept) (now : Now) (again : Now → Open → Now) → V.is_told ≡ true → IsOf reached.kept.request reached.group →
         reached.position ≤ applied (log_of now.met reached.group) (now.stored reached.group) → clock ≡ clock_of now.met →
         Stands (setting members.now me h) voter.now.logs.kept leases (V.version rows.old.rows) (progress_at rows.old.progress) now.met now.stored →
         Stands (setting members.now me h) voter.now.logs.kept leases (V.version rows.new.rows) (progress_at rows.new.progress)
         (finishes (setting members.now me h) again now (operation_of reached) reached.group reached.reading reached.position).met
         (finishes (setting members.now me h) again now (operation_of reached) reached.group reached.reading reached.position).stored) }
-    ensures work { OnOk result ((me : _) (h : Meanings) (leases : LeasesKept) (now : Now) (again : Now → Open → Now) → V.is_told ≡ true → Means (H.meant handlers.old) h → IsOf reached.kept.request reached.group →
+    ensures work { OnOk result ((me : _) (h : Meanings) (leases : LeasesKept) (now : Now) (again : Now → Open → Now) → V.is_told ≡ true → IsOf reached.kept.request reached.group →
         reached.position ≤ applied (log_of now.met reached.group) (now.stored reached.group) → clock ≡ clock_of now.met →
         Stands (setting members.now me h) voter.now.logs.kept leases (V.version rows.old.rows) (progress_at rows.old.progress) now.met now.stored →
         work.old ≡ work_of now → work.new ≡ work_of (finishes (setting members.now me h) again now (operation_of reached) reached.group reached.reading reached.position)) }
-    ensures handlers { H.meant handlers.new ≡ H.meant handlers.old }
     ensures fares { Fares V.Versions (failed_by result) rows.old.rows rows.new.rows }
-    ensures unbuilt { result ≡ Err Unbuilt → is_open reached.kept.request ≡ false }
+    ensures unserved { result ≡ Err Unserved → is_plain reached.kept.request ≡ false }
 {
     let deed = reached.finishes(alloc, members, voter, clock, &mut rows.rows)?;
     work.does(deed)?;

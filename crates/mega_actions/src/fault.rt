@@ -12,8 +12,8 @@ pub enum ActFault {
     Full { length: u64 },
     /// The bytes that were read of this run are none of the format.
     BadRecord { number: u64 },
-    /// What was asked is not served yet.
-    Unbuilt,
+    /// A batch of more than 16 transactions was asked for.
+    Unserved,
     /// An allocation was refused.
     NoMemory,
 }

@@ -5,7 +5,7 @@ ghost use Rattle.mega_index.specs.Rows.{Listed};
 ghost use Rattle.mega_outcome.specs.Answers.{rows_at};
 ghost use Rattle.mega_rules.specs.Finding.{local_found};
 ghost use Rattle.mega_replica.specs.Faring.{Fares};
-ghost use Rattle.mega_actions.specs.declared.fault.ActFault.TheVariants.{Unbuilt};
+ghost use Rattle.mega_actions.specs.declared.fault.ActFault.TheVariants.{Unserved};
 ghost use Rattle.mega_actions.specs.Faults.{failed_by};
 ghost use Rattle.mega_view.specs.Small.{IsSmall};
 ghost use Rattle.mega_view.specs.Shows.{Shows};
@@ -34,7 +34,7 @@ pub(crate) fn found_at<V: Versions>(
         answer ≡ local_found schema.now find.now position listed) }
     ensures versions { SameVersions (V.version rows.old) (V.version rows.new) }
     ensures fares { Fares V.Versions (failed_by result) rows.old rows.new }
-    ensures built { result ≡ Err Unbuilt → ⊥ }
+    ensures built { result ≡ Err Unserved → ⊥ }
 {
     let marks = mark_at(alloc, group, position)?;
     match find_all(

@@ -8,8 +8,8 @@ ghost use Rattle.mega_rules.specs.Operations.{Now, Operation};
 ghost use Rattle.mega_rules.specs.Acting.{finishes};
 ghost use Rattle.mega_replica.specs.Faring.{Fares};
 ghost use Rattle.mega_voter.specs.Telling.{Tells};
-ghost use Rattle.mega_actions.specs.declared.fault.ActFault.TheVariants.{Unbuilt};
-ghost use Rattle.mega_actions.specs.Built.{is_answered, is_open, is_proposed};
+ghost use Rattle.mega_actions.specs.declared.fault.ActFault.TheVariants.{Unserved};
+ghost use Rattle.mega_actions.specs.Servable.{is_answered, is_plain, is_proposed};
 ghost use Rattle.mega_actions.specs.Coming.{sealed_by};
 ghost use Rattle.mega_actions.specs.Deeds.{does};
 ghost use Rattle.mega_actions.specs.Faults.{failed_by};
@@ -30,7 +30,7 @@ use mega_voter::Voter;
 use std::alloc::Global;
 
 /// Whether a log has reached its limit at a position.
-fn is_limit(members: &Members, position: u64) -> bool
+pub(crate) fn is_limit(members: &Members, position: u64) -> bool
     ensures exact { result ≡ nat_le (members.now.limit).0 position }
     ensures room { result ≡ false → position + 1 < 2 ^ 64 }
 {
@@ -53,7 +53,7 @@ impl Reached {
             does now deed ≡ finishes (setting members.now me h) again now (operation_of self) self.group self.reading self.position) }
         ensures versions { SameVersions (V.version rows.old) (V.version rows.new) }
         ensures fares { Fares V.Versions (failed_by result) rows.old rows.new }
-        ensures unbuilt { result ≡ Err Unbuilt → is_open self.kept.request ≡ false }
+        ensures unserved { result ≡ Err Unserved → is_plain self.kept.request ≡ false }
     {
         if is_answered(&self.kept.request) {
             let deed = self.answers(alloc, members, rows)?;
@@ -75,7 +75,7 @@ impl Reached {
             does now deed ≡ finishes (setting members.now me h) again now (operation_of self) self.group self.reading self.position) }
         ensures versions { SameVersions (V.version rows.old) (V.version rows.new) }
         ensures fares { Fares V.Versions (failed_by result) rows.old rows.new }
-        ensures unbuilt { result ≡ Err Unbuilt → is_answered self.kept.request ≡ false }
+        ensures unserved { result ≡ Err Unserved → is_answered self.kept.request ≡ false }
     {
         let schema = &members.cluster().schema;
         let position = self.position;
@@ -104,11 +104,11 @@ impl Reached {
             does now deed ≡ finishes (setting members.now me h) again now (operation_of self) self.group self.reading self.position) }
         ensures versions { SameVersions (V.version rows.old) (V.version rows.new) }
         ensures fares { Fares V.Versions (failed_by result) rows.old rows.new }
-        ensures unbuilt { result ≡ Err Unbuilt → is_proposed self.kept.request ≡ false }
+        ensures unserved { result ≡ Err Unserved → is_proposed self.kept.request ≡ false }
     {
         if !is_proposed(&self.kept.request) {
             drop(self);
-            return Err(ActFault::Unbuilt);
+            return Err(ActFault::Unserved);
         }
         if is_limit(members, self.position) {
             let position = Position(self.position);

@@ -7,8 +7,8 @@ ghost use Rattle.mega_rules.specs.Operations.{Now};
 ghost use Rattle.mega_voter.specs.Telling.{Tells};
 ghost use Rattle.mega_view.specs.Small.{IsSmall};
 ghost use Rattle.mega_marks.specs.AreMarked.{AreMarked, IsIndexed};
-ghost use Rattle.mega_actions.specs.declared.fault.ActFault.TheVariants.{Unbuilt};
-ghost use Rattle.mega_actions.specs.Built.{is_indexed};
+ghost use Rattle.mega_actions.specs.declared.fault.ActFault.TheVariants.{Unserved};
+ghost use Rattle.mega_actions.specs.Servable.{is_indexed};
 ghost use Rattle.mega_actions.specs.Faults.{failed_by};
 ghost use Rattle.mega_actions.specs.Indexing.{by_index, marks_then};
 
@@ -35,7 +35,7 @@ pub(crate) fn indexed_answer<R: Records, V: Versions>(
     ensures marked { OnOk result ((now : Now) → Tells voter.now.logs.kept now.met → Follows (V.version rows.now.rows) (progress_at rows.now.progress) (log_of now.met) now.stored →
         IsIndexed (members.now).schema indexed.old now.met → AreMarked (members.now).schema indexed.new now.met (marks_then now request.now)) }
     ensures apart { failed_by result ≡ None }
-    ensures unbuilt { result ≡ Err Unbuilt → is_indexed request.now ≡ false }
+    ensures unserved { result ≡ Err Unserved → is_indexed request.now ≡ false }
 {
     let schema = &members.cluster().schema;
     match request {
@@ -47,6 +47,6 @@ pub(crate) fn indexed_answer<R: Records, V: Versions>(
             let answer = indexed.find(alloc, schema, find)?;
             Ok(answer)
         }
-        _ => Err(ActFault::Unbuilt),
+        _ => Err(ActFault::Unserved),
     }
 }

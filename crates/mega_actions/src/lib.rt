@@ -15,15 +15,17 @@ mod finishing;
 mod indexing;
 mod outcomes;
 mod proposing;
+mod pumping;
 mod reached;
 mod replica;
 mod turning;
 mod work;
 
-pub use answering::is_built;
+pub use answering::is_served;
 pub use came::Came;
 pub use deed::{Deed, End};
 pub use fault::ActFault;
+pub use pumping::{Pumped, is_pump};
 pub use reached::Reached;
 pub use replica::Replica;
 pub use work::{Answered, Valid, Work};

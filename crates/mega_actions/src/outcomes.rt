@@ -4,7 +4,7 @@ ghost use Rattle.mega_disk.specs.VersionMaps.{SameVersions};
 ghost use Rattle.mega_outcome.specs.Answers.{rows_at};
 ghost use Rattle.mega_outcome.specs.Outcome.{batch_outcome, outcome};
 ghost use Rattle.mega_replica.specs.Faring.{Fares};
-ghost use Rattle.mega_actions.specs.declared.fault.ActFault.TheVariants.{Unbuilt};
+ghost use Rattle.mega_actions.specs.declared.fault.ActFault.TheVariants.{Unserved};
 ghost use Rattle.mega_actions.specs.Faults.{failed_by, fault_of};
 
 use crate::fault::ActFault;
@@ -17,7 +17,7 @@ use std::alloc::Global;
 /// The fault that a refusal is, where it tells of the store or of memory.
 fn fault_of(turn: Turn) -> Option<ActFault>
     ensures exact { result ≡ fault_of turn }
-    ensures built { result ≡ Some Unbuilt → ⊥ }
+    ensures built { result ≡ Some Unserved → ⊥ }
 {
     match turn {
         Turn::DiskFault => Some(ActFault::DiskFault),
@@ -39,7 +39,7 @@ pub(crate) fn outcome_at<V: Versions>(
     ensures exact { IfOk result (λ came. V.is_told ≡ true → came ≡ outcome schema.now txn.now (rows_at (V.version rows.old) position)) }
     ensures versions { SameVersions (V.version rows.old) (V.version rows.new) }
     ensures fares { Fares V.Versions (failed_by result) rows.old rows.new }
-    ensures built { result ≡ Err Unbuilt → ⊥ }
+    ensures built { result ≡ Err Unserved → ⊥ }
 {
     match run(alloc, schema, txn, rows, Position(position)) {
         Ok(done) => Ok(Ok(done)),
@@ -63,7 +63,7 @@ pub(crate) fn batch_at<V: Versions>(
     ensures exact { IfOk result (λ came. V.is_told ≡ true → came ≡ batch_outcome schema.now group.now txns.now (rows_at (V.version rows.old) position)) }
     ensures versions { SameVersions (V.version rows.old) (V.version rows.new) }
     ensures fares { Fares V.Versions (failed_by result) rows.old rows.new }
-    ensures built { result ≡ Err Unbuilt → ⊥ }
+    ensures built { result ≡ Err Unserved → ⊥ }
 {
     match run_all(alloc, schema, group, txns, rows, Position(position)) {
         Ok(batch) => Ok(batch),

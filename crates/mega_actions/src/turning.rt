@@ -6,11 +6,11 @@ ghost use Rattle.mega_node_laws.specs.About.{IsAbout};
 ghost use Rattle.mega_rules.specs.Operations.{Now};
 ghost use Rattle.mega_rules.specs.Steps.{acts_in_turn, all_act, ticked};
 ghost use Rattle.mega_replica.specs.Faring.{Fares};
-ghost use Rattle.mega_actions.specs.declared.fault.ActFault.TheVariants.{Unbuilt};
-ghost use Rattle.mega_actions.specs.Built.{is_open};
+ghost use Rattle.mega_actions.specs.declared.fault.ActFault.TheVariants.{Unserved};
+ghost use Rattle.mega_actions.specs.Servable.{is_open};
 ghost use Rattle.mega_actions.specs.Faults.{failed_by};
 ghost use Rattle.mega_actions.specs.IsAt.{IsAt, setting_of};
-ghost use Rattle.mega_actions.specs.Turns.{IsBuilt, IsBuiltHeard, IsHeardAbout};
+ghost use Rattle.mega_actions.specs.Turns.{IsServable, IsServableHeard, IsHeardAbout};
 ghost use Rattle.mega_actions.specs.Working.{work_of};
 
 use crate::deed::{Deed, End};
@@ -46,7 +46,7 @@ impl<R: Records, V: Versions> Replica<R, V> {
         ensures me { self.new.me ≡ self.old.me }
         ensures voter { self.new.voter ≡ self.old.voter }
         ensures indexed { self.new.indexed ≡ self.old.indexed }
-        ensures unbuilt { result ≡ Err Unbuilt → is_open heard.operation.request ≡ false }
+        ensures unserved { result ≡ Err Unserved → is_open heard.operation.request ≡ false }
     {
         let Heard { operation, sends } = heard;
         match work.says(Some(sends)) {
@@ -83,7 +83,7 @@ impl<R: Records, V: Versions> Replica<R, V> {
         ensures me { self.new.me ≡ self.old.me }
         ensures voter { self.new.voter ≡ self.old.voter }
         ensures indexed { self.new.indexed ≡ self.old.indexed }
-        ensures unbuilt { result ≡ Err Unbuilt → All IsBuiltHeard heard → ⊥ }
+        ensures unserved { result ≡ Err Unserved → All IsServableHeard heard → ⊥ }
     {
         for one in heard.into_vec() {
             self.acts_in_turn(alloc, handlers, work, one)?;
@@ -114,7 +114,7 @@ impl<R: Records, V: Versions> Replica<R, V> {
         ensures me { self.new.me ≡ self.old.me }
         ensures voter { self.new.voter ≡ self.old.voter }
         ensures indexed { self.new.indexed ≡ self.old.indexed }
-        ensures unbuilt { result ≡ Err Unbuilt → is_open operation.request ≡ false }
+        ensures unserved { result ≡ Err Unserved → is_open operation.request ≡ false }
     {
         if operation.is_out(&self.members, clock) {
             let answer = operation.last_answer();
@@ -154,7 +154,7 @@ impl<R: Records, V: Versions> Replica<R, V> {
         ensures me { self.new.me ≡ self.old.me }
         ensures voter { self.new.voter ≡ self.old.voter }
         ensures indexed { self.new.indexed ≡ self.old.indexed }
-        ensures unbuilt { result ≡ Err Unbuilt → All IsBuilt operations → ⊥ }
+        ensures unserved { result ≡ Err Unserved → All IsServable operations → ⊥ }
     {
         for operation in operations.into_vec() {
             self.ticked(alloc, handlers, work, clock, operation)?;

@@ -25,6 +25,7 @@ use Rattle.mega_replica.specs.declared.progress.Progress.{Progress}
 use Rattle.mega_replica.specs.Applying.{after_read, writes_of, writes_through}
 use Rattle.mega_replica.specs.Following.{Follows}
 use Rattle.mega_replica.specs.Stored.{entries_from, log_in, stored_with}
+use Rattle.mega_replica.proofs.Places.{place_total}
 use Rattle.mega_rules.specs.Clock.{begun_of, last_number}
 use Rattle.mega_rules.specs.Locks.{last_grant}
 use Rattle.mega_rules.specs.Logs.{groups_of, log_of, prefix_of}
@@ -43,10 +44,10 @@ use Rattle.mega_node_laws.proofs.Logs.{log_after, log_is}
 use Rattle.mega_marks.specs.declared.indexed.Indexed.{Indexed}
 use Rattle.mega_marks.specs.AreMarked.{IsIndexed}
 use Rattle.mega_actions.specs.Stands.{setting}
-use Rattle.mega_actions.specs.Turns.{IsBuilt}
+use Rattle.mega_actions.specs.Turns.{IsServable}
 use Rattle.mega_core.specs.Represents.{Represents}
 use Rattle.mega_view.specs.Small.{IsSmall}
-use Rattle.mega_core.specs.Restarting.{applied_at_start}
+use Rattle.mega_core.specs.Restarting.{HaveFollowed, applied_at_start}
 use Rattle.mega_core.proofs.Alike.{IsApart, all_apart_alike, alike_tells}
 use Rattle.mega_core.proofs.Groups.{has, no_log}
 use Rattle.mega_core.proofs.Silent.{IsMute, IsQuiet, mute_begun, mute_told, mute_undecided}
@@ -114,13 +115,20 @@ pub record AppliedSo (version : Versions) (progress : GroupId → Progress) (met
   pub few : (group : GroupId) → now group ≤ apply_all met group
   pub rest : (group : GroupId) → has group left ≡ false → now group ≡ apply_all met group
 
-pub applied_first : (version : Versions) (progress : GroupId → Progress) (met : List Met) → Follows version progress (log_of met) (λ group. 0) → AppliedSo version progress met (groups_of met)
-applied_first version progress met follows = record {
-  now = λ group. 0;
+-- no more is stored than is decided
+few_stored : (version : Versions) (progress : GroupId → Progress) (met : List Met) (stored : GroupId → ℕ) → Follows version progress (log_of met) stored → (group : GroupId) → stored group ≤ apply_all met group
+few_stored version progress met stored follows group = subst (λ n. n ≤ apply_all met group) (sym (follows.counts group)) (place_total (progress group) (log_of met group) (follows.places group))
+
+pub applied_first : (version : Versions) (progress : GroupId → Progress) (met : List Met) (stored : GroupId → ℕ) → Follows version progress (log_of met) stored → AppliedSo version progress met (groups_of met)
+applied_first version progress met stored follows = record {
+  now = stored;
   follows = follows;
-  few = λ group. omega arith;
-  rest = λ group none. sym (ap (λ (log : List Content). length (writes_of log)) (no_log met group none));
+  few = few_stored version progress met stored follows;
+  rest = λ group none. all_of group (ap (λ (log : List Content). length (writes_of log)) (no_log met group none)) (few_stored version progress met stored follows group);
 }
+  where
+    all_of : (group : GroupId) → apply_all met group ≡ 0 → stored group ≤ apply_all met group → stored group ≡ apply_all met group
+    all_of group nothing few = omega arith
 
 pub applied_next : (version : Versions) (progress : GroupId → Progress) (version2 : Versions) (progress2 : GroupId → Progress) (met : List Met) (one : GroupId) (left : List GroupId)
     → ((counts : GroupId → ℕ) → Follows version progress (log_of met) counts → Follows version2 progress2 (log_of met) (stored_with counts one (max (counts one) (apply_all met one))))
@@ -187,6 +195,15 @@ logs_beside kept starts met owed are few recalls group =
     goes : GoesOn (StartItem ∷ []) starts (onto owed met) (onto owed (Starts (starts + 1) ∷ met))
     goes = (start_goes_on starts met owed are few recalls.later recalls.honest).0
 
+-- rows that follow the logs of what was met and is owed follow them at the start too
+pub followed_on : (c : Cluster) (me : ℕ) (version : Versions) (progress : GroupId → Progress) (kept : Kept) (starts : ℕ) (met owed : List Met)
+    → AreOwed owed met → starts < 4294967295 → Recalls kept starts (onto owed met) → HaveFollowed c me version progress (onto owed met) → HaveFollowed c me version progress (onto owed (Starts (starts + 1) ∷ met))
+followed_on c me version progress kept starts met owed are few recalls have = record {
+  stored = have.stored;
+  follows = subst (λ (log : GroupId → List Content). Follows version progress log have.stored) (λ i group. sym (logs_beside kept starts met owed (owed_no_start owed met are) few recalls group) i) have.follows;
+  bare = have.bare;
+}
+
 -- ---- the node is that of the rules
 pub restarted : (c : Cluster) (me : ℕ) (h : Meanings) (old kept : Kept) (leases : Leases) (indexed : Indexed) (version : Versions) (progress : GroupId → Progress) (starts : ℕ) (met owed : List Met)
     → is_node c me ≡ true → IsSmall c.schema → AreOwed owed met → starts < 4294967295 → Recalls old starts (onto owed met) → Tells kept (onto owed (Starts (starts + 1) ∷ met))
@@ -203,7 +220,7 @@ restarted c me h old kept leases indexed version progress starts met owed member
   opened = refl;
   begun_is = sym (ap (λ n. min n last_number) begun);
   about = All-nil IsAbout;
-  built = All-nil IsBuilt;
+  built = All-nil IsServable;
 }
   where
     now : List Met

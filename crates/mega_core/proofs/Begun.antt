@@ -28,9 +28,9 @@ use Rattle.mega_rules.specs.Finding.{refreshed_marks}
 use Rattle.mega_marks.specs.declared.indexed.Indexed.{Indexed}
 use Rattle.mega_marks.specs.AreMarked.{AreMarked, IsIndexed}
 use Rattle.mega_marks.proofs.Growing.{marked_after}
-use Rattle.mega_actions.specs.Built.{is_built}
+use Rattle.mega_actions.specs.Servable.{is_served}
 use Rattle.mega_actions.specs.Stands.{Stands}
-use Rattle.mega_actions.specs.Turns.{IsBuilt}
+use Rattle.mega_actions.specs.Turns.{IsServable}
 use Rattle.mega_actions.specs.Working.{work_of}
 use Rattle.mega_actions.specs.declared.work.Work.{Work}
 use Rattle.mega_core.specs.Acted.{Acted, HasActed, IsEnd, IsValidate, ended}
@@ -82,7 +82,7 @@ module _ (s : Setting) (node : Node) (request : Request) (text : List ℕ) where
   pub begun_acts : {indexed indexed2 : Indexed} (kept kept2 : Kept) (leases leases2 : Leases) (version version2 : Versions) (progress progress2 : GroupId → Progress) (open_ones : List Operation) (begun : ℕ) (t : Setting)
       (op : OpId) (refused : Option Answer) (before work : Work)
       → Represents s kept leases indexed version progress open_ones begun node → HasOwnRows s.cluster.schema (log_of (own ∷ node.met))
-      → t ≡ s → kept2 ≡ kept → op ≡ op_of s node.met → refused ≡ refusal s node request → before ≡ work_of (at_begin s node text) → (refused ≡ None → is_built request ≡ true)
+      → t ≡ s → kept2 ≡ kept → op ≡ op_of s node.met → refused ≡ refusal s node request → before ≡ work_of (at_begin s node text) → (refused ≡ None → is_served request ≡ true)
       → Standing kept leases version progress t kept2 leases2 version2 progress2 op refused → Working kept leases indexed version progress before work op refused
       → Marking kept leases indexed indexed2 version progress refused
       → HasActed t kept2 leases2 indexed2 version2 progress2 op.number work (own ∷ node.met) (has_begun s node request text)
@@ -100,7 +100,7 @@ module _ (s : Setting) (node : Node) (request : Request) (text : List ℕ) where
             (subst (AreMarked s.cluster.schema indexed2 (own ∷ node.met)) (sym (begun_marks s (at_begin s node text) o (refusal s node request) (refusal_plain s node request) refl))
             ((coe 0 1 (i. Marking kept leases indexed indexed2 version progress (refused_is i)) marks) (at_begin s node text) start marked));
         acted = begun_acted s (own ∷ node.met) (at_begin s node text) o (refusal s node request) (first_acted kept leases version progress open_ones begun h);
-        built = begun_served s (at_begin s node text) o (refusal s node request) (λ none. built (refused_is ∙ none)) (subst (All IsBuilt) (sym h.opened) h.built);
+        built = begun_served s (at_begin s node text) o (refusal s node request) (λ none. built (refused_is ∙ none)) (subst (All IsServable) (sym h.opened) h.built);
         begun_is = ap (λ (one : OpId). one.number) op_is;
         work_is = (coe 0 1 (i. Working kept leases indexed version progress before work (op_is i) (refused_is i)) works) (at_begin s node text) start marked before_is;
       }

@@ -26,7 +26,7 @@ use Rattle.mega_rules.specs.Finding.{refreshed_marks}
 use Rattle.mega_marks.specs.declared.indexed.Indexed.{Indexed}
 use Rattle.mega_marks.specs.AreMarked.{AreMarked}
 use Rattle.mega_actions.specs.Stands.{Stands}
-use Rattle.mega_actions.specs.Turns.{IsBuilt}
+use Rattle.mega_actions.specs.Turns.{IsServable}
 use Rattle.mega_actions.specs.Working.{work_of}
 use Rattle.mega_actions.specs.declared.work.Work.{Work}
 use Rattle.mega_core.specs.Acted.{HasActed, IsEnd, IsValidate, ended}
@@ -80,7 +80,7 @@ module _ (s : Setting) (node : Node) (now : ℕ) where
   tick_acts {indexed0} {indexed2} t1 t2 kept0 kept kept2 leases0 leases2 version0 version2 progress0 progress2 open_ones begun work operations h opened t1_is t2_is kept_is indexed_is stays tells stands worked =
       let after = coe 0 1 (i. Stands t2 kept2 leases2 version2 progress2 (fold (ticked (t1_is i) now) ticking_from (opened i)).met (fold (ticked (t1_is i) now) ticking_from (opened i)).stored) stands in
       let about = subst (All IsAbout) (sym h.opened) h.about in
-      let built = subst (All IsBuilt) (sym h.opened) h.built in
+      let built = subst (All IsServable) (sym h.opened) h.built in
       record {
         kind = subst (λ (one : Setting). FitsKind one.cluster one.me (has_ticked s node now).kept (has_ticked s node now).stored) (sym (t2_is ∙ t1_is)) (tick_fits s node now (subst (λ (os : List Operation). FitsKind s.cluster s.me os node.stored) (sym h.opened) h.kind));
         tells = subst (λ (one : Kept). Tells one (acted_on s node (Tick now))) (sym kept_is) tells;
@@ -90,7 +90,7 @@ module _ (s : Setting) (node : Node) (now : ℕ) where
             (acted_marked s.cluster.schema indexed0 node (Ticks now) (lease_notes s node.met now) (lapse_notes s node.met now) (has_ticked s node now).answers refl
             (leases_unshown s node.met now) (lapses_unshown s node.met now) (all_ticked_it s now node.open_operations ticking_from refl) h.marked);
         acted = all_ticked_acted s (acted_on s node (Tick now)) now node.open_operations ticking_from about (record { met_is = refl; valid = All-nil IsValidate; answers = All-nil IsEnd; about = All-nil IsAbout });
-        built = all_ticked_served s now node.open_operations ticking_from built (All-nil IsBuilt);
+        built = all_ticked_served s now node.open_operations ticking_from built (All-nil IsServable);
         begun_is = h.begun_is ∙ ap (λ (n : ℕ). min n last_number) (sym stays);
         work_is = worked ∙ (λ i. work_of (fold (ticked (t1_is i) now) ticking_from (opened i)));
       }

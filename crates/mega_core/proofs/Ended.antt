@@ -1,5 +1,5 @@
 -- A step that ends: what is kept represents the node of the rules then.
-use Rattle.std.proofs.Common.{◌≡◌, ℕ, min, List, [], ◌∷◌, ◌++◌, map, sym, ap, subst, ◌∙◌}
+use Rattle.std.proofs.Common.{◌≡◌, ℕ, min, List, ◌∷◌, ◌++◌, map, sym, ap, subst, ◌∙◌}
 use Rattle.std.specs.List.{All}
 use Rattle.std.proofs.lemmas.List.Elements.{All-weaker}
 use Rattle.mega_base.specs.declared.names.GroupId.{GroupId}
@@ -21,7 +21,7 @@ use Rattle.mega_replica.specs.Stored.{GroupLogs}
 use Rattle.mega_node_laws.specs.About.{IsAbout}
 use Rattle.mega_node_laws.specs.Sending.{MaySend}
 use Rattle.mega_marks.specs.declared.indexed.Indexed.{Indexed}
-use Rattle.mega_actions.specs.Turns.{IsBuilt}
+use Rattle.mega_actions.specs.Turns.{IsServable}
 use Rattle.mega_node_laws.proofs.Ending.{onto_append}
 use Rattle.mega_node_laws.proofs.Logs.{log_after}
 use Rattle.mega_actions.specs.declared.work.Work.{Work}
@@ -107,7 +107,7 @@ step_represents {indexed} s node own locks durable sends now kept after leases v
       opened = sym (ap (λ (w : Work). w.kept) h.work_is);
       begun_is = h.begun_is ∙ ap (λ (n : ℕ). min n last_number) (sym (noted_begun s base applies sends now quiet h.acted));
       about = subst (All IsAbout) (sym (ap (λ (w : Work). w.kept) h.work_is)) h.acted.about;
-      built = subst (All IsBuilt) (sym (ap (λ (w : Work). w.kept) h.work_is)) h.built;
+      built = subst (All IsServable) (sym (ap (λ (w : Work). w.kept) h.work_is)) h.built;
     })
   where
     base : List Met

@@ -1,5 +1,5 @@
 -- Groups, each once and in order; and what is noted of those of which more is applied, where no other groups change.
-use Rattle.std.proofs.Common.{◌≡◌, ℕ, zero, suc, ◌||◌, ◌&&◌, ◌==◌, ◌++◌, Bool, true, false, cond, nat_lt, List, [], ◌∷◌, length, map, flat_map, Option, None, refl, sym, ap, ◌∙◌, arith}
+use Rattle.std.proofs.Common.{◌≡◌, ℕ, zero, suc, ◌||◌, ◌&&◌, ◌==◌, ◌++◌, Bool, true, false, cond, nat_lt, List, [], ◌∷◌, length, map, flat_map, Option, Some, None, refl, sym, ap, ◌∙◌, arith}
 use Rattle.std.specs.List.{list_any}
 use Rattle.std.proofs.lemmas.Bool.Decides.{nat_tests}
 use Rattle.mega_base.specs.declared.names.GroupId.{GroupId}
@@ -9,7 +9,7 @@ use Rattle.mega_wal.proofs.Sames.{same_group_equal}
 use Rattle.mega_replica.specs.Applying.{applied}
 use Rattle.mega_rules.specs.Met.{Met, Applies, Decides}
 use Rattle.mega_rules.specs.Logs.{decided, decided_from, first_of, groups_of, is_group_before, log_of, then_more, with_group}
-use Rattle.mega_rules.specs.Steps.{applied_at, apply_note}
+use Rattle.mega_rules.specs.Steps.{Decision, applied_at, apply_note, decision_note, onto}
 use Rattle.mega_voter.proofs.Grouped.{groups_sorted, sorted_same}
 use Rattle.mega_core.specs.Positions.{before_at, note_since}
 
@@ -152,3 +152,8 @@ all_noted was was_stored met stored one same = since_is was was_stored met store
     absent group none =
         ap (λ n. cond (nat_lt (applied_at was was_stored group) n) (Applies group (applied_at met stored group) ∷ []) []) (none_applied met stored group none)
         ∙ ap (λ t. cond t (Applies group (applied_at met stored group) ∷ []) []) (not_below_none (applied_at was was_stored group))
+
+-- the group of a decision alone
+pub groups_told : (d : Option Decision) → groups_of (onto (decision_note d) []) ≡ groups_of (decision_note d)
+groups_told None = refl
+groups_told (Some d) = refl

@@ -39,7 +39,7 @@ use Rattle.mega_rules.specs.Finding.{refreshed_marks}
 use Rattle.mega_marks.specs.declared.indexed.Indexed.{Indexed}
 use Rattle.mega_marks.specs.AreMarked.{AreMarked}
 use Rattle.mega_actions.specs.Stands.{Stands}
-use Rattle.mega_actions.specs.Turns.{IsBuilt, IsBuiltHeard, IsHeardAbout}
+use Rattle.mega_actions.specs.Turns.{IsServable, IsServableHeard, IsHeardAbout}
 use Rattle.mega_actions.specs.Working.{work_of}
 use Rattle.mega_actions.specs.declared.work.Work.{Work}
 use Rattle.mega_core.specs.Acted.{HasActed, IsEnd, IsValidate, ended}
@@ -184,7 +184,7 @@ module _ (s : Setting) (node : Node) (m : Message) where
   take_acts {indexed0} {indexed2} t1 t2 kept0 kept kept2 leases0 leases2 version0 version2 progress0 progress2 open_ones begun work heard h heard_is t1_is t2_is kept_is indexed_is tells stands worked =
       let after = coe 0 1 (i. Stands t2 kept2 leases2 version2 progress2 (all_act (t1_is i) acting_from (heard_is i)).met (all_act (t1_is i) acting_from (heard_is i)).stored) stands in
       let about = subst (All IsAbout) (sym h.opened) h.about in
-      let built = subst (All IsBuilt) (sym h.opened) h.built in
+      let built = subst (All IsServable) (sym h.opened) h.built in
       record {
         kind = subst (λ (one : Setting). FitsKind one.cluster one.me (has_taken s node m).kept (has_taken s node m).stored) (sym (t2_is ∙ t1_is)) (take_fits s node m (subst (λ (os : List Operation). FitsKind s.cluster s.me os node.stored) (sym h.opened) h.kind));
         tells = subst (λ (one : Kept). Tells one (acted_on s node (Take m))) (sym kept_is) tells;
@@ -194,7 +194,7 @@ module _ (s : Setting) (node : Node) (m : Message) where
             (acted_marked s.cluster.schema indexed0 node (Takes m) (told_notes s node.met m.from m.body) (decision_note (decision_in s node m)) (has_taken s node m).answers refl
             (told_unshown s node.met m.from m.body) (decision_unshown (decision_in s node m)) (all_act_it s heard_by acting_from refl) h.marked);
         acted = all_acted s (acted_on s node (Take m)) (clock_of node.met) m node.open_operations acting_from about (record { met_is = refl; valid = All-nil IsValidate; answers = All-nil IsEnd; about = All-nil IsAbout });
-        built = all_served s heard_by acting_from (all_heard_built s (clock_of node.met) m node.open_operations built) (All-nil IsBuilt);
+        built = all_served s heard_by acting_from (all_heard_built s (clock_of node.met) m node.open_operations built) (All-nil IsServable);
         begun_is = h.begun_is ∙ ap (λ (n : ℕ). min n last_number) (sym taken_begun);
         work_is = worked ∙ (λ i. work_of (all_act (t1_is i) acting_from (heard_is i)));
       }
@@ -204,5 +204,5 @@ module _ (s : Setting) (node : Node) (m : Message) where
   heard_are_about kept leases version progress open_ones begun heard h is = subst (All IsHeardAbout) (sym is) (heard_about s (clock_of node.met) m node.open_operations (subst (All IsAbout) (sym h.opened) h.about))
 
   pub heard_are_built : {indexed : Indexed} (kept : Kept) (leases : Leases) (version : Versions) (progress : GroupId → Progress) (open_ones : List Operation) (begun : ℕ) (heard : List Heard)
-      → Represents s kept leases indexed version progress open_ones begun node → heard ≡ heard_by → All IsBuiltHeard heard
-  heard_are_built kept leases version progress open_ones begun heard h is = subst (All IsBuiltHeard) (sym is) (all_heard_built s (clock_of node.met) m node.open_operations (subst (All IsBuilt) (sym h.opened) h.built))
+      → Represents s kept leases indexed version progress open_ones begun node → heard ≡ heard_by → All IsServableHeard heard
+  heard_are_built kept leases version progress open_ones begun heard h is = subst (All IsServableHeard) (sym is) (all_heard_built s (clock_of node.met) m node.open_operations (subst (All IsServable) (sym h.opened) h.built))

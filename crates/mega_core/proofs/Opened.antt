@@ -19,7 +19,7 @@ use Rattle.mega_node_laws.specs.About.{IsAbout}
 use Rattle.mega_marks.specs.declared.indexed.Indexed.{Indexed}
 use Rattle.mega_marks.specs.AreMarked.{IsIndexed}
 use Rattle.mega_actions.specs.Stands.{setting}
-use Rattle.mega_actions.specs.Turns.{IsBuilt}
+use Rattle.mega_actions.specs.Turns.{IsServable}
 use Rattle.mega_core.specs.Represents.{Represents}
 use Rattle.mega_view.specs.Small.{IsSmall}
 
@@ -29,5 +29,5 @@ pub started : (c : Cluster) (me : ℕ) (h : Meanings) (kept : Kept) (leases : Le
 started c me h kept leases indexed version progress member small tells leased follows marked = by (has_rows c me) marked
   where
     by : (t : Bool) → IsIndexed c.schema indexed (onto ((Starts 1 ∷ []) ++ cond t [] []) []) → Represents (setting c me h) kept leases indexed version progress [] 0 (record { met = onto ((Starts 1 ∷ []) ++ cond t [] []) []; open_operations = []; stored = λ (group : GroupId). cond t (apply_all [] group) 0 })
-    by true marked = record { kind = record { member = member; small = small; idle = λ other. refl; bare = λ none group. refl }; tells = tells; leased = leased; follows = follows; marked = marked; opened = refl; begun_is = refl; about = All-nil IsAbout; built = All-nil IsBuilt }
-    by false marked = record { kind = record { member = member; small = small; idle = λ other. refl; bare = λ none group. refl }; tells = tells; leased = leased; follows = follows; marked = marked; opened = refl; begun_is = refl; about = All-nil IsAbout; built = All-nil IsBuilt }
+    by true marked = record { kind = record { member = member; small = small; idle = λ other. refl; bare = λ none group. refl }; tells = tells; leased = leased; follows = follows; marked = marked; opened = refl; begun_is = refl; about = All-nil IsAbout; built = All-nil IsServable }
+    by false marked = record { kind = record { member = member; small = small; idle = λ other. refl; bare = λ none group. refl }; tells = tells; leased = leased; follows = follows; marked = marked; opened = refl; begun_is = refl; about = All-nil IsAbout; built = All-nil IsServable }

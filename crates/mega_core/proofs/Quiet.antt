@@ -1,5 +1,5 @@
 -- Operations that act answer no refresh: what they answer leaves the marks that a find on a global index shows.
-use Rattle.std.proofs.Common.{◌≡◌, ℕ, zero, suc, ◌+◌, nat_le, Bool, true, false, cond, ◌&&◌, List, [], ◌∷◌, ◌++◌, flat_map, take, length, fold, Option, Some, None, Result, Ok, Err, refl, sym, ap, ◌∙◌}
+use Rattle.std.proofs.Common.{◌≡◌, ℕ, zero, suc, ◌+◌, nat_le, Bool, true, false, cond, ◌&&◌, List, [], ◌∷◌, ◌++◌, flat_map, take, length, fold, Option, Some, None, Result, Ok, Err, refl, ap}
 use Rattle.std.specs.List.{list_all, list_any}
 use Rattle.mega_base.specs.declared.names.Epoch.{Epoch}
 use Rattle.mega_base.specs.declared.names.GroupId.{GroupId}
@@ -35,13 +35,13 @@ use Rattle.mega_propose.specs.Rounds.{asks}
 use Rattle.mega_read.specs.declared.reading.Reading.{Reading}
 use Rattle.mega_read.specs.declared.reading.Stage.{Stage}
 use Rattle.mega_read.specs.declared.reading.Stage.TheVariants.{Polling, Catching}
-use Rattle.mega_read.specs.Catching.{asked_by, site, seeks}
+use Rattle.mega_read.specs.Catching.{asked_by, site}
 use Rattle.mega_wal.specs.Same.{same_op, same_option}
 use Rattle.mega_rules.specs.Clock.{clock_of}
 use Rattle.mega_rules.specs.Finding.{find_answer, find_by, global_found, group_bytes, group_marks, local_found, refreshed_marks, rows_through}
 use Rattle.mega_rules.specs.Logs.{decided, groups_of, log_of, prefix_of}
 use Rattle.mega_rules.specs.Coordinators.{refused_at}
-use Rattle.mega_rules.specs.Met.{Met, Answers, Validates}
+use Rattle.mega_rules.specs.Met.{Met, Answers}
 use Rattle.mega_rules.specs.Queues.{Posted, enter_entry, is_named, names_entered, next_to_enter, next_to_handle, oldest_unhandled}
 use Rattle.mega_rules.specs.Members.{kind_of}
 use Rattle.mega_rules.specs.Operations.{Node, Now, Operation, Phase, Promised, Proposes, Reads, Replies, Results, Setting}

@@ -5,9 +5,9 @@ use Rattle.mega_actions.specs.declared.fault.ActFault.TheVariants as act
 use Rattle.mega_core.specs.declared.fault.StepFault.TheVariants as fault
 use Rattle.mega_core.specs.Faults.{fault_of}
 
-pub unbuilt_is : (refused : ActFault) → fault_of refused ≡ fault.Unbuilt → refused ≡ act.Unbuilt
-unbuilt_is act.DiskFault is = absurd (cc)
-unbuilt_is (act.Full length) is = absurd (cc)
-unbuilt_is (act.BadRecord number) is = absurd (cc)
-unbuilt_is act.Unbuilt is = refl
-unbuilt_is act.NoMemory is = absurd (cc)
+pub unserved_is : (refused : ActFault) → fault_of refused ≡ fault.Unserved → refused ≡ act.Unserved
+unserved_is act.DiskFault is = absurd (cc)
+unserved_is (act.Full length) is = absurd (cc)
+unserved_is (act.BadRecord number) is = absurd (cc)
+unserved_is act.Unserved is = refl
+unserved_is act.NoMemory is = absurd (cc)

@@ -1,6 +1,6 @@
 -- A step applies nothing more of groups that it does not touch.
 use Rattle.std.proofs.Common.{◌≡◌, ℕ, ◌||◌, Bool, true, false, cond, is_none, List, [], ◌∷◌, map, flat_map, fold, Option, Some, None, refl, sym, ap, ◌∙◌}
-use Rattle.std.specs.List.{All}
+use Rattle.std.specs.List.{All, list_any}
 use Rattle.std.proofs.lemmas.List.Elements.{All-cons, All-head, All-nil, All-tail, All-weaker}
 use Rattle.mega_base.specs.declared.names.GroupId.{GroupId}
 use Rattle.mega_coordinator.specs.declared.answers.NotValid.{NotValid}
@@ -22,20 +22,20 @@ use Rattle.mega_rules.specs.Steps.{Decision, Heard, Take, Tick, applied_at, appl
 use Rattle.mega_node_laws.specs.About.{group_in}
 use Rattle.mega_node_laws.specs.Acted.{acted_on, decision_in, or_settled}
 use Rattle.mega_node_laws.proofs.Logs.{groups_after, log_after, log_stays, other_log}
-use Rattle.mega_actions.specs.Built.{is_built}
-use Rattle.mega_actions.specs.Turns.{IsBuilt}
+use Rattle.mega_actions.specs.Servable.{is_served, is_pump}
+use Rattle.mega_actions.specs.Turns.{IsServable}
 use Rattle.mega_core.specs.declared.applying.Before.{Before}
 use Rattle.mega_core.specs.Acted.{Acted, IsValidate}
 use Rattle.mega_core.specs.Beginning.{at_begin, has_begun}
 use Rattle.mega_core.specs.Positions.{before_at, note_since}
 use Rattle.mega_core.specs.Taking.{has_taken}
 use Rattle.mega_core.specs.Ticking.{has_ticked}
-use Rattle.mega_core.specs.Touching.{asked_groups, named, touched, with_phase}
-use Rattle.mega_core.proofs.Groups.{all_noted, has, has_with, none_applied}
+use Rattle.mega_core.specs.Touching.{asked_groups, begun_by, begun_groups, named, roams, told_groups, touched, with_phase}
+use Rattle.mega_core.proofs.Groups.{all_noted, has, has_with, no_log, none_applied}
 use Rattle.mega_core.proofs.Messages.{plain_undecided, told_on, told_plain}
 use Rattle.mega_core.proofs.Silent.{IsMute, mute_undecided, validate_mute}
 use Rattle.mega_core.proofs.Walked.{all_heard_built}
-use Rattle.mega_core.proofs.Walking.{Walks, all_heard_in, all_walked, begun_walked}
+use Rattle.mega_core.proofs.Walking.{IsIn, Walks, all_heard_in, all_walked, begun_walked}
 
 -- ---- the groups of operations as those of a history
 
@@ -169,37 +169,57 @@ module _ (group : GroupId) where
 
   -- ---- what is applied of it
 
+  log_acted : (base met : List Met) (now : Now) → Acted base now → log_of base group ≡ log_of met group → log_of now.met group ≡ log_of met group
+  log_acted base met now acted logs =
+      ap (λ (one : List Met). log_of one group) acted.met_is ∙ (log_after now.valid base group (mute_undecided now.valid (All-weaker IsValidate IsMute validate_mute now.valid acted.valid)) ∙ logs)
+
   still_applied : (base met : List Met) (stored : GroupId → ℕ) (now : Now) → Acted base now → log_of base group ≡ log_of met group → now.stored group ≡ stored group → applied_at now.met now.stored group ≡ applied_at met stored group
-  still_applied base met stored now acted logs is = λ i. applied (log_is i) (is i)
-    where
-      log_is : log_of now.met group ≡ log_of met group
-      log_is = ap (λ (one : List Met). log_of one group) acted.met_is ∙ (log_after now.valid base group (mute_undecided now.valid (All-weaker IsValidate IsMute validate_mute now.valid acted.valid)) ∙ logs)
+  still_applied base met stored now acted logs is = λ i. applied (log_acted base met now acted logs i) (is i)
 
-  module _ (s : Setting) (node : Node) (m : Message) (built : All IsBuilt node.open_operations) (none : has group (touched m.body node.open_operations) ≡ false) where
-    abbrev told : List Met
-    told = decision_note (told_decision m.body)
+  -- of a log with no entries nothing is
+  never_applied : (base met : List Met) (stored : GroupId → ℕ) (now : Now) → Acted base now → log_of base group ≡ log_of met group → has group (groups_of met) ≡ false → applied_at now.met now.stored group ≡ applied_at met stored group
+  never_applied base met stored now acted logs none =
+      ap (λ (log : List Content). applied log (now.stored group)) (log_acted base met now acted logs ∙ no_log met group none) ∙ sym (none_applied met stored group none)
 
-    absent : has group (groups_of (onto (map of_phase node.open_operations) told)) ≡ false
-    absent = ap (λ (groups : List GroupId). has group groups) (sym (folded node.open_operations told)) ∙ none
+  or_left : (a b : Bool) → (a || b) ≡ false → a ≡ false
+  or_left true b h = h
+  or_left false b h = refl
 
-    abbrev IsOtherOpen : Operation → Type 0
-    IsOtherOpen o = IsOther (group_in o.phase)
+  or_right : (a b : Bool) → (a || b) ≡ false → b ≡ false
+  or_right true b h = absurd (cc)
+  or_right false b h = h
 
-    others : All IsOtherOpen node.open_operations
-    others =
-        All-weaker (IsThere (groups_of (onto (map of_phase node.open_operations) told))) IsOtherOpen
-        (λ o there. apart_from (groups_of (onto (map of_phase node.open_operations) told)) group (group_in o.phase) absent there)
-        node.open_operations (each_there node.open_operations told)
+  abbrev IsOtherOpen : Operation → Type 0
+  IsOtherOpen o = IsOther (group_in o.phase)
 
+  all_other : (os : List Operation) (met : List Met) → has group (groups_of (onto (map of_phase os) met)) ≡ false → All IsOtherOpen os
+  all_other os met none =
+      All-weaker (IsThere (groups_of (onto (map of_phase os) met))) IsOtherOpen (λ o there. apart_from (groups_of (onto (map of_phase os) met)) group (group_in o.phase) none there) os (each_there os met)
+
+  stays_apart : (request : Request) → is_pump request ≡ false → is_pump request ≡ true → (other : GroupId) → IsOther other
+  stays_apart request plain pump other = absurd (let never : true ≡ false = sym pump ∙ plain in cc)
+
+  others_in : (os : List Operation) → All IsOtherOpen os → list_any roams os ≡ false → All (IsIn IsOther) os
+  others_in [] others none = All-nil (IsIn IsOther)
+  others_in (o ∷ os) others none =
+      All-cons (IsIn IsOther) o os (All-head IsOtherOpen o os others, stays_apart o.request (or_left (roams o) (list_any roams os) none)) (others_in os (All-tail IsOtherOpen o os others) (or_right (roams o) (list_any roams os) none))
+
+  module _ (s : Setting) (node : Node) (m : Message) (told_none : has group (groups_of (decision_note (told_decision m.body))) ≡ false) (others : All IsOtherOpen node.open_operations) where
     abbrev heard_by : List Heard
     heard_by = map (hears_message s (clock_of node.met) m) node.open_operations
 
-    heard_others : All IsHeardOther heard_by
-    heard_others = all_heard_in IsOther s (clock_of node.met) m node.open_operations others
+    heard_others : (os : List Operation) → All IsOtherOpen os → All IsHeardOther (map (hears_message s (clock_of node.met) m) os)
+    heard_others [] are = All-nil IsHeardOther
+    heard_others (o ∷ os) are =
+        All-cons IsHeardOther (hears_message s (clock_of node.met) m o) (map (hears_message s (clock_of node.met) m) os) (one o.phase (All-head IsOtherOpen o os are)) (heard_others os (All-tail IsOtherOpen o os are))
+      where
+        one : (phase : Phase) → IsOther (group_in phase) → IsHeardOther (hears_message s (clock_of node.met) m (record { id = o.id; request = o.request; began = o.began; visited = o.visited; message = o.message; phase = phase }))
+        one (Reads other r) apart = apart
+        one (Proposes other n asked proposal promised) apart = apart
 
     apart : IsApart (decision_in s node m)
     apart = new_apart node.met (or_settled (told_decision m.body) (first_settled heard_by))
-        (or_settled_apart (told_decision m.body) (first_settled heard_by) (told_apart (told_decision m.body) (none_before node.open_operations told group absent)) (first_apart heard_by heard_others))
+        (or_settled_apart (told_decision m.body) (first_settled heard_by) (told_apart (told_decision m.body) told_none) (first_apart heard_by (heard_others node.open_operations others)))
 
     log_is : log_of (acted_on s node (Take m)) group ≡ log_of node.met group
     log_is =
@@ -207,12 +227,24 @@ module _ (group : GroupId) where
         ∙ (log_after (told_notes s node.met m.from m.body) (Takes m ∷ node.met) group (plain_undecided (told_notes s node.met m.from m.body) (told_plain s node.met m.from m.body))
         ∙ log_stays (Takes m) node.met group refl)
 
-    pub take_still : Acted (acted_on s node (Take m)) (has_taken s node m) → applied_at (has_taken s node m).met (has_taken s node m).stored group ≡ applied_at node.met node.stored group
-    take_still acted = still_applied (acted_on s node (Take m)) node.met node.stored (has_taken s node m) acted log_is
+    pub take_still : All IsServable node.open_operations → list_any roams node.open_operations ≡ false → Acted (acted_on s node (Take m)) (has_taken s node m)
+        → applied_at (has_taken s node m).met (has_taken s node m).stored group ≡ applied_at node.met node.stored group
+    take_still built none acted = still_applied (acted_on s node (Take m)) node.met node.stored (has_taken s node m) acted log_is
         (all_walked (Still (node.stored group)) IsOther (still_walks (node.stored group)) s heard_by
         (at_first (acted_on s node (Take m)) (stored_after s (acted_on s node (Take m)) node.stored (decision_in s node m)))
-        (all_heard_built s (clock_of node.met) m node.open_operations built) heard_others
+        (all_heard_built s (clock_of node.met) m node.open_operations built) (all_heard_in IsOther s (clock_of node.met) m node.open_operations (others_in node.open_operations others none))
         (decision_stored s (acted_on s node (Take m)) node.stored (decision_in s node m) apart))
+
+    pub take_never : has group (groups_of node.met) ≡ false → Acted (acted_on s node (Take m)) (has_taken s node m)
+        → applied_at (has_taken s node m).met (has_taken s node m).stored group ≡ applied_at node.met node.stored group
+    take_never none acted = never_applied (acted_on s node (Take m)) node.met node.stored (has_taken s node m) acted log_is none
+
+  -- a decision among others
+  note_absent : (d : Option Decision) (met : List Met) → has group (groups_of (onto (decision_note d) met)) ≡ false → (has group (groups_of (decision_note d)) ≡ false) × (has group (groups_of met) ≡ false)
+  note_absent None met none = (refl, none)
+  note_absent (Some d) met none =
+      let both = sym (has_with d.group (groups_of met) group) ∙ none in
+      (ap (λ t. t || false) (or_left (same_group d.group group) (has group (groups_of met)) both), or_right (same_group d.group group) (has group (groups_of met)) both)
 
   -- ---- where an operation begins
 
@@ -232,11 +264,16 @@ module _ (group : GroupId) where
   asked_apart PumpHandle none = All-nil IsOther
   asked_apart Refresh none = All-nil IsOther
 
-  begin_still : (s : Setting) (node : Node) (request : Request) (text : List ℕ) → (refusal s node request ≡ None → is_built request ≡ true) → has group (asked_groups request) ≡ false
+  begin_still : (s : Setting) (node : Node) (request : Request) (text : List ℕ) → (refusal s node request ≡ None → is_served request ≡ true) → is_pump request ≡ false → has group (asked_groups request) ≡ false
       → Acted (Begins (op_of s node.met) text ∷ node.met) (has_begun s node request text) → applied_at (has_begun s node request text).met (has_begun s node request text).stored group ≡ applied_at node.met node.stored group
-  begin_still s node request text built none acted =
+  begin_still s node request text built pump none acted =
       still_applied (Begins (op_of s node.met) text ∷ node.met) node.met node.stored (has_begun s node request text) acted (log_stays (Begins (op_of s node.met) text) node.met group refl)
-      (begun_walked (Still (node.stored group)) IsOther (still_walks (node.stored group)) s (at_begin s node text) (new_operation (op_of s node.met) request (clock_of node.met)) (refusal s node request) built (asked_apart request none) refl)
+      (begun_walked (Still (node.stored group)) IsOther (still_walks (node.stored group)) s (at_begin s node text) (new_operation (op_of s node.met) request (clock_of node.met)) (refusal s node request) built (asked_apart request none) (stays_apart request pump) refl)
+
+  begin_never : (s : Setting) (node : Node) (request : Request) (text : List ℕ) → has group (groups_of node.met) ≡ false
+      → Acted (Begins (op_of s node.met) text ∷ node.met) (has_begun s node request text) → applied_at (has_begun s node request text).met (has_begun s node request text).stored group ≡ applied_at node.met node.stored group
+  begin_never s node request text none acted =
+      never_applied (Begins (op_of s node.met) text ∷ node.met) node.met node.stored (has_begun s node request text) acted (log_stays (Begins (op_of s node.met) text) node.met group refl) none
 
 -- ---- what is noted then
 
@@ -264,19 +301,45 @@ noted_of node groups before now one before_is groups_are still =
     ap (λ (some : List Before). flat_map (note_since now.met now.stored) some) (before_is ∙ ap (map (before_at node.met node.stored)) groups_are)
     ∙ all_noted node.met node.stored now.met now.stored one (λ group none. still group (ap (λ (some : List GroupId). has group some) groups_are ∙ none))
 
-pub take_noted : (s : Setting) (node : Node) (m : Message) (before : List Before) → All IsBuilt node.open_operations → Acted (acted_on s node (Take m)) (has_taken s node m)
-    → before ≡ map (before_at node.met node.stored) (touched m.body node.open_operations) → Noted node before (has_taken s node m)
-take_noted s node m before built acted is =
-    noted_of node (touched m.body node.open_operations) before (has_taken s node m) (onto (map of_phase node.open_operations) (decision_note (told_decision m.body))) is
-    (folded node.open_operations (decision_note (told_decision m.body)))
-    (λ group none. take_still group s node m built none acted)
+pub take_noted : (s : Setting) (node : Node) (m : Message) (before : List Before) → All IsServable node.open_operations → Acted (acted_on s node (Take m)) (has_taken s node m)
+    → before ≡ map (before_at node.met node.stored) (touched node.met m.body node.open_operations) → Noted node before (has_taken s node m)
+take_noted s node m before built acted is = by (list_any roams os) refl is
+  where
+    os : List Operation
+    os = node.open_operations
 
-pub begin_noted : (s : Setting) (node : Node) (request : Request) (text : List ℕ) (before : List Before) → (refusal s node request ≡ None → is_built request ≡ true)
+    told : List Met
+    told = decision_note (told_decision m.body)
+
+    now : Now
+    now = has_taken s node m
+
+    absent : (met : List Met) (group : GroupId) → has group (fold with_phase (groups_of met) os) ≡ false → has group (groups_of (onto (map of_phase os) met)) ≡ false
+    absent met group none = ap (λ (groups : List GroupId). has group groups) (sym (folded os met)) ∙ none
+
+    still : (group : GroupId) → list_any roams os ≡ false → has group (fold with_phase (groups_of told) os) ≡ false → applied_at now.met now.stored group ≡ applied_at node.met node.stored group
+    still group quiet none = take_still group s node m (none_before os told group (absent told group none)) (all_other group os told (absent told group none)) built quiet acted
+
+    never : (group : GroupId) → has group (fold with_phase (groups_of (onto told node.met)) os) ≡ false → applied_at now.met now.stored group ≡ applied_at node.met node.stored group
+    never group none =
+        let away = absent (onto told node.met) group none in
+        let parts = note_absent group (told_decision m.body) node.met (none_before os (onto told node.met) group away) in
+        take_never group s node m parts.0 (all_other group os (onto told node.met) away) parts.1 acted
+
+    by : (t : Bool) → list_any roams os ≡ t → before ≡ map (before_at node.met node.stored) (fold with_phase (told_groups t node.met m.body) os) → Noted node before now
+    by false quiet before_is = noted_of node (fold with_phase (groups_of told) os) before now (onto (map of_phase os) told) before_is (folded os told) (λ group none. still group quiet none)
+    by true roaming before_is =
+        noted_of node (fold with_phase (groups_of (onto told node.met)) os) before now (onto (map of_phase os) (onto told node.met)) before_is (folded os (onto told node.met)) (λ group none. never group none)
+
+pub begin_noted : (s : Setting) (node : Node) (request : Request) (text : List ℕ) (before : List Before) → (refusal s node request ≡ None → is_served request ≡ true)
     → Acted (Begins (op_of s node.met) text ∷ node.met) (has_begun s node request text)
-    → before ≡ map (before_at node.met node.stored) (asked_groups request) → Noted node before (has_begun s node request text)
-begin_noted s node request text before built acted is =
-    noted_of node (asked_groups request) before (has_begun s node request text) (map in_group (asked_groups request)) is (asked_is request)
-    (λ group none. begin_still group s node request text built none acted)
+    → before ≡ map (before_at node.met node.stored) (begun_groups node.met request) → Noted node before (has_begun s node request text)
+begin_noted s node request text before built acted is = by (is_pump request) refl is
+  where
+    by : (t : Bool) → is_pump request ≡ t → before ≡ map (before_at node.met node.stored) (begun_by t node.met request) → Noted node before (has_begun s node request text)
+    by true pump before_is = noted_of node (groups_of node.met) before (has_begun s node request text) node.met before_is refl (λ group none. begin_never group s node request text none acted)
+    by false pump before_is =
+        noted_of node (asked_groups request) before (has_begun s node request text) (map in_group (asked_groups request)) before_is (asked_is request) (λ group none. begin_still group s node request text built pump none acted)
 
 pub tick_noted : (s : Setting) (node : Node) (clock : ℕ) (before : List Before) → groups_of (acted_on s node (Tick clock)) ≡ groups_of node.met
     → Acted (acted_on s node (Tick clock)) (has_ticked s node clock)

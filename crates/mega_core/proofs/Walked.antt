@@ -14,8 +14,8 @@ use Rattle.mega_node_laws.specs.About.{IsAbout}
 use Rattle.mega_node_laws.proofs.Acting.{hears_message_asks}
 use Rattle.mega_node_laws.proofs.Ending.{onto_append}
 use Rattle.mega_node_laws.proofs.Lasting.{IsHeard, Lasts, all_act_it, all_ticked_it, begun_it, hears_message_about}
-use Rattle.mega_actions.specs.Built.{is_built}
-use Rattle.mega_actions.specs.Turns.{IsBuilt, IsBuiltHeard, IsHeardAbout}
+use Rattle.mega_actions.specs.Servable.{is_served}
+use Rattle.mega_actions.specs.Turns.{IsServable, IsServableHeard, IsHeardAbout}
 use Rattle.mega_core.specs.Acted.{Acted, IsEnd, IsValidate}
 use Rattle.mega_core.specs.Touching.{asked_groups}
 use Rattle.mega_core.proofs.Walking.{IsHeardIn, IsIn, Walks, all_ticked_walked, all_walked, begun_walked}
@@ -64,14 +64,14 @@ begun_acted s base now o refusal h = begun_it (Acted base) (Unit {0}) (acted_las
 -- ---- which operations stay open
 
 abbrev Served : Now → Type 0
-Served now = All IsBuilt now.kept
+Served now = All IsServable now.kept
 
 abbrev IsAny : GroupId → Type 0
 IsAny group = Unit {0}
 
 served_walks : Walks Served IsAny
 served_walks = record {
-  keeps_it = λ now o is h. All-push IsBuilt now.kept o h is;
+  keeps_it = λ now o is h. All-push IsServable now.kept o h is;
   ends_it = λ now op answer h. h;
   sends_it = λ now sends h. h;
   stores_it = λ now group count any h. h;
@@ -84,31 +84,31 @@ served_walks = record {
 
 in_any : (os : List Operation) → All (IsIn IsAny) os
 in_any [] = All-nil (IsIn IsAny)
-in_any (o ∷ os) = All-cons (IsIn IsAny) o os tt (in_any os)
+in_any (o ∷ os) = All-cons (IsIn IsAny) o os (tt, λ pump group. tt) (in_any os)
 
 heard_in_any : (ts : List Heard) → All (IsHeardIn IsAny) ts
 heard_in_any [] = All-nil (IsHeardIn IsAny)
-heard_in_any (t ∷ ts) = All-cons (IsHeardIn IsAny) t ts tt (heard_in_any ts)
+heard_in_any (t ∷ ts) = All-cons (IsHeardIn IsAny) t ts (tt, λ pump group. tt) (heard_in_any ts)
 
 all_any : (groups : List GroupId) → All IsAny groups
 all_any [] = All-nil IsAny
 all_any (group ∷ groups) = All-cons IsAny group groups tt (all_any groups)
 
-pub all_served : (s : Setting) (ts : List Heard) (now : Now) → All IsBuiltHeard ts → Served now → Served (all_act s now ts)
+pub all_served : (s : Setting) (ts : List Heard) (now : Now) → All IsServableHeard ts → Served now → Served (all_act s now ts)
 all_served s ts now each h = all_walked Served IsAny served_walks s ts now each (heard_in_any ts) h
 
-heard_built : (s : Setting) (clock : ℕ) (m : Message) (o : Operation) (phase : Phase) → IsBuilt o
-    → IsBuilt (hears_message s clock m (record { id = o.id; request = o.request; began = o.began; visited = o.visited; message = o.message; phase = phase })).operation
+heard_built : (s : Setting) (clock : ℕ) (m : Message) (o : Operation) (phase : Phase) → IsServable o
+    → IsServable (hears_message s clock m (record { id = o.id; request = o.request; began = o.began; visited = o.visited; message = o.message; phase = phase })).operation
 heard_built s clock m o (Reads group r) is = is
 heard_built s clock m o (Proposes group n asked proposal promised) is = is
 
-pub all_heard_built : (s : Setting) (clock : ℕ) (m : Message) (os : List Operation) → All IsBuilt os → All IsBuiltHeard (map (hears_message s clock m) os)
-all_heard_built s clock m [] are = All-nil IsBuiltHeard
+pub all_heard_built : (s : Setting) (clock : ℕ) (m : Message) (os : List Operation) → All IsServable os → All IsServableHeard (map (hears_message s clock m) os)
+all_heard_built s clock m [] are = All-nil IsServableHeard
 all_heard_built s clock m (o ∷ os) are =
-    All-cons IsBuiltHeard (hears_message s clock m o) (map (hears_message s clock m) os) (heard_built s clock m o o.phase (All-head IsBuilt o os are)) (all_heard_built s clock m os (All-tail IsBuilt o os are))
+    All-cons IsServableHeard (hears_message s clock m o) (map (hears_message s clock m) os) (heard_built s clock m o o.phase (All-head IsServable o os are)) (all_heard_built s clock m os (All-tail IsServable o os are))
 
-pub all_ticked_served : (s : Setting) (clock : ℕ) (os : List Operation) (now : Now) → All IsBuilt os → Served now → Served (fold (ticked s clock) now os)
+pub all_ticked_served : (s : Setting) (clock : ℕ) (os : List Operation) (now : Now) → All IsServable os → Served now → Served (fold (ticked s clock) now os)
 all_ticked_served s clock os now are h = all_ticked_walked Served IsAny served_walks s clock os now are (in_any os) h
 
-pub begun_served : (s : Setting) (now : Now) (o : Operation) (refusal : Option Answer) → (refusal ≡ None → is_built o.request ≡ true) → Served now → Served (unless_refused s now o refusal)
-begun_served s now o refusal is h = begun_walked Served IsAny served_walks s now o refusal is (all_any (asked_groups o.request)) h
+pub begun_served : (s : Setting) (now : Now) (o : Operation) (refusal : Option Answer) → (refusal ≡ None → is_served o.request ≡ true) → Served now → Served (unless_refused s now o refusal)
+begun_served s now o refusal is h = begun_walked Served IsAny served_walks s now o refusal is (all_any (asked_groups o.request)) (λ pump group. tt) h

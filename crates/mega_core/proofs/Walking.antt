@@ -1,5 +1,5 @@
 -- One walk through what operations of given groups do as they act in a step, for any fact of the node that they cannot break.
-use Rattle.std.proofs.Common.{◌≡◌, ℕ, zero, suc, ◌+◌, nat_le, Bool, true, false, cond, List, [], ◌∷◌, map, length, fold, Option, Some, None, Result, Ok, Err, refl, ap}
+use Rattle.std.proofs.Common.{◌≡◌, ℕ, zero, suc, ◌+◌, nat_le, Bool, true, false, cond, List, [], ◌∷◌, map, take, length, fold, Option, Some, None, Result, Ok, Err, refl, ap}
 use Rattle.std.specs.Prelude.{is_some}
 use Rattle.std.specs.List.{All, list_any}
 use Rattle.std.proofs.lemmas.List.Elements.{All-cons, All-head, All-nil, All-tail}
@@ -30,32 +30,38 @@ use Rattle.mega_replica.specs.Applying.{after_read}
 use Rattle.mega_rules.specs.Clock.{clock_of}
 use Rattle.mega_rules.specs.Logs.{decided, groups_of, log_of, prefix_of}
 use Rattle.mega_rules.specs.Coordinators.{refused_at}
+use Rattle.mega_handler.specs.Named.{has as has_handler}
+use Rattle.mega_rules.specs.Queues.{Posted, enter_entry, is_named, names_entered, next_to_enter, next_to_handle, oldest_unhandled}
 use Rattle.mega_rules.specs.Operations.{Now, Operation, Phase, Promised, Proposes, Reads, Replies, Results, Setting}
-use Rattle.mega_rules.specs.Acting.{acts, acts_within, batch_sealed, begins_read, completes_read, ends, finishes, goes_on, in_phase, is_taken, keeps, leader_after, proposes, proposes_by, read_begun, reader_of, reads_on, rows_at, sealed, sends_more, stored_with, unless_decided, unless_full, validated_by, validates, visiting}
+use Rattle.mega_rules.specs.Acting.{acts, acts_within, applied_logs, batch_sealed, begins_read, completes_read, ends, enters, finishes, goes_on, handles, handling, in_phase, is_taken, keeps, leader_after, listed_at, picks_group, picks_message, proposes, proposes_by, read_begun, reader_of, reads_on, rows_at, sealed, sends_more, stored_with, table_rows, unless_decided, unless_full, validated_by, validates, visiting}
 use Rattle.mega_rules.specs.Steps.{Heard, acts_in_turn, all_act, begins, does_due, find_begins, hears_message, is_out, local_find_begins, read_begins, ticked, unless_refused}
 use Rattle.mega_node_laws.specs.About.{group_in}
-use Rattle.mega_actions.specs.Built.{is_built, is_open}
-use Rattle.mega_actions.specs.Turns.{IsBuilt, IsBuiltHeard}
+use Rattle.mega_actions.specs.Servable.{is_served, is_open, is_pump}
+use Rattle.mega_actions.specs.Turns.{IsServable, IsServableHeard}
 use Rattle.mega_core.specs.Touching.{asked_groups, named}
 
 -- a fact of a node within a step that nothing can break which served operations do in such groups
 pub record Walks (P : Now → Type 0) (Mine : GroupId → Type 0) : Type 0 where
-  pub keeps_it : (now : Now) (o : Operation) → IsBuilt o → P now → P (keeps now o)
+  pub keeps_it : (now : Now) (o : Operation) → IsServable o → P now → P (keeps now o)
   pub ends_it : (now : Now) (op : OpId) (answer : Answer) → P now → P (ends now op answer)
   pub sends_it : (now : Now) (sends : List Message) → P now → P (sends_more now sends)
   pub stores_it : (now : Now) (group : GroupId) (count : ℕ) → Mine group → P now
       → P (record { met = now.met; stored = stored_with now.stored group count; kept = now.kept; valid = now.valid; answers = now.answers; sends = now.sends })
   pub validates_it : (now : Now) (group : GroupId) (p : ℕ) (refusal : Option NotValid) → P now → P (validated_by now group p refusal)
 
+-- a pump may act in any group
+abbrev pub Roams : (GroupId → Type 0) → Request → Type 0
+Roams Mine request = is_pump request ≡ true → (group : GroupId) → Mine group
+
 -- an operation acts in such a group
 abbrev pub IsIn : (GroupId → Type 0) → Operation → Type 0
-IsIn Mine o = Mine (group_in o.phase)
+IsIn Mine o = Mine (group_in o.phase) × Roams Mine o.request
 
 abbrev pub IsHeardIn : (GroupId → Type 0) → Heard → Type 0
-IsHeardIn Mine t = Mine (group_in t.operation.phase)
+IsHeardIn Mine t = IsIn Mine t.operation
 
 -- and it stays there as it hears
-heard_in : (Mine : GroupId → Type 0) (s : Setting) (clock : ℕ) (m : Message) (o : Operation) (phase : Phase) → Mine (group_in phase)
+heard_in : (Mine : GroupId → Type 0) (s : Setting) (clock : ℕ) (m : Message) (o : Operation) (phase : Phase) → Mine (group_in phase) × Roams Mine o.request
     → IsHeardIn Mine (hears_message s clock m (record { id = o.id; request = o.request; began = o.began; visited = o.visited; message = o.message; phase = phase }))
 heard_in Mine s clock m o (Reads group r) mine = mine
 heard_in Mine s clock m o (Proposes group n asked proposal promised) mine = mine
@@ -66,22 +72,26 @@ all_heard_in Mine s clock m (o ∷ os) are =
     All-cons (IsHeardIn Mine) (hears_message s clock m o) (map (hears_message s clock m) os) (heard_in Mine s clock m o o.phase (All-head (IsIn Mine) o os are)) (all_heard_in Mine s clock m os (All-tail (IsIn Mine) o os are))
 
 module _ (P : Now → Type 0) (Mine : GroupId → Type 0) (w : Walks P Mine) (s : Setting) where
+  -- what acts again keeps it
+  abbrev Stays : (Now → Operation → Now) → Type 0
+  Stays again = (now : Now) (o : Operation) → IsServable o → IsIn Mine o → P now → P (again now o)
+
   either : (t : Bool) (one other : Now) → P one → P other → P (cond t one other)
   either true one other h k = h
   either false one other h k = k
 
-  unless_decided_walked : (now : Now) (o : Operation) (n : ℕ) (promised : Promised) (d : Option Content) → IsBuilt o → P now → P (unless_decided now o n promised d)
+  unless_decided_walked : (now : Now) (o : Operation) (n : ℕ) (promised : Promised) (d : Option Content) → IsServable o → P now → P (unless_decided now o n promised d)
   unless_decided_walked now o n promised None is h = w.keeps_it now o is h
   unless_decided_walked now o n promised (Some entry) is h = w.ends_it now o.id _ h
 
-  proposes_by_walked : (now : Now) (o : Operation) (group : GroupId) (r : Reading) (p : ℕ) (own : Content) (promised : Promised) (leader : Option ℕ) → IsBuilt o → P now → P (proposes_by s now o group r p own promised leader)
+  proposes_by_walked : (now : Now) (o : Operation) (group : GroupId) (r : Reading) (p : ℕ) (own : Content) (promised : Promised) (leader : Option ℕ) → IsServable o → P now → P (proposes_by s now o group r p own promised leader)
   proposes_by_walked now o group r p own promised None is h = w.keeps_it now o is h
   proposes_by_walked now o group r p own promised (Some leader) is h =
       unless_decided_walked (sends_more now (asks (site (reader_of s o.id group) (asked_by r) (p + 1)) leader own (clock_of now.met)).sends)
       (in_phase o (Proposes group (p + 1) (asked_by r) (asks (site (reader_of s o.id group) (asked_by r) (p + 1)) leader own (clock_of now.met)).proposal promised))
       (p + 1) promised (decided now.met group (p + 1)) is (w.sends_it now _ h)
 
-  proposes_walked : (now : Now) (o : Operation) (group : GroupId) (r : Reading) (p : ℕ) (own : Content) (promised : Promised) → IsBuilt o → P now → P (proposes s now o group r p own promised)
+  proposes_walked : (now : Now) (o : Operation) (group : GroupId) (r : Reading) (p : ℕ) (own : Content) (promised : Promised) → IsServable o → P now → P (proposes s now o group r p own promised)
   proposes_walked now o group r p own promised is h = proposes_by_walked now o group r p own promised (leader_after s now group p) is h
 
   validates_walked : (now : Now) (group : GroupId) (p : ℕ) (noted : Option Epoch) → P now → P (validates s now group p noted)
@@ -93,92 +103,115 @@ module _ (P : Now → Type 0) (Mine : GroupId → Type 0) (w : Walks P Mine) (s 
       validates_walked (record { met = now.met; stored = stored_with now.stored group (after_read p (log_of now.met group) (now.stored group)); kept = now.kept; valid = now.valid; answers = now.answers; sends = now.sends }) group p r.noted
       (w.stores_it now group (after_read p (log_of now.met group) (now.stored group)) mine h)
 
-  sealed_walked : (now : Now) (o : Operation) (group : GroupId) (r : Reading) (p : ℕ) (result : Result Done Turned) → IsBuilt o → P now → P (sealed s now o group r p result)
+  sealed_walked : (now : Now) (o : Operation) (group : GroupId) (r : Reading) (p : ℕ) (result : Result Done Turned) → IsServable o → P now → P (sealed s now o group r p result)
   sealed_walked now o group r p (Err turn) is h = w.ends_it now o.id _ h
   sealed_walked now o group r p (Ok done) is h = proposes_walked now o group r p (entry_of_done o.id done) (Replies done.replies) is h
 
-  batch_walked : (now : Now) (o : Operation) (group : GroupId) (r : Reading) (p : ℕ) (b : Batch) → IsBuilt o → P now → P (batch_sealed s now o group r p b)
+  batch_walked : (now : Now) (o : Operation) (group : GroupId) (r : Reading) (p : ℕ) (b : Batch) → IsServable o → P now → P (batch_sealed s now o group r p b)
   batch_walked now o group r p b is h = either (list_any is_taken b.results) _ _ (proposes_walked now o group r p (entry_of_batch o.id b) (Results b.results) is h) (w.ends_it now o.id _ h)
 
   unless_full_walked : (now : Now) (o : Operation) (p : ℕ) (next : Now) → P now → P next → P (unless_full s now o p next)
   unless_full_walked now o p next h k = either (nat_le (s.cluster.limit).0 p) _ next (w.ends_it now o.id _ h) k
 
+  -- a pump reads what it picks
+  reads_walked : (again : Now → Operation → Now) → Stays again → (now : Now) (o : Operation) (group : GroupId) (message : Option Enter) (asked : List ℕ) → IsServable o → Mine group → Roams Mine o.request → P now → P (begins_read s again now o group message asked)
+  reads_walked again more now o group message asked is mine roams h =
+      more (sends_more now (read_begun s now o group asked).sends) (visiting o group message (read_begun s now o group asked)) is (mine, roams) (w.sends_it now (read_begun s now o group asked).sends h)
+
+  message_walked : (again : Now → Operation → Now) → Stays again → (now : Now) (o : Operation) (asked : List ℕ) (picked : Option Posted) → IsServable o → is_pump o.request ≡ true → Roams Mine o.request → P now → P (picks_message s again now o asked picked)
+  message_walked again more now o asked None is pump roams h = w.ends_it now o.id _ h
+  message_walked again more now o asked (Some posted) is pump roams h = reads_walked again more now o posted.to (Some posted.message) asked is (roams pump posted.to) roams h
+
+  group_walked : (again : Now → Operation → Now) → Stays again → (now : Now) (o : Operation) (asked : List ℕ) (picked : Option GroupId) → IsServable o → is_pump o.request ≡ true → Roams Mine o.request → P now → P (picks_group s again now o asked picked)
+  group_walked again more now o asked None is pump roams h = w.ends_it now o.id _ h
+  group_walked again more now o asked (Some group) is pump roams h = reads_walked again more now o group None asked is (roams pump group) roams h
+
+  enters_walked : (again : Now → Operation → Now) → Stays again → (now : Now) (o : Operation) (group : GroupId) (r : Reading) (p : ℕ) (message : Option Enter) → IsServable o → is_pump o.request ≡ true → Roams Mine o.request → P now → P (enters s again now o group r p message)
+  enters_walked again more now o group r p None is pump roams h = message_walked again more now o (asked_by r) (next_to_enter o.id (applied_logs now)) is pump roams h
+  enters_walked again more now o group r p (Some message) is pump roams h = either (is_named message.name (names_entered (take p (log_of now.met group)))) _ _
+      (message_walked again more now o (asked_by r) (next_to_enter o.id (applied_logs now)) is pump roams h) (proposes_walked now o group r p (enter_entry o.id message) (Replies []) is h)
+
+  handles_walked : (again : Now → Operation → Now) → Stays again → (now : Now) (o : Operation) (group : GroupId) (r : Reading) (p : ℕ) (message : Option Enter) → IsServable o → is_pump o.request ≡ true → Roams Mine o.request → P now → P (handles s again now o group r p message)
+  handles_walked again more now o group r p None is pump roams h = group_walked again more now o (asked_by r) (next_to_handle (applied_logs now)) is pump roams h
+  handles_walked again more now o group r p (Some message) is pump roams h = either (has_handler s.handlers message.queue) _ _
+      (proposes_walked now o group r p (handling s o.id group message (table_rows s.cluster.schema group (listed_at now group p))) (Replies []) is h) (w.ends_it now o.id _ h)
+
   module _ (id : OpId) (began : ℕ) (visited : List GroupId) (message : Option Enter) where
     abbrev one : Request → Phase → Operation
     one request phase = record { id = id; request = request; began = began; visited = visited; message = message; phase = phase }
 
-    finishes_by : (again : Now → Operation → Now) (now : Now) (request : Request) (phase : Phase) (group : GroupId) (r : Reading) (p : ℕ) → is_open request ≡ true → P now → P (finishes s again now (one request phase) group r p)
-    finishes_by again now (Txn transaction) phase group r p is h =
+    finishes_by : (again : Now → Operation → Now) → Stays again → (now : Now) (request : Request) (phase : Phase) (group : GroupId) (r : Reading) (p : ℕ) → is_open request ≡ true → Roams Mine request → P now → P (finishes s again now (one request phase) group r p)
+    finishes_by again more now (Txn transaction) phase group r p is roams h =
         unless_full_walked now (one (Txn transaction) phase) p _ h (sealed_walked now (one (Txn transaction) phase) group r p (outcome s.cluster.schema transaction (rows_at now group p)) is h)
-    finishes_by again now (BatchRequest own transactions) phase group r p is h =
+    finishes_by again more now (BatchRequest own transactions) phase group r p is roams h =
         unless_full_walked now (one (BatchRequest own transactions) phase) p _ h (batch_walked now (one (BatchRequest own transactions) phase) group r p (batch_outcome s.cluster.schema own transactions (rows_at now group p)) is h)
-    finishes_by again now (ReadRequested request) phase group r p is h = w.ends_it now id _ h
-    finishes_by again now (Find request) phase group r p is h = w.ends_it now id _ h
-    finishes_by again now PumpEnter phase group r p is h = absurd (cc)
-    finishes_by again now PumpHandle phase group r p is h = absurd (cc)
-    finishes_by again now Refresh phase group r p is h = w.keeps_it now (one Refresh phase) is h
+    finishes_by again more now (ReadRequested request) phase group r p is roams h = w.ends_it now id _ h
+    finishes_by again more now (Find request) phase group r p is roams h = w.ends_it now id _ h
+    finishes_by again more now PumpEnter phase group r p is roams h = unless_full_walked now (one PumpEnter phase) p _ h (enters_walked again more now (one PumpEnter phase) group r p message is refl roams h)
+    finishes_by again more now PumpHandle phase group r p is roams h = unless_full_walked now (one PumpHandle phase) p _ h (handles_walked again more now (one PumpHandle phase) group r p (oldest_unhandled (take p (log_of now.met group))) is refl roams h)
+    finishes_by again more now Refresh phase group r p is roams h = w.keeps_it now (one Refresh phase) is h
 
-  finishes_walked : (again : Now → Operation → Now) (now : Now) (o : Operation) (group : GroupId) (r : Reading) (p : ℕ) → IsBuilt o → P now → P (finishes s again now o group r p)
-  finishes_walked again now o group r p is h = finishes_by o.id o.began o.visited o.message again now o.request o.phase group r p is h
+  finishes_walked : (again : Now → Operation → Now) → Stays again → (now : Now) (o : Operation) (group : GroupId) (r : Reading) (p : ℕ) → IsServable o → Roams Mine o.request → P now → P (finishes s again now o group r p)
+  finishes_walked again more now o group r p is roams h = finishes_by o.id o.began o.visited o.message again more now o.request o.phase group r p is roams h
 
-  reads_on_by : (again : Now → Operation → Now) (now : Now) (o : Operation) (group : GroupId) (noted : Option Epoch) (asked : List ℕ) (stage : Stage) → IsBuilt o → Mine group → P now → P (reads_on s again now o group (record { noted = noted; asked = asked; stage = stage }))
-  reads_on_by again now o group noted asked (Polling heard best at) is mine h = w.keeps_it now o is h
-  reads_on_by again now o group noted asked (Catching p search) is mine h = either (nat_le p (prefix_of now.met group)) _ _
-      (finishes_walked again (completes_read s now group (record { noted = noted; asked = asked; stage = Catching p search }) p) o group (record { noted = noted; asked = asked; stage = Catching p search }) p is
+  reads_on_by : (again : Now → Operation → Now) → Stays again → (now : Now) (o : Operation) (group : GroupId) (noted : Option Epoch) (asked : List ℕ) (stage : Stage) → IsServable o → Mine group → Roams Mine o.request → P now → P (reads_on s again now o group (record { noted = noted; asked = asked; stage = stage }))
+  reads_on_by again more now o group noted asked (Polling heard best at) is mine roams h = w.keeps_it now o is h
+  reads_on_by again more now o group noted asked (Catching p search) is mine roams h = either (nat_le p (prefix_of now.met group)) _ _
+      (finishes_walked again more (completes_read s now group (record { noted = noted; asked = asked; stage = Catching p search }) p) o group (record { noted = noted; asked = asked; stage = Catching p search }) p is roams
       (completes_walked now group (record { noted = noted; asked = asked; stage = Catching p search }) p mine h))
       (w.keeps_it (sends_more now (seeks (reader_of s o.id group) (record { noted = noted; asked = asked; stage = Catching p search }) (prefix_of now.met group + 1) (clock_of now.met)).sends)
       (in_phase o (Reads group (seeks (reader_of s o.id group) (record { noted = noted; asked = asked; stage = Catching p search }) (prefix_of now.met group + 1) (clock_of now.met)).reading)) is (w.sends_it now _ h))
 
-  acts_by : (again : Now → Operation → Now) (now : Now) (id : OpId) (request : Request) (began : ℕ) (visited : List GroupId) (message : Option Enter) (phase : Phase) → is_open request ≡ true → Mine (group_in phase) → P now
+  acts_by : (again : Now → Operation → Now) → Stays again → (now : Now) (id : OpId) (request : Request) (began : ℕ) (visited : List GroupId) (message : Option Enter) (phase : Phase) → is_open request ≡ true → Mine (group_in phase) → Roams Mine request → P now
       → P (acts s again now (record { id = id; request = request; began = began; visited = visited; message = message; phase = phase }))
-  acts_by again now id request began visited message (Reads group r) is mine h =
-      reads_on_by again now (record { id = id; request = request; began = began; visited = visited; message = message; phase = Reads group r }) group r.noted r.asked r.stage is mine h
-  acts_by again now id request began visited message (Proposes group n asked proposal promised) is mine h =
+  acts_by again more now id request began visited message (Reads group r) is mine roams h =
+      reads_on_by again more now (record { id = id; request = request; began = began; visited = visited; message = message; phase = Reads group r }) group r.noted r.asked r.stage is mine roams h
+  acts_by again more now id request began visited message (Proposes group n asked proposal promised) is mine roams h =
       unless_decided_walked now (record { id = id; request = request; began = began; visited = visited; message = message; phase = Proposes group n asked proposal promised }) n promised (decided now.met group n) is h
 
-  within_walked : (most : ℕ) (now : Now) (o : Operation) → IsBuilt o → IsIn Mine o → P now → P (acts_within most s now o)
+  within_walked : (most : ℕ) → Stays (acts_within most s)
   within_walked zero now o is mine h = w.keeps_it now o is h
-  within_walked (suc most) now o is mine h = acts_by (acts_within most s) now o.id o.request o.began o.visited o.message o.phase is mine h
+  within_walked (suc most) now o is mine h = acts_by (acts_within most s) (within_walked most) now o.id o.request o.began o.visited o.message o.phase is mine.0 mine.1 h
 
-  goes_on_walked : (now : Now) (o : Operation) → IsBuilt o → IsIn Mine o → P now → P (goes_on s now o)
+  goes_on_walked : Stays (goes_on s)
   goes_on_walked now o is mine h = within_walked (length (groups_of now.met) + 2) now o is mine h
 
-  pub all_walked : (ts : List Heard) (now : Now) → All IsBuiltHeard ts → All (IsHeardIn Mine) ts → P now → P (all_act s now ts)
+  pub all_walked : (ts : List Heard) (now : Now) → All IsServableHeard ts → All (IsHeardIn Mine) ts → P now → P (all_act s now ts)
   all_walked [] now each mine h = h
   all_walked (t ∷ ts) now each mine h =
-      all_walked ts (acts_in_turn s now t) (All-tail IsBuiltHeard t ts each) (All-tail (IsHeardIn Mine) t ts mine)
-      (goes_on_walked (sends_more now t.sends) t.operation (All-head IsBuiltHeard t ts each) (All-head (IsHeardIn Mine) t ts mine) (w.sends_it now t.sends h))
+      all_walked ts (acts_in_turn s now t) (All-tail IsServableHeard t ts each) (All-tail (IsHeardIn Mine) t ts mine)
+      (goes_on_walked (sends_more now t.sends) t.operation (All-head IsServableHeard t ts each) (All-head (IsHeardIn Mine) t ts mine) (w.sends_it now t.sends h))
 
-  due_built : (clock : ℕ) (o : Operation) (phase : Phase) → IsBuilt o
-      → IsBuilt (does_due s clock (record { id = o.id; request = o.request; began = o.began; visited = o.visited; message = o.message; phase = phase })).operation
+  due_built : (clock : ℕ) (o : Operation) (phase : Phase) → IsServable o
+      → IsServable (does_due s clock (record { id = o.id; request = o.request; began = o.began; visited = o.visited; message = o.message; phase = phase })).operation
   due_built clock o (Reads group r) is = is
   due_built clock o (Proposes group n asked proposal promised) is = is
 
-  due_mine : (clock : ℕ) (o : Operation) (phase : Phase) → Mine (group_in phase)
+  due_mine : (clock : ℕ) (o : Operation) (phase : Phase) → Mine (group_in phase) × Roams Mine o.request
       → IsHeardIn Mine (does_due s clock (record { id = o.id; request = o.request; began = o.began; visited = o.visited; message = o.message; phase = phase }))
   due_mine clock o (Reads group r) mine = mine
   due_mine clock o (Proposes group n asked proposal promised) mine = mine
 
-  pub all_ticked_walked : (clock : ℕ) (os : List Operation) (now : Now) → All IsBuilt os → All (IsIn Mine) os → P now → P (fold (ticked s clock) now os)
+  pub all_ticked_walked : (clock : ℕ) (os : List Operation) (now : Now) → All IsServable os → All (IsIn Mine) os → P now → P (fold (ticked s clock) now os)
   all_ticked_walked clock [] now are mine h = h
   all_ticked_walked clock (o ∷ os) now are mine h =
-      all_ticked_walked clock os (ticked s clock now o) (All-tail IsBuilt o os are) (All-tail (IsIn Mine) o os mine)
+      all_ticked_walked clock os (ticked s clock now o) (All-tail IsServable o os are) (All-tail (IsIn Mine) o os mine)
       (either (is_out s clock o) _ _ (w.ends_it now o.id _ h)
-      (goes_on_walked (sends_more now (does_due s clock o).sends) (does_due s clock o).operation (due_built clock o o.phase (All-head IsBuilt o os are)) (due_mine clock o o.phase (All-head (IsIn Mine) o os mine)) (w.sends_it now _ h)))
+      (goes_on_walked (sends_more now (does_due s clock o).sends) (does_due s clock o).operation (due_built clock o o.phase (All-head IsServable o os are)) (due_mine clock o o.phase (All-head (IsIn Mine) o os mine)) (w.sends_it now _ h)))
 
   module _ (id : OpId) (began : ℕ) (visited : List GroupId) (message : Option Enter) (phase : Phase) where
-    begins_read_walked : (now : Now) (request : Request) (group : GroupId) → is_open request ≡ true → Mine group → P now → P (begins_read s (goes_on s) now (one id began visited message request phase) group None [])
-    begins_read_walked now request group is mine h =
+    begins_read_walked : (now : Now) (request : Request) (group : GroupId) → is_open request ≡ true → Mine group → Roams Mine request → P now → P (begins_read s (goes_on s) now (one id began visited message request phase) group None [])
+    begins_read_walked now request group is mine roams h =
         goes_on_walked (sends_more now (read_begun s now (one id began visited message request phase) group []).sends)
-        (visiting (one id began visited message request phase) group None (read_begun s now (one id began visited message request phase) group [])) is mine (w.sends_it now _ h)
+        (visiting (one id began visited message request phase) group None (read_begun s now (one id began visited message request phase) group [])) is (mine, roams) (w.sends_it now _ h)
 
     read_walked : (now : Now) (request : ReadRequest) (mode : Mode) → is_open (ReadRequested request) ≡ true → Mine request.group → P now → P (read_begins s now (one id began visited message (ReadRequested request) phase) request mode)
-    read_walked now request Current is mine h = begins_read_walked now (ReadRequested request) request.group is mine h
+    read_walked now request Current is mine h = begins_read_walked now (ReadRequested request) request.group is mine (λ pump. absurd (cc)) h
     read_walked now request Snapshot is mine h = w.ends_it now id _ h
     read_walked now request Inconsistent is mine h = w.ends_it now id _ h
 
     local_find_walked : (now : Now) (request : FindRequest) (group : GroupId) (mode : Mode) → is_open (Find request) ≡ true → Mine group → P now → P (local_find_begins s now (one id began visited message (Find request) phase) request group mode)
-    local_find_walked now request group Current is mine h = begins_read_walked now (Find request) group is mine h
+    local_find_walked now request group Current is mine h = begins_read_walked now (Find request) group is mine (λ pump. absurd (cc)) h
     local_find_walked now request group Snapshot is mine h = w.ends_it now id _ h
     local_find_walked now request group Inconsistent is mine h = w.ends_it now id _ h
 
@@ -186,15 +219,15 @@ module _ (P : Now → Type 0) (Mine : GroupId → Type 0) (w : Walks P Mine) (s 
     find_walked now request None same mine h = w.ends_it now id _ h
     find_walked now request (Some group) same mine h = local_find_walked now request group request.mode (ap is_some same) (All-head Mine group [] mine) h
 
-    begins_by : (now : Now) (request : Request) → is_built request ≡ true → All Mine (asked_groups request) → P now → P (begins s now (one id began visited message request phase))
-    begins_by now (Txn transaction) is mine h = begins_read_walked now (Txn transaction) transaction.group refl (All-head Mine transaction.group [] mine) h
-    begins_by now (BatchRequest group transactions) is mine h = begins_read_walked now (BatchRequest group transactions) group is (All-head Mine group [] mine) h
-    begins_by now (ReadRequested request) is mine h = read_walked now request request.mode refl (All-head Mine request.group [] mine) h
-    begins_by now (Find request) is mine h = find_walked now request request.group refl mine h
-    begins_by now PumpEnter is mine h = absurd (cc)
-    begins_by now PumpHandle is mine h = absurd (cc)
-    begins_by now Refresh is mine h = w.ends_it now id _ h
+    begins_by : (now : Now) (request : Request) → is_served request ≡ true → All Mine (asked_groups request) → Roams Mine request → P now → P (begins s now (one id began visited message request phase))
+    begins_by now (Txn transaction) is mine roams h = begins_read_walked now (Txn transaction) transaction.group refl (All-head Mine transaction.group [] mine) roams h
+    begins_by now (BatchRequest group transactions) is mine roams h = begins_read_walked now (BatchRequest group transactions) group is (All-head Mine group [] mine) roams h
+    begins_by now (ReadRequested request) is mine roams h = read_walked now request request.mode refl (All-head Mine request.group [] mine) h
+    begins_by now (Find request) is mine roams h = find_walked now request request.group refl mine h
+    begins_by now PumpEnter is mine roams h = message_walked (goes_on s) goes_on_walked now (one id began visited message PumpEnter phase) [] (next_to_enter id (applied_logs now)) is refl roams h
+    begins_by now PumpHandle is mine roams h = group_walked (goes_on s) goes_on_walked now (one id began visited message PumpHandle phase) [] (next_to_handle (applied_logs now)) is refl roams h
+    begins_by now Refresh is mine roams h = w.ends_it now id _ h
 
-  pub begun_walked : (now : Now) (o : Operation) (refusal : Option Answer) → (refusal ≡ None → is_built o.request ≡ true) → All Mine (asked_groups o.request) → P now → P (unless_refused s now o refusal)
-  begun_walked now o None is mine h = begins_by o.id o.began o.visited o.message o.phase now o.request (is refl) mine h
-  begun_walked now o (Some answer) is mine h = w.ends_it now o.id answer h
+  pub begun_walked : (now : Now) (o : Operation) (refusal : Option Answer) → (refusal ≡ None → is_served o.request ≡ true) → All Mine (asked_groups o.request) → Roams Mine o.request → P now → P (unless_refused s now o refusal)
+  begun_walked now o None is mine roams h = begins_by o.id o.began o.visited o.message o.phase now o.request (is refl) mine roams h
+  begun_walked now o (Some answer) is mine roams h = w.ends_it now o.id answer h

@@ -19,7 +19,7 @@ use Rattle.mega_node_laws.specs.About.{IsAbout}
 use Rattle.mega_rules.specs.Finding.{refreshed_marks}
 use Rattle.mega_marks.specs.declared.indexed.Indexed.{Indexed}
 use Rattle.mega_marks.specs.AreMarked.{AreMarked}
-use Rattle.mega_actions.specs.Turns.{IsBuilt}
+use Rattle.mega_actions.specs.Turns.{IsServable}
 use Rattle.mega_actions.specs.Working.{work_of}
 use Rattle.mega_actions.specs.declared.work.Work.{Work}
 use Rattle.mega_core.specs.Kind.{FitsKind}
@@ -52,7 +52,7 @@ pub record HasActed (s : Setting) (kept : Kept) (leases : Leases) (indexed : Ind
   pub follows : Follows version progress (log_of now.met) now.stored
   pub marked : AreMarked s.cluster.schema indexed base (refreshed_marks (onto now.answers base))
   pub acted : Acted base now
-  pub built : All IsBuilt now.kept
+  pub built : All IsServable now.kept
   pub begun_is : begun ≡ min (begun_of base) last_number
   pub work_is : work ≡ work_of now
 

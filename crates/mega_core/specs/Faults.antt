@@ -13,7 +13,7 @@ abbrev pub fault_of : ActFault → StepFault
 fault_of act.DiskFault = step.DiskFault
 fault_of (act.Full length) = step.Full length
 fault_of (act.BadRecord number) = step.BadRecord number
-fault_of act.Unbuilt = step.Unbuilt
+fault_of act.Unserved = step.Unserved
 fault_of act.NoMemory = step.NoMemory
 
 abbrev pub taking_fault_of : TakeFault → StepFault
@@ -26,7 +26,7 @@ abbrev pub of_store : StepFault → Option StoreError
 of_store step.DiskFault = Some store.DiskFault
 of_store (step.Full length) = Some (store.Full length)
 of_store (step.BadRecord number) = Some (store.BadRecord number)
-of_store step.Unbuilt = None
+of_store step.Unserved = None
 of_store step.Stranger = None
 of_store step.Late = None
 of_store step.NoMemory = None

@@ -15,7 +15,7 @@ use Rattle.mega_replica.specs.Following.{Follows}
 use Rattle.mega_node_laws.specs.About.{IsAbout}
 use Rattle.mega_marks.specs.declared.indexed.Indexed.{Indexed}
 use Rattle.mega_marks.specs.AreMarked.{IsIndexed}
-use Rattle.mega_actions.specs.Turns.{IsBuilt}
+use Rattle.mega_actions.specs.Turns.{IsServable}
 use Rattle.mega_core.specs.Kind.{FitsKind}
 
 -- its logs and leases tell what it met, its rows follow its logs, its global indexes are at the marks of the last refresh of this start, and
@@ -30,4 +30,4 @@ pub record Represents (s : Setting) (kept : Kept) (leases : Leases) (indexed : I
   pub opened : node.open_operations ≡ open_ones
   pub begun_is : begun ≡ min (begun_of node.met) last_number
   pub about : All IsAbout open_ones
-  pub built : All IsBuilt open_ones
+  pub built : All IsServable open_ones

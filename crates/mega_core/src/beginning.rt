@@ -12,8 +12,8 @@ ghost use Rattle.mega_rules.specs.Members.{kind_of};
 ghost use Rattle.mega_rules.specs.Steps.{Begin, at_first, at_open, begins, missing_kind, new_operation, op_of, refusal, unless_refused};
 ghost use Rattle.mega_replica.specs.Faring.{Fares};
 ghost use Rattle.mega_voter.specs.Telling.{Tells};
-ghost use Rattle.mega_actions.specs.declared.fault.ActFault.TheVariants.{Unbuilt};
-ghost use Rattle.mega_actions.specs.Built.{is_built};
+ghost use Rattle.mega_actions.specs.declared.fault.ActFault.TheVariants.{Unserved};
+ghost use Rattle.mega_actions.specs.Servable.{is_served};
 ghost use Rattle.mega_actions.specs.Faults.{failed_by};
 ghost use Rattle.mega_marks.specs.AreMarked.{AreMarked, IsIndexed};
 ghost use Rattle.mega_actions.specs.Indexing.{marks_then};
@@ -26,7 +26,7 @@ ghost use Rattle.mega_core.specs.Standing.{StandsFor};
 
 use crate::kinds::{kind_of, missing_kind};
 use crate::node::Node;
-use mega_actions::{ActFault, Deed, End, Replica, Work, is_built};
+use mega_actions::{ActFault, Deed, End, Replica, Work, is_served};
 use mega_base::{Items, NodeId, NodeKind, OpId};
 use mega_disk::{Records, Versions};
 use mega_meanings::QueueHandlers;
@@ -107,12 +107,12 @@ fn serves<R: Records, V: Versions, H: QueueHandlers>(
     ensures indexed { OnOk result ((h : Meanings) (now : Now) → V.is_told ≡ true →
         IsAt V.version h replica.old now.met now.stored → IsIndexed (replica.old.members).schema replica.old.indexed now.met →
         AreMarked (replica.old.members).schema replica.new.indexed now.met (marks_then now request)) }
-    ensures built { OnOk result (is_built request ≡ true) }
-    ensures unbuilt { result ≡ Err Unbuilt → is_built request ≡ false }
+    ensures built { OnOk result (is_served request ≡ true) }
+    ensures unserved { result ≡ Err Unserved → is_served request ≡ false }
     ensures fares { Fares V.Versions (failed_by result) replica.old.rows.rows replica.new.rows.rows }
 {
-    if !is_built(&request) {
-        return Err(ActFault::Unbuilt);
+    if !is_served(&request) {
+        return Err(ActFault::Unserved);
     }
     replica.begins(alloc, handlers, work, op, request)
 }
@@ -142,8 +142,8 @@ fn unless_refused<R: Records, V: Versions, H: QueueHandlers>(
     ensures indexed { OnOk result ((h : Meanings) (now : Now) → V.is_told ≡ true →
         IsAt V.version h replica.old now.met now.stored → IsIndexed (replica.old.members).schema replica.old.indexed now.met →
         AreMarked (replica.old.members).schema replica.new.indexed now.met (marks_unless now request refusal)) }
-    ensures built { OnOk result (refusal ≡ None → is_built request ≡ true) }
-    ensures unbuilt { result ≡ Err Unbuilt → is_built request ≡ false }
+    ensures built { OnOk result (refusal ≡ None → is_served request ≡ true) }
+    ensures unserved { result ≡ Err Unserved → is_served request ≡ false }
     ensures fares { Fares V.Versions (failed_by result) replica.old.rows.rows replica.new.rows.rows }
 {
     match refusal {
@@ -174,10 +174,10 @@ impl<R: Records, V: Versions> Node<R, V> {
         ensures handlers { H.meant handlers.new ≡ H.meant handlers.old }
         ensures members { self.new.replica.members ≡ self.old.replica.members }
         ensures me { self.new.replica.me ≡ self.old.replica.me }
-        ensures unbuilt { result ≡ Err Unbuilt → is_built request ≡ false }
+        ensures unserved { result ≡ Err Unserved → is_served request ≡ false }
         ensures built { OnOk result ((h : Meanings) (node : RuleNode) →
             StandsFor V.version h self.old node →
-            refusal (setting_of self.old.replica h) node request ≡ None → is_built request ≡ true) }
+            refusal (setting_of self.old.replica h) node request ≡ None → is_served request ≡ true) }
         ensures voter { self.new.replica.voter ≡ self.old.replica.voter }
         ensures fares { Fares V.Versions (failed_by result) self.old.replica.rows.rows self.new.replica.rows.rows }
     {

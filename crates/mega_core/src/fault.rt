@@ -15,8 +15,8 @@ pub enum StepFault {
     Full { length: u64 },
     /// The bytes that were read of this run are none of the format.
     BadRecord { number: u64 },
-    /// What was asked is not served yet.
-    Unbuilt,
+    /// A batch of more than 16 transactions was asked for, or a node is to start first over logs that tell of a start.
+    Unserved,
     /// The message is of a node that is none of 1 to 9, or asks about one.
     Stranger,
     /// The message grants a lease that would end at 2^64 or later.
@@ -43,7 +43,7 @@ impl From<ActFault> for StepFault {
             ActFault::DiskFault => StepFault::DiskFault,
             ActFault::Full { length } => StepFault::Full { length },
             ActFault::BadRecord { number } => StepFault::BadRecord { number },
-            ActFault::Unbuilt => StepFault::Unbuilt,
+            ActFault::Unserved => StepFault::Unserved,
             ActFault::NoMemory => StepFault::NoMemory,
         }
     }

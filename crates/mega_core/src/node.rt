@@ -12,10 +12,10 @@ ghost use Rattle.mega_rules.specs.Operations.{Node as RuleNode};
 ghost use Rattle.mega_rules.specs.Steps.{Begin, Take, Tick, start, step};
 ghost use Rattle.mega_replica.specs.Faring.{Fares};
 ghost use Rattle.mega_wal.specs.Kept.{Represents as Holds};
-ghost use Rattle.mega_actions.specs.Built.{is_built};
+ghost use Rattle.mega_actions.specs.Servable.{is_served};
 ghost use Rattle.mega_actions.specs.IsAt.{setting_of};
 ghost use Rattle.mega_actions.specs.Stands.{setting};
-ghost use Rattle.mega_core.specs.declared.fault.StepFault.TheVariants.{Late, NoMemory, Stranger, Unbuilt};
+ghost use Rattle.mega_core.specs.declared.fault.StepFault.TheVariants.{Late, NoMemory, Stranger, Unserved};
 ghost use Rattle.mega_core.specs.Faults.{failed_by};
 ghost use Rattle.mega_core.specs.Notes.{met_of};
 ghost use Rattle.mega_core.specs.Placed.{IsPlaced};
@@ -29,7 +29,7 @@ use crate::starting::{leases_of, members_of, voter_of};
 use crate::step::Step;
 use crate::taking::{Taken, acts, takes};
 use crate::ticking::{Ticked, acts_ticked, ticks};
-use crate::touching::{asked_groups, touched};
+use crate::touching::{begun_groups, touched};
 use mega_actions::Replica;
 use mega_base::{Items, Text};
 use mega_cluster::Cluster;
@@ -53,7 +53,7 @@ pub struct Node<R: Records, V: Versions> {
 }
 
 impl<R: Records + Drop, V: Versions + Drop> Node<R, V> {
-    /// The node of this number at its first start, over logs and rows that hold nothing; `Unbuilt` where the logs tell of
+    /// The node of this number at its first start, over logs and rows that hold nothing; `Unserved` where the logs tell of
     /// a start.
     pub fn start(
         alloc: Global,
@@ -69,8 +69,8 @@ impl<R: Records + Drop, V: Versions + Drop> Node<R, V> {
             (start (setting cluster me h) 1 [] [])) }
         ensures members { IfOk result (λ node. node.replica.members ≡ cluster) }
         ensures me { IfOk result (λ node. node.replica.me ≡ me) }
-        ensures unbuilt { result ≡ Err Unbuilt → Holds logs.kept [] → ⊥ }
-        ensures only { OnErr result ((result ≡ Err NoMemory) ⊎ (result ≡ Err Unbuilt)) }
+        ensures unserved { result ≡ Err Unserved → Holds logs.kept [] → ⊥ }
+        ensures only { OnErr result ((result ≡ Err NoMemory) ⊎ (result ≡ Err Unserved)) }
     {
         let members = members_of(alloc, cluster)?;
         let voter = voter_of(alloc, logs)?;
@@ -120,12 +120,13 @@ impl<R: Records, V: Versions> Node<R, V> {
         ensures handlers { H.meant handlers.new ≡ H.meant handlers.old }
         ensures members { self.new.replica.members ≡ self.old.replica.members }
         ensures me { self.new.replica.me ≡ self.old.replica.me }
-        ensures built { result ≡ Err Unbuilt → (h : Meanings) (node : RuleNode) → StandsFor V.version h self.old node → ⊥ }
+        ensures built { result ≡ Err Unserved → (h : Meanings) (node : RuleNode) → StandsFor V.version h self.old node → ⊥ }
         ensures stranger { result ≡ Err Stranger → IsByStranger message.now.from message.now.body }
         ensures late { result ≡ Err Late → (h : Meanings) (node : RuleNode) → StandsFor V.version h self.old node → IsLate self.old.replica.members message.now.body }
         ensures fares { Fares V.Versions (failed_by result) self.old.replica.rows.rows self.new.replica.rows.rows }
     {
-        let groups = touched(alloc, &message.body, self.open.as_slice())?;
+        let voter = &self.replica.voter;
+        let groups = touched(alloc, voter, &message.body, self.open.as_slice())?;
         let before = watched(alloc, &self.replica, groups)?;
         let opened = mem::replace(&mut self.open, Items::new(alloc));
         let taken = takes(alloc, &mut self.replica, opened, message)?;
@@ -166,12 +167,12 @@ impl<R: Records, V: Versions> Node<R, V> {
         ensures handlers { H.meant handlers.new ≡ H.meant handlers.old }
         ensures members { self.new.replica.members ≡ self.old.replica.members }
         ensures me { self.new.replica.me ≡ self.old.replica.me }
-        ensures unbuilt { result ≡ Err Unbuilt → is_built request ≡ false }
+        ensures unserved { result ≡ Err Unserved → is_served request ≡ false }
         ensures stranger { result ≢ Err Stranger }
         ensures late { result ≢ Err Late }
         ensures fares { Fares V.Versions (failed_by result) self.old.replica.rows.rows self.new.replica.rows.rows }
     {
-        let groups = asked_groups(alloc, &request)?;
+        let groups = begun_groups(alloc, &self.replica.voter, &request)?;
         let before = watched(alloc, &self.replica, groups)?;
         let work = self.begins(alloc, handlers, request)?;
         let none = Items::new(alloc);
@@ -212,7 +213,7 @@ impl<R: Records, V: Versions> Node<R, V> {
         ensures handlers { H.meant handlers.new ≡ H.meant handlers.old }
         ensures members { self.new.replica.members ≡ self.old.replica.members }
         ensures me { self.new.replica.me ≡ self.old.replica.me }
-        ensures built { result ≡ Err Unbuilt → (h : Meanings) (node : RuleNode) → StandsFor V.version h self.old node → ⊥ }
+        ensures built { result ≡ Err Unserved → (h : Meanings) (node : RuleNode) → StandsFor V.version h self.old node → ⊥ }
         ensures stranger { result ≢ Err Stranger }
         ensures late { result ≢ Err Late }
         ensures fares { Fares V.Versions (failed_by result) self.old.replica.rows.rows self.new.replica.rows.rows }

@@ -1,5 +1,5 @@
-//! Any start of a node, over the logs that an earlier one left: its number, what it owes to a step that was cut off, and the
-//! decided prefixes, which are all applied.
+//! Any start of a node, over the logs and rows that an earlier one left: its number, what it owes to a step that was cut off,
+//! and the decided prefixes, of which all that is left is applied.
 
 ghost use Rattle.std.specs.Prelude.{◌≡◌, ◌⊎◌, ◌<◌, ◌+◌, ◌++◌, ◌∷◌, [], ℕ, List, map, flat_map, max, nat_lt, if◌then◌else◌, true, IfOk, OnOk, OnErr, Err};
 ghost use Rattle.mega_base.specs.declared.names.GroupId.{GroupId as Group};
@@ -20,7 +20,7 @@ ghost use Rattle.mega_wal.specs.declared.item.JournalItem.TheVariants.{Start as 
 ghost use Rattle.mega_actions.specs.Stands.{setting};
 ghost use Rattle.mega_core.specs.declared.restarting.RestartFault.TheVariants.{NoMemory as OutOfMemory, StartsFull};
 ghost use Rattle.mega_core.specs.Notes.{met_of};
-ghost use Rattle.mega_core.specs.Restarting.{applied_at_start};
+ghost use Rattle.mega_core.specs.Restarting.{HaveFollowed, applied_at_start};
 ghost use Rattle.mega_core.specs.Served.{IsServed};
 ghost use Rattle.mega_core.specs.Standing.{StandsFor};
 
@@ -132,7 +132,7 @@ fn leases<R: Records>(
     Leases::start(alloc, cluster, NodeId(me), start, &grants)
 }
 
-/// Applies the decided prefix of a group, and gives its end.
+/// Applies what is left of the decided prefix of a group, and gives its end.
 fn apply<R: Records, V: Versions>(
     alloc: Global,
     voter: &Voter<R>,
@@ -162,14 +162,14 @@ fn note(notes: &mut Items<Note>, group: GroupId, position: u64) -> Result<(), No
     Ok(())
 }
 
-/// Applies the decided prefixes of all groups, and notes them.
+/// Applies what is left of the decided prefixes of all groups, and notes these.
 fn apply_all<R: Records, V: Versions>(
     alloc: Global,
     voter: &Voter<R>,
     rows: &mut StoredRows<V>,
 ) -> Result<Items<Note>, NoMemory>
-    ensures follows { OnOk result ((met : List Met) → Tells voter.now.logs.kept met →
-        Follows (V.version rows.old.rows) (progress_at rows.old.progress) (log_of met) (λ group. 0) →
+    ensures follows { OnOk result ((met : List Met) (stored : Group → ℕ) → Tells voter.now.logs.kept met →
+        Follows (V.version rows.old.rows) (progress_at rows.old.progress) (log_of met) stored →
         Follows (V.version rows.new.rows) (progress_at rows.new.progress) (log_of met) (apply_all met)) }
     ensures notes { IfOk result (λ notes. (met : List Met) → Tells voter.now.logs.kept met → map met_of notes ≡ flat_map (start_note met) (groups_of met)) }
 {
@@ -182,7 +182,7 @@ fn apply_all<R: Records, V: Versions>(
     Ok(notes)
 }
 
-/// Applies the decided prefixes of all groups where the node keeps rows, and notes them.
+/// Applies what is left of the decided prefixes of all groups where the node keeps rows, and notes these.
 fn apply_where_kept<R: Records, V: Versions>(
     alloc: Global,
     cluster: &Cluster,
@@ -191,7 +191,7 @@ fn apply_where_kept<R: Records, V: Versions>(
     rows: &mut StoredRows<V>,
 ) -> Result<Items<Note>, NoMemory>
     ensures follows { OnOk result ((h : Meanings) (met : List Met) → Tells voter.now.logs.kept met →
-        Follows (V.version rows.old.rows) (progress_at rows.old.progress) (log_of met) (λ group. 0) →
+        HaveFollowed cluster.now me (V.version rows.old.rows) (progress_at rows.old.progress) met →
         Follows (V.version rows.new.rows) (progress_at rows.new.progress) (log_of met) (applied_at_start (setting cluster.now me h) met)) }
     ensures notes { IfOk result (λ notes. (h : Meanings) (met : List Met) → Tells voter.now.logs.kept met → map met_of notes ≡ start_notes (setting cluster.now me h) met) }
 {
@@ -203,19 +203,19 @@ fn apply_where_kept<R: Records, V: Versions>(
 }
 
 impl<R: Records + Drop, V: Versions + Drop> Node<R, V> {
-    /// The node of this number at its next start, over the logs that its earlier starts left and rows that hold nothing. The
-    /// start is staged in the logs, and counts once these are flushed.
+    /// The node of this number at its next start, over the logs that its earlier starts left, and rows that follow these so far
+    /// as they do: it costs what is not stored yet. The start is staged in the logs, and counts once these are flushed.
     pub fn restart(
         alloc: Global,
         cluster: Cluster,
         me: u8,
         voter: Voter<R>,
-        rows: V,
+        rows: StoredRows<V>,
     ) -> Result<Restarted<R, V>, RestartFault>
         requires served { IsServed cluster }
         requires member { is_node cluster me ≡ true }
-        ensures state { IfOk result (λ made. (h : Meanings) (starts : ℕ) (met owed : List Met) → AreOwed owed met → Recalls voter.logs.kept starts (onto owed met) → ((key : List ℕ) (n : ℕ) → V.version rows key n ≡ None) →
-            StandsFor V.version h made.node (start (setting cluster me h) (starts + 1) owed met)) }
+        ensures state { IfOk result (λ made. (h : Meanings) (starts : ℕ) (met owed : List Met) → AreOwed owed met → Recalls voter.logs.kept starts (onto owed met) →
+            HaveFollowed cluster me (V.version rows.rows) (progress_at rows.progress) (onto owed met) → StandsFor V.version h made.node (start (setting cluster me h) (starts + 1) owed met)) }
         ensures notes { IfOk result (λ made. (h : Meanings) (starts : ℕ) (met owed : List Met) → AreOwed owed met → Recalls voter.logs.kept starts (onto owed met) →
             map met_of made.notes ≡ start_notes (setting cluster me h) (onto owed (Starts (starts + 1) ∷ met))) }
         ensures number { IfOk result (λ made. made.start ≡ voter.logs.kept.starts + 1) }
@@ -230,7 +230,7 @@ impl<R: Records + Drop, V: Versions + Drop> Node<R, V> {
         let mut voter = voter;
         let start = begins(alloc, &mut voter)?;
         let members = members(alloc, cluster)?;
-        let mut rows = StoredRows::new(alloc, rows);
+        let mut rows = rows;
         let leases = leases(alloc, members.cluster(), me, start, &voter);
         let notes = apply_where_kept(alloc, members.cluster(), me, &voter, &mut rows)?;
         let indexed = Indexed::new(alloc);

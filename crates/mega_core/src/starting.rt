@@ -4,7 +4,7 @@ ghost use Rattle.mega_leases.specs.Tells.{Tells as TellsLeases};
 ghost use Rattle.mega_rules.specs.Met.{Starts};
 ghost use Rattle.mega_voter.specs.Telling.{Tells};
 ghost use Rattle.mega_wal.specs.Kept.{Represents as Holds};
-ghost use Rattle.mega_core.specs.declared.fault.StepFault.TheVariants.{NoMemory, Unbuilt};
+ghost use Rattle.mega_core.specs.declared.fault.StepFault.TheVariants.{NoMemory, Unserved};
 ghost use Rattle.mega_core.specs.Served.{IsServed};
 
 use crate::fault::StepFault;
@@ -32,11 +32,11 @@ pub(crate) fn members_of(alloc: Global, cluster: Cluster) -> Result<Members, Ste
 /// Notes the first start of a voter; a later one is not served yet.
 fn first_start<R: Records>(alloc: Global, voter: &mut Voter<R>) -> Result<(), StepFault>
     ensures state { OnOk result (Holds voter.old.logs.kept [] → Tells voter.new.logs.kept (Starts 1 ∷ [])) }
-    ensures later { result ≡ Err Unbuilt → Holds voter.old.logs.kept [] → ⊥ }
-    ensures only { OnErr result ((result ≡ Err NoMemory) ⊎ (result ≡ Err Unbuilt)) }
+    ensures later { result ≡ Err Unserved → Holds voter.old.logs.kept [] → ⊥ }
+    ensures only { OnErr result ((result ≡ Err NoMemory) ⊎ (result ≡ Err Unserved)) }
 {
     if voter.start() != 0 {
-        return Err(StepFault::Unbuilt);
+        return Err(StepFault::Unserved);
     }
     match voter.begins(alloc) {
         Ok(()) => Ok(()),
@@ -50,8 +50,8 @@ pub(crate) fn voter_of<R: Records + Drop>(
     logs: Logs<R>,
 ) -> Result<Voter<R>, StepFault>
     ensures state { IfOk result (λ voter. Holds logs.kept [] → Tells voter.logs.kept (Starts 1 ∷ [])) }
-    ensures later { result ≡ Err Unbuilt → Holds logs.kept [] → ⊥ }
-    ensures only { OnErr result ((result ≡ Err NoMemory) ⊎ (result ≡ Err Unbuilt)) }
+    ensures later { result ≡ Err Unserved → Holds logs.kept [] → ⊥ }
+    ensures only { OnErr result ((result ≡ Err NoMemory) ⊎ (result ≡ Err Unserved)) }
 {
     let mut voter = Voter::new(logs);
     first_start(alloc, &mut voter)?;

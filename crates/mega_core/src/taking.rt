@@ -20,9 +20,9 @@ ghost use Rattle.mega_voter.specs.Telling.{Tells};
 ghost use Rattle.mega_actions.specs.declared.fault.ActFault.TheVariants as act;
 ghost use Rattle.mega_actions.specs.Faults.{failed_by as failed_to_act};
 ghost use Rattle.mega_actions.specs.IsAt.{IsAt, setting_of};
-ghost use Rattle.mega_actions.specs.Turns.{IsBuiltHeard, IsHeardAbout};
+ghost use Rattle.mega_actions.specs.Turns.{IsServableHeard, IsHeardAbout};
 ghost use Rattle.mega_actions.specs.Working.{work_of};
-ghost use Rattle.mega_core.specs.declared.fault.StepFault.TheVariants.{Late, Stranger, Unbuilt};
+ghost use Rattle.mega_core.specs.declared.fault.StepFault.TheVariants.{Late, Stranger, Unserved};
 ghost use Rattle.mega_core.specs.Faults.{failed_by};
 ghost use Rattle.mega_core.specs.Notes.{met_of};
 ghost use Rattle.mega_core.specs.Placed.{IsPlaced};
@@ -221,7 +221,7 @@ pub(crate) fn takes<R: Records, V: Versions>(
     ensures members { replica.new.members ≡ replica.old.members }
     ensures me { replica.new.me ≡ replica.old.me }
     ensures indexed { replica.new.indexed ≡ replica.old.indexed }
-    ensures built { result ≢ Err Unbuilt }
+    ensures built { result ≢ Err Unserved }
     ensures stranger { result ≡ Err Stranger → IsByStranger message.now.from message.now.body }
     ensures late { result ≡ Err Late → (met : List Met) → TellsLeases replica.old.members replica.old.me replica.old.leases met → IsLate replica.old.members message.now.body }
     ensures apart { failed_by result ≡ None }
@@ -262,7 +262,7 @@ pub(crate) fn acts<R: Records, V: Versions, H: QueueHandlers>(
     ensures me { replica.new.me ≡ replica.old.me }
     ensures voter { replica.new.voter ≡ replica.old.voter }
     ensures indexed { replica.new.indexed ≡ replica.old.indexed }
-    ensures unbuilt { result ≡ Err act.Unbuilt → All IsBuiltHeard heard → ⊥ }
+    ensures unserved { result ≡ Err act.Unserved → All IsServableHeard heard → ⊥ }
     ensures fares { Fares V.Versions (failed_to_act result) replica.old.rows.rows replica.new.rows.rows }
 {
     let mut work = Work::new(alloc);

@@ -9,7 +9,7 @@ ghost use Rattle.mega_rules.specs.Replies.{reply_to};
 ghost use Rattle.mega_rules.specs.Steps.{onto, told_notes};
 ghost use Rattle.mega_voter.specs.Telling.{Tells};
 ghost use Rattle.mega_actions.specs.IsAt.{setting_of};
-ghost use Rattle.mega_core.specs.declared.fault.StepFault.TheVariants.{Late, Stranger, Unbuilt};
+ghost use Rattle.mega_core.specs.declared.fault.StepFault.TheVariants.{Late, Stranger, Unserved};
 ghost use Rattle.mega_core.specs.Faults.{failed_by};
 ghost use Rattle.mega_core.specs.Notes.{met_of};
 ghost use Rattle.mega_core.specs.Staging.{Stages};
@@ -135,7 +135,7 @@ pub(crate) fn is_told<R: Records, V: Versions>(
     ensures me { replica.new.me ≡ replica.old.me }
     ensures rows { replica.new.rows ≡ replica.old.rows }
     ensures indexed { replica.new.indexed ≡ replica.old.indexed }
-    ensures built { result ≢ Err Unbuilt }
+    ensures built { result ≢ Err Unserved }
     ensures stranger { result ≡ Err Stranger → IsByStranger message.now.from message.now.body }
     ensures late { result ≡ Err Late → (met : List Met) → TellsLeases replica.old.members replica.old.me replica.old.leases met → IsLate replica.old.members message.now.body }
     ensures apart { failed_by result ≡ None }

@@ -21,7 +21,7 @@ ghost use Rattle.mega_voter.specs.Telling.{Tells};
 ghost use Rattle.mega_actions.specs.declared.fault.ActFault.TheVariants as act;
 ghost use Rattle.mega_actions.specs.Faults.{failed_by as failed_to_act};
 ghost use Rattle.mega_actions.specs.IsAt.{IsAt, setting_of};
-ghost use Rattle.mega_actions.specs.Turns.{IsBuilt};
+ghost use Rattle.mega_actions.specs.Turns.{IsServable};
 ghost use Rattle.mega_actions.specs.Working.{work_of};
 ghost use Rattle.mega_core.specs.Notes.{met_of};
 ghost use Rattle.mega_core.specs.Staging.{Stages};
@@ -227,7 +227,7 @@ pub(crate) fn acts_ticked<R: Records, V: Versions, H: QueueHandlers>(
     ensures me { replica.new.me ≡ replica.old.me }
     ensures voter { replica.new.voter ≡ replica.old.voter }
     ensures indexed { replica.new.indexed ≡ replica.old.indexed }
-    ensures unbuilt { result ≡ Err act.Unbuilt → All IsBuilt operations → ⊥ }
+    ensures unserved { result ≡ Err act.Unserved → All IsServable operations → ⊥ }
     ensures fares { Fares V.Versions (failed_to_act result) replica.old.rows.rows replica.new.rows.rows }
 {
     let mut work = Work::new(alloc);

@@ -1,15 +1,21 @@
 //! The groups of which a step may apply more.
 ghost use Rattle.std.specs.Prelude.{◌≡◌, ◌++◌, ◌∷◌, [], List, Option, Some, None, IfOk, fold};
+ghost use Rattle.std.specs.List.{list_any};
 ghost use Rattle.mega_base.specs.declared.names.GroupId.{GroupId as Group};
 ghost use Rattle.mega_node_laws.specs.About.{group_in};
 ghost use Rattle.mega_rules.specs.Logs.{groups_of, is_group_before, with_group};
-ghost use Rattle.mega_rules.specs.Steps.{decision_note, told_decision};
-ghost use Rattle.mega_core.specs.Touching.{asked_groups, named, touched, waits, with_phase};
+ghost use Rattle.mega_rules.specs.Met.{Met};
+ghost use Rattle.mega_rules.specs.Steps.{decision_note, onto, told_decision};
+ghost use Rattle.mega_voter.specs.Telling.{Tells};
+ghost use Rattle.mega_core.specs.Touching.{asked_groups, begun_groups, named, roams, told_groups, touched, waits, with_phase};
 
+use mega_actions::is_pump;
 use mega_base::{Copied, GroupId, Items, NoMemory};
+use mega_disk::Records;
 use mega_operations::{Operation, Phase};
 use mega_outcome::Request;
 use mega_propose::is_same_group;
+use mega_voter::Voter;
 use mega_wire::Body;
 use std::alloc::Global;
 
@@ -124,31 +130,77 @@ fn named(alloc: Global, group: &Option<GroupId>) -> Result<Items<GroupId>, NoMem
     }
 }
 
-/// The group of the decision that a message tells, if it tells one.
-fn told(alloc: Global, body: &Body) -> Result<Items<GroupId>, NoMemory>
-    ensures { IfOk result (λ groups. groups ≡ groups_of (decision_note (told_decision body.now))) }
+/// All groups with a decided position.
+fn all_groups<R: Records>(alloc: Global, voter: &Voter<R>) -> Result<Items<GroupId>, NoMemory>
+    ensures { IfOk result (λ groups. (met : List Met) → Tells voter.now.logs.kept met → groups ≡ groups_of met) }
+{
+    let groups = voter.groups(alloc)?;
+    Ok(Items::from_vec(groups))
+}
+
+/// These groups, and that of the decision that a message tells, if it tells one.
+fn with_told(alloc: Global, groups: Items<GroupId>, body: &Body) -> Result<Items<GroupId>, NoMemory>
+    ensures { IfOk result (λ made. (met : List Met) → groups ≡ groups_of met → made ≡ groups_of (onto (decision_note (told_decision body.now)) met)) }
 {
     match body {
-        Body::Decide { group, .. } => only(alloc, group),
-        Body::Have { group, .. } => only(alloc, group),
-        _ => Ok(Items::new(alloc)),
+        Body::Decide { group, .. } => {
+            let group = group.copy(alloc)?;
+            with_group(alloc, groups, group)
+        }
+        Body::Have { group, .. } => {
+            let group = group.copy(alloc)?;
+            with_group(alloc, groups, group)
+        }
+        _ => Ok(groups),
     }
 }
 
-/// The groups of which a step may apply more in which a message is taken.
-pub(crate) fn touched(
+/// Whether the operation may read any group: a pump.
+fn roams(operation: &Operation) -> bool
+    ensures { result ≡ roams operation.now }
+{
+    is_pump(&operation.request)
+}
+
+/// Whether a pump is among the operations.
+fn is_any_roaming(operations: &[Operation]) -> bool
+    ensures { result ≡ list_any roams operations.now }
+{
+    operations.iter().any(|one| roams(one))
+}
+
+/// The group of the decision that a message tells, or all groups and that one.
+fn told_groups<R: Records>(
     alloc: Global,
+    voter: &Voter<R>,
+    body: &Body,
+    all: bool,
+) -> Result<Items<GroupId>, NoMemory>
+    ensures { IfOk result (λ groups. (met : List Met) → Tells voter.now.logs.kept met → groups ≡ told_groups all met body.now) }
+{
+    if all {
+        let groups = all_groups(alloc, voter)?;
+        return with_told(alloc, groups, body);
+    }
+    let told = with_told(alloc, Items::new(alloc), body)?;
+    Ok(told)
+}
+
+/// The groups of which a step may apply more in which a message is taken.
+pub(crate) fn touched<R: Records>(
+    alloc: Global,
+    voter: &Voter<R>,
     body: &Body,
     operations: &[Operation],
 ) -> Result<Items<GroupId>, NoMemory>
-    ensures { IfOk result (λ groups. groups ≡ touched body.now operations.now) }
+    ensures { IfOk result (λ groups. (met : List Met) → Tells voter.now.logs.kept met → groups ≡ touched met body.now operations.now) }
 {
-    let first = told(alloc, body)?;
+    let first = told_groups(alloc, voter, body, is_any_roaming(operations))?;
     with_phases(alloc, first, operations)
 }
 
-/// The group of which a step may apply more in which an operation begins.
-pub(crate) fn asked_groups(alloc: Global, request: &Request) -> Result<Items<GroupId>, NoMemory>
+/// The group that a request names, if it names one.
+fn asked_groups(alloc: Global, request: &Request) -> Result<Items<GroupId>, NoMemory>
     ensures { IfOk result (λ groups. groups ≡ asked_groups request.now) }
 {
     match request {
@@ -158,4 +210,18 @@ pub(crate) fn asked_groups(alloc: Global, request: &Request) -> Result<Items<Gro
         Request::Find(find) => named(alloc, &find.group),
         _ => Ok(Items::new(alloc)),
     }
+}
+
+/// The groups of which a step may apply more in which an operation begins.
+pub(crate) fn begun_groups<R: Records>(
+    alloc: Global,
+    voter: &Voter<R>,
+    request: &Request,
+) -> Result<Items<GroupId>, NoMemory>
+    ensures { IfOk result (λ groups. (met : List Met) → Tells voter.now.logs.kept met → groups ≡ begun_groups met request.now) }
+{
+    if is_pump(request) {
+        return all_groups(alloc, voter);
+    }
+    asked_groups(alloc, request)
 }

@@ -1,3 +1,4 @@
+pub mod Fallen
 pub mod Noted
 pub mod Cutting
 pub mod Going

@@ -1,5 +1,6 @@
 -- How a node over its records stands to the node of the rules: while it is up, and where it starts.
 use Rattle.std.specs.Prelude.{◌≡◌, ℕ, false, List, [], All, Option}
+use Rattle.mega_cluster.specs.declared.cluster.Cluster.{Cluster}
 use Rattle.mega_disk.specs.declared.records.Records.{Ghosts}
 use Rattle.mega_disk.specs.VersionMaps.{Versions}
 use Rattle.mega_handler.specs.Named.{Meaning, Meanings}
@@ -11,7 +12,7 @@ use Rattle.mega_rules.specs.Met.{Met}
 use Rattle.mega_rules.specs.Operations.{Node as RuleNode, Setting}
 use Rattle.mega_rules.specs.Steps.{Begin, Event, Take, Tick, onto, step}
 use Rattle.mega_leases.specs.Opening.{AreOwed}
-use Rattle.mega_voter.specs.declared.voter.Voter.{Voter}
+use Rattle.mega_replica.specs.Following.{progress_at}
 use Rattle.mega_voter.specs.Holding.{HoldsMet, Recalls}
 use Rattle.mega_voter.specs.Journal.{journal_of}
 use Rattle.mega_node_laws.specs.Acted.{acted_on, decision_in}
@@ -19,7 +20,9 @@ use Rattle.mega_node_laws.specs.Own.{HasOwnRows}
 use Rattle.mega_actions.specs.Stands.{setting}
 use Rattle.mega_core.specs.declared.node.Node.{Node}
 use Rattle.mega_core.specs.Placed.{IsPlaced}
+use Rattle.mega_core.specs.Restarting.{HaveFollowed}
 use Rattle.mega_core.specs.Standing.{StandsFor}
+use Rattle.mega_durable.specs.declared.down.Down.{Down}
 use Rattle.mega_durable.specs.Granted.{KeepsGrants}
 
 -- the records of a node, and its setting
@@ -52,9 +55,10 @@ pub record MayHappen (makes : List ℕ → Option Meaning) (s : Setting) (node :
   pub placed : IsPlacedAt s node event
   pub formed : All IsItem (journal_of (step s node event).node.met)
 
--- logs over which a node may start: they recall what it met and owes, their records are open and hold it
-pub record MayStart {R : Type 0} (store : Ghosts R) (voter : Voter R) (starts : ℕ) (met owed : List Met) : Type 0 where
+-- logs and rows over which a node may start: the logs recall what it met and owes, their records are open and hold it, and the rows follow it
+pub record MayStart {R V : Type 0} (store : Ghosts R) (version : V → Versions) (c : Cluster) (me : ℕ) (down : Down R V) (starts : ℕ) (met owed : List Met) : Type 0 where
   pub owes : AreOwed owed met
-  pub recalls : Recalls voter.logs.kept starts (onto owed met)
-  pub ready : store.is_spent voter.logs.records ≡ false
-  pub holds : HoldsMet (store.list voter.logs.records) starts (onto owed met)
+  pub recalls : Recalls down.voter.logs.kept starts (onto owed met)
+  pub ready : store.is_spent down.voter.logs.records ≡ false
+  pub holds : HoldsMet (store.list down.voter.logs.records) starts (onto owed met)
+  pub rows : HaveFollowed c me (version down.rows.rows) (progress_at down.rows.progress) (onto owed met)

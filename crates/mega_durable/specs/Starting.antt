@@ -1,21 +1,24 @@
 -- Why a node did not start, and what its records hold then.
 use Rattle.std.specs.Prelude.{◌≡◌, ◌≢◌, ℕ, ◌<◌, if◌then◌else◌, List, Option, Some}
+use Rattle.mega_cluster.specs.declared.cluster.Cluster.{Cluster}
 use Rattle.mega_disk.specs.declared.records.Records.{Ghosts}
 use Rattle.mega_disk.specs.Images.{LeavesOnly}
+use Rattle.mega_disk.specs.VersionMaps.{Versions}
 use Rattle.mega_handler.specs.Named.{Meanings}
 use Rattle.mega_wal.specs.declared.answers.LogFault.{LogFault}
 use Rattle.mega_wal.specs.declared.answers.LogFault.TheVariants.{DiskFault}
 use Rattle.mega_rules.specs.Met.{Met}
 use Rattle.mega_voter.specs.declared.voter.Voter.{Voter}
 use Rattle.mega_voter.specs.Holding.{HoldsMet}
+use Rattle.mega_durable.specs.declared.down.Down.{Down}
 use Rattle.mega_durable.specs.declared.starting.NotStarted.{NotStarted}
 use Rattle.mega_durable.specs.declared.starting.NotStarted.TheVariants.{Cut, Log, NoMemory, StartsFull}
 use Rattle.mega_durable.specs.Cut.{IsCutStart, LogWent, MayLeaveStart, is_cut}
 use Rattle.mega_durable.specs.Standing.{MayStart}
 
--- of each history over which the logs may start
-abbrev pub AtEachStart : {R : Type 0} → Ghosts R → Voter R → (Meanings → ℕ → List Met → List Met → Type 0) → Type 0
-AtEachStart store voter Is = (h : Meanings) (starts : ℕ) (met owed : List Met) → MayStart store voter starts met owed → Is h starts met owed
+-- of each history over which the node may start
+abbrev pub AtEachStart : {R V : Type 0} → Ghosts R → (V → Versions) → Cluster → ℕ → Down R V → (Meanings → ℕ → List Met → List Met → Type 0) → Type 0
+AtEachStart store version c me down Is = (h : Meanings) (starts : ℕ) (met owed : List Met) → MayStart store version c me down starts met owed → Is h starts met owed
 
 -- of each history that records hold, whose starts may be counted up
 abbrev pub AtStarts : {R : Type 0} → Ghosts R → R → (ℕ → List Met → Type 0) → Type 0

@@ -2,6 +2,7 @@
 #![tactic(auto)]
 
 mod cut;
+mod down;
 mod fault;
 mod keeping;
 mod replying;
@@ -9,6 +10,7 @@ mod starting;
 mod up;
 
 pub use cut::Cut;
+pub use down::Down;
 pub use fault::UpFault;
 pub use starting::{NotStarted, Started};
 pub use up::Up;

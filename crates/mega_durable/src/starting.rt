@@ -1,9 +1,10 @@
-//! A node starts over the logs that its earlier starts left: its record is kept before anything of the start is given out.
+//! A node starts over the logs and rows that its earlier starts left: its record is kept before anything of the start is given out.
 ghost use Rattle.std.specs.Prelude.{◌≡◌, ◌+◌, ◌∷◌, [], ℕ, List, map, None, Some, true, false, IfOk, IfErr, MatchResult};
 ghost use Rattle.mega_disk.specs.Images.{LeavesOnly};
 ghost use Rattle.mega_handler.specs.Named.{Meanings};
 ghost use Rattle.mega_rules.specs.Members.{is_node};
-ghost use Rattle.mega_rules.specs.Met.{Met, Starts};
+ghost use Rattle.mega_rules.specs.Clock.{start_of};
+ghost use Rattle.mega_rules.specs.Met.{Crashes, Met, Starts};
 ghost use Rattle.mega_rules.specs.Steps.{onto, start, start_notes};
 ghost use Rattle.mega_rules.specs.Operations.{Node as RuleNode};
 ghost use Rattle.mega_voter.specs.Holding.{GoesOn, HoldsMet, starts_after};
@@ -14,9 +15,10 @@ ghost use Rattle.mega_core.specs.Notes.{met_of};
 ghost use Rattle.mega_core.specs.Served.{IsServed};
 ghost use Rattle.mega_core.specs.Standing.{StandsFor};
 ghost use Rattle.mega_durable.specs.Cut.{IsCutStart, IsWhole, LogWent, MayLeaveStart};
-ghost use Rattle.mega_durable.specs.Standing.{IsUp, records_in};
+ghost use Rattle.mega_durable.specs.Standing.{IsUp, MayStart, records_in};
 ghost use Rattle.mega_durable.specs.Starting.{AtEachStart, AtStarts, IsCutOff, IsRefused, LeavesStart, refused_by};
 
+use crate::down::Down;
 use crate::keeping::is_cut;
 use crate::up::Up;
 use mega_actions::Replica;
@@ -24,7 +26,6 @@ use mega_base::Items;
 use mega_cluster::Cluster;
 use mega_core::{Node, Note, RestartFault, Restarted};
 use mega_disk::{Records, Versions};
-use mega_voter::Voter;
 use mega_wal::LogFault;
 use std::alloc::Global;
 
@@ -107,35 +108,34 @@ fn refused<R: Records>(fault: LogFault, records: R) -> NotStarted<R>
 
 impl<R: Records + Drop, V: Versions + Drop> Up<R, V> {
     /// The node of this number starts once more, over the logs that its earlier starts left, of which nothing is staged, and
-    /// rows that hold nothing. The record of the start is kept before anything of it is given out.
+    /// rows that follow these. The record of the start is kept before anything of it is given out.
     pub fn start(
         alloc: Global,
         cluster: Cluster,
         me: u8,
-        voter: Voter<R>,
-        rows: V,
+        down: Down<R, V>,
     ) -> Result<Started<R, V>, NotStarted<R>>
         requires served { IsServed cluster }
         requires member { is_node cluster me ≡ true }
-        requires flushed { voter.logs.staged.items ≡ [] }
-        ensures state { R.is_told ≡ true → IfOk result (λ made. AtEachStart R.Records voter (λ h starts met owed. ((key : List ℕ) (n : ℕ) → V.version rows key n ≡ None) →
-            IsUp R.Records V.version h made.up.node (start (setting cluster me h) (starts + 1) owed met))) }
-        ensures notes { IfOk result (λ made. AtEachStart R.Records voter (λ h starts met owed. map met_of made.notes ≡ start_notes (setting cluster me h) (onto owed (Starts (starts + 1) ∷ met)))) }
-        ensures number { IfOk result (λ made. made.start ≡ voter.logs.kept.starts + 1) }
-        ensures counted { IfOk result (λ made. R.count_of (records_in made.up.node) ≡ R.count_of voter.logs.records + 1) }
+        requires flushed { down.voter.logs.staged.items ≡ [] }
+        ensures state { R.is_told ≡ true → IfOk result (λ made. AtEachStart R.Records V.version cluster me down (λ h starts met owed. IsUp R.Records V.version h made.up.node (start (setting cluster me h) (starts + 1) owed met))) }
+        ensures notes { IfOk result (λ made. AtEachStart R.Records V.version cluster me down (λ h starts met owed. map met_of made.notes ≡ start_notes (setting cluster me h) (onto owed (Starts (starts + 1) ∷ met)))) }
+        ensures number { IfOk result (λ made. made.start ≡ down.voter.logs.kept.starts + 1) }
+        ensures counted { IfOk result (λ made. R.count_of (records_in made.up.node) ≡ R.count_of down.voter.logs.records + 1) }
 
         // A crash at any moment of the start leaves the records from before, or these with the record of the start.
-        ensures cut { R.is_told ≡ true → MatchResult result (λ made. AtEachStart R.Records voter (λ h starts met owed. LeavesOnly R.moment R.opened_since voter.logs.records (records_in made.up.node) (MayLeaveStart starts (onto owed met))))
-            (λ refused. AtEachStart R.Records voter (λ h starts met owed. LeavesStart R.Records starts (onto owed met) voter.logs.records refused)) }
+        ensures cut { R.is_told ≡ true → MatchResult result (λ made. AtEachStart R.Records V.version cluster me down (λ h starts met owed. LeavesOnly R.moment R.opened_since down.voter.logs.records (records_in made.up.node) (MayLeaveStart starts (onto owed met))))
+            (λ refused. AtEachStart R.Records V.version cluster me down (λ h starts met owed. LeavesStart R.Records starts (onto owed met) down.voter.logs.records refused)) }
 
         // The log's fuse cuts the start exactly where it has no append left for it.
-        ensures whole { R.by_four ≡ true → IfOk result (λ made. IsWhole R.Records true voter.logs.records (records_in made.up.node)) }
-        ensures burnt { R.is_told ≡ true → R.by_four ≡ true → IfErr result (λ refused. AtEachStart R.Records voter (λ h starts met owed. IsCutOff R.Records starts (onto owed met) voter.logs.records refused)) }
+        ensures whole { R.by_four ≡ true → IfOk result (λ made. IsWhole R.Records true down.voter.logs.records (records_in made.up.node)) }
+        ensures burnt { R.is_told ≡ true → R.by_four ≡ true → IfErr result (λ refused. AtEachStart R.Records V.version cluster me down (λ h starts met owed. IsCutOff R.Records starts (onto owed met) down.voter.logs.records refused)) }
 
-        ensures went { MatchResult result (λ made. LogWent R.Records None voter.logs.records (records_in made.up.node)) (λ refused. IsRefused R.Records voter refused) }
+        ensures went { MatchResult result (λ made. LogWent R.Records None down.voter.logs.records (records_in made.up.node)) (λ refused. IsRefused R.Records down.voter refused) }
         ensures members { IfOk result (λ made. made.up.node.replica.members ≡ cluster) }
         ensures me { IfOk result (λ made. made.up.node.replica.me ≡ me) }
     {
+        let Down { voter, rows } = down;
         if voter.start() == u32::MAX {
             return Err(NotStarted::StartsFull {
                 records: voter.close().close(),
@@ -151,8 +151,19 @@ impl<R: Records + Drop, V: Versions + Drop> Up<R, V> {
         }
     }
 
-    /// The node crashes: what it kept in memory is gone, and its records are what the next start opens anew.
-    pub fn crash(self) -> R
+    /// The node crashes between two steps: it is down, and may start again over what it kept.
+    pub fn crash(self) -> Down<R, V>
+        ensures down { result ≡ record { voter = self.node.replica.voter; rows = self.node.replica.rows } }
+        ensures may { (h : Meanings) (node : RuleNode) → IsUp R.Records V.version h self.node node → MayStart R.Records V.version self.node.replica.members self.node.replica.me result (start_of node.met) (Crashes ∷ node.met) [] }
+    {
+        let Up { node } = self;
+        let Node { replica, .. } = node;
+        let Replica { voter, rows, .. } = replica;
+        Down { voter, rows }
+    }
+
+    /// The records of a node whose step was cut off. What it kept in memory is gone, and the next start opens them anew.
+    pub fn close(self) -> R
         ensures { result ≡ records_in self.node }
     {
         let Up { node } = self;

@@ -7,8 +7,8 @@ ghost use Rattle.mega_leases.specs.Taking.{IsByStranger, IsLate};
 ghost use Rattle.mega_rules.specs.Operations.{Node as RuleNode};
 ghost use Rattle.mega_rules.specs.Steps.{Begin, Take, Tick, step};
 ghost use Rattle.mega_replica.specs.Faring.{Fares};
-ghost use Rattle.mega_actions.specs.Built.{is_built};
-ghost use Rattle.mega_core.specs.declared.fault.StepFault.TheVariants.{Late, Stranger, Unbuilt};
+ghost use Rattle.mega_actions.specs.Servable.{is_served};
+ghost use Rattle.mega_core.specs.declared.fault.StepFault.TheVariants.{Late, Stranger, Unserved};
 ghost use Rattle.mega_core.specs.Notes.{met_of};
 ghost use Rattle.mega_promises.specs.Runs.{appends};
 ghost use Rattle.mega_durable.specs.declared.fault.UpFault.TheVariants.{Step as Failed};
@@ -56,7 +56,7 @@ impl<R: Records, V: Versions> Up<R, V> {
         ensures burnt { R.is_told ≡ true → R.by_four ≡ true → IfErr result (λ refused. AtEach R.Records V.version (H.meant handlers.old) self.old.node (Take message.now) (λ h s node. IsCutBy R.Records s node (Take message.now) (records_in self.old.node) (records_in self.new.node) refused)) }
         ensures owed { IfErr result (λ refused. AtEach R.Records V.version (H.meant handlers.old) self.old.node (Take message.now) (λ h s node. IsOwedBy s node (Take message.now) refused)) }
 
-        ensures built { result ≢ Err (Failed Unbuilt) }
+        ensures built { result ≢ Err (Failed Unserved) }
         ensures stranger { result ≡ Err (Failed Stranger) → IsByStranger message.now.from message.now.body }
         ensures late { result ≡ Err (Failed Late) → IsLate self.old.node.replica.members message.now.body }
         ensures handlers { H.meant handlers.new ≡ H.meant handlers.old }
@@ -98,7 +98,7 @@ impl<R: Records, V: Versions> Up<R, V> {
         ensures burnt { R.is_told ≡ true → R.by_four ≡ true → IfErr result (λ refused. AtEach R.Records V.version (H.meant handlers.old) self.old.node (Begin request text.now) (λ h s node. IsCutBy R.Records s node (Begin request text.now) (records_in self.old.node) (records_in self.new.node) refused)) }
         ensures owed { IfErr result (λ refused. AtEach R.Records V.version (H.meant handlers.old) self.old.node (Begin request text.now) (λ h s node. IsOwedBy s node (Begin request text.now) refused)) }
 
-        ensures unbuilt { result ≡ Err (Failed Unbuilt) → is_built request ≡ false }
+        ensures unserved { result ≡ Err (Failed Unserved) → is_served request ≡ false }
         ensures stranger { result ≢ Err (Failed Stranger) }
         ensures late { result ≢ Err (Failed Late) }
         ensures handlers { H.meant handlers.new ≡ H.meant handlers.old }
@@ -137,7 +137,7 @@ impl<R: Records, V: Versions> Up<R, V> {
         ensures burnt { R.is_told ≡ true → R.by_four ≡ true → IfErr result (λ refused. AtEach R.Records V.version (H.meant handlers.old) self.old.node (Tick now) (λ h s node. IsCutBy R.Records s node (Tick now) (records_in self.old.node) (records_in self.new.node) refused)) }
         ensures owed { IfErr result (λ refused. AtEach R.Records V.version (H.meant handlers.old) self.old.node (Tick now) (λ h s node. IsOwedBy s node (Tick now) refused)) }
 
-        ensures built { result ≢ Err (Failed Unbuilt) }
+        ensures built { result ≢ Err (Failed Unserved) }
         ensures stranger { result ≢ Err (Failed Stranger) }
         ensures late { result ≢ Err (Failed Late) }
         ensures handlers { H.meant handlers.new ≡ H.meant handlers.old }

@@ -79,7 +79,7 @@ use Rattle.mega_leased_laws.proofs.Reached.{Grown, IsPresent, IsWithin, Reached,
 
 -- ---- tapes
 
-are_map : (P Q : List Item → Item → Type 0) → ((t : List Item) (item : Item) → P t item → Q t item) → (tape : List Item) → Are P tape → Are Q tape
+pub are_map : (P Q : List Item → Item → Type 0) → ((t : List Item) (item : Item) → P t item → Q t item) → (tape : List Item) → Are P tape → Are Q tape
 are_map P Q f [] h = tt
 are_map P Q f (item ∷ before) h = (f before item h.0, are_map P Q f before h.1)
 
@@ -103,42 +103,42 @@ flat_both f (x ∷ xs) ys = ap (λ zs. f x ++ zs) (flat_both f xs ys) ∙ groupe
 -- ---- what holds of each item
 
 -- an epoch that a node asked for, or that was granted to it, is at or below its present one
-abbrev Come : Cluster → (ℕ → Node) → ℕ → Epoch → Type 0
+abbrev pub Come : Cluster → (ℕ → Node) → ℕ → Epoch → Type 0
 Come c nodes node epoch = Reached c (nodes node).met epoch
 
-abbrev IsCome : Cluster → (ℕ → Node) → List Item → Item → Type 0
+abbrev pub IsCome : Cluster → (ℕ → Node) → List Item → Item → Type 0
 IsCome c nodes before (Sent key m) = AskedFor (Come c nodes) m.from m.body
 IsCome c nodes before (Grant cell node epoch) = Come c nodes node.0 epoch
 IsCome c nodes before _ = Unit {0}
 
 -- an epoch that served is past, or serves
-record ServedAt (c : Cluster) (v : ℕ) (met : List Met) (epoch : Epoch) : Type 0 where
-  full : is_full c v ≡ true
-  reached : Reached c met epoch
-  still : is_up met ≡ true → IsPresent c met epoch → serving_met met ≡ Some epoch
+pub record ServedAt (c : Cluster) (v : ℕ) (met : List Met) (epoch : Epoch) : Type 0 where
+  pub full : is_full c v ≡ true
+  pub reached : Reached c met epoch
+  pub still : is_up met ≡ true → IsPresent c met epoch → serving_met met ≡ Some epoch
 
-abbrev IsServed : Cluster → (ℕ → Node) → List Item → Item → Type 0
+abbrev pub IsServed : Cluster → (ℕ → Node) → List Item → Item → Type 0
 IsServed c nodes before (ServingItem node epoch) = ServedAt c node.0 (nodes node.0).met epoch
 IsServed c nodes before _ = Unit {0}
 
 -- a cell says that it granted an epoch behind the grant
-abbrev Tells : List Item → ℕ → Body → Type 0
+abbrev pub Tells : List Item → ℕ → Body → Type 0
 Tells before to (GrantedBody cell epoch clock) = Stands (Grant cell (number to) epoch) before
 Tells before to _ = Unit {0}
 
-abbrev IsTold : List Item → Item → Type 0
+abbrev pub IsTold : List Item → Item → Type 0
 IsTold before (Sent key m) = Tells before m.to m.body
 IsTold before _ = Unit {0}
 
-record Epoching (c : Cluster) (tape : List Item) (nodes : ℕ → Node) (owed : ℕ → List Met) : Type 0 where
-  rules : Are IsServing tape
-  come : Are (IsCome c nodes) tape
-  served : Are (IsServed c nodes) tape
-  told : Are IsTold tape
-  owed_come : (v : ℕ) → Each (GrantNote (Come c nodes)) (owed v)
-  downs : (v : ℕ) → is_up (nodes v).met ≡ false → serving_met (nodes v).met ≡ None
+pub record Epoching (c : Cluster) (tape : List Item) (nodes : ℕ → Node) (owed : ℕ → List Met) : Type 0 where
+  pub rules : Are IsServing tape
+  pub come : Are (IsCome c nodes) tape
+  pub served : Are (IsServed c nodes) tape
+  pub told : Are IsTold tape
+  pub owed_come : (v : ℕ) → Each (GrantNote (Come c nodes)) (owed v)
+  pub downs : (v : ℕ) → is_up (nodes v).met ≡ false → serving_met (nodes v).met ≡ None
 
-abbrev Before : Cluster → Standing → Type 0
+abbrev pub Before : Cluster → Standing → Type 0
 Before c now = ShownAt c now × Celling c now.tape now.node now.owed
 
 -- ---- what is served now
@@ -147,13 +147,13 @@ clash : {X : Type 0} (t : Bool) → t ≡ true → t ≡ false → X
 clash t h k = absurd (let both = sym h ∙ k in cc)
 
 module _ (c : Cluster) (now : Standing) (shown_now : ShownAt c now) (q : Epoching c now.tape now.node now.owed) where
-  served_at : (v : ℕ) (e : Epoch) → Stands (ServingItem (number v) e) now.tape → ServedAt c v (now.node v).met e
+  pub served_at : (v : ℕ) (e : Epoch) → Stands (ServingItem (number v) e) now.tape → ServedAt c v (now.node v).met e
   served_at v e s = (are_at (IsServed c now.node) now.tape (ServingItem (number v) e) q.served s).holds
 
   come_at : (cell v : ℕ) (e : Epoch) → Stands (Grant cell (number v) e) now.tape → Reached c (now.node v).met e
   come_at cell v e s = (are_at (IsCome c now.node) now.tape (Grant cell (number v) e) q.come s).holds
 
-  up_of : (v : ℕ) (e : Epoch) → serving_met (now.node v).met ≡ Some e → is_up (now.node v).met ≡ true
+  pub up_of : (v : ℕ) (e : Epoch) → serving_met (now.node v).met ≡ Some e → is_up (now.node v).met ≡ true
   up_of v e s = by (is_up (now.node v).met) refl
     where
       by : (t : Bool) → is_up (now.node v).met ≡ t → t ≡ true
@@ -290,7 +290,7 @@ owed_up (Starts start ∷ notes) met h = absurd h.0
 owed_up (Crashes ∷ notes) met h = absurd h.0
 owed_up (one ∷ notes) met h = owed_up notes (one ∷ met) h.1
 
-rest_serves : (notes met : List Met) → Each IsRest notes → serving_met (onto notes met) ≡ serving_met met
+pub rest_serves : (notes met : List Met) → Each IsRest notes → serving_met (onto notes met) ≡ serving_met met
 rest_serves [] met h = refl
 rest_serves (Decides group position entry ∷ notes) met h = rest_serves notes (Decides group position entry ∷ met) h.1
 rest_serves (Applies group position ∷ notes) met h = rest_serves notes (Applies group position ∷ met) h.1
@@ -298,7 +298,7 @@ rest_serves (Validates group position ∷ notes) met h = rest_serves notes (Vali
 rest_serves (Answers op answer ∷ notes) met h = rest_serves notes (Answers op answer ∷ met) h.1
 rest_serves (_ ∷ notes) met h = absurd h.0
 
-sends_serve : (ms : List Message) (met : List Met) → serving_met (onto (map Sends ms) met) ≡ serving_met met
+pub sends_serve : (ms : List Message) (met : List Met) → serving_met (onto (map Sends ms) met) ≡ serving_met met
 sends_serve [] met = refl
 sends_serve (m ∷ ms) met = sends_serve ms (Sends m ∷ met)
 
@@ -1152,7 +1152,7 @@ marks_epoching c tape nodes owed (Dropped j) is q = record { rules = (tt, q.rule
 marks_epoching c tape nodes owed CutItem is q = record { rules = (tt, q.rules); come = (tt, q.come); served = (tt, q.served); told = (tt, q.told); owed_come = q.owed_come; downs = q.downs }
 marks_epoching c tape nodes owed _ is q = absurd is
 
-epoching_holds : (c : Cluster) → length c.nodes ≤ 9 → Holds c (Before c) (Epoching c)
+pub epoching_holds : (c : Cluster) → length c.nodes ≤ 9 → Holds c (Before c) (Epoching c)
 epoching_holds c few = record {
   steps = λ h now me item event g p up o plain q. steps_epoching c few h now me up p q item event o;
   cuts = λ h now me item event kept g p up o q. cuts_epoching c few h now me up p q item event o kept;
@@ -1161,7 +1161,7 @@ epoching_holds c few = record {
   marks = λ now item is g p q. marks_epoching c now.tape now.node now.owed item is q;
 }
 
-nothing_epoching : (c : Cluster) → Epoching c [] (λ me. nothing_yet.node me) (λ me. [])
+pub nothing_epoching : (c : Cluster) → Epoching c [] (λ me. nothing_yet.node me) (λ me. [])
 nothing_epoching c = record { rules = tt; come = tt; served = tt; told = tt; owed_come = λ v. tt; downs = λ v is. refl }
 
 pub run_serving : (c : Cluster) (first : Meanings) (events : List Happening) (tape : List Item) → length c.nodes ≤ 9 → IsRun c first events tape → Are IsServing tape

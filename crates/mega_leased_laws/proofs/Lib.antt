@@ -9,3 +9,13 @@ pub mod Pressing
 pub mod Reached
 pub mod Epochs
 pub mod Polls
+pub mod Walk
+pub mod Wheres
+pub mod Asking
+pub mod Beating
+pub mod Validating
+pub mod Leased
+pub mod Counting
+pub mod Safety
+pub mod Held
+pub mod Tops

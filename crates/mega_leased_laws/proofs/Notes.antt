@@ -78,7 +78,7 @@ decision_rest : (d : Option Decision) → Each IsRest (decision_note d)
 decision_rest None = tt
 decision_rest (Some d) = (tt, tt)
 
-front_apart : {X : Type 0} (front applies valid answers : List X) → ((front ++ applies) ++ valid) ++ answers ≡ front ++ ((applies ++ valid) ++ answers)
+pub front_apart : {X : Type 0} (front applies valid answers : List X) → ((front ++ applies) ++ valid) ++ answers ≡ front ++ ((applies ++ valid) ++ answers)
 front_apart [] applies valid answers = refl
 front_apart (x ∷ front) applies valid answers = ap (λ xs. x ∷ xs) (front_apart front applies valid answers)
 

@@ -85,7 +85,7 @@ module _ (c : Cluster) (tape : List Item) (op : OpId) (group : GroupId) where
     pub each : (voter : ℕ) → has voter heard ≡ true → ToldAtMost voter best
     pub counted : length heard ≤ count (λ v. has v heard) (voters c)
 
-  no_tops : Tops [] 0
+  pub no_tops : Tops [] 0
   no_tops = record { each = λ voter h. cc; counted = omega arith }
 
   told_more : (voter best top : ℕ) → ToldAtMost voter best → ToldAtMost voter (max best top)
@@ -109,43 +109,46 @@ module _ (c : Cluster) (tape : List Item) (op : OpId) (group : GroupId) where
     heard = λ voter h. let told = t.each voter h in (told.top, told.heard, told.most);
   }
 
-  -- `K` is what is said of a position through which it reads, which a poll gives
-  module _ (K : ℕ → Type 0) (polled : (p : ℕ) → IsPolled c tape op group (record { 0 = p }) → K p) where
-    abbrev pub StagePolls : Stage → Type 0
-    StagePolls (Polling heard best at) = Tops heard best
-    StagePolls (Catching through search) = K through
+  -- `N` is what is said of the epoch that a read noted, and `K` of a position through which it reads too, which a poll gives
+  module _ (N : Option Epoch → Type 0) (K : Option Epoch → ℕ → Type 0) (polled : (noted : Option Epoch) (p : ℕ) → N noted → IsPolled c tape op group (record { 0 = p }) → K noted p) where
+    abbrev pub StagePolls : Option Epoch → Stage → Type 0
+    StagePolls noted (Polling heard best at) = N noted × Tops heard best
+    StagePolls noted (Catching through search) = K noted through
 
     abbrev pub ReadPolls : ReadMove → Type 0
-    ReadPolls t = StagePolls (t.reading).stage
+    ReadPolls t = StagePolls (t.reading).noted (t.reading).stage
 
     if_polls : (b : Bool) (one other : ReadMove) → ReadPolls one → ReadPolls other → ReadPolls (cond b one other)
     if_polls true one other h k = h
     if_polls false one other h k = k
 
-    topped_polls : (r : Reading) (from : ℕ) (top : Position) (heard : List ℕ) (best at : ℕ) → Tops heard best → StagePolls r.stage → Heard tape from op (Top op group top) → ReadPolls (topped (who c op group) r from top.0 heard best at)
-    topped_polls r from top heard best at t stays told = by (has from heard || not (has from (voters c))) refl
-      where
-        counts : has from heard ≡ false → has from (voters c) ≡ true → (b : Bool) → is_majority (length (voters c)) (length heard + 1) ≡ b
-            → ReadPolls (cond {A = ReadMove} b (move r (Catching (max best top.0) None) []) (move r (Polling (heard ++ from ∷ []) (max best top.0) at) []))
-        counts is_new is_voter true most = polled (max best top.0) (tops_polled (heard ++ from ∷ []) (max best top.0) (one_top from top heard best t told is_voter is_new)
-            (ap (is_majority (length (voters c))) (push_length from heard) ∙ most))
-        counts is_new is_voter false most = one_top from top heard best t told is_voter is_new
-
-        by : (b : Bool) → (has from heard || not (has from (voters c))) ≡ b
-            → ReadPolls (cond {A = ReadMove} b (record { reading = r; sends = [] }) (cond (is_majority (length (voters c)) (length heard + 1)) (move r (Catching (max best top.0) None) []) (move r (Polling (heard ++ from ∷ []) (max best top.0) at) [])))
-        by true e = stays
-        by false e = let parts = neither (has from heard) (not (has from (voters c))) e in counts parts.0 (not_false (has from (voters c)) parts.1) (is_majority (length (voters c)) (length heard + 1)) refl
-
     module _ (noted : Option Epoch) (asked : List ℕ) where
       abbrev at_stage : Stage → Reading
       at_stage stage = record { noted = noted; asked = asked; stage = stage }
 
-      hears_by : (stage : Stage) (from now : ℕ) (body : Body) → StagePolls stage → Took tape (message from op.node.0 body) → ReadPolls (hears (who c op group) (at_stage stage) from now body)
+      topped_polls : (from : ℕ) (top : Position) (heard : List ℕ) (best at : ℕ) → N noted → Tops heard best → Heard tape from op (Top op group top) → ReadPolls (topped (who c op group) (at_stage (Polling heard best at)) from top.0 heard best at)
+      topped_polls from top heard best at n t told = by (has from heard || not (has from (voters c))) refl
+        where
+          r : Reading
+          r = at_stage (Polling heard best at)
+
+          counts : has from heard ≡ false → has from (voters c) ≡ true → (b : Bool) → is_majority (length (voters c)) (length heard + 1) ≡ b
+              → ReadPolls (cond {A = ReadMove} b (move r (Catching (max best top.0) None) []) (move r (Polling (heard ++ from ∷ []) (max best top.0) at) []))
+          counts is_new is_voter true most = polled noted (max best top.0) n (tops_polled (heard ++ from ∷ []) (max best top.0) (one_top from top heard best t told is_voter is_new)
+              (ap (is_majority (length (voters c))) (push_length from heard) ∙ most))
+          counts is_new is_voter false most = (n, one_top from top heard best t told is_voter is_new)
+
+          by : (b : Bool) → (has from heard || not (has from (voters c))) ≡ b
+              → ReadPolls (cond {A = ReadMove} b (record { reading = r; sends = [] }) (cond (is_majority (length (voters c)) (length heard + 1)) (move r (Catching (max best top.0) None) []) (move r (Polling (heard ++ from ∷ []) (max best top.0) at) [])))
+          by true e = (n, t)
+          by false e = let parts = neither (has from heard) (not (has from (voters c))) e in counts parts.0 (not_false (has from (voters c)) parts.1) (is_majority (length (voters c)) (length heard + 1)) refl
+
+      hears_by : (stage : Stage) (from now : ℕ) (body : Body) → StagePolls noted stage → Took tape (message from op.node.0 body) → ReadPolls (hears (who c op group) (at_stage stage) from now body)
       hears_by (Polling heard best at) from now (Top o g top) t took = by (same_op op o && same_group group g) refl
         where
           by : (b : Bool) → (same_op op o && same_group group g) ≡ b → ReadPolls (cond b (topped (who c op group) (at_stage (Polling heard best at)) from top.0 heard best at) (record { reading = at_stage (Polling heard best at); sends = [] }))
           by true e = let parts = both (same_op op o) (same_group group g) e in
-              topped_polls (at_stage (Polling heard best at)) from top heard best at t t
+              topped_polls from top heard best at t.0 t.1
               (coe 1 0 (i. Took tape (message from op.node.0 (Top (same_op_equal op o parts.0 i) (same_group_equal group g parts.1 i) top))) took)
           by false e = t
       hears_by (Polling heard best at) from now _ t took = t
@@ -156,13 +159,13 @@ module _ (c : Cluster) (tape : List Item) (op : OpId) (group : GroupId) where
       hears_by (Catching through (Some (Fetching position denials at))) from now _ k took = k
       hears_by (Catching through (Some (Filling position proposal))) from now body k took = k
 
-      due_by : (stage : Stage) (retry now : ℕ) → StagePolls stage → ReadPolls (falls_due (who c op group) (at_stage stage) retry now)
+      due_by : (stage : Stage) (retry now : ℕ) → StagePolls noted stage → ReadPolls (falls_due (who c op group) (at_stage stage) retry now)
       due_by (Polling heard best at) retry now t = if_polls (is_due at retry now) _ _ t t
       due_by (Catching through None) retry now k = k
       due_by (Catching through (Some (Fetching position denials at))) retry now k = if_polls (is_due at retry now) _ _ k k
       due_by (Catching through (Some (Filling position proposal))) retry now k = k
 
-      seeks_by : (stage : Stage) (least now : ℕ) → StagePolls stage → ReadPolls (seeks (who c op group) (at_stage stage) least now)
+      seeks_by : (stage : Stage) (least now : ℕ) → StagePolls noted stage → ReadPolls (seeks (who c op group) (at_stage stage) least now)
       seeks_by (Polling heard best at) least now t = t
       seeks_by (Catching through search) least now k = if_polls (is_position least (searched search)) _ _ k (fetched (helpers (who c op group)))
         where
@@ -178,17 +181,17 @@ module _ (c : Cluster) (tape : List Item) (op : OpId) (group : GroupId) where
           fetched (voter ∷ those) = k
 
     -- what each of its moves keeps
-    pub hears_polls : (r : Reading) (from now : ℕ) (body : Body) → StagePolls r.stage → Took tape (message from op.node.0 body) → ReadPolls (hears (who c op group) r from now body)
+    pub hears_polls : (r : Reading) (from now : ℕ) (body : Body) → StagePolls r.noted r.stage → Took tape (message from op.node.0 body) → ReadPolls (hears (who c op group) r from now body)
     hears_polls r from now body k took = hears_by r.noted r.asked r.stage from now body k took
 
-    pub due_polls : (r : Reading) (retry now : ℕ) → StagePolls r.stage → ReadPolls (falls_due (who c op group) r retry now)
+    pub due_polls : (r : Reading) (retry now : ℕ) → StagePolls r.noted r.stage → ReadPolls (falls_due (who c op group) r retry now)
     due_polls r retry now k = due_by r.noted r.asked r.stage retry now k
 
-    pub seeks_polls : (r : Reading) (least now : ℕ) → StagePolls r.stage → ReadPolls (seeks (who c op group) r least now)
+    pub seeks_polls : (r : Reading) (least now : ℕ) → StagePolls r.noted r.stage → ReadPolls (seeks (who c op group) r least now)
     seeks_polls r least now k = seeks_by r.noted r.asked r.stage least now k
 
-    pub polled_begins : (noted : Option Epoch) (asked : List ℕ) (now : ℕ) → ReadPolls (polled_read (who c op group) noted asked now)
-    polled_begins noted asked now = no_tops
+    pub polled_begins : (noted : Option Epoch) (asked : List ℕ) (now : ℕ) → N noted → ReadPolls (polled_read (who c op group) noted asked now)
+    polled_begins noted asked now n = (n, no_tops)
 
-    pub local_begins : (asked : List ℕ) (top : ℕ) → K top → ReadPolls (local_read asked top)
+    pub local_begins : (asked : List ℕ) (top : ℕ) → K None top → ReadPolls (local_read asked top)
     local_begins asked top k = k

@@ -120,7 +120,7 @@ present_before c met later e g (inr h) p = (h.0, (let le = h.1 in let most = end
 
 -- ---- what serves
 
-served_state : (serves : Bool) (o : Option Epoch) (e : Epoch) → cond serves o None ≡ Some e → (serves ≡ true) × (o ≡ Some e)
+pub served_state : (serves : Bool) (o : Option Epoch) (e : Epoch) → cond serves o None ≡ Some e → (serves ≡ true) × (o ≡ Some e)
 served_state true o e h = (refl, h)
 served_state false o e h = cc
 

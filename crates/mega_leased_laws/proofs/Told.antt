@@ -41,7 +41,7 @@ module _ {X : Type 0} (on : List Item → ℕ → X) (next : Met → X → X) (t
 
   module _ (c : Cluster) (tape : List Item) (nodes : ℕ → Node) (h : (v : ℕ) → on tape v ≡ met_of (nodes v).met) where
     -- notes of one node on a tape that tells the same
-    told_notes_of : (those : ℕ → Node) (me : ℕ) (node : Node) (t : List Item) (met notes : List Met) → ((v : ℕ) → on t v ≡ on tape v) → met_of met ≡ met_of (nodes me).met → met_of node.met ≡ met_of (onto notes met)
+    pub told_notes_of : (those : ℕ → Node) (me : ℕ) (node : Node) (t : List Item) (met notes : List Met) → ((v : ℕ) → on t v ≡ on tape v) → met_of met ≡ met_of (nodes me).met → met_of node.met ≡ met_of (onto notes met)
         → (v : ℕ) → on (with_items c those t (flat_map (shown me) notes)) v ≡ met_of (set_at nodes me node v).met
     told_notes_of those me node t met notes same own is v = notes_told on next told c those me v notes t ∙ by (me == v) refl
       where

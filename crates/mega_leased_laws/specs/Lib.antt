@@ -2,3 +2,4 @@ pub mod Items
 pub mod Cells
 pub mod Invalidations
 pub mod Serving
+pub mod Validation

@@ -1,2 +1,4 @@
 pub mod Means
 pub mod BuiltIn
+pub mod Tables
+pub mod Stores

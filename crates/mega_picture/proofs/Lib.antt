@@ -2,6 +2,7 @@ pub mod Banding
 pub mod Drawing
 pub mod Ending
 pub mod Escaping
+pub mod Fitting
 pub mod Flawing
 pub mod Indexing
 pub mod Numbering

@@ -1,11 +1,11 @@
 -- How arrows are spelled in a page.
-use Rattle.std.specs.Prelude.{ℕ, ◌+◌, ◌-◌, ◌/◌, ◌==◌, nat_lt, if◌then◌else◌, List, [], ◌∷◌, ◌++◌, codes, decimal, Option, Some, None}
+use Rattle.std.specs.Prelude.{ℕ, ◌+◌, ◌-◌, ◌*◌, ◌/◌, ◌%◌, ◌==◌, nat_lt, if◌then◌else◌, List, [], ◌∷◌, ◌++◌, codes, decimal, Option, Some, None}
 use Rattle.mega_picture.specs.declared.told.Told.{Told}
 use Rattle.mega_picture.specs.declared.sheet.Sheet.{Sheet}
 use Rattle.mega_picture.specs.declared.arrows.End.{End}
 use Rattle.mega_picture.specs.declared.arrows.End.TheVariants.{Taken, Dropped, Fades, Again}
 use Rattle.mega_picture.specs.declared.arrows.Arrow.{Arrow}
-use Rattle.mega_picture.specs.Escape.{shortened}
+use Rattle.mega_picture.specs.Escape.{fitted}
 use Rattle.mega_picture.specs.Kinds.{tone_of}
 use Rattle.mega_picture.specs.Sheets.{lane, step, title_room}
 use Rattle.mega_picture.specs.Arrows.{arrow_of}
@@ -21,10 +21,18 @@ class_of (Again row) = codes "again"
 abbrev pub line_path : ℕ → ℕ → ℕ → ℕ → List ℕ
 line_path x y to_x to_y = codes "M" ++ (decimal x ++ (codes " " ++ (decimal y ++ (codes "L" ++ (decimal to_x ++ (codes " " ++ decimal to_y))))))
 
--- a line that goes out to the left and comes back
-abbrev pub bow_path : ℕ → ℕ → List ℕ → ℕ → List ℕ
-bow_path x y aside to_y =
-    codes "M" ++ (decimal x ++ (codes " " ++ (decimal y ++ (codes "c-44 0 -44 " ++ (decimal (to_y - y) ++ (codes " " ++ (aside ++ (codes " " ++ decimal (to_y - y)))))))))
+-- the last part of a line that comes back so far down, and so far aside
+unfoldable pub back_path : ℕ → List ℕ → List ℕ
+back_path down aside = decimal down ++ (codes " " ++ (aside ++ (codes " " ++ decimal down)))
+
+-- a line that goes out to the left, bent so far, and comes back
+abbrev pub bow_path : ℕ → ℕ → ℕ → List ℕ → ℕ → List ℕ
+bow_path x y bend aside to_y =
+    codes "M" ++ (decimal x ++ (codes " " ++ (decimal y ++ (codes "c-" ++ (decimal bend ++ (codes " 0 -" ++ (decimal bend ++ (codes " " ++ back_path (to_y - y) aside))))))))
+
+-- how far out the line from a row is bent: otherwise than those from the six rows before
+abbrev pub bend_of : ℕ → ℕ
+bend_of row = 32 + row % 7 * 5
 
 -- a place so far before another, seen from a third one
 abbrev pub short_of : ℕ → ℕ → ℕ
@@ -37,15 +45,15 @@ path_between x to y (Dropped row) = line_path x y (short_of x to) (step row)
 path_between x to y Fades = line_path x y ((x + to) / 2) (y + 20)
 path_between x to y (Again row) = line_path x y to (step row)
 
-abbrev pub path_back : ℕ → ℕ → End → List ℕ
-path_back x y (Taken row) = bow_path x y (codes "0") (step row)
-path_back x y (Dropped row) = bow_path x y (codes "-22") (step row)
-path_back x y Fades = bow_path x y (codes "-22") (y + 20)
-path_back x y (Again row) = bow_path x y (codes "0") (step row)
+abbrev pub path_back : ℕ → ℕ → ℕ → End → List ℕ
+path_back x y bend (Taken row) = bow_path x y bend (codes "0") (step row)
+path_back x y bend (Dropped row) = bow_path x y bend (codes "-22") (step row)
+path_back x y bend Fades = bow_path x y bend (codes "-22") (y + 20)
+path_back x y bend (Again row) = bow_path x y bend (codes "0") (step row)
 
 unfoldable pub path_of : Sheet → Arrow → List ℕ
 path_of sheet arrow =
-    if arrow.from == arrow.to then path_back (lane sheet arrow.from) (step arrow.row) arrow.end
+    if arrow.from == arrow.to then path_back (lane sheet arrow.from) (step arrow.row) (bend_of arrow.row) arrow.end
     else path_between (lane sheet arrow.from) (lane sheet arrow.to) (step arrow.row) arrow.end
 
 -- what opens the group of an arrow, and its line
@@ -58,7 +66,7 @@ drawn path = codes "</title><path d=\"" ++ (path ++ codes "\"/>")
 -- an arrow, with the line of the transcript as its title
 unfoldable pub arrow_text : Sheet → Arrow → List ℕ → List ℕ
 arrow_text sheet arrow line =
-    opening_of arrow ++ (shortened (title_room sheet) line ++ (drawn (path_of sheet arrow) ++ codes "</g>\n"))
+    opening_of arrow ++ (fitted (title_room sheet) line ++ (drawn (path_of sheet arrow) ++ codes "</g>\n"))
 
 abbrev pub text_if : Sheet → List ℕ → Option Arrow → List ℕ
 text_if sheet line None = []

@@ -1,5 +1,5 @@
 -- How a text stands in a page: no byte of it is markup, and each character is one that a page may have.
-use Rattle.std.specs.Prelude.{ℕ, zero, suc, ◌==◌, ◌&&◌, nat_lt, nat_le, Bool, if◌then◌else◌, List, [], ◌∷◌, ◌++◌, length, take, slice_index, codes}
+use Rattle.std.specs.Prelude.{ℕ, zero, suc, ◌-◌, ◌==◌, ◌&&◌, nat_lt, nat_le, Bool, if◌then◌else◌, List, [], ◌∷◌, ◌++◌, length, take, slice_index, codes}
 
 -- behind these two bytes the byte ends U+FFFE or U+FFFF, which are no characters
 abbrev pub is_no_character : ℕ → ℕ → ℕ → Bool
@@ -24,6 +24,20 @@ escape_behind before last (byte ∷ bytes) = escaped before last byte ++ escape_
 abbrev pub escape : List ℕ → List ℕ
 escape text = escape_behind 0 0 text
 
+-- how many bytes of a page a byte takes, at most
+unfoldable pub width : ℕ → ℕ
+width byte =
+    if byte == 60 then 4
+    else (if byte == 62 then 4
+    else (if byte == 38 then 5
+    else (if byte == 39 then 5
+    else (if byte == 34 then 6 else 1))))
+
+-- how many bytes of a text, from its first on, fit into so many of a page
+abbrev pub fitting : ℕ → List ℕ → ℕ
+fitting room [] = 0
+fitting room (byte ∷ bytes) = if nat_lt room (width byte) then 0 else suc (fitting (room - width byte) bytes)
+
 -- the byte goes on with a character
 abbrev pub goes_on : ℕ → Bool
 goes_on byte = nat_le 128 byte && nat_lt byte 192
@@ -37,3 +51,7 @@ cut_at text (suc at) = if goes_on (slice_index text (suc at)) then cut_at text a
 unfoldable pub shortened : ℕ → List ℕ → List ℕ
 shortened most text =
     if nat_le (length text) most then escape text else escape (take (cut_at text most) text) ++ codes "..."
+
+-- the text, or where it would take more bytes of a page than there is room for, its front and three dots
+unfoldable pub fitted : ℕ → List ℕ → List ℕ
+fitted room text = shortened (fitting room text) text

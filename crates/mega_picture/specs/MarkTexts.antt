@@ -5,7 +5,7 @@ use Rattle.mega_picture.specs.declared.sheet.Sheet.{Sheet}
 use Rattle.mega_picture.specs.declared.marks.Place.{Place}
 use Rattle.mega_picture.specs.declared.marks.Place.TheVariants.{Right, Left, Across}
 use Rattle.mega_picture.specs.declared.marks.Mark.{Mark}
-use Rattle.mega_picture.specs.Escape.{shortened}
+use Rattle.mega_picture.specs.Escape.{shortened, fitted}
 use Rattle.mega_picture.specs.Kinds.{tone_of}
 use Rattle.mega_picture.specs.Sheets.{lane, step, width, label_room, title_room}
 use Rattle.mega_picture.specs.Labels.{label_of}
@@ -48,10 +48,15 @@ unfoldable pub caption_text : Sheet → ℕ → Place → List ℕ → List ℕ
 caption_text sheet row place label =
     text_opening (class_of place) (beside_of sheet place) (step row + 4) ++ (shortened (room_of sheet place) label ++ codes "</text></g>\n")
 
+-- the shape of a mark, and its label
+unfoldable pub figure_text : Sheet → ℕ → Mark → List ℕ → List ℕ
+figure_text sheet row mark label =
+    use_text (word_of mark.shape) (x_of sheet mark.place) (step row) ++ caption_text sheet row mark.place label
+
 -- a mark in a row, with the line of the transcript as its title, and a label beside it
 unfoldable pub mark_text : Sheet → ℕ → Mark → List ℕ → List ℕ → List ℕ
 mark_text sheet row mark line label =
-    mark_opening (tone_of mark.position) ++ (shortened (title_room sheet) line ++ (use_text (word_of mark.shape) (x_of sheet mark.place) (step row) ++ caption_text sheet row mark.place label))
+    mark_opening (tone_of mark.position) ++ (fitted (title_room sheet) line ++ figure_text sheet row mark label)
 
 -- the mark of a line, where it has one
 abbrev pub text_if : Sheet → List (List ℕ) → ℕ → Told → Option Mark → List ℕ

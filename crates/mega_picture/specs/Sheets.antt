@@ -8,14 +8,14 @@ gap sheet = if nat_le sheet.nodes 3 then 272 else (if nat_le sheet.nodes 5 then 
 
 -- where the lane of a node stands, counted from 1; 0 stands for clients
 unfoldable pub lane : Sheet → ℕ → ℕ
-lane sheet node = if node == 0 then 66 else 124 + (node - 1) * gap sheet
+lane sheet node = if node == 0 then 66 else 148 + (node - 1) * gap sheet
 
 -- where a step stands; before every fortieth one is left free
 unfoldable pub step : ℕ → ℕ
 step row = 66 + (row + row / 40) * 22
 
 unfoldable pub width : Sheet → ℕ
-width sheet = 124 + sheet.nodes * gap sheet
+width sheet = 148 + sheet.nodes * gap sheet
 
 -- where the lanes end
 abbrev pub foot : Sheet → ℕ
@@ -29,6 +29,6 @@ height sheet notes = foot sheet + 34 + notes * 22
 unfoldable pub label_room : Sheet → ℕ
 label_room sheet = (gap sheet - 24) / 7
 
--- how many bytes of its line a title has room for: titles have 640,000 together, and of 60 lines none has more
+-- how many bytes of the page a title has room for: those of all steps have 800,000 together, and of 60 none has more
 unfoldable pub title_room : Sheet → ℕ
-title_room sheet = 640000 / max sheet.steps 60
+title_room sheet = 800000 / max sheet.steps 60

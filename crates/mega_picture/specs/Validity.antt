@@ -8,7 +8,7 @@ use Rattle.mega_picture.specs.declared.bands.Turn.{Turn}
 use Rattle.mega_picture.specs.declared.bands.Turn.TheVariants.{Ends}
 use Rattle.mega_picture.specs.declared.bands.Band.TheVariants.{Serves}
 use Rattle.mega_picture.specs.declared.validity.Change.{Change}
-use Rattle.mega_picture.specs.Escape.{shortened}
+use Rattle.mega_picture.specs.Escape.{fitted}
 use Rattle.mega_picture.specs.Sheets.{lane, step, title_room}
 use Rattle.mega_picture.specs.Groups.{number_in}
 use Rattle.mega_picture.specs.Bands.{turn_of}
@@ -59,7 +59,7 @@ strip_at sheet node group from to = strip_text (lane sheet node - (14 + group % 
 -- a thin band of a group at a node, between two steps, with a line as its title
 unfoldable pub validity_text : Sheet → ℕ → Change → ℕ → ℕ → List ℕ → List ℕ
 validity_text sheet node change from to line =
-    strip_opening (class_of change.valid) ++ (shortened (title_room sheet) line ++ strip_at sheet node change.group from to)
+    strip_opening (class_of change.valid) ++ (fitted (title_room sheet) line ++ strip_at sheet node change.group from to)
 
 -- the band that begins with a change in a row, where there is one, by where the bands of groups end
 abbrev pub change_text : Sheet → ℕ → ℕ → Option Change → (ℕ → ℕ) → List ℕ → List ℕ

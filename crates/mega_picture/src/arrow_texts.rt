@@ -1,10 +1,10 @@
 //! How arrows are spelled in a page.
 ghost use Rattle.std.specs.Prelude.{◌≡◌, ◌≤◌, ◌++◌, OnOk, IfOk, length, string_bytes};
 ghost use Rattle.mega_picture.specs.Rows.{Follows};
-ghost use Rattle.mega_picture.specs.ArrowTexts.{class_of, line_path, bow_path, short_of, path_between, path_back, path_of, opening_of, drawn, arrow_text, text_if, arrow_texts};
+ghost use Rattle.mega_picture.specs.ArrowTexts.{class_of, line_path, back_path, bow_path, bend_of, short_of, path_between, path_back, path_of, opening_of, drawn, arrow_text, text_if, arrow_texts};
 
 use crate::arrows::{Arrow, End, arrow_of};
-use crate::escape::put_cut;
+use crate::escape::put_fitted;
 use crate::journeys::Journeys;
 use crate::kinds::tone_of;
 use crate::sheet::{Sheet, step};
@@ -38,13 +38,37 @@ fn line_path(alloc: Global, x: u64, y: u64, to_x: u64, to_y: u64) -> Result<Stri
     Ok(path)
 }
 
-/// The line from a point out to the left, and back to a place below, so far aside.
-fn bow_path(alloc: Global, x: u64, y: u64, aside: &str, to_y: u64) -> Result<String, NoMemory>
-    ensures { IfOk result (λ path. string_bytes path ≡ bow_path x y aside.now to_y) }
+/// The last part of a line that comes back so far down, and so far aside.
+#[tactic(auto, unfolding(crate::specs::ArrowTexts::back_path))]
+fn back_path(alloc: Global, down: u64, aside: &str) -> Result<String, NoMemory>
+    ensures { IfOk result (λ path. string_bytes path ≡ back_path down aside.now) }
 {
-    let down = to_y.saturating_sub(y);
-    let path = format!(in alloc; "M{x} {y}c-44 0 -44 {down} {aside} {down}")?;
+    let path = format!(in alloc; "{down} {aside} {down}")?;
     Ok(path)
+}
+
+/// The line from a point out to the left, bent so far, and back to a place below, so far aside.
+fn bow_path(
+    alloc: Global,
+    x: u64,
+    y: u64,
+    bend: u64,
+    aside: &str,
+    to_y: u64,
+) -> Result<String, NoMemory>
+    ensures { IfOk result (λ path. string_bytes path ≡ bow_path x y bend aside.now to_y) }
+{
+    let back = back_path(alloc, to_y.saturating_sub(y), aside)?;
+    let path = format!(in alloc; "M{x} {y}c-{bend} 0 -{bend} {back}")?;
+    Ok(path)
+}
+
+/// How far out a line from a row to its own lane is bent: otherwise than from the six rows before, so that they stand
+/// apart.
+fn bend_of(row: u32) -> u64
+    ensures { result ≡ bend_of row }
+{
+    32 + u64::from(row % 7) * 5
 }
 
 /// A place short of another, seen from a third one.
@@ -75,15 +99,15 @@ fn path_between(alloc: Global, x: u64, to: u64, y: u64, end: End) -> Result<Stri
 }
 
 /// The line of an arrow of a node to itself.
-fn path_back(alloc: Global, x: u64, y: u64, end: End) -> Result<String, NoMemory>
+fn path_back(alloc: Global, x: u64, y: u64, bend: u64, end: End) -> Result<String, NoMemory>
     requires { y ≤ 281474976710656 }
-    ensures { IfOk result (λ path. string_bytes path ≡ path_back x y end) }
+    ensures { IfOk result (λ path. string_bytes path ≡ path_back x y bend end) }
 {
     match end {
-        End::Taken { row } => bow_path(alloc, x, y, "0", step(row)),
-        End::Dropped { row } => bow_path(alloc, x, y, "-22", step(row)),
-        End::Fades => bow_path(alloc, x, y, "-22", y + FALL),
-        End::Again { row } => bow_path(alloc, x, y, "0", step(row)),
+        End::Taken { row } => bow_path(alloc, x, y, bend, "0", step(row)),
+        End::Dropped { row } => bow_path(alloc, x, y, bend, "-22", step(row)),
+        End::Fades => bow_path(alloc, x, y, bend, "-22", y + FALL),
+        End::Again { row } => bow_path(alloc, x, y, bend, "0", step(row)),
     }
 }
 
@@ -95,7 +119,7 @@ fn path_of(alloc: Global, sheet: Sheet, arrow: Arrow) -> Result<String, NoMemory
     let x = sheet.lane(arrow.from);
     let y = step(arrow.row);
     if arrow.from == arrow.to {
-        path_back(alloc, x, y, arrow.end)
+        path_back(alloc, x, y, bend_of(arrow.row), arrow.end)
     } else {
         path_between(alloc, x, sheet.lane(arrow.to), y, arrow.end)
     }
@@ -142,7 +166,7 @@ fn put_arrow(
     ensures { OnOk result (out.new ≡ out.old ++ arrow_text sheet arrow line.now) }
 {
     put_opening(alloc, out, arrow)?;
-    put_cut(out, line, sheet.title_room())?;
+    put_fitted(out, line, sheet.title_room())?;
     put_path(alloc, out, sheet, arrow)?;
     out.extend_from_slice(b"</g>\n")
 }

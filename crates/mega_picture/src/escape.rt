@@ -1,6 +1,6 @@
 //! Texts in a page, so that no byte of them is markup.
-ghost use Rattle.std.specs.Prelude.{◌≡◌, ◌++◌, ◌<◌, ◌≤◌, OnOk, length};
-ghost use Rattle.mega_picture.specs.Escape.{is_no_character, escaped, escape, goes_on, cut_at, shortened};
+ghost use Rattle.std.specs.Prelude.{◌≡◌, ◌++◌, ◌<◌, ◌≤◌, ◌+◌, OnOk, length};
+ghost use Rattle.mega_picture.specs.Escape.{is_no_character, escaped, escape, width, fitting, goes_on, cut_at, shortened, fitted};
 
 use mega_base::{Bytes, NoMemory};
 
@@ -51,6 +51,38 @@ pub fn put_escaped(out: &mut Bytes, text: &[u8]) -> Result<(), NoMemory>
     Ok(())
 }
 
+/// How many bytes of a page a byte of a text takes, at most.
+#[tactic(auto, unfolding(crate::specs::Escape::width))]
+fn width(byte: u8) -> usize
+    ensures { result ≡ width byte }
+{
+    if byte == b'<' || byte == b'>' {
+        4
+    } else if byte == b'&' || byte == b'\'' {
+        5
+    } else if byte == b'"' {
+        6
+    } else {
+        1
+    }
+}
+
+/// How many bytes of a text, from its first on, fit into so many of a page.
+fn fitting(text: &[u8], room: usize) -> usize
+    ensures value { result ≡ fitting room text.now }
+    ensures bound { result ≤ length text.now }
+{
+    let mut left = room;
+    for (index, byte) in text.iter().enumerate() {
+        let wide = width(*byte);
+        if left < wide {
+            return index;
+        }
+        left -= wide;
+    }
+    text.len()
+}
+
 /// Whether a byte goes on with a character.
 fn goes_on(byte: u8) -> bool
     ensures { result ≡ goes_on byte }
@@ -82,4 +114,13 @@ pub fn put_cut(out: &mut Bytes, text: &[u8], most: usize) -> Result<(), NoMemory
     let (front, _) = text.split_at(cut_of(text, most));
     put_escaped(out, front)?;
     out.extend_from_slice(b"...")
+}
+
+/// Appends a text with no markup, or, where it would take more than so many bytes of the page, its front and three dots.
+#[tactic(auto, using(crate::proofs::Fitting::put_fits), unfolding(crate::specs::Escape::fitted))]
+pub fn put_fitted(out: &mut Bytes, text: &[u8], room: usize) -> Result<(), NoMemory>
+    ensures text { OnOk result (out.new ≡ out.old ++ fitted room text.now) }
+    ensures room { OnOk result (length out.new ≤ length out.old + (room + 3)) }
+{
+    put_cut(out, text, fitting(text, room))
 }

@@ -1,9 +1,9 @@
 //! How marks are spelled in a page.
 ghost use Rattle.std.specs.Prelude.{◌≡◌, ◌≤◌, ◌++◌, OnOk, length};
 ghost use Rattle.mega_picture.specs.Rows.{Follows};
-ghost use Rattle.mega_picture.specs.MarkTexts.{x_of, beside_of, class_of, room_of, mark_opening, use_text, text_opening, caption_text, mark_text, text_if, mark_texts};
+ghost use Rattle.mega_picture.specs.MarkTexts.{x_of, beside_of, class_of, room_of, mark_opening, use_text, text_opening, caption_text, figure_text, mark_text, text_if, mark_texts};
 
-use crate::escape::put_cut;
+use crate::escape::{put_cut, put_fitted};
 use crate::groups::Groups;
 use crate::journeys::Journeys;
 use crate::kinds::tone_of;
@@ -117,6 +117,28 @@ fn put_caption(
     Ok(())
 }
 
+/// Draws the shape of a mark in a row, and writes its label.
+#[tactic(auto, unfolding(crate::specs::MarkTexts::figure_text))]
+fn put_figure(
+    alloc: Global,
+    out: &mut Bytes,
+    sheet: Sheet,
+    row: u32,
+    mark: Mark,
+    label: &[u8],
+) -> Result<(), NoMemory>
+    ensures { OnOk result (out.new ≡ out.old ++ figure_text sheet row mark label.now) }
+{
+    put_use(
+        alloc,
+        out,
+        word_of(mark.shape),
+        x_of(sheet, mark.place),
+        step(row),
+    )?;
+    put_caption(alloc, out, sheet, row, mark.place, label)
+}
+
 /// Writes a mark with a line of the transcript as its title, and a label beside it.
 #[tactic(auto, unfolding(crate::specs::MarkTexts::mark_text))]
 fn put_mark(
@@ -131,15 +153,8 @@ fn put_mark(
     ensures { OnOk result (out.new ≡ out.old ++ mark_text sheet row mark line.now label.now) }
 {
     put_mark_opening(alloc, out, tone_of(mark.position))?;
-    put_cut(out, line, sheet.title_room())?;
-    put_use(
-        alloc,
-        out,
-        word_of(mark.shape),
-        x_of(sheet, mark.place),
-        step(row),
-    )?;
-    put_caption(alloc, out, sheet, row, mark.place, label)
+    put_fitted(out, line, sheet.title_room())?;
+    put_figure(alloc, out, sheet, row, mark, label)
 }
 
 /// Writes the mark of an item where it has one.

@@ -12,7 +12,7 @@ const STEP: u64 = 22;
 pub const NAMED: u32 = 40;
 
 /// Where the lane of the first node stands, and that of clients.
-const FIRST_LANE: u64 = 124;
+const FIRST_LANE: u64 = 148;
 
 const CLIENT_LANE: u64 = 66;
 
@@ -24,8 +24,8 @@ const MARGIN: u64 = 24;
 
 const LETTER: u64 = 7;
 
-/// How many bytes all titles of a page may have, and of how many steps a page has room for titles at least.
-const TITLES: u64 = 640_000;
+/// How many bytes of a page the titles of all its steps may take, and of how many steps a page has room for titles at least.
+const TITLES: u64 = 800_000;
 
 const FEW: u32 = 60;
 
@@ -105,7 +105,7 @@ impl Sheet {
         ((self.gap() - MARGIN) / LETTER) as usize
     }
 
-    /// How many bytes of a line a title has room for.
+    /// How many bytes of the page a title has room for.
     #[tactic(auto, unfolding(crate::specs::Sheets::title_room))]
     pub fn title_room(self) -> usize
         ensures { result ≡ title_room self }

@@ -16,9 +16,10 @@ text{font:11px ui-monospace,SFMono-Regular,Menlo,Consolas,'DejaVu Sans Mono',mon
 path{fill:none;stroke:currentColor;stroke-width:1.4}
 .taken path{marker-end:url(#head)}
 .lost path{stroke-dasharray:7 3}
-.fades path{stroke-dasharray:18 3 14 4 11 5 8 6 6 7 4 8 3 9 2 10 1 400}
-.again path{stroke-width:.8;stroke-dasharray:2 3;marker-end:url(#head)}
-.p0{color:var(--ink)}
+.fades path{stroke-dasharray:18 3 14 4 11 5 8 6 6 7 4 8 3 9 2 10 1 99999}
+.again path{stroke-width:1;stroke-dasharray:2 3;marker-end:url(#head)}
+.p0{color:var(--dim)}
+.mark.p0{color:var(--ink)}
 .p1{color:hsl(212,80%,var(--level))}
 .p2{color:hsl(18,85%,var(--level))}
 .p3{color:hsl(140,65%,var(--level))}
@@ -48,11 +49,11 @@ pub const SHAPES: &str = "<defs>
 <circle id=\"unsent\" r=\"4.5\" style=\"fill:var(--paper);stroke:var(--ink);stroke-width:1.3;stroke-dasharray:2 2\"/>
 <g id=\"grant\"><path d=\"M-3 -2V-5A3 3 0 0 1 3 -5V-2\"/><path d=\"M-5 -2H5V6H-5z\" style=\"fill:var(--ink)\"/></g>
 <g id=\"lapse\"><path d=\"M-3 -2V-5A3 3 0 0 1 3 -6\"/><path d=\"M-5 -2H5V6H-5z\" style=\"fill:var(--paper)\"/></g>
-<path id=\"counts\" d=\"M-5 0H5M0 -5V5\" style=\"stroke-width:2.4\"/>
-<path id=\"forgets\" d=\"M-6 0H6\" style=\"stroke-width:2.4\"/>
+<g id=\"counts\"><path d=\"M-6 -6H6V6H-6z\" style=\"fill:var(--paper)\"/><path d=\"M-4 0H4M0 -4V4\" style=\"stroke-width:2\"/></g>
+<g id=\"forgets\"><path d=\"M-6 -6H6V6H-6z\" style=\"fill:var(--paper)\"/><path d=\"M-4 0H4\" style=\"stroke-width:2\"/></g>
 <path id=\"serving\" d=\"M-8 5V-3H8V5\" style=\"stroke-width:2\"/>
 <path id=\"lost\" d=\"M-8 -5V3H8V-5\" style=\"stroke-width:2;stroke:var(--alarm)\"/>
-<path id=\"valid\" d=\"M-6 0L-2 5L6 -5\" style=\"stroke-width:2.2\"/>
+<g id=\"valid\"><path d=\"M-6 0L-2 5L6 -5\" style=\"stroke:var(--paper);stroke-width:6\"/><path d=\"M-6 0L-2 5L6 -5\" style=\"stroke-width:2.2\"/></g>
 <g id=\"invalid\"><circle r=\"5.5\" style=\"fill:var(--paper);stroke:var(--alarm);stroke-width:1.6\"/><path d=\"M-4 4L4 -4\" style=\"stroke:var(--alarm)\"/></g>
 <circle id=\"decide\" r=\"6\" style=\"fill:currentColor;stroke:var(--paper);stroke-width:1\"/>
 <circle id=\"apply\" r=\"5\" style=\"fill:var(--paper);stroke:currentColor;stroke-width:2.6\"/>

@@ -4,7 +4,7 @@ ghost use Rattle.mega_picture.specs.Validity.{change_if, change_of, is_end, is_o
 ghost use Rattle.mega_picture.specs.Ends.{end_at};
 
 use crate::bands::{Band, Turn, turn_of};
-use crate::escape::put_cut;
+use crate::escape::put_fitted;
 use crate::groups::Groups;
 use crate::sheet::{Sheet, step};
 use crate::told::Told;
@@ -122,7 +122,7 @@ fn put_validity(
     ensures { OnOk result (out.new ≡ out.old ++ validity_text sheet node change from to line.now) }
 {
     put_opening(alloc, out, class_of(change.valid))?;
-    put_cut(out, line, sheet.title_room())?;
+    put_fitted(out, line, sheet.title_room())?;
     put_strip_at(alloc, out, sheet, node, change.group, from, to)
 }
 

@@ -1,5 +1,5 @@
 -- The run of the events that lines spell: it is a run, it keeps what laws of runs say, and its events are of the format.
-use Rattle.std.proofs.Common.{◌≡◌, ℕ, zero, suc, ◌+◌, Option, Some, None, Ok, List, [], ◌∷◌, ◌++◌, length, refl, sym, ◌∙◌, ap, subst}
+use Rattle.std.proofs.Common.{◌≡◌, ◌≤◌, ◌⊎◌, inl, inr, ℕ, zero, suc, ◌+◌, Option, Some, None, Ok, List, [], ◌∷◌, ◌++◌, length, refl, sym, ◌∙◌, ap, subst, arith}
 use Rattle.std.proofs.lemmas.List.Sums.{fold-append}
 use Rattle.mega_cluster.specs.declared.cluster.Cluster.{Cluster}
 use Rattle.mega_handler.specs.Named.{Meaning, Meanings}
@@ -32,11 +32,14 @@ use Rattle.mega_row_laws.proofs.Steps.{begin_owns, take_owns, tick_owns}
 use Rattle.mega_cause_laws.proofs.Told.{run_causes}
 use Rattle.mega_line_laws.proofs.Asking.{clock_asked, request_asked}
 use Rattle.mega_line_laws.proofs.Again.{means}
+use Rattle.mega_line_laws.specs.Clusters.{CanStart}
+use Rattle.mega_leased_laws.proofs.Tops.{run_fresh}
 use Rattle.mega_line_laws.specs.Meanings.{meaning_in}
 use Rattle.mega_replay.specs.Meanings.{usage}
-use Rattle.mega_replay.specs.Running.{AllHappen, Happens, Replayed, Went, in_turn, stood}
+use Rattle.mega_replay.specs.Running.{AllHappen, AllReadAll, Happens, ReadsAll, Replayed, Went, in_turn, stood}
 use Rattle.mega_replay.proofs.Growing.{event_adds}
 use Rattle.mega_replay.proofs.Holding.{means_values}
+use Rattle.mega_replay.proofs.Starts.{declared_of}
 
 -- the run over events, the newest first, is that over the events in order
 turned : (c : Cluster) (events rest : List Happening) → goes_on c by_fuse (opening c built_in) (in_turn events rest) ≡ goes_on c by_fuse (stood c events) rest
@@ -67,8 +70,23 @@ fits_turned c (line ∷ lines) [] rest happen fits = absurd happen
 fits_turned c (line ∷ lines) (one ∷ events) rest happen fits =
     fits_turned c lines events (one ∷ rest) happen.0 (fits_one c (length lines + 1) line (stood c events) one happen.1, fits)
 
-pub replayed : (c : Cluster) (lines : List (List ℕ)) (events : List Happening) → IsDeclared c.schema → AllHappen c lines events → Replayed c lines events
-replayed c lines events declared happen =
+cells_few : (n : ℕ) → (n ≡ 1) ⊎ (n ≡ 3) ⊎ (n ≡ 5) → n ≤ 5
+cells_few n (inl one) = omega (arith, one)
+cells_few n (inr (inl three)) = omega (arith, three)
+cells_few n (inr (inr five)) = omega (arith, five)
+
+-- local reads, behind each event
+reads_all : (c : Cluster) (events : List Happening) → CanStart c → ReadsAll c (stood c events)
+reads_all c events can =
+    subst (ReadsAll c) (turned c events []) (run_fresh c built_in (in_turn events []) (goes_on c by_fuse (opening c built_in) (in_turn events [])).tape can.few (cells_few c.cells can.cells) (record { cuts = by_fuse; tape_is = refl }))
+
+all_read_all : (c : Cluster) (events : List Happening) → CanStart c → AllReadAll c events
+all_read_all c [] can = reads_all c [] can
+all_read_all c (one ∷ earlier) can = (all_read_all c earlier can, reads_all c (one ∷ earlier) can)
+
+pub replayed : (c : Cluster) (lines : List (List ℕ)) (events : List Happening) → CanStart c → AllHappen c lines events → Replayed c lines events
+replayed c lines events can happen =
+    let declared = declared_of c can in
     let run = is_run c events in
     let fits = fits_turned c lines events [] happen tt in
     let tape = (stood c events).tape in
@@ -84,6 +102,7 @@ replayed c lines events declared happen =
       causes = run_causes c (usage c.schema) built_in (in_turn events []) tape run fits built_in;
       indexed = indexed c (usage c.schema) tape writes declared values;
       rows = rows_fit c (usage c.schema) tape writes declared values;
+      local = all_read_all c events can;
     }
 
 -- what an event leads to, where it is not refused
@@ -153,14 +172,14 @@ module _ (c : Cluster) (declared : IsDeclared c.schema) where
   owns done now (Start node) fits first is allowed = tt
   owns done now (Fuse node calls image device) fits first is allowed = tt
 
-pub sound : {makes : List ℕ → Option Meaning} (c : Cluster) (lines : List (List ℕ)) (events : List Happening) (number : ℕ) (line : List ℕ) (event : WorldEvent) → IsDeclared c.schema → AllHappen c lines events → event_of c.schema number line ≡ Ok event
+pub sound : {makes : List ℕ → Option Meaning} (c : Cluster) (lines : List (List ℕ)) (events : List Happening) (number : ℕ) (line : List ℕ) (event : WorldEvent) → CanStart c → AllHappen c lines events → event_of c.schema number line ≡ Ok event
     → refusal c (stood c events) event ≡ None → Means makes built_in → IsSound makes c built_in (stood c events) event
-sound c lines events number line event declared happen spelled allowed means =
+sound c lines events number line event can happen spelled allowed means =
     let first : FitsOne (usage c.schema) (record { handlers = built_in; event = event }) = record { brought = record { moment = []; is = refl }; meant = meant c number line event spelled } in record {
       means = means;
       handlers = (credit_formed key_property, (copy_formed, tt));
       asked = asked c number line event spelled;
-      own = owns c declared (in_turn events []) (stood c events) event (fits_turned c lines events [] happen tt) first (turned c events []) allowed;
+      own = owns c (declared_of c can) (in_turn events []) (stood c events) event (fits_turned c lines events [] happen tt) first (turned c events []) allowed;
     }
 
 pub went : (c : Cluster) (number : ℕ) (line : List ℕ) (events : List Happening) (event : WorldEvent) (world : World) (items : List Item) → event_of c.schema number line ≡ Ok event → refusal c (stood c events) event ≡ None

@@ -6,11 +6,11 @@ use Rattle.mega_io.specs.Pieces.{AppendsFront}
 use Rattle.mega_words.specs.declared.command.Report.{Report}
 use Rattle.mega_promises.specs.Runs.{Standing}
 use Rattle.mega_schedule.specs.Events.{event_of}
-use Rattle.mega_replay.specs.LastLines.{header_line, schedule_line, unbuilt_line, limit_line, refused_line}
+use Rattle.mega_replay.specs.LastLines.{header_line, schedule_line, limit_line, refused_line}
 use Rattle.mega_replay.specs.Headings.{lines_behind}
 use Rattle.mega_replay.specs.Progress.{Writes, WritesFront}
-use Rattle.mega_replay.specs.Replaying.{AreDoneBehind, IsRefused, IsUnbuilt, IsPastLast, StopsAt}
-use Rattle.mega_replay.specs.Known.{InputDone, InputFailed, InputBegun, InputBroken, InputCut, InputNoEvent, InputRefused, InputUnbuilt, InputPastLast}
+use Rattle.mega_replay.specs.Replaying.{AreDoneBehind, IsRefused, IsPastLast, StopsAt}
+use Rattle.mega_replay.specs.Known.{InputDone, InputFailed, InputBegun, InputBroken, InputCut, InputNoEvent, InputRefused, InputPastLast}
 use Rattle.mega_replay.proofs.Progress.{all_held, as_front, last_held, some_held, whole_held}
 
 abbrev pub Follows : (List ℕ → Type 0) → (List ℕ → Type 0) → Type 0
@@ -44,11 +44,6 @@ pub refused_said : (report : Report) (known : Option (List ℕ)) (number why : �
 refused_said report None number why Says Then follows stops = tt
 refused_said report (Some input) number why Says Then follows (c, lines, headed, s) =
     (c, lines, headed, stops_said report c lines number (λ line now. IsRefused c number line now why) Says Then follows s)
-
-pub unbuilt_said : (report : Report) (known : Option (List ℕ)) (number : ℕ) (Says Then : List ℕ → Type 0) → Follows Says Then → InputUnbuilt report known number Says → InputUnbuilt report known number Then
-unbuilt_said report None number Says Then follows unbuilt = tt
-unbuilt_said report (Some input) number Says Then follows (c, lines, headed, s) =
-    (c, lines, headed, stops_said report c lines number (λ line now. IsUnbuilt c number line now) Says Then follows s)
 
 pub limit_said : (report : Report) (known : Option (List ℕ)) (number : ℕ) (Says Then : List ℕ → Type 0) → Follows Says Then → InputPastLast report known number Says → InputPastLast report known number Then
 limit_said report None number Says Then follows limit = tt
@@ -85,13 +80,9 @@ refused_cut : (report : Report) (known : Option (List ℕ)) (number why : ℕ) (
 refused_cut report None number why Says refused = tt
 refused_cut report (Some input) number why Says refused = inr (inr (inr (inr (inl (number, why, refused)))))
 
-unbuilt_cut : (report : Report) (known : Option (List ℕ)) (number : ℕ) (Says : List ℕ → Type 0) → InputUnbuilt report known number (λ text. Says (text ++ unbuilt_line number)) → InputCut report known Says
-unbuilt_cut report None number Says unbuilt = tt
-unbuilt_cut report (Some input) number Says unbuilt = inr (inr (inr (inr (inr (inl (number, unbuilt))))))
-
 limit_cut : (report : Report) (known : Option (List ℕ)) (number : ℕ) (Says : List ℕ → Type 0) → InputPastLast report known number (λ text. Says (text ++ limit_line number)) → InputCut report known Says
 limit_cut report None number Says limit = tt
-limit_cut report (Some input) number Says limit = inr (inr (inr (inr (inr (inr (number, limit))))))
+limit_cut report (Some input) number Says limit = inr (inr (inr (inr (inr (number, limit)))))
 
 -- what waited was written
 pub done_held : (report : Report) (known before mid after : Option (List ℕ)) (waiting : List ℕ) → InputDone report known (Writes before mid waiting) → Appends mid after waiting → InputDone report known (Appends before after)
@@ -127,11 +118,6 @@ pub refused_held : (report : Report) (known before mid after : Option (List ℕ)
 refused_held report known before mid after waiting number why stops written =
     refused_said report known number why (Writes before mid waiting) (λ text. Appends before after (text ++ refused_line number why)) (whole_line before mid after waiting (refused_line number why) written) stops
 
-pub unbuilt_held : (report : Report) (known before mid after : Option (List ℕ)) (waiting : List ℕ) (number : ℕ) → InputUnbuilt report known number (Writes before mid waiting) → Appends mid after (waiting ++ unbuilt_line number)
-    → InputUnbuilt report known number (λ text. Appends before after (text ++ unbuilt_line number))
-unbuilt_held report known before mid after waiting number stops written =
-    unbuilt_said report known number (Writes before mid waiting) (λ text. Appends before after (text ++ unbuilt_line number)) (whole_line before mid after waiting (unbuilt_line number) written) stops
-
 pub limit_held : (report : Report) (known before mid after : Option (List ℕ)) (waiting : List ℕ) (number : ℕ) → InputPastLast report known number (Writes before mid waiting) → Appends mid after (waiting ++ limit_line number)
     → InputPastLast report known number (λ text. Appends before after (text ++ limit_line number))
 limit_held report known before mid after waiting number stops written =
@@ -153,12 +139,6 @@ pub refused_front : (report : Report) (known before mid after : Option (List ℕ
 refused_front report known before mid after waiting number why stops written =
     refused_cut report known number why (AppendsFront before after)
     (refused_said report known number why (Writes before mid waiting) (λ text. AppendsFront before after (text ++ refused_line number why)) (some_line before mid after waiting (refused_line number why) written) stops)
-
-pub unbuilt_front : (report : Report) (known before mid after : Option (List ℕ)) (waiting : List ℕ) (number : ℕ) → InputUnbuilt report known number (Writes before mid waiting) → AppendsFront mid after (waiting ++ unbuilt_line number)
-    → InputCut report known (AppendsFront before after)
-unbuilt_front report known before mid after waiting number stops written =
-    unbuilt_cut report known number (AppendsFront before after)
-    (unbuilt_said report known number (Writes before mid waiting) (λ text. AppendsFront before after (text ++ unbuilt_line number)) (some_line before mid after waiting (unbuilt_line number) written) stops)
 
 pub limit_front : (report : Report) (known before mid after : Option (List ℕ)) (waiting : List ℕ) (number : ℕ) → InputPastLast report known number (Writes before mid waiting) → AppendsFront mid after (waiting ++ limit_line number)
     → InputCut report known (AppendsFront before after)

@@ -11,8 +11,8 @@ use Rattle.mega_replay.proofs.Small.{parsed_small}
 pub starts : (c : Cluster) → IsRead c → CanStart c
 starts c read = can_start 1 read.0 c read.1
 
-pub declared : (c : Cluster) → IsRead c → IsDeclared c.schema
-declared c read = parsed_declared (starts c read).schema_text c.schema (starts c read).schema_read
+pub declared_of : (c : Cluster) → CanStart c → IsDeclared c.schema
+declared_of c can = parsed_declared can.schema_text c.schema can.schema_read
 
 pub small : (c : Cluster) → IsRead c → IsSmall c.schema
 small c read = parsed_small (starts c read).schema_text c.schema (starts c read).schema_read

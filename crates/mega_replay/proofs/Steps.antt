@@ -10,7 +10,7 @@ use Rattle.mega_schedule.specs.Events.{event_of}
 use Rattle.mega_transcript.specs.declared.item.Item.{Item}
 use Rattle.mega_transcript.specs.Tape.{newest}
 use Rattle.mega_promises.specs.Runs.{Happening, Standing}
-use Rattle.mega_tape_laws.specs.Indexed.{IsDeclared}
+use Rattle.mega_line_laws.specs.Clusters.{CanStart}
 use Rattle.mega_world.specs.declared.world.World.{World}
 use Rattle.mega_replay.specs.Known.{CutsLine, Ends, Follows, IsTooLong, LeftFails, LeftIsBegun, LeftIsDone, LeftRanOut, LeftStops, Passes, StopsNext, TakesLine}
 use Rattle.mega_replay.specs.Progress.{Writes, WritesFront}
@@ -83,7 +83,7 @@ ran_on c first now next world other items after count line ran follows went = re
   done = line ∷ ran.done;
   events = went.one ∷ ran.events;
   after = record {
-    declared = ran.after.declared;
+    starts = ran.after.starts;
     happen = (ran.after.happen, subst (λ (n : ℕ). Happens c (n + 1) line (stood c ran.events) went.one) ran.counted went.happens);
     here = went.here;
   };
@@ -106,7 +106,7 @@ ran_out c (Some first) None world items count ran ends = absurd ran.left
 ran_out c (Some first) (Some now) world items count ran ends = record {
   done = ran.done;
   events = ran.events;
-  replayed = replayed c ran.done ran.events ran.after.declared ran.after.happen;
+  replayed = replayed c ran.done ran.events ran.after.starts ran.after.happen;
   all = ran.left.0 ∙ ap (in_order ran.done) ends;
   tape = same_tape c world items ran.done ran.events ran.after;
   counted = ran.counted;
@@ -144,19 +144,19 @@ end_cut report c (Some start) items count first now waiting later ran written sa
       (as_front first now later (so_far report c.schema items) (subst (λ (xs : List ℕ). Writes first now xs (so_far report c.schema items)) (sym same) written));
 }
 
-begun_with : (report : Report) (c : Cluster) (first now : Option (List ℕ)) (Says : List ℕ → Type 0) (done : List (List ℕ)) (events : List Happening) → IsDeclared c.schema → AllHappen c done events → Stands first now done → Says (so_far report c.schema (newest (stood c events).tape))
+begun_with : (report : Report) (c : Cluster) (first now : Option (List ℕ)) (Says : List ℕ → Type 0) (done : List (List ℕ)) (events : List Happening) → CanStart c → AllHappen c done events → Stands first now done → Says (so_far report c.schema (newest (stood c events).tape))
     → LeftIsBegun report c first Says
-begun_with report c None now Says done events declared happen left said = tt
-begun_with report c (Some first) None Says done events declared happen left said = absurd left
-begun_with report c (Some first) (Some now) Says done events declared happen left said =
-    record { done = done; rest = lines_of now; events = events; replayed = replayed c done events declared happen; all = left.0; said = said }
+begun_with report c None now Says done events can happen left said = tt
+begun_with report c (Some first) None Says done events can happen left said = absurd left
+begun_with report c (Some first) (Some now) Says done events can happen left said =
+    record { done = done; rest = lines_of now; events = events; replayed = replayed c done events can happen; all = left.0; said = said }
 
 pub cut_here : (report : Report) (c : Cluster) (first now : Option (List ℕ)) (Says : List ℕ → Type 0) (world : World) (items : List Item) (count : ℕ) → RanTo c first now world items count → Says (so_far report c.schema items) → LeftIsBegun report c first Says
 cut_here report c first now Says world items count ran said =
-    begun_with report c first now Says ran.done ran.events ran.after.declared ran.after.happen ran.left (told_newest report Says c world items ran.done ran.events ran.after said)
+    begun_with report c first now Says ran.done ran.events ran.after.starts ran.after.happen ran.left (told_newest report Says c world items ran.done ran.events ran.after said)
 
-pub cut_before : (report : Report) (c : Cluster) (first : Option (List ℕ)) (Says : List ℕ → Type 0) → IsDeclared c.schema → Says (so_far report c.schema (newest (stood c []).tape)) → LeftIsBegun report c first Says
-cut_before report c first Says declared said = begun_with report c first first Says [] [] declared tt (none_done first) said
+pub cut_before : (report : Report) (c : Cluster) (first : Option (List ℕ)) (Says : List ℕ → Type 0) → CanStart c → Says (so_far report c.schema (newest (stood c []).tape)) → LeftIsBegun report c first Says
+cut_before report c first Says can said = begun_with report c first first Says [] [] can tt (none_done first) said
 
 pub cut_first : (report : Report) (c : Cluster) (first : Option (List ℕ)) (Says : List ℕ → Type 0) (world : World) (items : List Item) → StandsAfter c [] [] world items → Says (so_far report c.schema items) → LeftIsBegun report c first Says
 cut_first report c first Says world items opens said = cut_here report c first first Says world items 0 (begun c first world items opens) said
@@ -180,7 +180,7 @@ cut_line report c start left next line world other old new count first mid now w
 reached : (c : Cluster) (first now : List ℕ) (world : World) (items : List Item) (count number : ℕ) (line : List ℕ) (rest : List (List ℕ)) (ran : RanTo c (Some first) (Some now) world items count) → lines_of now ≡ line ∷ rest
     → number ≡ count + 1 → Reaches c (lines_of first) number line ran.events
 reached c first now world items count number line rest ran is next =
-    record { done = ran.done; rest = rest; replayed = replayed c ran.done ran.events ran.after.declared ran.after.happen; all = ran.left.0 ∙ ap (in_order ran.done) is; counted = omega (arith, ran.counted) }
+    record { done = ran.done; rest = rest; replayed = replayed c ran.done ran.events ran.after.starts ran.after.happen; all = ran.left.0 ∙ ap (in_order ran.done) is; counted = omega (arith, ran.counted) }
 
 pub stopped : (report : Report) (c : Cluster) (first now : Option (List ℕ)) (IsCause : List ℕ → Standing → Type 0) (Says : List ℕ → Type 0) (world : World) (items : List Item) (count number : ℕ) (ran : RanTo c first now world items count)
     → number ≡ count + 1 → StopsNext now (λ line. IsCause line (stood c ran.events)) → Says (so_far report c.schema items) → LeftStops report c first number IsCause Says
@@ -237,7 +237,7 @@ fails_here report c (Some first) (Some now) (Some left) waiting line Says world 
   record {
     done = ran.done;
     events = ran.events;
-    replayed = replayed c ran.done ran.events ran.after.declared ran.after.happen;
+    replayed = replayed c ran.done ran.events ran.after.starts ran.after.happen;
     all = refl;
     said = told_newest report Says c world items ran.done ran.events ran.after said;
   },

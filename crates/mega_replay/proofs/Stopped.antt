@@ -5,25 +5,24 @@ use Rattle.mega_base.specs.Causes.{Rose}
 use Rattle.mega_io.specs.Pieces.{AppendsFront}
 use Rattle.mega_words.specs.declared.command.Report.{Report}
 use Rattle.mega_replay.specs.declared.status.Stop.{Stop}
-use Rattle.mega_replay.specs.declared.status.Stop.TheVariants.{Header, Schedule, Refused, Unbuilt, Limit, Source, Sink, NoMemory}
+use Rattle.mega_replay.specs.declared.status.Stop.TheVariants.{Header, Schedule, Refused, Limit, Source, Sink, NoMemory}
 use Rattle.mega_replay.specs.LastLines.{last_line}
-use Rattle.mega_replay.specs.Known.{InputBegun, InputFailed, InputBroken, InputCut, InputNoEvent, InputRefused, InputUnbuilt, InputPastLast}
+use Rattle.mega_replay.specs.Known.{InputBegun, InputFailed, InputBroken, InputCut, InputNoEvent, InputRefused, InputPastLast}
 use Rattle.mega_replay.specs.Progress.{Writes, WritesFront}
 use Rattle.mega_replay.specs.Statuses.{IsReplayStatus, status_of}
 use Rattle.mega_replay.specs.Stops.{IsTold}
-use Rattle.mega_replay.proofs.Said.{begun_front, failed_held, broken_front, none_front, refused_front, unbuilt_front, limit_front}
+use Rattle.mega_replay.proofs.Said.{begun_front, failed_held, broken_front, none_front, refused_front, limit_front}
 
 pub stop_front : (report : Report) (stop : Stop) (known before mid after : Option (List ℕ)) (waiting : List ℕ) → ((rule : ℕ) → stop ≡ Header rule → InputBroken known rule (Writes before mid waiting))
     → ((at reason : ℕ) → stop ≡ Schedule at reason → InputNoEvent report known at reason (Writes before mid waiting)) → ((at why : ℕ) → stop ≡ Refused at why → InputRefused report known at why (Writes before mid waiting))
-    → ((at : ℕ) → stop ≡ Unbuilt at → InputUnbuilt report known at (Writes before mid waiting)) → ((at : ℕ) → stop ≡ Limit at → InputPastLast report known at (Writes before mid waiting)) → InputBegun report known (WritesFront before mid waiting) → AppendsFront mid after (waiting ++ last_line stop) → InputCut report known (AppendsFront before after)
-stop_front report (Header rule) known before mid after waiting header none refused unbuilt limit begun written = broken_front report known before mid after waiting rule (header rule refl) written
-stop_front report (Schedule at reason) known before mid after waiting header none refused unbuilt limit begun written = none_front report known before mid after waiting at reason (none at reason refl) written
-stop_front report (Refused at why) known before mid after waiting header none refused unbuilt limit begun written = refused_front report known before mid after waiting at why (refused at why refl) written
-stop_front report (Unbuilt at) known before mid after waiting header none refused unbuilt limit begun written = unbuilt_front report known before mid after waiting at (unbuilt at refl) written
-stop_front report (Limit at) known before mid after waiting header none refused unbuilt limit begun written = limit_front report known before mid after waiting at (limit at refl) written
-stop_front report Source known before mid after waiting header none refused unbuilt limit begun written = begun_front report known before mid after waiting begun written
-stop_front report Sink known before mid after waiting header none refused unbuilt limit begun written = begun_front report known before mid after waiting begun written
-stop_front report NoMemory known before mid after waiting header none refused unbuilt limit begun written = begun_front report known before mid after waiting begun written
+    → ((at : ℕ) → stop ≡ Limit at → InputPastLast report known at (Writes before mid waiting)) → InputBegun report known (WritesFront before mid waiting) → AppendsFront mid after (waiting ++ last_line stop) → InputCut report known (AppendsFront before after)
+stop_front report (Header rule) known before mid after waiting header none refused limit begun written = broken_front report known before mid after waiting rule (header rule refl) written
+stop_front report (Schedule at reason) known before mid after waiting header none refused limit begun written = none_front report known before mid after waiting at reason (none at reason refl) written
+stop_front report (Refused at why) known before mid after waiting header none refused limit begun written = refused_front report known before mid after waiting at why (refused at why refl) written
+stop_front report (Limit at) known before mid after waiting header none refused limit begun written = limit_front report known before mid after waiting at (limit at refl) written
+stop_front report Source known before mid after waiting header none refused limit begun written = begun_front report known before mid after waiting begun written
+stop_front report Sink known before mid after waiting header none refused limit begun written = begun_front report known before mid after waiting begun written
+stop_front report NoMemory known before mid after waiting header none refused limit begun written = begun_front report known before mid after waiting begun written
 
 -- the last line of a stop that is told was written
 pub told_stop : (result stop one : Stop) (mid after : Option (List ℕ)) (waiting : List ℕ) → result ≡ one → IsTold one → (IsTold result → (result ≡ stop) × Appends mid after (waiting ++ last_line stop))
@@ -44,7 +43,6 @@ pub header_by : (stop : Stop) (Tells : ℕ → Type 0) → status_of stop ≡ 3 
 header_by (Header rule) Tells is said = (rule, said rule refl)
 header_by (Schedule line reason) Tells is said = absurd (omega arith)
 header_by (Refused line why) Tells is said = absurd (omega arith)
-header_by (Unbuilt line) Tells is said = absurd (omega arith)
 header_by (Limit line) Tells is said = absurd (omega arith)
 header_by Source Tells is said = absurd (omega arith)
 header_by Sink Tells is said = absurd (omega arith)
@@ -55,21 +53,10 @@ pub refused_by : (stop : Stop) (None Tells : ℕ → ℕ → Type 0) → status_
 refused_by (Schedule line reason) None Tells is none said = inl (line, reason, none line reason refl)
 refused_by (Refused line why) None Tells is none said = inr (line, why, said line why refl)
 refused_by (Header rule) None Tells is none said = absurd (omega arith)
-refused_by (Unbuilt line) None Tells is none said = absurd (omega arith)
 refused_by (Limit line) None Tells is none said = absurd (omega arith)
 refused_by Source None Tells is none said = absurd (omega arith)
 refused_by Sink None Tells is none said = absurd (omega arith)
 refused_by NoMemory None Tells is none said = absurd (omega arith)
-
-pub unbuilt_by : (stop : Stop) (Tells : ℕ → Type 0) → status_of stop ≡ 11 → ((line : ℕ) → stop ≡ Unbuilt line → Tells line) → (line : ℕ) × Tells line
-unbuilt_by (Unbuilt line) Tells is said = (line, said line refl)
-unbuilt_by (Header rule) Tells is said = absurd (omega arith)
-unbuilt_by (Schedule line reason) Tells is said = absurd (omega arith)
-unbuilt_by (Refused line why) Tells is said = absurd (omega arith)
-unbuilt_by Source Tells is said = absurd (omega arith)
-unbuilt_by Sink Tells is said = absurd (omega arith)
-unbuilt_by NoMemory Tells is said = absurd (omega arith)
-unbuilt_by (Limit line) Tells is said = absurd (omega arith)
 
 pub limit_by : (stop : Stop) (Tells : ℕ → Type 0) → status_of stop ≡ 10 → ((line : ℕ) → stop ≡ Limit line → Tells line) → (line : ℕ) × Tells line
 limit_by (Limit line) Tells is said = (line, said line refl)
@@ -79,14 +66,12 @@ limit_by (Refused line why) Tells is said = absurd (omega arith)
 limit_by Source Tells is said = absurd (omega arith)
 limit_by Sink Tells is said = absurd (omega arith)
 limit_by NoMemory Tells is said = absurd (omega arith)
-limit_by (Unbuilt line) Tells is said = absurd (omega arith)
 
 pub source_by : (stop : Stop) → status_of stop ≡ 5 → stop ≡ Source
 source_by Source is = refl
 source_by (Header rule) is = absurd (omega arith)
 source_by (Schedule line reason) is = absurd (omega arith)
 source_by (Refused line why) is = absurd (omega arith)
-source_by (Unbuilt line) is = absurd (omega arith)
 source_by (Limit line) is = absurd (omega arith)
 source_by Sink is = absurd (omega arith)
 source_by NoMemory is = absurd (omega arith)
@@ -96,7 +81,6 @@ sink_by Sink is = refl
 sink_by (Header rule) is = absurd (omega arith)
 sink_by (Schedule line reason) is = absurd (omega arith)
 sink_by (Refused line why) is = absurd (omega arith)
-sink_by (Unbuilt line) is = absurd (omega arith)
 sink_by (Limit line) is = absurd (omega arith)
 sink_by Source is = absurd (omega arith)
 sink_by NoMemory is = absurd (omega arith)
@@ -106,7 +90,6 @@ status_known (Header rule) = inr (inl refl)
 status_known (Schedule line reason) = inr (inr (inl refl))
 status_known (Refused line why) = inr (inr (inl refl))
 status_known (Limit line) = inr (inr (inr (inl refl)))
-status_known (Unbuilt line) = inr (inr (inr (inr (inl refl))))
-status_known Source = inr (inr (inr (inr (inr (inl refl)))))
-status_known Sink = inr (inr (inr (inr (inr (inr (inl refl))))))
-status_known NoMemory = inr (inr (inr (inr (inr (inr (inr refl))))))
+status_known Source = inr (inr (inr (inr (inl refl))))
+status_known Sink = inr (inr (inr (inr (inr (inl refl)))))
+status_known NoMemory = inr (inr (inr (inr (inr (inr refl)))))

@@ -4,9 +4,9 @@ use Rattle.mega_cluster.specs.declared.cluster.Cluster.{Cluster}
 use Rattle.mega_cluster.specs.Header.{read_of}
 use Rattle.mega_words.specs.declared.command.Report.{Report}
 use Rattle.mega_schedule.specs.Events.{event_of}
-use Rattle.mega_replay.specs.Known.{AreParted, HeaderFails, InputBegun, InputBroken, InputDone, InputFailed, InputNoEvent, InputRefused, InputUnbuilt, InputPastLast, IsBroken, IsHeaded, LeftFails, LeftIsBegun, LeftIsDone, LeftStops, TakesHeader}
+use Rattle.mega_replay.specs.Known.{AreParted, HeaderFails, InputBegun, InputBroken, InputDone, InputFailed, InputNoEvent, InputRefused, InputPastLast, IsBroken, IsHeaded, LeftFails, LeftIsBegun, LeftIsDone, LeftStops, TakesHeader}
 use Rattle.mega_replay.specs.Headings.{lines_behind}
-use Rattle.mega_replay.specs.Replaying.{AreDone, AreDoneBehind, AreRead, InputIsFailed, IsRefused, IsUnbuilt, IsPastLast}
+use Rattle.mega_replay.specs.Replaying.{AreDone, AreDoneBehind, AreRead, InputIsFailed, IsRefused, IsPastLast}
 use Rattle.mega_replay.proofs.Inputs.{both_none}
 use Rattle.mega_io.specs.TextLines.{ended_lines, lines_of}
 
@@ -37,11 +37,6 @@ pub input_refused : (report : Report) (a b : Option (List ℕ)) (c : Cluster) (a
 input_refused report None b c at why Says headed stops = tt
 input_refused report (Some a) None c at why Says headed stops = absurd headed
 input_refused report (Some a) (Some b) c at why Says headed stops = (c, lines_of b, headed.0, stops)
-
-pub input_unbuilt : (report : Report) (a b : Option (List ℕ)) (c : Cluster) (at : ℕ) (Says : List ℕ → Type 0) → IsHeaded a b c → LeftStops report c b at (λ line now. IsUnbuilt c at line now) Says → InputUnbuilt report a at Says
-input_unbuilt report None b c at Says headed stops = tt
-input_unbuilt report (Some a) None c at Says headed stops = absurd headed
-input_unbuilt report (Some a) (Some b) c at Says headed stops = (c, lines_of b, headed.0, stops)
 
 pub input_limit : (report : Report) (a b : Option (List ℕ)) (c : Cluster) (at : ℕ) (Says : List ℕ → Type 0) → IsHeaded a b c → LeftStops report c b at (λ line now. IsPastLast c at line now) Says → InputPastLast report a at Says
 input_limit report None b c at Says headed stops = tt

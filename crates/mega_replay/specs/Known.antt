@@ -10,7 +10,7 @@ use Rattle.mega_world.specs.declared.world.World.{World}
 use Rattle.mega_replay.specs.Headings.{heading_of, lines_behind, text_before}
 use Rattle.mega_replay.specs.Running.{Went}
 use Rattle.mega_replay.specs.Texts.{so_far}
-use Rattle.mega_replay.specs.Replaying.{AreDone, AreRead, IsDone, IsBegun, RanOut, StopsAt, InputIsDone, InputIsBegun, InputIsBroken, InputIsNoEvent, InputIsRefused, InputIsUnbuilt, InputIsPastLast, InputIsCut, InputIsFailed}
+use Rattle.mega_replay.specs.Replaying.{AreDone, AreRead, IsDone, IsBegun, RanOut, StopsAt, InputIsDone, InputIsBegun, InputIsBroken, InputIsNoEvent, InputIsRefused, InputIsPastLast, InputIsCut, InputIsFailed}
 
 -- this is so of what is told
 abbrev pub Told : Option (List ℕ) → (List ℕ → Type 0) → Type 0
@@ -119,9 +119,6 @@ InputNoEvent report input number reason Says = Told input (λ input. InputIsNoEv
 
 abbrev pub InputRefused : Report → Option (List ℕ) → ℕ → ℕ → (List ℕ → Type 0) → Type 0
 InputRefused report input number why Says = Told input (λ input. InputIsRefused report input number why Says)
-
-abbrev pub InputUnbuilt : Report → Option (List ℕ) → ℕ → (List ℕ → Type 0) → Type 0
-InputUnbuilt report input number Says = Told input (λ input. InputIsUnbuilt report input number Says)
 
 abbrev pub InputPastLast : Report → Option (List ℕ) → ℕ → (List ℕ → Type 0) → Type 0
 InputPastLast report input number Says = Told input (λ input. InputIsPastLast report input number Says)

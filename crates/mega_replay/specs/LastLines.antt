@@ -1,7 +1,7 @@
 -- The last line of a run, which tells of its stop, and the line that tells how the program is used.
 use Rattle.std.specs.Prelude.{ℕ, List, [], ◌++◌, codes, decimal}
 use Rattle.mega_replay.specs.declared.status.Stop.{Stop}
-use Rattle.mega_replay.specs.declared.status.Stop.TheVariants.{Header, Schedule, Refused, Unbuilt, Limit, Source, Sink, NoMemory}
+use Rattle.mega_replay.specs.declared.status.Stop.TheVariants.{Header, Schedule, Refused, Limit, Source, Sink, NoMemory}
 
 -- the header breaks this rule
 abbrev pub header_line : ℕ → List ℕ
@@ -15,10 +15,6 @@ schedule_line line reason = codes "refused " ++ (decimal line ++ (codes " schedu
 abbrev pub refused_line : ℕ → ℕ → List ℕ
 refused_line line why = codes "refused " ++ (decimal line ++ (codes " world " ++ (decimal why ++ codes "\n")))
 
--- this line, or the header as line 0, is not built
-abbrev pub unbuilt_line : ℕ → List ℕ
-unbuilt_line line = codes "unbuilt " ++ (decimal line ++ codes "\n")
-
 -- no line tells of a start past the last one
 abbrev pub limit_line : ℕ → List ℕ
 limit_line line = []
@@ -28,7 +24,6 @@ abbrev pub last_line : Stop → List ℕ
 last_line (Header rule) = header_line rule
 last_line (Schedule line reason) = schedule_line line reason
 last_line (Refused line why) = refused_line line why
-last_line (Unbuilt line) = unbuilt_line line
 last_line (Limit line) = limit_line line
 last_line Source = []
 last_line Sink = []

@@ -9,11 +9,11 @@ use Rattle.mega_schedule.specs.Events.{event_of}
 use Rattle.mega_promises.specs.Runs.{Happening, Standing, refusal}
 use Rattle.mega_transcript.specs.declared.item.Item.{Item}
 use Rattle.mega_transcript.specs.Tape.{newest}
-use Rattle.mega_world.specs.Unbuilt.{IsPastLast as IsPastLastEvent, IsUnbuilt as IsUnbuiltEvent}
+use Rattle.mega_world.specs.Last.{IsPastLast as IsPastLastEvent}
 use Rattle.mega_replay.specs.Headings.{heading_of, lines_behind, text_before}
 use Rattle.mega_replay.specs.Running.{Replayed, stood}
 use Rattle.mega_replay.specs.Texts.{in_all, so_far}
-use Rattle.mega_replay.specs.LastLines.{header_line, refused_line, schedule_line, unbuilt_line, limit_line}
+use Rattle.mega_replay.specs.LastLines.{header_line, refused_line, schedule_line, limit_line}
 
 -- these lines, newest first, and then the others
 abbrev pub in_order : List (List ℕ) → List (List ℕ) → List (List ℕ)
@@ -25,12 +25,6 @@ pub record IsRefused (c : Cluster) (number : ℕ) (line : List ℕ) (now : Stand
   pub event : WorldEvent
   pub spelled : event_of c.schema number line ≡ Ok event
   pub refused : refusal c now event ≡ Some why
-
--- it spells an event that is not served yet
-pub record IsUnbuilt (c : Cluster) (number : ℕ) (line : List ℕ) (now : Standing) : Type 0 where
-  pub event : WorldEvent
-  pub spelled : event_of c.schema number line ≡ Ok event
-  pub unserved : IsUnbuiltEvent event
 
 -- it spells the start of a node that is down and that started 4,294,967,295 times
 pub record IsPastLast (c : Cluster) (number : ℕ) (line : List ℕ) (now : Standing) : Type 0 where
@@ -88,15 +82,12 @@ pub record StopsAt (report : Report) (c : Cluster) (lines : List (List ℕ)) (nu
   pub cause : IsCause line (stood c events)
   pub said : Says (so_far report c.schema (newest (stood c events).tape))
 
--- this line is no event, its event is refused, or it is not served yet
+-- this line is no event, or its event is refused
 abbrev pub StopsSchedule : Report → Cluster → List (List ℕ) → ℕ → ℕ → (List ℕ → Type 0) → Type 0
 StopsSchedule report c lines number reason Says = StopsAt report c lines number (λ line now. event_of c.schema number line ≡ Err reason) Says
 
 abbrev pub StopsRefused : Report → Cluster → List (List ℕ) → ℕ → ℕ → (List ℕ → Type 0) → Type 0
 StopsRefused report c lines number why Says = StopsAt report c lines number (λ line now. IsRefused c number line now why) Says
-
-abbrev pub StopsUnbuilt : Report → Cluster → List (List ℕ) → ℕ → (List ℕ → Type 0) → Type 0
-StopsUnbuilt report c lines number Says = StopsAt report c lines number (λ line now. IsUnbuilt c number line now) Says
 
 abbrev pub StopsPastLast : Report → Cluster → List (List ℕ) → ℕ → (List ℕ → Type 0) → Type 0
 StopsPastLast report c lines number Says = StopsAt report c lines number (λ line now. IsPastLast c number line now) Says
@@ -121,10 +112,6 @@ InputIsNoEvent report input number reason Says = HasParts input (λ c lines. Sto
 abbrev pub InputIsRefused : Report → List ℕ → ℕ → ℕ → (List ℕ → Type 0) → Type 0
 InputIsRefused report input number why Says = HasParts input (λ c lines. StopsRefused report c lines number why Says)
 
--- this line is not served yet
-abbrev pub InputIsUnbuilt : Report → List ℕ → ℕ → (List ℕ → Type 0) → Type 0
-InputIsUnbuilt report input number Says = HasParts input (λ c lines. StopsUnbuilt report c lines number Says)
-
 abbrev pub InputIsPastLast : Report → List ℕ → ℕ → (List ℕ → Type 0) → Type 0
 InputIsPastLast report input number Says = HasParts input (λ c lines. StopsPastLast report c lines number Says)
 
@@ -140,7 +127,6 @@ InputIsCut report input Says =
     ⊎ ((rule : ℕ) × InputIsBroken input rule (λ text. Says (text ++ header_line rule)))
     ⊎ ((number : ℕ) × (reason : ℕ) × InputIsNoEvent report input number reason (λ text. Says (text ++ schedule_line number reason)))
     ⊎ ((number : ℕ) × (why : ℕ) × InputIsRefused report input number why (λ text. Says (text ++ refused_line number why)))
-    ⊎ ((number : ℕ) × InputIsUnbuilt report input number (λ text. Says (text ++ unbuilt_line number)))
     ⊎ ((number : ℕ) × InputIsPastLast report input number (λ text. Says (text ++ limit_line number)))
 
 -- the lines that the bytes spell that were read before this was left: those that end with a line feed, or all, where nothing was left

@@ -1,23 +1,32 @@
 -- The run of a cluster over the events that lines spell. Lines and events stand newest first.
-use Rattle.std.specs.Prelude.{◌≡◌, ℕ, ◌+◌, true, List, [], ◌∷◌, length, take, Some, None, Ok}
+use Rattle.std.specs.Prelude.{◌≡◌, ◌≤◌, ℕ, ◌+◌, true, false, List, [], ◌∷◌, length, take, Some, None, Ok}
 use Rattle.mega_base.specs.declared.names.GroupId.{GroupId}
+use Rattle.mega_base.specs.declared.names.NodeId.{NodeId}
 use Rattle.mega_base.specs.declared.names.OpId.{OpId}
+use Rattle.mega_base.specs.declared.names.Position.{Position}
 use Rattle.mega_cluster.specs.declared.cluster.Cluster.{Cluster}
 use Rattle.mega_meanings.specs.BuiltIn.{built_in}
+use Rattle.mega_entry.specs.declared.content.Content.{Content}
 use Rattle.mega_index.specs.Rows.{list_after}
 use Rattle.mega_schedule.specs.Events.{event_of}
 use Rattle.mega_outcome.specs.declared.answer.Answer.{Answer}
 use Rattle.mega_outcome.specs.declared.request.Request.{Request}
 use Rattle.mega_transcript.specs.declared.item.Item.{Item}
-use Rattle.mega_transcript.specs.declared.item.Item.TheVariants.{Answer as Answered}
+use Rattle.mega_transcript.specs.declared.item.Item.TheVariants.{Answer as Answered, Decide}
 use Rattle.mega_promises.specs.Causes.{HasCause}
+use Rattle.mega_rules.specs.Clock.{is_up}
+use Rattle.mega_rules.specs.Coordinators.{valid_at}
+use Rattle.mega_rules.specs.Logs.{top_of}
+use Rattle.mega_rules.specs.Members.{is_full}
+use Rattle.mega_promises.specs.Messages.{is_unsafe}
 use Rattle.mega_promises.specs.Moments.{StoodOn}
-use Rattle.mega_promises.specs.Promises.{Agree, AreMessages, IsSerial, asked_for, log_of}
+use Rattle.mega_promises.specs.Promises.{Agree, AreMessages, IsSerial, Stands, asked_for, log_of}
 use Rattle.mega_promises.specs.Runs.{Happening, IsRun, Standing, after_event, by_fuse, goes_on, opening, refusal, unless_refused}
-use Rattle.mega_tape_laws.specs.Indexed.{AreRows, IsDeclared, IsIndexed}
+use Rattle.mega_tape_laws.specs.Indexed.{AreRows, IsIndexed}
 use Rattle.mega_cause_laws.specs.Told.{is_told}
 use Rattle.mega_world.specs.declared.world.World.{World}
 use Rattle.mega_world.specs.Stands.{IsAt}
+use Rattle.mega_line_laws.specs.Clusters.{CanStart}
 use Rattle.mega_line_laws.specs.Meanings.{meaning_in}
 
 -- how a cluster stands after these events: its nodes as the header has them, and each event on what those before it left; a fuse on a log
@@ -50,10 +59,22 @@ HaveCauses c tape =
     (op : OpId) (request : Request) (answer : Answer) (before : List Item) → StoodOn (Answered op answer) before tape → asked_for (meaning_in c.schema) before op ≡ Some request
     → is_told request answer ≡ true → HasCause c (meaning_in c.schema) built_in before op answer
 
+-- as long as leases are safe, where a group is valid at a full node that is up, the position through which a local read reads there is no lower than
+-- any that is decided anywhere
+abbrev pub ReadsAll : Cluster → Standing → Type 0
+ReadsAll c now =
+    is_unsafe now.tape ≡ false → (node : ℕ) → is_full c node ≡ true → is_up (now.node node).met ≡ true → (group : GroupId) → valid_at c (now.node node).met group ≡ true
+    → (n : Position) (entry : Content) (other : NodeId) → Stands (Decide other group n entry) now.tape → n.0 ≤ top_of (now.node node).met group
+
+-- so it is before the first of these events, and behind each
+abbrev pub AllReadAll : Cluster → List Happening → Type 0
+AllReadAll c [] = ReadsAll c (stood c [])
+AllReadAll c (one ∷ earlier) = AllReadAll c earlier × ReadsAll c (stood c (one ∷ earlier))
+
 -- the lines' events happen, and the tape is a run of the cluster over them, in order, in which a fuse on a log cuts the append that it names: so what nodes decided at one position is one entry; an
 -- entry with the id of an operation is what that came to over the entries below, and answers are as of one thread; messages between groups
--- are entered and handled once, in order; answers that a log tells have their causes; and what stands in a log under keys that are no row keys is what the local indexes have over the
--- tables' rows, each of which fits and stands under its own key
+-- are entered and handled once, in order; answers that a log tells have their causes; what stands in a log under keys that are no row keys is what the local indexes have over the
+-- tables' rows, each of which fits and stands under its own key; and behind each line local reads read through all that is decided, while leases are safe
 pub record Replayed (c : Cluster) (lines : List (List ℕ)) (events : List Happening) : Type 0 where
   pub happen : AllHappen c lines events
   pub run : IsRun c built_in (in_turn events []) (stood c events).tape
@@ -64,10 +85,11 @@ pub record Replayed (c : Cluster) (lines : List (List ℕ)) (events : List Happe
   pub causes : HaveCauses c (stood c events).tape
   pub indexed : (group : GroupId) (p : ℕ) → IsIndexed c.schema group (list_after (take p (log_of (stood c events).tape group)) [])
   pub rows : (group : GroupId) (p : ℕ) → AreRows c.schema group (list_after (take p (log_of (stood c events).tape group)) [])
+  pub local : AllReadAll c events
 
--- the world stands as the run does after these lines' events, in a cluster whose schema was declared
+-- the world stands as the run does after these lines' events, in a cluster that can start
 pub record StandsAfter (c : Cluster) (lines : List (List ℕ)) (events : List Happening) (world : World) (items : List Item) : Type 0 where
-  pub declared : IsDeclared c.schema
+  pub starts : CanStart c
   pub happen : AllHappen c lines events
   pub here : IsAt c world items (stood c events)
 

@@ -1,7 +1,7 @@
 -- The statuses with which the program ends.
 use Rattle.std.specs.Prelude.{◌≡◌, ◌⊎◌, ℕ}
 use Rattle.mega_replay.specs.declared.status.Stop.{Stop}
-use Rattle.mega_replay.specs.declared.status.Stop.TheVariants.{Header, Schedule, Refused, Unbuilt, Limit, Source, Sink, NoMemory}
+use Rattle.mega_replay.specs.declared.status.Stop.TheVariants.{Header, Schedule, Refused, Limit, Source, Sink, NoMemory}
 
 -- the status of a stop
 abbrev pub status_of : Stop → ℕ
@@ -12,7 +12,6 @@ status_of Source = 5
 status_of Sink = 6
 status_of NoMemory = 8
 status_of (Limit line) = 10
-status_of (Unbuilt line) = 11
 
 -- a call failed, or memory was wanting
 abbrev pub IsCutStatus : ℕ → Type 0
@@ -20,7 +19,7 @@ IsCutStatus status = (status ≡ 5) ⊎ (status ≡ 6) ⊎ (status ≡ 8)
 
 -- the statuses with which a replay ends
 abbrev pub IsReplayStatus : ℕ → Type 0
-IsReplayStatus status = (status ≡ 0) ⊎ (status ≡ 3) ⊎ (status ≡ 4) ⊎ (status ≡ 10) ⊎ (status ≡ 11) ⊎ IsCutStatus status
+IsReplayStatus status = (status ≡ 0) ⊎ (status ≡ 3) ⊎ (status ≡ 4) ⊎ (status ≡ 10) ⊎ IsCutStatus status
 
 -- the statuses with which a drawing of lines ends
 abbrev pub IsDrawn : ℕ → Type 0

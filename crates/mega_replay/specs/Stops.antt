@@ -1,6 +1,6 @@
 -- Which stops a part of a replay may give.
 use Rattle.mega_replay.specs.declared.status.Stop.{Stop}
-use Rattle.mega_replay.specs.declared.status.Stop.TheVariants.{Header, Schedule, Refused, Unbuilt, Limit, Source, Sink, NoMemory}
+use Rattle.mega_replay.specs.declared.status.Stop.TheVariants.{Header, Schedule, Refused, Limit, Source, Sink, NoMemory}
 
 -- a fault of the source, or want of memory
 abbrev pub IsReadStop : Stop → Type 0
@@ -27,19 +27,17 @@ IsEventStop (Schedule line reason) = Unit {0}
 IsEventStop NoMemory = Unit {0}
 IsEventStop _ = ⊥
 
--- a line that is no event, a refusal of the world, a line that is not built or starts a node past its last start, or want of memory
+-- a line that is no event, a refusal of the world, a line that starts a node past its last start, or want of memory
 abbrev pub IsLineStop : Stop → Type 0
 IsLineStop (Schedule line reason) = Unit {0}
 IsLineStop (Refused line why) = Unit {0}
-IsLineStop (Unbuilt line) = Unit {0}
 IsLineStop (Limit line) = Unit {0}
 IsLineStop NoMemory = Unit {0}
 IsLineStop _ = ⊥
 
--- a refusal of the world, a line that is not built or starts a node past its last start, or want of memory
+-- a refusal of the world, a line that starts a node past its last start, or want of memory
 abbrev pub IsWorldStop : Stop → Type 0
 IsWorldStop (Refused line why) = Unit {0}
-IsWorldStop (Unbuilt line) = Unit {0}
 IsWorldStop (Limit line) = Unit {0}
 IsWorldStop NoMemory = Unit {0}
 IsWorldStop _ = ⊥
@@ -78,6 +76,5 @@ abbrev pub IsUntold : Stop → Type 0
 IsUntold (Header rule) = ⊥
 IsUntold (Schedule line reason) = ⊥
 IsUntold (Refused line why) = ⊥
-IsUntold (Unbuilt line) = ⊥
 IsUntold (Limit line) = ⊥
 IsUntold _ = Unit {0}

@@ -3,8 +3,8 @@ ghost use Rattle.std.specs.Prelude.{◌≡◌, ◌≤◌, ◌⊎◌, ◌++◌, �
 ghost use Rattle.std.specs.Io.KnownBytes.{Appends, IsAtEnd};
 ghost use Rattle.mega_base.specs.Causes.{Rose};
 ghost use Rattle.mega_io.specs.Pieces.{AppendsFront};
-ghost use Rattle.mega_replay.specs.LastLines.{header_line, schedule_line, refused_line, unbuilt_line, limit_line, last_line, usage_line};
-ghost use Rattle.mega_replay.specs.Known.{InputDone, InputFailed, InputBroken, InputNoEvent, InputRefused, InputUnbuilt, InputPastLast, InputCut};
+ghost use Rattle.mega_replay.specs.LastLines.{header_line, schedule_line, refused_line, limit_line, last_line, usage_line};
+ghost use Rattle.mega_replay.specs.Known.{InputDone, InputFailed, InputBroken, InputNoEvent, InputRefused, InputPastLast, InputCut};
 ghost use Rattle.mega_replay.specs.Statuses.{IsCutStatus, IsDrawn, IsReplayStatus, IsStatus};
 ghost use Rattle.mega_gen.specs.Generated.{generated};
 ghost use Rattle.mega_words.specs.Commands.{command_of};
@@ -28,9 +28,8 @@ const USAGE: &str =
 /// Runs the program on its words, and gives the status with which it ends: 0 where the input was read
 /// to its end and every line was an event that happened, or where all lines were drawn; 2 where the words are no form; 3 where the
 /// header breaks a rule; 4 where a line is no event, or its event is refused; 5 and 6 where the source
-/// or the sink failed; 8 for want of memory; 10 where a line starts a node that started 4,294,967,295 times; 11 where a line is not
-/// served yet. A transcript grows with the lines that are done, a summary comes behind the last one. With 0 all of the report was written; with
-/// 3, 4, 10 and 11 what there was of it before, and then the last line, which 10 has not; with 5 what there is of it after exactly the lines that
+/// or the sink failed; 8 for want of memory and 10 where a line starts a node that started 4,294,967,295 times. A transcript grows with the lines that are done, a summary comes behind the last one. With 0 all of the report was written; with
+/// 3, 4 and 10 what there was of it before, and then the last line, which 10 has not; with 5 what there is of it after exactly the lines that
 /// the bytes before the fault spell, where the sink took it; with 6 and 8 a front of such a text.
 pub fn run<I: Source, O: Sink>(alloc: Global, words: &[Text], input: &mut I, out: &mut O) -> u8
     ensures unformed { result ≡ 2 → command_of words.now ≡ None }
@@ -44,7 +43,6 @@ pub fn run<I: Source, O: Sink>(alloc: Global, words: &[Text], input: &mut I, out
     ensures end { (report : Report) → command_of words.now ≡ Some (Replay report) → result ≡ 0 → IsAtEnd (I.left input.new) }
     ensures header { result ≡ 3 → (rule : ℕ) × InputBroken (I.left input.old) rule (λ text. Appends (O.held out.old) (O.held out.new) (text ++ header_line rule)) }
     ensures refused { (report : Report) → command_of words.now ≡ Some (Replay report) → result ≡ 4 → ((line : ℕ) × (reason : ℕ) × InputNoEvent report (I.left input.old) line reason (λ text. Appends (O.held out.old) (O.held out.new) (text ++ schedule_line line reason))) ⊎ ((line : ℕ) × (why : ℕ) × InputRefused report (I.left input.old) line why (λ text. Appends (O.held out.old) (O.held out.new) (text ++ refused_line line why))) }
-    ensures unbuilt { (report : Report) → command_of words.now ≡ Some (Replay report) → result ≡ 11 → (line : ℕ) × InputUnbuilt report (I.left input.old) line (λ text. Appends (O.held out.old) (O.held out.new) (text ++ unbuilt_line line)) }
     ensures limit { (report : Report) → command_of words.now ≡ Some (Replay report) → result ≡ 10 → (line : ℕ) × InputPastLast report (I.left input.old) line (λ text. Appends (O.held out.old) (O.held out.new) (text ++ limit_line line)) }
     ensures broken { (report : Report) → command_of words.now ≡ Some (Replay report) → result ≡ 5 → InputFailed report (I.left input.old) (I.left input.new) (Appends (O.held out.old) (O.held out.new)) ⊎ Rose (O.faults out.old) (O.faults out.new) }
     ensures cut { (report : Report) → command_of words.now ≡ Some (Replay report) → IsCutStatus result → InputCut report (I.left input.old) (AppendsFront (O.held out.old) (O.held out.new)) }
@@ -84,7 +82,6 @@ fn replay_all<I: Source, O: Sink>(alloc: Global, report: Report, input: &mut I, 
     ensures end { result ≡ 0 → IsAtEnd (I.left input.new) }
     ensures header { result ≡ 3 → (rule : ℕ) × InputBroken (I.left input.old) rule (λ text. Appends (O.held out.old) (O.held out.new) (text ++ header_line rule)) }
     ensures refused { result ≡ 4 → ((line : ℕ) × (reason : ℕ) × InputNoEvent report (I.left input.old) line reason (λ text. Appends (O.held out.old) (O.held out.new) (text ++ schedule_line line reason))) ⊎ ((line : ℕ) × (why : ℕ) × InputRefused report (I.left input.old) line why (λ text. Appends (O.held out.old) (O.held out.new) (text ++ refused_line line why))) }
-    ensures unbuilt { result ≡ 11 → (line : ℕ) × InputUnbuilt report (I.left input.old) line (λ text. Appends (O.held out.old) (O.held out.new) (text ++ unbuilt_line line)) }
     ensures limit { result ≡ 10 → (line : ℕ) × InputPastLast report (I.left input.old) line (λ text. Appends (O.held out.old) (O.held out.new) (text ++ limit_line line)) }
     ensures broken { result ≡ 5 → InputFailed report (I.left input.old) (I.left input.new) (Appends (O.held out.old) (O.held out.new)) ⊎ Rose (O.faults out.old) (O.faults out.new) }
     ensures cut { IsCutStatus result → InputCut report (I.left input.old) (AppendsFront (O.held out.old) (O.held out.new)) }
@@ -126,7 +123,6 @@ fn transcribe<I: Source, O: Sink>(
     ensures header { (rule : ℕ) → result ≡ Err (Stop.Header rule) → InputBroken (I.left input.old) rule (λ text. Appends (O.held out.old) (O.held out.new) (text ++ header_line rule)) }
     ensures none { (at reason : ℕ) → result ≡ Err (Stop.Schedule at reason) → InputNoEvent report (I.left input.old) at reason (λ text. Appends (O.held out.old) (O.held out.new) (text ++ schedule_line at reason)) }
     ensures refused { (at why : ℕ) → result ≡ Err (Stop.Refused at why) → InputRefused report (I.left input.old) at why (λ text. Appends (O.held out.old) (O.held out.new) (text ++ refused_line at why)) }
-    ensures unbuilt { (at : ℕ) → result ≡ Err (Stop.Unbuilt at) → InputUnbuilt report (I.left input.old) at (λ text. Appends (O.held out.old) (O.held out.new) (text ++ unbuilt_line at)) }
     ensures limit { (at : ℕ) → result ≡ Err (Stop.Limit at) → InputPastLast report (I.left input.old) at (λ text. Appends (O.held out.old) (O.held out.new) (text ++ limit_line at)) }
     ensures broken { result ≡ Err Stop.Source → InputFailed report (I.left input.old) (I.left input.new) (Appends (O.held out.old) (O.held out.new)) ⊎ Rose (O.faults out.old) (O.faults out.new) }
     ensures cut { OnErr result (InputCut report (I.left input.old) (AppendsFront (O.held out.old) (O.held out.new))) }

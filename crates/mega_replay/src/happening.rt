@@ -4,7 +4,7 @@ ghost use Rattle.mega_schedule.specs.Events.{event_of};
 ghost use Rattle.mega_transcript.specs.Lines.{HasLine};
 ghost use Rattle.mega_promises.specs.Runs.{Happening};
 ghost use Rattle.mega_replay.specs.Running.{IsStanding, StandsAfter, Went, stood};
-ghost use Rattle.mega_replay.specs.Replaying.{IsRefused, IsUnbuilt, IsPastLast};
+ghost use Rattle.mega_replay.specs.Replaying.{IsRefused, IsPastLast};
 ghost use Rattle.mega_replay.specs.Stops.{IsEventStop, IsLineStop, IsWorldStop};
 
 use crate::status::Stop;
@@ -46,7 +46,6 @@ fn happen(
     requires standing { IsStanding cluster.now world.old tape.old.items }
     requires spelled { event_of (cluster.now).schema number line.now ≡ Ok event }
     ensures state { OnOk result ((done : List (List ℕ)) (events : List Happening) → StandsAfter cluster.now done events world.old tape.old.items → Went cluster.now number line.now events world.new tape.new.items) }
-    ensures unbuilt { (at : ℕ) → result ≡ Err (Stop.Unbuilt at) → (done : List (List ℕ)) (events : List Happening) → StandsAfter cluster.now done events world.old tape.old.items → (at ≡ number) × IsUnbuilt cluster.now number line.now (stood cluster.now events) }
     ensures limit { (at : ℕ) → result ≡ Err (Stop.Limit at) → (done : List (List ℕ)) (events : List Happening) → StandsAfter cluster.now done events world.old tape.old.items → (at ≡ number) × IsPastLast cluster.now number line.now (stood cluster.now events) }
     ensures refused { (at why : ℕ) → result ≡ Err (Stop.Refused at why) → (done : List (List ℕ)) (events : List Happening) → StandsAfter cluster.now done events world.old tape.old.items → (at ≡ number) × IsRefused cluster.now number line.now (stood cluster.now events) why }
     ensures only { IfErr result IsWorldStop }
@@ -56,7 +55,6 @@ fn happen(
     match world.apply(alloc, &mut handlers, event, tape) {
         Ok(()) => Ok(()),
         Err(WorldFault::Refused { why }) => Err(Stop::Refused { line: number, why }),
-        Err(WorldFault::Unbuilt) => Err(Stop::Unbuilt { line: number }),
         Err(WorldFault::Limit) => Err(Stop::Limit { line: number }),
         Err(WorldFault::NoMemory) => Err(Stop::NoMemory),
     }
@@ -75,7 +73,6 @@ pub fn take_line(
     requires standing { IsStanding cluster.now world.old tape.old.items }
     ensures state { OnOk result ((done : List (List ℕ)) (events : List Happening) → StandsAfter cluster.now done events world.old tape.old.items → Went cluster.now number line.now events world.new tape.new.items) }
     ensures none { (at reason : ℕ) → result ≡ Err (Stop.Schedule at reason) → (at ≡ number) × (event_of (cluster.now).schema number line.now ≡ Err reason) }
-    ensures unbuilt { (at : ℕ) → result ≡ Err (Stop.Unbuilt at) → (done : List (List ℕ)) (events : List Happening) → StandsAfter cluster.now done events world.old tape.old.items → (at ≡ number) × IsUnbuilt cluster.now number line.now (stood cluster.now events) }
     ensures limit { (at : ℕ) → result ≡ Err (Stop.Limit at) → (done : List (List ℕ)) (events : List Happening) → StandsAfter cluster.now done events world.old tape.old.items → (at ≡ number) × IsPastLast cluster.now number line.now (stood cluster.now events) }
     ensures refused { (at why : ℕ) → result ≡ Err (Stop.Refused at why) → (done : List (List ℕ)) (events : List Happening) → StandsAfter cluster.now done events world.old tape.old.items → (at ≡ number) × IsRefused cluster.now number line.now (stood cluster.now events) why }
     ensures only { IfErr result IsLineStop }

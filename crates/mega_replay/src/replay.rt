@@ -8,8 +8,8 @@ ghost use Rattle.mega_schedule.specs.Events.{event_of};
 ghost use Rattle.mega_promises.specs.Runs.{Happening};
 ghost use Rattle.mega_replay.specs.Progress.{Writes, WritesFront};
 ghost use Rattle.mega_replay.specs.Running.{StandsAfter, IsStanding, Went, stood};
-ghost use Rattle.mega_replay.specs.Replaying.{IsRefused, IsUnbuilt, IsPastLast};
-ghost use Rattle.mega_replay.specs.Known.{Follows, Ends, StopsNext, LeftRanOut, LeftIsDone, LeftIsBegun, LeftStops, LeftFails, CutsLine, IsRead, InputDone, InputBegun, InputBroken, InputFailed, InputNoEvent, InputRefused, InputUnbuilt, InputPastLast};
+ghost use Rattle.mega_replay.specs.Replaying.{IsRefused, IsPastLast};
+ghost use Rattle.mega_replay.specs.Known.{Follows, Ends, StopsNext, LeftRanOut, LeftIsDone, LeftIsBegun, LeftStops, LeftFails, CutsLine, IsRead, InputDone, InputBegun, InputBroken, InputFailed, InputNoEvent, InputRefused, InputPastLast};
 ghost use Rattle.mega_replay.specs.Stops.{IsBeforeWriting, IsScheduleStop};
 ghost use Rattle.mega_replay.specs.Texts.{so_far};
 
@@ -52,7 +52,6 @@ fn do_line<I: Source, O: Sink>(
     ensures still { result ≡ Ok false → (tape.new.items ≡ tape.old.items) × (O.held out.new ≡ O.held out.old) × (waiting.new ≡ waiting.old) }
     ensures end { result ≡ Ok false → Ends (prepend_known reader.old (I.left input.old)) × IsAtEnd (I.left input.new) }
     ensures none { (at reason : ℕ) → result ≡ Err (Stop.Schedule at reason) → (at ≡ number) × StopsNext (prepend_known reader.old (I.left input.old)) (λ line. event_of (cluster.now).schema number line ≡ Err reason) }
-    ensures unbuilt { (at : ℕ) → result ≡ Err (Stop.Unbuilt at) → (done : List (List ℕ)) (events : List Happening) → StandsAfter cluster.now done events world.old tape.old.items → (at ≡ number) × StopsNext (prepend_known reader.old (I.left input.old)) (λ line. IsUnbuilt cluster.now number line (stood cluster.now events)) }
     ensures limit { (at : ℕ) → result ≡ Err (Stop.Limit at) → (done : List (List ℕ)) (events : List Happening) → StandsAfter cluster.now done events world.old tape.old.items → (at ≡ number) × StopsNext (prepend_known reader.old (I.left input.old)) (λ line. IsPastLast cluster.now number line (stood cluster.now events)) }
     ensures refused { (at why : ℕ) → result ≡ Err (Stop.Refused at why) → (done : List (List ℕ)) (events : List Happening) → StandsAfter cluster.now done events world.old tape.old.items → (at ≡ number) × StopsNext (prepend_known reader.old (I.left input.old)) (λ line. IsRefused cluster.now number line (stood cluster.now events) why) }
     ensures kept { IfErr result (λ stop. IsBeforeWriting stop → (O.held out.new ≡ O.held out.old) × (waiting.new ≡ waiting.old)) }
@@ -104,7 +103,6 @@ fn run_lines<I: Source, O: Sink>(
     ensures text { OnOk result ((first : Option (List ℕ)) → Writes first (O.held out.old) waiting.old (so_far report (cluster.now).schema tape.old.items) → Writes first (O.held out.new) waiting.new (so_far report (cluster.now).schema tape.new.items)) }
     ensures end { OnOk result (IsAtEnd (I.left input.new)) }
     ensures none { (at reason : ℕ) → result ≡ Err (Stop.Schedule at reason) → (first : Option (List ℕ)) → Writes first (O.held out.old) waiting.old (so_far report (cluster.now).schema tape.old.items) → LeftStops report cluster.now (prepend_known reader.old (I.left input.old)) at (λ line now. event_of (cluster.now).schema at line ≡ Err reason) (Writes first (O.held out.new) waiting.new) }
-    ensures unbuilt { (at : ℕ) → result ≡ Err (Stop.Unbuilt at) → (first : Option (List ℕ)) → Writes first (O.held out.old) waiting.old (so_far report (cluster.now).schema tape.old.items) → LeftStops report cluster.now (prepend_known reader.old (I.left input.old)) at (λ line now. IsUnbuilt cluster.now at line now) (Writes first (O.held out.new) waiting.new) }
     ensures limit { (at : ℕ) → result ≡ Err (Stop.Limit at) → (first : Option (List ℕ)) → Writes first (O.held out.old) waiting.old (so_far report (cluster.now).schema tape.old.items) → LeftStops report cluster.now (prepend_known reader.old (I.left input.old)) at (λ line now. IsPastLast cluster.now at line now) (Writes first (O.held out.new) waiting.new) }
     ensures refused { (at why : ℕ) → result ≡ Err (Stop.Refused at why) → (first : Option (List ℕ)) → Writes first (O.held out.old) waiting.old (so_far report (cluster.now).schema tape.old.items) → LeftStops report cluster.now (prepend_known reader.old (I.left input.old)) at (λ line now. IsRefused cluster.now at line now why) (Writes first (O.held out.new) waiting.new) }
     ensures broken { result ≡ Err Stop.Source → (first : Option (List ℕ)) → Writes first (O.held out.old) waiting.old (so_far report (cluster.now).schema tape.old.items) → LeftFails report cluster.now (prepend_known reader.old (I.left input.old)) (I.left input.new) (Writes first (O.held out.new) waiting.new) }
@@ -166,7 +164,6 @@ fn run_whole<I: Source, O: Sink>(
     ensures done { OnOk result ((first : Option (List ℕ)) → Writes first (O.held out.old) waiting.old (so_far report (cluster.now).schema tape.old.items) → LeftIsDone report cluster.now (prepend_known reader.old (I.left input.old)) (Writes first (O.held out.new) waiting.new)) }
     ensures end { OnOk result (IsAtEnd (I.left input.new)) }
     ensures none { (at reason : ℕ) → result ≡ Err (Stop.Schedule at reason) → (first : Option (List ℕ)) → Writes first (O.held out.old) waiting.old (so_far report (cluster.now).schema tape.old.items) → LeftStops report cluster.now (prepend_known reader.old (I.left input.old)) at (λ line now. event_of (cluster.now).schema at line ≡ Err reason) (Writes first (O.held out.new) waiting.new) }
-    ensures unbuilt { (at : ℕ) → result ≡ Err (Stop.Unbuilt at) → (first : Option (List ℕ)) → Writes first (O.held out.old) waiting.old (so_far report (cluster.now).schema tape.old.items) → LeftStops report cluster.now (prepend_known reader.old (I.left input.old)) at (λ line now. IsUnbuilt cluster.now at line now) (Writes first (O.held out.new) waiting.new) }
     ensures limit { (at : ℕ) → result ≡ Err (Stop.Limit at) → (first : Option (List ℕ)) → Writes first (O.held out.old) waiting.old (so_far report (cluster.now).schema tape.old.items) → LeftStops report cluster.now (prepend_known reader.old (I.left input.old)) at (λ line now. IsPastLast cluster.now at line now) (Writes first (O.held out.new) waiting.new) }
     ensures refused { (at why : ℕ) → result ≡ Err (Stop.Refused at why) → (first : Option (List ℕ)) → Writes first (O.held out.old) waiting.old (so_far report (cluster.now).schema tape.old.items) → LeftStops report cluster.now (prepend_known reader.old (I.left input.old)) at (λ line now. IsRefused cluster.now at line now why) (Writes first (O.held out.new) waiting.new) }
     ensures broken { result ≡ Err Stop.Source → (first : Option (List ℕ)) → Writes first (O.held out.old) waiting.old (so_far report (cluster.now).schema tape.old.items) → LeftFails report cluster.now (prepend_known reader.old (I.left input.old)) (I.left input.new) (Writes first (O.held out.new) waiting.new) }
@@ -205,7 +202,6 @@ fn run_schedule<I: Source, O: Sink>(
     ensures done { OnOk result (LeftIsDone report cluster.now (prepend_known reader.old (I.left input.old)) (Writes (O.held out.old) (O.held out.new) waiting.new)) }
     ensures end { OnOk result (IsAtEnd (I.left input.new)) }
     ensures none { (at reason : ℕ) → result ≡ Err (Stop.Schedule at reason) → LeftStops report cluster.now (prepend_known reader.old (I.left input.old)) at (λ line now. event_of (cluster.now).schema at line ≡ Err reason) (Writes (O.held out.old) (O.held out.new) waiting.new) }
-    ensures unbuilt { (at : ℕ) → result ≡ Err (Stop.Unbuilt at) → LeftStops report cluster.now (prepend_known reader.old (I.left input.old)) at (λ line now. IsUnbuilt cluster.now at line now) (Writes (O.held out.old) (O.held out.new) waiting.new) }
     ensures limit { (at : ℕ) → result ≡ Err (Stop.Limit at) → LeftStops report cluster.now (prepend_known reader.old (I.left input.old)) at (λ line now. IsPastLast cluster.now at line now) (Writes (O.held out.old) (O.held out.new) waiting.new) }
     ensures refused { (at why : ℕ) → result ≡ Err (Stop.Refused at why) → LeftStops report cluster.now (prepend_known reader.old (I.left input.old)) at (λ line now. IsRefused cluster.now at line now why) (Writes (O.held out.old) (O.held out.new) waiting.new) }
     ensures broken { result ≡ Err Stop.Source → LeftFails report cluster.now (prepend_known reader.old (I.left input.old)) (I.left input.new) (Writes (O.held out.old) (O.held out.new) waiting.new) }
@@ -248,7 +244,6 @@ pub fn replay<I: Source, O: Sink>(
     ensures end { OnOk result (IsAtEnd (I.left input.new)) }
     ensures header { (rule : ℕ) → result ≡ Err (Stop.Header rule) → InputBroken (I.left input.old) rule (Writes (O.held out.old) (O.held out.new) waiting.new) }
     ensures none { (at reason : ℕ) → result ≡ Err (Stop.Schedule at reason) → InputNoEvent report (I.left input.old) at reason (Writes (O.held out.old) (O.held out.new) waiting.new) }
-    ensures unbuilt { (at : ℕ) → result ≡ Err (Stop.Unbuilt at) → InputUnbuilt report (I.left input.old) at (Writes (O.held out.old) (O.held out.new) waiting.new) }
     ensures limit { (at : ℕ) → result ≡ Err (Stop.Limit at) → InputPastLast report (I.left input.old) at (Writes (O.held out.old) (O.held out.new) waiting.new) }
     ensures refused { (at why : ℕ) → result ≡ Err (Stop.Refused at why) → InputRefused report (I.left input.old) at why (Writes (O.held out.old) (O.held out.new) waiting.new) }
     ensures broken { result ≡ Err Stop.Source → InputFailed report (I.left input.old) (I.left input.new) (Writes (O.held out.old) (O.held out.new) waiting.new) }

@@ -14,8 +14,6 @@ pub enum Stop {
     Schedule { line: u64, reason: u8 },
     /// The world refuses the event of this line.
     Refused { line: u64, why: u8 },
-    /// The header or this line uses what the program does not have.
-    Unbuilt { line: u64 },
     /// This line starts a node that started 4,294,967,295 times.
     Limit { line: u64 },
     /// A call of the source failed.
@@ -42,7 +40,6 @@ impl Stop {
             Stop::Sink => 6,
             Stop::NoMemory => 8,
             Stop::Limit { .. } => 10,
-            Stop::Unbuilt { .. } => 11,
         }
     }
 
@@ -63,10 +60,6 @@ impl Stop {
             }
             Stop::Refused { line, why } => {
                 let told = format!(in alloc; "refused {line} world {why}\n")?;
-                out.extend_from_slice(told.as_bytes())
-            }
-            Stop::Unbuilt { line } => {
-                let told = format!(in alloc; "unbuilt {line}\n")?;
                 out.extend_from_slice(told.as_bytes())
             }
             Stop::Limit { .. } | Stop::Source | Stop::Sink | Stop::NoMemory => Ok(()),

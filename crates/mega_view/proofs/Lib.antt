@@ -1,10 +1,10 @@
 mod Numbers
 pub mod Lists
-mod RowKeys
+pub mod RowKeys
 mod Ranges
 mod Adding
 mod Scanned
-mod Listed
+pub mod Listed
 pub mod Found
 pub mod Grouped
 mod Elsewhere

@@ -159,7 +159,8 @@ module _ (s : Schema) (group : GroupId) (looked : Rows) (listed : Listed) (found
           (under_plain found.entries key
           ∙ ap (option_map (λ (one : Shown). one.row)) (tables.all key n row (shows.named key row n there is) is (shows.under key n (shows.named key row n there is) ∙ row_is listed key row up_listed there)))
 
-  listed_all : plain found.entries ≡ table_rows s group listed
+  -- what is found is what the list has of the group's tables
+  pub listed_all : plain found.entries ≡ table_rows s group listed
   listed_all =
       same_rows (plain found.entries) (table_rows s group listed) (ascends_plain found.entries up) (ascends_filter (λ (e : List ℕ × Row). is_table s group e.0) listed up_listed) into back
 

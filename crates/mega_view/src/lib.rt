@@ -10,5 +10,6 @@ mod tables;
 
 pub use answering::read_all;
 pub use finding::find_all;
+pub use keys::{is_key_of, shape_of};
 pub use marked::find_marked;
-pub use tables::{TableRows, table_rows};
+pub use tables::{TableRows, table_rows, tables_of};

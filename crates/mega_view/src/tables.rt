@@ -22,7 +22,7 @@ use std::collections::BTreeMap;
 pub type TableRows = BTreeMap<Bytes, Shown>;
 
 /// The tables of a schema, which are at most 64.
-fn tables_of(schema: &Schema) -> &[Table]
+pub fn tables_of(schema: &Schema) -> &[Table]
     ensures exact { result.now ≡ take 64 schema.now.tables }
     ensures few { length result.now ≤ 64 }
 {

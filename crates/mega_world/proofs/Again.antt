@@ -23,7 +23,8 @@ use Rattle.mega_world.specs.declared.fallen.Fallen.{Fallen}
 use Rattle.mega_world.specs.declared.place.Place.{Place}
 use Rattle.mega_world.specs.declared.place.Place.TheVariants.{Up, Down}
 use Rattle.mega_world.specs.declared.log_fuse.LogFuse.{LogFuse}
-use Rattle.mega_world.specs.Kept.{AreNodes, IsFallen, owed_of}
+use Rattle.mega_world.specs.declared.remains.Remains.{Remains}
+use Rattle.mega_world.specs.Kept.{AreNodes, AreReady, IsFallen, owed_of, records_below}
 use Rattle.mega_world.specs.LogFuses.{IsFused}
 use Rattle.mega_world.specs.Members.{records_of}
 use Rattle.mega_world.specs.Restarting.{Opens, StaysDown, started}
@@ -180,7 +181,7 @@ started_lapsed s number owed met node epoch =
 
 -- ---- the nodes once one started
 pub begins_at : (c : Cluster) (now : Standing) (me : ℕ) (places : List Place) (fallen : Fallen) (begun : Begun) → AreNodes c places now → 1 ≤ me → me ≤ length places
-    → IsFallen fallen (now.starts me) (now.owed me) (now.node me).met (now.log_fuse me) → BeginsSo c me (now.starts me) (now.owed me) (now.node me).met (now.log_fuse me) fallen.owed begun
+    → IsFallen c me fallen (now.starts me) (now.owed me) (now.node me).met (now.log_fuse me) → BeginsSo c me (now.starts me) (now.owed me) (now.node me).met (now.log_fuse me) fallen.owed begun
     → Opens c now me (set places (me - 1) (Up begun.member)) (record { start = begun.start; owed = begun.owed; notes = begun.notes })
 begins_at c now me places fallen begun all least most is begins = record {
   long = begins.long;
@@ -204,7 +205,7 @@ begins_at c now me places fallen begun all least most is begins = record {
 
 -- or its start was cut off
 pub stays_at : (c : Cluster) (now : Standing) (me : ℕ) (places : List Place) (was fallen : Fallen) → AreNodes c places now → 1 ≤ me → me ≤ length places
-    → IsFallen was (now.starts me) (now.owed me) (now.node me).met (now.log_fuse me) → FallsAgain (now.starts me) (now.owed me) (now.node me).met (now.log_fuse me) was.owed fallen
+    → IsFallen c me was (now.starts me) (now.owed me) (now.node me).met (now.log_fuse me) → FallsAgain (now.starts me) (now.owed me) (now.node me).met (now.log_fuse me) was.owed fallen
     → StaysDown c now me (set places (me - 1) (Down fallen))
 stays_at c now me places was fallen all least most is again = record {
   burning = again.burning;
@@ -217,10 +218,13 @@ stays_at c now me places was fallen all least most is again = record {
       })
       (record {
         follows = owed_crashed (now.owed me) (now.node me).met is.follows;
-        holds = subst (λ (n : ℕ). HoldsMet fallen.records.list.items n (onto (now.owed me) (Crashes ∷ (now.node me).met))) (sym (at_own now.starts me counts))
-            (again_holds fallen.records.list.items counts (now.owed me) (now.node me).met is.follows again.holds);
+        holds = subst (λ (left : Remains). HoldsMet (records_below left).list.items (set_at now.starts me counts me) (onto (now.owed me) (Crashes ∷ (now.node me).met))) (sym again.remains)
+            (subst (λ (n : ℕ). HoldsMet again.records.list.items n (onto (now.owed me) (Crashes ∷ (now.node me).met))) (sym (at_own now.starts me counts))
+            (again_holds again.records.list.items counts (now.owed me) (now.node me).met is.follows again.holds));
+        ready = subst (λ (left : Remains). AreReady c me left (set_at now.starts me counts me) (onto (now.owed me) (Crashes ∷ (now.node me).met))) (sym again.remains) tt;
         owes = ap owed_of again.owes ∙ is.owes;
-        fused = subst (IsFused fallen.fuse fallen.records) (sym (at_own now.log_fuse me None)) (subst (λ (f : Option LogFuse). IsFused f fallen.records None) (sym again.unset) (fused_gone fallen.records again.gone));
+        fused = subst (λ (left : Remains). IsFused fallen.fuse (records_below left) (set_at now.log_fuse me None me)) (sym again.remains)
+            (subst (IsFused fallen.fuse again.records) (sym (at_own now.log_fuse me None)) (subst (λ (f : Option LogFuse). IsFused f again.records None) (sym again.unset) (fused_gone again.records again.gone)));
       });
 }
   where
@@ -229,7 +233,7 @@ stays_at c now me places was fallen all least most is again = record {
 
 -- what stands in the place of a node that is down
 pub fallen_at_place : (c : Cluster) (places : List Place) (now : Standing) (me : ℕ) (place : Place) (fallen : Fallen) → AreNodes c places now → 1 ≤ me → slice_get places (me - 1) ≡ Some place → place ≡ Down fallen
-    → IsFallen fallen (now.starts me) (now.owed me) (now.node me).met (now.log_fuse me)
+    → IsFallen c me fallen (now.starts me) (now.owed me) (now.node me).met (now.log_fuse me)
 fallen_at_place c places now me place fallen all least there down =
     let e : me - 1 + 1 ≡ me = omega (arith, least) in
-    subst (λ (n : ℕ). IsFallen fallen (now.starts n) (now.owed n) (now.node n).met (now.log_fuse n)) e (all.kept.each (me - 1) (Down fallen) (there ∙ ap Some down))
+    subst (λ (n : ℕ). IsFallen c n fallen (now.starts n) (now.owed n) (now.node n).met (now.log_fuse n)) e (all.kept.each (me - 1) (Down fallen) (there ∙ ap Some down))

@@ -7,15 +7,17 @@ use Rattle.mega_disk.specs.MemDisk.{fuse_of, image_of}
 use Rattle.mega_handler.specs.Named.{Meanings}
 use Rattle.mega_rules.specs.Met.{Met, Starts}
 use Rattle.mega_rules.specs.Steps.{onto, start, start_notes}
-use Rattle.mega_voter.specs.declared.voter.Voter.{Voter}
-use Rattle.mega_voter.specs.Holding.{HoldsMet, Recalls}
+use Rattle.mega_rows.specs.declared.rows.VersionedRows.{VersionedRows}
+use Rattle.mega_voter.specs.Holding.{HoldsMet}
 use Rattle.mega_core.specs.Notes.{met_of}
 use Rattle.mega_durable.specs.declared.cut.Cut.{Cut}
+use Rattle.mega_durable.specs.declared.down.Down.{Down as DownNode}
 use Rattle.mega_promises.specs.Runs.{AsItWas, Fuse, Recorded, after_append, is_burning, is_kept, setting}
 use Rattle.mega_world.specs.declared.fallen.Fallen.{Fallen}
 use Rattle.mega_world.specs.declared.log_fuse.LogFuse.{LogFuse}
 use Rattle.mega_world.specs.declared.starting.Begun.{Begun}
-use Rattle.mega_world.specs.Kept.{IsFallen}
+use Rattle.mega_world.specs.declared.remains.Remains.TheVariants.{OnDisk}
+use Rattle.mega_world.specs.Kept.{AreReady, IsFallen, IsReady, records_below}
 use Rattle.mega_world.specs.LogFuses.{HasRoom, IsFused, run_fuse}
 use Rattle.mega_world.specs.Members.{node_in, records_of}
 use Rattle.mega_world.specs.Starting.{BeginsSo, FallsAgain, IsOpened}
@@ -33,44 +35,46 @@ nothing_held records is = subst (λ (items : List (List ℕ)). HoldsMet items 0 
 })
 
 -- ---- logs that are opened
-pub opened_over : (fallen : Fallen) (voter : Voter MemRecords) (starts : ℕ) (owed met : List Met) (fuse : Option Fuse) → IsFallen fallen starts owed met fuse
-    → (HoldsMet fallen.records.list.items starts (onto owed met) → Recalls voter.logs.kept starts (onto owed met)) → voter.logs.records.spent ≡ false → voter.logs.records.list.items ≡ fallen.records.list.items
-    → fuse_of voter.logs.records.fuse ≡ fuse_of fallen.records.fuse → image_of voter.logs.records.fuse ≡ image_of fallen.records.fuse → IsOpened voter fallen.fuse starts owed met fuse
-opened_over fallen voter starts owed met fuse is recalls ready list left image = record {
+pub opened_over : (c : Cluster) (me : ℕ) (fallen : Fallen) (down : DownNode MemRecords VersionedRows) (starts : ℕ) (owed met : List Met) (fuse : Option Fuse) → IsFallen c me fallen starts owed met fuse
+    → (HoldsMet (records_below fallen.remains).list.items starts (onto owed met) → AreReady c me fallen.remains starts (onto owed met) → IsReady c me down starts (onto owed met))
+    → down.voter.logs.records.list.items ≡ (records_below fallen.remains).list.items → fuse_of down.voter.logs.records.fuse ≡ fuse_of (records_below fallen.remains).fuse
+    → image_of down.voter.logs.records.fuse ≡ image_of (records_below fallen.remains).fuse → IsOpened c me down fallen.fuse starts owed met fuse
+opened_over c me fallen down starts owed met fuse is stands list left image = record {
   follows = is.follows;
-  recalls = recalls is.holds;
-  ready = ready;
+  stands = stands is.holds is.ready;
   holds = subst (λ (items : List (List ℕ)). HoldsMet items starts (onto owed met)) (sym list) is.holds;
-  fused = fused_same fallen.fuse fallen.records voter.logs.records fuse is.fused left image;
+  fused = fused_same fallen.fuse (records_below fallen.remains) down.voter.logs.records fuse is.fused left image;
 }
 
 not_short : (fuse : Option Fuse) (kept : Option LogFuse) (records : MemRecords) → IsFused kept records fuse → (true && is_short (fuse_of records.fuse)) ≡ false → is_burning fuse ≡ false
 not_short fuse kept records is long = sym (ap is_short is.left ∙ short_is fuse is.unburnt) ∙ long
 
 -- ---- a node that starts over them
-pub started_over : (c : Cluster) (me : ℕ) (voter : Voter MemRecords) (kept : Option LogFuse) (owing : Option Cut) (starts : ℕ) (owed met : List Met) (fuse : Option Fuse) (begun : Begun) → IsOpened voter kept starts owed met fuse
-    → begun.start ≡ voter.logs.kept.starts + 1 → begun.owed ≡ owing → ((h : Meanings) → map met_of begun.notes ≡ start_notes (setting c h me) (onto owed (Starts (starts + 1) ∷ met)))
+pub started_over : (c : Cluster) (me : ℕ) (down : DownNode MemRecords VersionedRows) (kept : Option LogFuse) (owing : Option Cut) (starts : ℕ) (owed met : List Met) (fuse : Option Fuse) (begun : Begun) → IsOpened c me down kept starts owed met fuse
+    → begun.start ≡ down.voter.logs.kept.starts + 1 → begun.owed ≡ owing → ((h : Meanings) → map met_of begun.notes ≡ start_notes (setting c h me) (onto owed (Starts (starts + 1) ∷ met)))
     → (node_in begun.member).replica.members ≡ c → (node_in begun.member).replica.me ≡ me → ((h : Meanings) → IsHere h (node_in begun.member) (start (setting c h me) (starts + 1) owed met))
-    → (true && is_short (fuse_of voter.logs.records.fuse)) ≡ false → fuse_of (records_of begun.member).fuse ≡ less (fuse_of voter.logs.records.fuse) → image_of (records_of begun.member).fuse ≡ image_of voter.logs.records.fuse
+    → (true && is_short (fuse_of down.voter.logs.records.fuse)) ≡ false → fuse_of (records_of begun.member).fuse ≡ less (fuse_of down.voter.logs.records.fuse) → image_of (records_of begun.member).fuse ≡ image_of down.voter.logs.records.fuse
     → (HasRoom (run_fuse kept) → run_fuse begun.member.fuse ≡ after_append (run_fuse kept)) → BeginsSo c me starts owed met fuse owing begun
-started_over c me voter kept owing starts owed met fuse begun is number owes notes members mine here long left image counts =
-    let burning = not_short fuse kept voter.logs.records is.fused long in record {
-      number = number ∙ ap (λ n. n + 1) is.recalls.counted;
+started_over c me down kept owing starts owed met fuse begun is number owes notes members mine here long left image counts =
+    let burning = not_short fuse kept down.voter.logs.records is.fused long in record {
+      number = number ∙ ap (λ n. n + 1) is.stands.recalls.counted;
       owes = owes;
       notes = notes;
       long = burning;
       is = λ h. as_member c h me begun.member (start (setting c h me) (starts + 1) owed met) members mine (here h);
-      fused = fused_more kept begun.member.fuse voter.logs.records (records_of begun.member) fuse is.fused burning left image counts;
+      fused = fused_more kept begun.member.fuse down.voter.logs.records (records_of begun.member) fuse is.fused burning left image counts;
     }
 
 -- or its start is cut off
-pub cut_over : (voter : Voter MemRecords) (kept : Option LogFuse) (owing : Option Cut) (starts : ℕ) (owed met : List Met) (fuse : Option Fuse) (records : MemRecords) (fallen : Fallen) → IsOpened voter kept starts owed met fuse
-    → record { records = records; fuse = None; owed = owing } ≡ fallen → is_short (fuse_of voter.logs.records.fuse) ≡ true → fuse_of records.fuse ≡ Unset
-    → HoldsMet records.list.items (cond (is_kept (cond (keeps_record (fuse_of voter.logs.records.fuse) (image_of voter.logs.records.fuse)) Recorded AsItWas)) (starts + 1) starts) (onto owed met)
+pub cut_over : (c : Cluster) (me : ℕ) (down : DownNode MemRecords VersionedRows) (kept : Option LogFuse) (owing : Option Cut) (starts : ℕ) (owed met : List Met) (fuse : Option Fuse) (records : MemRecords) (fallen : Fallen) → IsOpened c me down kept starts owed met fuse
+    → record { remains = OnDisk records; fuse = None; owed = owing } ≡ fallen → is_short (fuse_of down.voter.logs.records.fuse) ≡ true → fuse_of records.fuse ≡ Unset
+    → HoldsMet records.list.items (cond (is_kept (cond (keeps_record (fuse_of down.voter.logs.records.fuse) (image_of down.voter.logs.records.fuse)) Recorded AsItWas)) (starts + 1) starts) (onto owed met)
     → FallsAgain starts owed met fuse owing fallen
-cut_over voter kept owing starts owed met fuse records fallen is same short gone holds = subst (FallsAgain starts owed met fuse owing) same (record {
+cut_over c me down kept owing starts owed met fuse records fallen is same short gone holds = subst (FallsAgain starts owed met fuse owing) same (record {
+  records = records;
   burning = sym (ap is_short is.fused.left ∙ short_is fuse is.fused.unburnt) ∙ short;
-  holds = subst (λ left. HoldsMet records.list.items (cond (is_kept left) (starts + 1) starts) (onto owed met)) (leaves voter.logs.records fuse is.fused.left is.fused.image is.fused.unburnt) holds;
+  holds = subst (λ left. HoldsMet records.list.items (cond (is_kept left) (starts + 1) starts) (onto owed met)) (leaves down.voter.logs.records fuse is.fused.left is.fused.image is.fused.unburnt) holds;
+  remains = refl;
   owes = refl;
   gone = gone;
   unset = refl;

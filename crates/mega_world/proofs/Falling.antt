@@ -16,8 +16,12 @@ use Rattle.mega_format_laws.specs.Nodes.{IsNode}
 use Rattle.mega_member_laws.specs.Nodes.{StaysWithin}
 use Rattle.mega_rules.specs.Clock.{start_of}
 use Rattle.mega_rules.specs.Met.{Crashes, Met}
+use Rattle.mega_rules.specs.Operations.{Node as RuleNode}
 use Rattle.mega_rules.specs.Steps.{crashed, onto}
+use Rattle.mega_replica.specs.Following.{progress_at}
 use Rattle.mega_voter.specs.Holding.{HoldsMet}
+use Rattle.mega_voter.proofs.Holding.{told_recalled}
+use Rattle.mega_durable.proofs.Fallen.{crash_followed, crash_held, crash_recalled}
 use Rattle.mega_promises.specs.Runs.{Standing, after_event, by_fuse, crashes, has_lapsed, set_at}
 use Rattle.mega_world.specs.declared.member.Member.{Member}
 use Rattle.mega_world.specs.declared.place.Place.{Place}
@@ -25,9 +29,9 @@ use Rattle.mega_world.specs.declared.place.Place.TheVariants.{Down, Up}
 use Rattle.mega_world.specs.declared.world.World.{World}
 use Rattle.mega_world.specs.Carries.{Carries}
 use Rattle.mega_world.specs.Formed.{IsFormed}
-use Rattle.mega_world.specs.Kept.{AreNodes}
+use Rattle.mega_world.specs.Kept.{AreNodes, AreReady, remains_of}
 use Rattle.mega_world.specs.Lapses.{KnowsLeases}
-use Rattle.mega_world.specs.Members.{is_up_at, records_of}
+use Rattle.mega_world.specs.Members.{IsMember, IsTold, is_up_at, node_in, records_of, version_of}
 use Rattle.mega_world.specs.Restarting.{StaysDown}
 use Rattle.mega_world.specs.Stands.{IsAt}
 use Rattle.mega_world.specs.Within.{RunsWithin}
@@ -36,20 +40,30 @@ use Rattle.mega_world.proofs.Fates.{start_cut}
 use Rattle.mega_world.proofs.Joining.{at_other, nodes_on}
 use Rattle.mega_world.proofs.Outcomes.{StandsAt, stands_at, up_at}
 
--- a crash is met, and is nothing that records hold
-crashed_holds : (records : List (List ℕ)) (starts : ℕ) (met : List Met) → HoldsMet records starts met → HoldsMet records starts (Crashes ∷ met)
-crashed_holds records starts met holds = record { good = holds.good; agrees = holds.agrees; counted = holds.counted; later = holds.later; honest = (tt, holds.honest) }
+-- a crash is met, and is nothing that logs or records hold, or that rows follow
+left_ready : (c : Cluster) (h : Meanings) (me : ℕ) (member : Member) (ruled : RuleNode) → IsMember c me member ruled → AreReady c me (remains_of member) (start_of ruled.met) (Crashes ∷ ruled.met)
+left_ready c h me member ruled is = record {
+  empty = is.empty;
+  recalls = crash_recalled (node_in member).replica.voter.logs.kept (start_of ruled.met) ruled.met (told_recalled (node_in member).replica.voter.logs.kept ruled.met told.tells);
+  ready = is.ready;
+  rows = crash_followed c me (version_of (node_in member).replica.rows.rows) (progress_at (node_in member).replica.rows.progress) ruled.met ruled.stored told.follows told.kind.bare;
+}
+  where
+    told : IsTold c h me (node_in member) ruled
+    told = is.told h
 
-pub falls_down : (c : Cluster) (places : List Place) (now : Standing) (me : ℕ) (member : Member) → AreNodes c places now → 1 ≤ me → me ≤ length places → StandsAt c places now me member
-    → AreNodes c (set places (me - 1) (Down (record { records = records_of member; fuse = member.fuse; owed = None }))) (crashes now me)
-falls_down c places now me member all least most stands =
-    nodes_on c places me (Down (record { records = records_of member; fuse = member.fuse; owed = None })) (crashed (now.node me)) now (crashes now me) all least most refl refl
+pub falls_down : (c : Cluster) (h : Meanings) (places : List Place) (now : Standing) (me : ℕ) (member : Member) → AreNodes c places now → 1 ≤ me → me ≤ length places → StandsAt c places now me member
+    → AreNodes c (set places (me - 1) (Down (record { remains = remains_of member; fuse = member.fuse; owed = None }))) (crashes now me)
+falls_down c h places now me member all least most stands =
+    nodes_on c places me (Down (record { remains = remains_of member; fuse = member.fuse; owed = None })) (crashed (now.node me)) now (crashes now me) all least most refl refl
     (λ other apart. record { starts = refl; owed = refl; ruled = at_other now.node me other (crashed (now.node me)) apart; fuse = refl })
     (record {
       follows = subst (λ (owed : List Met). AreOwed owed (Crashes ∷ (now.node me).met)) (sym stands.settled.unowed) tt;
       holds = subst (λ (owed : List Met). HoldsMet (records_of member).list.items (now.starts me) (onto owed (Crashes ∷ (now.node me).met))) (sym stands.settled.unowed)
           (subst (λ (starts : ℕ). HoldsMet (records_of member).list.items starts (Crashes ∷ (now.node me).met)) (sym stands.settled.started)
-          (crashed_holds (records_of member).list.items (start_of (now.node me).met) (now.node me).met stands.is.holds));
+          (crash_held (records_of member).list.items (start_of (now.node me).met) (now.node me).met stands.is.holds));
+      ready = subst (λ (owed : List Met). AreReady c me (remains_of member) (now.starts me) (onto owed (Crashes ∷ (now.node me).met))) (sym stands.settled.unowed)
+          (subst (λ (starts : ℕ). AreReady c me (remains_of member) starts (Crashes ∷ (now.node me).met)) (sym stands.settled.started) (left_ready c h me member (now.node me) stands.is));
       owes = sym stands.settled.unowed;
       fused = stands.settled.fused;
     })
@@ -130,11 +144,11 @@ stayed_at c h now node old new items after r stays cluster mail safety is =
 
 -- a node that is up goes down
 pub crashes_at : (c : Cluster) (h : Meanings) (now : Standing) (node : NodeId) (old new : World) (items after : List Item) → IsAt c old items now → 1 ≤ node.0 → node.0 ≤ length old.places.items → is_up_at old.places.items node.0 ≡ true
-    → ((member : Member) → slice_get old.places.items (node.0 - 1) ≡ Some (Up member) → new.places.items ≡ set old.places.items (node.0 - 1) (Down (record { records = records_of member; fuse = member.fuse; owed = None })))
+    → ((member : Member) → slice_get old.places.items (node.0 - 1) ≡ Some (Up member) → new.places.items ≡ set old.places.items (node.0 - 1) (Down (record { remains = remains_of member; fuse = member.fuse; owed = None })))
     → new.cluster ≡ old.cluster → new.mail ≡ old.mail → new.safety ≡ old.safety → after ≡ items ++ Crash node ∷ [] → IsAt c new after (after_event c h by_fuse now (CrashEvent node))
 crashes_at c h now node old new items after r least most up falls cluster mail safety is =
     let found = up_at old.places.items node.0 least most up in
     let stands = stands_at c old.places.items now node.0 (node.0 - 1) (Up found.0) found.0 r.nodes refl least found.1 refl in
     fallen_at c h now node old new items after r
-    (subst (λ (ps : List Place). AreNodes c ps (crashes now node.0)) (sym (falls found.0 found.1)) (falls_down c old.places.items now node.0 found.0 r.nodes least most stands))
+    (subst (λ (ps : List Place). AreNodes c ps (crashes now node.0)) (sym (falls found.0 found.1)) (falls_down c h old.places.items now node.0 found.0 r.nodes least most stands))
     cluster mail safety is

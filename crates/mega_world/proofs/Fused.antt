@@ -34,24 +34,24 @@ place_is c places now me calls image (Up old) (Down new) all least at sets = abs
 place_is c places now me calls image (Down old) (Up new) all least at sets = absurd sets
 place_is c places now me calls image (Down old) (Down new) all least at sets = all.members.up_are me ∙ ap is_some (member_is places me (me - 1) refl least ∙ ap member_in at)
 
-keeps_so : (now : Standing) (me calls image : ℕ) (was is : Place) → SetsFuse calls image was is → IsKept was (now.starts me) (now.owed me) (now.node me).met (now.log_fuse me) → IsKept is (now.starts me) (now.owed me) (now.node me).met (new_fuse calls image)
-keeps_so now me calls image (Up old) (Up new) sets kept = record { started = kept.started; unowed = kept.unowed; fused = sets.fused (now.log_fuse me) kept.fused }
-keeps_so now me calls image (Up old) (Down new) sets kept = absurd sets
-keeps_so now me calls image (Down old) (Up new) sets kept = absurd sets
-keeps_so now me calls image (Down old) (Down new) sets kept = sets.is (now.starts me) (now.owed me) (now.node me).met (now.log_fuse me) kept
+keeps_so : (c : Cluster) (now : Standing) (me calls image : ℕ) (was is : Place) → SetsFuse calls image was is → IsKept c me was (now.starts me) (now.owed me) (now.node me).met (now.log_fuse me) → IsKept c me is (now.starts me) (now.owed me) (now.node me).met (new_fuse calls image)
+keeps_so c now me calls image (Up old) (Up new) sets kept = record { started = kept.started; unowed = kept.unowed; fused = sets.fused (now.log_fuse me) kept.fused }
+keeps_so c now me calls image (Up old) (Down new) sets kept = absurd sets
+keeps_so c now me calls image (Down old) (Up new) sets kept = absurd sets
+keeps_so c now me calls image (Down old) (Down new) sets kept = sets.is c me (now.starts me) (now.owed me) (now.node me).met (now.log_fuse me) kept
 
 pub fuses_at : (c : Cluster) (places new : List Place) (now : Standing) (me calls image : ℕ) (was : Place) → AreNodes c places now → 1 ≤ me → me ≤ length places → slice_get places (me - 1) ≡ Some was
     → SetsFuseAt calls image places (me - 1) was new → AreNodes c new (fused now me calls image Log)
 fuses_at c places new now me calls image was all least most at sets = subst (λ (ps : List Place). AreNodes c ps (fused now me calls image Log)) (sym sets.places) (record {
   members = subst (AreMembers c (set places (me - 1) sets.is)) (same_all now.node me)
       (joined c places now.node me sets.is (now.node me) all.members least most (place_is c places now me calls image was sets.is all least at sets.sets));
-  kept = kept_on places me sets.is now (fused now me calls image Log) all.kept least most
+  kept = kept_on c places me sets.is now (fused now me calls image Log) all.kept least most
       (λ other apart. record { starts = refl; owed = refl; ruled = refl; fuse = at_other now.log_fuse me other (new_fuse calls image) apart })
-      (subst (IsKept sets.is (now.starts me) (now.owed me) (now.node me).met) (sym (at_own now.log_fuse me (new_fuse calls image))) (keeps_so now me calls image was sets.is sets.sets kept));
+      (subst (IsKept c me sets.is (now.starts me) (now.owed me) (now.node me).met) (sym (at_own now.log_fuse me (new_fuse calls image))) (keeps_so c now me calls image was sets.is sets.sets kept));
 })
   where
-    kept : IsKept was (now.starts me) (now.owed me) (now.node me).met (now.log_fuse me)
-    kept = let e : me - 1 + 1 ≡ me = omega (arith, least) in subst (λ (n : ℕ). IsKept was (now.starts n) (now.owed n) (now.node n).met (now.log_fuse n)) e (all.kept.each (me - 1) was at)
+    kept : IsKept c me was (now.starts me) (now.owed me) (now.node me).met (now.log_fuse me)
+    kept = let e : me - 1 + 1 ≡ me = omega (arith, least) in subst (λ (n : ℕ). IsKept c n was (now.starts n) (now.owed n) (now.node n).met (now.log_fuse n)) e (all.kept.each (me - 1) was at)
 
 -- the world with it; a fuse on the rows changes no node
 pub fused_at : (c : Cluster) (now : Standing) (me calls image : ℕ) (device : Device) (old new : World) (items : List Item) → IsAt c old items now → AreNodes c new.places.items (fused now me calls image device) → new.cluster ≡ old.cluster → new.mail ≡ old.mail

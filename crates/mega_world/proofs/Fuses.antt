@@ -1,11 +1,26 @@
 -- The fuse of a run, of a node's records, and the one that is kept beside the node: what an append makes of each.
-use Rattle.std.proofs.Common.{◌≡◌, ℕ, ◌+◌, ◌-◌, ◌*◌, ◌/◌, ◌≤◌, ◌<◌, ◌==◌, ◌&&◌, ◌||◌, not, nat_le, nat_lt, cond, Bool, true, false, Option, Some, None, refl, sym, ap, ◌∙◌, subst, arith}
+use Rattle.std.proofs.Common.{◌≡◌, ℕ, ◌+◌, ◌-◌, ◌*◌, ◌/◌, ◌≤◌, ◌<◌, ◌==◌, ◌&&◌, ◌||◌, not, nat_le, nat_lt, cond, Bool, true, false, List, Option, Some, None, refl, sym, ap, ◌∙◌, subst, arith}
 use Rattle.std.proofs.lemmas.Bool.Decides.{nat_tests}
+use Rattle.mega_cluster.specs.declared.cluster.Cluster.{Cluster}
+use Rattle.mega_core.specs.Restarting.{HaveFollowed}
 use Rattle.mega_disk.specs.declared.mem_records.MemRecords.{MemRecords}
 use Rattle.mega_disk.specs.Fuse.{Left as CallsAre, Unset, after_append as less, is_short, keeps_record}
 use Rattle.mega_disk.specs.MemDisk.{fuse_of, image_of}
-use Rattle.mega_promises.specs.Runs.{AsItWas, Calls, CutByLog, Fuse, Recorded, Standing, Whole, after_append, by_fuse, fate_by, fate_of, is_burning, is_left_by_log, left_by, may_become}
+use Rattle.mega_promises.specs.Runs.{AsItWas, Calls, CutByLog, Fuse, Recorded, Standing, Whole, after_append, by_fuse, fate_by, fate_of, is_burning, is_left_by_log, left_by, may_become, new_fuse}
+use Rattle.mega_replica.specs.declared.rows.StoredRows.{StoredRows}
+use Rattle.mega_replica.specs.Following.{progress_at}
+use Rattle.mega_rows.specs.declared.rows.VersionedRows.{VersionedRows}
+use Rattle.mega_rules.specs.Met.{Met}
+use Rattle.mega_rules.specs.Steps.{onto}
+use Rattle.mega_voter.specs.Holding.{HoldsMet, Recalls}
+use Rattle.mega_wal.specs.declared.kept.Kept.{Kept}
+use Rattle.mega_world.specs.declared.fallen.Fallen.{Fallen}
 use Rattle.mega_world.specs.declared.log_fuse.LogFuse.{LogFuse}
+use Rattle.mega_world.specs.declared.remains.Remains.{Remains}
+use Rattle.mega_world.specs.declared.remains.Remains.TheVariants.{InMemory, OnDisk}
+use Rattle.mega_world.specs.Fusing.{FusesRemains}
+use Rattle.mega_world.specs.Kept.{AreReady, IsFallen, owed_of, records_below}
+use Rattle.mega_world.specs.Members.{version_of}
 use Rattle.mega_world.specs.LogFuses.{HasImage, HasRoom, IsFused, IsUnburnt, left_of, run_fuse}
 
 -- ---- a fuse burns where its records' fuse is short
@@ -102,3 +117,38 @@ fated now me calls = by (calls.appends) (is_burning (now.log_fuse me)) refl refl
         ∙ ap (λ t. cond t (CutByLog (left_by (now.log_fuse me))) (cond (calls.appends && is_burning (now.log_fuse me)) (CutByLog AsItWas) Whole)) may ∙ sym is
     by true false appends burning = whole (ap (λ t. t && is_burning (now.log_fuse me)) appends ∙ burning)
     by false b appends burning = whole (ap (λ t. t && is_burning (now.log_fuse me)) appends)
+
+-- ---- a fuse is set on what is left of a node that is down
+record StaysReady (c : Cluster) (me calls image : ℕ) (old new : Remains) : Type 0 where
+  list : (records_below new).list.items ≡ (records_below old).list.items
+  ready : (starts : ℕ) (met : List Met) → AreReady c me old starts met → AreReady c me new starts met
+  left : fuse_of (records_below new).fuse ≡ CallsAre calls
+  image_is : image_of (records_below new).fuse ≡ image
+
+stays_ready : (c : Cluster) (me calls image : ℕ) (old new : Remains) → FusesRemains calls image old new → StaysReady c me calls image old new
+stays_ready c me calls image (InMemory old) (InMemory new) fuses = record {
+  list = fuses.records.list;
+  ready = λ starts met ready. record {
+    empty = fuses.staged ∙ ready.empty;
+    recalls = subst (λ (kept : Kept). Recalls kept starts met) (sym fuses.kept) ready.recalls;
+    ready = fuses.records.spent ∙ ready.ready;
+    rows = subst (λ (rows : StoredRows VersionedRows). HaveFollowed c me (version_of rows.rows) (progress_at rows.progress) met) (sym fuses.rows) ready.rows;
+  };
+  left = fuses.records.left;
+  image_is = fuses.records.image_is;
+}
+stays_ready c me calls image (InMemory old) (OnDisk new) fuses = absurd fuses
+stays_ready c me calls image (OnDisk old) (InMemory new) fuses = absurd fuses
+stays_ready c me calls image (OnDisk old) (OnDisk new) fuses = record { list = fuses.list; ready = λ starts met ready. tt; left = fuses.left; image_is = fuses.image_is }
+
+pub fuses_fallen : (c : Cluster) (me calls image : ℕ) (old new : Fallen) → FusesRemains calls image old.remains new.remains → new.owed ≡ old.owed → run_fuse new.fuse ≡ new_fuse calls image
+    → (starts : ℕ) (owed met : List Met) (fuse : Option Fuse) → IsFallen c me old starts owed met fuse → IsFallen c me new starts owed met (new_fuse calls image)
+fuses_fallen c me calls image old new fuses owes set starts owed met fuse is =
+    let stays = stays_ready c me calls image old.remains new.remains fuses in
+    let whole : calls ≡ calls - 4 * 0 = omega arith in record {
+      follows = is.follows;
+      holds = subst (λ (items : List (List ℕ)). HoldsMet items starts (onto owed met)) (sym stays.list) is.holds;
+      ready = stays.ready starts (onto owed met) is.ready;
+      owes = ap owed_of owes ∙ is.owes;
+      fused = record { kept_is = set; left = stays.left ∙ ap CallsAre whole; image = stays.image_is; unburnt = omega arith };
+    }

@@ -129,27 +129,27 @@ pub record Alike (now later : Standing) (other : ℕ) : Type 0 where
   pub ruled : later.node other ≡ now.node other
   pub fuse : later.log_fuse other ≡ now.log_fuse other
 
-pub kept_on : (places : List Place) (me : ℕ) (place : Place) (now later : Standing) → AreKept places now.starts now.owed now.node now.log_fuse → 1 ≤ me → me ≤ length places
-    → ((other : ℕ) → (me == other) ≡ false → Alike now later other) → IsKept place (later.starts me) (later.owed me) (later.node me).met (later.log_fuse me)
-    → AreKept (set places (me - 1) place) later.starts later.owed later.node later.log_fuse
-kept_on places me place now later was least most same here = record { each = λ i p is. by i p (me - 1 == i) refl (sym (get_set places (me - 1) i place (omega (arith, least, most))) ∙ is) }
+pub kept_on : (c : Cluster) (places : List Place) (me : ℕ) (place : Place) (now later : Standing) → AreKept c places now.starts now.owed now.node now.log_fuse → 1 ≤ me → me ≤ length places
+    → ((other : ℕ) → (me == other) ≡ false → Alike now later other) → IsKept c me place (later.starts me) (later.owed me) (later.node me).met (later.log_fuse me)
+    → AreKept c (set places (me - 1) place) later.starts later.owed later.node later.log_fuse
+kept_on c places me place now later was least most same here = record { each = λ i p is. by i p (me - 1 == i) refl (sym (get_set places (me - 1) i place (omega (arith, least, most))) ∙ is) }
   where
-    by : (i : ℕ) (p : Place) (t : Bool) → (me - 1 == i) ≡ t → cond t (Some place) (slice_get places i) ≡ Some p → IsKept p (later.starts (i + 1)) (later.owed (i + 1)) (later.node (i + 1)).met (later.log_fuse (i + 1))
+    by : (i : ℕ) (p : Place) (t : Bool) → (me - 1 == i) ≡ t → cond t (Some place) (slice_get places i) ≡ Some p → IsKept c (i + 1) p (later.starts (i + 1)) (later.owed (i + 1)) (later.node (i + 1)).met (later.log_fuse (i + 1))
     by i p true own is =
         let e : me ≡ i + 1 = grind (arith, nat_tests) in
         let q : place ≡ p = cc in
-        subst (λ (n : ℕ). IsKept p (later.starts n) (later.owed n) (later.node n).met (later.log_fuse n)) e
-        (subst (λ (x : Place). IsKept x (later.starts me) (later.owed me) (later.node me).met (later.log_fuse me)) q here)
+        subst (λ (n : ℕ). IsKept c n p (later.starts n) (later.owed n) (later.node n).met (later.log_fuse n)) e
+        (subst (λ (x : Place). IsKept c me x (later.starts me) (later.owed me) (later.node me).met (later.log_fuse me)) q here)
     by i p false off is =
         let apart : (me == i + 1) ≡ false = grind (arith, nat_tests) in
         let s = same (i + 1) apart in
-        coe 0 1 (k. IsKept p (sym s.starts k) (sym s.owed k) (sym s.ruled k).met (sym s.fuse k)) (was.each i p is)
+        coe 0 1 (k. IsKept c (i + 1) p (sym s.starts k) (sym s.owed k) (sym s.ruled k).met (sym s.fuse k)) (was.each i p is)
 
 -- all nodes, once the place of one was written
 pub nodes_on : (c : Cluster) (places : List Place) (me : ℕ) (place : Place) (next : RuleNode) (now later : Standing) → AreNodes c places now → 1 ≤ me → me ≤ length places → IsPlace c me place next → later.node ≡ set_at now.node me next
-    → ((other : ℕ) → (me == other) ≡ false → Alike now later other) → IsKept place (later.starts me) (later.owed me) next.met (later.log_fuse me) → AreNodes c (set places (me - 1) place) later
+    → ((other : ℕ) → (me == other) ≡ false → Alike now later other) → IsKept c me place (later.starts me) (later.owed me) next.met (later.log_fuse me) → AreNodes c (set places (me - 1) place) later
 nodes_on c places me place next now later all least most one ruled same here = record {
   members = subst (AreMembers c (set places (me - 1) place)) (sym ruled) (joined c places now.node me place next all.members least most one);
-  kept = kept_on places me place now later all.kept least most same
-      (subst (λ (n : RuleNode). IsKept place (later.starts me) (later.owed me) n.met (later.log_fuse me)) (sym (ap (λ (f : ℕ → RuleNode). f me) ruled ∙ at_own now.node me next)) here);
+  kept = kept_on c places me place now later all.kept least most same
+      (subst (λ (n : RuleNode). IsKept c me place (later.starts me) (later.owed me) n.met (later.log_fuse me)) (sym (ap (λ (f : ℕ → RuleNode). f me) ruled ∙ at_own now.node me next)) here);
 }

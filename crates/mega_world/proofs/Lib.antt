@@ -1,5 +1,6 @@
 pub mod Again
 pub mod Anew
+pub mod Asked
 pub mod Breaking
 pub mod Carrying
 pub mod Due

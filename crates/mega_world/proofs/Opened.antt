@@ -276,7 +276,7 @@ module _ (c : Cluster) (h : Meanings) (places : List Place) (count : length plac
       ap (λ (n : RuleNode). is_up n.met) ((opening_opened c h).node_is 0 ∙ ap (λ t. cond t (start (setting c h 0) 1 [] []) empty_node) apart)
   each_up (suc i) = up_by i (slice_get places i) refl ∙ sym (ap is_some (member_is places (suc i) i (omega arith) (omega arith)))
 
-  kept_by : (i : ℕ) (place : Place) → slice_get places i ≡ Some place → IsKept place ((opening c h).starts (i + 1)) ((opening c h).owed (i + 1)) ((opening c h).node (i + 1)).met ((opening c h).log_fuse (i + 1))
+  kept_by : (i : ℕ) (place : Place) → slice_get places i ≡ Some place → IsKept c (i + 1) place ((opening c h).starts (i + 1)) ((opening c h).owed (i + 1)) ((opening c h).node (i + 1)).met ((opening c h).log_fuse (i + 1))
   kept_by i (Down fallen) at = absurd (started_are.each i (Down fallen) at)
   kept_by i (Up one) at =
       let below = slice_get_within places i (Up one) at in

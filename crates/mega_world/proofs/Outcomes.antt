@@ -19,6 +19,7 @@ use Rattle.mega_world.specs.declared.fallen.Fallen.{Fallen}
 use Rattle.mega_world.specs.declared.member.Member.{Member}
 use Rattle.mega_world.specs.declared.place.Place.{Place}
 use Rattle.mega_world.specs.declared.place.Place.TheVariants.{Up, Down}
+use Rattle.mega_world.specs.declared.remains.Remains.TheVariants.{OnDisk}
 use Rattle.mega_world.specs.Kept.{AreNodes, IsSettled, owed_of}
 use Rattle.mega_world.specs.LogFuses.{IsFused, run_fuse}
 use Rattle.mega_world.specs.Members.{IsMember, is_up_at, records_of}
@@ -80,7 +81,7 @@ owed_if false cut owed is = refl
 pub falls_at : (c : Cluster) (h : Meanings) (now : Standing) (me : ℕ) (event : Event) (places : List Place) (old member : Member) (cut : Cut) → AreNodes c places now → 1 ≤ me → me ≤ length places
     → IsSettled old (now.starts me) (now.owed me) (now.node me).met (now.log_fuse me)
     → WasCut c h me (now.node me) event (now.log_fuse me) member cut
-    → Falls c h now me event (set places (me - 1) (Down (record { records = records_of member; fuse = None; owed = cond (is_kept (left_by (run_fuse member.fuse))) (Some cut) None })))
+    → Falls c h now me event (set places (me - 1) (Down (record { remains = OnDisk (records_of member); fuse = None; owed = cond (is_kept (left_by (run_fuse member.fuse))) (Some cut) None })))
 falls_at c h now me event places old member cut all least most settled one = record {
   short = ap (λ t. t && is_burning (now.log_fuse me)) one.appending ∙ one.burning;
   nodes = λ own. nodes_on c places me (Down fallen) next now (cut_off c h now me own event) all least most refl refl
@@ -88,6 +89,7 @@ falls_at c h now me event places old member cut all least most settled one = rec
       (record {
         follows = subst (λ (owed : List Met). AreOwed owed next.met) (sym (at_own now.owed me owing)) (follows (is_kept (left_by (now.log_fuse me))));
         holds = subst (λ (owed : List Met). HoldsMet (records_of member).list.items (now.starts me) (onto owed next.met)) (sym (at_own now.owed me owing)) held;
+        ready = tt;
         owes = ap (λ f. owed_of (cond (is_kept (left_by f)) (Some cut) None)) one.was
             ∙ owed_if (is_kept (left_by (now.log_fuse me))) cut (owes (step (setting c h me) (now.node me) event) (replies_in c me (now.node me).met event)) one.owed
             ∙ sym (at_own now.owed me owing);
@@ -102,7 +104,7 @@ falls_at c h now me event places old member cut all least most settled one = rec
     next = crashed (record { met = met_in (setting c h me) (now.node me).met event ∷ (now.node me).met; open_operations = []; stored = (now.node me).stored })
 
     fallen : Fallen
-    fallen = record { records = records_of member; fuse = None; owed = cond (is_kept (left_by (run_fuse member.fuse))) (Some cut) None }
+    fallen = record { remains = OnDisk (records_of member); fuse = None; owed = cond (is_kept (left_by (run_fuse member.fuse))) (Some cut) None }
 
     follows : (k : Bool) → AreOwed (cond k (owes (step (setting c h me) (now.node me) event) (replies_in c me (now.node me).met event)) []) next.met
     follows true = subst (λ (own : Met). AreOwed (owes (step (setting c h me) (now.node me) event) (replies_in c me (now.node me).met event)) (Crashes ∷ own ∷ (now.node me).met)) (own_met c h me (now.node me) event) one.follows
@@ -130,7 +132,7 @@ comes_at c h now me event was member made places all least most up is one =
 
 pub cuts_at : (c : Cluster) (h : Meanings) (now : Standing) (me : ℕ) (event : Event) (was : List Place) (member : Member) (cut : Cut) (mid places : List Place) → AreNodes c was now → 1 ≤ me → me ≤ length was → is_up (now.node me).met ≡ true
     → mid ≡ set was (me - 1) (Up member)
-    → ((one : Member) → slice_get mid (me - 1) ≡ Some (Up one) → places ≡ set mid (me - 1) (Down (record { records = records_of one; fuse = None; owed = cond (is_kept (left_by (run_fuse one.fuse))) (Some cut) None })))
+    → ((one : Member) → slice_get mid (me - 1) ≡ Some (Up one) → places ≡ set mid (me - 1) (Down (record { remains = OnDisk (records_of one); fuse = None; owed = cond (is_kept (left_by (run_fuse one.fuse))) (Some cut) None })))
     → WasCut c h me (now.node me) event (now.log_fuse me) member cut → Falls c h now me event places
 cuts_at c h now me event was member cut mid places all least most up is falls one =
     let found = up_at was me least most (sym (all.members.up_are me) ∙ up) in
@@ -138,6 +140,6 @@ cuts_at c h now me event was member cut mid places all least most up is falls on
     let below : me - 1 < length was = omega (arith, least, most) in
     let same : (me - 1 == me - 1) ≡ true = grind (arith, nat_tests) in
     let there : slice_get mid (me - 1) ≡ Some (Up member) = ap (λ ps. slice_get ps (me - 1)) is ∙ get_set was (me - 1) (me - 1) (Up member) below ∙ ap (λ t. cond t (Some (Up member)) (slice_get was (me - 1))) same in
-    let fallen : Fallen = record { records = records_of member; fuse = None; owed = cond (is_kept (left_by (run_fuse member.fuse))) (Some cut) None } in
+    let fallen : Fallen = record { remains = OnDisk (records_of member); fuse = None; owed = cond (is_kept (left_by (run_fuse member.fuse))) (Some cut) None } in
     subst (λ (ps : List Place). Falls c h now me event ps) (sym (falls member there ∙ ap (λ ps. set ps (me - 1) (Down fallen)) is ∙ set_twice was (me - 1) (Up member) (Down fallen)))
     (falls_at c h now me event was found.0 member cut all least most stands.settled one)

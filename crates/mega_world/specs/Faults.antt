@@ -1,20 +1,27 @@
 -- The fault of a world where a node of it did not step.
-use Rattle.std.specs.Prelude.{Option, Some, None}
+use Rattle.std.specs.Prelude.{Bool, true, false, Option, Some, None}
 use Rattle.mega_core.specs.declared.fault.StepFault.{StepFault}
 use Rattle.mega_core.specs.declared.fault.StepFault.TheVariants as step
 use Rattle.mega_wal.specs.declared.answers.LogFault.{LogFault}
 use Rattle.mega_wal.specs.declared.answers.LogFault.TheVariants as log
 use Rattle.mega_world.specs.declared.fault.WorldFault.{WorldFault}
-use Rattle.mega_world.specs.declared.fault.WorldFault.TheVariants.{NoMemory, Unbuilt}
+use Rattle.mega_world.specs.declared.fault.WorldFault.TheVariants.{NoMemory}
 
--- none stands for what only a device of rows does, since a world keeps its rows in memory
+-- a fault that only what comes from outside the cluster brings, and none where all requests are served
+abbrev pub is_strange : StepFault → Bool
+is_strange step.Unserved = true
+is_strange step.Stranger = true
+is_strange step.Late = true
+is_strange _ = false
+
+-- none stands for those, and for what only a device of rows does, since a world keeps its rows in memory
 abbrev pub fault_of : StepFault → Option WorldFault
 fault_of step.DiskFault = None
 fault_of (step.Full n) = None
 fault_of (step.BadRecord n) = None
-fault_of step.Unbuilt = Some Unbuilt
-fault_of step.Stranger = Some Unbuilt
-fault_of step.Late = Some Unbuilt
+fault_of step.Unserved = None
+fault_of step.Stranger = None
+fault_of step.Late = None
 fault_of step.NoMemory = Some NoMemory
 
 -- none stands for what records in memory that are open never do

@@ -15,6 +15,6 @@ pub mod Shown
 pub mod Stands
 pub mod Starting
 pub mod Stepping
-pub mod Unbuilt
+pub mod Last
 pub mod Waits
 pub mod Within

@@ -8,40 +8,41 @@ use Rattle.mega_handler.specs.Named.{Meanings}
 use Rattle.mega_leases.specs.Opening.{AreOwed}
 use Rattle.mega_rules.specs.Met.{Met, Starts}
 use Rattle.mega_rules.specs.Steps.{onto, start, start_notes}
-use Rattle.mega_voter.specs.declared.voter.Voter.{Voter}
-use Rattle.mega_voter.specs.Holding.{HoldsMet, Recalls}
+use Rattle.mega_voter.specs.Holding.{HoldsMet}
 use Rattle.mega_core.specs.Notes.{met_of}
 use Rattle.mega_promises.specs.Runs.{Fuse, after_append, is_burning, is_kept, left_by, setting}
 use Rattle.mega_durable.specs.declared.cut.Cut.{Cut}
+use Rattle.mega_durable.specs.declared.down.Down.{Down as DownNode}
+use Rattle.mega_rows.specs.declared.rows.VersionedRows.{VersionedRows}
 use Rattle.mega_world.specs.declared.fallen.Fallen.{Fallen}
 use Rattle.mega_world.specs.declared.log_fuse.LogFuse.{LogFuse}
+use Rattle.mega_world.specs.declared.remains.Remains.TheVariants.{OnDisk}
 use Rattle.mega_world.specs.declared.starting.Begun.{Begun}
-use Rattle.mega_world.specs.Kept.{IsFallen}
+use Rattle.mega_world.specs.Kept.{IsFallen, IsReady}
 use Rattle.mega_world.specs.LogFuses.{IsFused}
 use Rattle.mega_world.specs.Members.{IsMember, records_of}
 
 -- of each history that a node that is down may have, and each fuse of the run on its log
-abbrev pub AtEachFallen : Fallen → (ℕ → List Met → List Met → Option Fuse → Type 0) → Type 0
-AtEachFallen fallen Is = (starts : ℕ) (owed met : List Met) (fuse : Option Fuse) → IsFallen fallen starts owed met fuse → Is starts owed met fuse
+abbrev pub AtEachFallen : Cluster → ℕ → Fallen → (ℕ → List Met → List Met → Option Fuse → Type 0) → Type 0
+AtEachFallen c me fallen Is = (starts : ℕ) (owed met : List Met) (fuse : Option Fuse) → IsFallen c me fallen starts owed met fuse → Is starts owed met fuse
 
--- the same of logs that were opened anew, with a fuse that is kept beside them
-pub record IsOpened (voter : Voter MemRecords) (kept : Option LogFuse) (starts : ℕ) (owed met : List Met) (fuse : Option Fuse) : Type 0 where
+-- the same of logs and rows in memory, with a fuse that is kept beside them
+pub record IsOpened (c : Cluster) (me : ℕ) (down : DownNode MemRecords VersionedRows) (kept : Option LogFuse) (starts : ℕ) (owed met : List Met) (fuse : Option Fuse) : Type 0 where
   pub follows : AreOwed owed met
-  pub recalls : Recalls voter.logs.kept starts (onto owed met)
-  pub ready : voter.logs.records.spent ≡ false
-  pub holds : HoldsMet voter.logs.records.list.items starts (onto owed met)
-  pub fused : IsFused kept voter.logs.records fuse
+  pub stands : IsReady c me down starts (onto owed met)
+  pub holds : HoldsMet down.voter.logs.records.list.items starts (onto owed met)
+  pub fused : IsFused kept down.voter.logs.records fuse
 
-abbrev pub AtEachOpened : Voter MemRecords → Option LogFuse → (ℕ → List Met → List Met → Option Fuse → Type 0) → Type 0
-AtEachOpened voter kept Is = (starts : ℕ) (owed met : List Met) (fuse : Option Fuse) → IsOpened voter kept starts owed met fuse → Is starts owed met fuse
+abbrev pub AtEachOpened : Cluster → ℕ → DownNode MemRecords VersionedRows → Option LogFuse → (ℕ → List Met → List Met → Option Fuse → Type 0) → Type 0
+AtEachOpened c me down kept Is = (starts : ℕ) (owed met : List Met) (fuse : Option Fuse) → IsOpened c me down kept starts owed met fuse → Is starts owed met fuse
 
 -- there is such a history
-pub record IsStartable (fallen : Fallen) : Type 0 where
+pub record IsStartable (c : Cluster) (me : ℕ) (fallen : Fallen) : Type 0 where
   pub starts : ℕ
   pub owed : List Met
   pub met : List Met
   pub fuse : Option Fuse
-  pub is : IsFallen fallen starts owed met fuse
+  pub is : IsFallen c me fallen starts owed met fuse
 
 -- the node is up, and the fuse had an append left
 pub record BeginsSo (c : Cluster) (me starts : ℕ) (owed met : List Met) (fuse : Option Fuse) (owing : Option Cut) (begun : Begun) : Type 0 where
@@ -52,10 +53,12 @@ pub record BeginsSo (c : Cluster) (me starts : ℕ) (owed met : List Met) (fuse 
   pub is : (h : Meanings) → IsMember c me begun.member (start (setting c h me) (starts + 1) owed met)
   pub fused : IsFused begun.member.fuse (records_of begun.member) (after_append fuse)
 
--- the fuse cut the start off: the node is down as before, and counts the start where its record was kept
+-- the fuse cut the start off: the node is down as before, its records alone are left, and they count the start where its record was kept
 pub record FallsAgain (starts : ℕ) (owed met : List Met) (fuse : Option Fuse) (owing : Option Cut) (fallen : Fallen) : Type 0 where
+  pub records : MemRecords
   pub burning : is_burning fuse ≡ true
-  pub holds : HoldsMet fallen.records.list.items (if is_kept (left_by fuse) then starts + 1 else starts) (onto owed met)
+  pub remains : fallen.remains ≡ OnDisk records
+  pub holds : HoldsMet records.list.items (if is_kept (left_by fuse) then starts + 1 else starts) (onto owed met)
   pub owes : fallen.owed ≡ owing
-  pub gone : fuse_of fallen.records.fuse ≡ Unset
+  pub gone : fuse_of records.fuse ≡ Unset
   pub unset : fallen.fuse ≡ None

@@ -1,5 +1,5 @@
 -- What becomes of a step of a node that is up: it makes it whole, or its log's fuse cuts it off.
-use Rattle.std.specs.Prelude.{◌≡◌, ℕ, ◌&&◌, true, false, if◌then◌else◌, List, [], ◌∷◌, map, Option, None, Result, Ok, Err}
+use Rattle.std.specs.Prelude.{◌≡◌, ◌⊎◌, ℕ, ◌&&◌, true, false, if◌then◌else◌, List, [], ◌∷◌, map, Option, None, Result, Ok, Err}
 use Rattle.mega_cluster.specs.declared.cluster.Cluster.{Cluster}
 use Rattle.mega_disk.specs.Fuse.{Unset}
 use Rattle.mega_disk.specs.MemDisk.{fuse_of}
@@ -9,7 +9,9 @@ use Rattle.mega_leases.specs.Opening.{AreOwed}
 use Rattle.mega_node_laws.specs.Acted.{own_item}
 use Rattle.mega_rules.specs.Met.{Crashes}
 use Rattle.mega_rules.specs.Operations.{Node as RuleNode}
-use Rattle.mega_rules.specs.Steps.{Event, Step as RuleStep, step}
+use Rattle.mega_leases.specs.Taking.{IsByStranger, IsLate}
+use Rattle.mega_actions.specs.Servable.{is_served}
+use Rattle.mega_rules.specs.Steps.{Begin, Event, Step as RuleStep, Take, Tick, step}
 use Rattle.mega_core.specs.declared.step.Step.{Step}
 use Rattle.mega_core.specs.Notes.{met_of}
 use Rattle.mega_durable.specs.declared.cut.Cut.{Cut}
@@ -33,6 +35,12 @@ abbrev pub AtEachNode : (List ℕ → Option Meaning) → Member → Event → (
 AtEachNode makes member event Is =
     (c : Cluster) (h : Meanings) (me : ℕ) (ruled : RuleNode) (fuse : Option Fuse) → IsMember c me member ruled → IsFused member.fuse (records_of member) fuse → MayHappen makes (setting c h me) ruled event → Is c h me ruled fuse
 
+-- what a node takes is of its cluster and not too late, and what begins is of at most 16 transactions
+abbrev pub IsNear : Cluster → Event → Type 0
+IsNear c (Take message) = IsByStranger message.from message.body ⊎ IsLate c message.body → ⊥
+IsNear c (Begin request text) = is_served request ≡ true
+IsNear c (Tick clock) = Unit {0}
+
 -- there is such a node
 pub record IsSome (makes : List ℕ → Option Meaning) (member : Member) (event : Event) : Type 0 where
   pub cluster : Cluster
@@ -41,6 +49,7 @@ pub record IsSome (makes : List ℕ → Option Meaning) (member : Member) (event
   pub ruled : RuleNode
   pub is : IsMember cluster me member ruled
   pub may : MayHappen makes (setting cluster handlers me) ruled event
+  pub near : IsNear cluster event
 
 -- a node made this step: it notes and sends what the rules say, and the fuse had an append left where one was made
 pub record MadeStep (c : Cluster) (me : ℕ) (ruled : RuleStep) (fuse : Option Fuse) (member : Member) (made : Step) : Type 0 where
@@ -77,6 +86,7 @@ pub record IsRunning (makes : List ℕ → Option Meaning) (places : List Place)
   pub now : Standing
   pub nodes : AreNodes cluster places now
   pub may : MayHappen makes (setting cluster handlers me) (now.node me) event
+  pub near : IsNear cluster event
 
 -- what a step of the run leaves that its fuse cut off
 abbrev pub cut_off : Cluster → Meanings → Standing → ℕ → List Item → Event → Standing

@@ -5,10 +5,10 @@ ghost use Rattle.mega_cluster.specs.declared.cluster.Cluster.{Cluster};
 ghost use Rattle.mega_handler.specs.Named.{Meanings};
 ghost use Rattle.mega_transcript.specs.Lines.{HasLine};
 ghost use Rattle.mega_promises.specs.Runs.{Standing, after_event, by_fuse, refusal};
-ghost use Rattle.mega_world.specs.declared.fault.WorldFault.TheVariants.{Limit, Refused, Unbuilt};
+ghost use Rattle.mega_world.specs.declared.fault.WorldFault.TheVariants.{Limit, Refused};
 ghost use Rattle.mega_world.specs.Formed.{IsSound};
 ghost use Rattle.mega_world.specs.Stands.{IsAt, MayCome};
-ghost use Rattle.mega_world.specs.Unbuilt.{IsPastLast, IsUnbuilt};
+ghost use Rattle.mega_world.specs.Last.{IsPastLast};
 
 use crate::fault::WorldFault;
 use crate::world::World;
@@ -37,7 +37,6 @@ impl World {
         ensures refused { (why : ℕ) → result ≡ Err (Refused why) → (c : Cluster) (now : Standing) → IsAt c self.old tape.old.items now → refusal c now event ≡ Some why }
         ensures world { (why : ℕ) → result ≡ Err (Refused why) → self.new ≡ self.old }
         ensures tape { (why : ℕ) → result ≡ Err (Refused why) → tape.new.items ≡ tape.old.items }
-        ensures unbuilt { result ≡ Err Unbuilt → IsUnbuilt event }
         ensures limit { result ≡ Err Limit → (c : Cluster) (now : Standing) → IsAt c self.old tape.old.items now → IsPastLast c now event }
     {
         match event {

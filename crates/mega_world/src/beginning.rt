@@ -5,9 +5,8 @@ ghost use Rattle.mega_cluster.specs.declared.cluster.Cluster.{Cluster};
 ghost use Rattle.mega_handler.specs.Named.{Meanings};
 ghost use Rattle.mega_schedule.specs.declared.world_event.WorldEvent.TheVariants as event;
 ghost use Rattle.mega_transcript.specs.Lines.{HasLine};
-ghost use Rattle.mega_actions.specs.Built.{is_built};
 ghost use Rattle.mega_promises.specs.Runs.{Standing, after_event, by_fuse, is_empty, names_nothing, refusal};
-ghost use Rattle.mega_world.specs.declared.fault.WorldFault.TheVariants.{Limit, Refused, Unbuilt};
+ghost use Rattle.mega_world.specs.declared.fault.WorldFault.TheVariants.{Limit, Refused};
 ghost use Rattle.mega_world.specs.Formed.{IsSound};
 ghost use Rattle.mega_world.specs.Members.{AreMembers, is_up_at};
 ghost use Rattle.mega_world.specs.Stands.{IsAt, IsDue, MayCome};
@@ -91,7 +90,6 @@ impl World {
         ensures refused { (why : ℕ) → result ≡ Err (Refused why) → (c : Cluster) (now : Standing) → IsAt c self.old tape.old.items now → refusal c now (event.Begin node request text) ≡ Some why }
         ensures world { (why : ℕ) → result ≡ Err (Refused why) → self.new ≡ self.old }
         ensures tape { (why : ℕ) → result ≡ Err (Refused why) → tape.new.items ≡ tape.old.items }
-        ensures unbuilt { result ≡ Err Unbuilt → is_built request ≡ false }
         ensures limited { result ≢ Err Limit }
     {
         match refusal(self.places.as_slice(), node, &request) {
@@ -120,7 +118,6 @@ impl World {
             All HasLine tape.old.items → All HasLine tape.new.items) }
         ensures handlers { H.meant handlers.new ≡ H.meant handlers.old }
         ensures served { (why : ℕ) → result ≢ Err (Refused why) }
-        ensures unbuilt { result ≡ Err Unbuilt → is_built request ≡ false }
         ensures limited { result ≢ Err Limit }
     {
         let (op, made) = match begin_at(alloc, handlers, &mut self.places, node.0, request, &text) {

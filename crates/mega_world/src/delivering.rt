@@ -9,7 +9,7 @@ ghost use Rattle.mega_transcript.specs.Tape.{is_sent};
 ghost use Rattle.mega_promises.specs.Messages.{message_of};
 ghost use Rattle.mega_promises.specs.Runs.{Standing, after_event, by_fuse, refusal, up};
 ghost use Rattle.mega_world.specs.Carries.{Carries};
-ghost use Rattle.mega_world.specs.declared.fault.WorldFault.TheVariants.{Limit, Refused, Unbuilt};
+ghost use Rattle.mega_world.specs.declared.fault.WorldFault.TheVariants.{Limit, Refused};
 ghost use Rattle.mega_world.specs.Formed.{IsSound};
 ghost use Rattle.mega_world.specs.Members.{is_up_at};
 ghost use Rattle.mega_world.specs.Stands.{IsAllowed, IsAt, MayCome};
@@ -61,12 +61,11 @@ impl World {
             All HasLine tape.old.items → All HasLine tape.new.items) }
         ensures handlers { H.meant handlers.new ≡ H.meant handlers.old }
         ensures served { (why : ℕ) → result ≢ Err (Refused why) }
-        ensures built { result ≢ Err Unbuilt }
         ensures limited { result ≢ Err Limit }
     {
         let message = match sent_to(&self.mail, self.places.as_slice(), number) {
             Some(message) => message,
-            None => return Err(WorldFault::Unbuilt),
+            None => unreachable!(),
         };
         let me = message.to;
         let made = match take_at(alloc, handlers, &mut self.places, message) {
@@ -97,7 +96,6 @@ impl World {
         ensures refused { (why : ℕ) → result ≡ Err (Refused why) → (c : Cluster) (now : Standing) → IsAt c self.old tape.old.items now → refusal c now (event.Deliver number) ≡ Some why }
         ensures world { (why : ℕ) → result ≡ Err (Refused why) → self.new ≡ self.old }
         ensures tape { (why : ℕ) → result ≡ Err (Refused why) → tape.new.items ≡ tape.old.items }
-        ensures built { result ≢ Err Unbuilt }
         ensures limited { result ≢ Err Limit }
     {
         match self.mail.delivery_refusal(self.places.as_slice(), number) {

@@ -6,7 +6,7 @@ ghost use Rattle.mega_handler.specs.Named.{Meanings};
 ghost use Rattle.mega_schedule.specs.declared.world_event.WorldEvent.TheVariants as event;
 ghost use Rattle.mega_transcript.specs.Lines.{HasLine};
 ghost use Rattle.mega_promises.specs.Runs.{Standing, after_event, by_fuse};
-ghost use Rattle.mega_world.specs.declared.fault.WorldFault.TheVariants.{Limit, Refused, Unbuilt};
+ghost use Rattle.mega_world.specs.declared.fault.WorldFault.TheVariants.{Limit, Refused};
 ghost use Rattle.mega_world.specs.Formed.{IsSound};
 ghost use Rattle.mega_world.specs.Stands.{IsAt, IsDue};
 
@@ -32,7 +32,6 @@ impl World {
             All HasLine tape.old.items → All HasLine tape.new.items) }
         ensures handlers { H.meant handlers.new ≡ H.meant handlers.old }
         ensures served { (why : ℕ) → result ≢ Err (Refused why) }
-        ensures built { result ≢ Err Unbuilt }
         ensures limited { result ≢ Err Limit }
     {
         for _turn in 0..most {

@@ -1,7 +1,7 @@
 //! Why an event does not happen in a world.
-ghost use Rattle.std.specs.Prelude.{◌≡◌, Some, None};
+ghost use Rattle.std.specs.Prelude.{◌≡◌, Some, None, false};
 ghost use Rattle.mega_core.specs.Faults.{of_store};
-ghost use Rattle.mega_world.specs.Faults.{fault_of, log_fault_of};
+ghost use Rattle.mega_world.specs.Faults.{fault_of, is_strange, log_fault_of};
 
 use mega_base::NoMemory;
 use mega_core::StepFault;
@@ -14,9 +14,7 @@ pub enum WorldFault {
     /// dropped; 1, the node, or the message's receiver, is down; 2, the node to be started is up; 5, its clock showed a later time; 7,
     /// the request names no group or index.
     Refused { why: u8 },
-    /// Such a request is not served yet. After this and all that follow the world is not used again.
-    Unbuilt,
-    /// A node that started 4,294,967,295 times was to start again.
+    /// A node that started 4,294,967,295 times was to start again. After this and what follows the world is not used again.
     Limit,
     /// An allocation was refused.
     NoMemory,
@@ -32,17 +30,20 @@ impl From<NoMemory> for WorldFault {
     }
 }
 
-/// The fault of a world where a node of it did not step; its rows did not fail.
+/// The fault of a world where a node of it did not step; its rows did not fail, and what it was given is of its cluster.
 pub(crate) fn fault_of(fault: StepFault) -> WorldFault
-    requires { of_store fault ≡ None }
+    requires rows { of_store fault ≡ None }
+    requires own { is_strange fault ≡ false }
     ensures { fault_of fault ≡ Some result }
 {
     match fault {
-        StepFault::Unbuilt | StepFault::Stranger | StepFault::Late => WorldFault::Unbuilt,
         StepFault::NoMemory => WorldFault::NoMemory,
-        StepFault::DiskFault | StepFault::Full { .. } | StepFault::BadRecord { .. } => {
-            unreachable!()
-        }
+        StepFault::Unserved
+        | StepFault::Stranger
+        | StepFault::Late
+        | StepFault::DiskFault
+        | StepFault::Full { .. }
+        | StepFault::BadRecord { .. } => { unreachable!() }
     }
 }
 

@@ -6,7 +6,7 @@ ghost use Rattle.mega_handler.specs.Named.{Meanings};
 ghost use Rattle.mega_schedule.specs.declared.world_event.WorldEvent.TheVariants as event;
 ghost use Rattle.mega_transcript.specs.declared.item.Item.{Item as OnTape};
 ghost use Rattle.mega_promises.specs.Runs.{Standing, after_event, by_fuse, refusal};
-ghost use Rattle.mega_world.specs.declared.fault.WorldFault.TheVariants.{Limit, Refused, Unbuilt};
+ghost use Rattle.mega_world.specs.declared.fault.WorldFault.TheVariants.{Limit, Refused};
 ghost use Rattle.mega_world.specs.declared.place.Place.{Place as PlaceValue};
 ghost use Rattle.mega_world.specs.Fusing.{SetsFuse, SetsFuseAt};
 ghost use Rattle.mega_world.specs.Members.{AreMembers};
@@ -63,7 +63,6 @@ impl World {
         ensures happens { OnOk result ((c : Cluster) (items : List OnTape) (now : Standing) → IsAt c self.old items now → refusal c now (event.Fuse node calls image device) ≡ None) }
         ensures refused { (why : ℕ) → result ≡ Err (Refused why) → (c : Cluster) (items : List OnTape) (now : Standing) → IsAt c self.old items now → refusal c now (event.Fuse node calls image device) ≡ Some why }
         ensures world { (why : ℕ) → result ≡ Err (Refused why) → self.new ≡ self.old }
-        ensures built { result ≢ Err Unbuilt }
         ensures limited { result ≢ Err Limit }
     {
         match refusal(self.places.as_slice(), node) {

@@ -22,6 +22,7 @@ mod opening;
 mod owing;
 mod place;
 mod places;
+mod remains;
 mod restarting;
 mod safety;
 mod showing;

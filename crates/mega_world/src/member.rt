@@ -1,12 +1,11 @@
 //! A node of a world that is up, over logs and rows in memory, with the fuse on its log.
-ghost use Rattle.std.specs.Prelude.{◌≡◌, ◌≢◌, ◌⊎◌, ◌+◌, ℕ, Err, Option, false};
-ghost use Rattle.mega_actions.specs.Built.{is_built};
+ghost use Rattle.std.specs.Prelude.{◌≡◌, ◌≢◌, ◌⊎◌, ◌+◌, ℕ, Err, Option};
 ghost use Rattle.mega_cluster.specs.declared.cluster.Cluster.{Cluster};
 ghost use Rattle.mega_leases.specs.Taking.{IsByStranger, IsLate};
 ghost use Rattle.mega_rules.specs.Operations.{Node as RuleNode};
 ghost use Rattle.mega_rules.specs.Steps.{Begin, Take, Tick};
 ghost use Rattle.mega_promises.specs.Runs.{Fuse, after_append, new_fuse};
-ghost use Rattle.mega_world.specs.declared.fault.WorldFault.TheVariants.{Limit, Refused, Unbuilt};
+ghost use Rattle.mega_world.specs.declared.fault.WorldFault.TheVariants.{Limit, Refused};
 ghost use Rattle.mega_world.specs.declared.not_made.NotMade.TheVariants.{Fault};
 ghost use Rattle.mega_world.specs.LogFuses.{HasRoom, IsFused, run_fuse};
 ghost use Rattle.mega_world.specs.Members.{IsMember, records_of};
@@ -53,7 +52,6 @@ impl Member {
     ) -> Result<Step, NotMade>
         requires known { IsSome (H.meant handlers.old) self.old (Take message.now) }
         ensures made { AtEachNode (H.meant handlers.old) self.old (Take message.now) (λ c h me ruled fuse. Outcome c h me ruled (Take message.now) fuse self.new result) }
-        ensures unbuilt { result ≡ Err (Fault Unbuilt) → (c : Cluster) (me : ℕ) (ruled : RuleNode) → IsMember c me self.old ruled → IsByStranger message.now.from message.now.body ⊎ IsLate c message.now.body }
         ensures handlers { H.meant handlers.new ≡ H.meant handlers.old }
         ensures served { (why : ℕ) → result ≢ Err (Fault (Refused why)) }
         ensures limited { result ≢ Err (Fault Limit) }
@@ -80,7 +78,6 @@ impl Member {
     ) -> Result<Step, NotMade>
         requires known { IsSome (H.meant handlers.old) self.old (Begin request text.now) }
         ensures made { AtEachNode (H.meant handlers.old) self.old (Begin request text.now) (λ c h me ruled fuse. Outcome c h me ruled (Begin request text.now) fuse self.new result) }
-        ensures unbuilt { result ≡ Err (Fault Unbuilt) → is_built request ≡ false }
         ensures handlers { H.meant handlers.new ≡ H.meant handlers.old }
         ensures served { (why : ℕ) → result ≢ Err (Fault (Refused why)) }
         ensures limited { result ≢ Err (Fault Limit) }
@@ -106,7 +103,6 @@ impl Member {
     ) -> Result<Step, NotMade>
         requires known { IsSome (H.meant handlers.old) self.old (Tick clock) }
         ensures made { AtEachNode (H.meant handlers.old) self.old (Tick clock) (λ c h me ruled fuse. Outcome c h me ruled (Tick clock) fuse self.new result) }
-        ensures built { result ≢ Err (Fault Unbuilt) }
         ensures handlers { H.meant handlers.new ≡ H.meant handlers.old }
         ensures served { (why : ℕ) → result ≢ Err (Fault (Refused why)) }
         ensures limited { result ≢ Err (Fault Limit) }

@@ -18,6 +18,7 @@ use crate::fault::WorldFault;
 use crate::mail::Mail;
 use crate::member::Member;
 use crate::place::Place;
+use crate::remains::Remains;
 use crate::safety::Safety;
 use crate::starting::Begun;
 use crate::world::World;
@@ -36,7 +37,7 @@ fn started(alloc: Global, cluster: &Cluster, me: u8) -> Result<Member, WorldFaul
 {
     let own = cluster.copy(alloc)?;
     let nothing = Fallen {
-        records: MemRecords::new(alloc),
+        remains: Remains::OnDisk(MemRecords::new(alloc)),
         fuse: None,
         owed: None,
     };

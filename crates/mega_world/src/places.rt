@@ -7,13 +7,16 @@ ghost use Rattle.mega_promises.specs.Runs.{is_kept, left_by};
 ghost use Rattle.mega_world.specs.declared.member.Member.{Member as MemberValue};
 ghost use Rattle.mega_world.specs.declared.place.Place.{Place as PlaceValue};
 ghost use Rattle.mega_world.specs.declared.place.Place.TheVariants.{Down, Up};
+ghost use Rattle.mega_world.specs.declared.remains.Remains.TheVariants.{OnDisk};
 ghost use Rattle.mega_world.specs.LogFuses.{run_fuse};
+ghost use Rattle.mega_world.specs.Kept.{remains_of};
 ghost use Rattle.mega_world.specs.Members.{is_up_at, member_in, member_of, records_of};
 
 use crate::fallen::Fallen;
 use crate::log_fuse::keeps_record;
 use crate::member::Member;
 use crate::place::Place;
+use crate::remains::Remains;
 use mega_disk::MemRecords;
 use mega_durable::Cut;
 use std::alloc::Global;
@@ -59,7 +62,7 @@ pub(crate) fn is_node(nodes: usize, node: u8) -> bool
 /// What stands in a place of no node.
 fn nobody(alloc: Global) -> Place {
     Place::Down(Fallen {
-        records: MemRecords::new(alloc),
+        remains: Remains::OnDisk(MemRecords::new(alloc)),
         fuse: None,
         owed: None,
     })
@@ -88,13 +91,13 @@ pub(crate) fn put_place(places: &mut Vec<Place>, me: u8, place: Place)
 
 /// What a node leaves that goes down.
 fn fallen(place: Place) -> Fallen
-    ensures { (member : MemberValue) → place ≡ Up member → result ≡ record { records = records_of member; fuse = member.fuse; owed = None } }
+    ensures { (member : MemberValue) → place ≡ Up member → result ≡ record { remains = remains_of member; fuse = member.fuse; owed = None } }
 {
     match place {
         Place::Up(member) => {
             let Member { up, fuse } = member;
             Fallen {
-                records: up.crash(),
+                remains: Remains::InMemory(up.crash()),
                 fuse,
                 owed: None,
             }
@@ -105,21 +108,21 @@ fn fallen(place: Place) -> Fallen
 
 /// What a node leaves whose step its log's fuse cut off: the fuse is burnt, and this is owed where it kept the step's record.
 fn cut_off(place: Place, cut: Cut) -> Fallen
-    ensures { (member : MemberValue) → place ≡ Up member → result ≡ record { records = records_of member; fuse = None; owed = if is_kept (left_by (run_fuse member.fuse)) then Some cut else None } }
+    ensures { (member : MemberValue) → place ≡ Up member → result ≡ record { remains = OnDisk (records_of member); fuse = None; owed = if is_kept (left_by (run_fuse member.fuse)) then Some cut else None } }
 {
     match place {
         Place::Up(member) => {
             let Member { up, fuse } = member;
-            let records = up.crash();
+            let remains = Remains::OnDisk(up.close());
             if keeps_record(fuse) {
                 return Fallen {
-                    records,
+                    remains,
                     fuse: None,
                     owed: Some(cut),
                 };
             }
             Fallen {
-                records,
+                remains,
                 fuse: None,
                 owed: None,
             }
@@ -132,7 +135,7 @@ fn cut_off(place: Place, cut: Cut) -> Fallen
 pub(crate) fn take_down(alloc: Global, places: &mut Vec<Place>, me: u8)
     requires least { 1 ≤ me }
     requires most { me ≤ length places.old.items }
-    ensures { (member : MemberValue) → slice_get places.old.items (me - 1) ≡ Some (Up member) → places.new.items ≡ set places.old.items (me - 1) (Down (record { records = records_of member; fuse = member.fuse; owed = None })) }
+    ensures { (member : MemberValue) → slice_get places.old.items (me - 1) ≡ Some (Up member) → places.new.items ≡ set places.old.items (me - 1) (Down (record { remains = remains_of member; fuse = member.fuse; owed = None })) }
 {
     let place = take_place(alloc, places, me);
     put_place(places, me, Place::Down(fallen(place)));
@@ -143,7 +146,7 @@ pub(crate) fn cut_down(alloc: Global, places: &mut Vec<Place>, me: u8, cut: Cut)
     requires least { 1 ≤ me }
     requires most { me ≤ length places.old.items }
     ensures { (member : MemberValue) → slice_get places.old.items (me - 1) ≡ Some (Up member) →
-        places.new.items ≡ set places.old.items (me - 1) (Down (record { records = records_of member; fuse = None; owed = if is_kept (left_by (run_fuse member.fuse)) then Some cut else None })) }
+        places.new.items ≡ set places.old.items (me - 1) (Down (record { remains = OnDisk (records_of member); fuse = None; owed = if is_kept (left_by (run_fuse member.fuse)) then Some cut else None })) }
 {
     let place = take_place(alloc, places, me);
     put_place(places, me, Place::Down(cut_off(place, cut)));

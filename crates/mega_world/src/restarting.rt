@@ -8,7 +8,7 @@ ghost use Rattle.mega_rules.specs.Members.{is_node};
 ghost use Rattle.mega_schedule.specs.declared.world_event.WorldEvent.TheVariants as event;
 ghost use Rattle.mega_transcript.specs.Lines.{HasLine};
 ghost use Rattle.mega_promises.specs.Runs.{Standing, after_event, by_fuse, refusal};
-ghost use Rattle.mega_world.specs.declared.fault.WorldFault.TheVariants.{Limit, Refused, Unbuilt};
+ghost use Rattle.mega_world.specs.declared.fault.WorldFault.TheVariants.{Limit, Refused};
 ghost use Rattle.mega_base.specs.Names.{IsU32};
 ghost use Rattle.mega_world.specs.declared.place.Place.{Place as PlaceValue};
 ghost use Rattle.mega_world.specs.Kept.{AreNodes, IsFallen};
@@ -16,7 +16,7 @@ ghost use Rattle.mega_world.specs.Members.{AreMembers, is_up_at};
 ghost use Rattle.mega_world.specs.Restarting.{AreStartable, OpensOr, Reopens};
 ghost use Rattle.mega_world.specs.Starting.{AtEachFallen, IsStartable};
 ghost use Rattle.mega_world.specs.Stands.{IsAt, IsDue, MayCome};
-ghost use Rattle.mega_world.specs.Unbuilt.{IsPastLast};
+ghost use Rattle.mega_world.specs.Last.{IsPastLast};
 
 use crate::fallen::Fallen;
 use crate::fault::WorldFault;
@@ -67,12 +67,11 @@ fn restarted(
     requires most { me ≤ length places.old.items }
     requires served { IsServed cluster }
     requires member { is_node cluster me ≡ true }
-    requires known { IsStartable fallen }
+    requires known { IsStartable cluster me fallen }
     ensures reopens { IfOk result (λ shown. (now : Standing) (was : List PlaceValue) → AreNodes cluster was now → me ≤ length was → ((place : PlaceValue) → set places.old.items (me - 1) place ≡ set was (me - 1) place) →
-        IsFallen fallen (now.starts me) (now.owed me) (now.node me).met (now.log_fuse me) → OpensOr cluster now me places.new.items shown) }
+        IsFallen cluster me fallen (now.starts me) (now.owed me) (now.node me).met (now.log_fuse me) → OpensOr cluster now me places.new.items shown) }
     ensures small { IfOk result (λ shown. IfSome shown (λ one. IsU32 one.start)) }
-    ensures limit { result ≡ Err Limit → AtEachFallen fallen (λ starts owed met fuse. starts ≡ 4294967295) }
-    ensures built { result ≢ Err Unbuilt }
+    ensures limit { result ≡ Err Limit → AtEachFallen cluster me fallen (λ starts owed met fuse. starts ≡ 4294967295) }
     ensures served { (why : ℕ) → result ≢ Err (Refused why) }
 {
     match fallen.start(alloc, cluster, me) {
@@ -111,7 +110,6 @@ fn start_at(
     ensures reopens { IfOk result (λ shown. Reopens cluster me places.old.items places.new.items shown) }
     ensures small { IfOk result (λ shown. IfSome shown (λ one. IsU32 one.start)) }
     ensures limit { result ≡ Err Limit → (now : Standing) → AreNodes cluster places.old.items now → now.starts me ≡ 4294967295 }
-    ensures built { result ≢ Err Unbuilt }
     ensures served { (why : ℕ) → result ≢ Err (Refused why) }
 {
     match take_place(alloc, places, me) {
@@ -139,7 +137,6 @@ impl World {
         ensures refused { (why : ℕ) → result ≡ Err (Refused why) → (c : ClusterValue) (now : Standing) → IsAt c self.old tape.old.items now → refusal c now (event.Start node) ≡ Some why }
         ensures world { (why : ℕ) → result ≡ Err (Refused why) → self.new ≡ self.old }
         ensures tape { (why : ℕ) → result ≡ Err (Refused why) → tape.new.items ≡ tape.old.items }
-        ensures built { result ≢ Err Unbuilt }
         ensures limit { result ≡ Err Limit → (c : ClusterValue) (now : Standing) → IsAt c self.old tape.old.items now → IsPastLast c now (event.Start node) }
     {
         match refusal(self.places.as_slice(), node) {
@@ -158,7 +155,6 @@ impl World {
             IsAt c self.new tape.new.items (after_event c h by_fuse now (event.Start node))) }
         ensures lines { OnOk result ((c : ClusterValue) (now : Standing) → IsAt c self.old tape.old.items now → All HasLine tape.old.items → All HasLine tape.new.items) }
         ensures served { (why : ℕ) → result ≢ Err (Refused why) }
-        ensures built { result ≢ Err Unbuilt }
         ensures limit { result ≡ Err Limit → (c : ClusterValue) (now : Standing) → IsAt c self.old tape.old.items now → now.starts node.0 ≡ 4294967295 }
     {
         let cluster = self.cluster.copy(alloc)?;

@@ -1,22 +1,25 @@
-//! A node starts over the records that it left.
-ghost use Rattle.std.specs.Prelude.{◌≡◌, ℕ, List, [], true, false, IfErr, IfOk, Err};
+//! A node starts over what it left.
+ghost use Rattle.std.specs.Prelude.{◌≡◌, ℕ, List, [], true, IfErr, IfOk, Err};
+ghost use Rattle.mega_cluster.specs.declared.cluster.Cluster.{Cluster as ClusterValue};
 ghost use Rattle.mega_core.specs.Served.{IsServed};
 ghost use Rattle.mega_disk.specs.MemDisk.{fuse_of, image_of};
 ghost use Rattle.mega_rules.specs.Members.{is_node};
 ghost use Rattle.mega_rules.specs.Met.{Met};
-ghost use Rattle.mega_voter.specs.Holding.{HoldsMet, Recalls};
+ghost use Rattle.mega_voter.specs.Holding.{HoldsMet};
 ghost use Rattle.mega_world.specs.declared.fallen.Fallen.{Fallen as FallenValue};
 ghost use Rattle.mega_world.specs.declared.starting.NotBegun.TheVariants.{Cut as CutOff, Limit};
+ghost use Rattle.mega_world.specs.Kept.{AreReady, IsReady, records_below};
 ghost use Rattle.mega_world.specs.Starting.{AtEachFallen, AtEachOpened, BeginsSo, FallsAgain, IsStartable};
 
 use crate::fallen::Fallen;
 use crate::log_fuse::{LogFuse, after_append};
 use crate::member::Member;
+use crate::remains::Remains;
 use mega_base::{Items, NoMemory};
 use mega_cluster::Cluster;
 use mega_core::Note;
 use mega_disk::MemRecords;
-use mega_durable::{Cut, NotStarted, Started, Up};
+use mega_durable::{Cut, Down, NotStarted, Started, Up};
 use mega_rows::VersionedRows;
 use mega_voter::Voter;
 use std::alloc::Global;
@@ -39,40 +42,54 @@ pub enum NotBegun {
     NoMemory,
 }
 
-/// The voter whose logs these records hold, which are opened anew.
-fn opened(alloc: Global, records: MemRecords) -> Result<Voter<MemRecords>, NoMemory>
-    ensures recalls { IfOk result (λ voter. (starts : ℕ) (met : List Met) → HoldsMet records.list.items starts met → Recalls voter.logs.kept starts met) }
-    ensures empty { IfOk result (λ voter. voter.logs.staged.items ≡ []) }
-    ensures ready { IfOk result (λ voter. voter.logs.records.spent ≡ false) }
-    ensures list { IfOk result (λ voter. voter.logs.records.list.items ≡ records.list.items) }
-    ensures fuse { IfOk result (λ voter. fuse_of voter.logs.records.fuse ≡ fuse_of records.fuse) }
-    ensures image { IfOk result (λ voter. image_of voter.logs.records.fuse ≡ image_of records.fuse) }
+/// The node over the logs that these records hold, which are opened anew, and rows that hold nothing.
+fn anew(alloc: Global, records: MemRecords) -> Result<Down<MemRecords, VersionedRows>, NoMemory>
+    ensures stands { IfOk result (λ down. (c : ClusterValue) (me starts : ℕ) (met : List Met) → HoldsMet records.list.items starts met → IsReady c me down starts met) }
+    ensures list { IfOk result (λ down. down.voter.logs.records.list.items ≡ records.list.items) }
+    ensures fuse { IfOk result (λ down. fuse_of down.voter.logs.records.fuse ≡ fuse_of records.fuse) }
+    ensures image { IfOk result (λ down. image_of down.voter.logs.records.fuse ≡ image_of records.fuse) }
 {
     let mut records = records;
     records.reopen()?;
     match Voter::open(alloc, records) {
-        Ok(voter) => Ok(voter),
+        Ok(voter) => Ok(Down::new(alloc, voter, VersionedRows::new(alloc))),
         Err(_refused) => Err(NoMemory),
     }
 }
 
-/// The node of this number of a cluster starts over logs that were opened anew.
+/// The node over what is left of it: as it stands in memory, or opened anew.
+fn opened(alloc: Global, remains: Remains) -> Result<Down<MemRecords, VersionedRows>, NoMemory>
+    ensures stands { IfOk result (λ down. (c : ClusterValue) (me starts : ℕ) (met : List Met) → HoldsMet (records_below remains).list.items starts met → AreReady c me remains starts met → IsReady c me down starts met) }
+    ensures list { IfOk result (λ down. down.voter.logs.records.list.items ≡ (records_below remains).list.items) }
+    ensures fuse { IfOk result (λ down. fuse_of down.voter.logs.records.fuse ≡ fuse_of (records_below remains).fuse) }
+    ensures image { IfOk result (λ down. image_of down.voter.logs.records.fuse ≡ image_of (records_below remains).fuse) }
+{
+    match remains {
+        Remains::InMemory(down) => Ok(down),
+        Remains::OnDisk(records) => match anew(alloc, records) {
+            Ok(down) => Ok(down),
+            Err(refused) => Err(refused),
+        },
+    }
+}
+
+/// The node of this number of a cluster starts over logs and rows in memory.
 fn started(
     alloc: Global,
     cluster: Cluster,
     me: u8,
-    voter: Voter<MemRecords>,
+    down: Down<MemRecords, VersionedRows>,
     fuse: Option<LogFuse>,
     owed: Option<Cut>,
 ) -> Result<Begun, NotBegun>
     requires served { IsServed cluster }
     requires member { is_node cluster me ≡ true }
-    requires flushed { voter.logs.staged.items ≡ [] }
-    ensures begun { IfOk result (λ begun. AtEachOpened voter fuse (λ starts owed_met met run. BeginsSo cluster me starts owed_met met run owed begun)) }
-    ensures cut { IfErr result (λ refused. (fallen : FallenValue) → refused ≡ CutOff fallen → AtEachOpened voter fuse (λ starts owed_met met run. FallsAgain starts owed_met met run owed fallen)) }
-    ensures limit { result ≡ Err Limit → AtEachOpened voter fuse (λ starts owed_met met run. starts ≡ 4294967295) }
+    requires flushed { down.voter.logs.staged.items ≡ [] }
+    ensures begun { IfOk result (λ begun. AtEachOpened cluster me down fuse (λ starts owed_met met run. BeginsSo cluster me starts owed_met met run owed begun)) }
+    ensures cut { IfErr result (λ refused. (fallen : FallenValue) → refused ≡ CutOff fallen → AtEachOpened cluster me down fuse (λ starts owed_met met run. FallsAgain starts owed_met met run owed fallen)) }
+    ensures limit { result ≡ Err Limit → AtEachOpened cluster me down fuse (λ starts owed_met met run. starts ≡ 4294967295) }
 {
-    match Up::start(alloc, cluster, me, voter, VersionedRows::new(alloc)) {
+    match Up::start(alloc, cluster, me, down) {
         Ok(Started { up, start, notes }) => Ok(Begun {
             member: Member {
                 up,
@@ -83,7 +100,7 @@ fn started(
             notes,
         }),
         Err(NotStarted::Cut { records }) => Err(NotBegun::Cut(Fallen {
-            records,
+            remains: Remains::OnDisk(records),
             fuse: None,
             owed,
         })),
@@ -103,18 +120,18 @@ impl Fallen {
     pub(crate) fn start(self, alloc: Global, cluster: Cluster, me: u8) -> Result<Begun, NotBegun>
         requires served { IsServed cluster }
         requires member { is_node cluster me ≡ true }
-        requires known { IsStartable self }
-        ensures begun { IfOk result (λ begun. AtEachFallen self (λ starts owed met fuse. BeginsSo cluster me starts owed met fuse self.owed begun)) }
-        ensures cut { IfErr result (λ refused. (fallen : FallenValue) → refused ≡ CutOff fallen → AtEachFallen self (λ starts owed met fuse. FallsAgain starts owed met fuse self.owed fallen)) }
-        ensures limit { result ≡ Err Limit → AtEachFallen self (λ starts owed met fuse. starts ≡ 4294967295) }
+        requires known { IsStartable cluster me self }
+        ensures begun { IfOk result (λ begun. AtEachFallen cluster me self (λ starts owed met fuse. BeginsSo cluster me starts owed met fuse self.owed begun)) }
+        ensures cut { IfErr result (λ refused. (fallen : FallenValue) → refused ≡ CutOff fallen → AtEachFallen cluster me self (λ starts owed met fuse. FallsAgain starts owed met fuse self.owed fallen)) }
+        ensures limit { result ≡ Err Limit → AtEachFallen cluster me self (λ starts owed met fuse. starts ≡ 4294967295) }
     {
         let Fallen {
-            records,
+            remains,
             fuse,
             owed,
         } = self;
-        match opened(alloc, records) {
-            Ok(voter) => match started(alloc, cluster, me, voter, fuse, owed) {
+        match opened(alloc, remains) {
+            Ok(down) => match started(alloc, cluster, me, down, fuse, owed) {
                 Ok(begun) => Ok(begun),
                 Err(refused) => Err(refused),
             },

@@ -3,13 +3,12 @@ ghost use Rattle.std.specs.Prelude.{◌≡◌, ◌≢◌, ◌⊎◌, ◌≤◌, 
 ghost use Rattle.mega_cluster.specs.declared.cluster.Cluster.{Cluster};
 ghost use Rattle.mega_handler.specs.Named.{Meanings};
 ghost use Rattle.mega_leases.specs.Taking.{IsByStranger, IsLate};
-ghost use Rattle.mega_actions.specs.Built.{is_built};
 ghost use Rattle.mega_rules.specs.Operations.{Node as RuleNode};
 ghost use Rattle.mega_rules.specs.Steps.{Begin, Event as RuleEvent, Take, Tick, op_of};
 ghost use Rattle.mega_rules.specs.Clock.{is_up};
 ghost use Rattle.mega_promises.specs.Runs.{Standing, setting};
 ghost use Rattle.mega_world.specs.declared.fault.WorldFault.{WorldFault as FaultValue};
-ghost use Rattle.mega_world.specs.declared.fault.WorldFault.TheVariants.{Limit, Refused, Unbuilt};
+ghost use Rattle.mega_world.specs.declared.fault.WorldFault.TheVariants.{Limit, Refused};
 ghost use Rattle.mega_world.specs.declared.member.Member.{Member as MemberValue};
 ghost use Rattle.mega_world.specs.declared.not_made.NotMade.TheVariants as not_made;
 ghost use Rattle.mega_world.specs.declared.place.Place.{Place as PlaceValue};
@@ -74,7 +73,6 @@ pub(crate) fn take_at<H: QueueHandlers>(
     requires up { is_up_at places.old.items message.now.to ≡ true }
     requires known { IsRunning (H.meant handlers.old) places.old.items message.now.to (Take message.now) }
     ensures made { IfOk result (λ one. AtEachRun (H.meant handlers.old) places.old.items message.now.to (Take message.now) (λ c h now. Comes c h now message.now.to (Take message.now) places.new.items one)) }
-    ensures unbuilt { result ≡ Err Unbuilt → (c : Cluster) (now : Standing) → AreNodes c places.old.items now → IsByStranger message.now.from message.now.body ⊎ IsLate c message.now.body }
     ensures handlers { H.meant handlers.new ≡ H.meant handlers.old }
     ensures served { (why : ℕ) → result ≢ Err (Refused why) }
     ensures limited { result ≢ Err Limit }
@@ -118,7 +116,6 @@ pub(crate) fn begin_at<H: QueueHandlers>(
     requires known { IsRunning (H.meant handlers.old) places.old.items me (Begin request text.now) }
     ensures id { IfOk result (λ begun. (c : Cluster) (h : Meanings) (now : Standing) → AreNodes c places.old.items now → begun.0 ≡ op_of (setting c h me) (now.node me).met) }
     ensures made { IfOk result (λ begun. AtEachRun (H.meant handlers.old) places.old.items me (Begin request text.now) (λ c h now. Comes c h now me (Begin request text.now) places.new.items begun.1)) }
-    ensures unbuilt { result ≡ Err Unbuilt → is_built request ≡ false }
     ensures handlers { H.meant handlers.new ≡ H.meant handlers.old }
     ensures served { (why : ℕ) → result ≢ Err (Refused why) }
     ensures limited { result ≢ Err Limit }
@@ -149,7 +146,6 @@ pub(crate) fn tick_at<H: QueueHandlers>(
     requires up { is_up_at places.old.items me ≡ true }
     requires known { IsRunning (H.meant handlers.old) places.old.items me (Tick clock) }
     ensures made { IfOk result (λ one. AtEachRun (H.meant handlers.old) places.old.items me (Tick clock) (λ c h now. Comes c h now me (Tick clock) places.new.items one)) }
-    ensures built { result ≢ Err Unbuilt }
     ensures handlers { H.meant handlers.new ≡ H.meant handlers.old }
     ensures served { (why : ℕ) → result ≢ Err (Refused why) }
     ensures limited { result ≢ Err Limit }

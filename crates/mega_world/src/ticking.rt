@@ -8,7 +8,7 @@ ghost use Rattle.mega_transcript.specs.Lines.{HasLine};
 ghost use Rattle.mega_rules.specs.Clock.{clock_of};
 ghost use Rattle.mega_rules.specs.Operations.{Node as RuleNode};
 ghost use Rattle.mega_promises.specs.Runs.{Standing, after_event, by_fuse, refusal};
-ghost use Rattle.mega_world.specs.declared.fault.WorldFault.TheVariants.{Limit, Refused, Unbuilt};
+ghost use Rattle.mega_world.specs.declared.fault.WorldFault.TheVariants.{Limit, Refused};
 ghost use Rattle.mega_world.specs.Formed.{IsSound};
 ghost use Rattle.mega_world.specs.Members.{AreMembers, is_up_at};
 ghost use Rattle.mega_world.specs.Stands.{IsAt, IsDue, MayCome};
@@ -72,7 +72,6 @@ impl World {
         ensures refused { (why : ℕ) → result ≡ Err (Refused why) → (c : Cluster) (now : Standing) → IsAt c self.old tape.old.items now → refusal c now (event.Tick node clock) ≡ Some why }
         ensures world { (why : ℕ) → result ≡ Err (Refused why) → self.new ≡ self.old }
         ensures tape { (why : ℕ) → result ≡ Err (Refused why) → tape.new.items ≡ tape.old.items }
-        ensures built { result ≢ Err Unbuilt }
         ensures limited { result ≢ Err Limit }
     {
         match refusal(self.places.as_slice(), node, clock) {
@@ -100,7 +99,6 @@ impl World {
             All HasLine tape.old.items → All HasLine tape.new.items) }
         ensures handlers { H.meant handlers.new ≡ H.meant handlers.old }
         ensures served { (why : ℕ) → result ≢ Err (Refused why) }
-        ensures built { result ≢ Err Unbuilt }
         ensures limited { result ≢ Err Limit }
     {
         let made = match tick_at(alloc, handlers, &mut self.places, node.0, clock) {

@@ -1,4 +1,4 @@
-use Rattle.std.proofs.Common.{◌≡◌, ◌∙◌, ℕ, ◌≤◌, Option, Some, sym, ap, subst, arith}
+use Rattle.std.proofs.Common.{◌≡◌, ◌∙◌, ℕ, ◌≤◌, sym, ap, subst, arith}
 use Rattle.std.specs.Option.{option_copied}
 use Rattle.mega_base.specs.declared.names.GroupId.{GroupId}
 use Rattle.mega_cluster.specs.declared.cluster.Cluster.{Cluster}
@@ -12,7 +12,7 @@ use Rattle.mega_voter.specs.Journal.{journal_of}
 use Rattle.mega_node_laws.specs.About.{IsOf}
 use Rattle.mega_node_laws.proofs.Logs.{log_is}
 use Rattle.mega_node_laws.proofs.Owned.{outcome_is}
-use Rattle.mega_actions.specs.Built.{mode_asked}
+use Rattle.mega_actions.specs.Servable.{mode_asked}
 use Rattle.mega_actions.specs.Showing.{looks_in, place_by}
 use Rattle.mega_actions.specs.Stands.{setting}
 use Rattle.mega_view.specs.Small.{IsSmall}

@@ -8,7 +8,7 @@ use Rattle.mega_actions.proofs.Standing.{sees_log, stands_seen}
 use Rattle.mega_actions.proofs.completing.goes.Goals as goal
 
 pub returns-clause-state : goal.returns-clause-state
-returns-clause-state g c me h leases now again told means of le clock r =
+returns-clause-state g c me h leases now again told of le clock r =
     let s = setting c.args.members.now me h in
     let kept = c.args.voter.now.logs.kept in
     let version = g.V.Versions.version in
@@ -21,7 +21,7 @@ returns-clause-state g c me h leases now again told means of le clock r =
     (coe 0 1 (i. Stands s kept leases (version c.finishes.new.rows) (progress_at rows.progress) (sym (does_met now deed) i) (sym (does_stored now deed) i)) after)
 
 pub returns-clause-work : goal.returns-clause-work
-returns-clause-work g c me h leases now again told means of le clock r is =
+returns-clause-work g c me h leases now again told of le clock r is =
     let rows = c.args.rows.now in
     let reached = c.args.reached in
     let sees = sees_log (setting c.args.members.now me h) c.args.voter.now.logs.kept leases (g.V.Versions.version rows.rows) (progress_at rows.progress) now reached.group reached.position r le in

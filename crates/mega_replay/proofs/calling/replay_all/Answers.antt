@@ -1,8 +1,8 @@
 use Rattle.std.proofs.Common.{◌≡◌, ℕ, List, ◌++◌, ◌∙◌, Err, ap, sym}
 use Rattle.std.specs.Io.KnownBytes.{Appends}
-use Rattle.mega_replay.specs.LastLines.{header_line, refused_line, schedule_line, unbuilt_line, limit_line}
-use Rattle.mega_replay.specs.Known.{InputBroken, InputNoEvent, InputRefused, InputUnbuilt, InputPastLast}
-use Rattle.mega_replay.proofs.Stopped.{header_by, refused_by, sink_by, source_by, status_known, unbuilt_by, limit_by}
+use Rattle.mega_replay.specs.LastLines.{header_line, refused_line, schedule_line, limit_line}
+use Rattle.mega_replay.specs.Known.{InputBroken, InputNoEvent, InputRefused, InputPastLast}
+use Rattle.mega_replay.proofs.Stopped.{header_by, refused_by, sink_by, source_by, status_known, limit_by}
 use Rattle.mega_replay.proofs.calling.replay_all.Goals as goal
 
 pub returns-in-Err-clause-header : goal.returns-in-Err-clause-header
@@ -15,11 +15,6 @@ returns-in-Err-clause-refused g c is =
     refused_by c.in-Err.stop (λ line reason. InputNoEvent c.args.report (g.I.Source.left c.args.input.now) line reason (λ text. Appends (g.O.Sink.held c.args.out.now) (g.O.Sink.held c.transcribe.new.out) (text ++ schedule_line line reason)))
     (λ line why. InputRefused c.args.report (g.I.Source.left c.args.input.now) line why (λ text. Appends (g.O.Sink.held c.args.out.now) (g.O.Sink.held c.transcribe.new.out) (text ++ refused_line line why)))
     (sym c.status.ensures ∙ is) (λ line reason stop. c.in-Err.ensures.none line reason (ap Err stop)) (λ line why stop. c.in-Err.ensures.refused line why (ap Err stop))
-
-pub returns-in-Err-clause-unbuilt : goal.returns-in-Err-clause-unbuilt
-returns-in-Err-clause-unbuilt g c is =
-    unbuilt_by c.in-Err.stop (λ line. InputUnbuilt c.args.report (g.I.Source.left c.args.input.now) line (λ text. Appends (g.O.Sink.held c.args.out.now) (g.O.Sink.held c.transcribe.new.out) (text ++ unbuilt_line line)))
-    (sym c.status.ensures ∙ is) (λ line stop. c.in-Err.ensures.unbuilt line (ap Err stop))
 
 pub returns-in-Err-clause-limit : goal.returns-in-Err-clause-limit
 returns-in-Err-clause-limit g c is =

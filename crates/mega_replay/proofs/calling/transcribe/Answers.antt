@@ -1,9 +1,9 @@
 use Rattle.std.proofs.Common.{◌≡◌, Err, ap, sym, subst, inl, inr}
 use Rattle.std.specs.Io.KnownBytes.{Appends}
 use Rattle.mega_replay.specs.declared.status.Stop.{Stop}
-use Rattle.mega_replay.specs.declared.status.Stop.TheVariants.{Header, Refused, Schedule, Source, Unbuilt, Limit}
+use Rattle.mega_replay.specs.declared.status.Stop.TheVariants.{Header, Refused, Schedule, Source, Limit}
 use Rattle.mega_replay.specs.LastLines.{last_line}
-use Rattle.mega_replay.proofs.Said.{broken_held, done_front, none_held, refused_held, unbuilt_held, limit_held}
+use Rattle.mega_replay.proofs.Said.{broken_held, done_front, none_held, refused_held, limit_held}
 use Rattle.mega_replay.proofs.Stopped.{held_or_rose, stop_front, told_stop}
 use Rattle.mega_replay.proofs.calling.transcribe.Goals as goal
 
@@ -29,12 +29,6 @@ returns-clause-refused g c at why is =
     let told = told_stop c.write_stop.result c.in-Err.stop (Refused at why) _ _ c.replay.new.waiting stop_is tt c.write_stop.ensures.told in
     refused_held c.args.report (g.I.Source.left c.args.input.now) (g.O.Sink.held c.args.out.now) (g.O.Sink.held c.replay.new.out) (g.O.Sink.held c.write_stop.new.out) c.replay.new.waiting at why (c.in-Err.ensures.refused at why (ap Err told.0)) told.1
 
-pub returns-clause-unbuilt : goal.returns-clause-unbuilt
-returns-clause-unbuilt g c at is =
-    let stop_is : c.write_stop.result ≡ Unbuilt at = cc in
-    let told = told_stop c.write_stop.result c.in-Err.stop (Unbuilt at) _ _ c.replay.new.waiting stop_is tt c.write_stop.ensures.told in
-    unbuilt_held c.args.report (g.I.Source.left c.args.input.now) (g.O.Sink.held c.args.out.now) (g.O.Sink.held c.replay.new.out) (g.O.Sink.held c.write_stop.new.out) c.replay.new.waiting at (c.in-Err.ensures.unbuilt at (ap Err told.0)) told.1
-
 pub returns-clause-limit : goal.returns-clause-limit
 returns-clause-limit g c at is =
     let stop_is : c.write_stop.result ≡ Limit at = cc in
@@ -52,4 +46,4 @@ pub returns-clause-cut : goal.returns-clause-cut
 returns-clause-cut g c =
     stop_front c.args.report c.in-Err.stop (g.I.Source.left c.args.input.now) (g.O.Sink.held c.args.out.now) (g.O.Sink.held c.replay.new.out) (g.O.Sink.held c.write_stop.new.out) c.replay.new.waiting
     (λ rule stop. c.in-Err.ensures.header rule (ap Err stop)) (λ at reason stop. c.in-Err.ensures.none at reason (ap Err stop)) (λ at why stop. c.in-Err.ensures.refused at why (ap Err stop))
-    (λ at stop. c.in-Err.ensures.unbuilt at (ap Err stop)) (λ at stop. c.in-Err.ensures.limit at (ap Err stop)) c.in-Err.ensures.cut c.write_stop.ensures.front
+    (λ at stop. c.in-Err.ensures.limit at (ap Err stop)) c.in-Err.ensures.cut c.write_stop.ensures.front

@@ -13,7 +13,7 @@ returns-in-Ok-clause-state c done events after =
     let line = c.args.line.now in
     let allowed = c.in-Ok.ensures.happens cluster (stood cluster events) after.here in
     went cluster number line events c.args.event c.apply.new.self c.apply.new.tape.items c.requires.spelled allowed
-    (c.in-Ok.ensures.state cluster built_in (stood cluster events) after.here (sound cluster done events number line c.args.event after.declared after.happen c.requires.spelled allowed (built_in_means _ c.new-handlers.ensures)))
+    (c.in-Ok.ensures.state cluster built_in (stood cluster events) after.here (sound cluster done events number line c.args.event after.starts after.happen c.requires.spelled allowed (built_in_means _ c.new-handlers.ensures)))
 
 pub returns-in-Ok-clause-lines : goal.returns-in-Ok-clause-lines
 returns-in-Ok-clause-lines c =
@@ -22,7 +22,7 @@ returns-in-Ok-clause-lines c =
     let events = c.requires.standing.1 in
     let after = c.requires.standing.2 in
     let allowed = c.in-Ok.ensures.happens cluster (stood cluster events) after.here in
-    c.in-Ok.ensures.lines cluster built_in (stood cluster events) after.here (sound cluster done events c.args.number c.args.line.now c.args.event after.declared after.happen c.requires.spelled allowed (built_in_means _ c.new-handlers.ensures)) c.requires.lines
+    c.in-Ok.ensures.lines cluster built_in (stood cluster events) after.here (sound cluster done events c.args.number c.args.line.now c.args.event after.starts after.happen c.requires.spelled allowed (built_in_means _ c.new-handlers.ensures)) c.requires.lines
 
 pub returns-in-Err-Refused-clause-refused : goal.returns-in-Err-Refused-clause-refused
 returns-in-Err-Refused-clause-refused c at why is done events after =
@@ -32,12 +32,6 @@ returns-in-Err-Refused-clause-refused c at why is done events after =
       cc,
       record { event = c.args.event; spelled = c.requires.spelled; refused = subst (λ (w : ℕ). refusal cluster (stood cluster events) c.args.event ≡ Some w) same refused },
     )
-
-pub returns-in-Err-Unbuilt-clause-unbuilt : goal.returns-in-Err-Unbuilt-clause-unbuilt
-returns-in-Err-Unbuilt-clause-unbuilt c at is done events after = (
-  cc,
-  record { event = c.args.event; spelled = c.requires.spelled; unserved = c.in-Err-Unbuilt.ensures.unbuilt (ap Err c.in-Err-Unbuilt.field-0-is) },
-)
 
 pub returns-in-Err-Limit-clause-limit : goal.returns-in-Err-Limit-clause-limit
 returns-in-Err-Limit-clause-limit c at is done events after =
@@ -57,15 +51,12 @@ apply-requires c =
         handlers = built_in;
         now = stood cluster events;
         at = after.here;
-        sound = λ allowed. sound cluster done events c.args.number c.args.line.now c.args.event after.declared after.happen c.requires.spelled allowed (built_in_means _ c.new-handlers.ensures);
+        sound = λ allowed. sound cluster done events c.args.number c.args.line.now c.args.event after.starts after.happen c.requires.spelled allowed (built_in_means _ c.new-handlers.ensures);
       };
     }
 
 pub returns-in-Ok-clause-refused : goal.returns-in-Ok-clause-refused
 returns-in-Ok-clause-refused c at why is done events after = let none : ⊥ = cc in absurd none
-
-pub returns-in-Ok-clause-unbuilt : goal.returns-in-Ok-clause-unbuilt
-returns-in-Ok-clause-unbuilt c at is done events after = let none : ⊥ = cc in absurd none
 
 pub returns-in-Ok-clause-limit : goal.returns-in-Ok-clause-limit
 returns-in-Ok-clause-limit c at is done events after = let none : ⊥ = cc in absurd none

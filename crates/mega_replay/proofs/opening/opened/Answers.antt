@@ -1,5 +1,5 @@
 use Rattle.mega_meanings.specs.BuiltIn.{built_in}
-use Rattle.mega_replay.proofs.Starts.{declared, small, starts}
+use Rattle.mega_replay.proofs.Starts.{small, starts}
 use Rattle.mega_replay.proofs.opening.opened.Goals as goal
 
 pub new-requires-clause-few : goal.new-requires-clause-few
@@ -24,4 +24,4 @@ pub new-requires-clause-small : goal.new-requires-clause-small
 new-requires-clause-small c = small c.args.cluster.now c.requires.read
 
 pub returns-in-Ok-clause-state : goal.returns-in-Ok-clause-state
-returns-in-Ok-clause-state c = record { declared = declared c.args.cluster.now c.requires.read; happen = tt; here = c.in-Ok.ensures.state built_in }
+returns-in-Ok-clause-state c = record { starts = starts c.args.cluster.now c.requires.read; happen = tt; here = c.in-Ok.ensures.state built_in }

@@ -1,7 +1,7 @@
 use Rattle.std.proofs.Common.{◌≡◌, ℕ, Ok, Err, ap, inl}
 use Rattle.mega_schedule.specs.Events.{event_of}
-use Rattle.mega_replay.specs.declared.status.Stop.TheVariants.{Refused, Schedule, Unbuilt, Limit}
-use Rattle.mega_replay.specs.Replaying.{IsRefused, IsUnbuilt, IsPastLast}
+use Rattle.mega_replay.specs.declared.status.Stop.TheVariants.{Refused, Schedule, Limit}
+use Rattle.mega_replay.specs.Replaying.{IsRefused, IsPastLast}
 use Rattle.mega_replay.specs.Running.{stood}
 use Rattle.mega_replay.proofs.Progress.{waits_front}
 use Rattle.mega_replay.proofs.Steps.{long_stops, stops_next}
@@ -23,12 +23,6 @@ returns-in-Err-take_line-clause-refused g c at why is done events after =
     let stop_is : c.in-Err-take_line.stop ≡ Refused at why = cc in
     let refused = c.in-Err-take_line.ensures.refused at why (ap Err stop_is) done events after in
     (refused.0, stops_next _ _ (λ line. IsRefused c.args.cluster.now c.args.number line (stood c.args.cluster.now events) why) _ (c.in-Ok-Line.ensures.line (ap Ok c.in-Ok-Line.field-0-is)) (rw c.as_slice.ensures at refused.1))
-
-pub returns-in-Err-take_line-clause-unbuilt : goal.returns-in-Err-take_line-clause-unbuilt
-returns-in-Err-take_line-clause-unbuilt g c at is done events after =
-    let stop_is : c.in-Err-take_line.stop ≡ Unbuilt at = cc in
-    let unbuilt = c.in-Err-take_line.ensures.unbuilt at (ap Err stop_is) done events after in
-    (unbuilt.0, stops_next _ _ (λ line. IsUnbuilt c.args.cluster.now c.args.number line (stood c.args.cluster.now events)) _ (c.in-Ok-Line.ensures.line (ap Ok c.in-Ok-Line.field-0-is)) (rw c.as_slice.ensures at unbuilt.1))
 
 pub returns-in-Err-take_line-clause-limit : goal.returns-in-Err-take_line-clause-limit
 returns-in-Err-take_line-clause-limit g c at is done events after =

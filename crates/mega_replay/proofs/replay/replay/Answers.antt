@@ -5,7 +5,7 @@ use Rattle.mega_replay.specs.declared.status.Stop.TheVariants.{Header, Source}
 use Rattle.mega_replay.specs.Progress.{Writes, WritesFront}
 use Rattle.mega_replay.specs.Known.{HeaderFails, IsBroken, IsHeaded}
 use Rattle.mega_replay.proofs.Progress.{all_lost, nothing_written}
-use Rattle.mega_replay.proofs.Whole.{input_begun, input_broken, input_done, input_failed, input_no_event, input_refused, input_unbegun, input_unbuilt, input_unfailed, input_limit}
+use Rattle.mega_replay.proofs.Whole.{input_begun, input_broken, input_done, input_failed, input_no_event, input_refused, input_unbegun, input_unfailed, input_limit}
 use Rattle.mega_replay.proofs.replay.replay.Goals as goal
 
 pub returns-in-Err-clause-cut : goal.returns-in-Err-clause-cut
@@ -34,13 +34,6 @@ returns-clause-refused g c at why is =
     let left = prepend_known c.read_header.new.reader (g.I.Source.left c.read_header.new.input) in
     input_refused c.args.report (g.I.Source.left c.args.input.now) left c.in-Ok-read_header.cluster at why (Writes (g.O.Sink.held c.args.out.now) (g.O.Sink.held c.run_schedule.new.out) c.run_schedule.new.waiting)
     (subst (λ known. IsHeaded known left c.in-Ok-read_header.cluster) fresh c.in-Ok-read_header.ensures.headed) (c.run_schedule.ensures.refused at why is)
-
-pub returns-clause-unbuilt : goal.returns-clause-unbuilt
-returns-clause-unbuilt g c at is =
-    let fresh = ap (λ read. prepend_known read (g.I.Source.left c.args.input.now)) c.in-Ok.ensures ∙ prepend_known-nil (g.I.Source.left c.args.input.now) in
-    let left = prepend_known c.read_header.new.reader (g.I.Source.left c.read_header.new.input) in
-    input_unbuilt c.args.report (g.I.Source.left c.args.input.now) left c.in-Ok-read_header.cluster at (Writes (g.O.Sink.held c.args.out.now) (g.O.Sink.held c.run_schedule.new.out) c.run_schedule.new.waiting)
-    (subst (λ known. IsHeaded known left c.in-Ok-read_header.cluster) fresh c.in-Ok-read_header.ensures.headed) (c.run_schedule.ensures.unbuilt at is)
 
 pub returns-clause-limit : goal.returns-clause-limit
 returns-clause-limit g c at is =

@@ -1,10 +1,10 @@
 use Rattle.std.proofs.Common.{◌≡◌, ℕ, ◌+◌, List, Option, Ok, Err, ap, arith, subst, sym}
 use Rattle.std.specs.Io.KnownBytes.{prepend_known}
 use Rattle.mega_schedule.specs.Events.{event_of}
-use Rattle.mega_replay.specs.declared.status.Stop.TheVariants.{Refused, Schedule, Source, Unbuilt, Limit}
+use Rattle.mega_replay.specs.declared.status.Stop.TheVariants.{Refused, Schedule, Source, Limit}
 use Rattle.mega_transcript.specs.declared.item.Item.{Item}
 use Rattle.mega_replay.specs.Progress.{Writes}
-use Rattle.mega_replay.specs.Replaying.{IsRefused, IsUnbuilt, IsPastLast}
+use Rattle.mega_replay.specs.Replaying.{IsRefused, IsPastLast}
 use Rattle.mega_replay.specs.Known.{LeftRanOut}
 use Rattle.mega_replay.specs.Texts.{so_far}
 use Rattle.mega_replay.proofs.Progress.{same_writes}
@@ -30,16 +30,6 @@ returns-in-Err-clause-refused g c at why is first before =
     let kept = unwritten c.in-Err.stop (Refused at why) _ stop_is tt c.in-Err.ensures.kept in
     let held = g.O.Sink.held c.do_line.new.out in
     stopped_at c.args.report c.args.cluster.now (prepend_known c.args.reader.now (g.I.Source.left c.args.input.now)) (prepend_known c.loop-count.reader (g.I.Source.left c.loop-count.input)) (λ number line now. IsRefused c.args.cluster.now number line now why) (Writes first held c.do_line.new.waiting) c.loop-count.world c.loop-count.tape.items c.loop-count.count at ran stops.0 stops.1
-    (same_writes first (g.O.Sink.held c.loop-count.out) held c.loop-count.waiting c.do_line.new.waiting (so_far c.args.report (c.args.cluster.now).schema c.loop-count.tape.items) kept.0 kept.1 (c.loop-count.invariant.4 first before))
-
-pub returns-in-Err-clause-unbuilt : goal.returns-in-Err-clause-unbuilt
-returns-in-Err-clause-unbuilt g c at is first before =
-    let stop_is : c.in-Err.stop ≡ Unbuilt at = cc in
-    let ran = c.loop-count.invariant.0 in
-    let stops = c.in-Err.ensures.unbuilt at (ap Err stop_is) ran.done ran.events ran.after in
-    let kept = unwritten c.in-Err.stop (Unbuilt at) _ stop_is tt c.in-Err.ensures.kept in
-    let held = g.O.Sink.held c.do_line.new.out in
-    stopped_at c.args.report c.args.cluster.now (prepend_known c.args.reader.now (g.I.Source.left c.args.input.now)) (prepend_known c.loop-count.reader (g.I.Source.left c.loop-count.input)) (λ number line now. IsUnbuilt c.args.cluster.now number line now) (Writes first held c.do_line.new.waiting) c.loop-count.world c.loop-count.tape.items c.loop-count.count at ran stops.0 stops.1
     (same_writes first (g.O.Sink.held c.loop-count.out) held c.loop-count.waiting c.do_line.new.waiting (so_far c.args.report (c.args.cluster.now).schema c.loop-count.tape.items) kept.0 kept.1 (c.loop-count.invariant.4 first before))
 
 pub returns-in-Err-clause-limit : goal.returns-in-Err-clause-limit

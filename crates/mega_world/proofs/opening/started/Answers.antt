@@ -4,6 +4,7 @@ use Rattle.mega_core.specs.Served.{IsServed}
 use Rattle.mega_rules.specs.Members.{is_node}
 use Rattle.mega_rules.specs.Steps.{start}
 use Rattle.mega_promises.specs.Runs.{setting}
+use Rattle.mega_world.specs.declared.remains.Remains.TheVariants.{OnDisk}
 use Rattle.mega_world.specs.Kept.{IsFallen}
 use Rattle.mega_world.specs.Members.{IsMember}
 use Rattle.mega_world.proofs.Anew.{nothing_held}
@@ -21,14 +22,15 @@ start-requires-clause-known c = record {
   owed = [];
   met = [];
   fuse = None;
-  is = record { follows = tt; holds = nothing_held c.new.result c.new.ensures.empty; owes = refl; fused = record { kept_is = refl; left = c.new.ensures.unset; image = tt; unburnt = tt } };
+  is = record { follows = tt; holds = nothing_held c.new.result c.new.ensures.empty; ready = tt; owes = refl; fused = record { kept_is = refl; left = c.new.ensures.unset; image = tt; unburnt = tt } };
 }
 
 pub returns-in-Ok-clause-node : goal.returns-in-Ok-clause-node
 returns-in-Ok-clause-node c h =
-    let is : IsFallen (record { records = c.new.result; fuse = None; owed = None }) 0 [] [] None = record {
+    let is : IsFallen c.in_ok-own.own c.args.me (record { remains = OnDisk c.new.result; fuse = None; owed = None }) 0 [] [] None = record {
       follows = tt;
       holds = nothing_held c.new.result c.new.ensures.empty;
+      ready = tt;
       owes = refl;
       fused = record { kept_is = refl; left = c.new.ensures.unset; image = tt; unburnt = tt };
     } in

@@ -1,7 +1,5 @@
 use Rattle.std.proofs.Common.{◌≡◌, ◌-◌, ◌∙◌, ap, refl, set, Err}
 use Rattle.mega_rules.specs.Steps.{Take}
-use Rattle.mega_world.specs.declared.fault.WorldFault.TheVariants.{Unbuilt}
-use Rattle.mega_world.specs.declared.not_made.NotMade.TheVariants.{Fault}
 use Rattle.mega_world.specs.declared.place.Place.TheVariants.{Up}
 use Rattle.mega_world.proofs.Joining.{not_down}
 use Rattle.mega_world.proofs.Outcomes.{stands_at}
@@ -17,7 +15,7 @@ take-made-requires g c =
     let at = ap (λ n. n - 1) c.from.ensures in
     let there = found places i me c.index_mut.result.now at c.requires.least c.requires.most c.index_mut.ensures.value in
     let stands = stands_at k.cluster places k.now me i c.index_mut.result.now c.in-Up.member k.nodes at c.requires.least there c.in-Up.is in
-    record { known = record { cluster = k.cluster; handlers = k.handlers; me = me; ruled = k.now.node me; is = stands.is; may = k.may } }
+    record { known = record { cluster = k.cluster; handlers = k.handlers; me = me; ruled = k.now.node me; is = stands.is; may = k.may; near = k.near } }
 
 pub returns-in-Ok-clause-made : goal.returns-in-Ok-clause-made
 returns-in-Ok-clause-made g c cluster h now all may =
@@ -39,14 +37,3 @@ unreachable-requires g c =
     let at = ap (λ n. n - 1) c.from.ensures in
     let there = found places i me c.index_mut.result.now at c.requires.least c.requires.most c.index_mut.ensures.value in
     not_down places me i c.index_mut.result.now c.in-Down.field-0 at c.requires.least there c.in-Down.is c.requires.up
-
-pub returns-in-Err-clause-unbuilt : goal.returns-in-Err-clause-unbuilt
-returns-in-Err-clause-unbuilt g c unbuilt cluster now all =
-    let me = c.args.message.now.to in
-    let places = c.args.places.now.items in
-    let i = c.from.result - 1 in
-    let at = ap (λ n. n - 1) c.from.ensures in
-    let there = found places i me c.index_mut.result.now at c.requires.least c.requires.most c.index_mut.ensures.value in
-    let stands = stands_at cluster places now me i c.index_mut.result.now c.in-Up.member all at c.requires.least there c.in-Up.is in
-    let same : c.in-Err.fault ≡ Unbuilt = cc in
-    c.take-made.ensures.unbuilt (c.in-Err.ensures.fault c.in-Err.fault refl ∙ ap (λ fault. Err (Fault fault)) same) cluster me (now.node me) stands.is

@@ -15,7 +15,7 @@ tick-made-requires g c =
     let at = ap (λ n. n - 1) c.from.ensures in
     let there = found places i me c.index_mut.result.now at c.requires.least c.requires.most c.index_mut.ensures.value in
     let stands = stands_at k.cluster places k.now me i c.index_mut.result.now c.in-Up.member k.nodes at c.requires.least there c.in-Up.is in
-    record { known = record { cluster = k.cluster; handlers = k.handlers; me = me; ruled = k.now.node me; is = stands.is; may = k.may } }
+    record { known = record { cluster = k.cluster; handlers = k.handlers; me = me; ruled = k.now.node me; is = stands.is; may = k.may; near = tt } }
 
 pub returns-in-Ok-clause-made : goal.returns-in-Ok-clause-made
 returns-in-Ok-clause-made g c cluster h now all may =

@@ -1,62 +1,51 @@
-use Rattle.std.proofs.Common.{◌≡◌, ◌∙◌, ap, subst, sym}
-use Rattle.mega_operations.specs.Phases.{phase_of, promised_of}
-use Rattle.mega_operations.specs.Whole.{whole}
-use Rattle.mega_rules.specs.Logs.{decided}
-use Rattle.mega_rules.specs.Operations.{Now, Proposes, Reads}
-use Rattle.mega_replica.specs.Following.{progress_at}
-use Rattle.mega_node_laws.specs.About.{IsAbout}
-use Rattle.mega_actions.specs.IsAt.{IsAt}
-use Rattle.mega_actions.specs.Stands.{Stands, setting}
-use Rattle.mega_actions.specs.Working.{work_of}
-use Rattle.mega_actions.proofs.Doing.{unless_met, unless_stored}
-use Rattle.mega_actions.proofs.Within.{later, proposes_then, reads_then}
+use Rattle.std.proofs.Common.{None, rules, subst, sym}
+use Rattle.mega_meanings.proofs.Lasting.{means_still}
+use Rattle.mega_replica.specs.Faring.{Fares}
+use Rattle.mega_replica.proofs.Fared.{fares_then}
+use Rattle.mega_voter.specs.declared.voter.Voter.{Voter}
+use Rattle.mega_voter.specs.Telling.{Tells}
+use Rattle.mega_actions.specs.Faults.{failed_by}
+use Rattle.mega_actions.specs.Stands.{setting}
+use Rattle.mega_actions.proofs.Turned.{once_stands, once_work, twice_stands, twice_work}
 use Rattle.mega_actions.proofs.replica.Replica.acts.Goals as goal
 
-pub returns-in_ok-reads_on-in-Reads-clause-state : goal.returns-in_ok-reads_on-in-Reads-clause-state
-returns-in_ok-reads_on-in-Reads-clause-state g c h now told means about r =
-    let self = c.args.self.now in
-    let s = setting self.members self.me h in
-    let kept = c.parts-kept.result.0 in
-    let group = c.in-Reads.group in
-    let reading = c.in-Reads.reading in
-    let whole_is : whole kept (Reads group reading) ≡ c.args.operation = ap (λ phase. whole kept (phase_of phase)) (sym c.in-Reads.is) ∙ c.parts-kept.ensures in
-    let of = subst IsAbout (sym whole_is) about in
-    let new = c.reads_on.new.self in
-    subst (λ (then : Now). IsAt g.V.Versions.version h new then.met then.stored) (reads_then s now c.args.operation kept group reading whole_is)
-    (c.in_ok-reads_on-in-Reads.ensures.state h now (later s now) told means of r)
+pub returns-in_ok-acts_again-in-Ok-Some-clause-state : goal.returns-in_ok-acts_again-in-Ok-Some-clause-state
+returns-in_ok-acts_again-in-Ok-Some-clause-state g c h now told means about at =
+    let before = c.args.self.now in
+    let mid = c.acts_once.new.self in
+    let first = (rw c.in-Ok-Some.field-0-is at c.in-Ok-Some.ensures.acted) h now told means about at in
+    let tells = subst (λ (voter : Voter _). Tells voter.logs.kept now.met) (sym c.acts_once.ensures.voter) at.tells in
+    twice_stands g.V.Versions.version h mid c.acts_again.new.self c.args.work.now c.acts_once.new.work c.acts_again.new.work (setting before.members before.me h) (setting mid.members mid.me h) now c.args.operation c.in-Ok-Some.next
+    (λ i. setting (c.acts_once.ensures.members i) (c.acts_once.ensures.me i) h) first
+    (c.in_ok-acts_again-in-Ok-Some.ensures.acted h first.after now told (means_still _ _ h c.acts_once.ensures.handlers means) first.about tells first.stands)
 
-pub returns-in_ok-reads_on-in-Reads-clause-work : goal.returns-in_ok-reads_on-in-Reads-clause-work
-returns-in_ok-reads_on-in-Reads-clause-work g c h now told means about r at =
-    let self = c.args.self.now in
-    let s = setting self.members self.me h in
-    let kept = c.parts-kept.result.0 in
-    let group = c.in-Reads.group in
-    let reading = c.in-Reads.reading in
-    let whole_is : whole kept (Reads group reading) ≡ c.args.operation = ap (λ phase. whole kept (phase_of phase)) (sym c.in-Reads.is) ∙ c.parts-kept.ensures in
-    let of = subst IsAbout (sym whole_is) about in
-    c.in_ok-reads_on-in-Reads.ensures.work h now (later s now) told means of r at ∙ ap work_of (reads_then s now c.args.operation kept group reading whole_is)
+pub returns-in_ok-acts_again-in-Ok-Some-clause-work : goal.returns-in_ok-acts_again-in-Ok-Some-clause-work
+returns-in_ok-acts_again-in-Ok-Some-clause-work g c h now told means about at =
+    let before = c.args.self.now in
+    let mid = c.acts_once.new.self in
+    let first = (rw c.in-Ok-Some.field-0-is at c.in-Ok-Some.ensures.acted) h now told means about at in
+    let tells = subst (λ (voter : Voter _). Tells voter.logs.kept now.met) (sym c.acts_once.ensures.voter) at.tells in
+    twice_work g.V.Versions.version h mid c.acts_again.new.self c.args.work.now c.acts_once.new.work c.acts_again.new.work (setting before.members before.me h) (setting mid.members mid.me h) now c.args.operation c.in-Ok-Some.next
+    (λ i. setting (c.acts_once.ensures.members i) (c.acts_once.ensures.me i) h) first
+    (c.in_ok-acts_again-in-Ok-Some.ensures.acted h first.after now told (means_still _ _ h c.acts_once.ensures.handlers means) first.about tells first.stands)
 
-pub returns-in_ok-checks-in-Proposes-clause-state : goal.returns-in_ok-checks-in-Proposes-clause-state
-returns-in_ok-checks-in-Proposes-clause-state g c h now told means about r =
-    let self = c.args.self.now in
-    let s = setting self.members self.me h in
-    let kept = c.parts-kept.result.0 in
-    let own = c.in-Proposes in
-    let promised = promised_of own.promised in
-    let o = whole kept (Proposes own.group own.position own.asked own.proposal promised) in
-    let whole_is : o ≡ c.args.operation = ap (λ phase. whole kept (phase_of phase)) (sym own.is) ∙ c.parts-kept.ensures in
-    let found = decided now.met own.group own.position in
-    let version = g.V.Versions.version self.rows.rows in
-    subst (λ (then : Now). Stands s self.voter.logs.kept self.leases version (progress_at self.rows.progress) then.met then.stored) (proposes_then s now c.args.operation kept own.group own.position own.asked own.proposal promised whole_is)
-    (coe 0 1 (i. Stands s self.voter.logs.kept self.leases version (progress_at self.rows.progress) (sym (unless_met now o own.position promised found) i) (sym (unless_stored now o own.position promised found) i)) r)
+pub returns-in_ok-acts_again-in-Ok-Some-clause-fares : goal.returns-in_ok-acts_again-in-Ok-Some-clause-fares
+returns-in_ok-acts_again-in-Ok-Some-clause-fares g c =
+    fares_then g.V.Versions None c.args.self.now.rows.rows c.acts_once.new.self.rows.rows c.acts_again.new.self.rows.rows c.in-Ok-Some.ensures.fares c.in_ok-acts_again-in-Ok-Some.ensures.fares
 
-pub returns-in_ok-checks-in-Proposes-clause-work : goal.returns-in_ok-checks-in-Proposes-clause-work
-returns-in_ok-checks-in-Proposes-clause-work g c h now told means about r at =
-    let self = c.args.self.now in
-    let s = setting self.members self.me h in
-    let kept = c.parts-kept.result.0 in
-    let own = c.in-Proposes in
-    let promised = promised_of own.promised in
-    let o = whole kept (Proposes own.group own.position own.asked own.proposal promised) in
-    let whole_is : o ≡ c.args.operation = ap (λ phase. whole kept (phase_of phase)) (sym own.is) ∙ c.parts-kept.ensures in
-    c.in_ok-checks-in-Proposes.ensures.work now r.tells at ∙ ap work_of (proposes_then s now c.args.operation kept own.group own.position own.asked own.proposal promised whole_is)
+pub returns-in_err-acts_again-in-Ok-Some-clause-fares : goal.returns-in_err-acts_again-in-Ok-Some-clause-fares
+returns-in_err-acts_again-in-Ok-Some-clause-fares g c =
+    let mid = c.acts_once.new.self.rows.rows in
+    let new = c.acts_again.new.self.rows.rows in
+    let rest : Fares g.V.Versions (failed_by c.from_residual.result) mid new = search rules in
+    fares_then g.V.Versions (failed_by c.from_residual.result) c.args.self.now.rows.rows mid new c.in-Ok-Some.ensures.fares rest
+
+pub returns-in-Ok-None-clause-state : goal.returns-in-Ok-None-clause-state
+returns-in-Ok-None-clause-state g c h now told means about at =
+    once_stands g.V.Versions.version h c.acts_once.new.self c.args.work.now c.acts_once.new.work (setting c.args.self.now.members c.args.self.now.me h) now c.args.operation
+    ((rw c.in-Ok-None.field-0-is at c.in-Ok-None.ensures.acted) h now told means about at)
+
+pub returns-in-Ok-None-clause-work : goal.returns-in-Ok-None-clause-work
+returns-in-Ok-None-clause-work g c h now told means about at =
+    once_work g.V.Versions.version h c.acts_once.new.self c.args.work.now c.acts_once.new.work (setting c.args.self.now.members c.args.self.now.me h) now c.args.operation
+    ((rw c.in-Ok-None.field-0-is at c.in-Ok-None.ensures.acted) h now told means about at)

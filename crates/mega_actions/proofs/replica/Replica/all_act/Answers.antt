@@ -9,7 +9,7 @@ use Rattle.mega_replica.proofs.Fared.{fares_then}
 use Rattle.mega_actions.specs.Faults.{failed_by}
 use Rattle.mega_actions.specs.IsAt.{IsAt}
 use Rattle.mega_actions.specs.Stands.{setting}
-use Rattle.mega_actions.specs.Turns.{IsBuiltHeard, IsHeardAbout}
+use Rattle.mega_actions.specs.Turns.{IsServableHeard, IsHeardAbout}
 use Rattle.mega_actions.specs.Working.{work_of}
 use Rattle.mega_actions.proofs.InTurn.{all_before, goes_next, of_last}
 use Rattle.mega_actions.proofs.replica.Replica.all_act.Goals as goal
@@ -37,7 +37,7 @@ loop-one-preserved g c =
       voter = c.in_ok-acts_in_turn.ensures.voter ∙ loop.invariant.voter;
       indexed = c.in_ok-acts_in_turn.ensures.indexed ∙ loop.invariant.indexed;
       fares = fares_then g.V.Versions None before.rows.rows loop.self.rows.rows new.rows.rows loop.invariant.fares c.in_ok-acts_in_turn.ensures.fares;
-      built = λ all. All-rest IsBuiltHeard one (into_iter_items c.next.new.self) (into_iter_items loop.one-iterator) c.in-Some.ensures.steps.0 (loop.invariant.built all);
+      built = λ all. All-rest IsServableHeard one (into_iter_items c.next.new.self) (into_iter_items loop.one-iterator) c.in-Some.ensures.steps.0 (loop.invariant.built all);
     }
 
 pub returns-in_err-acts_in_turn-clause-fares : goal.returns-in_err-acts_in_turn-clause-fares

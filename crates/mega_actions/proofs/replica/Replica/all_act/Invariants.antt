@@ -7,7 +7,7 @@ use Rattle.mega_rules.specs.Operations.{Now}
 use Rattle.mega_rules.specs.Steps.{acts_in_turn}
 use Rattle.mega_replica.specs.Faring.{Fares}
 use Rattle.mega_actions.specs.IsAt.{IsAt, setting_of}
-use Rattle.mega_actions.specs.Turns.{IsBuiltHeard, IsHeardAbout}
+use Rattle.mega_actions.specs.Turns.{IsServableHeard, IsHeardAbout}
 use Rattle.mega_actions.specs.Working.{work_of}
 use Rattle.mega_actions.proofs.replica.Replica.all_act.Given as goal
 
@@ -26,5 +26,5 @@ invariant-loop-one g l = record {
   voter : l.self.voter ≡ l.initial.self.voter;
   indexed : l.self.indexed ≡ l.initial.self.indexed;
   fares : Fares g.V.Versions None l.initial.self.rows.rows l.self.rows.rows;
-  built : All IsBuiltHeard l.fn.heard → All IsBuiltHeard (into_iter_items l.one-iterator);
+  built : All IsServableHeard l.fn.heard → All IsServableHeard (into_iter_items l.one-iterator);
 }

@@ -10,7 +10,7 @@ use Rattle.mega_replica.proofs.Fared.{fares_then}
 use Rattle.mega_actions.specs.Faults.{failed_by}
 use Rattle.mega_actions.specs.IsAt.{IsAt}
 use Rattle.mega_actions.specs.Stands.{setting}
-use Rattle.mega_actions.specs.Turns.{IsBuilt}
+use Rattle.mega_actions.specs.Turns.{IsServable}
 use Rattle.mega_actions.specs.Working.{work_of}
 use Rattle.mega_actions.proofs.InTurn.{all_before, goes_next, of_last}
 use Rattle.mega_actions.proofs.replica.Replica.all_ticked.Goals as goal
@@ -38,7 +38,7 @@ loop-operation-preserved g c =
       voter = c.in_ok-ticked.ensures.voter ∙ loop.invariant.voter;
       indexed = c.in_ok-ticked.ensures.indexed ∙ loop.invariant.indexed;
       fares = fares_then g.V.Versions None before.rows.rows loop.self.rows.rows new.rows.rows loop.invariant.fares c.in_ok-ticked.ensures.fares;
-      built = λ all. All-rest IsBuilt one (into_iter_items c.next.new.self) (into_iter_items loop.operation-iterator) c.in-Some.ensures.steps.0 (loop.invariant.built all);
+      built = λ all. All-rest IsServable one (into_iter_items c.next.new.self) (into_iter_items loop.operation-iterator) c.in-Some.ensures.steps.0 (loop.invariant.built all);
     }
 
 pub returns-in_err-ticked-clause-fares : goal.returns-in_err-ticked-clause-fares

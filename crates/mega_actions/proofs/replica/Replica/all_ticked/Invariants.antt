@@ -8,7 +8,7 @@ use Rattle.mega_rules.specs.Operations.{Now}
 use Rattle.mega_rules.specs.Steps.{ticked}
 use Rattle.mega_replica.specs.Faring.{Fares}
 use Rattle.mega_actions.specs.IsAt.{IsAt, setting_of}
-use Rattle.mega_actions.specs.Turns.{IsBuilt}
+use Rattle.mega_actions.specs.Turns.{IsServable}
 use Rattle.mega_actions.specs.Working.{work_of}
 use Rattle.mega_actions.proofs.replica.Replica.all_ticked.Given as goal
 
@@ -27,5 +27,5 @@ invariant-loop-operation g l = record {
   voter : l.self.voter ≡ l.initial.self.voter;
   indexed : l.self.indexed ≡ l.initial.self.indexed;
   fares : Fares g.V.Versions None l.initial.self.rows.rows l.self.rows.rows;
-  built : All IsBuilt l.fn.operations → All IsBuilt (into_iter_items l.operation-iterator);
+  built : All IsServable l.fn.operations → All IsServable (into_iter_items l.operation-iterator);
 }

@@ -3,65 +3,66 @@ use Rattle.std.specs.Prelude.{nat_le}
 use Rattle.mega_operations.specs.Whole.{whole}
 use Rattle.mega_read.specs.Catching.{seeks}
 use Rattle.mega_rules.specs.Clock.{clock_of}
-use Rattle.mega_rules.specs.Operations.{Now, Reads}
-use Rattle.mega_rules.specs.Acting.{reader_of, seeks_on}
-use Rattle.mega_replica.specs.Following.{progress_at}
-use Rattle.mega_actions.specs.IsAt.{IsAt}
-use Rattle.mega_actions.specs.Stands.{Stands, setting}
+use Rattle.mega_rules.specs.Logs.{prefix_of}
+use Rattle.mega_rules.specs.Operations.{Operation, Reads}
+use Rattle.mega_rules.specs.Acting.{keeps, reader_of, seeks_on}
+use Rattle.mega_actions.specs.Stands.{setting}
 use Rattle.mega_actions.specs.Working.{work_of}
-use Rattle.mega_actions.proofs.Onward.{reaches, seeks_least}
+use Rattle.mega_actions.proofs.Onward.{polls, reaches, seeks_least}
 use Rattle.mega_actions.proofs.replica.Replica.reads_on.Goals as goal
 
-pub returns-then-is_reached-clause-state : goal.returns-then-is_reached-clause-state
-returns-then-is_reached-clause-state g c h now again told means of r =
-    let self = c.args.self.now in
-    let s = setting self.members self.me h in
-    let kept = c.args.kept in
+pub returns-in_default-clause-acted : goal.returns-in_default-clause-acted
+returns-in_default-clause-acted g c h now told means of at =
+    let before = c.args.self.now in
+    let s = setting before.members before.me h in
+    let group = c.args.group in
+    let reading = c.args.reading in
+    let o = whole c.args.kept (Reads group reading) in
+    record {
+      after = keeps now o;
+      stands = at;
+      work = λ was. c.in_ok-does.ensures now was ∙ ap (λ (one : Operation). work_of (keeps now one)) c.in_phase-operation.ensures;
+      about = tt;
+      rule_is = λ again. polls s again now o group reading (sym c.through_of.ensures ∙ c.in_default.is);
+    }
+
+pub returns-then-is_reached-clause-acted : goal.returns-then-is_reached-clause-acted
+returns-then-is_reached-clause-acted g c h now told means of at =
+    let before = c.args.self.now in
+    let s = setting before.members before.me h in
     let group = c.args.group in
     let reading = c.args.reading in
     let through = c.in-Some.through in
-    let prefix = c.prefix-prefix.ensures now.met r.tells in
-    let is = reaches s again now (whole kept (Reads group reading)) group reading through (sym c.through_of.ensures ∙ c.in-Some.is) (sym (ap (nat_le through) prefix) ∙ sym c.is_reached.ensures.exact ∙ c.if-is_reached.true) in
+    let prefix = c.prefix-prefix.ensures now.met at.tells in
     let le = subst (λ q. through ≤ q) prefix (c.is_reached.ensures.within c.if-is_reached.true) in
-    let new = c.completes.new.self in
-    subst (λ (then : Now). IsAt g.V.Versions.version h new then.met then.stored) (sym is) (c.in_ok-completes.ensures.state h now again told means of le r)
+    let inner = c.in_ok-next.ensures.acted h now told means of le at in
+    record {
+      after = inner.after;
+      stands = inner.stands;
+      work = inner.work;
+      about = inner.about;
+      rule_is = λ again.
+          reaches s again now (whole c.args.kept (Reads group reading)) group reading through (sym c.through_of.ensures ∙ c.in-Some.is) (sym (ap (nat_le through) prefix) ∙ sym c.is_reached.ensures.exact ∙ c.if-is_reached.true)
+          ∙ inner.rule_is again;
+    }
 
-pub returns-then-is_reached-clause-work : goal.returns-then-is_reached-clause-work
-returns-then-is_reached-clause-work g c h now again told means of r at =
-    let self = c.args.self.now in
-    let s = setting self.members self.me h in
-    let kept = c.args.kept in
-    let group = c.args.group in
-    let reading = c.args.reading in
-    let through = c.in-Some.through in
-    let prefix = c.prefix-prefix.ensures now.met r.tells in
-    let is = reaches s again now (whole kept (Reads group reading)) group reading through (sym c.through_of.ensures ∙ c.in-Some.is) (sym (ap (nat_le through) prefix) ∙ sym c.is_reached.ensures.exact ∙ c.if-is_reached.true) in
-    let le = subst (λ q. through ≤ q) prefix (c.is_reached.ensures.within c.if-is_reached.true) in
-    c.in_ok-completes.ensures.work h now again told means of le r at ∙ ap work_of (sym is)
-
-pub returns-clause-state : goal.returns-clause-state
-returns-clause-state g c h now again told means of r =
-    let self = c.args.self.now in
-    let s = setting self.members self.me h in
-    let kept = c.args.kept in
-    let group = c.args.group in
-    let reading = c.args.reading in
-    let through = c.in-Some.through in
-    let prefix = c.prefix-prefix.ensures now.met r.tells in
-    let is = seeks_least s again now (whole kept (Reads group reading)) group reading through (sym c.through_of.ensures ∙ c.in-Some.is) (sym (ap (nat_le through) prefix) ∙ sym c.is_reached.ensures.exact ∙ c.if-is_reached.false) in
-    subst (λ (then : Now). Stands s self.voter.logs.kept self.leases (g.V.Versions.version self.rows.rows) (progress_at self.rows.progress) then.met then.stored) (sym is) r
-
-pub returns-clause-work : goal.returns-clause-work
-returns-clause-work g c h now again told means of r at =
-    let self = c.args.self.now in
-    let s = setting self.members self.me h in
+pub returns-clause-acted : goal.returns-clause-acted
+returns-clause-acted g c h now told means of at =
+    let before = c.args.self.now in
+    let s = setting before.members before.me h in
     let kept = c.args.kept in
     let group = c.args.group in
     let reading = c.args.reading in
     let through = c.in-Some.through in
     let o = whole kept (Reads group reading) in
-    let prefix = c.prefix-prefix.ensures now.met r.tells in
-    let is = seeks_least s again now o group reading through (sym c.through_of.ensures ∙ c.in-Some.is) (sym (ap (nat_le through) prefix) ∙ sym c.is_reached.ensures.exact ∙ c.if-is_reached.false) in
-    let clock = c.now-clock.ensures self.members self.me now.met r.leased in
-    c.in_ok-does-2.ensures now at
-    ∙ ap work_of (c.in_ok-deed.ensures self.me h now clock ∙ ap (λ q. seeks_on o now group (seeks (reader_of s kept.id group) reading (q + 1) (clock_of now.met))) prefix ∙ sym is)
+    let prefix = c.prefix-prefix.ensures now.met at.tells in
+    let clock = c.now-clock.ensures before.members before.me now.met at.leased in
+    record {
+      after = seeks_on o now group (seeks (reader_of s kept.id group) reading (prefix_of now.met group + 1) (clock_of now.met));
+      stands = at;
+      work = λ was.
+          c.in_ok-does-2.ensures now was
+          ∙ ap work_of (c.in_ok-deed.ensures before.me h now clock ∙ ap (λ q. seeks_on o now group (seeks (reader_of s kept.id group) reading (q + 1) (clock_of now.met))) prefix);
+      about = tt;
+      rule_is = λ again. seeks_least s again now o group reading through (sym c.through_of.ensures ∙ c.in-Some.is) (sym (ap (nat_le through) prefix) ∙ sym c.is_reached.ensures.exact ∙ c.if-is_reached.false);
+    }

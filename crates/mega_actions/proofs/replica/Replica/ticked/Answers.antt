@@ -4,7 +4,7 @@ use Rattle.mega_rules.specs.Acting.{ends}
 use Rattle.mega_rules.specs.Steps.{Heard, acts_in_turn}
 use Rattle.mega_node_laws.proofs.Lasting.{does_due_about}
 use Rattle.mega_replica.specs.Following.{progress_at}
-use Rattle.mega_actions.specs.Built.{is_open}
+use Rattle.mega_actions.specs.Servable.{is_open}
 use Rattle.mega_actions.specs.IsAt.{IsAt}
 use Rattle.mega_actions.specs.Stands.{Stands, setting}
 use Rattle.mega_actions.specs.Turns.{IsHeardAbout}
@@ -26,11 +26,11 @@ returns-then-is_out-clause-work g c h now told means about stands same =
     ∙ (λ i. work_of (ends now (c.operation.view_is i).id (c.last_answer-answer.ensures i)))
     ∙ sym (ap work_of (ticked_out s c.args.clock now c.args.operation (sym (c.is_out.ensures s refl) ∙ c.if-is_out.true)))
 
-pub returns-in_err-acts_in_turn-clause-unbuilt : goal.returns-in_err-acts_in_turn-clause-unbuilt
-returns-in_err-acts_in_turn-clause-unbuilt g c is =
+pub returns-in_err-acts_in_turn-clause-unserved : goal.returns-in_err-acts_in_turn-clause-unserved
+returns-in_err-acts_in_turn-clause-unserved g c is =
     let s = setting c.args.self.now.members c.args.self.now.me [] in
-    let built : is_open c.in_ok-heard.heard.operation.request ≡ false = search rules in
-    ap is_open (sym (ap (λ (t : Heard). t.operation.request) (c.in_ok-heard.ensures s refl) ∙ due_request s c.args.clock c.args.operation)) ∙ built
+    let none : is_open c.in_ok-heard.heard.operation.request ≡ false = search rules in
+    ap is_open (sym (ap (λ (t : Heard). t.operation.request) (c.in_ok-heard.ensures s refl) ∙ due_request s c.args.clock c.args.operation)) ∙ none
 
 pub returns-clause-state : goal.returns-clause-state
 returns-clause-state g c h now told means about stands =

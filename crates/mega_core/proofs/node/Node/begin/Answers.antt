@@ -11,7 +11,7 @@ use Rattle.mega_core.specs.Notes.{met_of}
 use Rattle.mega_core.specs.Positions.{before_at}
 use Rattle.mega_core.specs.Represents.{Represents}
 use Rattle.mega_core.specs.Staging.{Stages}
-use Rattle.mega_core.specs.Touching.{asked_groups}
+use Rattle.mega_core.specs.Touching.{begun_groups}
 use Rattle.mega_core.proofs.Begun.{begin_is, begin_may, represents_keeps}
 use Rattle.mega_core.proofs.Staged.{silent_staged}
 use Rattle.mega_core.proofs.Untouched.{begin_noted}
@@ -30,8 +30,8 @@ returns-clause-notes g c = λ told h node means represents owned.
     let is = begin_is s node request text t c.new.result c.new-2.result t_is c.new.ensures c.new-2.ensures in
     let keeps = represents_keeps s old.voter.logs.kept old.leases (g.V.Versions.version old.rows.rows) (progress_at old.rows.progress) c.args.self.now.open c.args.self.now.begun node represents in
     let acted = c.in_ok-work.ensures.acted told h node text means represents owned in
-    let groups = asked_groups request in
-    let before = c.in_ok-before.ensures node.met node.stored keeps ∙ ap (λ (some : List GroupId). cond (has_rows old.members old.me) (map (before_at node.met node.stored) some) []) c.in_ok-groups.ensures in
+    let groups = begun_groups node.met request in
+    let before = c.in_ok-before.ensures node.met node.stored keeps ∙ ap (λ (some : List GroupId). cond (has_rows old.members old.me) (map (before_at node.met node.stored) some) []) (c.in_ok-groups.ensures node.met represents.tells) in
     let noted = watched_noted s t node groups c.in_ok-before.before (has_begun s node request text) t_is before (begin_noted s node request text (map (before_at node.met node.stored) groups) (c.in_ok-work.ensures.built h node represents) acted.acted refl) in
     let first : map met_of c.new-none.result ≡ [] = ap (λ (notes : List Note). map met_of notes) c.new-none.ensures in
     let made = c.in_ok-step.ensures.made h node (Begins (op_of s node.met) text) [] [] (has_begun s node request text) noted acted first (begin_may s node request text _ is) in
@@ -49,8 +49,8 @@ returns-clause-sends g c = λ told h node means represents owned.
     let is = begin_is s node request text t c.new.result c.new-2.result t_is c.new.ensures c.new-2.ensures in
     let keeps = represents_keeps s old.voter.logs.kept old.leases (g.V.Versions.version old.rows.rows) (progress_at old.rows.progress) c.args.self.now.open c.args.self.now.begun node represents in
     let acted = c.in_ok-work.ensures.acted told h node text means represents owned in
-    let groups = asked_groups request in
-    let before = c.in_ok-before.ensures node.met node.stored keeps ∙ ap (λ (some : List GroupId). cond (has_rows old.members old.me) (map (before_at node.met node.stored) some) []) c.in_ok-groups.ensures in
+    let groups = begun_groups node.met request in
+    let before = c.in_ok-before.ensures node.met node.stored keeps ∙ ap (λ (some : List GroupId). cond (has_rows old.members old.me) (map (before_at node.met node.stored) some) []) (c.in_ok-groups.ensures node.met represents.tells) in
     let noted = watched_noted s t node groups c.in_ok-before.before (has_begun s node request text) t_is before (begin_noted s node request text (map (before_at node.met node.stored) groups) (c.in_ok-work.ensures.built h node represents) acted.acted refl) in
     let first : map met_of c.new-none.result ≡ [] = ap (λ (notes : List Note). map met_of notes) c.new-none.ensures in
     let made = c.in_ok-step.ensures.made h node (Begins (op_of s node.met) text) [] [] (has_begun s node request text) noted acted first (begin_may s node request text _ is) in
@@ -68,8 +68,8 @@ returns-clause-state g c = λ told h node means represents owned.
     let is = begin_is s node request text t c.new.result c.new-2.result t_is c.new.ensures c.new-2.ensures in
     let keeps = represents_keeps s old.voter.logs.kept old.leases (g.V.Versions.version old.rows.rows) (progress_at old.rows.progress) c.args.self.now.open c.args.self.now.begun node represents in
     let acted = c.in_ok-work.ensures.acted told h node text means represents owned in
-    let groups = asked_groups request in
-    let before = c.in_ok-before.ensures node.met node.stored keeps ∙ ap (λ (some : List GroupId). cond (has_rows old.members old.me) (map (before_at node.met node.stored) some) []) c.in_ok-groups.ensures in
+    let groups = begun_groups node.met request in
+    let before = c.in_ok-before.ensures node.met node.stored keeps ∙ ap (λ (some : List GroupId). cond (has_rows old.members old.me) (map (before_at node.met node.stored) some) []) (c.in_ok-groups.ensures node.met represents.tells) in
     let noted = watched_noted s t node groups c.in_ok-before.before (has_begun s node request text) t_is before (begin_noted s node request text (map (before_at node.met node.stored) groups) (c.in_ok-work.ensures.built h node represents) acted.acted refl) in
     let first : map met_of c.new-none.result ≡ [] = ap (λ (notes : List Note). map met_of notes) c.new-none.ensures in
     let made = c.in_ok-step.ensures.made h node (Begins (op_of s node.met) text) [] [] (has_begun s node request text) noted acted first (begin_may s node request text _ is) in

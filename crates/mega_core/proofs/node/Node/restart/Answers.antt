@@ -8,13 +8,13 @@ use Rattle.mega_replica.specs.Following.{Follows, progress_at}
 use Rattle.mega_voter.specs.Telling.{Tells}
 use Rattle.mega_actions.specs.Stands.{setting}
 use Rattle.mega_core.specs.Represents.{Represents}
-use Rattle.mega_core.specs.Restarting.{applied_at_start}
-use Rattle.mega_core.proofs.Anew.{restarted}
+use Rattle.mega_core.specs.Restarting.{HaveFollowed, applied_at_start}
+use Rattle.mega_core.proofs.Anew.{followed_on, restarted}
 use Rattle.mega_core.proofs.Unshown.{started_marks}
 use Rattle.mega_core.proofs.node.Node.restart.Goals as goal
 
 pub returns-clause-state : goal.returns-clause-state
-returns-clause-state g c = λ h starts met owed are recalls none.
+returns-clause-state g c = λ h starts met owed are recalls have.
     let cluster = c.args.cluster in
     let me = c.args.me in
     let kept = c.begins.new.voter.logs.kept in
@@ -28,8 +28,11 @@ returns-clause-state g c = λ h starts met owed are recalls none.
     let few : starts < 4294967295 = subst (λ n. n < 4294967295) recalls.counted c.in_ok-start.ensures.few in
     let leased = coe 0 1 (i. TellsLeases ((c.cluster.ensures ∙ members_is) i) me leases (onto owed (Starts (number i) ∷ met)))
     (c.leases-leases.ensures met owed are (subst (λ n. Tells kept (onto owed (Starts n ∷ met))) (sym number) tells)) in
+    let rows = c.args.rows in
+    let here = followed_on cluster me (g.V.Versions.version rows.rows) (progress_at rows.progress) c.args.voter.logs.kept starts met owed are few recalls have in
+    let there = subst (λ (k : Cluster). HaveFollowed k me (g.V.Versions.version rows.rows) (progress_at rows.progress) now) (sym (c.cluster-2.ensures ∙ members_is)) here in
     let follows = coe 0 1 (i. Follows version progress (log_of now) (applied_at_start (setting ((c.cluster-2.ensures ∙ members_is) i) me h) now))
-    (c.in_ok-notes.ensures.follows h now tells (c.new-rows.ensures.follows (log_of now) none)) in
+    (c.in_ok-notes.ensures.follows h now tells there) in
     let indexed = c.new-indexed.result in
     let marked = c.new-indexed.ensures.indexed cluster.schema (start (setting cluster me h) (starts + 1) owed met).met (started_marks (setting cluster me h) (starts + 1) owed met are) in
     let first = restarted cluster me h c.args.voter.logs.kept kept leases indexed version progress starts met owed c.requires.member c.requires.served.small are few recalls tells leased follows marked in

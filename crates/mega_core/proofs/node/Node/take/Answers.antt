@@ -8,7 +8,7 @@ use Rattle.mega_rules.specs.Steps.{Step as RuleStep, Take, decision_note, stored
 use Rattle.mega_replica.specs.Following.{progress_at}
 use Rattle.mega_node_laws.specs.Acted.{acted_on, decision_in}
 use Rattle.mega_actions.specs.Stands.{setting}
-use Rattle.mega_actions.specs.Turns.{IsBuilt}
+use Rattle.mega_actions.specs.Turns.{IsServable}
 use Rattle.mega_core.specs.Positions.{before_at}
 use Rattle.mega_core.specs.Represents.{Represents}
 use Rattle.mega_core.specs.Staging.{Stages}
@@ -16,7 +16,7 @@ use Rattle.mega_core.specs.Taking.{has_taken}
 use Rattle.mega_core.specs.Touching.{touched}
 use Rattle.mega_core.proofs.Begun.{represents_keeps}
 use Rattle.mega_core.proofs.Messages.{heard_are_about, heard_are_built, take_acts, take_is, take_may}
-use Rattle.mega_core.proofs.Refused.{unbuilt_is}
+use Rattle.mega_core.proofs.Refused.{unserved_is}
 use Rattle.mega_core.proofs.Untouched.{take_noted}
 use Rattle.mega_core.proofs.Watched.{watched_noted}
 use Rattle.mega_core.proofs.node.Node.take.Goals as goal
@@ -29,7 +29,7 @@ returns-in_err-work-clause-built g c = λ is h node represents.
     let s = setting r0.members r0.me h in
     let opened = subst (λ (os : List Operation). Represents s r0.voter.logs.kept r0.leases r0.indexed version progress os c.args.self.now.begun node) (sym c.replace-opened.ensures.value) represents in
     let heard_is = c.in_ok-taken.ensures.heard h node c.args.self.now.begun opened in
-    c.in_err-work.ensures.unbuilt (search (rules, unbuilt_is))
+    c.in_err-work.ensures.unserved (search (rules, unserved_is))
     (heard_are_built s node c.args.message.now r0.voter.logs.kept r0.leases version progress c.args.self.now.open c.args.self.now.begun c.in_ok-taken.taken.heard represents heard_is)
 
 pub returns-clause-notes : goal.returns-clause-notes
@@ -58,10 +58,10 @@ returns-clause-notes g c = λ told h node means represents owned placed.
     (c.in_ok-work.ensures.state told h base stored means about taken.stands) (c.in_ok-work.ensures.work told h base stored means about taken.stands) in
     let is = take_is s node m t2 c.in_ok-taken.taken.sends c.new-2.result (t2_is ∙ t1_is) taken.sends c.new-2.ensures in
     let keeps = represents_keeps s r0.voter.logs.kept r0.leases version progress own_open begun node represents in
-    let groups = touched m.body node.open_operations in
-    let groups_are : c.in_ok-groups.groups ≡ groups = c.in_ok-groups.ensures ∙ ap (touched m.body) (c.as_slice.ensures ∙ sym represents.opened) in
+    let groups = touched node.met m.body node.open_operations in
+    let groups_are : c.in_ok-groups.groups ≡ groups = c.in_ok-groups.ensures node.met represents.tells ∙ ap (touched node.met m.body) (c.as_slice.ensures ∙ sym represents.opened) in
     let before = c.in_ok-before.ensures node.met node.stored keeps ∙ ap (λ (some : List GroupId). cond (has_rows r0.members r0.me) (map (before_at node.met node.stored) some) []) groups_are in
-    let noted = watched_noted s t2 node groups c.in_ok-before.before (has_taken s node m) (t2_is ∙ t1_is) before (take_noted s node m (map (before_at node.met node.stored) groups) (subst (All IsBuilt) (sym represents.opened) represents.built) acted.acted refl) in
+    let noted = watched_noted s t2 node groups c.in_ok-before.before (has_taken s node m) (t2_is ∙ t1_is) before (take_noted s node m (map (before_at node.met node.stored) groups) (subst (All IsServable) (sym represents.opened) represents.built) acted.acted refl) in
     let made = c.in_ok-step.ensures.made h node (Takes m) (told_notes s node.met m.from m.body) (decision_note (decision_in s node m)) (has_taken s node m) noted acted taken.notes (take_may s node m _ is) in
     made.notes ∙ ap (λ (step : RuleStep). step.notes) is
 
@@ -91,10 +91,10 @@ returns-clause-sends g c = λ told h node means represents owned placed.
     (c.in_ok-work.ensures.state told h base stored means about taken.stands) (c.in_ok-work.ensures.work told h base stored means about taken.stands) in
     let is = take_is s node m t2 c.in_ok-taken.taken.sends c.new-2.result (t2_is ∙ t1_is) taken.sends c.new-2.ensures in
     let keeps = represents_keeps s r0.voter.logs.kept r0.leases version progress own_open begun node represents in
-    let groups = touched m.body node.open_operations in
-    let groups_are : c.in_ok-groups.groups ≡ groups = c.in_ok-groups.ensures ∙ ap (touched m.body) (c.as_slice.ensures ∙ sym represents.opened) in
+    let groups = touched node.met m.body node.open_operations in
+    let groups_are : c.in_ok-groups.groups ≡ groups = c.in_ok-groups.ensures node.met represents.tells ∙ ap (touched node.met m.body) (c.as_slice.ensures ∙ sym represents.opened) in
     let before = c.in_ok-before.ensures node.met node.stored keeps ∙ ap (λ (some : List GroupId). cond (has_rows r0.members r0.me) (map (before_at node.met node.stored) some) []) groups_are in
-    let noted = watched_noted s t2 node groups c.in_ok-before.before (has_taken s node m) (t2_is ∙ t1_is) before (take_noted s node m (map (before_at node.met node.stored) groups) (subst (All IsBuilt) (sym represents.opened) represents.built) acted.acted refl) in
+    let noted = watched_noted s t2 node groups c.in_ok-before.before (has_taken s node m) (t2_is ∙ t1_is) before (take_noted s node m (map (before_at node.met node.stored) groups) (subst (All IsServable) (sym represents.opened) represents.built) acted.acted refl) in
     let made = c.in_ok-step.ensures.made h node (Takes m) (told_notes s node.met m.from m.body) (decision_note (decision_in s node m)) (has_taken s node m) noted acted taken.notes (take_may s node m _ is) in
     made.sends ∙ ap (λ (step : RuleStep). step.sends) is
 
@@ -124,10 +124,10 @@ returns-clause-state g c = λ told h node means represents owned placed.
     (c.in_ok-work.ensures.state told h base stored means about taken.stands) (c.in_ok-work.ensures.work told h base stored means about taken.stands) in
     let is = take_is s node m t2 c.in_ok-taken.taken.sends c.new-2.result (t2_is ∙ t1_is) taken.sends c.new-2.ensures in
     let keeps = represents_keeps s r0.voter.logs.kept r0.leases version progress own_open begun node represents in
-    let groups = touched m.body node.open_operations in
-    let groups_are : c.in_ok-groups.groups ≡ groups = c.in_ok-groups.ensures ∙ ap (touched m.body) (c.as_slice.ensures ∙ sym represents.opened) in
+    let groups = touched node.met m.body node.open_operations in
+    let groups_are : c.in_ok-groups.groups ≡ groups = c.in_ok-groups.ensures node.met represents.tells ∙ ap (touched node.met m.body) (c.as_slice.ensures ∙ sym represents.opened) in
     let before = c.in_ok-before.ensures node.met node.stored keeps ∙ ap (λ (some : List GroupId). cond (has_rows r0.members r0.me) (map (before_at node.met node.stored) some) []) groups_are in
-    let noted = watched_noted s t2 node groups c.in_ok-before.before (has_taken s node m) (t2_is ∙ t1_is) before (take_noted s node m (map (before_at node.met node.stored) groups) (subst (All IsBuilt) (sym represents.opened) represents.built) acted.acted refl) in
+    let noted = watched_noted s t2 node groups c.in_ok-before.before (has_taken s node m) (t2_is ∙ t1_is) before (take_noted s node m (map (before_at node.met node.stored) groups) (subst (All IsServable) (sym represents.opened) represents.built) acted.acted refl) in
     let made = c.in_ok-step.ensures.made h node (Takes m) (told_notes s node.met m.from m.body) (decision_note (decision_in s node m)) (has_taken s node m) noted acted taken.notes (take_may s node m _ is) in
     let new = c.ends.new.self in
     subst (λ (step : RuleStep). Represents (setting new.replica.members new.replica.me h) new.replica.voter.logs.kept new.replica.leases new.replica.indexed (g.V.Versions.version new.replica.rows.rows) (progress_at new.replica.rows.progress) new.open new.begun step.node) is made.state

@@ -9,21 +9,21 @@ use Rattle.mega_replica.specs.Following.{progress_at}
 use Rattle.mega_node_laws.specs.About.{IsAbout}
 use Rattle.mega_node_laws.specs.Acted.{acted_on}
 use Rattle.mega_actions.specs.Stands.{setting}
-use Rattle.mega_actions.specs.Turns.{IsBuilt}
+use Rattle.mega_actions.specs.Turns.{IsServable}
 use Rattle.mega_core.specs.Positions.{before_at}
 use Rattle.mega_core.specs.Represents.{Represents}
 use Rattle.mega_core.specs.Staging.{Stages}
 use Rattle.mega_core.specs.Ticking.{has_ticked}
 use Rattle.mega_core.proofs.Begun.{represents_keeps}
 use Rattle.mega_core.proofs.Clocks.{tick_acts, tick_is, tick_may}
-use Rattle.mega_core.proofs.Refused.{unbuilt_is}
+use Rattle.mega_core.proofs.Refused.{unserved_is}
 use Rattle.mega_core.proofs.Untouched.{tick_noted}
 use Rattle.mega_core.proofs.Watched.{watched_noted}
 use Rattle.mega_core.proofs.node.Node.tick.Goals as goal
 
 pub returns-in_err-work-clause-built : goal.returns-in_err-work-clause-built
 returns-in_err-work-clause-built g c = λ is h node represents.
-    c.in_err-work.ensures.unbuilt (search (rules, unbuilt_is)) (subst (All IsBuilt) (sym c.replace-opened.ensures.value) represents.built)
+    c.in_err-work.ensures.unserved (search (rules, unserved_is)) (subst (All IsServable) (sym c.replace-opened.ensures.value) represents.built)
 
 pub returns-clause-notes : goal.returns-clause-notes
 returns-clause-notes g c = λ told h node means represents owned.

@@ -23,13 +23,13 @@ pub kept-requires : goal.kept-requires
 kept-requires g c = record { one = c.in-Ok.ensures.staged ∙ ap (λ (items : List JournalItem). items ++ Start ∷ []) c.requires.flushed }
 
 pub returns-in-Ok-kept-clause-state : goal.returns-in-Ok-kept-clause-state
-returns-in-Ok-kept-clause-state g c = λ seen h starts met owed may none.
+returns-in-Ok-kept-clause-state g c = λ seen h starts met owed may.
     let s = setting c.args.cluster c.args.me h in
     let few : starts < 4294967295 = subst (λ n. n < 4294967295) may.recalls.counted c.in-Ok.ensures.few in
     let are = owed_no_start owed met may.owes in
     let before = subst (λ (one : _). HoldsMet (g.R.Records.list one) starts (onto owed met)) (sym c.in-Ok.ensures.records) may.holds in
     record {
-      stands = c.in-Ok-kept.ensures.stands h (start s (starts + 1) owed met) (c.in-Ok.ensures.state h starts met owed may.owes may.recalls none);
+      stands = c.in-Ok-kept.ensures.stands h (start s (starts + 1) owed met) (c.in-Ok.ensures.state h starts met owed may.owes may.recalls may.rows);
       empty = c.in-Ok-kept.ensures.empty;
       ready = c.in-Ok-kept.ensures.ready ∙ (ap g.R.Records.is_spent c.in-Ok.ensures.records ∙ may.ready);
       holds = started_holds s starts met owed _ are few
@@ -58,8 +58,8 @@ pub returns-in-Err-kept-clause-cut : goal.returns-in-Err-kept-clause-cut
 returns-in-Err-kept-clause-cut g c = λ seen h starts met owed may.
     let few : starts < 4294967295 = subst (λ n. n < 4294967295) may.recalls.counted c.in-Ok.ensures.few in
     let before = subst (λ (one : _). HoldsMet (g.R.Records.list one) starts (onto owed met)) (sym c.in-Ok.ensures.records) may.holds in
-    subst (λ (one : _). LeavesStart g.R.Records starts (onto owed met) c.args.voter.logs.records one) (sym c.refused.ensures)
-    (start_leaves g.R.Records starts (onto owed met) c.args.voter.logs.records c.in-Err-kept.records c.in-Err-kept.fault
+    subst (λ (one : _). LeavesStart g.R.Records starts (onto owed met) c.args.down.voter.logs.records one) (sym c.refused.ensures)
+    (start_leaves g.R.Records starts (onto owed met) c.args.down.voter.logs.records c.in-Err-kept.records c.in-Err-kept.fault
     (subst (λ (one : _). LeavesOnly g.R.Records.moment g.R.Records.opened_since one c.in-Err-kept.records (MayLeaveStart starts (onto owed met))) c.in-Ok.ensures.records
     (c.in-Err-kept.ensures.cut seen (ap g.R.Records.is_spent c.in-Ok.ensures.records ∙ may.ready) starts (onto owed met) few before)))
 
@@ -67,13 +67,13 @@ pub returns-in-Err-kept-clause-burnt : goal.returns-in-Err-kept-clause-burnt
 returns-in-Err-kept-clause-burnt g c = λ seen four h starts met owed may.
     let few : starts < 4294967295 = subst (λ n. n < 4294967295) may.recalls.counted c.in-Ok.ensures.few in
     let before = subst (λ (one : _). HoldsMet (g.R.Records.list one) starts (onto owed met)) (sym c.in-Ok.ensures.records) may.holds in
-    subst (λ (one : _). IsCutOff g.R.Records starts (onto owed met) c.args.voter.logs.records one) (sym c.refused.ensures)
-    (start_cut g.R.Records starts (onto owed met) c.args.voter.logs.records c.in-Err-kept.records c.in-Err-kept.fault
+    subst (λ (one : _). IsCutOff g.R.Records starts (onto owed met) c.args.down.voter.logs.records one) (sym c.refused.ensures)
+    (start_cut g.R.Records starts (onto owed met) c.args.down.voter.logs.records c.in-Err-kept.records c.in-Err-kept.fault
     (λ is. subst (λ (one : _). IsCutStart g.R.Records starts (onto owed met) one c.in-Err-kept.records) c.in-Ok.ensures.records
     (c.in-Err-kept.ensures.burnt seen four is starts (onto owed met) few before)))
 
 pub returns-in-Err-kept-clause-went : goal.returns-in-Err-kept-clause-went
 returns-in-Err-kept-clause-went g c =
-    subst (IsRefused g.R.Records c.args.voter) (sym c.refused.ensures)
-    (start_went g.R.Records c.args.voter c.in-Err-kept.records c.in-Err-kept.fault
+    subst (IsRefused g.R.Records c.args.down.voter) (sym c.refused.ensures)
+    (start_went g.R.Records c.args.down.voter c.in-Err-kept.records c.in-Err-kept.fault
     (subst (λ (one : _). LogWent g.R.Records (Some c.in-Err-kept.fault) one c.in-Err-kept.records) c.in-Ok.ensures.records c.in-Err-kept.ensures.went))

@@ -1,10 +1,13 @@
-use Rattle.std.proofs.Common.{◌+◌, ◌∙◌, ap, refl, subst, sym}
+use Rattle.std.proofs.Common.{◌+◌, ◌∙◌, ap, Err, inl, inr, refl, subst, sym}
+use Rattle.mega_cluster.specs.declared.cluster.Cluster.{Cluster}
+use Rattle.mega_leases.specs.Taking.{IsLate}
+use Rattle.mega_durable.specs.declared.fault.UpFault.TheVariants.{Step as Failed}
 use Rattle.mega_rules.specs.Operations.{Setting}
 use Rattle.mega_rules.specs.Steps.{Take}
 use Rattle.mega_durable.specs.Standing.{MayHappen}
 use Rattle.mega_world.specs.declared.member.Member.{Member}
 use Rattle.mega_world.specs.Members.{node_in, records_of}
-use Rattle.mega_world.proofs.Failing.{log_memory}
+use Rattle.mega_world.proofs.Failing.{log_memory, not_strange}
 use Rattle.mega_world.proofs.Stepped.{Counts, Steps, is_here, made_step, own_setting, was_cut}
 use Rattle.mega_world.proofs.member.Member.take.Goals as goal
 
@@ -56,3 +59,11 @@ log_fault_of-requires g c =
     let here = is_here k.cluster k.handlers k.me c.args.self.now k.ruled k.is in
     let may = subst (λ (s : Setting). MayHappen (g.H.QueueHandlers.meant c.args.handlers.now) s k.ruled (Take c.args.message.now)) (own_setting k.cluster k.handlers k.me c.args.self.now k.ruled k.is) k.may in
     log_memory _ _ c.in-Err-Log.fault _ _ (rw c.in-Err-Log.field-0-is at c.in-Err-Log.ensures.went.1) k.is.ready refl (rw c.in-Err-Log.field-0-is at (c.in-Err-Log.ensures.owed k.handlers k.ruled (record { stands = here.stands; empty = here.empty; ready = here.ready; holds = here.holds; granted = here.granted }) may))
+
+pub fault_of-requires-clause-own : goal.fault_of-requires-clause-own
+fault_of-requires-clause-own g c =
+    let k = c.requires.known in
+    not_strange c.in-Err-Step.fault
+    (λ is. c.in-Err-Step.ensures.built (ap Err (c.in-Err-Step.field-0-is ∙ ap Failed is)))
+    (λ is. k.near (inl (c.in-Err-Step.ensures.stranger (ap Err (c.in-Err-Step.field-0-is ∙ ap Failed is)))))
+    (λ is. k.near (inr (subst (λ (cluster : Cluster). IsLate cluster c.args.message.now.body) k.is.members (c.in-Err-Step.ensures.late (ap Err (c.in-Err-Step.field-0-is ∙ ap Failed is))))))

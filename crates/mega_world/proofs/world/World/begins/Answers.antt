@@ -3,6 +3,7 @@ use Rattle.mega_rules.specs.Met.{Begins}
 use Rattle.mega_rules.specs.Steps.{Begin, op_of}
 use Rattle.mega_promises.specs.Items.{shown}
 use Rattle.mega_promises.specs.Runs.{setting}
+use Rattle.mega_world.proofs.Asked.{asked_built}
 use Rattle.mega_world.proofs.Due.{begin_fit, begin_ready, may_happen}
 use Rattle.mega_world.proofs.Happening.{begun_own, came_at, came_lined, is_there}
 use Rattle.mega_world.proofs.world.World.begins.Goals as goal
@@ -18,6 +19,7 @@ begin_at-requires-clause-known g c =
       now = k.now;
       nodes = k.at.nodes;
       may = may_happen k.cluster k.handlers k.now node.0 (Begin c.args.request c.args.text) fit k.sound.own k.sound.means;
+      near = asked_built c.args.request k.sound.asked;
     }
 
 pub returns-clause-state : goal.returns-clause-state

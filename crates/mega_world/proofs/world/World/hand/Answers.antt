@@ -1,7 +1,6 @@
 use Rattle.std.proofs.Common.{◌≡◌, ◌∷◌, [], ◌∙◌, ◌≤◌, Err, List, ap, length, refl, subst, sym}
 use Rattle.mega_rules.specs.Steps.{Take}
 use Rattle.mega_transcript.specs.declared.item.Item.TheVariants.{Taken}
-use Rattle.mega_world.specs.declared.fault.WorldFault.TheVariants.{Unbuilt}
 use Rattle.mega_world.specs.declared.place.Place.{Place}
 use Rattle.mega_world.specs.Members.{is_up_at}
 use Rattle.mega_world.proofs.Due.{may_happen, take_fit, take_owns}
@@ -22,6 +21,7 @@ take_at-requires-clause-known g c =
       now = k.now;
       nodes = k.at.nodes;
       may = may_happen k.cluster k.handlers k.now message.to (Take message) fit (take_owns k.cluster k.handlers k.now number message k.sound is) k.sound.means;
+      near = delivery_built k.cluster k.now number message k.at.formed is;
     }
 
 pub returns-clause-state : goal.returns-clause-state
@@ -63,14 +63,7 @@ returns-clause-lines g c cluster h now r sound =
     } in
     came_lined cluster h now message.to (Taken number ∷ []) (Take message) old mid items c.push.new.self c.show_step.new.tape.items c.in-Ok.made (taken_own cluster number) fit comes ready c.in_ok-show_step.ensures.lines
 
-pub returns-in-Err-clause-built : goal.returns-in-Err-clause-built
-returns-in-Err-clause-built g c unbuilt =
-    let k = c.requires.known in
-    let is = c.in-Some.ensures.found k.now k.at.mail in
-    let same : c.in-Err.fault ≡ Unbuilt = cc in
-    delivery_built k.cluster k.now c.args.number c.in-Some.message.now k.at.formed is (c.in-Err.ensures.unbuilt (ap Err same) k.cluster k.now k.at.nodes)
-
-pub returns-in-None-clause-built : goal.returns-in-None-clause-built
-returns-in-None-clause-built g c unbuilt =
+pub unreachable-requires : goal.unreachable-requires
+unreachable-requires g c =
     let k = c.requires.known in
     c.in-None.ensures.none k.cluster k.now k.at.mail (λ me. k.at.nodes.members.up_are me ∙ ap (λ (ps : List Place). is_up_at ps me) (sym c.as_slice.ensures.value)) k.allowed

@@ -18,6 +18,7 @@ tick_at-requires-clause-known g c =
       now = k.now;
       nodes = k.at.nodes;
       may = may_happen k.cluster k.handlers k.now node.0 (Tick c.args.clock) fit k.sound.own k.sound.means;
+      near = tt;
     }
 
 pub returns-clause-state : goal.returns-clause-state

@@ -1,0 +1,92 @@
+use Rattle.std.proofs.Common.{◌≡◌, ◌∙◌, ◌-◌, ◌+◌, None, ap, arith, rules, sym}
+use Rattle.mega_meanings.proofs.Lasting.{means_still}
+use Rattle.mega_rules.specs.Acting.{acts_within, keeps}
+use Rattle.mega_replica.proofs.Fared.{fares_then}
+use Rattle.mega_actions.specs.Stands.{setting}
+use Rattle.mega_actions.proofs.Turned.{no_turn, one_turn}
+use Rattle.mega_actions.proofs.replica.Replica.acts_within.Goals as goal
+
+pub loop-turn-init : goal.loop-turn-init
+loop-turn-init g c = record {
+  goes = λ h now told means about at. record {
+    after = now;
+    stands = at;
+    work = λ was. was;
+    about = about;
+    rule_is = ap (λ n. acts_within n (setting c.args.self.now.members c.args.self.now.me h) now c.args.operation) (let e : c.args.most ≡ c.args.most - 0 = omega arith in e);
+  };
+  handlers = search rules;
+  members = search rules;
+  me = search rules;
+  voter = search rules;
+  indexed = search rules;
+  fares = search rules;
+  asked = search rules;
+}
+
+pub loop-turn-preserved : goal.loop-turn-preserved
+loop-turn-preserved g c =
+    let loop = c.loop-turn in
+    let before = c.args.self.now in
+    let new = c.acts_once.new.self in
+    record {
+      goes = λ h now told means about at.
+          let s = setting before.members before.me h in
+          let so = loop.invariant.goes h now told means about at in
+          let inner = (rw c.in-Ok-Some.field-0-is at c.in-Ok-Some.ensures.acted) h so.after told (means_still _ _ h loop.invariant.handlers means) so.about so.stands in
+          record {
+            after = inner.after;
+            stands = inner.stands;
+            work = λ was. inner.work (so.work was);
+            about = inner.about;
+            rule_is =
+                one_turn s (setting loop.self.members loop.self.me h) now so.after c.args.operation loop.next c.args.most loop._turn c.loop-turn-test.true (λ i. setting (sym loop.invariant.members i) (sym loop.invariant.me i) h) so.rule_is
+                ∙ inner.rule_is (acts_within (c.args.most - (loop._turn + 1)) s);
+          };
+      handlers = c.acts_once.ensures.handlers ∙ loop.invariant.handlers;
+      members = c.acts_once.ensures.members ∙ loop.invariant.members;
+      me = c.acts_once.ensures.me ∙ loop.invariant.me;
+      voter = c.acts_once.ensures.voter ∙ loop.invariant.voter;
+      indexed = c.acts_once.ensures.indexed ∙ loop.invariant.indexed;
+      fares = fares_then g.V.Versions None before.rows.rows loop.self.rows.rows new.rows.rows loop.invariant.fares c.in-Ok-Some.ensures.fares;
+      asked = (rw c.in-Ok-Some.field-0-is at c.in-Ok-Some.ensures.asked) ∙ loop.invariant.asked;
+    }
+
+pub returns-in-Ok-None-clause-acted : goal.returns-in-Ok-None-clause-acted
+returns-in-Ok-None-clause-acted g c h now told means about at =
+    let loop = c.loop-turn in
+    let before = c.args.self.now in
+    let s = setting before.members before.me h in
+    let so = loop.invariant.goes h now told means about at in
+    let inner = (rw c.in-Ok-None.field-0-is at c.in-Ok-None.ensures.acted) h so.after told (means_still _ _ h loop.invariant.handlers means) so.about so.stands in
+    record {
+      after = inner.after;
+      stands = inner.stands;
+      work = λ was. inner.work (so.work was);
+      about = tt;
+      rule_is = λ again.
+          one_turn s (setting loop.self.members loop.self.me h) now so.after c.args.operation loop.next c.args.most loop._turn c.loop-turn-test.true (λ i. setting (sym loop.invariant.members i) (sym loop.invariant.me i) h) so.rule_is
+          ∙ inner.rule_is (acts_within (c.args.most - (loop._turn + 1)) s);
+    }
+
+pub returns-in-Ok-None-clause-fares : goal.returns-in-Ok-None-clause-fares
+returns-in-Ok-None-clause-fares g c =
+    fares_then g.V.Versions None c.args.self.now.rows.rows c.loop-turn.self.rows.rows c.acts_once.new.self.rows.rows c.loop-turn.invariant.fares c.in-Ok-None.ensures.fares
+
+pub returns-in-Err-clause-fares : goal.returns-in-Err-clause-fares
+returns-in-Err-clause-fares g c =
+    fares_then g.V.Versions _ c.args.self.now.rows.rows c.loop-turn.self.rows.rows c.acts_once.new.self.rows.rows c.loop-turn.invariant.fares c.in-Err.ensures.fares
+
+pub returns-clause-acted : goal.returns-clause-acted
+returns-clause-acted g c h now told means about at =
+    let loop = c.loop-turn in
+    let s = setting c.args.self.now.members c.args.self.now.me h in
+    let so = loop.invariant.goes h now told means about at in
+    let test = c.loop-turn-test.false in
+    record {
+      after = keeps so.after loop.next;
+      stands = so.stands;
+      work = λ was. c.in_ok-does.ensures so.after (so.work was);
+      about = tt;
+      rule_is = λ again. no_turn s now so.after c.args.operation loop.next c.args.most loop._turn (omega (arith, test)) so.rule_is;
+    }

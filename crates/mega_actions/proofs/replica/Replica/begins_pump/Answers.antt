@@ -1,0 +1,76 @@
+use Rattle.std.proofs.Common.{◌∙◌, ap, subst, sym}
+use Rattle.mega_pumps.specs.Owns.{picks_by}
+use Rattle.mega_rules.specs.Acting.{goes_on}
+use Rattle.mega_rules.specs.Clock.{clock_of}
+use Rattle.mega_rules.specs.Operations.{Now}
+use Rattle.mega_rules.specs.Steps.{new_operation}
+use Rattle.mega_actions.specs.declared.pumping.Pumped.{Pumped}
+use Rattle.mega_actions.specs.Asked.{IsAsked}
+use Rattle.mega_actions.specs.Servable.{is_pump}
+use Rattle.mega_actions.specs.IsAt.{IsAt}
+use Rattle.mega_actions.specs.Pumping.{pumped_by}
+use Rattle.mega_actions.specs.Stands.{setting}
+use Rattle.mega_actions.specs.Working.{work_of}
+use Rattle.mega_actions.proofs.Doing.{does_met, does_stored}
+use Rattle.mega_actions.proofs.Serving.{pump_about, pump_begins}
+use Rattle.mega_actions.proofs.replica.Replica.begins_pump.Goals as goal
+
+pub returns-in_ok-does-in-Done-clause-state : goal.returns-in_ok-does-in-Done-clause-state
+returns-in_ok-does-in-Done-clause-state g c h now told means pump at =
+    let before = c.args.self.now in
+    let s = setting before.members before.me h in
+    let o = new_operation c.args.op c.args.request (clock_of now.met) in
+    let began = c.now-began.ensures before.members before.me now.met at.leased in
+    let is =
+    pump_begins s now c.args.op c.args.request (clock_of now.met) pump
+    ∙ (λ i. picks_by (sym c.is_entering-entering.ensures i) s (goes_on s) now (record { id = o.id; request = o.request; began = sym began i; visited = sym c.new-visited.ensures i; message = o.message; phase = o.phase }) (sym c.new-asked.ensures i))
+    ∙ sym (c.in_ok-pumped.ensures.pumped before.me h now (goes_on s) o.phase at)
+    ∙ ap (pumped_by (goes_on s) now) c.in-Done.is in
+    let deed = c.in-Done.deed in
+    subst (λ (then : Now). IsAt g.V.Versions.version h before then.met then.stored) (sym is)
+    (coe 0 1 (i. IsAt g.V.Versions.version h before (sym (does_met now deed) i) (sym (does_stored now deed) i)) at)
+
+pub returns-in_ok-does-in-Done-clause-work : goal.returns-in_ok-does-in-Done-clause-work
+returns-in_ok-does-in-Done-clause-work g c h now told means pump at was =
+    let before = c.args.self.now in
+    let s = setting before.members before.me h in
+    let o = new_operation c.args.op c.args.request (clock_of now.met) in
+    let began = c.now-began.ensures before.members before.me now.met at.leased in
+    let is =
+    pump_begins s now c.args.op c.args.request (clock_of now.met) pump
+    ∙ (λ i. picks_by (sym c.is_entering-entering.ensures i) s (goes_on s) now (record { id = o.id; request = o.request; began = sym began i; visited = sym c.new-visited.ensures i; message = o.message; phase = o.phase }) (sym c.new-asked.ensures i))
+    ∙ sym (c.in_ok-pumped.ensures.pumped before.me h now (goes_on s) o.phase at)
+    ∙ ap (pumped_by (goes_on s) now) c.in-Done.is in
+    c.in_ok-does-in-Done.ensures now was ∙ ap work_of (sym is)
+
+pub returns-in_ok-acts_in_turn-in-Again-clause-state : goal.returns-in_ok-acts_in_turn-in-Again-clause-state
+returns-in_ok-acts_in_turn-in-Again-clause-state g c h now told means pump at =
+    let before = c.args.self.now in
+    let new = c.acts_in_turn.new.self in
+    let s = setting before.members before.me h in
+    let o = new_operation c.args.op c.args.request (clock_of now.met) in
+    let began = c.now-began.ensures before.members before.me now.met at.leased in
+    let heard = c.in-Again.heard in
+    let is =
+    pump_begins s now c.args.op c.args.request (clock_of now.met) pump
+    ∙ (λ i. picks_by (sym c.is_entering-entering.ensures i) s (goes_on s) now (record { id = o.id; request = o.request; began = sym began i; visited = sym c.new-visited.ensures i; message = o.message; phase = o.phase }) (sym c.new-asked.ensures i))
+    ∙ sym (c.in_ok-pumped.ensures.pumped before.me h now (goes_on s) o.phase at)
+    ∙ ap (pumped_by (goes_on s) now) c.in-Again.is in
+    let asked = subst (λ (pumped : Pumped). IsAsked pumped c.args.request) c.in-Again.is c.in_ok-pumped.ensures.asked in
+    subst (λ (then : Now). IsAt g.V.Versions.version h new then.met then.stored) (sym is)
+    (c.in_ok-acts_in_turn-in-Again.ensures.state h now told means (pump_about heard.operation (ap is_pump asked ∙ pump)) at)
+
+pub returns-in_ok-acts_in_turn-in-Again-clause-work : goal.returns-in_ok-acts_in_turn-in-Again-clause-work
+returns-in_ok-acts_in_turn-in-Again-clause-work g c h now told means pump at was =
+    let before = c.args.self.now in
+    let s = setting before.members before.me h in
+    let o = new_operation c.args.op c.args.request (clock_of now.met) in
+    let began = c.now-began.ensures before.members before.me now.met at.leased in
+    let heard = c.in-Again.heard in
+    let is =
+    pump_begins s now c.args.op c.args.request (clock_of now.met) pump
+    ∙ (λ i. picks_by (sym c.is_entering-entering.ensures i) s (goes_on s) now (record { id = o.id; request = o.request; began = sym began i; visited = sym c.new-visited.ensures i; message = o.message; phase = o.phase }) (sym c.new-asked.ensures i))
+    ∙ sym (c.in_ok-pumped.ensures.pumped before.me h now (goes_on s) o.phase at)
+    ∙ ap (pumped_by (goes_on s) now) c.in-Again.is in
+    let asked = subst (λ (pumped : Pumped). IsAsked pumped c.args.request) c.in-Again.is c.in_ok-pumped.ensures.asked in
+    c.in_ok-acts_in_turn-in-Again.ensures.work h now told means (pump_about heard.operation (ap is_pump asked ∙ pump)) at was ∙ ap work_of (sym is)

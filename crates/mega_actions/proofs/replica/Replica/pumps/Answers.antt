@@ -1,0 +1,32 @@
+use Rattle.std.proofs.Common.{◌∙◌, Option, ap, subst, sym}
+use Rattle.mega_replica.specs.Following.{progress_at}
+use Rattle.mega_rules.specs.Operations.{Operation}
+use Rattle.mega_actions.specs.Acted.{IsNextAbout, IsNextAsked}
+use Rattle.mega_actions.specs.Pumping.{pumped_after, then_again}
+use Rattle.mega_actions.specs.Stands.{Stands, setting}
+use Rattle.mega_actions.proofs.Serving.{next_about, next_asked, pumped_met, pumped_stored, pumped_then}
+use Rattle.mega_actions.proofs.Standing.{stands_seen}
+use Rattle.mega_actions.proofs.replica.Replica.pumps.Goals as goal
+
+pub returns-clause-acted : goal.returns-clause-acted
+returns-clause-acted g c h now told means pump le at =
+    let before = c.args.self.now in
+    let s = setting before.members before.me h in
+    let version = g.V.Versions.version in
+    let new = c.pumps.new.rows in
+    let pumped = c.in_ok-pumped.pumped in
+    let next = c.in_ok-next.ensures.next in
+    let seen = stands_seen s before.voter.logs.kept before.leases (version before.rows.rows) (progress_at before.rows.progress) now.stored (version new.rows) now.met c.pumps.ensures.versions at in
+    record {
+      after = pumped_after now pumped;
+      stands = coe 0 1 (i. Stands s before.voter.logs.kept before.leases (version new.rows) (progress_at (sym c.pumps.ensures.progress i)) (sym (pumped_met now pumped) i) (sym (pumped_stored now pumped) i)) seen;
+      work = λ was. c.in_ok-next.ensures.work now was;
+      about = subst IsNextAbout (sym next) (next_about pumped c.args.reached.kept.request pump c.in_ok-pumped.ensures.asked);
+      rule_is = λ again.
+          sym (c.in_ok-pumped.ensures.pumped told before.me h now again means pump le at)
+          ∙ pumped_then again now pumped
+          ∙ ap (then_again again (pumped_after now pumped)) (sym next);
+    }
+
+pub returns-clause-asked : goal.returns-clause-asked
+returns-clause-asked g c = subst (λ (next : Option Operation). IsNextAsked next c.args.reached.kept.request) (sym c.in_ok-next.ensures.next) (next_asked c.in_ok-pumped.pumped c.args.reached.kept.request c.in_ok-pumped.ensures.asked)

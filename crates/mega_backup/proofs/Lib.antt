@@ -1,0 +1,11 @@
+pub mod Streams
+pub mod Decided
+pub mod Logged
+pub mod NoFloats
+pub mod Cells
+pub mod Answered
+pub mod Emptied
+pub mod Numbered
+pub mod Refused
+pub mod Spaces
+pub mod Joined

@@ -1,0 +1,5 @@
+pub mod Puts
+pub mod ReadBack
+pub mod Making
+pub mod Chains
+pub mod Agreeing

@@ -1,0 +1,6 @@
+mod Fronts
+mod Onward
+mod Noted
+mod Caught
+mod Marked
+mod Entered

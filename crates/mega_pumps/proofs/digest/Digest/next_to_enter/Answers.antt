@@ -1,0 +1,22 @@
+use Rattle.std.proofs.Common.{◌≡◌, ◌∙◌, List, ap, subst, sym}
+use Rattle.mega_base.specs.declared.names.GroupId.{GroupId}
+use Rattle.mega_queues.specs.Applied.{applied_of}
+use Rattle.mega_queues.specs.Boxes.{AreAll, logs_of}
+use Rattle.mega_queues.proofs.Reached.{all_applied}
+use Rattle.mega_rules.specs.Queues.{next_to_enter}
+use Rattle.mega_pumps.specs.Picks.{picked_message}
+use Rattle.mega_pumps.proofs.digest.Digest.next_to_enter.Goals as goal
+
+pub returns-in_ok-picked-in-Some-clause-picked : goal.returns-in_ok-picked-in-Some-clause-picked
+returns-in_ok-picked-in-Some-clause-picked g c = λ now tells follows kept is.
+    let logs = applied_of now in
+    let rep = c.in_ok-catch_up.ensures.applied now.met now.stored tells follows kept is in
+    let all = subst (AreAll logs) (sym is) (all_applied now) in
+    c.in_ok-picked-in-Some.ensures ∙ ap picked_message (c.in-Some.ensures logs rep all ∙ ap (λ (groups : List GroupId). next_to_enter c.args.op (logs_of logs groups)) is)
+
+pub returns-in-None-clause-picked : goal.returns-in-None-clause-picked
+returns-in-None-clause-picked g c = λ now tells follows kept is.
+    let logs = applied_of now in
+    let rep = c.in_ok-catch_up.ensures.applied now.met now.stored tells follows kept is in
+    let all = subst (AreAll logs) (sym is) (all_applied now) in
+    ap picked_message (c.in-None.ensures logs rep all ∙ ap (λ (groups : List GroupId). next_to_enter c.args.op (logs_of logs groups)) is)

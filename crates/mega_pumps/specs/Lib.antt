@@ -1,0 +1,5 @@
+pub mod Reach
+pub mod Notes
+pub mod Marks
+pub mod Picks
+pub mod Owns
