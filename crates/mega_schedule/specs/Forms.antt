@@ -1,7 +1,7 @@
 -- The forms of lines, and what is wrong with a line of a form.
 use Rattle.std.specs.Prelude.{ℕ, ◌+◌, ◌^◌, ◌&&◌, if◌then◌else◌, nat_le, nat_lt, List, codes, Option, Some, None, is_some}
 use Rattle.serde_json.specs.Data.{Data, Items}
-use Rattle.serde_json.specs.Find.{get, as_str, as_array}
+use Rattle.serde_json.specs.Find.{get, as_array}
 use Rattle.serde_json.specs.Events.{items_len}
 use Rattle.mega_syntax.specs.Names.{same}
 use Rattle.mega_disk.specs.declared.pair.Device.{Device}

@@ -7,3 +7,4 @@ pub mod Rows
 pub mod Requests
 pub mod Events
 pub mod Answers
+pub mod Asking

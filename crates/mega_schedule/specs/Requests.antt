@@ -1,5 +1,5 @@
 -- What a line asks of a node.
-use Rattle.std.specs.Prelude.{ℕ, ◌&&◌, Bool, true, false, not, if◌then◌else◌, List, [], ◌∷◌, position, codes, Option, Some, None, is_some, option_map, option_and_then, unwrap_or}
+use Rattle.std.specs.Prelude.{ℕ, ◌&&◌, Bool, false, not, if◌then◌else◌, List, [], position, codes, Option, Some, None, is_some, option_and_then, unwrap_or}
 use Rattle.serde_json.specs.Data.{Data}
 use Rattle.serde_json.specs.Find.{get, as_str}
 use Rattle.mega_base.specs.declared.names.GroupId.{GroupId}
@@ -14,7 +14,7 @@ use Rattle.mega_outcome.specs.declared.request.Mode.TheVariants.{Snapshot}
 use Rattle.mega_outcome.specs.declared.request.ReadRequest.{ReadRequest}
 use Rattle.mega_outcome.specs.declared.request.FindRequest.{FindRequest}
 use Rattle.mega_outcome.specs.declared.request.Request.{Request}
-use Rattle.mega_outcome.specs.declared.request.Request.TheVariants.{Txn, Batch, Read, Find, PumpEnter, PumpHandle, Refresh}
+use Rattle.mega_outcome.specs.declared.request.Request.TheVariants.{Batch, PumpEnter, PumpHandle}
 use Rattle.mega_schedule.specs.declared.form.Pump.{Pump}
 use Rattle.mega_schedule.specs.declared.form.Pump.TheVariants.{Enter, Handle}
 use Rattle.mega_schedule.specs.Forms.{mode_named, pump_named}

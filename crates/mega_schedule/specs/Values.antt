@@ -1,10 +1,10 @@
 -- Values by the kinds of their places, names by their numbers in a schema, and groups. What has no fault is read exactly; what
 -- has one is read as something, and is not used.
-use Rattle.std.specs.Prelude.{ℕ, ◌+◌, ◌^◌, ◌==◌, ◌&&◌, ℤ, pos, negsuc, Bool, true, false, if◌then◌else◌, nat_lt, List, [], ◌∷◌, position, Option, Some, None, option_and_then, unwrap_or, Result, Ok, Err}
+use Rattle.std.specs.Prelude.{ℕ, ◌+◌, ◌^◌, ℤ, pos, negsuc, Bool, if◌then◌else◌, nat_lt, List, [], ◌∷◌, position, Option, Some, None, option_and_then, unwrap_or, Result, Ok, Err}
 use Rattle.hex.specs.Hex.{decode_of}
 use Rattle.hex.specs.declared.error.FromHexError.{FromHexError}
 use Rattle.serde_json.specs.Data.{Data, Items, no_items, item}
-use Rattle.serde_json.specs.Find.{get, as_bool, as_str, as_number, as_array, as_i64, as_u64}
+use Rattle.serde_json.specs.Find.{as_bool, as_str, as_number, as_array, as_i64, as_u64}
 use Rattle.mega_base.specs.declared.names.GroupId.{GroupId}
 use Rattle.mega_base.specs.declared.values.Kind.{Kind}
 use Rattle.mega_base.specs.declared.values.Kind.TheVariants as kinds

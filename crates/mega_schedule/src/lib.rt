@@ -1,6 +1,7 @@
 //! Schedule lines: one JSON object a line, and the event that it stands for.
 #![tactic(auto)]
 
+mod asking;
 mod fields;
 mod floats;
 mod form;
@@ -13,6 +14,7 @@ mod values;
 mod verdict;
 mod world_event;
 
+pub use asking::{Ask, asked};
 pub use form::{Form, Pump};
 pub use read::event;
 pub use verdict::Verdict;

@@ -47,7 +47,7 @@ pub fn event(
 }
 
 /// The object that a line is.
-fn object_of(alloc: Global, line: &[u8]) -> Result<Json, LineFault>
+pub(crate) fn object_of(alloc: Global, line: &[u8]) -> Result<Json, LineFault>
     ensures { Gives view result (object_of line.now) }
 {
     match Json::from_slice(alloc, line) {
@@ -145,7 +145,12 @@ fn fuse(line: &Json) -> WorldEvent
 }
 
 /// What a line that begins an operation asks for.
-fn request_in(alloc: Global, schema: &Schema, form: Form, line: &Json) -> Result<Request, NoMemory>
+pub(crate) fn request_in(
+    alloc: Global,
+    schema: &Schema,
+    form: Form,
+    line: &Json,
+) -> Result<Request, NoMemory>
     ensures { IfOk result (λ made. made ≡ request_in schema.now form (view line.now)) }
 {
     match form {

@@ -1,4 +1,4 @@
-use Rattle.std.proofs.Common.{rules, ◌≡◌, sym, ◌∙◌, true≢false}
+use Rattle.std.proofs.Common.{sym, ◌∙◌, true≢false}
 use Rattle.serde_json.specs.View.{view}
 use Rattle.mega_schedule.proofs.Objects.{is_object, is_other, is_refused}
 use Rattle.mega_schedule.proofs.read.object_of.Goals as goal
