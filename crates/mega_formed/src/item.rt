@@ -13,27 +13,27 @@ use mega_entry::Entry;
 use mega_wal::JournalItem;
 
 /// The greatest length of an entry's text, and of a group's key.
-const LONGEST: usize = 65_536;
+pub(crate) const LONGEST: usize = 65_536;
 
 /// The greatest position of an item.
-const LAST_POSITION: u64 = 1_000_000;
+pub(crate) const LAST_POSITION: u64 = 1_000_000;
 
 /// Whether an entry has a text of at most 65,536 bytes.
-fn is_entry(entry: &Entry) -> bool
+pub fn is_entry(entry: &Entry) -> bool
     ensures { IsTrue result ↔ IsNested 65536 entry_text IsEntry entry.now }
 {
     entry.room_behind(LONGEST).is_some()
 }
 
 /// Whether an item may name a group and a position.
-fn is_place(group: &GroupId, position: Position) -> bool
+pub(crate) fn is_place(group: &GroupId, position: Position) -> bool
     ensures { IsTrue result ↔ (IsGroup group.now × IsPositionIn 1 1000000 position) }
 {
     group.key.len() <= LONGEST && 1 <= position.0 && position.0 <= LAST_POSITION
 }
 
 /// Whether a ballot has a text: that of round 0 has no operation.
-fn is_ballot(ballot: Ballot) -> bool
+pub(crate) fn is_ballot(ballot: Ballot) -> bool
     ensures { IsTrue result ↔ IsBallot ballot }
 {
     let op = ballot.op;

@@ -1,11 +1,13 @@
-//! Whether the items of a journal may be written: each is of its format, and each entry's text is short enough.
+//! Whether the items of a journal and the messages of a node may be written: each is of its format, and each entry's text is short enough.
 #![tactic(auto)]
 
 mod cuts;
 mod entry;
 mod formed;
 mod item;
+mod message;
 mod names;
 mod rows;
 
-pub use item::are_items;
+pub use item::{are_items, is_entry};
+pub use message::is_message;
