@@ -15,7 +15,7 @@ use Rattle.mega_rules.specs.Operations.{Node as RuleNode, Setting}
 use Rattle.mega_rules.specs.Steps.{Event}
 use Rattle.mega_voter.specs.declared.voter.Voter.{Voter}
 use Rattle.mega_durable.specs.declared.fault.UpFault.{UpFault}
-use Rattle.mega_durable.specs.declared.fault.UpFault.TheVariants.{Step as Failed, Cut as CutOff, Log}
+use Rattle.mega_durable.specs.declared.fault.UpFault.TheVariants.{Step as Failed, Cut as CutOff, Log, Unformed}
 use Rattle.mega_durable.specs.declared.starting.NotStarted.{NotStarted}
 use Rattle.mega_durable.specs.declared.starting.NotStarted.TheVariants as start
 use Rattle.mega_durable.specs.Cut.{IsCut, IsCutBy, IsCutStart, IsTakenFrom, LogWent, MayLeaveStart, failed_by, is_cut, log_fault_in}
@@ -42,6 +42,7 @@ unfolding fault_of
 cut_by store s node event old new fault (Failed why) is holds = tt
 cut_by store s node event old new fault (CutOff cut) is holds = holds (sym (ap (fault_of DiskFault) is))
 cut_by store s node event old new fault (Log why) is holds = tt
+cut_by store s node event old new fault Unformed is holds = tt
 
 -- a start
 pub start_cut : {R : Type 0} (store : Ghosts R) (starts : ℕ) (met : List Met) (old records : R) (fault : LogFault) → (fault ≡ DiskFault → IsCutStart store starts met old records) → IsCutOff store starts met old (refused_by fault records)
@@ -71,6 +72,7 @@ step_in : {T : Type 0} → StepFault → Result T UpFault → StepFault
 step_in other (Err (Failed fault)) = fault
 step_in other (Err (CutOff cut)) = other
 step_in other (Err (Log fault)) = other
+step_in other (Err Unformed) = other
 step_in other (Ok made) = other
 
 pub same_step : {T : Type 0} (one other : StepFault) → ◌≡◌ {A = Result T UpFault} (Err (Failed one)) (Err (Failed other)) → one ≡ other
@@ -81,6 +83,7 @@ log_alone : (made : Step) (replies : ℕ) (refused : UpFault) → IsTakenFrom ma
 log_alone made replies (Failed fault) taken = absurd taken
 log_alone made replies (CutOff cut) taken = refl
 log_alone made replies (Log fault) taken = refl
+log_alone made replies Unformed taken = refl
 
 -- the rows went on as they did before the record
 pub kept_fares : {V : Type 0} (store : Rows V) (old : V) (mid new : StoredRows V) (made : Step) (replies : ℕ) (refused : UpFault) → IsTakenFrom made replies refused → new ≡ mid → Fares store None old mid.rows

@@ -30,7 +30,7 @@ use Rattle.mega_voter.specs.Faring.{LogFares}
 use Rattle.mega_durable.specs.declared.cut.Cut.{Cut}
 use Rattle.mega_durable.specs.Cut.{IsOwedBy, IsTakenFrom, LogWent}
 use Rattle.mega_durable.specs.declared.fault.UpFault.{UpFault}
-use Rattle.mega_durable.specs.declared.fault.UpFault.TheVariants.{Step as Failed, Cut as CutOff, Log}
+use Rattle.mega_durable.specs.declared.fault.UpFault.TheVariants.{Step as Failed, Cut as CutOff, Log, Unformed}
 use Rattle.mega_durable.specs.Granted.{KeepsGrants}
 use Rattle.mega_durable.specs.Replying.{owed_by, replies_at}
 use Rattle.mega_durable.specs.Standing.{IsPlacedAt, IsUp, MayHappen, records_in, setting_of}
@@ -117,6 +117,7 @@ pub owed_from : (s : Setting) (node : RuleNode) (event : Event) (made : Step) (c
 owed_from s node event made count (Failed fault) notes sends is may taken = absurd taken
 owed_from s node event made count (CutOff cut) notes sends is may taken = (owed_is s node event made cut count notes sends is taken, may)
 owed_from s node event made count (Log fault) notes sends is may apart = apart
+owed_from s node event made count Unformed notes sends is may taken = tt
 
 -- ---- a log that nothing was done to
 burns_not : (fuse : Fuse) → MayBurn fuse fuse

@@ -67,6 +67,7 @@ abbrev pub IsCutBy : {R : Type 0} → Ghosts R → Setting → RuleNode → Even
 IsCutBy store s node event old new (up.Step fault) = Unit {0}
 IsCutBy store s node event old new (up.Cut cut) = IsCut store s node event old new
 IsCutBy store s node event old new (up.Log fault) = Unit {0}
+IsCutBy store s node event old new up.Unformed = Unit {0}
 
 -- what is handed back of a step that was cut off is what the next start owes, where its record was kept, and it may be owed
 abbrev pub IsOwedBy : Setting → RuleNode → Event → UpFault → Type 0
@@ -75,12 +76,14 @@ IsOwedBy s node event (up.Cut cut) =
     (owed_by cut ≡ owes (step s node event) (replies_in s.cluster s.me node.met event))
     × AreOwed (owes (step s node event) (replies_in s.cluster s.me node.met event)) (Crashes ∷ own_item s node event ∷ node.met)
 IsOwedBy s node event (up.Log fault) = fault ≢ DiskFault
+IsOwedBy s node event up.Unformed = Unit {0}
 
 -- it is taken from what the step gives, of which so many messages are replies; nothing else comes of the log here
 abbrev pub IsTakenFrom : Step → ℕ → UpFault → Type 0
 IsTakenFrom made replies (up.Step fault) = ⊥
 IsTakenFrom made replies (up.Cut cut) = (map met_of cut.notes ≡ filter is_durable (map met_of made.notes)) × (cut.replies ≡ take replies made.sends)
 IsTakenFrom made replies (up.Log fault) = fault ≢ DiskFault
+IsTakenFrom made replies up.Unformed = Unit {0}
 
 -- the store's error by which a step failed, and the fault of its log
 abbrev pub failed_by : {T : Type 0} → Result T UpFault → Option StoreError
@@ -88,11 +91,13 @@ failed_by (Ok made) = None
 failed_by (Err (up.Step fault)) = of_store fault
 failed_by (Err (up.Cut cut)) = None
 failed_by (Err (up.Log fault)) = None
+failed_by (Err up.Unformed) = None
 
 abbrev pub log_fault_in : UpFault → Option LogFault
 log_fault_in (up.Step fault) = None
 log_fault_in (up.Cut cut) = Some DiskFault
 log_fault_in (up.Log fault) = Some fault
+log_fault_in up.Unformed = None
 
 abbrev pub log_failed_by : {T : Type 0} → Result T UpFault → Option LogFault
 log_failed_by (Ok made) = None

@@ -1,5 +1,5 @@
 -- How a node over its records stands to the node of the rules: while it is up, and where it starts.
-use Rattle.std.specs.Prelude.{◌≡◌, ℕ, false, List, [], All, Option}
+use Rattle.std.specs.Prelude.{◌≡◌, ℕ, false, true, List, [], All, Option}
 use Rattle.mega_cluster.specs.declared.cluster.Cluster.{Cluster}
 use Rattle.mega_disk.specs.declared.records.Records.{Ghosts}
 use Rattle.mega_disk.specs.VersionMaps.{Versions}
@@ -32,13 +32,13 @@ records_in one = one.replica.voter.logs.records
 abbrev pub setting_of : {R V : Type 0} → Node R V → Meanings → Setting
 setting_of one h = setting one.replica.members one.replica.me h
 
--- a node that is up: it stands for that of the rules, nothing is staged, its records are open, and they hold what the node met; and its lock
--- cell keeps what was granted last
+-- a node that is up: it stands for that of the rules, nothing is staged, its records are open, and where they are told they hold what the node
+-- met; and its lock cell keeps what was granted last
 pub record IsUp {R V : Type 0} (store : Ghosts R) (version : V → Versions) (h : Meanings) (one : Node R V) (node : RuleNode) : Type 0 where
   pub stands : StandsFor version h one node
   pub empty : one.replica.voter.logs.staged.items ≡ []
   pub ready : store.is_spent (records_in one) ≡ false
-  pub holds : HoldsMet (store.list (records_in one)) (start_of node.met) node.met
+  pub holds : store.is_told ≡ true → HoldsMet (store.list (records_in one)) (start_of node.met) node.met
   pub granted : KeepsGrants one.replica.members one.replica.me node.met
 
 -- a decision that a message brings is at a position from 1 on
@@ -55,10 +55,11 @@ pub record MayHappen (makes : List ℕ → Option Meaning) (s : Setting) (node :
   pub placed : IsPlacedAt s node event
   pub formed : All IsItem (journal_of (step s node event).node.met)
 
--- logs and rows over which a node may start: the logs recall what it met and owes, their records are open and hold it, and the rows follow it
+-- logs and rows over which a node may start: the logs recall what it met and owes, their records are open and hold it where they are told, and
+-- the rows follow it
 pub record MayStart {R V : Type 0} (store : Ghosts R) (version : V → Versions) (c : Cluster) (me : ℕ) (down : Down R V) (starts : ℕ) (met owed : List Met) : Type 0 where
   pub owes : AreOwed owed met
   pub recalls : Recalls down.voter.logs.kept starts (onto owed met)
   pub ready : store.is_spent down.voter.logs.records ≡ false
-  pub holds : HoldsMet (store.list down.voter.logs.records) starts (onto owed met)
+  pub holds : store.is_told ≡ true → HoldsMet (store.list down.voter.logs.records) starts (onto owed met)
   pub rows : HaveFollowed c me (version down.rows.rows) (progress_at down.rows.progress) (onto owed met)

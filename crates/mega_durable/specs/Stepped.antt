@@ -19,24 +19,17 @@ use Rattle.mega_durable.specs.Standing.{IsUp, MayHappen, records_in, setting_of}
 abbrev pub AtEach : {R V : Type 0} → Ghosts R → (V → Versions) → (List ℕ → Option Meaning) → Node R V → Event → (Meanings → Setting → RuleNode → Type 0) → Type 0
 AtEach store version makes one event Is = (h : Meanings) (node : RuleNode) → IsUp store version h one node → MayHappen makes (setting_of one h) node event → Is h (setting_of one h) node
 
--- there is such a node
-abbrev pub IsSome : {R V : Type 0} → Ghosts R → (V → Versions) → (List ℕ → Option Meaning) → Node R V → Event → Type 0
-IsSome store version makes one event = (h : Meanings) × ((node : RuleNode) × IsUp store version h one node × MayHappen makes (setting_of one h) node event)
-
 -- a node that took a step in memory alone: it stands for that of the rules behind the step, what is staged is the step's, and its records,
--- which are these, hold what the node met before
+-- which are these, hold what the node met before where they are told
 pub record HasStepped {R V : Type 0} (store : Ghosts R) (version : V → Versions) (h : Meanings) (one : Node R V) (s : Setting) (node : RuleNode) (event : Event) (was : R) : Type 0 where
   pub stands : StandsFor version h one (step s node event).node
   pub stages : Stages one.replica.voter.logs.staged.items node.met (step s node event).node.met
   pub formed : All IsItem (journal_of (step s node event).node.met)
   pub same : records_in one ≡ was
   pub ready : store.is_spent was ≡ false
-  pub holds : HoldsMet (store.list was) (start_of node.met) node.met
+  pub holds : store.is_told ≡ true → HoldsMet (store.list was) (start_of node.met) node.met
   pub granted : KeepsGrants one.replica.members one.replica.me (step s node event).node.met
 
 -- of each such step that the node took
 abbrev pub AtStep : {R V : Type 0} → Ghosts R → (V → Versions) → Node R V → (Meanings → Setting → RuleNode → Event → R → Type 0) → Type 0
 AtStep {R = R} store version one Is = (h : Meanings) (s : Setting) (node : RuleNode) (event : Event) (was : R) → HasStepped store version h one s node event was → Is h s node event was
-
-abbrev pub IsSomeStep : {R V : Type 0} → Ghosts R → (V → Versions) → Node R V → Type 0
-IsSomeStep {R = R} store version one = (h : Meanings) × ((s : Setting) × ((node : RuleNode) × ((event : Event) × ((was : R) × HasStepped store version h one s node event was))))

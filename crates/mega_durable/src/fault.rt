@@ -12,4 +12,6 @@ pub enum UpFault {
     Cut(Cut),
     /// The step's record was not kept for another cause, and nothing of the step was given out.
     Log(LogFault),
+    /// What the step staged is not of the journal's format, so nothing of it is on the log, and nothing was given out.
+    Unformed,
 }

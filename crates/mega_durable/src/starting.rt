@@ -118,7 +118,7 @@ impl<R: Records + Drop, V: Versions + Drop> Up<R, V> {
         requires served { IsServed cluster }
         requires member { is_node cluster me ≡ true }
         requires flushed { down.voter.logs.staged.items ≡ [] }
-        ensures state { R.is_told ≡ true → IfOk result (λ made. AtEachStart R.Records V.version cluster me down (λ h starts met owed. IsUp R.Records V.version h made.up.node (start (setting cluster me h) (starts + 1) owed met))) }
+        ensures state { IfOk result (λ made. AtEachStart R.Records V.version cluster me down (λ h starts met owed. IsUp R.Records V.version h made.up.node (start (setting cluster me h) (starts + 1) owed met))) }
         ensures notes { IfOk result (λ made. AtEachStart R.Records V.version cluster me down (λ h starts met owed. map met_of made.notes ≡ start_notes (setting cluster me h) (onto owed (Starts (starts + 1) ∷ met)))) }
         ensures number { IfOk result (λ made. made.start ≡ down.voter.logs.kept.starts + 1) }
         ensures counted { IfOk result (λ made. R.count_of (records_in made.up.node) ≡ R.count_of down.voter.logs.records + 1) }

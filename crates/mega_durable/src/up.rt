@@ -11,10 +11,10 @@ ghost use Rattle.mega_actions.specs.Servable.{is_served};
 ghost use Rattle.mega_core.specs.declared.fault.StepFault.TheVariants.{Late, Stranger, Unserved};
 ghost use Rattle.mega_core.specs.Notes.{met_of};
 ghost use Rattle.mega_promises.specs.Runs.{appends};
-ghost use Rattle.mega_durable.specs.declared.fault.UpFault.TheVariants.{Step as Failed};
+ghost use Rattle.mega_durable.specs.declared.fault.UpFault.TheVariants.{Step as Failed, Unformed};
 ghost use Rattle.mega_durable.specs.Cut.{IsCutBy, IsOwedBy, IsWhole, LogWent, MayLeave, failed_by, log_failed_by};
 ghost use Rattle.mega_durable.specs.Standing.{IsUp, records_in};
-ghost use Rattle.mega_durable.specs.Stepped.{AtEach, IsSome};
+ghost use Rattle.mega_durable.specs.Stepped.{AtEach};
 
 use crate::fault::UpFault;
 use crate::keeping::keep;
@@ -42,23 +42,25 @@ impl<R: Records, V: Versions> Up<R, V> {
         handlers: &mut H,
         message: &Message,
     ) -> Result<Step, UpFault>
-        requires known { (V.is_told ≡ true) × IsSome R.Records V.version (H.meant handlers.old) self.old.node (Take message.now) }
-        ensures notes { IfOk result (λ made. AtEach R.Records V.version (H.meant handlers.old) self.old.node (Take message.now) (λ h s node. map met_of made.notes ≡ (step s node (Take message.now)).notes)) }
-        ensures sends { IfOk result (λ made. AtEach R.Records V.version (H.meant handlers.old) self.old.node (Take message.now) (λ h s node. made.sends ≡ (step s node (Take message.now)).sends)) }
-        ensures state { R.is_told ≡ true → OnOk result (AtEach R.Records V.version (H.meant handlers.old) self.old.node (Take message.now) (λ h s node. IsUp R.Records V.version h self.new.node (step s node (Take message.now)).node)) }
-        ensures appended { OnOk result (AtEach R.Records V.version (H.meant handlers.old) self.old.node (Take message.now) (λ h s node. R.count_of (records_in self.new.node) ≡ R.count_of (records_in self.old.node) + (if appends (step s node (Take message.now)) then 1 else 0))) }
+        ensures notes { V.is_told ≡ true → IfOk result (λ made. AtEach R.Records V.version (H.meant handlers.old) self.old.node (Take message.now) (λ h s node. map met_of made.notes ≡ (step s node (Take message.now)).notes)) }
+        ensures sends { V.is_told ≡ true → IfOk result (λ made. AtEach R.Records V.version (H.meant handlers.old) self.old.node (Take message.now) (λ h s node. made.sends ≡ (step s node (Take message.now)).sends)) }
+        ensures state { V.is_told ≡ true → OnOk result (AtEach R.Records V.version (H.meant handlers.old) self.old.node (Take message.now) (λ h s node. IsUp R.Records V.version h self.new.node (step s node (Take message.now)).node)) }
+        ensures appended { V.is_told ≡ true → OnOk result (AtEach R.Records V.version (H.meant handlers.old) self.old.node (Take message.now) (λ h s node. R.count_of (records_in self.new.node) ≡ R.count_of (records_in self.old.node) + (if appends (step s node (Take message.now)) then 1 else 0))) }
 
         // A crash at any moment of the step leaves what the run's step leaves that is cut off.
-        ensures cut { R.is_told ≡ true → AtEach R.Records V.version (H.meant handlers.old) self.old.node (Take message.now) (λ h s node. LeavesOnly R.moment R.opened_since (records_in self.old.node) (records_in self.new.node) (MayLeave s node (Take message.now))) }
+        ensures cut { V.is_told ≡ true → R.is_told ≡ true → AtEach R.Records V.version (H.meant handlers.old) self.old.node (Take message.now) (λ h s node. LeavesOnly R.moment R.opened_since (records_in self.old.node) (records_in self.new.node) (MayLeave s node (Take message.now))) }
 
         // The log's fuse cuts the step exactly where it has no append left for it.
-        ensures whole { R.by_four ≡ true → OnOk result (AtEach R.Records V.version (H.meant handlers.old) self.old.node (Take message.now) (λ h s node. IsWhole R.Records (appends (step s node (Take message.now))) (records_in self.old.node) (records_in self.new.node))) }
-        ensures burnt { R.is_told ≡ true → R.by_four ≡ true → IfErr result (λ refused. AtEach R.Records V.version (H.meant handlers.old) self.old.node (Take message.now) (λ h s node. IsCutBy R.Records s node (Take message.now) (records_in self.old.node) (records_in self.new.node) refused)) }
-        ensures owed { IfErr result (λ refused. AtEach R.Records V.version (H.meant handlers.old) self.old.node (Take message.now) (λ h s node. IsOwedBy s node (Take message.now) refused)) }
+        ensures whole { V.is_told ≡ true → R.by_four ≡ true → OnOk result (AtEach R.Records V.version (H.meant handlers.old) self.old.node (Take message.now) (λ h s node. IsWhole R.Records (appends (step s node (Take message.now))) (records_in self.old.node) (records_in self.new.node))) }
+        ensures burnt { V.is_told ≡ true → R.is_told ≡ true → R.by_four ≡ true → IfErr result (λ refused. AtEach R.Records V.version (H.meant handlers.old) self.old.node (Take message.now) (λ h s node. IsCutBy R.Records s node (Take message.now) (records_in self.old.node) (records_in self.new.node) refused)) }
+        ensures owed { V.is_told ≡ true → IfErr result (λ refused. AtEach R.Records V.version (H.meant handlers.old) self.old.node (Take message.now) (λ h s node. IsOwedBy s node (Take message.now) refused)) }
 
-        ensures built { result ≢ Err (Failed Unserved) }
+        // What a step stages is of the journal's format wherever its event may happen.
+        ensures formed { V.is_told ≡ true → result ≡ Err Unformed → AtEach R.Records V.version (H.meant handlers.old) self.old.node (Take message.now) (λ h s node. ⊥) }
+
+        ensures built { result ≡ Err (Failed Unserved) → (h : Meanings) (node : RuleNode) → IsUp R.Records V.version h self.old.node node → ⊥ }
         ensures stranger { result ≡ Err (Failed Stranger) → IsByStranger message.now.from message.now.body }
-        ensures late { result ≡ Err (Failed Late) → IsLate self.old.node.replica.members message.now.body }
+        ensures late { result ≡ Err (Failed Late) → (h : Meanings) (node : RuleNode) → IsUp R.Records V.version h self.old.node node → IsLate self.old.node.replica.members message.now.body }
         ensures handlers { H.meant handlers.new ≡ H.meant handlers.old }
         ensures went { LogWent R.Records (log_failed_by result) (records_in self.old.node) (records_in self.new.node) }
         ensures fares { Fares V.Versions (failed_by result) self.old.node.replica.rows.rows self.new.node.replica.rows.rows }
@@ -84,19 +86,21 @@ impl<R: Records, V: Versions> Up<R, V> {
         request: Request,
         text: &Text,
     ) -> Result<Step, UpFault>
-        requires known { (V.is_told ≡ true) × IsSome R.Records V.version (H.meant handlers.old) self.old.node (Begin request text.now) }
-        ensures notes { IfOk result (λ made. AtEach R.Records V.version (H.meant handlers.old) self.old.node (Begin request text.now) (λ h s node. map met_of made.notes ≡ (step s node (Begin request text.now)).notes)) }
-        ensures sends { IfOk result (λ made. AtEach R.Records V.version (H.meant handlers.old) self.old.node (Begin request text.now) (λ h s node. made.sends ≡ (step s node (Begin request text.now)).sends)) }
-        ensures state { R.is_told ≡ true → OnOk result (AtEach R.Records V.version (H.meant handlers.old) self.old.node (Begin request text.now) (λ h s node. IsUp R.Records V.version h self.new.node (step s node (Begin request text.now)).node)) }
-        ensures appended { OnOk result (AtEach R.Records V.version (H.meant handlers.old) self.old.node (Begin request text.now) (λ h s node. R.count_of (records_in self.new.node) ≡ R.count_of (records_in self.old.node) + (if appends (step s node (Begin request text.now)) then 1 else 0))) }
+        ensures notes { V.is_told ≡ true → IfOk result (λ made. AtEach R.Records V.version (H.meant handlers.old) self.old.node (Begin request text.now) (λ h s node. map met_of made.notes ≡ (step s node (Begin request text.now)).notes)) }
+        ensures sends { V.is_told ≡ true → IfOk result (λ made. AtEach R.Records V.version (H.meant handlers.old) self.old.node (Begin request text.now) (λ h s node. made.sends ≡ (step s node (Begin request text.now)).sends)) }
+        ensures state { V.is_told ≡ true → OnOk result (AtEach R.Records V.version (H.meant handlers.old) self.old.node (Begin request text.now) (λ h s node. IsUp R.Records V.version h self.new.node (step s node (Begin request text.now)).node)) }
+        ensures appended { V.is_told ≡ true → OnOk result (AtEach R.Records V.version (H.meant handlers.old) self.old.node (Begin request text.now) (λ h s node. R.count_of (records_in self.new.node) ≡ R.count_of (records_in self.old.node) + (if appends (step s node (Begin request text.now)) then 1 else 0))) }
 
         // A crash at any moment of the step leaves what the run's step leaves that is cut off.
-        ensures cut { R.is_told ≡ true → AtEach R.Records V.version (H.meant handlers.old) self.old.node (Begin request text.now) (λ h s node. LeavesOnly R.moment R.opened_since (records_in self.old.node) (records_in self.new.node) (MayLeave s node (Begin request text.now))) }
+        ensures cut { V.is_told ≡ true → R.is_told ≡ true → AtEach R.Records V.version (H.meant handlers.old) self.old.node (Begin request text.now) (λ h s node. LeavesOnly R.moment R.opened_since (records_in self.old.node) (records_in self.new.node) (MayLeave s node (Begin request text.now))) }
 
         // The log's fuse cuts the step exactly where it has no append left for it.
-        ensures whole { R.by_four ≡ true → OnOk result (AtEach R.Records V.version (H.meant handlers.old) self.old.node (Begin request text.now) (λ h s node. IsWhole R.Records (appends (step s node (Begin request text.now))) (records_in self.old.node) (records_in self.new.node))) }
-        ensures burnt { R.is_told ≡ true → R.by_four ≡ true → IfErr result (λ refused. AtEach R.Records V.version (H.meant handlers.old) self.old.node (Begin request text.now) (λ h s node. IsCutBy R.Records s node (Begin request text.now) (records_in self.old.node) (records_in self.new.node) refused)) }
-        ensures owed { IfErr result (λ refused. AtEach R.Records V.version (H.meant handlers.old) self.old.node (Begin request text.now) (λ h s node. IsOwedBy s node (Begin request text.now) refused)) }
+        ensures whole { V.is_told ≡ true → R.by_four ≡ true → OnOk result (AtEach R.Records V.version (H.meant handlers.old) self.old.node (Begin request text.now) (λ h s node. IsWhole R.Records (appends (step s node (Begin request text.now))) (records_in self.old.node) (records_in self.new.node))) }
+        ensures burnt { V.is_told ≡ true → R.is_told ≡ true → R.by_four ≡ true → IfErr result (λ refused. AtEach R.Records V.version (H.meant handlers.old) self.old.node (Begin request text.now) (λ h s node. IsCutBy R.Records s node (Begin request text.now) (records_in self.old.node) (records_in self.new.node) refused)) }
+        ensures owed { V.is_told ≡ true → IfErr result (λ refused. AtEach R.Records V.version (H.meant handlers.old) self.old.node (Begin request text.now) (λ h s node. IsOwedBy s node (Begin request text.now) refused)) }
+
+        // What a step stages is of the journal's format wherever its event may happen.
+        ensures formed { V.is_told ≡ true → result ≡ Err Unformed → AtEach R.Records V.version (H.meant handlers.old) self.old.node (Begin request text.now) (λ h s node. ⊥) }
 
         ensures unserved { result ≡ Err (Failed Unserved) → is_served request ≡ false }
         ensures stranger { result ≢ Err (Failed Stranger) }
@@ -123,21 +127,23 @@ impl<R: Records, V: Versions> Up<R, V> {
         handlers: &mut H,
         now: u64,
     ) -> Result<Step, UpFault>
-        requires known { (V.is_told ≡ true) × IsSome R.Records V.version (H.meant handlers.old) self.old.node (Tick now) }
-        ensures notes { IfOk result (λ made. AtEach R.Records V.version (H.meant handlers.old) self.old.node (Tick now) (λ h s node. map met_of made.notes ≡ (step s node (Tick now)).notes)) }
-        ensures sends { IfOk result (λ made. AtEach R.Records V.version (H.meant handlers.old) self.old.node (Tick now) (λ h s node. made.sends ≡ (step s node (Tick now)).sends)) }
-        ensures state { R.is_told ≡ true → OnOk result (AtEach R.Records V.version (H.meant handlers.old) self.old.node (Tick now) (λ h s node. IsUp R.Records V.version h self.new.node (step s node (Tick now)).node)) }
-        ensures appended { OnOk result (AtEach R.Records V.version (H.meant handlers.old) self.old.node (Tick now) (λ h s node. R.count_of (records_in self.new.node) ≡ R.count_of (records_in self.old.node) + (if appends (step s node (Tick now)) then 1 else 0))) }
+        ensures notes { V.is_told ≡ true → IfOk result (λ made. AtEach R.Records V.version (H.meant handlers.old) self.old.node (Tick now) (λ h s node. map met_of made.notes ≡ (step s node (Tick now)).notes)) }
+        ensures sends { V.is_told ≡ true → IfOk result (λ made. AtEach R.Records V.version (H.meant handlers.old) self.old.node (Tick now) (λ h s node. made.sends ≡ (step s node (Tick now)).sends)) }
+        ensures state { V.is_told ≡ true → OnOk result (AtEach R.Records V.version (H.meant handlers.old) self.old.node (Tick now) (λ h s node. IsUp R.Records V.version h self.new.node (step s node (Tick now)).node)) }
+        ensures appended { V.is_told ≡ true → OnOk result (AtEach R.Records V.version (H.meant handlers.old) self.old.node (Tick now) (λ h s node. R.count_of (records_in self.new.node) ≡ R.count_of (records_in self.old.node) + (if appends (step s node (Tick now)) then 1 else 0))) }
 
         // A crash at any moment of the step leaves what the run's step leaves that is cut off.
-        ensures cut { R.is_told ≡ true → AtEach R.Records V.version (H.meant handlers.old) self.old.node (Tick now) (λ h s node. LeavesOnly R.moment R.opened_since (records_in self.old.node) (records_in self.new.node) (MayLeave s node (Tick now))) }
+        ensures cut { V.is_told ≡ true → R.is_told ≡ true → AtEach R.Records V.version (H.meant handlers.old) self.old.node (Tick now) (λ h s node. LeavesOnly R.moment R.opened_since (records_in self.old.node) (records_in self.new.node) (MayLeave s node (Tick now))) }
 
         // The log's fuse cuts the step exactly where it has no append left for it.
-        ensures whole { R.by_four ≡ true → OnOk result (AtEach R.Records V.version (H.meant handlers.old) self.old.node (Tick now) (λ h s node. IsWhole R.Records (appends (step s node (Tick now))) (records_in self.old.node) (records_in self.new.node))) }
-        ensures burnt { R.is_told ≡ true → R.by_four ≡ true → IfErr result (λ refused. AtEach R.Records V.version (H.meant handlers.old) self.old.node (Tick now) (λ h s node. IsCutBy R.Records s node (Tick now) (records_in self.old.node) (records_in self.new.node) refused)) }
-        ensures owed { IfErr result (λ refused. AtEach R.Records V.version (H.meant handlers.old) self.old.node (Tick now) (λ h s node. IsOwedBy s node (Tick now) refused)) }
+        ensures whole { V.is_told ≡ true → R.by_four ≡ true → OnOk result (AtEach R.Records V.version (H.meant handlers.old) self.old.node (Tick now) (λ h s node. IsWhole R.Records (appends (step s node (Tick now))) (records_in self.old.node) (records_in self.new.node))) }
+        ensures burnt { V.is_told ≡ true → R.is_told ≡ true → R.by_four ≡ true → IfErr result (λ refused. AtEach R.Records V.version (H.meant handlers.old) self.old.node (Tick now) (λ h s node. IsCutBy R.Records s node (Tick now) (records_in self.old.node) (records_in self.new.node) refused)) }
+        ensures owed { V.is_told ≡ true → IfErr result (λ refused. AtEach R.Records V.version (H.meant handlers.old) self.old.node (Tick now) (λ h s node. IsOwedBy s node (Tick now) refused)) }
 
-        ensures built { result ≢ Err (Failed Unserved) }
+        // What a step stages is of the journal's format wherever its event may happen.
+        ensures formed { V.is_told ≡ true → result ≡ Err Unformed → AtEach R.Records V.version (H.meant handlers.old) self.old.node (Tick now) (λ h s node. ⊥) }
+
+        ensures built { result ≡ Err (Failed Unserved) → (h : Meanings) (node : RuleNode) → IsUp R.Records V.version h self.old.node node → ⊥ }
         ensures stranger { result ≢ Err (Failed Stranger) }
         ensures late { result ≢ Err (Failed Late) }
         ensures handlers { H.meant handlers.new ≡ H.meant handlers.old }

@@ -136,6 +136,13 @@ fn staged_text(alloc: Global, staged: &mut Vec<JournalItem>) -> Result<Bytes, No
 }
 
 impl<R: Records> Logs<R> {
+    /// The items that are staged, in their order: those of the next record.
+    pub fn staged(&self) -> &[JournalItem]
+        ensures { result.now ≡ self.now.staged.items }
+    {
+        self.staged.as_slice()
+    }
+
     /// Makes one record of the items that are staged, in their order, and appends it. Where none is staged it appends
     /// nothing.
     #[tactic(auto, using(crate::proofs::Flushed::short_record, crate::proofs::Flushed::nothing_leaves, crate::proofs::Flushed::nothing_burns, crate::proofs::Flushed::flushed_history))]

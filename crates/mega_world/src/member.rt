@@ -65,6 +65,7 @@ impl Member {
             Err(UpFault::Cut(cut)) => Err(NotMade::Cut(cut)),
             Err(UpFault::Step(fault)) => Err(NotMade::Fault(fault_of(fault))),
             Err(UpFault::Log(fault)) => Err(NotMade::Fault(log_fault_of(fault))),
+            Err(UpFault::Unformed) => unreachable!(),
         }
     }
 
@@ -91,6 +92,7 @@ impl Member {
             Err(UpFault::Cut(cut)) => Err(NotMade::Cut(cut)),
             Err(UpFault::Step(fault)) => Err(NotMade::Fault(fault_of(fault))),
             Err(UpFault::Log(fault)) => Err(NotMade::Fault(log_fault_of(fault))),
+            Err(UpFault::Unformed) => unreachable!(),
         }
     }
 
@@ -116,6 +118,7 @@ impl Member {
             Err(UpFault::Cut(cut)) => Err(NotMade::Cut(cut)),
             Err(UpFault::Step(fault)) => Err(NotMade::Fault(fault_of(fault))),
             Err(UpFault::Log(fault)) => Err(NotMade::Fault(log_fault_of(fault))),
+            Err(UpFault::Unformed) => unreachable!(),
         }
     }
 

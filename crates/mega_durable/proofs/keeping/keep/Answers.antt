@@ -20,31 +20,39 @@ use Rattle.mega_durable.specs.Standing.{records_in}
 use Rattle.mega_durable.proofs.Appending.{step_appends}
 use Rattle.mega_durable.proofs.Burning.{burnt_is, cut_holds, whole_is}
 use Rattle.mega_durable.proofs.Refusing.{cut_by}
-use Rattle.mega_durable.proofs.Upheld.{leaves_weaker, left_by_record, step_cut, step_each, step_few, step_goes, step_holds}
+use Rattle.mega_durable.proofs.Upheld.{as_it_was, leaves_same, leaves_weaker, left_by_record, step_cut, step_each, step_few, step_goes, step_holds}
 use Rattle.mega_durable.proofs.keeping.keep.Goals as goal
 
 pub flush-requires-clause-few : goal.flush-requires-clause-few
-flush-requires-clause-few g c =
-    let known = c.requires.known.1 in
-    step_few known.0 known.1.0 known.1.1.0 c.args.node.now.replica.voter.logs.staged.items known.1.1.1.1.stages
+flush-requires-clause-few g c = (c.is_formed.ensures.0 c.if-not-is_formed.false).0
 
 pub flush-requires-clause-each : goal.flush-requires-clause-each
-flush-requires-clause-each g c =
-    let known = c.requires.known.1 in
-    step_each known.0 known.1.0 known.1.1.0 c.args.node.now.replica.voter.logs.staged.items known.1.1.1.1.stages known.1.1.1.1.formed
+flush-requires-clause-each g c = (c.is_formed.ensures.0 c.if-not-is_formed.false).1
+
+pub returns-then-not-is_formed-clause-cut : goal.returns-then-not-is_formed-clause-cut
+returns-then-not-is_formed-clause-cut g c = λ seen h s node event was stepped.
+    leaves_same g.R.Records was (records_in c.args.node.now) (MayLeave s node event) (g.met.R.Records.only was seen stepped.ready) (g.met.R.Records.only_now was) stepped.same
+    (as_it_was s node event (g.R.Records.list was) (stepped.holds seen))
+
+pub returns-then-not-is_formed-clause-formed : goal.returns-then-not-is_formed-clause-formed
+returns-then-not-is_formed-clause-formed g c = λ is h s node event was stepped.
+    let staged = c.args.node.now.replica.voter.logs.staged.items in
+    let few = step_few s node event staged stepped.stages in
+    let each = step_each s node event staged stepped.stages stepped.formed in
+    false≢true (sym c.if-not-is_formed.true ∙ c.is_formed.ensures.1 (few, each))
 
 pub returns-in-Ok-clause-state : goal.returns-in-Ok-clause-state
-returns-in-Ok-clause-state g c = λ seen h s node event was stepped.
+returns-in-Ok-clause-state g c = λ h s node event was stepped.
     let mid = c.args.node.now in
     let staged = mid.replica.voter.logs.staged.items in
-    let before = subst (λ (one : _). HoldsMet (g.R.Records.list one) (start_of node.met) node.met) (sym stepped.same) stepped.holds in
     record {
       stands = subst (λ (kept : Kept). Represents (setting mid.replica.members mid.replica.me h) kept mid.replica.leases mid.replica.indexed (g.V.Versions.version mid.replica.rows.rows) (progress_at mid.replica.rows.progress) mid.open mid.begun (step s node event).node)
           (sym c.in-Ok.ensures.kept) stepped.stands;
       empty = c.in-Ok.ensures.cleared;
       ready = c.in-Ok.ensures.still_open ∙ (ap g.R.Records.is_spent stepped.same ∙ stepped.ready);
-      holds = step_holds s node event staged (g.R.Records.list c.flush.new.self.logs.records) stepped.stages
-          (c.in-Ok.ensures.holds seen (start_of node.met) node.met (step s node event).node.met before (step_goes s node event staged stepped.stages stepped.stands.tells.honest));
+      holds = λ seen. step_holds s node event staged (g.R.Records.list c.flush.new.self.logs.records) stepped.stages
+          (c.in-Ok.ensures.holds seen (start_of node.met) node.met (step s node event).node.met
+          (subst (λ (one : _). HoldsMet (g.R.Records.list one) (start_of node.met) node.met) (sym stepped.same) (stepped.holds seen)) (step_goes s node event staged stepped.stages stepped.stands.tells.honest));
       granted = stepped.granted;
     }
 
@@ -57,7 +65,7 @@ returns-in-Ok-clause-cut g c = λ seen h s node event was stepped.
     let mid = c.args.node.now in
     let staged = mid.replica.voter.logs.staged.items in
     let new = c.flush.new.self.logs.records in
-    let before = subst (λ (one : _). HoldsMet (g.R.Records.list one) (start_of node.met) node.met) (sym stepped.same) stepped.holds in
+    let before = subst (λ (one : _). HoldsMet (g.R.Records.list one) (start_of node.met) node.met) (sym stepped.same) (stepped.holds seen) in
     let leaves = c.in-Ok.ensures.any_moment seen (ap g.R.Records.is_spent stepped.same ∙ stepped.ready) (start_of node.met) node.met _ before (step_cut s node event staged stepped.stages stepped.stands.tells.honest) in
     subst (λ (one : _). LeavesOnly g.R.Records.moment g.R.Records.opened_since one new (MayLeave s node event)) stepped.same
     (leaves_weaker g.R.Records.moment g.R.Records.opened_since (records_in mid) new _ (MayLeave s node event) (λ found. left_by_record s node event staged found stepped.stages) leaves)
@@ -67,7 +75,7 @@ returns-in-Err-clause-cut g c = λ seen h s node event was stepped.
     let mid = c.args.node.now in
     let staged = mid.replica.voter.logs.staged.items in
     let new = c.flush.new.self.logs.records in
-    let before = subst (λ (one : _). HoldsMet (g.R.Records.list one) (start_of node.met) node.met) (sym stepped.same) stepped.holds in
+    let before = subst (λ (one : _). HoldsMet (g.R.Records.list one) (start_of node.met) node.met) (sym stepped.same) (stepped.holds seen) in
     let leaves = c.in-Err.ensures.any_moment seen (ap g.R.Records.is_spent stepped.same ∙ stepped.ready) (start_of node.met) node.met _ before (step_cut s node event staged stepped.stages stepped.stands.tells.honest) in
     subst (λ (one : _). LeavesOnly g.R.Records.moment g.R.Records.opened_since one new (MayLeave s node event)) stepped.same
     (leaves_weaker g.R.Records.moment g.R.Records.opened_since (records_in mid) new _ (MayLeave s node event) (λ found. left_by_record s node event staged found stepped.stages) leaves)
@@ -93,7 +101,7 @@ returns-in-Err-clause-burnt g c = λ seen four h s node event was stepped.
     let mid = c.args.node.now in
     let staged = mid.replica.voter.logs.staged.items in
     let new = c.flush.new.self.logs.records in
-    let before = subst (λ (one : _). HoldsMet (g.R.Records.list one) (start_of node.met) node.met) (sym stepped.same) stepped.holds in
+    let before = subst (λ (one : _). HoldsMet (g.R.Records.list one) (start_of node.met) node.met) (sym stepped.same) (stepped.holds seen) in
     cut_by g.R.Records s node event was new c.in-Err.fault c.not_kept.result c.not_kept.ensures.cause (λ is.
     subst (λ (one : _). IsCut g.R.Records s node event one new) stepped.same (record {
       burnt = burnt_is g.R.Records (appends (step s node event)) staged (records_in mid) new (step_appends s node event staged stepped.stages)

@@ -9,6 +9,6 @@ returns-clause-state g c = λ k me starts met owed may. record {
   owes = may.owes;
   recalls = subst (λ (kept : Kept). Recalls kept starts (onto owed met)) (sym c.fuse.ensures.kept) may.recalls;
   ready = c.fuse.ensures.spent ∙ may.ready;
-  holds = subst (λ (records : List (List ℕ)). HoldsMet records starts (onto owed met)) (sym c.fuse.ensures.list) may.holds;
+  holds = λ told. subst (λ (records : List (List ℕ)). HoldsMet records starts (onto owed met)) (sym c.fuse.ensures.list) (may.holds told);
   rows = may.rows;
 }

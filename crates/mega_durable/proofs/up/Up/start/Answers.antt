@@ -23,17 +23,17 @@ pub kept-requires : goal.kept-requires
 kept-requires g c = record { one = c.in-Ok.ensures.staged ∙ ap (λ (items : List JournalItem). items ++ Start ∷ []) c.requires.flushed }
 
 pub returns-in-Ok-kept-clause-state : goal.returns-in-Ok-kept-clause-state
-returns-in-Ok-kept-clause-state g c = λ seen h starts met owed may.
+returns-in-Ok-kept-clause-state g c = λ h starts met owed may.
     let s = setting c.args.cluster c.args.me h in
     let few : starts < 4294967295 = subst (λ n. n < 4294967295) may.recalls.counted c.in-Ok.ensures.few in
     let are = owed_no_start owed met may.owes in
-    let before = subst (λ (one : _). HoldsMet (g.R.Records.list one) starts (onto owed met)) (sym c.in-Ok.ensures.records) may.holds in
     record {
       stands = c.in-Ok-kept.ensures.stands h (start s (starts + 1) owed met) (c.in-Ok.ensures.state h starts met owed may.owes may.recalls may.rows);
       empty = c.in-Ok-kept.ensures.empty;
       ready = c.in-Ok-kept.ensures.ready ∙ (ap g.R.Records.is_spent c.in-Ok.ensures.records ∙ may.ready);
-      holds = started_holds s starts met owed _ are few
-          (c.in-Ok-kept.ensures.holds seen starts (onto owed met) (onto owed (Starts (starts + 1) ∷ met)) before (start_goes_on starts met owed are few may.recalls.later may.recalls.honest).0);
+      holds = λ seen. started_holds s starts met owed _ are few
+          (c.in-Ok-kept.ensures.holds seen starts (onto owed met) (onto owed (Starts (starts + 1) ∷ met))
+          (subst (λ (one : _). HoldsMet (g.R.Records.list one) starts (onto owed met)) (sym c.in-Ok.ensures.records) (may.holds seen)) (start_goes_on starts met owed are few may.recalls.later may.recalls.honest).0);
       granted = coe 0 1 (i. KeepsGrants (sym (c.in-Ok-kept.ensures.members ∙ c.in-Ok.ensures.members) i) (sym (c.in-Ok-kept.ensures.me ∙ c.in-Ok.ensures.me) i) (start s (starts + 1) owed met).met) (start_keeps s (starts + 1) met owed may.owes);
     }
 
@@ -44,7 +44,7 @@ returns-in-Ok-kept-clause-notes g c = λ h starts met owed may.
 pub returns-in-Ok-kept-clause-cut : goal.returns-in-Ok-kept-clause-cut
 returns-in-Ok-kept-clause-cut g c = λ seen h starts met owed may.
     let few : starts < 4294967295 = subst (λ n. n < 4294967295) may.recalls.counted c.in-Ok.ensures.few in
-    let before = subst (λ (one : _). HoldsMet (g.R.Records.list one) starts (onto owed met)) (sym c.in-Ok.ensures.records) may.holds in
+    let before = subst (λ (one : _). HoldsMet (g.R.Records.list one) starts (onto owed met)) (sym c.in-Ok.ensures.records) (may.holds seen) in
     subst (λ (one : _). LeavesOnly g.R.Records.moment g.R.Records.opened_since one (records_in c.in-Ok-kept.started.up.node) (MayLeaveStart starts (onto owed met))) c.in-Ok.ensures.records
     (c.in-Ok-kept.ensures.cut seen (ap g.R.Records.is_spent c.in-Ok.ensures.records ∙ may.ready) starts (onto owed met) few before)
 
@@ -57,7 +57,7 @@ returns-in-Ok-kept-clause-whole g c = λ four. subst (λ (one : _). IsWhole g.R.
 pub returns-in-Err-kept-clause-cut : goal.returns-in-Err-kept-clause-cut
 returns-in-Err-kept-clause-cut g c = λ seen h starts met owed may.
     let few : starts < 4294967295 = subst (λ n. n < 4294967295) may.recalls.counted c.in-Ok.ensures.few in
-    let before = subst (λ (one : _). HoldsMet (g.R.Records.list one) starts (onto owed met)) (sym c.in-Ok.ensures.records) may.holds in
+    let before = subst (λ (one : _). HoldsMet (g.R.Records.list one) starts (onto owed met)) (sym c.in-Ok.ensures.records) (may.holds seen) in
     subst (λ (one : _). LeavesStart g.R.Records starts (onto owed met) c.args.down.voter.logs.records one) (sym c.refused.ensures)
     (start_leaves g.R.Records starts (onto owed met) c.args.down.voter.logs.records c.in-Err-kept.records c.in-Err-kept.fault
     (subst (λ (one : _). LeavesOnly g.R.Records.moment g.R.Records.opened_since one c.in-Err-kept.records (MayLeaveStart starts (onto owed met))) c.in-Ok.ensures.records
@@ -66,7 +66,7 @@ returns-in-Err-kept-clause-cut g c = λ seen h starts met owed may.
 pub returns-in-Err-kept-clause-burnt : goal.returns-in-Err-kept-clause-burnt
 returns-in-Err-kept-clause-burnt g c = λ seen four h starts met owed may.
     let few : starts < 4294967295 = subst (λ n. n < 4294967295) may.recalls.counted c.in-Ok.ensures.few in
-    let before = subst (λ (one : _). HoldsMet (g.R.Records.list one) starts (onto owed met)) (sym c.in-Ok.ensures.records) may.holds in
+    let before = subst (λ (one : _). HoldsMet (g.R.Records.list one) starts (onto owed met)) (sym c.in-Ok.ensures.records) (may.holds seen) in
     subst (λ (one : _). IsCutOff g.R.Records starts (onto owed met) c.args.down.voter.logs.records one) (sym c.refused.ensures)
     (start_cut g.R.Records starts (onto owed met) c.args.down.voter.logs.records c.in-Err-kept.records c.in-Err-kept.fault
     (λ is. subst (λ (one : _). IsCutStart g.R.Records starts (onto owed met) one c.in-Err-kept.records) c.in-Ok.ensures.records

@@ -12,57 +12,43 @@ use Rattle.mega_durable.proofs.Stepping.{may_owe, owed_from, same_went, stepped_
 use Rattle.mega_durable.proofs.Upheld.{as_it_was, leaves_same}
 use Rattle.mega_durable.proofs.up.Up.tick.Goals as goal
 
-pub keep-requires : goal.keep-requires
-keep-requires g c =
-    let told = c.requires.known.0 in
-    let h = c.requires.known.1.0 in
-    let node = c.requires.known.1.1.0 in
-    let up = c.requires.known.1.1.1 in
-    let may = c.requires.known.1.1.2 in
-    let old = c.args.self.now.node in
-    record { known = (h, (setting_of old h, (node, (Tick c.args.now, (records_in old, stepped_now g.R.Records g.V.Versions.version h old c.tick.new.self node (Tick c.args.now) up may (λ stands owned placed. c.in-Ok.ensures.state told h node may.means stands owned) (λ stands owned placed. c.in-Ok.ensures.staged told h node node.met may.means stands owned) c.in-Ok.ensures.records c.in-Ok.ensures.members c.in-Ok.ensures.me))))) }
-
 pub returns-in-Ok-keep-clause-notes : goal.returns-in-Ok-keep-clause-notes
-returns-in-Ok-keep-clause-notes g c = λ h node up may.
-    ap (λ (made : Step). map met_of made.notes) c.in-Ok-keep.ensures.step ∙ c.in-Ok.ensures.notes c.requires.known.0 h node may.means up.stands may.owned
+returns-in-Ok-keep-clause-notes g c = λ told h node up may.
+    ap (λ (made : Step). map met_of made.notes) c.in-Ok-keep.ensures.step ∙ c.in-Ok.ensures.notes told h node may.means up.stands may.owned
 
 pub returns-in-Ok-keep-clause-sends : goal.returns-in-Ok-keep-clause-sends
-returns-in-Ok-keep-clause-sends g c = λ h node up may.
-    ap (λ (made : Step). made.sends) c.in-Ok-keep.ensures.step ∙ c.in-Ok.ensures.sends c.requires.known.0 h node may.means up.stands may.owned
+returns-in-Ok-keep-clause-sends g c = λ told h node up may.
+    ap (λ (made : Step). made.sends) c.in-Ok-keep.ensures.step ∙ c.in-Ok.ensures.sends told h node may.means up.stands may.owned
 
 pub returns-in-Ok-keep-clause-state : goal.returns-in-Ok-keep-clause-state
-returns-in-Ok-keep-clause-state g c = λ seen h node up may.
-    let told = c.requires.known.0 in
+returns-in-Ok-keep-clause-state g c = λ told h node up may.
     let old = c.args.self.now.node in
     let stepped = stepped_now g.R.Records g.V.Versions.version h old c.tick.new.self node (Tick c.args.now) up may (λ stands owned placed. c.in-Ok.ensures.state told h node may.means stands owned) (λ stands owned placed. c.in-Ok.ensures.staged told h node node.met may.means stands owned) c.in-Ok.ensures.records c.in-Ok.ensures.members c.in-Ok.ensures.me in
-    c.in-Ok-keep.ensures.state seen h (setting_of old h) node (Tick c.args.now) (records_in old) stepped
+    c.in-Ok-keep.ensures.state h (setting_of old h) node (Tick c.args.now) (records_in old) stepped
 
 pub returns-in-Ok-keep-clause-appended : goal.returns-in-Ok-keep-clause-appended
-returns-in-Ok-keep-clause-appended g c = λ h node up may.
-    let told = c.requires.known.0 in
+returns-in-Ok-keep-clause-appended g c = λ told h node up may.
     let old = c.args.self.now.node in
     let stepped = stepped_now g.R.Records g.V.Versions.version h old c.tick.new.self node (Tick c.args.now) up may (λ stands owned placed. c.in-Ok.ensures.state told h node may.means stands owned) (λ stands owned placed. c.in-Ok.ensures.staged told h node node.met may.means stands owned) c.in-Ok.ensures.records c.in-Ok.ensures.members c.in-Ok.ensures.me in
     c.in-Ok-keep.ensures.appended h (setting_of old h) node (Tick c.args.now) (records_in old) stepped
 
 pub returns-in-Ok-keep-clause-cut : goal.returns-in-Ok-keep-clause-cut
-returns-in-Ok-keep-clause-cut g c = λ seen h node up may.
-    let told = c.requires.known.0 in
+returns-in-Ok-keep-clause-cut g c = λ told seen h node up may.
     let old = c.args.self.now.node in
     let stepped = stepped_now g.R.Records g.V.Versions.version h old c.tick.new.self node (Tick c.args.now) up may (λ stands owned placed. c.in-Ok.ensures.state told h node may.means stands owned) (λ stands owned placed. c.in-Ok.ensures.staged told h node node.met may.means stands owned) c.in-Ok.ensures.records c.in-Ok.ensures.members c.in-Ok.ensures.me in
     c.in-Ok-keep.ensures.cut seen h (setting_of old h) node (Tick c.args.now) (records_in old) stepped
 
 pub returns-in-Err-keep-clause-cut : goal.returns-in-Err-keep-clause-cut
-returns-in-Err-keep-clause-cut g c = λ seen h node up may.
-    let told = c.requires.known.0 in
+returns-in-Err-keep-clause-cut g c = λ told seen h node up may.
     let old = c.args.self.now.node in
     let stepped = stepped_now g.R.Records g.V.Versions.version h old c.tick.new.self node (Tick c.args.now) up may (λ stands owned placed. c.in-Ok.ensures.state told h node may.means stands owned) (λ stands owned placed. c.in-Ok.ensures.staged told h node node.met may.means stands owned) c.in-Ok.ensures.records c.in-Ok.ensures.members c.in-Ok.ensures.me in
     c.in-Err-keep.ensures.cut seen h (setting_of old h) node (Tick c.args.now) (records_in old) stepped
 
 pub returns-in-Err-clause-cut : goal.returns-in-Err-clause-cut
-returns-in-Err-clause-cut g c = λ seen h node up may.
+returns-in-Err-clause-cut g c = λ told seen h node up may.
     let old = c.args.self.now.node in
     leaves_same g.R.Records (records_in old) (records_in c.tick.new.self) (MayLeave (setting_of old h) node (Tick c.args.now)) (g.met.R.Records.only (records_in old) seen up.ready) (g.met.R.Records.only_now (records_in old)) c.in-Err.ensures.records
-    (as_it_was (setting_of old h) node (Tick c.args.now) (g.R.Records.list (records_in old)) up.holds)
+    (as_it_was (setting_of old h) node (Tick c.args.now) (g.R.Records.list (records_in old)) (up.holds seen))
 
 pub returns-in-Ok-keep-clause-went : goal.returns-in-Ok-keep-clause-went
 returns-in-Ok-keep-clause-went g c = subst (λ (one : _). LogWent g.R.Records _ one (records_in c.keep.new.node)) c.in-Ok.ensures.records c.in-Ok-keep.ensures.went
@@ -74,22 +60,19 @@ pub returns-in-Err-clause-went : goal.returns-in-Err-clause-went
 returns-in-Err-clause-went g c = same_went g.R.Records (records_in c.args.self.now.node) (records_in c.tick.new.self) c.in-Err.ensures.records
 
 pub returns-in-Ok-keep-clause-whole : goal.returns-in-Ok-keep-clause-whole
-returns-in-Ok-keep-clause-whole g c = λ four h node up may.
-    let told = c.requires.known.0 in
+returns-in-Ok-keep-clause-whole g c = λ told four h node up may.
     let old = c.args.self.now.node in
     let stepped = stepped_now g.R.Records g.V.Versions.version h old c.tick.new.self node (Tick c.args.now) up may (λ stands owned placed. c.in-Ok.ensures.state told h node may.means stands owned) (λ stands owned placed. c.in-Ok.ensures.staged told h node node.met may.means stands owned) c.in-Ok.ensures.records c.in-Ok.ensures.members c.in-Ok.ensures.me in
     c.in-Ok-keep.ensures.whole four h (setting_of old h) node (Tick c.args.now) (records_in old) stepped
 
 pub returns-in-Err-keep-clause-burnt : goal.returns-in-Err-keep-clause-burnt
-returns-in-Err-keep-clause-burnt g c = λ seen four h node up may.
-    let told = c.requires.known.0 in
+returns-in-Err-keep-clause-burnt g c = λ told seen four h node up may.
     let old = c.args.self.now.node in
     let stepped = stepped_now g.R.Records g.V.Versions.version h old c.tick.new.self node (Tick c.args.now) up may (λ stands owned placed. c.in-Ok.ensures.state told h node may.means stands owned) (λ stands owned placed. c.in-Ok.ensures.staged told h node node.met may.means stands owned) c.in-Ok.ensures.records c.in-Ok.ensures.members c.in-Ok.ensures.me in
     c.in-Err-keep.ensures.burnt seen four h (setting_of old h) node (Tick c.args.now) (records_in old) stepped
 
 pub returns-in-Err-keep-clause-owed : goal.returns-in-Err-keep-clause-owed
-returns-in-Err-keep-clause-owed g c = λ h node up may.
-    let told = c.requires.known.0 in
+returns-in-Err-keep-clause-owed g c = λ told h node up may.
     let old = c.args.self.now.node in
     owed_from (setting_of old h) node (Tick c.args.now) c.in-Ok.step 0 c.in-Err-keep.fault (c.in-Ok.ensures.notes told h node may.means up.stands may.owned) (c.in-Ok.ensures.sends told h node may.means up.stands may.owned)
     refl
@@ -100,4 +83,10 @@ returns-in-Err-keep-clause-fares g c =
     kept_fares g.V.Versions c.args.self.now.node.replica.rows.rows c.tick.new.self.replica.rows c.keep.new.node.replica.rows c.in-Ok.step 0 c.in-Err-keep.fault c.in-Err-keep.ensures.owed c.in-Err-keep.ensures.rows c.in-Ok.ensures.fares
 
 pub returns-in-Err-clause-built : goal.returns-in-Err-clause-built
-returns-in-Err-clause-built g c = λ is. c.in-Err.ensures.built (ap Err (same_step _ _ is)) c.requires.known.1.0 c.requires.known.1.1.0 c.requires.known.1.1.1.stands
+returns-in-Err-clause-built g c = λ is h node up. c.in-Err.ensures.built (ap Err (same_step _ _ is)) h node up.stands
+
+pub returns-in-Err-keep-clause-formed : goal.returns-in-Err-keep-clause-formed
+returns-in-Err-keep-clause-formed g c = λ told is h node up may.
+    let old = c.args.self.now.node in
+    let stepped = stepped_now g.R.Records g.V.Versions.version h old c.tick.new.self node (Tick c.args.now) up may (λ stands owned placed. c.in-Ok.ensures.state told h node may.means stands owned) (λ stands owned placed. c.in-Ok.ensures.staged told h node node.met may.means stands owned) c.in-Ok.ensures.records c.in-Ok.ensures.members c.in-Ok.ensures.me in
+    c.in-Err-keep.ensures.formed is h (setting_of old h) node (Tick c.args.now) (records_in old) stepped

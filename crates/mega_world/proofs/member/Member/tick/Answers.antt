@@ -9,23 +9,17 @@ use Rattle.mega_world.proofs.Failing.{log_memory, not_strange}
 use Rattle.mega_world.proofs.Stepped.{Counts, Steps, is_here, made_step, own_setting, was_cut}
 use Rattle.mega_world.proofs.member.Member.tick.Goals as goal
 
-pub tick-requires : goal.tick-requires
-tick-requires g c =
-    let k = c.requires.known in
-    let here = is_here k.cluster k.handlers k.me c.args.self.now k.ruled k.is in
-    let may = subst (λ (s : Setting). MayHappen (g.H.QueueHandlers.meant c.args.handlers.now) s k.ruled (Tick c.args.clock)) (own_setting k.cluster k.handlers k.me c.args.self.now k.ruled k.is) k.may in record { known = (refl, (k.handlers, (k.ruled, (record { stands = here.stands; empty = here.empty; ready = here.ready; holds = here.holds; granted = here.granted }), may))) }
-
 pub returns-in-Ok-clause-made : goal.returns-in-Ok-clause-made
 returns-in-Ok-clause-made g c cluster h me ruled fuse is fused may =
     let old = c.args.self.now in
     let stepped : Member = record { up = c.tick.new.self; fuse = c.counted-self.result } in
     let steps : Steps _ (node_in old) (node_in stepped) c.in-Ok.made (Tick c.args.clock) = record {
-      notes = λ g one here its. c.in-Ok.ensures.notes g one (record { stands = here.stands; empty = here.empty; ready = here.ready; holds = here.holds; granted = here.granted }) its;
-      sends = λ g one here its. c.in-Ok.ensures.sends g one (record { stands = here.stands; empty = here.empty; ready = here.ready; holds = here.holds; granted = here.granted }) its;
-      state = λ g one here its. let up = c.in-Ok.ensures.state refl g one (record { stands = here.stands; empty = here.empty; ready = here.ready; holds = here.holds; granted = here.granted }) its in record { stands = up.stands; empty = up.empty; ready = up.ready; holds = up.holds; granted = up.granted };
+      notes = λ g one here its. c.in-Ok.ensures.notes refl g one (record { stands = here.stands; empty = here.empty; ready = here.ready; holds = λ told. here.holds; granted = here.granted }) its;
+      sends = λ g one here its. c.in-Ok.ensures.sends refl g one (record { stands = here.stands; empty = here.empty; ready = here.ready; holds = λ told. here.holds; granted = here.granted }) its;
+      state = λ g one here its. let up = c.in-Ok.ensures.state refl g one (record { stands = here.stands; empty = here.empty; ready = here.ready; holds = λ told. here.holds; granted = here.granted }) its in record { stands = up.stands; empty = up.empty; ready = up.ready; holds = up.holds refl; granted = up.granted };
       whole = λ g one here its.
-          let whole = c.in-Ok.ensures.whole refl g one (record { stands = here.stands; empty = here.empty; ready = here.ready; holds = here.holds; granted = here.granted }) its in
-          record { long = whole.long; fuse = whole.fuse; image = whole.image; count = c.in-Ok.ensures.appended g one (record { stands = here.stands; empty = here.empty; ready = here.ready; holds = here.holds; granted = here.granted }) its };
+          let whole = c.in-Ok.ensures.whole refl refl g one (record { stands = here.stands; empty = here.empty; ready = here.ready; holds = λ told. here.holds; granted = here.granted }) its in
+          record { long = whole.long; fuse = whole.fuse; image = whole.image; count = c.in-Ok.ensures.appended refl g one (record { stands = here.stands; empty = here.empty; ready = here.ready; holds = λ told. here.holds; granted = here.granted }) its };
       members = c.in-Ok.ensures.members;
       me = c.in-Ok.ensures.me;
     } in
@@ -41,8 +35,8 @@ returns-in-Err-Cut-clause-made g c cluster h me ruled fuse is fused may =
     let stepped : Member = record { up = c.tick.new.self; fuse = old.fuse } in
     was_cut cluster h me ruled fuse old stepped c.in-Err-Cut.cut (Tick c.args.clock) is fused may refl
     (λ here its.
-    let burnt = rw c.in-Err-Cut.field-0-is at (c.in-Err-Cut.ensures.burnt refl refl h ruled (record { stands = here.stands; empty = here.empty; ready = here.ready; holds = here.holds; granted = here.granted }) its) in
-    let owed = rw c.in-Err-Cut.field-0-is at (c.in-Err-Cut.ensures.owed h ruled (record { stands = here.stands; empty = here.empty; ready = here.ready; holds = here.holds; granted = here.granted }) its) in record {
+    let burnt = rw c.in-Err-Cut.field-0-is at (c.in-Err-Cut.ensures.burnt refl refl refl h ruled (record { stands = here.stands; empty = here.empty; ready = here.ready; holds = λ told. here.holds; granted = here.granted }) its) in
+    let owed = rw c.in-Err-Cut.field-0-is at (c.in-Err-Cut.ensures.owed refl h ruled (record { stands = here.stands; empty = here.empty; ready = here.ready; holds = λ told. here.holds; granted = here.granted }) its) in record {
       appending = burnt.burnt.appending;
       short = burnt.burnt.short;
       gone = burnt.burnt.gone;
@@ -56,11 +50,20 @@ log_fault_of-requires g c =
     let k = c.requires.known in
     let here = is_here k.cluster k.handlers k.me c.args.self.now k.ruled k.is in
     let may = subst (λ (s : Setting). MayHappen (g.H.QueueHandlers.meant c.args.handlers.now) s k.ruled (Tick c.args.clock)) (own_setting k.cluster k.handlers k.me c.args.self.now k.ruled k.is) k.may in
-    log_memory _ _ c.in-Err-Log.fault _ _ (rw c.in-Err-Log.field-0-is at c.in-Err-Log.ensures.went.1) k.is.ready refl (rw c.in-Err-Log.field-0-is at (c.in-Err-Log.ensures.owed k.handlers k.ruled (record { stands = here.stands; empty = here.empty; ready = here.ready; holds = here.holds; granted = here.granted }) may))
+    log_memory _ _ c.in-Err-Log.fault _ _ (rw c.in-Err-Log.field-0-is at c.in-Err-Log.ensures.went.1) k.is.ready refl (rw c.in-Err-Log.field-0-is at (c.in-Err-Log.ensures.owed refl k.handlers k.ruled (record { stands = here.stands; empty = here.empty; ready = here.ready; holds = λ told. here.holds; granted = here.granted }) may))
 
 pub fault_of-requires-clause-own : goal.fault_of-requires-clause-own
 fault_of-requires-clause-own g c =
+    let k = c.requires.known in
+    let here = is_here k.cluster k.handlers k.me c.args.self.now k.ruled k.is in
     not_strange c.in-Err-Step.fault
-    (λ is. c.in-Err-Step.ensures.built (ap Err (c.in-Err-Step.field-0-is ∙ ap Failed is)))
+    (λ is. c.in-Err-Step.ensures.built (ap Err (c.in-Err-Step.field-0-is ∙ ap Failed is)) k.handlers k.ruled (record { stands = here.stands; empty = here.empty; ready = here.ready; holds = λ told. here.holds; granted = here.granted }))
     (λ is. c.in-Err-Step.ensures.stranger (ap Err (c.in-Err-Step.field-0-is ∙ ap Failed is)))
     (λ is. c.in-Err-Step.ensures.late (ap Err (c.in-Err-Step.field-0-is ∙ ap Failed is)))
+
+pub prove-unreachable-requires : goal.prove-unreachable-requires
+prove-unreachable-requires g c =
+    let k = c.requires.known in
+    let here = is_here k.cluster k.handlers k.me c.args.self.now k.ruled k.is in
+    let may = subst (λ (s : Setting). MayHappen (g.H.QueueHandlers.meant c.args.handlers.now) s k.ruled (Tick c.args.clock)) (own_setting k.cluster k.handlers k.me c.args.self.now k.ruled k.is) k.may in
+    c.in-Err-Unformed.ensures.formed refl (ap Err c.in-Err-Unformed.field-0-is) k.handlers k.ruled (record { stands = here.stands; empty = here.empty; ready = here.ready; holds = λ told. here.holds; granted = here.granted }) may
