@@ -10,3 +10,4 @@ pub mod Owing
 pub mod Stepping
 pub mod Burning
 pub mod Refusing
+pub mod Named

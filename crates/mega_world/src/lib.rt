@@ -17,7 +17,6 @@ mod mail_order;
 mod mail_refusals;
 mod member;
 mod not_made;
-mod noting;
 mod opening;
 mod owing;
 mod place;

@@ -18,13 +18,13 @@ ghost use Rattle.mega_world.specs.Showing.{IsShown, IsStepped, LinesStep, ShowsS
 ghost use Rattle.mega_world.specs.Shown.{notes_shown};
 
 use crate::judging::breaks_first;
-use crate::noting::item_of;
 use crate::place::Place;
 use crate::safety::{Safety, keep_lapses};
 use crate::stepping::Stepped;
 use crate::world::World;
 use mega_base::{Items, NoMemory, NodeId};
 use mega_core::{Note, Step};
+use mega_durable::item_of;
 use mega_transcript::{Item, Tape};
 use std::alloc::Global;
 

@@ -46,7 +46,7 @@ fn lease_item(me: u8, note: mega_leases::Note) -> Item
 }
 
 /// The item that shows a note of a node.
-pub(crate) fn item_of(me: u8, note: Note) -> Item
+pub fn item_of(me: u8, note: Note) -> Item
     ensures { shown me (met_of note) ≡ result ∷ [] }
 {
     let node = NodeId(me);
