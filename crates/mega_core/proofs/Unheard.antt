@@ -1,5 +1,5 @@
 -- An operation that a message is not for is left by it as it was.
-use Rattle.std.proofs.Common.{◌≡◌, ◌&&◌, ◌==◌, ℕ, Bool, true, false, cond, List, [], None, Some, refl, ap, sym, ◌∙◌}
+use Rattle.std.proofs.Common.{◌≡◌, ◌&&◌, ◌==◌, ℕ, Bool, true, false, cond, List, [], Option, None, Some, refl, ap, sym, ◌∙◌}
 use Rattle.mega_base.specs.declared.names.Epoch.{Epoch}
 use Rattle.mega_base.specs.declared.names.GroupId.{GroupId}
 use Rattle.mega_base.specs.declared.names.OpId.{OpId}
@@ -63,7 +63,7 @@ takes_unheard s p from now (Past cell asked greatest) e = refl
 takes_unheard s p from now (Request token json) e = refl
 takes_unheard s p from now (Reply token text) e = refl
 
-module _ (who : Reader) (noted : _) (asked : List ℕ) (from now : ℕ) where
+module _ (who : Reader) (noted : Option Epoch) (asked : List ℕ) (from now : ℕ) where
   abbrev at : Stage → Reading
   at stage = record { noted = noted; asked = asked; stage = stage }
 

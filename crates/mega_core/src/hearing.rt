@@ -47,7 +47,7 @@ fn hears(
     message: &Message,
     operation: Operation,
 ) -> Result<Heard, NoMemory>
-    ensures { IfOk result (λ heard. (s : Setting) → s.cluster ≡ members.now → heard ≡ hears_message s clock message.now operation) }
+    ensures { (s : Setting) → s.cluster ≡ members.now → IfOk result (λ heard. heard ≡ hears_message s clock message.now operation) }
 {
     if !is_for(operation.id, &message.body) {
         return Ok(Heard {

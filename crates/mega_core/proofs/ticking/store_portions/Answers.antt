@@ -14,7 +14,7 @@ pub loop-group-init : goal.loop-group-init
 loop-group-init g c = record {
   count = search rules;
   all = λ met stored groups_are tells follows.
-      subst (StoredSo (g.V.Versions.version c.args.rows.now.rows) (progress_at c.args.rows.now.progress) c.args.most met stored) (sym (c.into_iter-group-iterator.ensures.into_iter_gives.0 ∙ (c.into_vec.ensures ∙ (groups_are ∙ ap (λ t. behind t met stored) c.if-not-keeps.false))))
+      subst (StoredSo (g.V.Versions.version c.args.rows.now.rows) (progress_at c.args.rows.now.progress) c.args.most met stored) (sym (c.into_iter-group-iterator.ensures.into_iter_gives.0 ∙ (c.into_vec-group-items.ensures ∙ (groups_are ∙ ap (λ t. behind t met stored) c.if-not-keeps.false))))
       (stored_first (g.V.Versions.version c.args.rows.now.rows) (progress_at c.args.rows.now.progress) c.args.most met stored follows);
   fares = fares_here g.V.Versions c.args.rows.now.rows;
 }

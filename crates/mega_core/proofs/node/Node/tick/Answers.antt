@@ -5,10 +5,12 @@ use Rattle.mega_rules.specs.Members.{has_rows}
 use Rattle.mega_rules.specs.Met.{Ticks}
 use Rattle.mega_rules.specs.Steps.{Step as RuleStep, Tick, lapse_notes, lease_notes, portion_of}
 use Rattle.mega_replica.specs.Following.{progress_at}
+use Rattle.mega_replica.proofs.Fared.{fares_then}
 use Rattle.mega_node_laws.specs.About.{IsAbout}
 use Rattle.mega_node_laws.specs.Acted.{acted_on}
 use Rattle.mega_actions.specs.Stands.{setting}
 use Rattle.mega_actions.specs.Turns.{IsServable}
+use Rattle.mega_core.specs.Faults.{failed_by}
 use Rattle.mega_core.specs.Positions.{before_at}
 use Rattle.mega_core.specs.Represents.{Represents}
 use Rattle.mega_core.specs.Staging.{Stages}
@@ -16,6 +18,7 @@ use Rattle.mega_core.specs.Ticking.{has_ticked}
 use Rattle.mega_core.specs.Touching.{behind}
 use Rattle.mega_core.proofs.Begun.{represents_keeps}
 use Rattle.mega_core.proofs.Clocks.{tick_acts, tick_is, tick_may}
+use Rattle.mega_core.proofs.Failing.{acted_store}
 use Rattle.mega_core.proofs.Refused.{unserved_is}
 use Rattle.mega_core.proofs.Untouched.{tick_noted}
 use Rattle.mega_core.proofs.Watched.{at_behind, watched_noted}
@@ -24,6 +27,10 @@ use Rattle.mega_core.proofs.node.Node.tick.Goals as goal
 pub returns-in_err-work-clause-built : goal.returns-in_err-work-clause-built
 returns-in_err-work-clause-built g c = λ is h node represents.
     c.in_err-work.ensures.unserved (search (rules, unserved_is)) (subst (All IsServable) (sym c.replace-opened.ensures.value) represents.built)
+
+pub returns-in_err-work-clause-fares : goal.returns-in_err-work-clause-fares
+returns-in_err-work-clause-fares g c =
+    fares_then g.V.Versions (failed_by c.from_residual-in_err-work.result) c.args.self.now.replica.rows.rows c.ticks.new.replica.rows.rows c.acts_ticked.new.replica.rows.rows c.in_ok-made.ensures.fares (search (rules, acted_store))
 
 pub returns-clause-notes : goal.returns-clause-notes
 returns-clause-notes g c = λ told h node means represents owned.
