@@ -1,9 +1,6 @@
 -- An operation that a message is not for is left by it as it was.
-use Rattle.std.proofs.Common.{◌≡◌, ◌&&◌, ◌==◌, ℕ, Bool, true, false, cond, List, [], Option, None, Some, refl, ap, sym, ◌∙◌}
+use Rattle.std.proofs.Common.{◌≡◌, ◌&&◌, ◌==◌, ℕ, Bool, true, false, cond, List, [], Option, None, Some, refl, ap, sym}
 use Rattle.mega_base.specs.declared.names.Epoch.{Epoch}
-use Rattle.mega_base.specs.declared.names.GroupId.{GroupId}
-use Rattle.mega_base.specs.declared.names.OpId.{OpId}
-use Rattle.mega_base.specs.declared.names.Position.{Position}
 use Rattle.mega_wire.specs.declared.message.Body.{Body}
 use Rattle.mega_wire.specs.declared.message.Body.TheVariants.{Where, Top, Accept, Accepted, Refused, Prepare, Promise, Invalidate, Invalidated, Dead, Held, Unheld, Decide, Fetch, Have, HaveNot, Acquire, Granted, Past, Request, Reply}
 use Rattle.mega_wire.specs.declared.message.Message.{Message}
@@ -14,14 +11,13 @@ use Rattle.mega_propose.specs.Members.{has}
 use Rattle.mega_propose.specs.Rounds.{takes, stays as round_stays}
 use Rattle.mega_read.specs.declared.reading.Reader.{Reader}
 use Rattle.mega_read.specs.declared.reading.Reading.{Reading}
-use Rattle.mega_read.specs.declared.reading.Search.{Search}
 use Rattle.mega_read.specs.declared.reading.Search.TheVariants.{Fetching, Filling}
 use Rattle.mega_read.specs.declared.reading.Stage.{Stage}
 use Rattle.mega_read.specs.declared.reading.Stage.TheVariants.{Polling, Catching}
 use Rattle.mega_read.specs.Catching.{filled, hears, helpers, site, stays as read_stays}
 use Rattle.mega_rules.specs.Acting.{reader_of}
 use Rattle.mega_rules.specs.Operations.{Operation, Phase, Proposes, Reads, Setting}
-use Rattle.mega_rules.specs.Steps.{Heard, hears_message, read_heard, round_heard}
+use Rattle.mega_rules.specs.Steps.{hears_message, read_heard, round_heard}
 use Rattle.mega_core.specs.Hearing.{is_for}
 
 unless : {X : Type 0} (own : Bool) (x y : X) → own ≡ false → cond own x y ≡ y

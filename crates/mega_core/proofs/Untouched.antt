@@ -16,7 +16,7 @@ use Rattle.mega_rules.specs.Met.{Applies, Begins, Decides, Met, Takes}
 use Rattle.mega_rules.specs.Acting.{validated_by}
 use Rattle.mega_rules.specs.Clock.{clock_of}
 use Rattle.mega_rules.specs.Logs.{decided, groups_of, log_of, prefix_of, with_group}
-use Rattle.mega_rules.specs.Operations.{Node, Now, Operation, Setting}
+use Rattle.mega_rules.specs.Operations.{Node, Now, Setting}
 use Rattle.mega_rules.specs.Steps.{Decision, Heard, Take, Tick, applied_at, apply_note, at_first, decision_note, first_settled, hears_message, if_new, new_operation, onto, op_of, portion_of, refusal, stored_after, told_decision, told_notes}
 use Rattle.mega_node_laws.specs.About.{group_in}
 use Rattle.mega_node_laws.specs.Acted.{acted_on, decision_in, or_settled}

@@ -1,8 +1,8 @@
 -- One walk through what operations of given groups do as they act in a step, for any fact of the node that they cannot break.
-use Rattle.std.proofs.Common.{◌≡◌, ℕ, zero, suc, ◌+◌, nat_le, Bool, true, false, cond, List, [], ◌∷◌, map, take, length, fold, Option, Some, None, Result, Ok, Err, refl, ap}
+use Rattle.std.proofs.Common.{◌≡◌, ℕ, zero, suc, ◌+◌, nat_le, Bool, true, false, cond, List, [], ◌∷◌, take, length, fold, Option, Some, None, Result, Ok, Err, refl, ap}
 use Rattle.std.specs.Prelude.{is_some}
 use Rattle.std.specs.List.{All, list_any}
-use Rattle.std.proofs.lemmas.List.Elements.{All-cons, All-head, All-nil, All-tail}
+use Rattle.std.proofs.lemmas.List.Elements.{All-head, All-tail}
 use Rattle.mega_base.specs.declared.names.Epoch.{Epoch}
 use Rattle.mega_base.specs.declared.names.GroupId.{GroupId}
 use Rattle.mega_base.specs.declared.names.OpId.{OpId}
@@ -34,7 +34,7 @@ use Rattle.mega_handler.specs.Named.{has as has_handler}
 use Rattle.mega_rules.specs.Queues.{Posted, enter_entry, is_named, names_entered, next_to_enter, next_to_handle, oldest_unhandled}
 use Rattle.mega_rules.specs.Operations.{Now, Operation, Phase, Promised, Proposes, Reads, Replies, Results, Setting}
 use Rattle.mega_rules.specs.Acting.{acts, acts_within, applied_logs, batch_sealed, begins_read, completes_read, ends, enters, finishes, goes_on, handles, handling, in_phase, is_taken, keeps, leader_after, listed_at, picks_group, picks_message, proposes, proposes_by, read_begun, reader_of, reads_on, rows_at, sealed, sends_more, stored_with, table_rows, unless_decided, unless_full, validated_by, validates, visiting}
-use Rattle.mega_rules.specs.Steps.{Heard, acts_in_turn, all_act, begins, does_due, find_begins, hears_message, is_out, local_find_begins, read_begins, ticked, unless_refused}
+use Rattle.mega_rules.specs.Steps.{Heard, acts_in_turn, all_act, begins, does_due, find_begins, is_out, local_find_begins, read_begins, ticked, unless_refused}
 use Rattle.mega_node_laws.specs.About.{group_in}
 use Rattle.mega_actions.specs.Servable.{is_served, is_open, is_pump}
 use Rattle.mega_actions.specs.Turns.{IsServable, IsServableHeard}
