@@ -1,5 +1,5 @@
 -- A tick, as far as the operations act, and its step.
-use Rattle.std.proofs.Common.{◌≡◌, ℕ, min, List, [], ◌∷◌, ◌++◌, map, fold, refl, sym, ap, subst, ◌∙◌}
+use Rattle.std.proofs.Common.{◌≡◌, ℕ, false, min, List, [], ◌∷◌, ◌++◌, map, fold, refl, sym, ap, subst, ◌∙◌}
 use Rattle.std.specs.List.{All}
 use Rattle.std.proofs.lemmas.List.Elements.{All-nil}
 use Rattle.mega_base.specs.declared.names.GroupId.{GroupId}
@@ -9,7 +9,7 @@ use Rattle.mega_wire.specs.declared.message.Message.{Message}
 use Rattle.mega_rules.specs.Met.{Met, Ticks}
 use Rattle.mega_rules.specs.Clock.{begun_of, last_number}
 use Rattle.mega_rules.specs.Coordinators.{acquires_at}
-use Rattle.mega_rules.specs.Logs.{groups_of}
+use Rattle.mega_rules.specs.Logs.{groups_of, log_of}
 use Rattle.mega_rules.specs.Operations.{Node, Now, Operation, Setting}
 use Rattle.mega_rules.specs.Steps.{Step, Tick, at_first, background, lapse_notes, lease_notes, onto, portion_of, step, ticked}
 use Rattle.mega_voter.specs.Telling.{Tells}
@@ -20,7 +20,9 @@ use Rattle.mega_leases.specs.Notes.{met_of}
 use Rattle.mega_replica.specs.declared.progress.Progress.{Progress}
 use Rattle.mega_node_laws.specs.About.{IsAbout}
 use Rattle.mega_node_laws.specs.Acted.{acted_on}
+use Rattle.mega_node_laws.specs.Deciding.{is_decision}
 use Rattle.mega_node_laws.specs.Sending.{MaySend}
+use Rattle.mega_node_laws.proofs.Logs.{log_stays}
 use Rattle.mega_node_laws.proofs.Sent.{step_may}
 use Rattle.mega_rules.specs.Finding.{refreshed_marks}
 use Rattle.mega_marks.specs.declared.indexed.Indexed.{Indexed}
@@ -65,6 +67,19 @@ note_groups (note.Invalidates group position) met = refl
 pub leases_groups : (notes : List Note) (met : List Met) → groups_of (onto (map met_of notes) met) ≡ groups_of met
 leases_groups [] met = refl
 leases_groups (one ∷ notes) met = leases_groups notes (met_of one ∷ met) ∙ note_groups one met
+
+note_plain : (one : Note) → is_decision (met_of one) ≡ false
+note_plain (note.Grants node epoch) = refl
+note_plain (note.Lapses node epoch) = refl
+note_plain (note.Counts cell epoch) = refl
+note_plain (note.Forgets cell epoch) = refl
+note_plain (note.Serves epoch) = refl
+note_plain (note.Loses epoch) = refl
+note_plain (note.Invalidates group position) = refl
+
+pub leases_log : (notes : List Note) (met : List Met) (group : GroupId) → log_of (onto (map met_of notes) met) group ≡ log_of met group
+leases_log [] met group = refl
+leases_log (one ∷ notes) met group = leases_log notes (met_of one ∷ met) group ∙ log_stays (met_of one) met group (note_plain one)
 
 module _ (s : Setting) (node : Node) (now : ℕ) where
   abbrev ticking_from : Now

@@ -5,9 +5,12 @@ use Rattle.mega_disk.specs.declared.versions.StoreError.{StoreError}
 use Rattle.mega_disk.specs.declared.versions.Versions.{Ghosts}
 use Rattle.mega_leases.specs.declared.fault.TakeFault.{TakeFault}
 use Rattle.mega_leases.specs.declared.fault.TakeFault.TheVariants as take
+use Rattle.mega_actions.specs.declared.fault.ActFault.{ActFault}
+use Rattle.mega_actions.specs.declared.fault.ActFault.TheVariants as act
+use Rattle.mega_actions.specs.Faults.{of_store as act_store}
 use Rattle.mega_replica.specs.Faring.{Fares}
 use Rattle.mega_replica.proofs.Fared.{fares_here}
-use Rattle.mega_core.specs.Faults.{of_store, taking_fault_of}
+use Rattle.mega_core.specs.Faults.{fault_of, of_store, taking_fault_of}
 
 -- none for which a message is not taken
 pub taking_is_apart : (f : TakeFault) → of_store (taking_fault_of f) ≡ None
@@ -22,3 +25,11 @@ fares_apart {V} store failed x apart = subst (λ (one : Option StoreError). Fare
 -- rows that were not called at first
 pub fares_from : {V : Type 0} (store : Ghosts V) (failed : Option StoreError) (old mid new : V) → mid ≡ old → Fares store failed mid new → Fares store failed old new
 fares_from {V} store failed old mid new is fares = subst (λ (one : V). Fares store failed one new) is fares
+
+-- the store's error by which operations did not act
+pub acted_store : (f : ActFault) → act_store f ≡ of_store (fault_of f)
+acted_store act.DiskFault = refl
+acted_store (act.Full length) = refl
+acted_store (act.BadRecord number) = refl
+acted_store act.Unserved = refl
+acted_store act.NoMemory = refl

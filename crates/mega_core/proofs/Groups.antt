@@ -132,7 +132,7 @@ not_below_self n = grind (arith, nat_tests)
 not_below_none : (n : ℕ) → nat_lt n 0 ≡ false
 not_below_none n = grind (arith, nat_tests)
 
-since_is : (was : List Met) (was_stored : GroupId → ℕ) (met : List Met) (stored : GroupId → ℕ) (groups : List GroupId)
+pub since_is : (was : List Met) (was_stored : GroupId → ℕ) (met : List Met) (stored : GroupId → ℕ) (groups : List GroupId)
     → flat_map (note_since met stored) (map (before_at was was_stored) groups) ≡ flat_map (apply_note was was_stored met stored) groups
 since_is was was_stored met stored [] = refl
 since_is was was_stored met stored (group ∷ groups) = ap (λ (notes : List Met). apply_note was was_stored met stored group ++ notes) (since_is was was_stored met stored groups)

@@ -22,3 +22,4 @@ pub mod Watched
 pub mod Anew
 pub mod Quiet
 pub mod Unshown
+pub mod Unheard

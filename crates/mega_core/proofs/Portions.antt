@@ -1,8 +1,10 @@
 -- Portions that are stored: of the group of a decision, and of each group.
-use Rattle.std.proofs.Common.{◌≡◌, ◌≤◌, ◌||◌, ℕ, Bool, true, false, cond, List, [], ◌∷◌, length, Some, Ordering, Less, Equal, Greater, refl, sym, ap, ◌∙◌, arith}
+use Rattle.std.proofs.Common.{◌≡◌, ◌≤◌, ◌+◌, ◌-◌, ◌||◌, ℕ, suc, nat_le, nat_lt, Bool, true, false, cond, List, [], ◌∷◌, length, filter, Some, Ordering, Less, Equal, Greater, refl, sym, ap, ◌∙◌, arith}
 use Rattle.std.specs.List.{AllByRecursion}
 use Rattle.std.specs.List.Sorted.{IsStrictlySortedBy}
 use Rattle.std.specs.Ordering.{ordering_reverse}
+use Rattle.std.proofs.lemmas.Bool.Decides.{nat_tests}
+use Rattle.std.proofs.lemmas.List.{length-append}
 use Rattle.mega_base.specs.declared.names.GroupId.{GroupId}
 use Rattle.mega_disk.specs.VersionMaps.{Versions}
 use Rattle.mega_entry.specs.declared.content.Content.{Content}
@@ -10,7 +12,7 @@ use Rattle.mega_wal.specs.History.{group_cmp}
 use Rattle.mega_wal.specs.Same.{same_group}
 use Rattle.mega_wal.proofs.Fitting.{group_order}
 use Rattle.mega_wal.proofs.Sames.{same_group_equal, same_group_self}
-use Rattle.mega_replica.specs.Applying.{after_portion, writes_of}
+use Rattle.mega_replica.specs.Applying.{after_portion, applied, writes_of}
 use Rattle.mega_rules.specs.Met.{Met}
 use Rattle.mega_rules.specs.Logs.{groups_of, log_of}
 use Rattle.mega_rules.specs.Members.{has_rows}
@@ -21,6 +23,7 @@ use Rattle.mega_replica.specs.declared.progress.Progress.{Progress}
 use Rattle.mega_replica.specs.Following.{Follows}
 use Rattle.mega_replica.specs.Stored.{stored_with}
 use Rattle.mega_replica.proofs.Joined.{stored_total}
+use Rattle.mega_core.specs.Touching.{behind, is_behind}
 use Rattle.mega_core.proofs.Groups.{has, no_log}
 
 -- a node with rows stores a portion
@@ -54,7 +57,7 @@ not_above least (other ∷ groups) all = go (same_group other least) refl (not_a
         cross Greater e h = cc
     go false e rest = rest
 
--- those that are left are as they were, and of all others a portion is stored
+-- those that are left are as they were, and of all others a portion is stored, or all was
 pub record StoredSo (version : Versions) (progress : GroupId → Progress) (most : ℕ) (met : List Met) (stored : GroupId → ℕ) (left : List GroupId) : Type 0 where
   pub now : GroupId → ℕ
   pub follows : Follows version progress (log_of met) now
@@ -64,12 +67,73 @@ pub record StoredSo (version : Versions) (progress : GroupId → Progress) (most
 nothing_more : (most : ℕ) (log : List Content) (count : ℕ) → count ≤ length (writes_of log) → log ≡ [] → count ≡ after_portion most log count
 nothing_more most log count few empty = let none : length (writes_of log) ≡ 0 = ap (λ (xs : List Content). length (writes_of xs)) empty in omega (arith, few, none)
 
-pub stored_first : (version : Versions) (progress : GroupId → Progress) (most : ℕ) (met : List Met) (stored : GroupId → ℕ) → Follows version progress (log_of met) stored → StoredSo version progress most met stored (groups_of met)
-stored_first version progress most met stored follows = record { now = stored; follows = follows; sorted = groups_sorted met; each = λ group. by group (has group (groups_of met)) refl }
+-- of a group of which all is applied that is decided all is stored
+is_le : (a b : ℕ) → nat_le a b ≡ true → a ≤ b
+is_le a b is = grind (arith, nat_tests)
+
+not_less : (a b : ℕ) → nat_lt a b ≡ false → b ≤ a
+not_less a b is = grind (arith, nat_tests)
+
+all_stored : (log : List Content) (count : ℕ) → length log ≤ applied log count → length (writes_of log) ≤ count
+all_stored [] count le = let none : 0 ≤ count = omega arith in none
+all_stored (entry ∷ log) count le = by (nat_le (length entry.writes) count) refl le (all_stored log (count - length entry.writes))
   where
-    by : (group : GroupId) (t : Bool) → has group (groups_of met) ≡ t → stored group ≡ cond t (stored group) (after_portion most (log_of met group) (stored group))
+    by : (t : Bool) → nat_le (length entry.writes) count ≡ t → suc (length log) ≤ cond t (1 + applied log (count - length entry.writes)) 0
+        → (length log ≤ applied log (count - length entry.writes) → length (writes_of log) ≤ count - length entry.writes) → length (writes_of (entry ∷ log)) ≤ count
+    by true e most rest =
+        let low = is_le (length entry.writes) count e in
+        let some : suc (length log) ≤ 1 + applied log (count - length entry.writes) = most in
+        let left = rest (omega (arith, some)) in
+        let all = length-append entry.writes (writes_of log) in
+        omega (arith, low, left, all)
+    by false e most rest = absurd (let none : suc (length log) ≤ 0 = most in omega (arith, none))
+
+complete : (most : ℕ) (log : List Content) (count : ℕ) → count ≤ length (writes_of log) → nat_lt (applied log count) (length log) ≡ false → count ≡ after_portion most log count
+complete most log count few whole = let all = all_stored log count (not_less (applied log count) (length log) whole) in omega (arith, few, all)
+
+-- ---- some of the groups in order are in order
+
+kept_there : (test : GroupId → Bool) (group : GroupId) (groups : List GroupId) → has group groups ≡ true → test group ≡ true → has group (filter test groups) ≡ true
+kept_there test group [] there is = there
+kept_there test group (other ∷ groups) there is = go (same_group other group) (test other) refl refl there (kept_there test group groups)
+  where
+    go : (a b : Bool) → same_group other group ≡ a → test other ≡ b → (a || has group groups) ≡ true → (has group groups ≡ true → test group ≡ true → has group (filter test groups) ≡ true)
+        → has group (cond b (other ∷ filter test groups) (filter test groups)) ≡ true
+    go true true e f h rest = ap (λ t. t || has group (filter test groups)) e
+    go true false e f h rest = absurd (let never : true ≡ false = sym is ∙ (ap test (sym (same_group_equal other group e)) ∙ f) in cc)
+    go false true e f h rest = ap (λ t. t || has group (filter test groups)) e ∙ rest h is
+    go false false e f h rest = rest h is
+
+above_kept : (test : GroupId → Bool) (least : GroupId) (groups : List GroupId) → AllAbove least groups → AllAbove least (filter test groups)
+above_kept test least [] all = all
+above_kept test least (other ∷ groups) all = go (test other) (above_kept test least groups all.1)
+  where
+    go : (t : Bool) → AllAbove least (filter test groups) → AllAbove least (cond t (other ∷ filter test groups) (filter test groups))
+    go true rest = (all.0, rest)
+    go false rest = rest
+
+one_sorted : (t : Bool) (group : GroupId) (rest : List GroupId) → AllAbove group rest → IsStrictlySortedBy group_cmp rest → IsStrictlySortedBy group_cmp (cond t (group ∷ rest) rest)
+unfolding IsStrictlySortedBy
+one_sorted true group rest above sorted = (above, sorted)
+one_sorted false group rest above sorted = sorted
+
+sorted_kept : (test : GroupId → Bool) (groups : List GroupId) → IsStrictlySortedBy group_cmp groups → IsStrictlySortedBy group_cmp (filter test groups)
+unfolding IsStrictlySortedBy
+sorted_kept test [] sorted = sorted
+sorted_kept test (group ∷ groups) sorted = one_sorted (test group) group (filter test groups) (above_kept test group groups sorted.0) (sorted_kept test groups sorted.1)
+
+pub stored_first : (version : Versions) (progress : GroupId → Progress) (most : ℕ) (met : List Met) (stored : GroupId → ℕ) → Follows version progress (log_of met) stored → StoredSo version progress most met stored (behind true met stored)
+stored_first version progress most met stored follows =
+    record { now = stored; follows = follows; sorted = sorted_kept (is_behind met stored) (groups_of met) (groups_sorted met); each = λ group. by group (has group (behind true met stored)) refl }
+  where
+    left : (group : GroupId) → has group (behind true met stored) ≡ false → (a b : Bool) → has group (groups_of met) ≡ a → is_behind met stored group ≡ b → stored group ≡ after_portion most (log_of met group) (stored group)
+    left group e false b f k = nothing_more most (log_of met group) (stored group) (stored_total version progress (log_of met) stored group follows) (no_log met group f)
+    left group e true false f k = complete most (log_of met group) (stored group) (stored_total version progress (log_of met) stored group follows) k
+    left group e true true f k = absurd (let never : true ≡ false = sym (kept_there (is_behind met stored) group (groups_of met) f k) ∙ e in cc)
+
+    by : (group : GroupId) (t : Bool) → has group (behind true met stored) ≡ t → stored group ≡ cond t (stored group) (after_portion most (log_of met group) (stored group))
     by group true e = refl
-    by group false e = nothing_more most (log_of met group) (stored group) (stored_total version progress (log_of met) stored group follows) (no_log met group e)
+    by group false e = left group e (has group (groups_of met)) (is_behind met stored group) refl refl
 
 next_each : (most : ℕ) (met : List Met) (stored now : GroupId → ℕ) (one : GroupId) (left : List GroupId) → has one left ≡ false
     → ((group : GroupId) → now group ≡ cond (has group (one ∷ left)) (stored group) (after_portion most (log_of met group) (stored group)))

@@ -1,5 +1,6 @@
 -- A step applies nothing more of groups that it does not touch.
-use Rattle.std.proofs.Common.{◌≡◌, ℕ, ◌||◌, Bool, true, false, cond, is_none, List, [], ◌∷◌, map, flat_map, fold, Option, Some, None, refl, sym, ap, ◌∙◌}
+use Rattle.std.proofs.Common.{◌≡◌, ◌≤◌, ℕ, ◌||◌, ◌&&◌, ◌++◌, Bool, true, false, cond, nat_lt, is_none, List, [], ◌∷◌, length, map, filter, flat_map, fold, Option, Some, None, refl, sym, ap, subst, ◌∙◌, arith}
+use Rattle.std.proofs.lemmas.Bool.Decides.{nat_tests}
 use Rattle.std.specs.List.{All, list_any}
 use Rattle.std.proofs.lemmas.List.Elements.{All-cons, All-head, All-nil, All-tail, All-weaker}
 use Rattle.mega_base.specs.declared.names.GroupId.{GroupId}
@@ -8,19 +9,18 @@ use Rattle.mega_entry.specs.declared.content.Content.{Content}
 use Rattle.mega_wire.specs.declared.message.Message.{Message}
 use Rattle.mega_outcome.specs.declared.request.Request.{Request}
 use Rattle.mega_outcome.specs.declared.request.Request.TheVariants.{Txn, Batch, Read, Find, PumpEnter, PumpHandle, Refresh}
-use Rattle.mega_propose.specs.Rounds.{settled}
-use Rattle.mega_read.specs.Catching.{read_settled}
 use Rattle.mega_replica.specs.Applying.{applied}
 use Rattle.mega_wal.specs.Same.{same_group}
 use Rattle.mega_wal.proofs.Sames.{same_group_equal, same_group_self}
-use Rattle.mega_rules.specs.Met.{Begins, Decides, Met, Takes}
+use Rattle.mega_rules.specs.Met.{Applies, Begins, Decides, Met, Takes}
 use Rattle.mega_rules.specs.Acting.{validated_by}
 use Rattle.mega_rules.specs.Clock.{clock_of}
-use Rattle.mega_rules.specs.Logs.{decided, groups_of, log_of}
-use Rattle.mega_rules.specs.Operations.{Node, Now, Operation, Phase, Proposes, Reads, Setting}
-use Rattle.mega_rules.specs.Steps.{Decision, Heard, Take, Tick, applied_at, apply_note, at_first, decision_at, decision_note, first_settled, hears_message, if_new, new_operation, onto, op_of, portion_of, read_decision, refusal, settled_by, stored_after, told_decision, told_notes}
+use Rattle.mega_rules.specs.Logs.{decided, groups_of, log_of, prefix_of, with_group}
+use Rattle.mega_rules.specs.Operations.{Node, Now, Setting}
+use Rattle.mega_rules.specs.Steps.{Decision, Heard, Take, Tick, applied_at, apply_note, at_first, decision_note, first_settled, hears_message, if_new, new_operation, onto, op_of, portion_of, refusal, stored_after, told_decision, told_notes}
 use Rattle.mega_node_laws.specs.About.{group_in}
 use Rattle.mega_node_laws.specs.Acted.{acted_on, decision_in, or_settled}
+use Rattle.mega_node_laws.proofs.Applied.{applied_within}
 use Rattle.mega_node_laws.proofs.Logs.{groups_after, log_after, log_stays, other_log}
 use Rattle.mega_actions.specs.Servable.{is_served, is_pump}
 use Rattle.mega_actions.specs.Turns.{IsServable}
@@ -30,50 +30,72 @@ use Rattle.mega_core.specs.Beginning.{at_begin, has_begun}
 use Rattle.mega_core.specs.Positions.{before_at, note_since}
 use Rattle.mega_core.specs.Taking.{has_taken}
 use Rattle.mega_core.specs.Ticking.{has_ticked}
-use Rattle.mega_core.specs.Touching.{asked_groups, begun_by, begun_groups, named, roams, told_groups, touched, with_phase}
-use Rattle.mega_core.proofs.Groups.{all_noted, has, has_with, no_log, none_applied}
+use Rattle.mega_core.specs.Touching.{asked_groups, begun_by, begun_groups, behind, is_behind, named, reaches, roams, told_groups, touched, with_reach}
+use Rattle.mega_core.proofs.Groups.{all_noted, has, has_with, no_log, none_applied, since_is}
 use Rattle.mega_core.proofs.Messages.{plain_undecided, told_on, told_plain}
 use Rattle.mega_core.proofs.Silent.{IsMute, mute_undecided, validate_mute}
 use Rattle.mega_core.proofs.Walked.{all_heard_built}
-use Rattle.mega_core.proofs.Walking.{IsIn, Walks, all_heard_in, all_walked, begun_walked}
+use Rattle.mega_core.proofs.Walking.{IsHeardIn, Walks, all_walked, begun_walked}
+
+-- ---- what the operations heard, and the decision of the step before it is known to be new
+
+abbrev pub heard_by : Setting → Node → Message → List Heard
+heard_by s node m = map (hears_message s (clock_of node.met) m) node.open_operations
+
+abbrev brought : Setting → Node → Message → Option Decision
+brought s node m = or_settled (told_decision m.body) (first_settled (heard_by s node m))
 
 -- ---- the groups of operations as those of a history
 
 abbrev in_group : GroupId → Met
 in_group group = Decides group 0 (record { id = None; leader = record { 0 = 0 }; writes = []; sends = []; enters = []; handles = []; cuts = [] })
 
-abbrev of_phase : Operation → Met
-of_phase o = in_group (group_in o.phase)
+abbrev of_phase : Heard → Met
+of_phase t = in_group (group_in t.operation.phase)
 
-folded : (os : List Operation) (met : List Met) → fold with_phase (groups_of met) os ≡ groups_of (onto (map of_phase os) met)
+abbrev reached : List Met → Heard → List Met
+reached met t = cond (reaches t.operation) (of_phase t ∷ met) met
+
+folded : (ts : List Heard) (met : List Met) → fold with_reach (groups_of met) ts ≡ groups_of (fold reached met ts)
 folded [] met = refl
-folded (o ∷ os) met = folded os (of_phase o ∷ met)
+folded (t ∷ ts) met = go (reaches t.operation) (λ more. folded ts more)
+  where
+    go : (b : Bool) → ((more : List Met) → fold with_reach (groups_of more) ts ≡ groups_of (fold reached more ts))
+        → fold with_reach (cond b (with_group (group_in t.operation.phase) (groups_of met)) (groups_of met)) ts ≡ groups_of (fold reached (cond b (of_phase t ∷ met) met) ts)
+    go true rest = rest (of_phase t ∷ met)
+    go false rest = rest met
 
 or_second : (x y : Bool) → y ≡ true → (x || y) ≡ true
 or_second true y is = refl
 or_second false y is = is
 
-still_there : (os : List Operation) (met : List Met) (group : GroupId) → has group (groups_of met) ≡ true → has group (groups_of (onto (map of_phase os) met)) ≡ true
+still_there : (ts : List Heard) (met : List Met) (group : GroupId) → has group (groups_of met) ≡ true → has group (groups_of (fold reached met ts)) ≡ true
 still_there [] met group there = there
-still_there (o ∷ os) met group there =
-    still_there os (of_phase o ∷ met) group (has_with (group_in o.phase) (groups_of met) group ∙ or_second (same_group (group_in o.phase) group) (has group (groups_of met)) there)
+still_there (t ∷ ts) met group there = still_there ts (reached met t) group (go (reaches t.operation))
+  where
+    go : (b : Bool) → has group (groups_of (cond b (of_phase t ∷ met) met)) ≡ true
+    go true = has_with (group_in t.operation.phase) (groups_of met) group ∙ or_second (same_group (group_in t.operation.phase) group) (has group (groups_of met)) there
+    go false = there
 
-abbrev IsThere : List GroupId → Operation → Type 0
-IsThere groups o = has (group_in o.phase) groups ≡ true
+abbrev IsThere : List GroupId → Heard → Type 0
+IsThere groups t = reaches t.operation ≡ true → has (group_in t.operation.phase) groups ≡ true
 
-each_there : (os : List Operation) (met : List Met) → All (IsThere (groups_of (onto (map of_phase os) met))) os
+each_there : (ts : List Heard) (met : List Met) → All (IsThere (groups_of (fold reached met ts))) ts
 each_there [] met = All-nil (IsThere (groups_of met))
-each_there (o ∷ os) met =
-    All-cons (IsThere (groups_of (onto (map of_phase os) (of_phase o ∷ met)))) o os
-    (still_there os (of_phase o ∷ met) (group_in o.phase)
-    (has_with (group_in o.phase) (groups_of met) (group_in o.phase) ∙ ap (λ t. t || has (group_in o.phase) (groups_of met)) (same_group_self (group_in o.phase))))
-    (each_there os (of_phase o ∷ met))
+each_there (t ∷ ts) met =
+    All-cons (IsThere (groups_of (fold reached (reached met t) ts))) t ts
+    (λ is. still_there ts (reached met t) (group_in t.operation.phase) (go (reaches t.operation) is))
+    (each_there ts (reached met t))
+  where
+    go : (b : Bool) → b ≡ true → has (group_in t.operation.phase) (groups_of (cond b (of_phase t ∷ met) met)) ≡ true
+    go true is = has_with (group_in t.operation.phase) (groups_of met) (group_in t.operation.phase) ∙ ap (λ x. x || has (group_in t.operation.phase) (groups_of met)) (same_group_self (group_in t.operation.phase))
+    go false is = absurd (cc)
 
-none_before : (os : List Operation) (met : List Met) (group : GroupId) → has group (groups_of (onto (map of_phase os) met)) ≡ false → has group (groups_of met) ≡ false
-none_before os met group none = go (has group (groups_of met)) refl
+none_before : (ts : List Heard) (met : List Met) (group : GroupId) → has group (groups_of (fold reached met ts)) ≡ false → has group (groups_of met) ≡ false
+none_before ts met group none = go (has group (groups_of met)) refl
   where
     go : (t : Bool) → has group (groups_of met) ≡ t → t ≡ false
-    go true e = let there = still_there os met group e in absurd (cc)
+    go true e = let there = still_there ts met group e in absurd (cc)
     go false e = refl
 
 apart_from : (groups : List GroupId) (group other : GroupId) → has group groups ≡ false → has other groups ≡ true → same_group other group ≡ false
@@ -92,38 +114,6 @@ module _ (group : GroupId) where
   abbrev IsApart : Option Decision → Type 0
   IsApart None = Unit {0}
   IsApart (Some d) = IsOther d.group
-
-  read_apart : (other : GroupId) (found : Option (ℕ × Content)) → IsOther other → IsApart (read_decision other found)
-  read_apart other None apart = tt
-  read_apart other (Some found) apart = apart
-
-  round_apart : (other : GroupId) (n : ℕ) (found : Option Content) → IsOther other → IsApart (decision_at other n found)
-  round_apart other n None apart = tt
-  round_apart other n (Some entry) apart = apart
-
-  settled_apart : (o : Operation) (phase : Phase) → IsOther (group_in phase)
-      → IsApart (settled_by (record { id = o.id; request = o.request; began = o.began; visited = o.visited; message = o.message; phase = phase }))
-  settled_apart o (Reads other r) apart = read_apart other (read_settled r) apart
-  settled_apart o (Proposes other n asked p promised) apart = round_apart other n (settled p) apart
-
-  abbrev or_first : Option Decision → Option Decision → Option Decision
-  or_first None other = other
-  or_first (Some d) other = Some d
-
-  or_apart : (one other : Option Decision) → IsApart one → IsApart other → IsApart (or_first one other)
-  or_apart None other x y = y
-  or_apart (Some d) other x y = x
-
-  abbrev IsHeardOther : Heard → Type 0
-  IsHeardOther t = IsOther (group_in t.operation.phase)
-
-  first_apart : (ts : List Heard) → All IsHeardOther ts → IsApart (first_settled ts)
-  first_apart [] others = tt
-  first_apart (t ∷ ts) others = or_apart (settled_by t.operation) (first_settled ts) (settled_apart t.operation t.operation.phase (All-head IsHeardOther t ts others)) (first_apart ts (All-tail IsHeardOther t ts others))
-
-  or_settled_apart : (one other : Option Decision) → IsApart one → IsApart other → IsApart (or_settled one other)
-  or_settled_apart None other x y = y
-  or_settled_apart (Some d) other x y = x
 
   new_apart : (met : List Met) (d : Option Decision) → IsApart d → IsApart (if_new met d)
   new_apart met None apart = tt
@@ -189,37 +179,33 @@ module _ (group : GroupId) where
   or_right true b h = absurd (cc)
   or_right false b h = h
 
-  abbrev IsOtherOpen : Operation → Type 0
-  IsOtherOpen o = IsOther (group_in o.phase)
+  abbrev IsOtherHeard : Heard → Type 0
+  IsOtherHeard t = reaches t.operation ≡ true → IsOther (group_in t.operation.phase)
 
-  all_other : (os : List Operation) (met : List Met) → has group (groups_of (onto (map of_phase os) met)) ≡ false → All IsOtherOpen os
-  all_other os met none =
-      All-weaker (IsThere (groups_of (onto (map of_phase os) met))) IsOtherOpen (λ o there. apart_from (groups_of (onto (map of_phase os) met)) group (group_in o.phase) none there) os (each_there os met)
+  all_other : (ts : List Heard) (met : List Met) → has group (groups_of (fold reached met ts)) ≡ false → All IsOtherHeard ts
+  all_other ts met none =
+      All-weaker (IsThere (groups_of (fold reached met ts))) IsOtherHeard (λ t there. λ is. apart_from (groups_of (fold reached met ts)) group (group_in t.operation.phase) none (there is)) ts (each_there ts met)
 
   stays_apart : (request : Request) → is_pump request ≡ false → is_pump request ≡ true → (other : GroupId) → IsOther other
   stays_apart request plain pump other = absurd (let never : true ≡ false = sym pump ∙ plain in cc)
 
-  others_in : (os : List Operation) → All IsOtherOpen os → list_any roams os ≡ false → All (IsIn IsOther) os
-  others_in [] others none = All-nil (IsIn IsOther)
-  others_in (o ∷ os) others none =
-      All-cons (IsIn IsOther) o os (All-head IsOtherOpen o os others, stays_apart o.request (or_left (roams o) (list_any roams os) none)) (others_in os (All-tail IsOtherOpen o os others) (or_right (roams o) (list_any roams os) none))
+  second_not : (a b : Bool) → (a && b) ≡ false → a ≡ true → b ≡ false
+  second_not true b none is = none
+  second_not false b none is = absurd (cc)
 
-  module _ (s : Setting) (node : Node) (m : Message) (told_none : has group (groups_of (decision_note (told_decision m.body))) ≡ false) (others : All IsOtherOpen node.open_operations) where
-    abbrev heard_by : List Heard
-    heard_by = map (hears_message s (clock_of node.met) m) node.open_operations
+  others_in : (ts : List Heard) → All IsOtherHeard ts → list_any roams ts ≡ false → All (IsHeardIn IsOther) ts
+  others_in [] others none = All-nil (IsHeardIn IsOther)
+  others_in (t ∷ ts) others none =
+      All-cons (IsHeardIn IsOther) t ts
+      (λ is. (
+        All-head IsOtherHeard t ts others is,
+        stays_apart t.operation.request (second_not (reaches t.operation) (is_pump t.operation.request) (or_left (roams t) (list_any roams ts) none) is),
+      ))
+      (others_in ts (All-tail IsOtherHeard t ts others) (or_right (roams t) (list_any roams ts) none))
 
-    heard_others : (os : List Operation) → All IsOtherOpen os → All IsHeardOther (map (hears_message s (clock_of node.met) m) os)
-    heard_others [] are = All-nil IsHeardOther
-    heard_others (o ∷ os) are =
-        All-cons IsHeardOther (hears_message s (clock_of node.met) m o) (map (hears_message s (clock_of node.met) m) os) (one o.phase (All-head IsOtherOpen o os are)) (heard_others os (All-tail IsOtherOpen o os are))
-      where
-        one : (phase : Phase) → IsOther (group_in phase) → IsHeardOther (hears_message s (clock_of node.met) m (record { id = o.id; request = o.request; began = o.began; visited = o.visited; message = o.message; phase = phase }))
-        one (Reads other r) apart = apart
-        one (Proposes other n asked proposal promised) apart = apart
-
+  module _ (s : Setting) (node : Node) (m : Message) (none_told : has group (groups_of (decision_note (brought s node m))) ≡ false) (others : All IsOtherHeard (heard_by s node m)) where
     apart : IsApart (decision_in s node m)
-    apart = new_apart node.met (or_settled (told_decision m.body) (first_settled heard_by))
-        (or_settled_apart (told_decision m.body) (first_settled heard_by) (told_apart (told_decision m.body) told_none) (first_apart heard_by (heard_others node.open_operations others)))
+    apart = new_apart node.met (brought s node m) (told_apart (brought s node m) none_told)
 
     log_is : log_of (acted_on s node (Take m)) group ≡ log_of node.met group
     log_is =
@@ -227,12 +213,12 @@ module _ (group : GroupId) where
         ∙ (log_after (told_notes s node.met m.from m.body) (Takes m ∷ node.met) group (plain_undecided (told_notes s node.met m.from m.body) (told_plain s node.met m.from m.body))
         ∙ log_stays (Takes m) node.met group refl)
 
-    pub take_still : All IsServable node.open_operations → list_any roams node.open_operations ≡ false → Acted (acted_on s node (Take m)) (has_taken s node m)
+    pub take_still : All IsServable node.open_operations → list_any roams (heard_by s node m) ≡ false → Acted (acted_on s node (Take m)) (has_taken s node m)
         → applied_at (has_taken s node m).met (has_taken s node m).stored group ≡ applied_at node.met node.stored group
     take_still built none acted = still_applied (acted_on s node (Take m)) node.met node.stored (has_taken s node m) acted log_is
-        (all_walked (Still (node.stored group)) IsOther (still_walks (node.stored group)) s heard_by
+        (all_walked (Still (node.stored group)) IsOther (still_walks (node.stored group)) s (heard_by s node m)
         (at_first (acted_on s node (Take m)) (stored_after s (acted_on s node (Take m)) node.stored (decision_in s node m)))
-        (all_heard_built s (clock_of node.met) m node.open_operations built) (all_heard_in IsOther s (clock_of node.met) m node.open_operations (others_in node.open_operations others none))
+        (all_heard_built s (clock_of node.met) m node.open_operations built) (others_in (heard_by s node m) others none)
         (decision_stored s (acted_on s node (Take m)) node.stored (decision_in s node m) apart))
 
     pub take_never : has group (groups_of node.met) ≡ false → Acted (acted_on s node (Take m)) (has_taken s node m)
@@ -302,34 +288,34 @@ noted_of node groups before now one before_is groups_are still =
     ∙ all_noted node.met node.stored now.met now.stored one (λ group none. still group (ap (λ (some : List GroupId). has group some) groups_are ∙ none))
 
 pub take_noted : (s : Setting) (node : Node) (m : Message) (before : List Before) → All IsServable node.open_operations → Acted (acted_on s node (Take m)) (has_taken s node m)
-    → before ≡ map (before_at node.met node.stored) (touched node.met m.body node.open_operations) → Noted node before (has_taken s node m)
-take_noted s node m before built acted is = by (list_any roams os) refl is
+    → before ≡ map (before_at node.met node.stored) (touched node.met m.body (heard_by s node m)) → Noted node before (has_taken s node m)
+take_noted s node m before built acted is = by (list_any roams ts) refl is
   where
-    os : List Operation
-    os = node.open_operations
+    ts : List Heard
+    ts = heard_by s node m
 
     told : List Met
-    told = decision_note (told_decision m.body)
+    told = decision_note (brought s node m)
 
     now : Now
     now = has_taken s node m
 
-    absent : (met : List Met) (group : GroupId) → has group (fold with_phase (groups_of met) os) ≡ false → has group (groups_of (onto (map of_phase os) met)) ≡ false
-    absent met group none = ap (λ (groups : List GroupId). has group groups) (sym (folded os met)) ∙ none
+    absent : (met : List Met) (group : GroupId) → has group (fold with_reach (groups_of met) ts) ≡ false → has group (groups_of (fold reached met ts)) ≡ false
+    absent met group none = ap (λ (groups : List GroupId). has group groups) (sym (folded ts met)) ∙ none
 
-    still : (group : GroupId) → list_any roams os ≡ false → has group (fold with_phase (groups_of told) os) ≡ false → applied_at now.met now.stored group ≡ applied_at node.met node.stored group
-    still group quiet none = take_still group s node m (none_before os told group (absent told group none)) (all_other group os told (absent told group none)) built quiet acted
+    still : (group : GroupId) → list_any roams ts ≡ false → has group (fold with_reach (groups_of told) ts) ≡ false → applied_at now.met now.stored group ≡ applied_at node.met node.stored group
+    still group quiet none = take_still group s node m (none_before ts told group (absent told group none)) (all_other group ts told (absent told group none)) built quiet acted
 
-    never : (group : GroupId) → has group (fold with_phase (groups_of (onto told node.met)) os) ≡ false → applied_at now.met now.stored group ≡ applied_at node.met node.stored group
+    never : (group : GroupId) → has group (fold with_reach (groups_of (onto told node.met)) ts) ≡ false → applied_at now.met now.stored group ≡ applied_at node.met node.stored group
     never group none =
         let away = absent (onto told node.met) group none in
-        let parts = note_absent group (told_decision m.body) node.met (none_before os (onto told node.met) group away) in
-        take_never group s node m parts.0 (all_other group os (onto told node.met) away) parts.1 acted
+        let parts = note_absent group (brought s node m) node.met (none_before ts (onto told node.met) group away) in
+        take_never group s node m parts.0 (all_other group ts (onto told node.met) away) parts.1 acted
 
-    by : (t : Bool) → list_any roams os ≡ t → before ≡ map (before_at node.met node.stored) (fold with_phase (told_groups t node.met m.body) os) → Noted node before now
-    by false quiet before_is = noted_of node (fold with_phase (groups_of told) os) before now (onto (map of_phase os) told) before_is (folded os told) (λ group none. still group quiet none)
+    by : (t : Bool) → list_any roams ts ≡ t → before ≡ map (before_at node.met node.stored) (fold with_reach (told_groups t node.met (brought s node m)) ts) → Noted node before now
+    by false quiet before_is = noted_of node (fold with_reach (groups_of told) ts) before now (fold reached told ts) before_is (folded ts told) (λ group none. still group quiet none)
     by true roaming before_is =
-        noted_of node (fold with_phase (groups_of (onto told node.met)) os) before now (onto (map of_phase os) (onto told node.met)) before_is (folded os (onto told node.met)) (λ group none. never group none)
+        noted_of node (fold with_reach (groups_of (onto told node.met)) ts) before now (fold reached (onto told node.met) ts) before_is (folded ts (onto told node.met)) (λ group none. never group none)
 
 pub begin_noted : (s : Setting) (node : Node) (request : Request) (text : List ℕ) (before : List Before) → (refusal s node request ≡ None → is_served request ≡ true)
     → Acted (Begins (op_of s node.met) text ∷ node.met) (has_begun s node request text)
@@ -341,15 +327,41 @@ begin_noted s node request text before built acted is = by (is_pump request) ref
     by false pump before_is =
         noted_of node (asked_groups request) before (has_begun s node request text) (map in_group (asked_groups request)) before_is (asked_is request) (λ group none. begin_still group s node request text built pump none acted)
 
+-- ---- of a group of which all is applied that is decided a tick applies nothing more
+
+fewer : (said : GroupId → List Met) (test : GroupId → Bool) (groups : List GroupId) → ((group : GroupId) → test group ≡ false → said group ≡ []) → flat_map said (filter test groups) ≡ flat_map said groups
+fewer said test [] none = refl
+fewer said test (group ∷ groups) none = go (test group) refl (fewer said test groups none)
+  where
+    go : (t : Bool) → test group ≡ t → flat_map said (filter test groups) ≡ flat_map said groups → flat_map said (cond t (group ∷ filter test groups) (filter test groups)) ≡ said group ++ flat_map said groups
+    go true e rest = ap (λ (notes : List Met). said group ++ notes) rest
+    go false e rest = rest ∙ ap (λ (notes : List Met). notes ++ flat_map said groups) (sym (none group e))
+
+no_more : (was now whole : ℕ) → nat_lt was whole ≡ false → now ≤ whole → nat_lt was now ≡ false
+no_more was now whole all within = grind (arith, nat_tests)
+
 pub tick_noted : (s : Setting) (node : Node) (clock : ℕ) (before : List Before) → groups_of (acted_on s node (Tick clock)) ≡ groups_of node.met
-    → Acted (acted_on s node (Tick clock)) (has_ticked s node clock)
-    → before ≡ map (before_at node.met node.stored) (groups_of node.met) → Noted node before (has_ticked s node clock)
-tick_noted s node clock before groups_are acted is =
-    noted_of node (groups_of node.met) before now node.met is refl
-    (λ group none. none_applied now.met now.stored group (ap (λ (groups : List GroupId). has group groups) same ∙ none) ∙ sym (none_applied node.met node.stored group none))
+    → ((group : GroupId) → log_of (acted_on s node (Tick clock)) group ≡ log_of node.met group) → Acted (acted_on s node (Tick clock)) (has_ticked s node clock)
+    → before ≡ map (before_at node.met node.stored) (behind true node.met node.stored) → Noted node before (has_ticked s node clock)
+tick_noted s node clock before groups_are logs_are acted is =
+    ap (λ (some : List Before). flat_map (note_since now.met now.stored) some) is
+    ∙ (since_is node.met node.stored now.met now.stored (behind true node.met node.stored)
+    ∙ (fewer said (is_behind node.met node.stored) (groups_of node.met) whole
+    ∙ ap (flat_map said) (sym same)))
   where
     now : Now
     now = has_ticked s node clock
 
+    said : GroupId → List Met
+    said = apply_note node.met node.stored now.met now.stored
+
     same : groups_of now.met ≡ groups_of node.met
     same = ap groups_of acted.met_is ∙ (groups_after now.valid (acted_on s node (Tick clock)) (mute_undecided now.valid (All-weaker IsValidate IsMute validate_mute now.valid acted.valid)) ∙ groups_are)
+
+    within : (group : GroupId) → applied_at now.met now.stored group ≤ prefix_of node.met group
+    within group = subst (λ (log : List Content). applied_at now.met now.stored group ≤ length log) (log_acted group (acted_on s node (Tick clock)) node.met now acted (logs_are group)) (applied_within (log_of now.met group) (now.stored group))
+
+    whole : (group : GroupId) → is_behind node.met node.stored group ≡ false → said group ≡ []
+    whole group all =
+        ap (λ t. cond t (Applies group (applied_at now.met now.stored group) ∷ []) [])
+        (no_more (applied_at node.met node.stored group) (applied_at now.met now.stored group) (prefix_of node.met group) all (within group))

@@ -18,7 +18,7 @@ use Rattle.mega_actions.specs.Servable.{is_served}
 use Rattle.mega_actions.specs.Turns.{IsServable, IsServableHeard, IsHeardAbout}
 use Rattle.mega_core.specs.Acted.{Acted, IsEnd, IsValidate}
 use Rattle.mega_core.specs.Touching.{asked_groups}
-use Rattle.mega_core.proofs.Walking.{IsHeardIn, IsIn, Walks, all_ticked_walked, all_walked, begun_walked}
+use Rattle.mega_core.proofs.Walking.{IsHeardIn, IsOf, Walks, all_ticked_walked, all_walked, begun_walked}
 
 -- ---- what is added to what is met
 
@@ -82,13 +82,13 @@ served_walks = record {
     validated now group p None h = h
     validated now group p (Some refusal) h = h
 
-in_any : (os : List Operation) → All (IsIn IsAny) os
-in_any [] = All-nil (IsIn IsAny)
-in_any (o ∷ os) = All-cons (IsIn IsAny) o os (tt, λ pump group. tt) (in_any os)
+in_any : (os : List Operation) → All (IsOf IsAny) os
+in_any [] = All-nil (IsOf IsAny)
+in_any (o ∷ os) = All-cons (IsOf IsAny) o os (tt, λ pump group. tt) (in_any os)
 
 heard_in_any : (ts : List Heard) → All (IsHeardIn IsAny) ts
 heard_in_any [] = All-nil (IsHeardIn IsAny)
-heard_in_any (t ∷ ts) = All-cons (IsHeardIn IsAny) t ts (tt, λ pump group. tt) (heard_in_any ts)
+heard_in_any (t ∷ ts) = All-cons (IsHeardIn IsAny) t ts (λ reached. (tt, λ pump group. tt)) (heard_in_any ts)
 
 all_any : (groups : List GroupId) → All IsAny groups
 all_any [] = All-nil IsAny

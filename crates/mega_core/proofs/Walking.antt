@@ -1,8 +1,8 @@
 -- One walk through what operations of given groups do as they act in a step, for any fact of the node that they cannot break.
-use Rattle.std.proofs.Common.{◌≡◌, ℕ, zero, suc, ◌+◌, nat_le, Bool, true, false, cond, List, [], ◌∷◌, map, take, length, fold, Option, Some, None, Result, Ok, Err, refl, ap}
+use Rattle.std.proofs.Common.{◌≡◌, ℕ, zero, suc, ◌+◌, nat_le, Bool, true, false, cond, List, [], ◌∷◌, take, length, fold, Option, Some, None, Result, Ok, Err, refl, ap}
 use Rattle.std.specs.Prelude.{is_some}
 use Rattle.std.specs.List.{All, list_any}
-use Rattle.std.proofs.lemmas.List.Elements.{All-cons, All-head, All-nil, All-tail}
+use Rattle.std.proofs.lemmas.List.Elements.{All-head, All-tail}
 use Rattle.mega_base.specs.declared.names.Epoch.{Epoch}
 use Rattle.mega_base.specs.declared.names.GroupId.{GroupId}
 use Rattle.mega_base.specs.declared.names.OpId.{OpId}
@@ -25,7 +25,7 @@ use Rattle.mega_propose.specs.Rounds.{asks}
 use Rattle.mega_read.specs.declared.reading.Reading.{Reading}
 use Rattle.mega_read.specs.declared.reading.Stage.{Stage}
 use Rattle.mega_read.specs.declared.reading.Stage.TheVariants.{Polling, Catching}
-use Rattle.mega_read.specs.Catching.{asked_by, site, seeks}
+use Rattle.mega_read.specs.Catching.{asked_by, site, seeks, through_of}
 use Rattle.mega_replica.specs.Applying.{after_read}
 use Rattle.mega_rules.specs.Clock.{clock_of}
 use Rattle.mega_rules.specs.Logs.{decided, groups_of, log_of, prefix_of}
@@ -34,11 +34,11 @@ use Rattle.mega_handler.specs.Named.{has as has_handler}
 use Rattle.mega_rules.specs.Queues.{Posted, enter_entry, is_named, names_entered, next_to_enter, next_to_handle, oldest_unhandled}
 use Rattle.mega_rules.specs.Operations.{Now, Operation, Phase, Promised, Proposes, Reads, Replies, Results, Setting}
 use Rattle.mega_rules.specs.Acting.{acts, acts_within, applied_logs, batch_sealed, begins_read, completes_read, ends, enters, finishes, goes_on, handles, handling, in_phase, is_taken, keeps, leader_after, listed_at, picks_group, picks_message, proposes, proposes_by, read_begun, reader_of, reads_on, rows_at, sealed, sends_more, stored_with, table_rows, unless_decided, unless_full, validated_by, validates, visiting}
-use Rattle.mega_rules.specs.Steps.{Heard, acts_in_turn, all_act, begins, does_due, find_begins, hears_message, is_out, local_find_begins, read_begins, ticked, unless_refused}
+use Rattle.mega_rules.specs.Steps.{Heard, acts_in_turn, all_act, begins, does_due, find_begins, is_out, local_find_begins, read_begins, ticked, unless_refused}
 use Rattle.mega_node_laws.specs.About.{group_in}
 use Rattle.mega_actions.specs.Servable.{is_served, is_open, is_pump}
 use Rattle.mega_actions.specs.Turns.{IsServable, IsServableHeard}
-use Rattle.mega_core.specs.Touching.{asked_groups, named}
+use Rattle.mega_core.specs.Touching.{asked_groups, named, reaches, reaches_in}
 
 -- a fact of a node within a step that nothing can break which served operations do in such groups
 pub record Walks (P : Now → Type 0) (Mine : GroupId → Type 0) : Type 0 where
@@ -53,23 +53,16 @@ pub record Walks (P : Now → Type 0) (Mine : GroupId → Type 0) : Type 0 where
 abbrev pub Roams : (GroupId → Type 0) → Request → Type 0
 Roams Mine request = is_pump request ≡ true → (group : GroupId) → Mine group
 
--- an operation acts in such a group
+-- an operation stands in such a group
+abbrev pub IsOf : (GroupId → Type 0) → Operation → Type 0
+IsOf Mine o = Mine (group_in o.phase) × Roams Mine o.request
+
+-- one that may complete its read acts in such a group
 abbrev pub IsIn : (GroupId → Type 0) → Operation → Type 0
-IsIn Mine o = Mine (group_in o.phase) × Roams Mine o.request
+IsIn Mine o = reaches o ≡ true → Mine (group_in o.phase) × Roams Mine o.request
 
 abbrev pub IsHeardIn : (GroupId → Type 0) → Heard → Type 0
 IsHeardIn Mine t = IsIn Mine t.operation
-
--- and it stays there as it hears
-heard_in : (Mine : GroupId → Type 0) (s : Setting) (clock : ℕ) (m : Message) (o : Operation) (phase : Phase) → Mine (group_in phase) × Roams Mine o.request
-    → IsHeardIn Mine (hears_message s clock m (record { id = o.id; request = o.request; began = o.began; visited = o.visited; message = o.message; phase = phase }))
-heard_in Mine s clock m o (Reads group r) mine = mine
-heard_in Mine s clock m o (Proposes group n asked proposal promised) mine = mine
-
-pub all_heard_in : (Mine : GroupId → Type 0) (s : Setting) (clock : ℕ) (m : Message) (os : List Operation) → All (IsIn Mine) os → All (IsHeardIn Mine) (map (hears_message s clock m) os)
-all_heard_in Mine s clock m [] are = All-nil (IsHeardIn Mine)
-all_heard_in Mine s clock m (o ∷ os) are =
-    All-cons (IsHeardIn Mine) (hears_message s clock m o) (map (hears_message s clock m) os) (heard_in Mine s clock m o o.phase (All-head (IsIn Mine) o os are)) (all_heard_in Mine s clock m os (All-tail (IsIn Mine) o os are))
 
 module _ (P : Now → Type 0) (Mine : GroupId → Type 0) (w : Walks P Mine) (s : Setting) where
   -- what acts again keeps it
@@ -116,7 +109,7 @@ module _ (P : Now → Type 0) (Mine : GroupId → Type 0) (w : Walks P Mine) (s 
   -- a pump reads what it picks
   reads_walked : (again : Now → Operation → Now) → Stays again → (now : Now) (o : Operation) (group : GroupId) (message : Option Enter) (asked : List ℕ) → IsServable o → Mine group → Roams Mine o.request → P now → P (begins_read s again now o group message asked)
   reads_walked again more now o group message asked is mine roams h =
-      more (sends_more now (read_begun s now o group asked).sends) (visiting o group message (read_begun s now o group asked)) is (mine, roams) (w.sends_it now (read_begun s now o group asked).sends h)
+      more (sends_more now (read_begun s now o group asked).sends) (visiting o group message (read_begun s now o group asked)) is (λ reached. (mine, roams)) (w.sends_it now (read_begun s now o group asked).sends h)
 
   message_walked : (again : Now → Operation → Now) → Stays again → (now : Now) (o : Operation) (asked : List ℕ) (picked : Option Posted) → IsServable o → is_pump o.request ≡ true → Roams Mine o.request → P now → P (picks_message s again now o asked picked)
   message_walked again more now o asked None is pump roams h = w.ends_it now o.id _ h
@@ -154,24 +147,24 @@ module _ (P : Now → Type 0) (Mine : GroupId → Type 0) (w : Walks P Mine) (s 
   finishes_walked : (again : Now → Operation → Now) → Stays again → (now : Now) (o : Operation) (group : GroupId) (r : Reading) (p : ℕ) → IsServable o → Roams Mine o.request → P now → P (finishes s again now o group r p)
   finishes_walked again more now o group r p is roams h = finishes_by o.id o.began o.visited o.message again more now o.request o.phase group r p is roams h
 
-  reads_on_by : (again : Now → Operation → Now) → Stays again → (now : Now) (o : Operation) (group : GroupId) (noted : Option Epoch) (asked : List ℕ) (stage : Stage) → IsServable o → Mine group → Roams Mine o.request → P now → P (reads_on s again now o group (record { noted = noted; asked = asked; stage = stage }))
-  reads_on_by again more now o group noted asked (Polling heard best at) is mine roams h = w.keeps_it now o is h
-  reads_on_by again more now o group noted asked (Catching p search) is mine roams h = either (nat_le p (prefix_of now.met group)) _ _
-      (finishes_walked again more (completes_read s now group (record { noted = noted; asked = asked; stage = Catching p search }) p) o group (record { noted = noted; asked = asked; stage = Catching p search }) p is roams
-      (completes_walked now group (record { noted = noted; asked = asked; stage = Catching p search }) p mine h))
+  reads_on_by : (again : Now → Operation → Now) → Stays again → (now : Now) (o : Operation) (group : GroupId) (noted : Option Epoch) (asked : List ℕ) (stage : Stage) → IsServable o → (is_some (through_of (record { noted = noted; asked = asked; stage = stage })) ≡ true → Mine group × Roams Mine o.request) → P now → P (reads_on s again now o group (record { noted = noted; asked = asked; stage = stage }))
+  reads_on_by again more now o group noted asked (Polling heard best at) is may h = w.keeps_it now o is h
+  reads_on_by again more now o group noted asked (Catching p search) is may h = either (nat_le p (prefix_of now.met group)) _ _
+      (finishes_walked again more (completes_read s now group (record { noted = noted; asked = asked; stage = Catching p search }) p) o group (record { noted = noted; asked = asked; stage = Catching p search }) p is (may refl).1
+      (completes_walked now group (record { noted = noted; asked = asked; stage = Catching p search }) p (may refl).0 h))
       (w.keeps_it (sends_more now (seeks (reader_of s o.id group) (record { noted = noted; asked = asked; stage = Catching p search }) (prefix_of now.met group + 1) (clock_of now.met)).sends)
       (in_phase o (Reads group (seeks (reader_of s o.id group) (record { noted = noted; asked = asked; stage = Catching p search }) (prefix_of now.met group + 1) (clock_of now.met)).reading)) is (w.sends_it now _ h))
 
-  acts_by : (again : Now → Operation → Now) → Stays again → (now : Now) (id : OpId) (request : Request) (began : ℕ) (visited : List GroupId) (message : Option Enter) (phase : Phase) → is_open request ≡ true → Mine (group_in phase) → Roams Mine request → P now
+  acts_by : (again : Now → Operation → Now) → Stays again → (now : Now) (id : OpId) (request : Request) (began : ℕ) (visited : List GroupId) (message : Option Enter) (phase : Phase) → is_open request ≡ true → (reaches_in phase ≡ true → Mine (group_in phase) × Roams Mine request) → P now
       → P (acts s again now (record { id = id; request = request; began = began; visited = visited; message = message; phase = phase }))
-  acts_by again more now id request began visited message (Reads group r) is mine roams h =
-      reads_on_by again more now (record { id = id; request = request; began = began; visited = visited; message = message; phase = Reads group r }) group r.noted r.asked r.stage is mine roams h
-  acts_by again more now id request began visited message (Proposes group n asked proposal promised) is mine roams h =
+  acts_by again more now id request began visited message (Reads group r) is may h =
+      reads_on_by again more now (record { id = id; request = request; began = began; visited = visited; message = message; phase = Reads group r }) group r.noted r.asked r.stage is may h
+  acts_by again more now id request began visited message (Proposes group n asked proposal promised) is may h =
       unless_decided_walked now (record { id = id; request = request; began = began; visited = visited; message = message; phase = Proposes group n asked proposal promised }) n promised (decided now.met group n) is h
 
   within_walked : (most : ℕ) → Stays (acts_within most s)
   within_walked zero now o is mine h = w.keeps_it now o is h
-  within_walked (suc most) now o is mine h = acts_by (acts_within most s) (within_walked most) now o.id o.request o.began o.visited o.message o.phase is mine.0 mine.1 h
+  within_walked (suc most) now o is mine h = acts_by (acts_within most s) (within_walked most) now o.id o.request o.began o.visited o.message o.phase is mine h
 
   goes_on_walked : Stays (goes_on s)
   goes_on_walked now o is mine h = within_walked (length (groups_of now.met) + 2) now o is mine h
@@ -189,21 +182,21 @@ module _ (P : Now → Type 0) (Mine : GroupId → Type 0) (w : Walks P Mine) (s 
 
   due_mine : (clock : ℕ) (o : Operation) (phase : Phase) → Mine (group_in phase) × Roams Mine o.request
       → IsHeardIn Mine (does_due s clock (record { id = o.id; request = o.request; began = o.began; visited = o.visited; message = o.message; phase = phase }))
-  due_mine clock o (Reads group r) mine = mine
-  due_mine clock o (Proposes group n asked proposal promised) mine = mine
+  due_mine clock o (Reads group r) mine = λ reached. mine
+  due_mine clock o (Proposes group n asked proposal promised) mine = λ reached. mine
 
-  pub all_ticked_walked : (clock : ℕ) (os : List Operation) (now : Now) → All IsServable os → All (IsIn Mine) os → P now → P (fold (ticked s clock) now os)
+  pub all_ticked_walked : (clock : ℕ) (os : List Operation) (now : Now) → All IsServable os → All (IsOf Mine) os → P now → P (fold (ticked s clock) now os)
   all_ticked_walked clock [] now are mine h = h
   all_ticked_walked clock (o ∷ os) now are mine h =
-      all_ticked_walked clock os (ticked s clock now o) (All-tail IsServable o os are) (All-tail (IsIn Mine) o os mine)
+      all_ticked_walked clock os (ticked s clock now o) (All-tail IsServable o os are) (All-tail (IsOf Mine) o os mine)
       (either (is_out s clock o) _ _ (w.ends_it now o.id _ h)
-      (goes_on_walked (sends_more now (does_due s clock o).sends) (does_due s clock o).operation (due_built clock o o.phase (All-head IsServable o os are)) (due_mine clock o o.phase (All-head (IsIn Mine) o os mine)) (w.sends_it now _ h)))
+      (goes_on_walked (sends_more now (does_due s clock o).sends) (does_due s clock o).operation (due_built clock o o.phase (All-head IsServable o os are)) (due_mine clock o o.phase (All-head (IsOf Mine) o os mine)) (w.sends_it now _ h)))
 
   module _ (id : OpId) (began : ℕ) (visited : List GroupId) (message : Option Enter) (phase : Phase) where
     begins_read_walked : (now : Now) (request : Request) (group : GroupId) → is_open request ≡ true → Mine group → Roams Mine request → P now → P (begins_read s (goes_on s) now (one id began visited message request phase) group None [])
     begins_read_walked now request group is mine roams h =
         goes_on_walked (sends_more now (read_begun s now (one id began visited message request phase) group []).sends)
-        (visiting (one id began visited message request phase) group None (read_begun s now (one id began visited message request phase) group [])) is (mine, roams) (w.sends_it now _ h)
+        (visiting (one id began visited message request phase) group None (read_begun s now (one id began visited message request phase) group [])) is (λ reached. (mine, roams)) (w.sends_it now _ h)
 
     read_walked : (now : Now) (request : ReadRequest) (mode : Mode) → is_open (ReadRequested request) ≡ true → Mine request.group → P now → P (read_begins s now (one id began visited message (ReadRequested request) phase) request mode)
     read_walked now request Current is mine h = begins_read_walked now (ReadRequested request) request.group is mine (λ pump. absurd (cc)) h

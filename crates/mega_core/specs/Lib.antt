@@ -5,6 +5,7 @@ pub mod Represents
 pub mod Placed
 pub mod Positions
 pub mod Touching
+pub mod Hearing
 pub mod Made
 pub mod Acted
 pub mod Beginning

@@ -8,7 +8,7 @@ use Rattle.mega_wire.specs.declared.message.Message.{Message}
 use Rattle.mega_wire.specs.declared.message.Body.TheVariants.{Fetch}
 use Rattle.mega_rules.specs.Clock.{begun_of}
 use Rattle.mega_rules.specs.Coordinators.{acquires_at}
-use Rattle.mega_rules.specs.Logs.{groups_of}
+use Rattle.mega_rules.specs.Logs.{groups_of, log_of}
 use Rattle.mega_rules.specs.Operations.{Node, Now, Setting}
 use Rattle.mega_rules.specs.Steps.{Tick, at_first, background, lapse_notes, lease_notes, portion_of, ticked}
 use Rattle.mega_leases.specs.declared.leases.Leases.{Leases}
@@ -34,6 +34,7 @@ pub record HasTicked (s : Setting) (t : Setting) (made : Ticked) (kept : Kept) (
   pub stands : Stands t kept leases version progress (acted_on s node (Tick now)) (portion_of s node.met node.stored)
   pub begun : begun_of (acted_on s node (Tick now)) ≡ begun_of node.met
   pub groups : groups_of (acted_on s node (Tick now)) ≡ groups_of node.met
+  pub logs : (group : GroupId) → log_of (acted_on s node (Tick now)) group ≡ log_of node.met group
 
 -- the operations act on it
 abbrev pub has_ticked : Setting → Node → ℕ → Now

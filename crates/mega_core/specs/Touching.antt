@@ -1,31 +1,48 @@
 -- The groups of which a step may apply more, each once and in order.
-use Rattle.std.specs.Prelude.{Bool, true, false, List, [], ◌∷◌, fold, Option, Some, None}
+use Rattle.std.specs.Prelude.{ℕ, Bool, true, false, ◌&&◌, if◌then◌else◌, nat_lt, List, [], ◌∷◌, filter, fold, Option, Some, None, is_some}
 use Rattle.std.specs.List.{list_any}
 use Rattle.mega_base.specs.declared.names.GroupId.{GroupId}
 use Rattle.mega_wire.specs.declared.message.Body.{Body}
 use Rattle.mega_outcome.specs.declared.request.Request.{Request}
 use Rattle.mega_outcome.specs.declared.request.Request.TheVariants.{Txn, Batch, Read, Find, PumpEnter, PumpHandle, Refresh}
-use Rattle.mega_rules.specs.Logs.{groups_of, with_group}
+use Rattle.mega_read.specs.Catching.{through_of}
+use Rattle.mega_rules.specs.Logs.{groups_of, prefix_of, with_group}
 use Rattle.mega_rules.specs.Met.{Met}
-use Rattle.mega_rules.specs.Operations.{Operation}
-use Rattle.mega_rules.specs.Steps.{decision_note, onto, told_decision}
+use Rattle.mega_rules.specs.Operations.{Operation, Phase, Proposes, Reads}
+use Rattle.mega_rules.specs.Steps.{Decision, Heard, applied_at, decision_note, first_settled, onto, told_decision}
 use Rattle.mega_node_laws.specs.About.{group_in}
+use Rattle.mega_node_laws.specs.Acted.{or_settled}
 use Rattle.mega_actions.specs.Servable.{is_pump}
 
--- where a message is taken, that of the decision that it tells, and those in which the open operations read or propose
-abbrev pub with_phase : List GroupId → Operation → List GroupId
-with_phase groups o = with_group (group_in o.phase) groups
+-- only an operation that reads through a position that it knows may store what it needs
+abbrev pub reaches_in : Phase → Bool
+reaches_in (Reads group r) = is_some (through_of r)
+reaches_in (Proposes group n asked p promised) = false
 
--- and all groups where a pump is open, since that may read any
-abbrev pub roams : Operation → Bool
-roams o = is_pump o.request
+abbrev pub reaches : Operation → Bool
+reaches o = reaches_in o.phase
 
-abbrev pub told_groups : Bool → List Met → Body → List GroupId
-told_groups true met body = groups_of (onto (decision_note (told_decision body)) met)
-told_groups false met body = groups_of (decision_note (told_decision body))
+-- where a message is taken, that of the decision that it brings, and those in which operations read through a position then
+abbrev pub with_reach : List GroupId → Heard → List GroupId
+with_reach groups t = if reaches t.operation then with_group (group_in t.operation.phase) groups else groups
 
-abbrev pub touched : List Met → Body → List Operation → List GroupId
-touched met body os = fold with_phase (told_groups (list_any roams os) met body) os
+-- and all groups where one of these is a pump, since that may read any
+abbrev pub roams : Heard → Bool
+roams t = reaches t.operation && is_pump t.operation.request
+
+abbrev pub told_groups : Bool → List Met → Option Decision → List GroupId
+told_groups true met d = groups_of (onto (decision_note d) met)
+told_groups false met d = groups_of (decision_note d)
+
+abbrev pub touched : List Met → Body → List Heard → List GroupId
+touched met body ts = fold with_reach (told_groups (list_any roams ts) met (or_settled (told_decision body) (first_settled ts))) ts
+
+-- at a tick, those of which not all is applied that is decided, at a node that keeps rows
+abbrev pub is_behind : List Met → (GroupId → ℕ) → GroupId → Bool
+is_behind met stored group = nat_lt (applied_at met stored group) (prefix_of met group)
+
+abbrev pub behind : Bool → List Met → (GroupId → ℕ) → List GroupId
+behind keeps met stored = if keeps then filter (is_behind met stored) (groups_of met) else []
 
 -- where an operation begins, that of its request, if it has one
 abbrev pub named : Option GroupId → List GroupId

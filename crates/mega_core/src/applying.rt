@@ -25,7 +25,7 @@ pub(crate) struct Before {
 }
 
 /// The applied position of a group.
-fn applied_at<R: Records, V: Versions>(
+pub(crate) fn applied_at<R: Records, V: Versions>(
     voter: &Voter<R>,
     rows: &StoredRows<V>,
     group: &GroupId,

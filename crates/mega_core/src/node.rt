@@ -25,13 +25,14 @@ ghost use Rattle.mega_core.specs.Standing.{StandsFor};
 
 use crate::applying::watched;
 use crate::fault::StepFault;
+use crate::hearing::all_hear;
 use crate::starting::{leases_of, members_of, voter_of};
 use crate::step::Step;
 use crate::taking::{Taken, acts, takes};
 use crate::ticking::{Ticked, acts_ticked, ticks};
-use crate::touching::{begun_groups, touched};
+use crate::touching::{begun_groups, behind, touched};
 use mega_actions::Replica;
-use mega_base::{Items, Text};
+use mega_base::{Copied, Items, Text};
 use mega_cluster::Cluster;
 use mega_disk::{Records, Versions};
 use mega_marks::Indexed;
@@ -125,11 +126,13 @@ impl<R: Records, V: Versions> Node<R, V> {
         ensures late { result ≡ Err Late → (h : Meanings) (node : RuleNode) → StandsFor V.version h self.old node → IsLate self.old.replica.members message.now.body }
         ensures fares { Fares V.Versions (failed_by result) self.old.replica.rows.rows self.new.replica.rows.rows }
     {
-        let voter = &self.replica.voter;
-        let groups = touched(alloc, voter, &message.body, self.open.as_slice())?;
-        let before = watched(alloc, &self.replica, groups)?;
+        let clock = self.replica.leases.now();
         let opened = mem::replace(&mut self.open, Items::new(alloc));
-        let taken = takes(alloc, &mut self.replica, opened, message)?;
+        let heard = all_hear(alloc, &self.replica.members, clock, message, opened)?;
+        let voter = &self.replica.voter;
+        let groups = touched(alloc, voter, &message.body, heard.as_slice())?;
+        let before = watched(alloc, &self.replica, groups)?;
+        let taken = takes(alloc, &mut self.replica, heard, message)?;
         let Taken {
             notes,
             sends,
@@ -218,10 +221,10 @@ impl<R: Records, V: Versions> Node<R, V> {
         ensures late { result ≢ Err Late }
         ensures fares { Fares V.Versions (failed_by result) self.old.replica.rows.rows self.new.replica.rows.rows }
     {
-        let found = self.replica.voter.groups(alloc)?;
-        let groups = Items::from_vec(found);
-        let before = watched(alloc, &self.replica, groups)?;
-        let made = ticks(alloc, &mut self.replica, now)?;
+        let groups = behind(alloc, &self.replica)?;
+        let copied = groups.copy(alloc)?;
+        let before = watched(alloc, &self.replica, copied)?;
+        let made = ticks(alloc, &mut self.replica, now, groups)?;
         let Ticked {
             notes,
             opening,

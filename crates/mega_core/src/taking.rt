@@ -12,7 +12,7 @@ ghost use Rattle.mega_rules.specs.Clock.{clock_of};
 ghost use Rattle.mega_rules.specs.Logs.{log_of};
 ghost use Rattle.mega_rules.specs.Members.{has_rows};
 ghost use Rattle.mega_rules.specs.Met.{Met};
-ghost use Rattle.mega_rules.specs.Operations.{Node as RuleNode, Setting};
+ghost use Rattle.mega_rules.specs.Operations.{Node as RuleNode, Operation as Open, Setting};
 ghost use Rattle.mega_rules.specs.Steps.{Take, all_act, at_first, decide_to, decision_note, first_settled, hears_message, if_new, news, onto, stored_after, told_decision};
 ghost use Rattle.mega_replica.specs.Faring.{Fares};
 ghost use Rattle.mega_replica.specs.Following.{Follows, progress_at};
@@ -32,7 +32,6 @@ ghost use Rattle.mega_core.specs.Standing.{StandsWith};
 
 use crate::deciding::{Chosen, decides, decision, note_decision, stores, tells_decision};
 use crate::fault::StepFault;
-use crate::hearing::all_hear;
 use crate::joining::add_sends;
 use crate::kinds::has_rows;
 use crate::note::Note;
@@ -41,7 +40,7 @@ use mega_actions::{ActFault, Replica, Work};
 use mega_base::{Copied, Items, NoMemory, Position};
 use mega_disk::{Records, Versions};
 use mega_meanings::QueueHandlers;
-use mega_operations::{Heard, Members, Operation};
+use mega_operations::{Heard, Members};
 use mega_propose::others;
 use mega_wire::{Body, Message};
 use std::alloc::Global;
@@ -199,25 +198,25 @@ fn assemble(
     })
 }
 
-/// The node takes a message, as far as its operations act.
+/// The node takes a message that its operations heard, as far as they act.
 #[tactic(auto, using(mega_replica::proofs::Fared::fares_here, crate::proofs::Failing::fares_from))]
 pub(crate) fn takes<R: Records, V: Versions>(
     alloc: Global,
     replica: &mut Replica<R, V>,
-    opened: Items<Operation>,
+    heard: Items<Heard>,
     message: &Message,
 ) -> Result<Taken, StepFault>
-    ensures taken { IfOk result (λ made. (h : Meanings) (node : RuleNode) (begun : ℕ) →
-        StandsWith V.version h replica.old opened begun node →
+    ensures taken { IfOk result (λ made. (h : Meanings) (node : RuleNode) (open_ones : List Open) (begun : ℕ) →
+        StandsWith V.version h replica.old open_ones begun node →
+        heard ≡ map (hears_message (setting_of replica.old h) (clock_of node.met) message.now) node.open_operations →
         HasOwnRows replica.old.members.schema (log_of (acted_on (setting_of replica.old h) node (Take message.now))) → IsPlaced (decision_in (setting_of replica.old h) node message.now) →
         TakenAt V.version h replica.old replica.new made node message.now) }
-    ensures staged { IfOk result (λ made. (h : Meanings) (node : RuleNode) (begun : ℕ) (before : List Met) →
-        StandsWith V.version h replica.old opened begun node →
+    ensures staged { IfOk result (λ made. (h : Meanings) (node : RuleNode) (open_ones : List Open) (begun : ℕ) (before : List Met) →
+        StandsWith V.version h replica.old open_ones begun node →
+        heard ≡ map (hears_message (setting_of replica.old h) (clock_of node.met) message.now) node.open_operations →
         Stages replica.old.voter.logs.staged.items before node.met → Stages replica.new.voter.logs.staged.items before (acted_on (setting_of replica.old h) node (Take message.now))) }
     ensures records { replica.new.voter.logs.records ≡ replica.old.voter.logs.records }
-    ensures heard { IfOk result (λ made. (h : Meanings) (node : RuleNode) (begun : ℕ) →
-        StandsWith V.version h replica.old opened begun node →
-        made.heard ≡ map (hears_message (setting_of replica.old h) (clock_of node.met) message.now) node.open_operations) }
+    ensures heard { IfOk result (λ made. made.heard ≡ heard) }
     ensures members { replica.new.members ≡ replica.old.members }
     ensures me { replica.new.me ≡ replica.old.me }
     ensures indexed { replica.new.indexed ≡ replica.old.indexed }
@@ -227,8 +226,6 @@ pub(crate) fn takes<R: Records, V: Versions>(
     ensures apart { failed_by result ≡ None }
     ensures fares { Fares V.Versions None replica.old.rows.rows replica.new.rows.rows }
 {
-    let clock = replica.leases.now();
-    let heard = all_hear(alloc, &replica.members, clock, message, opened)?;
     let told = is_told(alloc, replica, message)?;
     let found = decides_by(alloc, replica, message, heard.as_slice())?;
     let made = assemble(

@@ -26,6 +26,7 @@ ghost use Rattle.mega_actions.specs.Working.{work_of};
 ghost use Rattle.mega_core.specs.Notes.{met_of};
 ghost use Rattle.mega_core.specs.Staging.{Stages};
 ghost use Rattle.mega_core.specs.Ticking.{TickedAt, fetch_message};
+ghost use Rattle.mega_core.specs.Touching.{behind};
 ghost use Rattle.mega_core.specs.Standing.{StandsWith};
 
 use crate::joining::{add_of_leases, add_sends};
@@ -72,7 +73,7 @@ fn store_portion<R: Records, V: Versions>(
     }
 }
 
-/// Stores a portion of each group, at a node that keeps rows.
+/// Stores a portion of each of these groups, at a node that keeps rows: of all others all is stored.
 #[tactic(auto, using(mega_replica::proofs::Fared::fares_here, mega_replica::proofs::Fared::fares_then))]
 fn store_portions<R: Records, V: Versions>(
     alloc: Global,
@@ -80,8 +81,9 @@ fn store_portions<R: Records, V: Versions>(
     rows: &mut StoredRows<V>,
     keeps: bool,
     most: u64,
+    groups: Items<GroupId>,
 ) -> Result<(), NoMemory>
-    ensures follows { OnOk result ((s : Setting) (met : List Met) (stored : Group → ℕ) → keeps ≡ has_rows s.cluster s.me → (keeps ≡ false → (group : Group) → stored group ≡ 0) → s.cluster.apply ≡ most → Tells voter.now.logs.kept met →
+    ensures follows { OnOk result ((s : Setting) (met : List Met) (stored : Group → ℕ) → keeps ≡ has_rows s.cluster s.me → (keeps ≡ false → (group : Group) → stored group ≡ 0) → s.cluster.apply ≡ most → groups ≡ behind keeps met stored → Tells voter.now.logs.kept met →
         Follows (V.version rows.old.rows) (progress_at rows.old.progress) (log_of met) stored →
         Follows (V.version rows.new.rows) (progress_at rows.new.progress) (log_of met) (portion_of s met stored)) }
     ensures fares { Fares V.Versions None rows.old.rows rows.new.rows }
@@ -89,8 +91,7 @@ fn store_portions<R: Records, V: Versions>(
     if !keeps {
         return Ok(());
     }
-    let groups = voter.groups(alloc)?;
-    for group in groups {
+    for group in groups.into_vec() {
         store_portion(alloc, voter, rows, most, &group)?;
     }
     Ok(())
@@ -235,15 +236,16 @@ pub(crate) fn acts_ticked<R: Records, V: Versions, H: QueueHandlers>(
     Ok(work)
 }
 
-/// The node ticks, as far as its operations act.
+/// The node ticks, as far as its operations act; these are the groups of which not all is applied that is decided.
 #[tactic(auto, using(mega_replica::proofs::Fared::fares_here))]
 pub(crate) fn ticks<R: Records, V: Versions>(
     alloc: Global,
     replica: &mut Replica<R, V>,
     now: u64,
+    groups: Items<GroupId>,
 ) -> Result<Ticked, NoMemory>
     ensures ticked { IfOk result (λ made. (h : Meanings) (node : RuleNode) (open_ones : List Open) (begun : ℕ) →
-        StandsWith V.version h replica.old open_ones begun node →
+        StandsWith V.version h replica.old open_ones begun node → groups ≡ behind (has_rows replica.old.members replica.old.me) node.met node.stored →
         HasOwnRows replica.old.members.schema (log_of (acted_on (setting_of replica.old h) node (Tick now))) →
         TickedAt V.version h replica.old replica.new made node now) }
     ensures staged { OnOk result ((h : Meanings) (node : RuleNode) (open_ones : List Open) (begun : ℕ) (before : List Met) →
@@ -266,7 +268,14 @@ pub(crate) fn ticks<R: Records, V: Versions>(
         again,
     )?;
     let most = u64::from(replica.members.cluster().apply);
-    store_portions(alloc, &replica.voter, &mut replica.rows, keeps, most)?;
+    store_portions(
+        alloc,
+        &replica.voter,
+        &mut replica.rows,
+        keeps,
+        most,
+        groups,
+    )?;
     let ticking = replica.leases.ticks(alloc, now)?;
     let mega_leases::Ticking {
         of_coordinator,

@@ -1,20 +1,28 @@
 //! The groups of which a step may apply more.
-ghost use Rattle.std.specs.Prelude.{◌≡◌, ◌++◌, ◌∷◌, [], List, Option, Some, None, IfOk, fold};
+ghost use Rattle.std.specs.Prelude.{◌≡◌, ◌++◌, ◌∷◌, ◌&&◌, ℕ, [], List, Option, Some, None, IfOk, OnOk, filter, fold};
 ghost use Rattle.std.specs.List.{list_any};
 ghost use Rattle.mega_base.specs.declared.names.GroupId.{GroupId as Group};
 ghost use Rattle.mega_node_laws.specs.About.{group_in};
+ghost use Rattle.mega_node_laws.specs.Acted.{or_settled};
 ghost use Rattle.mega_rules.specs.Logs.{groups_of, is_group_before, with_group};
+ghost use Rattle.mega_rules.specs.Members.{has_rows};
 ghost use Rattle.mega_rules.specs.Met.{Met};
-ghost use Rattle.mega_rules.specs.Steps.{decision_note, onto, told_decision};
+ghost use Rattle.mega_rules.specs.Steps.{decision_note, first_settled, onto, told_decision};
+ghost use Rattle.mega_replica.specs.Following.{progress_at};
 ghost use Rattle.mega_voter.specs.Telling.{Tells};
-ghost use Rattle.mega_core.specs.Touching.{asked_groups, begun_groups, named, roams, told_groups, touched, waits, with_phase};
+ghost use Rattle.mega_core.specs.Positions.{Keeps};
+ghost use Rattle.mega_core.specs.Touching.{asked_groups, begun_groups, behind, is_behind, named, reaches, roams, told_groups, touched, waits, with_reach};
 
-use mega_actions::is_pump;
+use crate::applying::applied_at;
+use crate::deciding::tells_decision;
+use crate::kinds::has_rows;
+use mega_actions::{Replica, is_pump};
 use mega_base::{Copied, GroupId, Items, NoMemory};
-use mega_disk::Records;
-use mega_operations::{Operation, Phase};
+use mega_disk::{Records, Versions};
+use mega_operations::{Heard, Operation, Phase, first_settled};
 use mega_outcome::Request;
 use mega_propose::is_same_group;
+use mega_replica::StoredRows;
 use mega_voter::Voter;
 use mega_wire::Body;
 use std::alloc::Global;
@@ -95,18 +103,42 @@ fn group_of(alloc: Global, operation: &Operation) -> Result<GroupId, NoMemory>
     }
 }
 
-/// These groups, and those in which the operations read or propose.
-fn with_phases(
+/// Whether an operation reads through a position that it knows: only such a one may store what it needs.
+fn reaches(operation: &Operation) -> bool
+    ensures { result ≡ reaches operation.now }
+{
+    match &operation.phase {
+        Phase::Reads { reading, .. } => reading.through_of().is_some(),
+        Phase::Proposes { .. } => false,
+    }
+}
+
+/// These groups, and that of an operation that reads through a position.
+fn with_reach(
     alloc: Global,
     groups: Items<GroupId>,
-    operations: &[Operation],
+    heard: &Heard,
 ) -> Result<Items<GroupId>, NoMemory>
-    ensures { IfOk result (λ made. made ≡ fold with_phase groups operations.now) }
+    ensures { IfOk result (λ made. made ≡ with_reach groups heard.now) }
+{
+    if !reaches(&heard.operation) {
+        return Ok(groups);
+    }
+    let group = group_of(alloc, &heard.operation)?;
+    with_group(alloc, groups, group)
+}
+
+/// These groups, and those in which operations read through a position.
+fn with_reaches(
+    alloc: Global,
+    groups: Items<GroupId>,
+    heard: &[Heard],
+) -> Result<Items<GroupId>, NoMemory>
+    ensures { IfOk result (λ made. made ≡ fold with_reach groups heard.now) }
 {
     let mut made = groups;
-    for operation in operations {
-        let group = group_of(alloc, operation)?;
-        made = with_group(alloc, made, group)?;
+    for one in heard {
+        made = with_reach(alloc, made, one)?;
     }
     Ok(made)
 }
@@ -138,7 +170,7 @@ fn all_groups<R: Records>(alloc: Global, voter: &Voter<R>) -> Result<Items<Group
     Ok(Items::from_vec(groups))
 }
 
-/// These groups, and that of the decision that a message tells, if it tells one.
+/// These groups, and that of the decision that a message tells.
 fn with_told(alloc: Global, groups: Items<GroupId>, body: &Body) -> Result<Items<GroupId>, NoMemory>
     ensures { IfOk result (λ made. (met : List Met) → groups ≡ groups_of met → made ≡ groups_of (onto (decision_note (told_decision body.now)) met)) }
 {
@@ -155,48 +187,143 @@ fn with_told(alloc: Global, groups: Items<GroupId>, body: &Body) -> Result<Items
     }
 }
 
-/// Whether the operation may read any group: a pump.
-fn roams(operation: &Operation) -> bool
-    ensures { result ≡ roams operation.now }
+/// These groups, and that of what the first of these operations settled that settled anything.
+fn with_settled(
+    alloc: Global,
+    groups: Items<GroupId>,
+    heard: &[Heard],
+) -> Result<Items<GroupId>, NoMemory>
+    ensures { IfOk result (λ made. (met : List Met) → groups ≡ groups_of met → made ≡ groups_of (onto (decision_note (first_settled heard.now)) met)) }
 {
-    is_pump(&operation.request)
+    match first_settled(heard) {
+        Some(found) => {
+            let group = found.group.copy(alloc)?;
+            with_group(alloc, groups, group)
+        }
+        None => Ok(groups),
+    }
 }
 
-/// Whether a pump is among the operations.
-fn is_any_roaming(operations: &[Operation]) -> bool
-    ensures { result ≡ list_any roams operations.now }
+/// These groups, and that of the decision that a message brings, if it brings one.
+fn with_decision(
+    alloc: Global,
+    groups: Items<GroupId>,
+    body: &Body,
+    heard: &[Heard],
+) -> Result<Items<GroupId>, NoMemory>
+    ensures { IfOk result (λ made. (met : List Met) → groups ≡ groups_of met → made ≡ groups_of (onto (decision_note (or_settled (told_decision body.now) (first_settled heard.now))) met)) }
 {
-    operations.iter().any(|one| roams(one))
+    if tells_decision(body) {
+        return with_told(alloc, groups, body);
+    }
+    with_settled(alloc, groups, heard)
 }
 
-/// The group of the decision that a message tells, or all groups and that one.
+/// Whether an operation may read any group as it acts: a pump that reads through a position.
+fn roams(heard: &Heard) -> bool
+    ensures { result ≡ roams heard.now }
+{
+    reaches(&heard.operation) && is_pump(&heard.operation.request)
+}
+
+/// Whether such a pump is among the operations.
+fn is_any_roaming(heard: &[Heard]) -> bool
+    ensures { result ≡ list_any roams heard.now }
+{
+    heard.iter().any(|one| roams(one))
+}
+
+/// The group of the decision that a message brings, or all groups and that one.
 fn told_groups<R: Records>(
     alloc: Global,
     voter: &Voter<R>,
     body: &Body,
+    heard: &[Heard],
     all: bool,
 ) -> Result<Items<GroupId>, NoMemory>
-    ensures { IfOk result (λ groups. (met : List Met) → Tells voter.now.logs.kept met → groups ≡ told_groups all met body.now) }
+    ensures { IfOk result (λ groups. (met : List Met) → Tells voter.now.logs.kept met → groups ≡ told_groups all met (or_settled (told_decision body.now) (first_settled heard.now))) }
 {
     if all {
         let groups = all_groups(alloc, voter)?;
-        return with_told(alloc, groups, body);
+        return with_decision(alloc, groups, body, heard);
     }
-    let told = with_told(alloc, Items::new(alloc), body)?;
+    let told = with_decision(alloc, Items::new(alloc), body, heard)?;
     Ok(told)
 }
 
-/// The groups of which a step may apply more in which a message is taken.
+/// The groups of which a step may apply more in which a message is taken, from what the operations heard.
 pub(crate) fn touched<R: Records>(
     alloc: Global,
     voter: &Voter<R>,
     body: &Body,
-    operations: &[Operation],
+    heard: &[Heard],
 ) -> Result<Items<GroupId>, NoMemory>
-    ensures { IfOk result (λ groups. (met : List Met) → Tells voter.now.logs.kept met → groups ≡ touched met body.now operations.now) }
+    ensures { IfOk result (λ groups. (met : List Met) → Tells voter.now.logs.kept met → groups ≡ touched met body.now heard.now) }
 {
-    let first = told_groups(alloc, voter, body, is_any_roaming(operations))?;
-    with_phases(alloc, first, operations)
+    let first = told_groups(alloc, voter, body, heard, is_any_roaming(heard))?;
+    with_reaches(alloc, first, heard)
+}
+
+/// Whether not all of a group is applied that is decided.
+fn is_behind<R: Records, V: Versions>(
+    voter: &Voter<R>,
+    rows: &StoredRows<V>,
+    group: &GroupId,
+) -> bool
+    ensures { (met : List Met) (stored : Group → ℕ) →
+        Keeps voter.now.logs.kept (V.version rows.now.rows) (progress_at rows.now.progress) met stored → result ≡ is_behind met stored group.now }
+{
+    applied_at(voter, rows, group) < voter.prefix(group).0
+}
+
+/// Adds a group to those of which not all is applied that is decided, where it is one.
+fn add_behind<R: Records, V: Versions>(
+    voter: &Voter<R>,
+    rows: &StoredRows<V>,
+    found: &mut Items<GroupId>,
+    group: GroupId,
+) -> Result<(), NoMemory>
+    ensures { OnOk result ((met : List Met) (stored : Group → ℕ) →
+        Keeps voter.now.logs.kept (V.version rows.now.rows) (progress_at rows.now.progress) met stored → found.new ≡ found.old ++ filter (is_behind met stored) (group ∷ [])) }
+{
+    if is_behind(voter, rows, &group) {
+        found.push(group)?;
+        return Ok(());
+    }
+    Ok(())
+}
+
+/// Of these groups those of which not all is applied that is decided.
+fn behind_among<R: Records, V: Versions>(
+    alloc: Global,
+    voter: &Voter<R>,
+    rows: &StoredRows<V>,
+    groups: Vec<GroupId>,
+) -> Result<Items<GroupId>, NoMemory>
+    ensures { IfOk result (λ found. (met : List Met) (stored : Group → ℕ) →
+        Keeps voter.now.logs.kept (V.version rows.now.rows) (progress_at rows.now.progress) met stored → found ≡ filter (is_behind met stored) groups.items) }
+{
+    let mut found = Items::new(alloc);
+    for group in groups {
+        add_behind(voter, rows, &mut found, group)?;
+    }
+    Ok(found)
+}
+
+/// The groups of which not all is applied that is decided, in order, at a node that keeps rows.
+pub(crate) fn behind<R: Records, V: Versions>(
+    alloc: Global,
+    replica: &Replica<R, V>,
+) -> Result<Items<GroupId>, NoMemory>
+    ensures { IfOk result (λ groups. (met : List Met) (stored : Group → ℕ) →
+        Keeps replica.now.voter.logs.kept (V.version replica.now.rows.rows) (progress_at replica.now.rows.progress) met stored →
+        groups ≡ behind (has_rows replica.now.members replica.now.me) met stored) }
+{
+    if has_rows(replica.members.cluster(), replica.me) {
+        let groups = replica.voter.groups(alloc)?;
+        return behind_among(alloc, &replica.voter, &replica.rows, groups);
+    }
+    Ok(Items::new(alloc))
 }
 
 /// The group that a request names, if it names one.

@@ -1,11 +1,10 @@
-use Rattle.std.proofs.Common.{◌≡◌, ◌∙◌, ◌++◌, ◌∷◌, false, map, refl, subst, sym}
+use Rattle.std.proofs.Common.{◌≡◌, ◌∙◌, ◌++◌, ◌∷◌, false, subst, sym}
 use Rattle.mega_base.specs.declared.names.GroupId.{GroupId}
-use Rattle.mega_rules.specs.Clock.{clock_of}
 use Rattle.mega_rules.specs.Logs.{log_of}
 use Rattle.mega_rules.specs.Members.{has_rows}
 use Rattle.mega_rules.specs.Met.{Takes}
 use Rattle.mega_rules.specs.Operations.{Setting}
-use Rattle.mega_rules.specs.Steps.{decision_note, hears_message, onto, stored_after, told_decision, told_notes}
+use Rattle.mega_rules.specs.Steps.{decision_note, onto, stored_after, told_decision, told_notes}
 use Rattle.mega_node_laws.proofs.Followed.{follows_after, follows_more}
 use Rattle.mega_replica.specs.declared.rows.StoredRows.{StoredRows}
 use Rattle.mega_replica.specs.Following.{Follows, progress_at}
@@ -17,7 +16,7 @@ use Rattle.mega_core.proofs.Messages.{decision_is, taken_stands, told_on}
 use Rattle.mega_core.proofs.taking.takes.Goals as goal
 
 pub returns-clause-taken : goal.returns-clause-taken
-returns-clause-taken g c = λ h node begun represents owned placed.
+returns-clause-taken g c = λ h node open_ones begun represents heard_is owned placed.
     let r0 = c.args.replica.now in
     let r1 = c.is_told.new.replica in
     let r2 = c.decides_by.new.replica in
@@ -29,8 +28,6 @@ returns-clause-taken g c = λ h node begun represents owned placed.
     let base = told_on s node m in
     let told = told_notes s node.met m.from m.body in
     let tells = says.kept h node.met represents.tells represents.leased in
-    let clock_is : c.now-clock.result ≡ clock_of node.met = c.now-clock.ensures r0.members r0.me node.met represents.leased in
-    let heard_is : c.in_ok-heard.heard ≡ map (hears_message s (clock_of node.met) m) node.open_operations = c.in_ok-heard.ensures s refl ∙ (λ i. map (hears_message s (clock_is i) m) (sym represents.opened i)) in
     let d = c.in_ok-found.found in
     let d_is = decision_is s node m c.as_slice.result.now d (c.as_slice.ensures ∙ heard_is) (decides.new base tells) in
     let placed_d : IsPlaced d = subst IsPlaced (sym d_is) placed in
@@ -53,16 +50,8 @@ returns-clause-taken g c = λ h node begun represents owned placed.
           t_is decides.leases d_is (decides.kept base placed_d tells) (says.leased h node.met represents.leased) follows2 owned represents.kind.small;
     }
 
-pub returns-clause-heard : goal.returns-clause-heard
-returns-clause-heard g c = λ h node begun represents.
-    let r0 = c.args.replica.now in
-    let m = c.args.message.now in
-    let s = setting r0.members r0.me h in
-    let clock_is : c.now-clock.result ≡ clock_of node.met = c.now-clock.ensures r0.members r0.me node.met represents.leased in
-    c.in_ok-made.ensures.heard ∙ (c.in_ok-heard.ensures s refl ∙ (λ i. map (hears_message s (clock_is i) m) (sym represents.opened i)))
-
 pub returns-clause-staged : goal.returns-clause-staged
-returns-clause-staged g c = λ h node begun before represents stages.
+returns-clause-staged g c = λ h node open_ones begun before represents heard_is stages.
     let r0 = c.args.replica.now in
     let r2 = c.decides_by.new.replica in
     let m = c.args.message.now in
@@ -71,8 +60,6 @@ returns-clause-staged g c = λ h node begun before represents stages.
     let s = setting r0.members r0.me h in
     let base = told_on s node m in
     let tells = says.kept h node.met represents.tells represents.leased in
-    let clock_is : c.now-clock.result ≡ clock_of node.met = c.now-clock.ensures r0.members r0.me node.met represents.leased in
-    let heard_is : c.in_ok-heard.heard ≡ map (hears_message s (clock_of node.met) m) node.open_operations = c.in_ok-heard.ensures s refl ∙ (λ i. map (hears_message s (clock_is i) m) (sym represents.opened i)) in
     let d = c.in_ok-found.found in
     let d_is = decision_is s node m c.as_slice.result.now d (c.as_slice.ensures ∙ heard_is) (decides.new base tells) in
     coe 0 1 (i. Stages r2.voter.logs.staged.items before (onto (decision_note (d_is i)) base)) (decides.staged before base tells (says.staged h before node.met represents.leased stages))

@@ -6,13 +6,14 @@ use Rattle.mega_rules.specs.Logs.{log_of}
 use Rattle.mega_voter.specs.Telling.{Tells}
 use Rattle.mega_replica.specs.Faring.{Fares}
 use Rattle.mega_replica.specs.Following.{Follows, progress_at}
+use Rattle.mega_core.specs.Touching.{behind}
 use Rattle.mega_core.proofs.Portions.{StoredSo}
 use Rattle.mega_core.proofs.ticking.store_portions.Given as goal
 
 abbrev pub invariant-loop-group : goal.invariant-loop-group
 invariant-loop-group g l = record {
   count : into_iter_len l.group-iterator ≡ length (into_iter_items l.group-iterator);
-  all : (met : List Met) (stored : GroupId → ℕ) → Tells l.voter.logs.kept met → Follows (g.V.Versions.version l.fn.rows.rows) (progress_at l.fn.rows.progress) (log_of met) stored
+  all : (met : List Met) (stored : GroupId → ℕ) → l.fn.groups ≡ behind l.fn.keeps met stored → Tells l.voter.logs.kept met → Follows (g.V.Versions.version l.fn.rows.rows) (progress_at l.fn.rows.progress) (log_of met) stored
       → StoredSo (g.V.Versions.version l.rows.rows) (progress_at l.rows.progress) l.most met stored (into_iter_items l.group-iterator);
   fares : Fares g.V.Versions None l.fn.rows.rows l.rows.rows;
 }

@@ -1,7 +1,7 @@
 use Rattle.std.proofs.Common.{◌≡◌, ◌∙◌, ◌++◌, ◌∷◌, List, ap, map, refl, sym}
 use Rattle.mega_cluster.specs.declared.cluster.Cluster.{Cluster}
 use Rattle.mega_rules.specs.Clock.{begun_of}
-use Rattle.mega_rules.specs.Logs.{groups_of}
+use Rattle.mega_rules.specs.Logs.{groups_of, log_of}
 use Rattle.mega_rules.specs.Members.{has_rows}
 use Rattle.mega_rules.specs.Met.{Ticks}
 use Rattle.mega_rules.specs.Steps.{lapse_notes, lease_notes, onto, portion_of}
@@ -10,15 +10,17 @@ use Rattle.mega_leases.specs.Notes.{met_of}
 use Rattle.mega_voter.specs.Telling.{Tells}
 use Rattle.mega_voter.proofs.Told.{silent_told}
 use Rattle.mega_replica.specs.Following.{progress_at}
+use Rattle.mega_node_laws.proofs.Logs.{log_stays}
 use Rattle.mega_node_laws.proofs.Followed.{follows_after, follows_more}
 use Rattle.mega_actions.specs.Stands.{setting}
 use Rattle.mega_core.specs.Staging.{Stages}
-use Rattle.mega_core.proofs.Clocks.{leases_begun, leases_groups}
+use Rattle.mega_core.specs.Touching.{behind}
+use Rattle.mega_core.proofs.Clocks.{leases_begun, leases_groups, leases_log}
 use Rattle.mega_core.proofs.Staged.{silent_staged}
 use Rattle.mega_core.proofs.ticking.ticks.Goals as goal
 
 pub returns-clause-ticked : goal.returns-clause-ticked
-returns-clause-ticked g c = λ h node open_ones begun represents owned.
+returns-clause-ticked g c = λ h node open_ones begun represents groups_are owned.
     let r0 = c.args.replica.now in
     let now = c.args.now in
     let s = setting r0.members r0.me h in
@@ -36,7 +38,8 @@ returns-clause-ticked g c = λ h node open_ones begun represents owned.
     let version = g.V.Versions.version c.store_portions.new.rows.rows in
     let progress = progress_at c.store_portions.new.rows.progress in
     let counts = portion_of s node.met node.stored in
-    let stored = c.in_ok-store_portions.ensures.follows s node.met node.stored rows (λ none. represents.kind.bare (sym rows ∙ none)) (sym (c.from-most.ensures ∙ ap (λ (one : Cluster). one.apply) c.cluster-2.ensures)) represents.tells represents.follows in
+    let stored = c.in_ok-store_portions.ensures.follows s node.met node.stored rows (λ none. represents.kind.bare (sym rows ∙ none)) (sym (c.from-most.ensures ∙ ap (λ (one : Cluster). one.apply) c.cluster-2.ensures))
+    (groups_are ∙ ap (λ t. behind t node.met node.stored) (sym rows)) represents.tells represents.follows in
     let lease = lease_notes s node.met now in
     record {
       notes = c.in_ok-notes.ensures ∙ (λ i. lease_is i ++ lapse_is i);
@@ -53,6 +56,8 @@ returns-clause-ticked g c = λ h node open_ones begun represents owned.
           ∙ (leases_begun made.of_cell (onto (map met_of made.of_coordinator) (own ∷ node.met)) ∙ leases_begun made.of_coordinator (own ∷ node.met));
       groups = (λ i. groups_of (onto (sym lapse_is i) (onto (sym lease_is i) (own ∷ node.met))))
           ∙ (leases_groups made.of_cell (onto (map met_of made.of_coordinator) (own ∷ node.met)) ∙ leases_groups made.of_coordinator (own ∷ node.met));
+      logs = λ group. (λ i. log_of (onto (sym lapse_is i) (onto (sym lease_is i) (own ∷ node.met))) group)
+          ∙ (leases_log made.of_cell (onto (map met_of made.of_coordinator) (own ∷ node.met)) group ∙ (leases_log made.of_coordinator (own ∷ node.met) group ∙ log_stays own node.met group refl));
     }
 
 pub returns-clause-staged : goal.returns-clause-staged

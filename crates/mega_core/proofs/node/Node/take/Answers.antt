@@ -2,9 +2,9 @@ use Rattle.std.proofs.Common.{◌≡◌, ◌∙◌, cond, List, [], ap, map, ref
 use Rattle.std.specs.List.{All}
 use Rattle.mega_base.specs.declared.names.GroupId.{GroupId}
 use Rattle.mega_rules.specs.Members.{has_rows}
+use Rattle.mega_rules.specs.Clock.{clock_of}
 use Rattle.mega_rules.specs.Met.{Takes}
-use Rattle.mega_rules.specs.Operations.{Operation}
-use Rattle.mega_rules.specs.Steps.{Step as RuleStep, Take, decision_note, stored_after, told_notes}
+use Rattle.mega_rules.specs.Steps.{Step as RuleStep, Take, decision_note, hears_message, stored_after, told_notes}
 use Rattle.mega_replica.specs.Following.{progress_at}
 use Rattle.mega_node_laws.specs.Acted.{acted_on, decision_in}
 use Rattle.mega_actions.specs.Stands.{setting}
@@ -17,7 +17,7 @@ use Rattle.mega_core.specs.Touching.{touched}
 use Rattle.mega_core.proofs.Begun.{represents_keeps}
 use Rattle.mega_core.proofs.Messages.{heard_are_about, heard_are_built, take_acts, take_is, take_may}
 use Rattle.mega_core.proofs.Refused.{unserved_is}
-use Rattle.mega_core.proofs.Untouched.{take_noted}
+use Rattle.mega_core.proofs.Untouched.{heard_by, take_noted}
 use Rattle.mega_core.proofs.Watched.{watched_noted}
 use Rattle.mega_core.proofs.node.Node.take.Goals as goal
 
@@ -27,10 +27,11 @@ returns-in_err-work-clause-built g c = λ is h node represents.
     let version = g.V.Versions.version r0.rows.rows in
     let progress = progress_at r0.rows.progress in
     let s = setting r0.members r0.me h in
-    let opened = subst (λ (os : List Operation). Represents s r0.voter.logs.kept r0.leases r0.indexed version progress os c.args.self.now.begun node) (sym c.replace-opened.ensures.value) represents in
-    let heard_is = c.in_ok-taken.ensures.heard h node c.args.self.now.begun opened in
+    let clock_is : c.now-clock.result ≡ clock_of node.met = c.now-clock.ensures r0.members r0.me node.met represents.leased in
+    let heard_is : c.in_ok-heard.heard ≡ heard_by s node c.args.message.now =
+    c.in_ok-heard.ensures s refl ∙ (λ i. map (hears_message s (clock_is i) c.args.message.now) ((c.replace-opened.ensures.value ∙ sym represents.opened) i)) in
     c.in_err-work.ensures.unserved (search (rules, unserved_is))
-    (heard_are_built s node c.args.message.now r0.voter.logs.kept r0.leases version progress c.args.self.now.open c.args.self.now.begun c.in_ok-taken.taken.heard represents heard_is)
+    (heard_are_built s node c.args.message.now r0.voter.logs.kept r0.leases version progress c.args.self.now.open c.args.self.now.begun c.in_ok-taken.taken.heard represents (c.in_ok-taken.ensures.heard ∙ heard_is))
 
 pub returns-clause-notes : goal.returns-clause-notes
 returns-clause-notes g c = λ told h node means represents owned placed.
@@ -43,8 +44,10 @@ returns-clause-notes g c = λ told h node means represents owned placed.
     let progress = progress_at r0.rows.progress in
     let m = c.args.message.now in
     let s = setting r0.members r0.me h in
-    let opened = subst (λ (os : List Operation). Represents s r0.voter.logs.kept r0.leases r0.indexed version progress os begun node) (sym c.replace-opened.ensures.value) represents in
-    let taken = c.in_ok-taken.ensures.taken h node begun opened owned placed in
+    let clock_is : c.now-clock.result ≡ clock_of node.met = c.now-clock.ensures r0.members r0.me node.met represents.leased in
+    let heard_is : c.in_ok-heard.heard ≡ heard_by s node m =
+    c.in_ok-heard.ensures s refl ∙ (λ i. map (hears_message s (clock_is i) m) ((c.replace-opened.ensures.value ∙ sym represents.opened) i)) in
+    let taken = c.in_ok-taken.ensures.taken h node own_open begun represents heard_is owned placed in
     let heard = c.in_ok-taken.taken.heard in
     let t1 = setting r1.members r1.me h in
     let t2 = setting r2.members r2.me h in
@@ -58,8 +61,8 @@ returns-clause-notes g c = λ told h node means represents owned placed.
     (c.in_ok-work.ensures.state told h base stored means about taken.stands) (c.in_ok-work.ensures.work told h base stored means about taken.stands) in
     let is = take_is s node m t2 c.in_ok-taken.taken.sends c.new-2.result (t2_is ∙ t1_is) taken.sends c.new-2.ensures in
     let keeps = represents_keeps s r0.voter.logs.kept r0.leases version progress own_open begun node represents in
-    let groups = touched node.met m.body node.open_operations in
-    let groups_are : c.in_ok-groups.groups ≡ groups = c.in_ok-groups.ensures node.met represents.tells ∙ ap (touched node.met m.body) (c.as_slice.ensures ∙ sym represents.opened) in
+    let groups = touched node.met m.body (heard_by s node m) in
+    let groups_are : c.in_ok-groups.groups ≡ groups = c.in_ok-groups.ensures node.met represents.tells ∙ ap (touched node.met m.body) (c.as_slice.ensures ∙ heard_is) in
     let before = c.in_ok-before.ensures node.met node.stored keeps ∙ ap (λ (some : List GroupId). cond (has_rows r0.members r0.me) (map (before_at node.met node.stored) some) []) groups_are in
     let noted = watched_noted s t2 node groups c.in_ok-before.before (has_taken s node m) (t2_is ∙ t1_is) before (take_noted s node m (map (before_at node.met node.stored) groups) (subst (All IsServable) (sym represents.opened) represents.built) acted.acted refl) in
     let made = c.in_ok-step.ensures.made h node (Takes m) (told_notes s node.met m.from m.body) (decision_note (decision_in s node m)) (has_taken s node m) noted acted taken.notes (take_may s node m _ is) in
@@ -76,8 +79,10 @@ returns-clause-sends g c = λ told h node means represents owned placed.
     let progress = progress_at r0.rows.progress in
     let m = c.args.message.now in
     let s = setting r0.members r0.me h in
-    let opened = subst (λ (os : List Operation). Represents s r0.voter.logs.kept r0.leases r0.indexed version progress os begun node) (sym c.replace-opened.ensures.value) represents in
-    let taken = c.in_ok-taken.ensures.taken h node begun opened owned placed in
+    let clock_is : c.now-clock.result ≡ clock_of node.met = c.now-clock.ensures r0.members r0.me node.met represents.leased in
+    let heard_is : c.in_ok-heard.heard ≡ heard_by s node m =
+    c.in_ok-heard.ensures s refl ∙ (λ i. map (hears_message s (clock_is i) m) ((c.replace-opened.ensures.value ∙ sym represents.opened) i)) in
+    let taken = c.in_ok-taken.ensures.taken h node own_open begun represents heard_is owned placed in
     let heard = c.in_ok-taken.taken.heard in
     let t1 = setting r1.members r1.me h in
     let t2 = setting r2.members r2.me h in
@@ -91,8 +96,8 @@ returns-clause-sends g c = λ told h node means represents owned placed.
     (c.in_ok-work.ensures.state told h base stored means about taken.stands) (c.in_ok-work.ensures.work told h base stored means about taken.stands) in
     let is = take_is s node m t2 c.in_ok-taken.taken.sends c.new-2.result (t2_is ∙ t1_is) taken.sends c.new-2.ensures in
     let keeps = represents_keeps s r0.voter.logs.kept r0.leases version progress own_open begun node represents in
-    let groups = touched node.met m.body node.open_operations in
-    let groups_are : c.in_ok-groups.groups ≡ groups = c.in_ok-groups.ensures node.met represents.tells ∙ ap (touched node.met m.body) (c.as_slice.ensures ∙ sym represents.opened) in
+    let groups = touched node.met m.body (heard_by s node m) in
+    let groups_are : c.in_ok-groups.groups ≡ groups = c.in_ok-groups.ensures node.met represents.tells ∙ ap (touched node.met m.body) (c.as_slice.ensures ∙ heard_is) in
     let before = c.in_ok-before.ensures node.met node.stored keeps ∙ ap (λ (some : List GroupId). cond (has_rows r0.members r0.me) (map (before_at node.met node.stored) some) []) groups_are in
     let noted = watched_noted s t2 node groups c.in_ok-before.before (has_taken s node m) (t2_is ∙ t1_is) before (take_noted s node m (map (before_at node.met node.stored) groups) (subst (All IsServable) (sym represents.opened) represents.built) acted.acted refl) in
     let made = c.in_ok-step.ensures.made h node (Takes m) (told_notes s node.met m.from m.body) (decision_note (decision_in s node m)) (has_taken s node m) noted acted taken.notes (take_may s node m _ is) in
@@ -109,8 +114,10 @@ returns-clause-state g c = λ told h node means represents owned placed.
     let progress = progress_at r0.rows.progress in
     let m = c.args.message.now in
     let s = setting r0.members r0.me h in
-    let opened = subst (λ (os : List Operation). Represents s r0.voter.logs.kept r0.leases r0.indexed version progress os begun node) (sym c.replace-opened.ensures.value) represents in
-    let taken = c.in_ok-taken.ensures.taken h node begun opened owned placed in
+    let clock_is : c.now-clock.result ≡ clock_of node.met = c.now-clock.ensures r0.members r0.me node.met represents.leased in
+    let heard_is : c.in_ok-heard.heard ≡ heard_by s node m =
+    c.in_ok-heard.ensures s refl ∙ (λ i. map (hears_message s (clock_is i) m) ((c.replace-opened.ensures.value ∙ sym represents.opened) i)) in
+    let taken = c.in_ok-taken.ensures.taken h node own_open begun represents heard_is owned placed in
     let heard = c.in_ok-taken.taken.heard in
     let t1 = setting r1.members r1.me h in
     let t2 = setting r2.members r2.me h in
@@ -124,8 +131,8 @@ returns-clause-state g c = λ told h node means represents owned placed.
     (c.in_ok-work.ensures.state told h base stored means about taken.stands) (c.in_ok-work.ensures.work told h base stored means about taken.stands) in
     let is = take_is s node m t2 c.in_ok-taken.taken.sends c.new-2.result (t2_is ∙ t1_is) taken.sends c.new-2.ensures in
     let keeps = represents_keeps s r0.voter.logs.kept r0.leases version progress own_open begun node represents in
-    let groups = touched node.met m.body node.open_operations in
-    let groups_are : c.in_ok-groups.groups ≡ groups = c.in_ok-groups.ensures node.met represents.tells ∙ ap (touched node.met m.body) (c.as_slice.ensures ∙ sym represents.opened) in
+    let groups = touched node.met m.body (heard_by s node m) in
+    let groups_are : c.in_ok-groups.groups ≡ groups = c.in_ok-groups.ensures node.met represents.tells ∙ ap (touched node.met m.body) (c.as_slice.ensures ∙ heard_is) in
     let before = c.in_ok-before.ensures node.met node.stored keeps ∙ ap (λ (some : List GroupId). cond (has_rows r0.members r0.me) (map (before_at node.met node.stored) some) []) groups_are in
     let noted = watched_noted s t2 node groups c.in_ok-before.before (has_taken s node m) (t2_is ∙ t1_is) before (take_noted s node m (map (before_at node.met node.stored) groups) (subst (All IsServable) (sym represents.opened) represents.built) acted.acted refl) in
     let made = c.in_ok-step.ensures.made h node (Takes m) (told_notes s node.met m.from m.body) (decision_note (decision_in s node m)) (has_taken s node m) noted acted taken.notes (take_may s node m _ is) in
@@ -143,8 +150,10 @@ returns-clause-staged g c = λ told h node since means represents owned placed s
     let progress = progress_at r0.rows.progress in
     let m = c.args.message.now in
     let s = setting r0.members r0.me h in
-    let opened = subst (λ (os : List Operation). Represents s r0.voter.logs.kept r0.leases r0.indexed version progress os begun node) (sym c.replace-opened.ensures.value) represents in
-    let taken = c.in_ok-taken.ensures.taken h node begun opened owned placed in
+    let clock_is : c.now-clock.result ≡ clock_of node.met = c.now-clock.ensures r0.members r0.me node.met represents.leased in
+    let heard_is : c.in_ok-heard.heard ≡ heard_by s node m =
+    c.in_ok-heard.ensures s refl ∙ (λ i. map (hears_message s (clock_is i) m) ((c.replace-opened.ensures.value ∙ sym represents.opened) i)) in
+    let taken = c.in_ok-taken.ensures.taken h node own_open begun represents heard_is owned placed in
     let heard = c.in_ok-taken.taken.heard in
     let t1 = setting r1.members r1.me h in
     let t2 = setting r2.members r2.me h in
@@ -157,6 +166,6 @@ returns-clause-staged g c = λ told h node since means represents owned placed s
     c.in_ok-work.work heard represents taken.heard t1_is t2_is (λ i. (c.in_ok-work.ensures.voter i).logs.kept) (c.in_ok-work.ensures.indexed ∙ c.in_ok-taken.ensures.indexed) taken.stands.tells
     (c.in_ok-work.ensures.state told h base stored means about taken.stands) (c.in_ok-work.ensures.work told h base stored means about taken.stands) in
     let is = take_is s node m t2 c.in_ok-taken.taken.sends c.new-2.result (t2_is ∙ t1_is) taken.sends c.new-2.ensures in
-    let mid = coe 1 0 (i. Stages (c.in_ok-work.ensures.voter i).logs.staged.items since base) (c.in_ok-taken.ensures.staged h node begun since opened stages) in
+    let mid = coe 1 0 (i. Stages (c.in_ok-work.ensures.voter i).logs.staged.items since base) (c.in_ok-taken.ensures.staged h node own_open begun since represents heard_is stages) in
     let after = c.in_ok-step.ensures.staged h node (Takes m) (told_notes s node.met m.from m.body) (decision_note (decision_in s node m)) (has_taken s node m) since acted (take_may s node m _ is) mid in
     subst (λ (step : RuleStep). Stages c.ends.new.self.replica.voter.logs.staged.items since step.node.met) is after

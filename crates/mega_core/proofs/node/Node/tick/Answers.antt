@@ -1,29 +1,36 @@
-use Rattle.std.proofs.Common.{◌≡◌, ◌∙◌, cond, List, [], ap, map, refl, subst, sym, rules}
+use Rattle.std.proofs.Common.{◌≡◌, ◌∙◌, true, cond, List, [], ap, map, refl, subst, sym, rules}
 use Rattle.std.specs.List.{All}
-use Rattle.mega_rules.specs.Logs.{groups_of}
 use Rattle.mega_base.specs.declared.names.GroupId.{GroupId}
 use Rattle.mega_rules.specs.Members.{has_rows}
 use Rattle.mega_rules.specs.Met.{Ticks}
 use Rattle.mega_rules.specs.Steps.{Step as RuleStep, Tick, lapse_notes, lease_notes, portion_of}
 use Rattle.mega_replica.specs.Following.{progress_at}
+use Rattle.mega_replica.proofs.Fared.{fares_then}
 use Rattle.mega_node_laws.specs.About.{IsAbout}
 use Rattle.mega_node_laws.specs.Acted.{acted_on}
 use Rattle.mega_actions.specs.Stands.{setting}
 use Rattle.mega_actions.specs.Turns.{IsServable}
+use Rattle.mega_core.specs.Faults.{failed_by}
 use Rattle.mega_core.specs.Positions.{before_at}
 use Rattle.mega_core.specs.Represents.{Represents}
 use Rattle.mega_core.specs.Staging.{Stages}
 use Rattle.mega_core.specs.Ticking.{has_ticked}
+use Rattle.mega_core.specs.Touching.{behind}
 use Rattle.mega_core.proofs.Begun.{represents_keeps}
 use Rattle.mega_core.proofs.Clocks.{tick_acts, tick_is, tick_may}
+use Rattle.mega_core.proofs.Failing.{acted_store}
 use Rattle.mega_core.proofs.Refused.{unserved_is}
 use Rattle.mega_core.proofs.Untouched.{tick_noted}
-use Rattle.mega_core.proofs.Watched.{watched_noted}
+use Rattle.mega_core.proofs.Watched.{at_behind, watched_noted}
 use Rattle.mega_core.proofs.node.Node.tick.Goals as goal
 
 pub returns-in_err-work-clause-built : goal.returns-in_err-work-clause-built
 returns-in_err-work-clause-built g c = λ is h node represents.
     c.in_err-work.ensures.unserved (search (rules, unserved_is)) (subst (All IsServable) (sym c.replace-opened.ensures.value) represents.built)
+
+pub returns-in_err-work-clause-fares : goal.returns-in_err-work-clause-fares
+returns-in_err-work-clause-fares g c =
+    fares_then g.V.Versions (failed_by c.from_residual-in_err-work.result) c.args.self.now.replica.rows.rows c.ticks.new.replica.rows.rows c.acts_ticked.new.replica.rows.rows c.in_ok-made.ensures.fares (search (rules, acted_store))
 
 pub returns-clause-notes : goal.returns-clause-notes
 returns-clause-notes g c = λ told h node means represents owned.
@@ -36,7 +43,9 @@ returns-clause-notes g c = λ told h node means represents owned.
     let progress = progress_at r0.rows.progress in
     let now = c.args.now in
     let s = setting r0.members r0.me h in
-    let made1 = c.in_ok-made.ensures.ticked h node own_open begun represents owned in
+    let keeps = represents_keeps s r0.voter.logs.kept r0.leases version progress own_open begun node represents in
+    let groups_are = c.in_ok-groups.ensures node.met node.stored keeps in
+    let made1 = c.in_ok-made.ensures.ticked h node own_open begun represents groups_are owned in
     let t1 = setting r1.members r1.me h in
     let t2 = setting r2.members r2.me h in
     let t1_is : t1 ≡ s = (λ i. setting (c.in_ok-made.ensures.members i) (c.in_ok-made.ensures.me i) h) in
@@ -49,11 +58,11 @@ returns-clause-notes g c = λ told h node means represents owned.
     c.in_ok-work.work operations represents (c.replace-opened.ensures.value ∙ sym represents.opened) t1_is t2_is (λ i. (c.in_ok-work.ensures.voter i).logs.kept) (c.in_ok-work.ensures.indexed ∙ c.in_ok-made.ensures.indexed) made1.begun made1.stands.tells
     (c.in_ok-work.ensures.state told h base stored means about made1.stands) (c.in_ok-work.ensures.work told h base stored means about made1.stands) in
     let is = tick_is s node now t2 c.in_ok-made.made.opening c.in_ok-made.made.closing (t2_is ∙ t1_is) made1.opening made1.closing in
-    let keeps = represents_keeps s r0.voter.logs.kept r0.leases version progress own_open begun node represents in
-    let groups = groups_of node.met in
-    let groups_are : c.from_vec-groups.result ≡ groups = c.from_vec-groups.ensures ∙ c.in_ok-found.ensures node.met represents.tells in
-    let before = c.in_ok-before.ensures node.met node.stored keeps ∙ ap (λ (some : List GroupId). cond (has_rows r0.members r0.me) (map (before_at node.met node.stored) some) []) groups_are in
-    let noted = watched_noted s t2 node groups c.in_ok-before.before (has_ticked s node now) (t2_is ∙ t1_is) before (tick_noted s node now (map (before_at node.met node.stored) groups) made1.groups acted.acted refl) in
+    let groups = behind true node.met node.stored in
+    let before = c.in_ok-before.ensures node.met node.stored keeps
+    ∙ (ap (λ (some : List GroupId). cond (has_rows r0.members r0.me) (map (before_at node.met node.stored) some) []) (c.in_ok-copied.ensures ∙ groups_are)
+    ∙ at_behind (has_rows r0.members r0.me) node.met node.stored (before_at node.met node.stored)) in
+    let noted = watched_noted s t2 node groups c.in_ok-before.before (has_ticked s node now) (t2_is ∙ t1_is) before (tick_noted s node now (map (before_at node.met node.stored) groups) made1.groups made1.logs acted.acted refl) in
     let made = c.in_ok-step.ensures.made h node (Ticks now) (lease_notes s node.met now) (lapse_notes s node.met now) (has_ticked s node now) noted acted made1.notes (tick_may s node now _ is) in
     made.notes ∙ ap (λ (step : RuleStep). step.notes) is
 
@@ -68,7 +77,9 @@ returns-clause-sends g c = λ told h node means represents owned.
     let progress = progress_at r0.rows.progress in
     let now = c.args.now in
     let s = setting r0.members r0.me h in
-    let made1 = c.in_ok-made.ensures.ticked h node own_open begun represents owned in
+    let keeps = represents_keeps s r0.voter.logs.kept r0.leases version progress own_open begun node represents in
+    let groups_are = c.in_ok-groups.ensures node.met node.stored keeps in
+    let made1 = c.in_ok-made.ensures.ticked h node own_open begun represents groups_are owned in
     let t1 = setting r1.members r1.me h in
     let t2 = setting r2.members r2.me h in
     let t1_is : t1 ≡ s = (λ i. setting (c.in_ok-made.ensures.members i) (c.in_ok-made.ensures.me i) h) in
@@ -81,11 +92,11 @@ returns-clause-sends g c = λ told h node means represents owned.
     c.in_ok-work.work operations represents (c.replace-opened.ensures.value ∙ sym represents.opened) t1_is t2_is (λ i. (c.in_ok-work.ensures.voter i).logs.kept) (c.in_ok-work.ensures.indexed ∙ c.in_ok-made.ensures.indexed) made1.begun made1.stands.tells
     (c.in_ok-work.ensures.state told h base stored means about made1.stands) (c.in_ok-work.ensures.work told h base stored means about made1.stands) in
     let is = tick_is s node now t2 c.in_ok-made.made.opening c.in_ok-made.made.closing (t2_is ∙ t1_is) made1.opening made1.closing in
-    let keeps = represents_keeps s r0.voter.logs.kept r0.leases version progress own_open begun node represents in
-    let groups = groups_of node.met in
-    let groups_are : c.from_vec-groups.result ≡ groups = c.from_vec-groups.ensures ∙ c.in_ok-found.ensures node.met represents.tells in
-    let before = c.in_ok-before.ensures node.met node.stored keeps ∙ ap (λ (some : List GroupId). cond (has_rows r0.members r0.me) (map (before_at node.met node.stored) some) []) groups_are in
-    let noted = watched_noted s t2 node groups c.in_ok-before.before (has_ticked s node now) (t2_is ∙ t1_is) before (tick_noted s node now (map (before_at node.met node.stored) groups) made1.groups acted.acted refl) in
+    let groups = behind true node.met node.stored in
+    let before = c.in_ok-before.ensures node.met node.stored keeps
+    ∙ (ap (λ (some : List GroupId). cond (has_rows r0.members r0.me) (map (before_at node.met node.stored) some) []) (c.in_ok-copied.ensures ∙ groups_are)
+    ∙ at_behind (has_rows r0.members r0.me) node.met node.stored (before_at node.met node.stored)) in
+    let noted = watched_noted s t2 node groups c.in_ok-before.before (has_ticked s node now) (t2_is ∙ t1_is) before (tick_noted s node now (map (before_at node.met node.stored) groups) made1.groups made1.logs acted.acted refl) in
     let made = c.in_ok-step.ensures.made h node (Ticks now) (lease_notes s node.met now) (lapse_notes s node.met now) (has_ticked s node now) noted acted made1.notes (tick_may s node now _ is) in
     made.sends ∙ ap (λ (step : RuleStep). step.sends) is
 
@@ -100,7 +111,9 @@ returns-clause-state g c = λ told h node means represents owned.
     let progress = progress_at r0.rows.progress in
     let now = c.args.now in
     let s = setting r0.members r0.me h in
-    let made1 = c.in_ok-made.ensures.ticked h node own_open begun represents owned in
+    let keeps = represents_keeps s r0.voter.logs.kept r0.leases version progress own_open begun node represents in
+    let groups_are = c.in_ok-groups.ensures node.met node.stored keeps in
+    let made1 = c.in_ok-made.ensures.ticked h node own_open begun represents groups_are owned in
     let t1 = setting r1.members r1.me h in
     let t2 = setting r2.members r2.me h in
     let t1_is : t1 ≡ s = (λ i. setting (c.in_ok-made.ensures.members i) (c.in_ok-made.ensures.me i) h) in
@@ -113,11 +126,11 @@ returns-clause-state g c = λ told h node means represents owned.
     c.in_ok-work.work operations represents (c.replace-opened.ensures.value ∙ sym represents.opened) t1_is t2_is (λ i. (c.in_ok-work.ensures.voter i).logs.kept) (c.in_ok-work.ensures.indexed ∙ c.in_ok-made.ensures.indexed) made1.begun made1.stands.tells
     (c.in_ok-work.ensures.state told h base stored means about made1.stands) (c.in_ok-work.ensures.work told h base stored means about made1.stands) in
     let is = tick_is s node now t2 c.in_ok-made.made.opening c.in_ok-made.made.closing (t2_is ∙ t1_is) made1.opening made1.closing in
-    let keeps = represents_keeps s r0.voter.logs.kept r0.leases version progress own_open begun node represents in
-    let groups = groups_of node.met in
-    let groups_are : c.from_vec-groups.result ≡ groups = c.from_vec-groups.ensures ∙ c.in_ok-found.ensures node.met represents.tells in
-    let before = c.in_ok-before.ensures node.met node.stored keeps ∙ ap (λ (some : List GroupId). cond (has_rows r0.members r0.me) (map (before_at node.met node.stored) some) []) groups_are in
-    let noted = watched_noted s t2 node groups c.in_ok-before.before (has_ticked s node now) (t2_is ∙ t1_is) before (tick_noted s node now (map (before_at node.met node.stored) groups) made1.groups acted.acted refl) in
+    let groups = behind true node.met node.stored in
+    let before = c.in_ok-before.ensures node.met node.stored keeps
+    ∙ (ap (λ (some : List GroupId). cond (has_rows r0.members r0.me) (map (before_at node.met node.stored) some) []) (c.in_ok-copied.ensures ∙ groups_are)
+    ∙ at_behind (has_rows r0.members r0.me) node.met node.stored (before_at node.met node.stored)) in
+    let noted = watched_noted s t2 node groups c.in_ok-before.before (has_ticked s node now) (t2_is ∙ t1_is) before (tick_noted s node now (map (before_at node.met node.stored) groups) made1.groups made1.logs acted.acted refl) in
     let made = c.in_ok-step.ensures.made h node (Ticks now) (lease_notes s node.met now) (lapse_notes s node.met now) (has_ticked s node now) noted acted made1.notes (tick_may s node now _ is) in
     let new = c.ends.new.self in
     subst (λ (step : RuleStep). Represents (setting new.replica.members new.replica.me h) new.replica.voter.logs.kept new.replica.leases new.replica.indexed (g.V.Versions.version new.replica.rows.rows) (progress_at new.replica.rows.progress) new.open new.begun step.node) is made.state
@@ -133,7 +146,9 @@ returns-clause-staged g c = λ told h node since means represents owned stages.
     let progress = progress_at r0.rows.progress in
     let now = c.args.now in
     let s = setting r0.members r0.me h in
-    let made1 = c.in_ok-made.ensures.ticked h node own_open begun represents owned in
+    let keeps = represents_keeps s r0.voter.logs.kept r0.leases version progress own_open begun node represents in
+    let groups_are = c.in_ok-groups.ensures node.met node.stored keeps in
+    let made1 = c.in_ok-made.ensures.ticked h node own_open begun represents groups_are owned in
     let t1 = setting r1.members r1.me h in
     let t2 = setting r2.members r2.me h in
     let t1_is : t1 ≡ s = (λ i. setting (c.in_ok-made.ensures.members i) (c.in_ok-made.ensures.me i) h) in
