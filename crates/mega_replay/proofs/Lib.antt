@@ -1,4 +1,3 @@
-pub mod Growing
 pub mod Headings
 pub mod Holding
 pub mod Inputs

@@ -11,7 +11,7 @@ use Rattle.mega_schedule.specs.declared.world_event.WorldEvent.TheVariants.{Tick
 use Rattle.mega_schedule.specs.Events.{event_of}
 use Rattle.mega_wire.specs.declared.message.Message.{Message}
 use Rattle.mega_transcript.specs.declared.item.Item.{Item}
-use Rattle.mega_transcript.specs.Tape.{newest}
+use Rattle.mega_transcript.specs.Tape.{onto}
 use Rattle.mega_rules.specs.Steps.{Begin as BeginStep, Take, Tick as TickStep}
 use Rattle.mega_promises.specs.Messages.{message_of, next_delivery}
 use Rattle.mega_promises.specs.Runs.{Happening, IsRun, Standing, after_event, by_fuse, delivered, goes_on, opening, refusal, unless_refused, up}
@@ -37,7 +37,6 @@ use Rattle.mega_leased_laws.proofs.Tops.{run_fresh}
 use Rattle.mega_line_laws.specs.Meanings.{meaning_in}
 use Rattle.mega_replay.specs.Meanings.{usage}
 use Rattle.mega_replay.specs.Running.{AllHappen, AllReadAll, Happens, ReadsAll, Replayed, Went, in_turn, stood}
-use Rattle.mega_replay.proofs.Growing.{event_adds}
 use Rattle.mega_replay.proofs.Holding.{means_values}
 use Rattle.mega_replay.proofs.Starts.{declared_of}
 
@@ -182,16 +181,11 @@ sound c lines events number line event can happen spelled allowed means =
       own = owns c (declared_of c can) (in_turn events []) (stood c events) event (fits_turned c lines events [] happen tt) first (turned c events []) allowed;
     }
 
-pub went : (c : Cluster) (number : ℕ) (line : List ℕ) (events : List Happening) (event : WorldEvent) (world : World) (items : List Item) → event_of c.schema number line ≡ Ok event → refusal c (stood c events) event ≡ None
-    → IsAt c world items (after_event c built_in by_fuse (stood c events) event) → Went c number line events world items
-went c number line events event world items spelled allowed here = record {
+pub went : (c : Cluster) (number : ℕ) (line : List ℕ) (events : List Happening) (event : WorldEvent) (world : World) (added : List Item) → event_of c.schema number line ≡ Ok event → refusal c (stood c events) event ≡ None
+    → IsAt c world (after_event c built_in by_fuse (stood c events) event) → (after_event c built_in by_fuse (stood c events) event).tape ≡ onto added (stood c events).tape → Went c number line events world added
+went c number line events event world added spelled allowed here adds = record {
   one = record { handlers = built_in; event = event };
   happens = record { spelled = spelled; handled = refl; allowed = allowed };
-  here = subst (IsAt c world items) (sym (went_on c events built_in event allowed)) here;
+  here = subst (λ (now : Standing). IsAt c world now) (sym (went_on c events built_in event allowed)) here;
+  adds = ap (λ (now : Standing). now.tape) (went_on c events built_in event allowed) ∙ adds;
 }
-
-pub line_adds : (c : Cluster) (number : ℕ) (line : List ℕ) (events : List Happening) (world : World) (items : List Item) → Went c number line events world items
-    → (added : List Item) × (newest items ≡ added ++ (stood c events).tape)
-line_adds c number line events world items went =
-    let more = event_adds c went.one.handlers by_fuse (stood c events) went.one.event in
-    (more.0, went.here.tape ∙ ap (λ (now : Standing). now.tape) (went_on c events went.one.handlers went.one.event went.happens.allowed) ∙ more.1)

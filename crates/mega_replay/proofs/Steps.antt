@@ -7,6 +7,7 @@ use Rattle.mega_io.specs.TextLines.{BreaksOff, IsUnbroken, ended_lines, lines_of
 use Rattle.mega_words.specs.declared.command.Report.{Report}
 use Rattle.mega_schema.specs.declared.schema.Schema.{Schema}
 use Rattle.mega_schedule.specs.Events.{event_of}
+use Rattle.mega_tally.specs.declared.tally.Tally.{Tally}
 use Rattle.mega_transcript.specs.declared.item.Item.{Item}
 use Rattle.mega_transcript.specs.Tape.{newest}
 use Rattle.mega_promises.specs.Runs.{Happening, Standing}
@@ -14,15 +15,15 @@ use Rattle.mega_line_laws.specs.Clusters.{CanStart}
 use Rattle.mega_world.specs.declared.world.World.{World}
 use Rattle.mega_replay.specs.Known.{CutsLine, Ends, Follows, IsTooLong, LeftFails, LeftIsBegun, LeftIsDone, LeftRanOut, LeftStops, Passes, StopsNext, TakesLine}
 use Rattle.mega_replay.specs.Progress.{Writes, WritesFront}
-use Rattle.mega_replay.specs.Replaying.{AreRead, Reaches, in_order}
+use Rattle.mega_replay.specs.Replaying.{AreRead, Reaches, in_order, text_at}
 use Rattle.mega_replay.specs.Running.{AllHappen, Happens, StandsAfter, Went, stood}
 use Rattle.mega_replay.specs.Stops.{IsBeforeWriting}
 use Rattle.mega_replay.specs.declared.status.Stop.{Stop}
-use Rattle.mega_replay.specs.Texts.{at_end, in_all, so_far}
+use Rattle.mega_replay.specs.Texts.{IsTallied, at_end, in_all, so_far}
 use Rattle.mega_replay.proofs.Inputs.{both_none, ended_none}
 use Rattle.mega_replay.proofs.Progress.{as_front, more_waits, wrote_front}
 use Rattle.mega_replay.proofs.Running.{replayed}
-use Rattle.mega_replay.proofs.Texts.{front_on, newest_twice}
+use Rattle.mega_replay.proofs.Texts.{front_on, newest_onto}
 
 -- a line that is too long, or one behind the last that may be, is no event
 is_less : (m n : ℕ) → m < n → nat_lt m n ≡ true
@@ -47,19 +48,20 @@ TakesLines first now done = (read : List ℕ) × (first ≡ read ++ now) × (((m
 abbrev pub Stands : Option (List ℕ) → Option (List ℕ) → List (List ℕ) → Type 0
 Stands first now done = Passes first now (λ first now. (lines_of first ≡ in_order done (lines_of now)) × TakesLines first now done)
 
-pub record RanTo (c : Cluster) (first now : Option (List ℕ)) (world : World) (items : List Item) (count : ℕ) : Type 0 where
+pub record RanTo (c : Cluster) (first now : Option (List ℕ)) (world : World) (count : ℕ) (Is : List Item → Type 0) : Type 0 where
   pub done : List (List ℕ)
   pub events : List Happening
-  pub after : StandsAfter c done events world items
+  pub after : StandsAfter c done events world
   pub counted : count ≡ length done
   pub left : Stands first now done
+  pub so : Is (newest (stood c events).tape)
 
 none_done : (first : Option (List ℕ)) → Stands first first []
 none_done None = tt
 none_done (Some first) = (refl, ([], refl, inl (λ more. refl)))
 
-pub begun : (c : Cluster) (first : Option (List ℕ)) (world : World) (items : List Item) → StandsAfter c [] [] world items → RanTo c first first world items 0
-begun c first world items opens = record { done = []; events = []; after = opens; counted = refl; left = none_done first }
+pub begun : (c : Cluster) (first : Option (List ℕ)) (world : World) (Is : List Item → Type 0) → StandsAfter c [] [] world → Is (newest (stood c []).tape) → RanTo c first first world 0 Is
+begun c first world Is opens so = record { done = []; events = []; after = opens; counted = refl; left = none_done first; so = so }
 
 takes_on : (first now next : List ℕ) (done : List (List ℕ)) (line : List ℕ) → TakesLines first now done → TakesLine now next line → TakesLines first next (line ∷ done)
 takes_on first now next done line (read, is, inl takes) (part, follows, inl ends) = (
@@ -77,9 +79,14 @@ stands_on (Some first) None next done line stands follows = absurd stands
 stands_on (Some first) (Some now) None done line stands follows = absurd follows
 stands_on (Some first) (Some now) (Some next) done line stands follows = (stands.0 ∙ ap (in_order done) follows.0, takes_on first now next done line stands.1 follows.1)
 
-pub ran_on : (c : Cluster) (first now next : Option (List ℕ)) (world other : World) (items after : List Item) (count : ℕ) (line : List ℕ) (ran : RanTo c first now world items count) → Follows now next line
-    → Went c (count + 1) line ran.events other after → RanTo c first next other after (count + 1)
-ran_on c first now next world other items after count line ran follows went = record {
+-- what a line added comes last
+grown : (c : Cluster) (number : ℕ) (line : List ℕ) (events : List Happening) (world : World) (added : List Item) (went : Went c number line events world added)
+    → newest (stood c (went.one ∷ events)).tape ≡ newest (stood c events).tape ++ added
+grown c number line events world added went = ap newest went.adds ∙ newest_onto added (stood c events).tape
+
+pub ran_on : (c : Cluster) (first now next : Option (List ℕ)) (world other : World) (count : ℕ) (line : List ℕ) (added : List Item) (Is Next : List Item → Type 0) (ran : RanTo c first now world count Is) → Follows now next line
+    → Went c (count + 1) line ran.events other added → ((items : List Item) → Is items → Next (items ++ added)) → RanTo c first next other (count + 1) Next
+ran_on c first now next world other count line added Is Next ran follows went on = record {
   done = line ∷ ran.done;
   events = went.one ∷ ran.events;
   after = record {
@@ -89,109 +96,99 @@ ran_on c first now next world other items after count line ran follows went = re
   };
   counted = omega (arith, ran.counted);
   left = stands_on first now next ran.done line ran.left follows;
+  so = subst Next (sym (grown c (count + 1) line ran.events other added went)) (on (newest (stood c ran.events).tape) ran.so);
 }
 
--- the stored tape is the run's
-same_tape : (c : Cluster) (world : World) (items : List Item) (lines : List (List ℕ)) (events : List Happening) → StandsAfter c lines events world items → items ≡ newest (stood c events).tape
-same_tape c world items lines events after = sym (newest_twice items) ∙ ap newest after.here.tape
-
--- what is said of what is written of the one is said of that of the other
-told_newest : (report : Report) (Says : List ℕ → Type 0) (c : Cluster) (world : World) (items : List Item) (lines : List (List ℕ)) (events : List Happening) → StandsAfter c lines events world items → Says (so_far report c.schema items)
-    → Says (so_far report c.schema (newest (stood c events).tape))
-told_newest report Says c world items lines events after said = subst (λ (tape : List Item). Says (so_far report c.schema tape)) (same_tape c world items lines events after) said
-
-pub ran_out : (c : Cluster) (first now : Option (List ℕ)) (world : World) (items : List Item) (count : ℕ) → RanTo c first now world items count → Ends now → LeftRanOut c first items count
-ran_out c None now world items count ran ends = tt
-ran_out c (Some first) None world items count ran ends = absurd ran.left
-ran_out c (Some first) (Some now) world items count ran ends = record {
+pub ran_out : (report : Report) (c : Cluster) (first now : Option (List ℕ)) (world : World) (count : ℕ) (Is : List Item → Type 0) (tally : Tally) (Says : List ℕ → Type 0) (ran : RanTo c first now world count Is) → Ends now
+    → IsTallied report tally (newest (stood c ran.events).tape) → Says (text_at report c ran.events) → LeftRanOut report c first tally count Says
+ran_out report c None now world count Is tally Says ran ends tallied said = tt
+ran_out report c (Some first) None world count Is tally Says ran ends tallied said = absurd ran.left
+ran_out report c (Some first) (Some now) world count Is tally Says ran ends tallied said = record {
   done = ran.done;
   events = ran.events;
   replayed = replayed c ran.done ran.events ran.after.starts ran.after.happen;
   all = ran.left.0 ∙ ap (in_order ran.done) ends;
-  tape = same_tape c world items ran.done ran.events ran.after;
+  tallied = tallied;
   counted = ran.counted;
+  said = said;
 }
 
 -- the schedule was done, and what the report has at its end was added
-pub done_whole : (report : Report) (c : Cluster) (first : Option (List ℕ)) (Says : List ℕ → Type 0) (items : List Item) (count : ℕ) → LeftRanOut c first items count → Says (in_all report c.schema items count) → LeftIsDone report c first Says
-done_whole report c None Says items count ran said = tt
-done_whole report c (Some first) Says items count ran said = record {
+pub end_written : (report : Report) (c : Cluster) (start : Option (List ℕ)) (tally : Tally) (count : ℕ) (first now : Option (List ℕ)) (waiting later : List ℕ) → LeftRanOut report c start tally count (Writes first now waiting)
+    → ((items : List Item) → IsTallied report tally items → later ≡ waiting ++ at_end report items count) → LeftIsDone report c start (Writes first now later)
+end_written report c None tally count first now waiting later ran added = tt
+end_written report c (Some start) tally count first now waiting later ran added = record {
   done = ran.done;
   events = ran.events;
   replayed = ran.replayed;
   all = ran.all;
-  said = subst (λ (n : ℕ). Says (in_all report c.schema (newest (stood c ran.events).tape) n)) ran.counted (subst (λ (tape : List Item). Says (in_all report c.schema tape count)) ran.tape said);
+  said =
+      subst (λ (n : ℕ). Writes first now later (in_all report c.schema items n)) ran.counted
+      (subst (λ (xs : List ℕ). Writes first now xs (in_all report c.schema items count)) (sym (added items ran.tallied)) (more_waits first now waiting (so_far report c.schema items) (at_end report items count) ran.said));
 }
-
-pub end_written : (report : Report) (c : Cluster) (start : Option (List ℕ)) (items : List Item) (count : ℕ) (first now : Option (List ℕ)) (waiting later : List ℕ) → LeftRanOut c start items count
-    → Writes first now waiting (so_far report c.schema items) → later ≡ waiting ++ at_end report items count → LeftIsDone report c start (Writes first now later)
-end_written report c start items count first now waiting later ran written added =
-    done_whole report c start (Writes first now later) items count ran
-    (subst (λ (xs : List ℕ). Writes first now xs (in_all report c.schema items count)) (sym added) (more_waits first now waiting (so_far report c.schema items) (at_end report items count) written))
+  where
+    items : List Item
+    items = newest (stood c ran.events).tape
 
 -- it was not added
-pub end_cut : (report : Report) (c : Cluster) (start : Option (List ℕ)) (items : List Item) (count : ℕ) (first now : Option (List ℕ)) (waiting later : List ℕ) → LeftRanOut c start items count
-    → Writes first now waiting (so_far report c.schema items) → later ≡ waiting → LeftIsBegun report c start (WritesFront first now later)
-end_cut report c None items count first now waiting later ran written same = tt
-end_cut report c (Some start) items count first now waiting later ran written same = record {
+pub end_cut : (report : Report) (c : Cluster) (start : Option (List ℕ)) (tally : Tally) (count : ℕ) (first now : Option (List ℕ)) (waiting later : List ℕ) → LeftRanOut report c start tally count (Writes first now waiting)
+    → later ≡ waiting → LeftIsBegun report c start (WritesFront first now later)
+end_cut report c None tally count first now waiting later ran same = tt
+end_cut report c (Some start) tally count first now waiting later ran same = record {
   done = ran.done;
   rest = [];
   events = ran.events;
   replayed = ran.replayed;
   all = ran.all;
-  said =
-      subst (λ (tape : List Item). WritesFront first now later (so_far report c.schema tape)) ran.tape
-      (as_front first now later (so_far report c.schema items) (subst (λ (xs : List ℕ). Writes first now xs (so_far report c.schema items)) (sym same) written));
+  said = as_front first now later (text_at report c ran.events) (subst (λ (xs : List ℕ). Writes first now xs (text_at report c ran.events)) (sym same) ran.said);
 }
 
-begun_with : (report : Report) (c : Cluster) (first now : Option (List ℕ)) (Says : List ℕ → Type 0) (done : List (List ℕ)) (events : List Happening) → CanStart c → AllHappen c done events → Stands first now done → Says (so_far report c.schema (newest (stood c events).tape))
+begun_with : (report : Report) (c : Cluster) (first now : Option (List ℕ)) (Says : List ℕ → Type 0) (done : List (List ℕ)) (events : List Happening) → CanStart c → AllHappen c done events → Stands first now done → Says (text_at report c events)
     → LeftIsBegun report c first Says
 begun_with report c None now Says done events can happen left said = tt
 begun_with report c (Some first) None Says done events can happen left said = absurd left
 begun_with report c (Some first) (Some now) Says done events can happen left said =
     record { done = done; rest = lines_of now; events = events; replayed = replayed c done events can happen; all = left.0; said = said }
 
-pub cut_here : (report : Report) (c : Cluster) (first now : Option (List ℕ)) (Says : List ℕ → Type 0) (world : World) (items : List Item) (count : ℕ) → RanTo c first now world items count → Says (so_far report c.schema items) → LeftIsBegun report c first Says
-cut_here report c first now Says world items count ran said =
-    begun_with report c first now Says ran.done ran.events ran.after.starts ran.after.happen ran.left (told_newest report Says c world items ran.done ran.events ran.after said)
+cut_here : (report : Report) (c : Cluster) (first now : Option (List ℕ)) (Says : List ℕ → Type 0) (world : World) (count : ℕ) (Is : List Item → Type 0) (ran : RanTo c first now world count Is) → Says (text_at report c ran.events) → LeftIsBegun report c first Says
+cut_here report c first now Says world count Is ran said = begun_with report c first now Says ran.done ran.events ran.after.starts ran.after.happen ran.left said
 
-pub cut_before : (report : Report) (c : Cluster) (first : Option (List ℕ)) (Says : List ℕ → Type 0) → CanStart c → Says (so_far report c.schema (newest (stood c []).tape)) → LeftIsBegun report c first Says
+pub cut_before : (report : Report) (c : Cluster) (first : Option (List ℕ)) (Says : List ℕ → Type 0) → CanStart c → Says (text_at report c []) → LeftIsBegun report c first Says
 cut_before report c first Says can said = begun_with report c first first Says [] [] can tt (none_done first) said
 
-pub cut_first : (report : Report) (c : Cluster) (first : Option (List ℕ)) (Says : List ℕ → Type 0) (world : World) (items : List Item) → StandsAfter c [] [] world items → Says (so_far report c.schema items) → LeftIsBegun report c first Says
-cut_first report c first Says world items opens said = cut_here report c first first Says world items 0 (begun c first world items opens) said
-
 -- the run was cut off between two lines
-pub cut_after : (report : Report) (c : Cluster) (start left : Option (List ℕ)) (world : World) (items : List Item) (count : ℕ) (first now : Option (List ℕ)) (waiting : List ℕ) → RanTo c start left world items count
-    → Writes first now waiting (so_far report c.schema items) → LeftIsBegun report c start (WritesFront first now waiting)
-cut_after report c start left world items count first now waiting ran written =
-    cut_here report c start left (WritesFront first now waiting) world items count ran (as_front first now waiting (so_far report c.schema items) written)
+pub cut_after : (report : Report) (c : Cluster) (start left : Option (List ℕ)) (world : World) (count : ℕ) (Is : List Item → Type 0) (first now : Option (List ℕ)) (waiting : List ℕ) (ran : RanTo c start left world count Is)
+    → Writes first now waiting (text_at report c ran.events) → LeftIsBegun report c start (WritesFront first now waiting)
+cut_after report c start left world count Is first now waiting ran written =
+    cut_here report c start left (WritesFront first now waiting) world count Is ran (as_front first now waiting (text_at report c ran.events) written)
 
 -- the line at hand was cut off, or its text was
-pub cut_line : (report : Report) (c : Cluster) (start left next : Option (List ℕ)) (line : List ℕ) (world other : World) (old new : List Item) (count : ℕ) (first mid now : Option (List ℕ)) (waiting later : List ℕ) (ran : RanTo c start left world old count)
-    → Writes first mid waiting (so_far report c.schema old) → CutsLine report c (count + 1) left next line ran.events other old new (WritesFront mid now later) waiting → LeftIsBegun report c start (WritesFront first now later)
-cut_line report c start left next line world other old new count first mid now waiting later ran before (inl cut) =
-    cut_here report c start left (WritesFront first now later) world old count ran (wrote_front first mid now waiting later (so_far report c.schema old) before cut)
-cut_line report c start left next line world other old new count first mid now waiting later ran before (inr cut) =
-    cut_here report c start next (WritesFront first now later) other new (count + 1) (ran_on c start left next world other old new count line ran cut.0 cut.1)
-    (front_on report c (count + 1) first mid now waiting later line ran.events world other old new ran.after.here cut.1 before cut.2)
+pub cut_line : (report : Report) (c : Cluster) (start left next : Option (List ℕ)) (line : List ℕ) (world other : World) (count : ℕ) (Is : List Item → Type 0) (first mid now : Option (List ℕ)) (waiting later : List ℕ) (ran : RanTo c start left world count Is)
+    → Writes first mid waiting (text_at report c ran.events) → CutsLine report c (count + 1) left next line ran.events other (WritesFront mid now later) waiting → LeftIsBegun report c start (WritesFront first now later)
+unfolding ran_on
+cut_line report c start left next line world other count Is first mid now waiting later ran before (inl cut) =
+    cut_here report c start left (WritesFront first now later) world count Is ran (wrote_front first mid now waiting later (text_at report c ran.events) before cut)
+cut_line report c start left next line world other count Is first mid now waiting later ran before (inr (added, follows, went, cut)) =
+    cut_here report c start next (WritesFront first now later) other (count + 1) (λ items. Unit {0}) (ran_on c start left next world other count line added Is (λ items. Unit {0}) ran follows went (λ items is. tt))
+    (subst (λ (items : List Item). WritesFront first now later (so_far report c.schema items)) (sym (grown c (count + 1) line ran.events other added went))
+    (front_on report c.schema first mid now waiting later (newest (stood c ran.events).tape) added before cut))
 
 -- the next line stops the run
-reached : (c : Cluster) (first now : List ℕ) (world : World) (items : List Item) (count number : ℕ) (line : List ℕ) (rest : List (List ℕ)) (ran : RanTo c (Some first) (Some now) world items count) → lines_of now ≡ line ∷ rest
+reached : (c : Cluster) (first now : List ℕ) (world : World) (count number : ℕ) (Is : List Item → Type 0) (line : List ℕ) (rest : List (List ℕ)) (ran : RanTo c (Some first) (Some now) world count Is) → lines_of now ≡ line ∷ rest
     → number ≡ count + 1 → Reaches c (lines_of first) number line ran.events
-reached c first now world items count number line rest ran is next =
+reached c first now world count number Is line rest ran is next =
     record { done = ran.done; rest = rest; replayed = replayed c ran.done ran.events ran.after.starts ran.after.happen; all = ran.left.0 ∙ ap (in_order ran.done) is; counted = omega (arith, ran.counted) }
 
-pub stopped : (report : Report) (c : Cluster) (first now : Option (List ℕ)) (IsCause : List ℕ → Standing → Type 0) (Says : List ℕ → Type 0) (world : World) (items : List Item) (count number : ℕ) (ran : RanTo c first now world items count)
-    → number ≡ count + 1 → StopsNext now (λ line. IsCause line (stood c ran.events)) → Says (so_far report c.schema items) → LeftStops report c first number IsCause Says
-stopped report c None now IsCause Says world items count number ran next stops said = tt
-stopped report c (Some first) None IsCause Says world items count number ran next stops said = absurd ran.left
-stopped report c (Some first) (Some now) IsCause Says world items count number ran next stops said = record {
+pub stopped : (report : Report) (c : Cluster) (first now : Option (List ℕ)) (IsCause : List ℕ → Standing → Type 0) (Says : List ℕ → Type 0) (world : World) (count number : ℕ) (Is : List Item → Type 0) (ran : RanTo c first now world count Is)
+    → number ≡ count + 1 → StopsNext now (λ line. IsCause line (stood c ran.events)) → Says (text_at report c ran.events) → LeftStops report c first number IsCause Says
+stopped report c None now IsCause Says world count number Is ran next stops said = tt
+stopped report c (Some first) None IsCause Says world count number Is ran next stops said = absurd ran.left
+stopped report c (Some first) (Some now) IsCause Says world count number Is ran next stops said = record {
   line = stops.0;
   events = ran.events;
-  reaches = reached c first now world items count number stops.0 stops.1 ran stops.2 next;
+  reaches = reached c first now world count number Is stops.0 stops.1 ran stops.2 next;
   cause = stops.3;
-  said = told_newest report Says c world items ran.done ran.events ran.after said;
+  said = said;
 }
 
 pub stops_next : (now next : Option (List ℕ)) (IsCause : List ℕ → Type 0) (line : List ℕ) → Follows now next line → IsCause line → StopsNext now IsCause
@@ -209,10 +206,10 @@ past_stops now next line schema number reason follows short past is =
     stops_next now next (λ line. event_of schema number line ≡ Err reason) line follows (past_is_none schema number line short past ∙ ap Err is)
 
 -- the cause of a stop names the number of the line
-pub stopped_at : (report : Report) (c : Cluster) (first now : Option (List ℕ)) (IsCause : ℕ → List ℕ → Standing → Type 0) (Says : List ℕ → Type 0) (world : World) (items : List Item) (count number : ℕ) (ran : RanTo c first now world items count)
-    → number ≡ count + 1 → StopsNext now (λ line. IsCause (count + 1) line (stood c ran.events)) → Says (so_far report c.schema items) → LeftStops report c first number (IsCause number) Says
-stopped_at report c first now IsCause Says world items count number ran is stops said =
-    stopped report c first now (IsCause number) Says world items count number ran is (subst (λ (n : ℕ). StopsNext now (λ line. IsCause n line (stood c ran.events))) (sym is) stops) said
+pub stopped_at : (report : Report) (c : Cluster) (first now : Option (List ℕ)) (IsCause : ℕ → List ℕ → Standing → Type 0) (Says : List ℕ → Type 0) (world : World) (count number : ℕ) (Is : List Item → Type 0) (ran : RanTo c first now world count Is)
+    → number ≡ count + 1 → StopsNext now (λ line. IsCause (count + 1) line (stood c ran.events)) → Says (text_at report c ran.events) → LeftStops report c first number (IsCause number) Says
+stopped_at report c first now IsCause Says world count number Is ran is stops said =
+    stopped report c first now (IsCause number) Says world count number Is ran is (subst (λ (n : ℕ). StopsNext now (λ line. IsCause n line (stood c ran.events))) (sym is) stops) said
 
 -- what was to be written is as it was
 pub unwritten : (stop one : Stop) (Kept : Type 0) → stop ≡ one → IsBeforeWriting one → (IsBeforeWriting stop → Kept) → Kept
@@ -226,12 +223,12 @@ read_so_far first now left done line stands (read, is, inr none) breaks unbroken
     let none_left = (both_none line left (sym none ∙ breaks)).1 in
     (first, sym (append-nil first) ∙ ap (λ (xs : List ℕ). first ++ xs) (sym none_left), inr (none_left, sym (stands ∙ ap (λ (xs : List ℕ). in_order done (lines_of xs)) none)))
 
-pub fails_here : (report : Report) (c : Cluster) (first now left : Option (List ℕ)) (waiting line : List ℕ) (Says : List ℕ → Type 0) (world : World) (items : List Item) (count : ℕ) → RanTo c first now world items count
-    → BreaksOff now waiting left line → Says (so_far report c.schema items) → LeftFails report c first left Says
-fails_here report c None now left waiting line Says world items count ran breaks said = tt
-fails_here report c (Some first) None left waiting line Says world items count ran breaks said = absurd ran.left
-fails_here report c (Some first) (Some now) None waiting line Says world items count ran breaks said = absurd breaks.0
-fails_here report c (Some first) (Some now) (Some left) waiting line Says world items count ran breaks said = (
+pub fails_here : (report : Report) (c : Cluster) (first now left : Option (List ℕ)) (waiting line : List ℕ) (Says : List ℕ → Type 0) (world : World) (count : ℕ) (Is : List Item → Type 0) (ran : RanTo c first now world count Is)
+    → BreaksOff now waiting left line → Says (text_at report c ran.events) → LeftFails report c first left Says
+fails_here report c None now left waiting line Says world count Is ran breaks said = tt
+fails_here report c (Some first) None left waiting line Says world count Is ran breaks said = absurd ran.left
+fails_here report c (Some first) (Some now) None waiting line Says world count Is ran breaks said = absurd breaks.0
+fails_here report c (Some first) (Some now) (Some left) waiting line Says world count Is ran breaks said = (
   in_order ran.done [],
   read_so_far first now left ran.done line ran.left.0 ran.left.1 breaks.0 breaks.1,
   record {
@@ -239,6 +236,6 @@ fails_here report c (Some first) (Some now) (Some left) waiting line Says world 
     events = ran.events;
     replayed = replayed c ran.done ran.events ran.after.starts ran.after.happen;
     all = refl;
-    said = told_newest report Says c world items ran.done ran.events ran.after said;
+    said = said;
   },
 )

@@ -1,23 +1,20 @@
 -- The text of a tape grows with the tape.
 use Rattle.std.proofs.Common.{◌≡◌, ℕ, ◌+◌, ◌<◌, Option, None, List, [], ◌∷◌, ◌++◌, length, take, drop, get_or, refl, sym, ◌∙◌, ap, subst, add-one, append_assoc, append-nil}
-use Rattle.std.proofs.Math.Seq.{drop-append_seam, take-suc}
-use Rattle.std.proofs.lemmas.List.{take-append-drop}
+use Rattle.std.specs.Prelude.{Result, Ok, Err, OnErr}
+use Rattle.std.proofs.Math.Seq.{take-suc}
+use Rattle.std.proofs.lemmas.List.{take-append-drop, take_more}
 use Rattle.std.proofs.lemmas.Grind.{flat_map-append}
-use Rattle.mega_cluster.specs.declared.cluster.Cluster.{Cluster}
 use Rattle.mega_schema.specs.declared.schema.Schema.{Schema}
+use Rattle.mega_tally.specs.declared.tally.Tally.{Tally}
+use Rattle.mega_tally.specs.Counting.{Counts}
 use Rattle.mega_transcript.specs.declared.item.Item.{Item}
 use Rattle.mega_transcript.specs.Lines.{line, lines as text_of}
 use Rattle.mega_transcript.specs.Tape.{onto, newest}
 use Rattle.mega_words.specs.declared.command.Report.{Report}
 use Rattle.mega_words.specs.declared.command.Report.TheVariants.{Transcript, Summary}
 use Rattle.mega_transcript.proofs.Tapes.{onto-append, newest-append}
-use Rattle.mega_promises.specs.Runs.{Happening}
-use Rattle.mega_world.specs.declared.world.World.{World}
-use Rattle.mega_world.specs.Stands.{IsAt}
-use Rattle.mega_replay.specs.Running.{Went, stood}
-use Rattle.mega_replay.proofs.Running.{line_adds}
 use Rattle.mega_replay.specs.Progress.{Writes, WritesFront}
-use Rattle.mega_replay.specs.Texts.{so_far}
+use Rattle.mega_replay.specs.Texts.{IsTallied, so_far}
 use Rattle.mega_replay.proofs.Progress.{more_waits, wrote_on, wrote_front, longer_front}
 
 onto_front : (xs tape : List Item) → onto xs tape ≡ newest xs ++ tape
@@ -31,39 +28,55 @@ newest_twice (x ∷ xs) = ap newest (onto_front xs (x ∷ [])) ∙ newest-append
 newest_after : (xs ys : List Item) → newest (xs ++ ys) ≡ newest ys ++ newest xs
 newest_after xs ys = onto-append xs ys [] ∙ onto_front ys (newest xs)
 
-stretched : (old new added : List Item) → newest new ≡ added ++ newest old → new ≡ old ++ newest added
-stretched old new added is = sym (newest_twice new) ∙ ap newest is ∙ newest_after added (newest old) ∙ ap (λ front. front ++ newest added) (newest_twice old)
+-- the oldest items stand first of a tape onto which these came
+pub newest_onto : (added tape : List Item) → newest (onto added tape) ≡ newest tape ++ added
+newest_onto added tape = ap newest (onto_front added tape) ∙ newest_after (newest added) tape ∙ ap (λ (items : List Item). newest tape ++ items) (newest_twice added)
 
--- the world stood at the first tape, and what a line added led to the second
-lines_text : (c : Cluster) (number : ℕ) (read : List ℕ) (events : List Happening) (before after : World) (old new : List Item) → IsAt c before old (stood c events) → Went c number read events after new
-    → text_of c.schema old ++ text_of c.schema (drop (length old) new) ≡ text_of c.schema new
-lines_text c number read events before after old new at went =
-    let more = line_adds c number read events after new went in
-    let is : new ≡ old ++ newest more.0 = stretched old new more.0 (more.1 ∙ ap (λ (tape : List Item). more.0 ++ tape) (sym at.tape)) in
-    ap (λ (items : List Item). text_of c.schema old ++ text_of c.schema (drop (length old) items)) is
-    ∙ ap (λ (items : List Item). text_of c.schema old ++ text_of c.schema items) (drop-append_seam old (newest more.0))
-    ∙ sym (flat_map-append (line c.schema) old (newest more.0)) ∙ ap (text_of c.schema) (sym is)
+-- what is written of items and then of others is written of both
+text_on : (report : Report) (schema : Schema) (items added : List Item) → so_far report schema items ++ so_far report schema added ≡ so_far report schema (items ++ added)
+text_on Transcript schema items added = sym (flat_map-append (line schema) items added)
+text_on Summary schema items added = refl
 
--- so of what is written of them
-step_text : (report : Report) (c : Cluster) (number : ℕ) (read : List ℕ) (events : List Happening) (before after : World) (old new : List Item) → IsAt c before old (stood c events) → Went c number read events after new
-    → so_far report c.schema old ++ so_far report c.schema (drop (length old) new) ≡ so_far report c.schema new
-step_text Transcript c number read events before after old new at went = lines_text c number read events before after old new at went
-step_text Summary c number read events before after old new at went = refl
+-- where the text of the tape before was written, and then that of what a line added, the text of both was written
+pub written_on : (report : Report) (schema : Schema) (first mid now : Option (List ℕ)) (waiting later : List ℕ) (items added : List Item) → Writes first mid waiting (so_far report schema items)
+    → Writes mid now later (waiting ++ so_far report schema added) → Writes first now later (so_far report schema (items ++ added))
+written_on report schema first mid now waiting later items added before after =
+    let more = so_far report schema added in
+    subst (Writes first now later) (text_on report schema items added)
+    (wrote_on first mid now (waiting ++ more) later (so_far report schema items ++ more) (more_waits first mid waiting (so_far report schema items) more before) after)
 
--- where the text of the tape before was written, and then that of what a line added, the text of the tape was written
-pub written_on : (report : Report) (c : Cluster) (number : ℕ) (first mid now : Option (List ℕ)) (waiting later read : List ℕ) (events : List Happening) (one other : World) (old new : List Item) → IsAt c one old (stood c events)
-    → Went c number read events other new → Writes first mid waiting (so_far report c.schema old) → Writes mid now later (waiting ++ so_far report c.schema (drop (length old) new)) → Writes first now later (so_far report c.schema new)
-written_on report c number first mid now waiting later read events one other old new at went before after =
-    let added = so_far report c.schema (drop (length old) new) in
-    subst (Writes first now later) (step_text report c number read events one other old new at went)
-    (wrote_on first mid now (waiting ++ added) later (so_far report c.schema old ++ added) (more_waits first mid waiting (so_far report c.schema old) added before) after)
+pub front_on : (report : Report) (schema : Schema) (first mid now : Option (List ℕ)) (waiting later : List ℕ) (items added : List Item) → Writes first mid waiting (so_far report schema items)
+    → WritesFront mid now later (waiting ++ so_far report schema added) → WritesFront first now later (so_far report schema (items ++ added))
+front_on report schema first mid now waiting later items added before after =
+    let more = so_far report schema added in
+    subst (WritesFront first now later) (text_on report schema items added)
+    (wrote_front first mid now (waiting ++ more) later (so_far report schema items ++ more) (more_waits first mid waiting (so_far report schema items) more before) after)
 
-pub front_on : (report : Report) (c : Cluster) (number : ℕ) (first mid now : Option (List ℕ)) (waiting later read : List ℕ) (events : List Happening) (one other : World) (old new : List Item) → IsAt c one old (stood c events)
-    → Went c number read events other new → Writes first mid waiting (so_far report c.schema old) → WritesFront mid now later (waiting ++ so_far report c.schema (drop (length old) new)) → WritesFront first now later (so_far report c.schema new)
-front_on report c number first mid now waiting later read events one other old new at went before after =
-    let added = so_far report c.schema (drop (length old) new) in
-    subst (WritesFront first now later) (step_text report c number read events one other old new at went)
-    (wrote_front first mid now (waiting ++ added) later (so_far report c.schema old ++ added) (more_waits first mid waiting (so_far report c.schema old) added before) after)
+-- where nothing waited before, the text of the first items was written
+pub begun_text : (report : Report) (schema : Schema) (before held : Option (List ℕ)) (was waiting : List ℕ) (items tape : List Item) → was ≡ [] → items ≡ tape → Writes before held waiting (was ++ so_far report schema items)
+    → Writes before held waiting (so_far report schema tape)
+begun_text report schema before held was waiting items tape none is written =
+    subst (Writes before held waiting) (ap (λ (xs : List ℕ). xs ++ so_far report schema items) none ∙ ap (so_far report schema) is) written
+
+pub begun_front : (report : Report) (schema : Schema) (before held : Option (List ℕ)) (was waiting : List ℕ) (items tape : List Item) → was ≡ [] → items ≡ tape → WritesFront before held waiting (was ++ so_far report schema items)
+    → WritesFront before held waiting (so_far report schema tape)
+begun_front report schema before held was waiting items tape none is written =
+    subst (WritesFront before held waiting) (ap (λ (xs : List ℕ). xs ++ so_far report schema items) none ∙ ap (so_far report schema) is) written
+
+-- whatever a call answers
+pub on_err_anyway : {T E : Type 0} (result : Result T E) (P : Type 0) → P → OnErr result P
+on_err_anyway (Ok value) P is = tt
+on_err_anyway (Err fault) P is = is
+
+-- before any item came
+pub tallied_none : (report : Report) (tally : Tally) → Counts tally [] → IsTallied report tally []
+tallied_none Transcript tally counts = tt
+tallied_none Summary tally counts = counts
+
+-- so many items are counted, and then the next
+pub counted_more : (Is : List Item → Type 0) (before items : List Item) (i : ℕ) (item : Item) → i < length items → item ≡ get_or items i item → Is ((before ++ take i items) ++ item ∷ []) → Is (before ++ take (i + 1) items)
+counted_more Is before items i item within is all =
+    subst Is (append_assoc before (take i items) (item ∷ []) ∙ ap (λ (one : Item). before ++ (take i items ++ one ∷ [])) is ∙ ap (λ (rest : List Item). before ++ rest) (sym (take_more items i item within))) all
 
 -- the line of the next item
 text_more : (schema : Schema) (items : List Item) (i : ℕ) (item : Item) → i < length items → item ≡ get_or items i item → text_of schema (take (i + 1) items) ≡ text_of schema (take i items) ++ line schema item

@@ -1,15 +1,16 @@
 -- What is said of an input, where its bytes are told, while it is read and afterwards.
-use Rattle.std.specs.Prelude.{◌≡◌, ℕ, ◌<◌, ◌⊎◌, List, [], ◌∷◌, ◌++◌, length, drop, Option, Some, None, Ok, Err}
+use Rattle.std.specs.Prelude.{◌≡◌, ℕ, ◌<◌, ◌⊎◌, List, [], ◌∷◌, ◌++◌, length, Option, Some, None, Ok, Err}
 use Rattle.mega_cluster.specs.declared.cluster.Cluster.{Cluster}
 use Rattle.mega_cluster.specs.Header.{read_of}
 use Rattle.mega_io.specs.TextLines.{ended_lines, lines_of}
 use Rattle.mega_words.specs.declared.command.Report.{Report}
+use Rattle.mega_tally.specs.declared.tally.Tally.{Tally}
 use Rattle.mega_transcript.specs.declared.item.Item.{Item}
 use Rattle.mega_promises.specs.Runs.{Happening, Standing}
 use Rattle.mega_world.specs.declared.world.World.{World}
 use Rattle.mega_replay.specs.Headings.{heading_of, lines_behind, text_before}
-use Rattle.mega_replay.specs.Running.{Went}
-use Rattle.mega_replay.specs.Texts.{so_far}
+use Rattle.mega_replay.specs.Running.{StandsAfter, Went}
+use Rattle.mega_replay.specs.Texts.{IsTallied, so_far}
 use Rattle.mega_replay.specs.Replaying.{AreDone, AreRead, IsDone, IsBegun, RanOut, StopsAt, InputIsDone, InputIsBegun, InputIsBroken, InputIsNoEvent, InputIsRefused, InputIsPastLast, InputIsCut, InputIsFailed}
 
 -- this is so of what is told
@@ -78,8 +79,8 @@ abbrev pub IsBroken : Option (List ℕ) → ℕ → Type 0
 IsBroken known rule = Told known (λ known. heading_of known ≡ Err rule)
 
 -- what is said of a schedule
-abbrev pub LeftRanOut : Cluster → Option (List ℕ) → List Item → ℕ → Type 0
-LeftRanOut c left items count = Told left (λ left. RanOut c (lines_of left) items count)
+abbrev pub LeftRanOut : Report → Cluster → Option (List ℕ) → Tally → ℕ → (List ℕ → Type 0) → Type 0
+LeftRanOut report c left tally count Says = Told left (λ left. RanOut report c (lines_of left) tally count Says)
 
 abbrev pub LeftIsDone : Report → Cluster → Option (List ℕ) → (List ℕ → Type 0) → Type 0
 LeftIsDone report c left Says = Told left (λ left. IsDone report c (lines_of left) Says)
@@ -100,9 +101,18 @@ abbrev pub StopsNext : Option (List ℕ) → (List ℕ → Type 0) → Type 0
 StopsNext left IsCause = Told left (λ left. (line : List ℕ) × (rest : List (List ℕ)) × (lines_of left ≡ line ∷ rest) × IsCause line)
 
 -- before a line or within it the text was cut: this is said of what was to be written before, or of that and the text of what the line added
-abbrev pub CutsLine : Report → Cluster → ℕ → Option (List ℕ) → Option (List ℕ) → List ℕ → List Happening → World → List Item → List Item → (List ℕ → Type 0) → List ℕ → Type 0
-CutsLine report c number now next line events world old new Says before =
-    Says before ⊎ (Follows now next line × Went c number line events world new × Says (before ++ so_far report c.schema (drop (length old) new)))
+abbrev pub CutsLine : Report → Cluster → ℕ → Option (List ℕ) → Option (List ℕ) → List ℕ → List Happening → World → (List ℕ → Type 0) → List ℕ → Type 0
+CutsLine report c number now next line events world Says before =
+    Says before ⊎ ((added : List Item) × Follows now next line × Went c number line events world added × Says (before ++ so_far report c.schema added))
+
+-- a line was done: its event happened, wherever the world stood, this is said of what was to be written before and the text of what the line
+-- added, and that is counted where a summary is kept
+pub record DoesLine (report : Report) (c : Cluster) (number : ℕ) (now next : Option (List ℕ)) (line : List ℕ) (old new : World) (was tally : Tally) (Says : List ℕ → Type 0) (before : List ℕ) : Type 0 where
+  pub added : List Item
+  pub follows : Follows now next line
+  pub went : (done : List (List ℕ)) (events : List Happening) → StandsAfter c done events old → Went c number line events new added
+  pub said : Says (before ++ so_far report c.schema added)
+  pub tallied : (items : List Item) → IsTallied report was items → IsTallied report tally (items ++ added)
 
 -- what is said of an input
 abbrev pub InputDone : Report → Option (List ℕ) → (List ℕ → Type 0) → Type 0

@@ -7,12 +7,12 @@ use Rattle.mega_words.specs.declared.command.Report.{Report}
 use Rattle.mega_schedule.specs.declared.world_event.WorldEvent.{WorldEvent}
 use Rattle.mega_schedule.specs.Events.{event_of}
 use Rattle.mega_promises.specs.Runs.{Happening, Standing, refusal}
-use Rattle.mega_transcript.specs.declared.item.Item.{Item}
+use Rattle.mega_tally.specs.declared.tally.Tally.{Tally}
 use Rattle.mega_transcript.specs.Tape.{newest}
 use Rattle.mega_world.specs.Last.{IsPastLast as IsPastLastEvent}
 use Rattle.mega_replay.specs.Headings.{heading_of, lines_behind, text_before}
 use Rattle.mega_replay.specs.Running.{Replayed, stood}
-use Rattle.mega_replay.specs.Texts.{in_all, so_far}
+use Rattle.mega_replay.specs.Texts.{IsTallied, in_all, so_far}
 use Rattle.mega_replay.specs.LastLines.{header_line, refused_line, schedule_line, limit_line}
 
 -- these lines, newest first, and then the others
@@ -32,14 +32,19 @@ pub record IsPastLast (c : Cluster) (number : ℕ) (line : List ℕ) (now : Stan
   pub spelled : event_of c.schema number line ≡ Ok event
   pub past : IsPastLastEvent c now event
 
--- all lines of the schedule were done, so many, and led to this tape
-pub record RanOut (c : Cluster) (lines : List (List ℕ)) (items : List Item) (count : ℕ) : Type 0 where
+-- what was written once these events happened
+abbrev pub text_at : Report → Cluster → List Happening → List ℕ
+text_at report c events = so_far report c.schema (newest (stood c events).tape)
+
+-- all lines of the schedule were done, so many, what is kept for the end is what their tape tells, and this is said of what was written so far
+pub record RanOut (report : Report) (c : Cluster) (lines : List (List ℕ)) (tally : Tally) (count : ℕ) (Says : List ℕ → Type 0) : Type 0 where
   pub done : List (List ℕ)
   pub events : List Happening
   pub replayed : Replayed c done events
   pub all : lines ≡ in_order done []
-  pub tape : items ≡ newest (stood c events).tape
+  pub tallied : IsTallied report tally (newest (stood c events).tape)
   pub counted : count ≡ length done
+  pub said : Says (text_at report c events)
 
 -- all lines of the schedule were done, and this is said of what is written of their tape
 pub record IsDone (report : Report) (c : Cluster) (lines : List (List ℕ)) (Says : List ℕ → Type 0) : Type 0 where
@@ -55,7 +60,7 @@ pub record AreDone (report : Report) (c : Cluster) (lines : List (List ℕ)) (Sa
   pub events : List Happening
   pub replayed : Replayed c done events
   pub all : lines ≡ in_order done []
-  pub said : Says (so_far report c.schema (newest (stood c events).tape))
+  pub said : Says (text_at report c events)
 
 -- some first lines of the schedule were done, and this is said of what was written so far
 pub record IsBegun (report : Report) (c : Cluster) (lines : List (List ℕ)) (Says : List ℕ → Type 0) : Type 0 where
@@ -64,7 +69,7 @@ pub record IsBegun (report : Report) (c : Cluster) (lines : List (List ℕ)) (Sa
   pub events : List Happening
   pub replayed : Replayed c done events
   pub all : lines ≡ in_order done rest
-  pub said : Says (so_far report c.schema (newest (stood c events).tape))
+  pub said : Says (text_at report c events)
 
 -- the lines of the schedule before this one were done
 pub record Reaches (c : Cluster) (lines : List (List ℕ)) (number : ℕ) (line : List ℕ) (events : List Happening) : Type 0 where
@@ -80,7 +85,7 @@ pub record StopsAt (report : Report) (c : Cluster) (lines : List (List ℕ)) (nu
   pub events : List Happening
   pub reaches : Reaches c lines number line events
   pub cause : IsCause line (stood c events)
-  pub said : Says (so_far report c.schema (newest (stood c events).tape))
+  pub said : Says (text_at report c events)
 
 -- this line is no event, or its event is refused
 abbrev pub StopsSchedule : Report → Cluster → List (List ℕ) → ℕ → ℕ → (List ℕ → Type 0) → Type 0

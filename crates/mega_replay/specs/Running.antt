@@ -13,6 +13,7 @@ use Rattle.mega_outcome.specs.declared.answer.Answer.{Answer}
 use Rattle.mega_outcome.specs.declared.request.Request.{Request}
 use Rattle.mega_transcript.specs.declared.item.Item.{Item}
 use Rattle.mega_transcript.specs.declared.item.Item.TheVariants.{Answer as Answered, Decide}
+use Rattle.mega_transcript.specs.Tape.{onto}
 use Rattle.mega_promises.specs.Causes.{HasCause}
 use Rattle.mega_rules.specs.Clock.{is_up}
 use Rattle.mega_rules.specs.Coordinators.{valid_at}
@@ -88,16 +89,17 @@ pub record Replayed (c : Cluster) (lines : List (List ℕ)) (events : List Happe
   pub local : AllReadAll c events
 
 -- the world stands as the run does after these lines' events, in a cluster that can start
-pub record StandsAfter (c : Cluster) (lines : List (List ℕ)) (events : List Happening) (world : World) (items : List Item) : Type 0 where
+pub record StandsAfter (c : Cluster) (lines : List (List ℕ)) (events : List Happening) (world : World) : Type 0 where
   pub starts : CanStart c
   pub happen : AllHappen c lines events
-  pub here : IsAt c world items (stood c events)
+  pub here : IsAt c world (stood c events)
 
-abbrev pub IsStanding : Cluster → World → List Item → Type 0
-IsStanding c world items = (lines : List (List ℕ)) × (events : List Happening) × StandsAfter c lines events world items
+abbrev pub IsStanding : Cluster → World → Type 0
+IsStanding c world = (lines : List (List ℕ)) × (events : List Happening) × StandsAfter c lines events world
 
--- the event of one more line happened
-pub record Went (c : Cluster) (number : ℕ) (line : List ℕ) (events : List Happening) (world : World) (items : List Item) : Type 0 where
+-- the event of one more line happened, and added these items to the tape
+pub record Went (c : Cluster) (number : ℕ) (line : List ℕ) (events : List Happening) (world : World) (added : List Item) : Type 0 where
   pub one : Happening
   pub happens : Happens c number line (stood c events) one
-  pub here : IsAt c world items (stood c (one ∷ events))
+  pub here : IsAt c world (stood c (one ∷ events))
+  pub adds : (stood c (one ∷ events)).tape ≡ onto added (stood c events).tape

@@ -3,6 +3,8 @@ use Rattle.std.specs.Prelude.{ℕ, List, [], ◌++◌}
 use Rattle.mega_words.specs.declared.command.Report.{Report}
 use Rattle.mega_words.specs.declared.command.Report.TheVariants.{Transcript, Summary}
 use Rattle.mega_schema.specs.declared.schema.Schema.{Schema}
+use Rattle.mega_tally.specs.declared.tally.Tally.{Tally}
+use Rattle.mega_tally.specs.Counting.{Counts}
 use Rattle.mega_transcript.specs.declared.item.Item.{Item}
 use Rattle.mega_transcript.specs.Counts.{summary_text}
 use Rattle.mega_transcript.specs.Lines.{lines}
@@ -19,3 +21,8 @@ at_end Summary items count = summary_text items count
 
 abbrev pub in_all : Report → Schema → List Item → ℕ → List ℕ
 in_all report schema items count = so_far report schema items ++ at_end report items count
+
+-- what is kept for the end: a summary has the counts of what came so far
+abbrev pub IsTallied : Report → Tally → List Item → Type 0
+IsTallied Transcript tally items = Unit {0}
+IsTallied Summary tally items = Counts tally items

@@ -1,8 +1,9 @@
 //! The nodes of a cluster that was read start.
 ghost use Rattle.std.specs.Prelude.{◌≡◌, [], All, IfErr, IfOk, OnOk};
 ghost use Rattle.mega_transcript.specs.Lines.{HasLine};
+ghost use Rattle.mega_transcript.specs.Tape.{newest};
 ghost use Rattle.mega_replay.specs.Known.{IsRead};
-ghost use Rattle.mega_replay.specs.Running.{StandsAfter};
+ghost use Rattle.mega_replay.specs.Running.{StandsAfter, stood};
 ghost use Rattle.mega_replay.specs.Stops.{IsOpeningStop};
 
 use crate::status::Stop;
@@ -15,7 +16,8 @@ use std::alloc::Global;
 pub fn opened(alloc: Global, cluster: &Cluster, tape: &mut Tape) -> Result<World, Stop>
     requires read { IsRead cluster.now }
     requires tape { tape.old.items ≡ [] }
-    ensures state { IfOk result (λ world. StandsAfter cluster.now [] [] world tape.new.items) }
+    ensures state { IfOk result (λ world. StandsAfter cluster.now [] [] world) }
+    ensures tape { OnOk result (tape.new.items ≡ newest (stood cluster.now []).tape) }
     ensures lines { OnOk result (All HasLine tape.new.items) }
     ensures only { IfErr result IsOpeningStop }
 {

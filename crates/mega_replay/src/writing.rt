@@ -1,18 +1,21 @@
-//! What a replay writes of its tape, on its way to the sink.
-ghost use Rattle.std.specs.Prelude.{◌≡◌, ◌≤◌, ◌++◌, [], Ok, Err, IfErr, OnOk, OnErr, drop, All};
+//! What a replay tells of its tape, on its way to the sink.
+ghost use Rattle.std.specs.Prelude.{◌≡◌, ◌≤◌, ◌++◌, [], Ok, Err, IfErr, List, OnOk, OnErr, All};
 ghost use Rattle.std.specs.Io.KnownBytes.{Appends};
 ghost use Rattle.mega_base.specs.Causes.{Rose};
 ghost use Rattle.mega_io.specs.Pieces.{AppendsFront};
+ghost use Rattle.mega_tally.specs.Counting.{Counts};
+ghost use Rattle.mega_transcript.specs.declared.item.Item.{Item as OnTape};
 ghost use Rattle.mega_transcript.specs.Lines.{HasLine, line as line_of, lines as text_of};
 ghost use Rattle.mega_replay.specs.Progress.{Writes, WritesFront};
 ghost use Rattle.mega_replay.specs.Stops.{IsWriteStop};
-ghost use Rattle.mega_replay.specs.Texts.{at_end, so_far};
+ghost use Rattle.mega_replay.specs.Texts.{IsTallied, at_end, so_far};
 
 use crate::status::Stop;
 use mega_base::Bytes;
 use mega_io::{Sink, SinkError, put};
 use mega_schema::Schema;
-use mega_transcript::{Item, Tape, summary, text};
+use mega_tally::Tally;
+use mega_transcript::{Item, text};
 use mega_words::Report;
 use std::alloc::Global;
 
@@ -54,36 +57,22 @@ pub fn write_piece<O: Sink>(out: &mut O, waiting: &mut Bytes) -> Result<(), Stop
     }
 }
 
-/// The tape's items from an index on.
-fn items_from(tape: &Tape, from: usize) -> &[Item]
-    requires { All HasLine tape.now.items }
-    ensures fresh { result.now ≡ drop from tape.now.items }
-    ensures lines { All HasLine result.now }
-{
-    match tape.items.as_slice().get(from..) {
-        Some(fresh) => fresh,
-        None => &[],
-    }
-}
-
-/// Writes the lines of the tape's items from an index on.
+/// Writes the lines of items.
 fn write_lines<O: Sink>(
     alloc: Global,
     schema: &Schema,
-    tape: &Tape,
-    from: usize,
+    items: &[Item],
     out: &mut O,
     waiting: &mut Bytes,
 ) -> Result<(), Stop>
-    requires { All HasLine tape.now.items }
-    ensures text { OnOk result (Writes (O.held out.old) (O.held out.new) waiting.new (waiting.old ++ text_of schema.now (drop from tape.now.items))) }
-    ensures cut { OnErr result (WritesFront (O.held out.old) (O.held out.new) waiting.new (waiting.old ++ text_of schema.now (drop from tape.now.items))) }
+    requires { All HasLine items.now }
+    ensures text { OnOk result (Writes (O.held out.old) (O.held out.new) waiting.new (waiting.old ++ text_of schema.now items.now)) }
+    ensures cut { OnErr result (WritesFront (O.held out.old) (O.held out.new) waiting.new (waiting.old ++ text_of schema.now items.now)) }
     ensures sink { result ≡ Err Stop.Sink → Rose (O.faults out.old) (O.faults out.new) }
     ensures only { IfErr result IsWriteStop }
     ensures count { O.faults out.old ≤ O.faults out.new }
 {
-    let fresh = items_from(tape, from);
-    for item in fresh {
+    for item in items {
         match write_item(alloc, schema, item, out, waiting) {
             Ok(()) => {}
             Err(stop) => return Err(stop),
@@ -92,45 +81,54 @@ fn write_lines<O: Sink>(
     Ok(())
 }
 
-/// Writes what the report shows of the tape's items from an index on, as they come: a summary shows none.
+/// Counts items, which come behind those that were counted before.
+fn count_items(alloc: Global, items: &[Item], tally: &mut Tally) -> Result<(), Stop>
+    ensures counts { OnOk result ((before : List OnTape) → Counts tally.old before → Counts tally.new (before ++ items.now)) }
+    ensures only { IfErr result (λ stop. stop ≡ Stop.NoMemory) }
+{
+    for item in items {
+        match tally.count(alloc, item) {
+            Ok(()) => {}
+            Err(_) => return Err(Stop::NoMemory),
+        }
+    }
+    Ok(())
+}
+
+/// Tells what came onto the tape: a transcript has its lines, and for a summary it is counted.
 #[tactic(auto, using(crate::proofs::Progress::nothing_added))]
-pub fn write_from<O: Sink>(
+pub fn tell<O: Sink>(
     alloc: Global,
     report: Report,
     schema: &Schema,
-    tape: &Tape,
-    from: usize,
+    items: &[Item],
+    tally: &mut Tally,
     out: &mut O,
     waiting: &mut Bytes,
 ) -> Result<(), Stop>
-    requires { All HasLine tape.now.items }
-    ensures text { OnOk result (Writes (O.held out.old) (O.held out.new) waiting.new (waiting.old ++ so_far report schema.now (drop from tape.now.items))) }
-    ensures cut { OnErr result (WritesFront (O.held out.old) (O.held out.new) waiting.new (waiting.old ++ so_far report schema.now (drop from tape.now.items))) }
+    requires { All HasLine items.now }
+    ensures text { OnOk result (Writes (O.held out.old) (O.held out.new) waiting.new (waiting.old ++ so_far report schema.now items.now)) }
+    ensures tallied { OnOk result ((before : List OnTape) → IsTallied report tally.old before → IsTallied report tally.new (before ++ items.now)) }
+    ensures cut { OnErr result (WritesFront (O.held out.old) (O.held out.new) waiting.new (waiting.old ++ so_far report schema.now items.now)) }
     ensures sink { result ≡ Err Stop.Sink → Rose (O.faults out.old) (O.faults out.new) }
     ensures only { IfErr result IsWriteStop }
     ensures count { O.faults out.old ≤ O.faults out.new }
 {
     match report {
-        Report::Transcript => write_lines(alloc, schema, tape, from, out, waiting),
-        Report::Summary => Ok(()),
+        Report::Transcript => write_lines(alloc, schema, items, out, waiting),
+        Report::Summary => count_items(alloc, items, tally),
     }
 }
 
 /// Adds what the report has at the end of a replay of so many lines: a summary is all there.
-pub fn write_end(
-    alloc: Global,
-    report: Report,
-    tape: &Tape,
-    lines: u64,
-    waiting: &mut Bytes,
-) -> Result<(), Stop>
-    ensures ok { OnOk result (waiting.new ≡ waiting.old ++ at_end report tape.now.items lines) }
+pub fn write_end(report: Report, tally: &Tally, lines: u64, waiting: &mut Bytes) -> Result<(), Stop>
+    ensures ok { OnOk result ((items : List OnTape) → IsTallied report tally.now items → waiting.new ≡ waiting.old ++ at_end report items lines) }
     ensures err { OnErr result (waiting.new ≡ waiting.old) }
     ensures only { IfErr result (λ stop. stop ≡ Stop.NoMemory) }
 {
     match report {
         Report::Transcript => Ok(()),
-        Report::Summary => match summary(alloc, tape, lines, waiting) {
+        Report::Summary => match tally.tell(lines, waiting) {
             Ok(()) => Ok(()),
             Err(_) => Err(Stop::NoMemory),
         },

@@ -3,6 +3,7 @@
 
 use mega_base::Text;
 use mega_io::{MemSink, MemSource};
+use mega_meanings::BuiltIn;
 use mega_replay::run;
 use std::{fs, io};
 
@@ -38,7 +39,8 @@ fn tried(rt: &HostRuntime, name: &str, words: &[Text], ending: &str) -> io::Resu
     let wanted = fs::read(rt, format!(in alloc; "{name}.{ending}")?)?;
     let mut input = MemSource::new(schedule, Vec::new(alloc));
     let mut out = MemSink::new(alloc, Vec::new(alloc));
-    let status = run(alloc, words, &mut input, &mut out);
+    let mut handlers = BuiltIn::new();
+    let status = run(alloc, words, &mut handlers, &mut input, &mut out);
     Ok(Trial {
         status,
         is_same: out.bytes() == wanted.as_slice(),

@@ -21,7 +21,7 @@ use Rattle.mega_world.specs.declared.mail.Mail.{Mail}
 use Rattle.mega_world.specs.declared.world.World.{World}
 use Rattle.mega_world.specs.Carries.{Carries}
 use Rattle.mega_world.specs.Formed.{IsSound, OwnsStep, OwnsTaken}
-use Rattle.mega_world.specs.Stands.{IsAt}
+use Rattle.mega_world.specs.Stands.{StandsWith}
 use Rattle.mega_world.proofs.Carrying.{shown_on}
 use Rattle.mega_world.proofs.Forming.{made_formed}
 use Rattle.mega_world.proofs.Happening.{IsFit, IsReady}
@@ -42,7 +42,7 @@ may_happen c h now me event fit own means = record {
   formed = journal_items (step (setting c h me) (now.node me) event).node.met fit.formed.node.met;
 }
 
-pub tick_fit : {makes : List ℕ → Option Meaning} (c : Cluster) (h : Meanings) (world : World) (items : List Item) (now : Standing) (node : NodeId) (clock : ℕ) → IsAt c world items now → IsSound makes c h now (TickEvent node clock) → is_node c node.0 ≡ true → IsFit c h now node.0 (Tick clock)
+pub tick_fit : {makes : List ℕ → Option Meaning} (c : Cluster) (h : Meanings) (world : World) (items : List Item) (now : Standing) (node : NodeId) (clock : ℕ) → StandsWith c world items now → IsSound makes c h now (TickEvent node clock) → is_node c node.0 ≡ true → IsFit c h now node.0 (Tick clock)
 tick_fit c h world items now node clock r sound there = record {
   there = there;
   asked = sound.asked;
@@ -51,7 +51,7 @@ tick_fit c h world items now node clock r sound there = record {
   within = made_within c h now node.0 (Tick clock) r.within there tt;
 }
 
-pub begin_fit : {makes : List ℕ → Option Meaning} (c : Cluster) (h : Meanings) (world : World) (items : List Item) (now : Standing) (node : NodeId) (request : Request) (text : List ℕ) → IsAt c world items now → IsSound makes c h now (BeginEvent node request text) → is_node c node.0 ≡ true
+pub begin_fit : {makes : List ℕ → Option Meaning} (c : Cluster) (h : Meanings) (world : World) (items : List Item) (now : Standing) (node : NodeId) (request : Request) (text : List ℕ) → StandsWith c world items now → IsSound makes c h now (BeginEvent node request text) → is_node c node.0 ≡ true
     → IsFit c h now node.0 (Begin request text)
 begin_fit c h world items now node request text r sound there = record {
   there = there;
@@ -61,7 +61,7 @@ begin_fit c h world items now node request text r sound there = record {
   within = made_within c h now node.0 (Begin request text) r.within there tt;
 }
 
-pub take_fit : {makes : List ℕ → Option Meaning} (c : Cluster) (h : Meanings) (world : World) (items : List Item) (now : Standing) (n : ℕ) (message : Message) → IsAt c world items now → IsSound makes c h now (Deliver n) → message_of now.tape n ≡ Some message → is_node c message.to ≡ true
+pub take_fit : {makes : List ℕ → Option Meaning} (c : Cluster) (h : Meanings) (world : World) (items : List Item) (now : Standing) (n : ℕ) (message : Message) → StandsWith c world items now → IsSound makes c h now (Deliver n) → message_of now.tape n ≡ Some message → is_node c message.to ≡ true
     → IsFit c h now message.to (Take message)
 take_fit c h world items now n message r sound is there = record {
   there = there;

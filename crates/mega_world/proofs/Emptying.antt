@@ -19,7 +19,8 @@ use Rattle.mega_world.specs.Carries.{Carries}
 use Rattle.mega_world.specs.Formed.{IfNext, IsSound, OwnsDelivered, OwnsDrained}
 use Rattle.mega_world.specs.Kept.{AreNodes}
 use Rattle.mega_world.specs.Lapses.{KnowsLeases}
-use Rattle.mega_world.specs.Stands.{IsAt}
+use Rattle.mega_world.specs.Stands.{StandsWith}
+use Rattle.mega_world.proofs.Behind.{behind}
 use Rattle.mega_world.proofs.Carrying.{same_on}
 use Rattle.mega_world.proofs.Events.{drain_is_cut, drains_no_more, drains_on}
 
@@ -28,8 +29,8 @@ same_nodes : (c : Cluster) (places : List Place) (now : Standing) (item : Item) 
 same_nodes c places now item all = record { members = all.members; kept = all.kept }
 
 -- a dropped message
-pub dropped_at : (c : Cluster) (h : Meanings) (now : Standing) (number : ℕ) (old new : World) (items after : List Item) → IsAt c old items now → new.cluster ≡ old.cluster → new.places ≡ old.places → new.safety ≡ old.safety → Carries new.mail (Dropped number ∷ now.tape)
-    → after ≡ items ++ Dropped number ∷ [] → IsAt c new after (after_event c h by_fuse now (Drop number))
+pub dropped_at : (c : Cluster) (h : Meanings) (now : Standing) (number : ℕ) (old new : World) (items after : List Item) → StandsWith c old items now → new.cluster ≡ old.cluster → new.places ≡ old.places → new.safety ≡ old.safety → Carries new.mail (Dropped number ∷ now.tape)
+    → after ≡ items ++ Dropped number ∷ [] → StandsWith c new after (after_event c h by_fuse now (Drop number))
 dropped_at c h now number old new items after r cluster places safety carries is = record {
   cluster = cluster ∙ r.cluster;
   served = r.served;
@@ -42,7 +43,7 @@ dropped_at c h now number old new items after r cluster places safety carries is
 }
 
 -- a drain that is cut
-pub cut_at : (c : Cluster) (now : Standing) (world : World) (items after : List Item) → IsAt c world items now → after ≡ items ++ Cut ∷ [] → IsAt c world after (marked now Cut)
+pub cut_at : (c : Cluster) (now : Standing) (world : World) (items after : List Item) → StandsWith c world items now → after ≡ items ++ Cut ∷ [] → StandsWith c world after (marked now Cut)
 cut_at c now world items after r is = record {
   cluster = r.cluster;
   served = r.served;
@@ -57,15 +58,15 @@ cut_at c now world items after r is = record {
 -- ---- a drain, delivery by delivery
 
 -- so far: a drain leads where a shorter one leads from here
-pub record Reaches (c : Cluster) (h : Meanings) (now : Standing) (most : ℕ) (world : World) (first here : List Item) (left : ℕ) : Type 0 where
+pub record Reaches (c : Cluster) (h : Meanings) (now : Standing) (most : ℕ) (world : World) (earlier first here : List Item) (left : ℕ) : Type 0 where
   pub mid : Standing
-  pub at : IsAt c world here mid
+  pub at : StandsWith c world (earlier ++ here) mid
   pub drains : drained c h by_fuse now most ≡ drained c h by_fuse mid left
   pub owns : OwnsDrained c h left mid
   pub lines : All HasLine first → All HasLine here
 
-pub reaches_first : (c : Cluster) (h : Meanings) (now : Standing) (most left : ℕ) (world : World) (items : List Item) → IsAt c world items now → OwnsDrained c h most now → most ≡ left → Reaches c h now most world items items left
-reaches_first c h now most left world items r owns is = subst (λ n. Reaches c h now most world items items n) is (record {
+pub reaches_first : (c : Cluster) (h : Meanings) (now : Standing) (most left : ℕ) (world : World) (earlier items : List Item) → StandsWith c world (earlier ++ items) now → OwnsDrained c h most now → most ≡ left → Reaches c h now most world earlier items items left
+reaches_first c h now most left world earlier items r owns is = subst (λ n. Reaches c h now most world earlier items items n) is (record {
   mid = now;
   at = r;
   drains = refl;
@@ -84,29 +85,29 @@ pub none_left : (most turn : ℕ) → most ≤ turn → most - turn ≡ 0
 none_left most turn le = omega (arith, le)
 
 -- where a drain ends
-pub drained_at : (c : Cluster) (h : Meanings) (now : Standing) (most left : ℕ) (world : World) (first here : List Item) (r : Reaches c h now most world first here left) → next_delivery (up r.mid) r.mid.tape ≡ None
-    → IsAt c world here (after_event c h by_fuse now (Drain most))
-drained_at c h now most left world first here r is = subst (IsAt c world here) (sym (r.drains ∙ drains_no_more c h r.mid left is)) r.at
+pub drained_at : (c : Cluster) (h : Meanings) (now : Standing) (most left : ℕ) (world : World) (earlier first here : List Item) (r : Reaches c h now most world earlier first here left) → next_delivery (up r.mid) r.mid.tape ≡ None
+    → StandsWith c world (earlier ++ here) (after_event c h by_fuse now (Drain most))
+drained_at c h now most left world earlier first here r is = subst (StandsWith c world (earlier ++ here)) (sym (r.drains ∙ drains_no_more c h r.mid left is)) r.at
 
-pub drained_cut : (c : Cluster) (h : Meanings) (now : Standing) (most left number : ℕ) (world : World) (first here after : List Item) (r : Reaches c h now most world first here left) → left ≡ 0
-    → next_delivery (up r.mid) r.mid.tape ≡ Some number → after ≡ here ++ Cut ∷ [] → IsAt c world after (after_event c h by_fuse now (Drain most))
-drained_cut c h now most left number world first here after r none is added =
-    subst (IsAt c world after) (sym (r.drains ∙ ap (drained c h by_fuse r.mid) none ∙ drain_is_cut c h r.mid number is)) (cut_at c r.mid world here after r.at added)
+pub drained_cut : (c : Cluster) (h : Meanings) (now : Standing) (most left number : ℕ) (world : World) (earlier first here after : List Item) (r : Reaches c h now most world earlier first here left) → left ≡ 0
+    → next_delivery (up r.mid) r.mid.tape ≡ Some number → after ≡ here ++ Cut ∷ [] → StandsWith c world (earlier ++ after) (after_event c h by_fuse now (Drain most))
+drained_cut c h now most left number world earlier first here after r none is added =
+    subst (StandsWith c world (earlier ++ after)) (sym (r.drains ∙ ap (drained c h by_fuse r.mid) none ∙ drain_is_cut c h r.mid number is)) (cut_at c r.mid world (earlier ++ here) (earlier ++ after) r.at (behind earlier here (Cut ∷ []) after added))
 
 -- ---- so it goes on in a loop
 
-pub next_sound : {makes now_makes : List ℕ → Option Meaning} (c : Cluster) (h : Meanings) (now : Standing) (most turn number : ℕ) (world : World) (first here : List Item) (r : Reaches c h now most world first here (most - turn)) → turn < most
+pub next_sound : {makes now_makes : List ℕ → Option Meaning} (c : Cluster) (h : Meanings) (now : Standing) (most turn number : ℕ) (world : World) (earlier first here : List Item) (r : Reaches c h now most world earlier first here (most - turn)) → turn < most
     → now_makes ≡ makes → IsSound makes c h now (Drain most) → next_delivery (up r.mid) r.mid.tape ≡ Some number → IsSound now_makes c h r.mid (Deliver number)
-next_sound {makes} {now_makes} c h now most turn number world first here r less same sound is = record {
+next_sound {makes} {now_makes} c h now most turn number world earlier first here r less same sound is = record {
   means = means_still makes now_makes h same sound.means;
   handlers = sound.handlers;
   asked = tt;
   own = (owns_next c h r.mid (most - (turn + 1)) number (subst (λ (n : ℕ). OwnsDrained c h n r.mid) (left_more most turn less) r.owns) is).0;
 }
 
-pub reaches_next : (c : Cluster) (h : Meanings) (now : Standing) (most turn number : ℕ) (world after : World) (first here then' : List Item) (r : Reaches c h now most world first here (most - turn)) → turn < most
-    → next_delivery (up r.mid) r.mid.tape ≡ Some number → IsAt c after then' (after_event c h by_fuse r.mid (Deliver number)) → (All HasLine here → All HasLine then') → Reaches c h now most after first then' (most - (turn + 1))
-reaches_next c h now most turn number world after first here then' r less is at lined = record {
+pub reaches_next : (c : Cluster) (h : Meanings) (now : Standing) (most turn number : ℕ) (world after : World) (earlier first here then' : List Item) (r : Reaches c h now most world earlier first here (most - turn)) → turn < most
+    → next_delivery (up r.mid) r.mid.tape ≡ Some number → StandsWith c after (earlier ++ then') (after_event c h by_fuse r.mid (Deliver number)) → (All HasLine here → All HasLine then') → Reaches c h now most after earlier first then' (most - (turn + 1))
+reaches_next c h now most turn number world after earlier first here then' r less is at lined = record {
   mid = after_event c h by_fuse r.mid (Deliver number);
   at = at;
   drains = r.drains ∙ ap (drained c h by_fuse r.mid) (left_more most turn less) ∙ drains_on c h r.mid number (most - (turn + 1)) is;

@@ -33,7 +33,7 @@ use Rattle.mega_world.specs.Kept.{AreNodes, AreReady, remains_of}
 use Rattle.mega_world.specs.Lapses.{KnowsLeases}
 use Rattle.mega_world.specs.Members.{IsMember, IsTold, is_up_at, node_in, records_of, version_of}
 use Rattle.mega_world.specs.Restarting.{StaysDown}
-use Rattle.mega_world.specs.Stands.{IsAt}
+use Rattle.mega_world.specs.Stands.{StandsWith}
 use Rattle.mega_world.specs.Within.{RunsWithin}
 use Rattle.mega_world.proofs.Carrying.{shown_on}
 use Rattle.mega_world.proofs.Fates.{start_cut}
@@ -76,7 +76,7 @@ record CrashedSo (c : Cluster) (new : World) (after : List Item) (later : Standi
   formed : IsFormed c later
   within : RunsWithin c later
 
-crashed_so : (c : Cluster) (now : Standing) (node : NodeId) (old new : World) (items after : List Item) → IsAt c old items now → new.mail ≡ old.mail → new.safety ≡ old.safety → after ≡ items ++ Crash node ∷ []
+crashed_so : (c : Cluster) (now : Standing) (node : NodeId) (old new : World) (items after : List Item) → StandsWith c old items now → new.mail ≡ old.mail → new.safety ≡ old.safety → after ≡ items ++ Crash node ∷ []
     → CrashedSo c new after (crashes now node.0)
 crashed_so c now node old new items after r mail safety is = record {
   mail = subst (λ m. Carries m (Crash node ∷ now.tape)) (sym mail) (shown_on old.mail node.0 Crashes now.tape r.mail);
@@ -112,8 +112,8 @@ crashed_so c now node old new items after r mail safety is = record {
     stays_by me true = record { met = (tt, (r.within.nodes node.0).met); open_operations = tt }
     stays_by me false = r.within.nodes me
 
-pub fallen_at : (c : Cluster) (h : Meanings) (now : Standing) (node : NodeId) (old new : World) (items after : List Item) → IsAt c old items now
-    → AreNodes c new.places.items (crashes now node.0) → new.cluster ≡ old.cluster → new.mail ≡ old.mail → new.safety ≡ old.safety → after ≡ items ++ Crash node ∷ [] → IsAt c new after (after_event c h by_fuse now (CrashEvent node))
+pub fallen_at : (c : Cluster) (h : Meanings) (now : Standing) (node : NodeId) (old new : World) (items after : List Item) → StandsWith c old items now
+    → AreNodes c new.places.items (crashes now node.0) → new.cluster ≡ old.cluster → new.mail ≡ old.mail → new.safety ≡ old.safety → after ≡ items ++ Crash node ∷ [] → StandsWith c new after (after_event c h by_fuse now (CrashEvent node))
 fallen_at c h now node old new items after r nodes cluster mail safety is =
     let so = crashed_so c now node old new items after r mail safety is in record {
       cluster = cluster ∙ r.cluster;
@@ -127,11 +127,11 @@ fallen_at c h now node old new items after r nodes cluster mail safety is =
     }
 
 -- a node whose start was cut off is down as before, and shows the crash
-pub stayed_at : (c : Cluster) (h : Meanings) (now : Standing) (node : NodeId) (old new : World) (items after : List Item) → IsAt c old items now
-    → StaysDown c now node.0 new.places.items → new.cluster ≡ old.cluster → new.mail ≡ old.mail → new.safety ≡ old.safety → after ≡ items ++ Crash node ∷ [] → IsAt c new after (after_event c h by_fuse now (StartEvent node))
+pub stayed_at : (c : Cluster) (h : Meanings) (now : Standing) (node : NodeId) (old new : World) (items after : List Item) → StandsWith c old items now
+    → StaysDown c now node.0 new.places.items → new.cluster ≡ old.cluster → new.mail ≡ old.mail → new.safety ≡ old.safety → after ≡ items ++ Crash node ∷ [] → StandsWith c new after (after_event c h by_fuse now (StartEvent node))
 stayed_at c h now node old new items after r stays cluster mail safety is =
     let so = crashed_so c now node old new items after r mail safety is in
-    subst (IsAt c new after) (sym (start_cut c h now node.0 stays.burning)) (record {
+    subst (StandsWith c new after) (sym (start_cut c h now node.0 stays.burning)) (record {
       cluster = cluster ∙ r.cluster;
       served = r.served;
       nodes = stays.nodes;
@@ -143,9 +143,9 @@ stayed_at c h now node old new items after r stays cluster mail safety is =
     })
 
 -- a node that is up goes down
-pub crashes_at : (c : Cluster) (h : Meanings) (now : Standing) (node : NodeId) (old new : World) (items after : List Item) → IsAt c old items now → 1 ≤ node.0 → node.0 ≤ length old.places.items → is_up_at old.places.items node.0 ≡ true
+pub crashes_at : (c : Cluster) (h : Meanings) (now : Standing) (node : NodeId) (old new : World) (items after : List Item) → StandsWith c old items now → 1 ≤ node.0 → node.0 ≤ length old.places.items → is_up_at old.places.items node.0 ≡ true
     → ((member : Member) → slice_get old.places.items (node.0 - 1) ≡ Some (Up member) → new.places.items ≡ set old.places.items (node.0 - 1) (Down (record { remains = remains_of member; fuse = member.fuse; owed = None })))
-    → new.cluster ≡ old.cluster → new.mail ≡ old.mail → new.safety ≡ old.safety → after ≡ items ++ Crash node ∷ [] → IsAt c new after (after_event c h by_fuse now (CrashEvent node))
+    → new.cluster ≡ old.cluster → new.mail ≡ old.mail → new.safety ≡ old.safety → after ≡ items ++ Crash node ∷ [] → StandsWith c new after (after_event c h by_fuse now (CrashEvent node))
 crashes_at c h now node old new items after r least most up falls cluster mail safety is =
     let found = up_at old.places.items node.0 least most up in
     let stands = stands_at c old.places.items now node.0 (node.0 - 1) (Up found.0) found.0 r.nodes refl least found.1 refl in

@@ -15,7 +15,7 @@ use Rattle.mega_promises.specs.Messages.{message_of}
 use Rattle.mega_promises.specs.Runs.{CutByLog, Standing, Whole, after_event, appends, at_node, by_fuse, calls_of, cut_start, fate_by, fated, fated_start, handed, is_burning, left_by, met_in, replies_in, set_at, setting, start_calls, whole_step, with_items}
 use Rattle.mega_world.specs.Restarting.{started}
 use Rattle.mega_world.specs.declared.world.World.{World}
-use Rattle.mega_world.specs.Stands.{IsAt}
+use Rattle.mega_world.specs.Stands.{StandsWith}
 use Rattle.mega_world.specs.Stepping.{cut_off}
 use Rattle.mega_world.proofs.Fuses.{fated as fate_is}
 use Rattle.mega_world.proofs.Plain.{with_append}
@@ -46,5 +46,5 @@ cut_tape c h now me own event plain = with_append c (cut_off c h now me own even
 
 -- a delivery is a step of its receiver
 pub handed_is : (c : Cluster) (h : Meanings) (now : Standing) (number_of : ℕ) (message : Message) (world : World) (items : List Item) → message_of now.tape number_of ≡ Some message
-    → IsAt c world items (at_node c h now message.to (Taken number_of ∷ []) (Take message) (by_fuse now message.to)) → IsAt c world items (after_event c h by_fuse now (Deliver number_of))
-handed_is c h now number_of message world items is here = subst (IsAt c world items) (sym (ap (handed c h by_fuse now number_of) is)) here
+    → StandsWith c world items (at_node c h now message.to (Taken number_of ∷ []) (Take message) (by_fuse now message.to)) → StandsWith c world items (after_event c h by_fuse now (Deliver number_of))
+handed_is c h now number_of message world items is here = subst (StandsWith c world items) (sym (ap (handed c h by_fuse now number_of) is)) here

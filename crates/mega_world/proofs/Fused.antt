@@ -15,7 +15,7 @@ use Rattle.mega_world.specs.Carries.{Carries}
 use Rattle.mega_world.specs.Kept.{AreNodes, IsKept}
 use Rattle.mega_world.specs.Lapses.{KnowsLeases}
 use Rattle.mega_world.specs.Members.{AreMembers, member_in}
-use Rattle.mega_world.specs.Stands.{IsAt}
+use Rattle.mega_world.specs.Stands.{StandsWith}
 use Rattle.mega_world.proofs.Joining.{IsPlace, at_other, at_own, kept_on, joined, member_is, member_up, place_at}
 
 same_all : {X : Type 0} (f : ℕ → X) (me : ℕ) → set_at f me (f me) ≡ f
@@ -54,8 +54,8 @@ fuses_at c places new now me calls image was all least most at sets = subst (λ 
     kept = let e : me - 1 + 1 ≡ me = omega (arith, least) in subst (λ (n : ℕ). IsKept c n was (now.starts n) (now.owed n) (now.node n).met (now.log_fuse n)) e (all.kept.each (me - 1) was at)
 
 -- the world with it; a fuse on the rows changes no node
-pub fused_at : (c : Cluster) (now : Standing) (me calls image : ℕ) (device : Device) (old new : World) (items : List Item) → IsAt c old items now → AreNodes c new.places.items (fused now me calls image device) → new.cluster ≡ old.cluster → new.mail ≡ old.mail
-    → new.safety ≡ old.safety → IsAt c new items (fused now me calls image device)
+pub fused_at : (c : Cluster) (now : Standing) (me calls image : ℕ) (device : Device) (old new : World) (items : List Item) → StandsWith c old items now → AreNodes c new.places.items (fused now me calls image device) → new.cluster ≡ old.cluster → new.mail ≡ old.mail
+    → new.safety ≡ old.safety → StandsWith c new items (fused now me calls image device)
 fused_at c now me calls image Log old new items r nodes cluster mail safety = record {
   cluster = cluster ∙ r.cluster;
   served = r.served;

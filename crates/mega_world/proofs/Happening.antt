@@ -39,7 +39,7 @@ use Rattle.mega_world.specs.Kept.{AreNodes}
 use Rattle.mega_world.specs.Lapses.{KnowsLeases}
 use Rattle.mega_world.specs.Showing.{IsShown, IsStepped, LinesStep, ShowsCrash, ShowsStep}
 use Rattle.mega_world.specs.Shown.{notes_shown}
-use Rattle.mega_world.specs.Stands.{IsAt}
+use Rattle.mega_world.specs.Stands.{StandsWith}
 use Rattle.mega_world.specs.Stepping.{Comes, Falls, Makes, cut_off}
 use Rattle.mega_world.proofs.Carrying.{shown_on}
 use Rattle.mega_world.proofs.Events.{step_shows}
@@ -105,7 +105,7 @@ shown_tape c now me own here after made ruled is tape notes sends shows =
     next = set_at now.node me ruled.node
 
 -- before the step is shown
-stepped_is : (c : Cluster) (now : Standing) (me : ℕ) (own : List Item) (ruled : RuleStep) (old mid : World) (items here : List Item) (made : Step) → IsAt c old items now → AreOwn c own
+stepped_is : (c : Cluster) (now : Standing) (me : ℕ) (own : List Item) (ruled : RuleStep) (old mid : World) (items here : List Item) (made : Step) → StandsWith c old items now → AreOwn c own
     → ((node : ℕ) (epoch : Epoch) → has_lapsed ruled.node.met node epoch ≡ has_lapsed (met_onto ruled.notes (now.node me).met) node epoch)
     → Makes c now me ruled mid.places.items made → IsReady now own old mid items here → IsStepped c mid me made.notes now.node (set_at now.node me ruled.node) (newest here)
 stepped_is c now me own ruled old mid items here made r is lapses makes ready = record {
@@ -130,9 +130,9 @@ pub record IsFit (c : Cluster) (h : Meanings) (now : Standing) (me : ℕ) (event
 
 -- a world that showed a step that is whole
 shown_at : (c : Cluster) (h : Meanings) (now : Standing) (me : ℕ) (own : List Item) (event : Event) (old mid new : World) (items here after : List Item) (made : Step)
-    → IsAt c old items now → AreOwn c own → IsFit c h now me event → Makes c now me (step (setting c h me) (now.node me) event) mid.places.items made → IsReady now own old mid items here
+    → StandsWith c old items now → AreOwn c own → IsFit c h now me event → Makes c now me (step (setting c h me) (now.node me) event) mid.places.items made → IsReady now own old mid items here
     → ((was ruled : ℕ → RuleNode) → IsStepped c mid me made.notes was ruled (newest here) → IsShown c mid new me made ruled here after)
-    → IsAt c new after (whole_step c now me own (step (setting c h me) (now.node me) event))
+    → StandsWith c new after (whole_step c now me own (step (setting c h me) (now.node me) event))
 shown_at c h now me own event old mid new items here after made r is fit makes ready show = record {
   cluster = shows.cluster ∙ ready.cluster ∙ r.cluster;
   served = r.served;
@@ -170,8 +170,8 @@ own_lapses c h me met (Take message) node epoch = refl
 own_lapses c h me met (Begin request text) node epoch = refl
 
 crashed_at : (c : Cluster) (h : Meanings) (now : Standing) (me : ℕ) (own : List Item) (event : Event) (old mid new : World) (items here after : List Item)
-    → IsAt c old items now → AreOwn c own → IsFit c h now me event → Falls c h now me event mid.places.items → IsReady now own old mid items here → ShowsCrash mid new me here after
-    → IsAt c new after (cut_off c h now me own event)
+    → StandsWith c old items now → AreOwn c own → IsFit c h now me event → Falls c h now me event mid.places.items → IsReady now own old mid items here → ShowsCrash mid new me here after
+    → StandsWith c new after (cut_off c h now me own event)
 crashed_at c h now me own event old mid new items here after r is fit falls ready shows = record {
   cluster = ap (λ (w : World). w.cluster) shows.world ∙ ready.cluster ∙ r.cluster;
   served = r.served;
@@ -236,12 +236,12 @@ crashed_at c h now me own event old mid new items here after r is fit falls read
 
 -- ---- so a world stands after an event of a node, whatever its fuse made of the step
 pub came_at : (c : Cluster) (h : Meanings) (now : Standing) (me : ℕ) (own : List Item) (event : Event) (old mid new : World) (items here after : List Item) (made : Stepped)
-    → IsAt c old items now → AreOwn c own → IsFit c h now me event → Comes c h now me event mid.places.items made → IsReady now own old mid items here → ShowsStep c mid new me made here after
-    → IsAt c new after (at_node c h now me own event (by_fuse now me))
+    → StandsWith c old items now → AreOwn c own → IsFit c h now me event → Comes c h now me event mid.places.items made → IsReady now own old mid items here → ShowsStep c mid new me made here after
+    → StandsWith c new after (at_node c h now me own event (by_fuse now me))
 came_at c h now me own event old mid new items here after (stepped.Made made) r is fit comes ready shows =
-    subst (IsAt c new after) (sym (step_whole c h now me own event comes.long)) (shown_at c h now me own event old mid new items here after made r is fit comes ready shows)
+    subst (StandsWith c new after) (sym (step_whole c h now me own event comes.long)) (shown_at c h now me own event old mid new items here after made r is fit comes ready shows)
 came_at c h now me own event old mid new items here after stepped.Cut r is fit comes ready shows =
-    subst (IsAt c new after) (sym (step_cut c h now me own event comes.short)) (crashed_at c h now me own event old mid new items here after r is fit comes ready shows)
+    subst (StandsWith c new after) (sym (step_cut c h now me own event comes.short)) (crashed_at c h now me own event old mid new items here after r is fit comes ready shows)
 
 -- and what it shows has lines
 pub came_lined : (c : Cluster) (h : Meanings) (now : Standing) (me : ℕ) (own : List Item) (event : Event) (old mid : World) (items here after : List Item) (made : Stepped)
@@ -309,7 +309,7 @@ delivery_built c now number message formed is (inl stranger) = let m = formed.me
 delivery_built c now number message formed is (inr late) = let m = formed.messages number message is in not_late c message.body formed.lease m.body late
 
 -- ---- where a node is one of the cluster
-pub is_there : (c : Cluster) (world : World) (items : List Item) (now : Standing) (me : ℕ) → IsAt c world items now → 1 ≤ me → me ≤ length world.places.items → is_node c me ≡ true
+pub is_there : (c : Cluster) (world : World) (items : List Item) (now : Standing) (me : ℕ) → StandsWith c world items now → 1 ≤ me → me ≤ length world.places.items → is_node c me ≡ true
 is_there c world items now me r least most = let count = r.nodes.members.count in grind (arith, nat_tests)
 
 pub ticked_own : (c : Cluster) (me clock : ℕ) → AreOwn c (TickItem (number me) clock ∷ [])

@@ -1,6 +1,7 @@
 pub mod Again
 pub mod Anew
 pub mod Asked
+pub mod Behind
 pub mod Breaking
 pub mod Carrying
 pub mod Due

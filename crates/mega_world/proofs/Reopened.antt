@@ -33,7 +33,7 @@ use Rattle.mega_world.specs.Lapses.{KnowsLeases}
 use Rattle.mega_world.specs.Owing.{IsOwing, ShowsStart}
 use Rattle.mega_world.specs.Restarting.{Opens, started}
 use Rattle.mega_world.specs.Shown.{notes_shown}
-use Rattle.mega_world.specs.Stands.{IsAt}
+use Rattle.mega_world.specs.Stands.{StandsWith}
 use Rattle.mega_world.proofs.Again.{started_lapsed}
 use Rattle.mega_world.proofs.Carrying.{notes_same, same_on}
 use Rattle.mega_world.proofs.Fates.{start_whole}
@@ -44,7 +44,7 @@ flat_both me [] ys = refl
 flat_both me (x ∷ xs) ys = ap (λ t. shown me x ++ t) (flat_both me xs ys) ∙ sym (append_assoc (shown me x) (flat_map (shown me) xs) (flat_map (shown me) ys))
 
 -- before the start is shown
-pub owing_at : (c : Cluster) (h : Meanings) (now : Standing) (me : ℕ) (old mid : World) (items : List Item) (opening : Shown) → IsAt c old items now → Opens c now me mid.places.items opening → mid.safety ≡ old.safety
+pub owing_at : (c : Cluster) (h : Meanings) (now : Standing) (me : ℕ) (old mid : World) (items : List Item) (opening : Shown) → StandsWith c old items now → Opens c now me mid.places.items opening → mid.safety ≡ old.safety
     → IsOwing c mid me (owed_of opening.owed) now.node (started c h now me).node (newest items)
 owing_at c h now me old mid items opening r opens safety = record {
   nodes = (opens.nodes h).members;
@@ -71,11 +71,11 @@ start_tape c h now me places items after opening tape opens shows =
     node : ℕ → Node
     node = (started c h now me).node
 
-pub reopened_at : (c : Cluster) (h : Meanings) (now : Standing) (node : NodeId) (old mid new : World) (items after : List Item) (opening : Shown) → IsAt c old items now → Opens c now node.0 mid.places.items opening → IsU32 opening.start
+pub reopened_at : (c : Cluster) (h : Meanings) (now : Standing) (node : NodeId) (old mid new : World) (items after : List Item) (opening : Shown) → StandsWith c old items now → Opens c now node.0 mid.places.items opening → IsU32 opening.start
     → mid.cluster ≡ old.cluster → mid.mail ≡ old.mail → mid.safety ≡ old.safety
     → (IsOwing c mid node.0 (owed_of opening.owed) now.node (started c h now node.0).node (newest items) → ShowsStart c mid new node.0 opening (started c h now node.0).node (newest items) (newest after))
-    → IsAt c new after (after_event c h by_fuse now (StartEvent node))
-reopened_at c h now node old mid new items after opening r opens small cluster mail safety show = subst (IsAt c new after) (sym (start_whole c h now me opens.long)) (record {
+    → StandsWith c new after (after_event c h by_fuse now (StartEvent node))
+reopened_at c h now node old mid new items after opening r opens small cluster mail safety show = subst (StandsWith c new after) (sym (start_whole c h now me opens.long)) (record {
   cluster = shows.cluster ∙ cluster ∙ r.cluster;
   served = r.served;
   nodes = subst (λ places. AreNodes c places.items (started c h now me)) (sym shows.places) (opens.nodes h);
@@ -129,9 +129,9 @@ reopened_at c h now node old mid new items after opening r opens small cluster m
     owing_by other false = r.within.owed other
 
 -- what it shows has lines
-pub reopened_lined : (c : Cluster) (now : Standing) (me : ℕ) (old mid : World) (items after : List Item) (opening : Shown) → IsAt c old items now → Opens c now me mid.places.items opening
+pub reopened_lined : (c : Cluster) (now : Standing) (me : ℕ) (old mid : World) (all items after : List Item) (opening : Shown) → StandsWith c old all now → Opens c now me mid.places.items opening
     → (All HasLine items → All HasLine (flat_map (shown me) (owed_of opening.owed)) → All HasLine (notes_shown me opening.notes) → All HasLine after) → All HasLine items → All HasLine after
-reopened_lined c now me old mid items after opening r opens lines lined =
+reopened_lined c now me old mid all items after opening r opens lines lined =
     lines lined (subst (λ owed. All HasLine (flat_map (shown me) owed)) (sym opens.owed) (notes_lines me (now.owed me) (r.formed.owed me)))
     (subst (λ notes. All HasLine (flat_map (shown me) notes)) (sym (opens.notes [])) (notes_lines me (start_notes (setting c [] me) (onto (now.owed me) (Starts (now.starts me + 1) ∷ (now.node me).met))) (start_formed (setting c [] me) (onto (now.owed me) (Starts (now.starts me + 1) ∷ (now.node me).met)))))
   where

@@ -1,9 +1,10 @@
 //! A message is handed to its receiver, or is refused.
-ghost use Rattle.std.specs.Prelude.{◌≡◌, ◌≢◌, ◌≤◌, ℕ, length, IfNone, IfSome, OnOk, Err, Some, None, true};
+ghost use Rattle.std.specs.Prelude.{◌≡◌, ◌≢◌, ◌≤◌, ℕ, length, IfNone, IfSome, OnOk, Err, Some, None, true, ◌++◌, List};
 ghost use Rattle.std.specs.Prelude.{All};
 ghost use Rattle.mega_cluster.specs.declared.cluster.Cluster.{Cluster};
 ghost use Rattle.mega_handler.specs.Named.{Meanings};
 ghost use Rattle.mega_schedule.specs.declared.world_event.WorldEvent.TheVariants as event;
+ghost use Rattle.mega_transcript.specs.declared.item.Item.{Item as OnTape};
 ghost use Rattle.mega_transcript.specs.Lines.{HasLine};
 ghost use Rattle.mega_transcript.specs.Tape.{is_sent};
 ghost use Rattle.mega_promises.specs.Messages.{message_of};
@@ -12,7 +13,7 @@ ghost use Rattle.mega_world.specs.Carries.{Carries};
 ghost use Rattle.mega_world.specs.declared.fault.WorldFault.TheVariants.{Limit, Refused};
 ghost use Rattle.mega_world.specs.Formed.{IsSound};
 ghost use Rattle.mega_world.specs.Members.{is_up_at};
-ghost use Rattle.mega_world.specs.Stands.{IsAllowed, IsAt, MayCome};
+ghost use Rattle.mega_world.specs.Stands.{IsAllowed, StandsWith, MayCome};
 
 use crate::fault::WorldFault;
 use crate::mail::Mail;
@@ -55,9 +56,9 @@ impl World {
         tape: &mut Tape,
     ) -> Result<(), WorldFault>
         requires known { IsAllowed (H.meant handlers.old) self.old tape.old.items number }
-        ensures state { OnOk result ((c : Cluster) (h : Meanings) (now : Standing) → IsAt c self.old tape.old.items now → IsSound (H.meant handlers.old) c h now (event.Deliver number) →
-            IsAt c self.new tape.new.items (after_event c h by_fuse now (event.Deliver number))) }
-        ensures lines { OnOk result ((c : Cluster) (h : Meanings) (now : Standing) → IsAt c self.old tape.old.items now → IsSound (H.meant handlers.old) c h now (event.Deliver number) →
+        ensures state { OnOk result ((c : Cluster) (h : Meanings) (earlier : List OnTape) (now : Standing) → StandsWith c self.old (earlier ++ tape.old.items) now → IsSound (H.meant handlers.old) c h now (event.Deliver number) →
+            StandsWith c self.new (earlier ++ tape.new.items) (after_event c h by_fuse now (event.Deliver number))) }
+        ensures lines { OnOk result ((c : Cluster) (h : Meanings) (earlier : List OnTape) (now : Standing) → StandsWith c self.old (earlier ++ tape.old.items) now → IsSound (H.meant handlers.old) c h now (event.Deliver number) →
             All HasLine tape.old.items → All HasLine tape.new.items) }
         ensures handlers { H.meant handlers.new ≡ H.meant handlers.old }
         ensures served { (why : ℕ) → result ≢ Err (Refused why) }
@@ -87,15 +88,14 @@ impl World {
         tape: &mut Tape,
     ) -> Result<(), WorldFault>
         requires known { MayCome (H.meant handlers.old) self.old tape.old.items (event.Deliver number) }
-        ensures state { OnOk result ((c : Cluster) (h : Meanings) (now : Standing) → IsAt c self.old tape.old.items now → IsSound (H.meant handlers.old) c h now (event.Deliver number) →
-            IsAt c self.new tape.new.items (after_event c h by_fuse now (event.Deliver number))) }
-        ensures lines { OnOk result ((c : Cluster) (h : Meanings) (now : Standing) → IsAt c self.old tape.old.items now → IsSound (H.meant handlers.old) c h now (event.Deliver number) →
+        ensures state { OnOk result ((c : Cluster) (h : Meanings) (earlier : List OnTape) (now : Standing) → StandsWith c self.old (earlier ++ tape.old.items) now → IsSound (H.meant handlers.old) c h now (event.Deliver number) →
+            StandsWith c self.new (earlier ++ tape.new.items) (after_event c h by_fuse now (event.Deliver number))) }
+        ensures lines { OnOk result ((c : Cluster) (h : Meanings) (earlier : List OnTape) (now : Standing) → StandsWith c self.old (earlier ++ tape.old.items) now → IsSound (H.meant handlers.old) c h now (event.Deliver number) →
             All HasLine tape.old.items → All HasLine tape.new.items) }
         ensures handlers { H.meant handlers.new ≡ H.meant handlers.old }
-        ensures happens { OnOk result ((c : Cluster) (now : Standing) → IsAt c self.old tape.old.items now → refusal c now (event.Deliver number) ≡ None) }
-        ensures refused { (why : ℕ) → result ≡ Err (Refused why) → (c : Cluster) (now : Standing) → IsAt c self.old tape.old.items now → refusal c now (event.Deliver number) ≡ Some why }
+        ensures happens { OnOk result ((c : Cluster) (items : List OnTape) (now : Standing) → StandsWith c self.old items now → refusal c now (event.Deliver number) ≡ None) }
+        ensures refused { (why : ℕ) → result ≡ Err (Refused why) → (c : Cluster) (items : List OnTape) (now : Standing) → StandsWith c self.old items now → refusal c now (event.Deliver number) ≡ Some why }
         ensures world { (why : ℕ) → result ≡ Err (Refused why) → self.new ≡ self.old }
-        ensures tape { (why : ℕ) → result ≡ Err (Refused why) → tape.new.items ≡ tape.old.items }
         ensures limited { result ≢ Err Limit }
     {
         match self.mail.delivery_refusal(self.places.as_slice(), number) {

@@ -1,13 +1,14 @@
 //! A message is never delivered from now on.
-ghost use Rattle.std.specs.Prelude.{◌≡◌, ◌≢◌, ℕ, OnOk, Err, Some, None};
+ghost use Rattle.std.specs.Prelude.{◌≡◌, ◌≢◌, ℕ, OnOk, Err, Some, None, ◌++◌, List};
 ghost use Rattle.std.specs.Prelude.{All};
 ghost use Rattle.mega_cluster.specs.declared.cluster.Cluster.{Cluster};
 ghost use Rattle.mega_handler.specs.Named.{Meanings};
 ghost use Rattle.mega_schedule.specs.declared.world_event.WorldEvent.TheVariants as event;
+ghost use Rattle.mega_transcript.specs.declared.item.Item.{Item as OnTape};
 ghost use Rattle.mega_transcript.specs.Lines.{HasLine};
 ghost use Rattle.mega_promises.specs.Runs.{Standing, after_event, by_fuse, refusal};
 ghost use Rattle.mega_world.specs.declared.fault.WorldFault.TheVariants.{Limit, Refused};
-ghost use Rattle.mega_world.specs.Stands.{IsAt};
+ghost use Rattle.mega_world.specs.Stands.{StandsWith};
 
 use crate::fault::WorldFault;
 use crate::world::World;
@@ -16,13 +17,12 @@ use mega_transcript::{Item, Tape};
 impl World {
     /// The message of a number is never delivered from now on.
     pub(crate) fn drop_message(&mut self, number: u64, tape: &mut Tape) -> Result<(), WorldFault>
-        ensures state { OnOk result ((c : Cluster) (h : Meanings) (now : Standing) → IsAt c self.old tape.old.items now →
-            IsAt c self.new tape.new.items (after_event c h by_fuse now (event.Drop number))) }
+        ensures state { OnOk result ((c : Cluster) (h : Meanings) (earlier : List OnTape) (now : Standing) → StandsWith c self.old (earlier ++ tape.old.items) now →
+            StandsWith c self.new (earlier ++ tape.new.items) (after_event c h by_fuse now (event.Drop number))) }
         ensures lines { OnOk result (All HasLine tape.old.items → All HasLine tape.new.items) }
-        ensures happens { OnOk result ((c : Cluster) (now : Standing) → IsAt c self.old tape.old.items now → refusal c now (event.Drop number) ≡ None) }
-        ensures refused { (why : ℕ) → result ≡ Err (Refused why) → (c : Cluster) (now : Standing) → IsAt c self.old tape.old.items now → refusal c now (event.Drop number) ≡ Some why }
+        ensures happens { OnOk result ((c : Cluster) (items : List OnTape) (now : Standing) → StandsWith c self.old items now → refusal c now (event.Drop number) ≡ None) }
+        ensures refused { (why : ℕ) → result ≡ Err (Refused why) → (c : Cluster) (items : List OnTape) (now : Standing) → StandsWith c self.old items now → refusal c now (event.Drop number) ≡ Some why }
         ensures world { (why : ℕ) → result ≡ Err (Refused why) → self.new ≡ self.old }
-        ensures tape { (why : ℕ) → result ≡ Err (Refused why) → tape.new.items ≡ tape.old.items }
         ensures limited { result ≢ Err Limit }
     {
         match self.mail.drop_refusal(number) {

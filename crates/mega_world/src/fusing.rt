@@ -10,7 +10,7 @@ ghost use Rattle.mega_world.specs.declared.fault.WorldFault.TheVariants.{Limit, 
 ghost use Rattle.mega_world.specs.declared.place.Place.{Place as PlaceValue};
 ghost use Rattle.mega_world.specs.Fusing.{SetsFuse, SetsFuseAt};
 ghost use Rattle.mega_world.specs.Members.{AreMembers};
-ghost use Rattle.mega_world.specs.Stands.{IsAt};
+ghost use Rattle.mega_world.specs.Stands.{StandsWith};
 
 use crate::fault::WorldFault;
 use crate::place::Place;
@@ -59,9 +59,9 @@ impl World {
         image: u8,
         device: Device,
     ) -> Result<(), WorldFault>
-        ensures state { OnOk result ((c : Cluster) (h : Meanings) (items : List OnTape) (now : Standing) → IsAt c self.old items now → IsAt c self.new items (after_event c h by_fuse now (event.Fuse node calls image device))) }
-        ensures happens { OnOk result ((c : Cluster) (items : List OnTape) (now : Standing) → IsAt c self.old items now → refusal c now (event.Fuse node calls image device) ≡ None) }
-        ensures refused { (why : ℕ) → result ≡ Err (Refused why) → (c : Cluster) (items : List OnTape) (now : Standing) → IsAt c self.old items now → refusal c now (event.Fuse node calls image device) ≡ Some why }
+        ensures state { OnOk result ((c : Cluster) (h : Meanings) (items : List OnTape) (now : Standing) → StandsWith c self.old items now → StandsWith c self.new items (after_event c h by_fuse now (event.Fuse node calls image device))) }
+        ensures happens { OnOk result ((c : Cluster) (items : List OnTape) (now : Standing) → StandsWith c self.old items now → refusal c now (event.Fuse node calls image device) ≡ None) }
+        ensures refused { (why : ℕ) → result ≡ Err (Refused why) → (c : Cluster) (items : List OnTape) (now : Standing) → StandsWith c self.old items now → refusal c now (event.Fuse node calls image device) ≡ Some why }
         ensures world { (why : ℕ) → result ≡ Err (Refused why) → self.new ≡ self.old }
         ensures limited { result ≢ Err Limit }
     {
@@ -78,7 +78,7 @@ impl World {
     fn fuses(&mut self, node: NodeId, calls: u64, image: u8, device: Device)
         requires least { 1 ≤ node.0 }
         requires most { node.0 ≤ length self.old.places.items }
-        ensures state { (c : Cluster) (h : Meanings) (items : List OnTape) (now : Standing) → IsAt c self.old items now → IsAt c self.new items (after_event c h by_fuse now (event.Fuse node calls image device)) }
+        ensures state { (c : Cluster) (h : Meanings) (items : List OnTape) (now : Standing) → StandsWith c self.old items now → StandsWith c self.new items (after_event c h by_fuse now (event.Fuse node calls image device)) }
     {
         match device {
             Device::Log => fuse_at(&mut self.places, node.0, calls, image),

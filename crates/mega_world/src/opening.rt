@@ -97,7 +97,8 @@ impl World {
         requires small { IsSmall cluster.now.schema }
         requires limit { (cluster.now.limit).0 ≤ 1000000 }
         requires housed { cluster.now.cells ≤ length cluster.now.nodes }
-        ensures state { IfOk result (λ world. (h : Meanings) → IsAt cluster.now world tape.new.items (opening cluster.now h)) }
+        ensures state { IfOk result (λ world. (h : Meanings) → IsAt cluster.now world (opening cluster.now h)) }
+        ensures tape { OnOk result ((h : Meanings) → newest tape.new.items ≡ (opening cluster.now h).tape) }
         ensures lines { OnOk result (All HasLine tape.new.items) }
         ensures only { OnErr result (result ≡ Err OutOfMemory) }
     {

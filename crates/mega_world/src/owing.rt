@@ -5,6 +5,7 @@ ghost use Rattle.mega_cluster.specs.declared.cluster.Cluster.{Cluster};
 ghost use Rattle.mega_rules.specs.Met.{Unsends};
 ghost use Rattle.mega_rules.specs.Operations.{Node as RuleNode};
 ghost use Rattle.mega_core.specs.Notes.{met_of};
+ghost use Rattle.mega_transcript.specs.declared.item.Item.{Item as OnTape};
 ghost use Rattle.mega_transcript.specs.Lines.{HasLine};
 ghost use Rattle.mega_transcript.specs.Tape.{newest};
 ghost use Rattle.mega_promises.specs.Items.{number, shown};
@@ -37,8 +38,8 @@ fn put_unsent(me: u8, replies: Items<Message>, tape: &mut Tape) -> Result<(), No
 impl World {
     /// What a start owed comes onto the tape.
     fn show_owed(&mut self, me: u8, owed: Option<Cut>, tape: &mut Tape) -> Result<(), NoMemory>
-        ensures shown { OnOk result ((c : Cluster) (was ruled : ℕ → RuleNode) → IsOwing c self.old me (owed_of owed) was ruled (newest tape.old.items) →
-            ShowsOwed c self.old self.new me (owed_of owed) ruled (newest tape.old.items) (newest tape.new.items)) }
+        ensures shown { OnOk result ((c : Cluster) (was ruled : ℕ → RuleNode) (earlier : List OnTape) → IsOwing c self.old me (owed_of owed) was ruled (newest (earlier ++ tape.old.items)) →
+            ShowsOwed c self.old self.new me (owed_of owed) ruled (newest (earlier ++ tape.old.items)) (newest (earlier ++ tape.new.items))) }
         ensures lines { OnOk result (All HasLine tape.old.items → All HasLine (flat_map (shown me) (owed_of owed)) → All HasLine tape.new.items) }
     {
         let cut = match owed {
@@ -59,8 +60,8 @@ impl World {
         opening: Shown,
         tape: &mut Tape,
     ) -> Result<(), NoMemory>
-        ensures shown { OnOk result ((c : Cluster) (was ruled : ℕ → RuleNode) → IsOwing c self.old me (owed_of opening.owed) was ruled (newest tape.old.items) →
-            ShowsStart c self.old self.new me opening ruled (newest tape.old.items) (newest tape.new.items)) }
+        ensures shown { OnOk result ((c : Cluster) (was ruled : ℕ → RuleNode) (earlier : List OnTape) → IsOwing c self.old me (owed_of opening.owed) was ruled (newest (earlier ++ tape.old.items)) →
+            ShowsStart c self.old self.new me opening ruled (newest (earlier ++ tape.old.items)) (newest (earlier ++ tape.new.items))) }
         ensures lines { OnOk result (All HasLine tape.old.items → All HasLine (flat_map (shown me) (owed_of opening.owed)) → All HasLine (notes_shown me opening.notes) → All HasLine tape.new.items) }
     {
         let Shown { start, owed, notes } = opening;

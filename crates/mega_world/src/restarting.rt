@@ -1,11 +1,12 @@
 //! A node of the world starts again, or its log's fuse cuts the start off.
-ghost use Rattle.std.specs.Prelude.{◌≡◌, ◌≢◌, ◌≤◌, ◌-◌, ℕ, List, length, set, IfNone, IfOk, IfSome, OnOk, Err, Option, Some, None, true, false};
+ghost use Rattle.std.specs.Prelude.{◌≡◌, ◌≢◌, ◌≤◌, ◌-◌, ℕ, List, length, set, IfNone, IfOk, IfSome, OnOk, Err, Option, Some, None, true, false, ◌++◌};
 ghost use Rattle.std.specs.Prelude.{All};
 ghost use Rattle.mega_cluster.specs.declared.cluster.Cluster.{Cluster as ClusterValue};
 ghost use Rattle.mega_core.specs.Served.{IsServed};
 ghost use Rattle.mega_handler.specs.Named.{Meaning, Meanings};
 ghost use Rattle.mega_rules.specs.Members.{is_node};
 ghost use Rattle.mega_schedule.specs.declared.world_event.WorldEvent.TheVariants as event;
+ghost use Rattle.mega_transcript.specs.declared.item.Item.{Item as OnTape};
 ghost use Rattle.mega_transcript.specs.Lines.{HasLine};
 ghost use Rattle.mega_promises.specs.Runs.{Standing, after_event, by_fuse, refusal};
 ghost use Rattle.mega_world.specs.declared.fault.WorldFault.TheVariants.{Limit, Refused};
@@ -15,7 +16,7 @@ ghost use Rattle.mega_world.specs.Kept.{AreNodes, IsFallen};
 ghost use Rattle.mega_world.specs.Members.{AreMembers, is_up_at};
 ghost use Rattle.mega_world.specs.Restarting.{AreStartable, OpensOr, Reopens};
 ghost use Rattle.mega_world.specs.Starting.{AtEachFallen, IsStartable};
-ghost use Rattle.mega_world.specs.Stands.{IsAt, IsDue, MayCome};
+ghost use Rattle.mega_world.specs.Stands.{StandsWith, IsDue, MayCome};
 ghost use Rattle.mega_world.specs.Last.{IsPastLast};
 
 use crate::fallen::Fallen;
@@ -130,14 +131,13 @@ impl World {
         tape: &mut Tape,
     ) -> Result<(), WorldFault>
         requires known { (makes : List ℕ → Option Meaning) × MayCome makes self.old tape.old.items (event.Start node) }
-        ensures state { OnOk result ((c : ClusterValue) (h : Meanings) (now : Standing) → IsAt c self.old tape.old.items now →
-            IsAt c self.new tape.new.items (after_event c h by_fuse now (event.Start node))) }
-        ensures lines { OnOk result ((c : ClusterValue) (now : Standing) → IsAt c self.old tape.old.items now → All HasLine tape.old.items → All HasLine tape.new.items) }
-        ensures happens { OnOk result ((c : ClusterValue) (now : Standing) → IsAt c self.old tape.old.items now → refusal c now (event.Start node) ≡ None) }
-        ensures refused { (why : ℕ) → result ≡ Err (Refused why) → (c : ClusterValue) (now : Standing) → IsAt c self.old tape.old.items now → refusal c now (event.Start node) ≡ Some why }
+        ensures state { OnOk result ((c : ClusterValue) (h : Meanings) (earlier : List OnTape) (now : Standing) → StandsWith c self.old (earlier ++ tape.old.items) now →
+            StandsWith c self.new (earlier ++ tape.new.items) (after_event c h by_fuse now (event.Start node))) }
+        ensures lines { OnOk result ((c : ClusterValue) (earlier : List OnTape) (now : Standing) → StandsWith c self.old (earlier ++ tape.old.items) now → All HasLine tape.old.items → All HasLine tape.new.items) }
+        ensures happens { OnOk result ((c : ClusterValue) (items : List OnTape) (now : Standing) → StandsWith c self.old items now → refusal c now (event.Start node) ≡ None) }
+        ensures refused { (why : ℕ) → result ≡ Err (Refused why) → (c : ClusterValue) (items : List OnTape) (now : Standing) → StandsWith c self.old items now → refusal c now (event.Start node) ≡ Some why }
         ensures world { (why : ℕ) → result ≡ Err (Refused why) → self.new ≡ self.old }
-        ensures tape { (why : ℕ) → result ≡ Err (Refused why) → tape.new.items ≡ tape.old.items }
-        ensures limit { result ≡ Err Limit → (c : ClusterValue) (now : Standing) → IsAt c self.old tape.old.items now → IsPastLast c now (event.Start node) }
+        ensures limit { result ≡ Err Limit → (c : ClusterValue) (items : List OnTape) (now : Standing) → StandsWith c self.old items now → IsPastLast c now (event.Start node) }
     {
         match refusal(self.places.as_slice(), node) {
             Some(why) => Err(WorldFault::Refused { why }),
@@ -151,11 +151,11 @@ impl World {
         requires most { node.0 ≤ length self.old.places.items }
         requires down { is_up_at self.old.places.items node.0 ≡ false }
         requires known { (makes : List ℕ → Option Meaning) × IsDue makes self.old tape.old.items (event.Start node) }
-        ensures state { OnOk result ((c : ClusterValue) (h : Meanings) (now : Standing) → IsAt c self.old tape.old.items now →
-            IsAt c self.new tape.new.items (after_event c h by_fuse now (event.Start node))) }
-        ensures lines { OnOk result ((c : ClusterValue) (now : Standing) → IsAt c self.old tape.old.items now → All HasLine tape.old.items → All HasLine tape.new.items) }
+        ensures state { OnOk result ((c : ClusterValue) (h : Meanings) (earlier : List OnTape) (now : Standing) → StandsWith c self.old (earlier ++ tape.old.items) now →
+            StandsWith c self.new (earlier ++ tape.new.items) (after_event c h by_fuse now (event.Start node))) }
+        ensures lines { OnOk result ((c : ClusterValue) (earlier : List OnTape) (now : Standing) → StandsWith c self.old (earlier ++ tape.old.items) now → All HasLine tape.old.items → All HasLine tape.new.items) }
         ensures served { (why : ℕ) → result ≢ Err (Refused why) }
-        ensures limit { result ≡ Err Limit → (c : ClusterValue) (now : Standing) → IsAt c self.old tape.old.items now → now.starts node.0 ≡ 4294967295 }
+        ensures limit { result ≡ Err Limit → (c : ClusterValue) (items : List OnTape) (now : Standing) → StandsWith c self.old items now → now.starts node.0 ≡ 4294967295 }
     {
         let cluster = self.cluster.copy(alloc)?;
         match start_at(alloc, &mut self.places, cluster, node.0) {

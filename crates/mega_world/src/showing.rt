@@ -50,10 +50,10 @@ fn put(
     safety: &mut Safety,
     tape: &mut Tape,
 ) -> Result<(), NoMemory>
-    ensures tape { OnOk result ((c : Cluster) (ruled : ℕ → RuleNode) → AreMembers c places.now ruled → KnowsLeases safety.old ruled (newest tape.old.items) →
-        newest tape.new.items ≡ with_items c ruled (newest tape.old.items) (shown me (met_of note))) }
-    ensures leases { OnOk result ((c : Cluster) (ruled : ℕ → RuleNode) → AreMembers c places.now ruled → KnowsLeases safety.old ruled (newest tape.old.items) →
-        KnowsLeases safety.new ruled (newest tape.new.items)) }
+    ensures tape { OnOk result ((c : Cluster) (ruled : ℕ → RuleNode) (earlier : List OnTape) → AreMembers c places.now ruled → KnowsLeases safety.old ruled (newest (earlier ++ tape.old.items)) →
+        newest (earlier ++ tape.new.items) ≡ with_items c ruled (newest (earlier ++ tape.old.items)) (shown me (met_of note))) }
+    ensures leases { OnOk result ((c : Cluster) (ruled : ℕ → RuleNode) (earlier : List OnTape) → AreMembers c places.now ruled → KnowsLeases safety.old ruled (newest (earlier ++ tape.old.items)) →
+        KnowsLeases safety.new ruled (newest (earlier ++ tape.new.items))) }
     ensures lines { OnOk result (All HasLine tape.old.items → All HasLine (shown me (met_of note)) → All HasLine tape.new.items) }
 {
     let item = item_of(me, note);
@@ -71,10 +71,10 @@ pub(crate) fn put_all(
     safety: &mut Safety,
     tape: &mut Tape,
 ) -> Result<(), NoMemory>
-    ensures tape { OnOk result ((c : Cluster) (ruled : ℕ → RuleNode) → AreMembers c places.now ruled → KnowsLeases safety.old ruled (newest tape.old.items) →
-        newest tape.new.items ≡ with_items c ruled (newest tape.old.items) (notes_shown me notes)) }
-    ensures leases { OnOk result ((c : Cluster) (ruled : ℕ → RuleNode) → AreMembers c places.now ruled → KnowsLeases safety.old ruled (newest tape.old.items) →
-        KnowsLeases safety.new ruled (newest tape.new.items)) }
+    ensures tape { OnOk result ((c : Cluster) (ruled : ℕ → RuleNode) (earlier : List OnTape) → AreMembers c places.now ruled → KnowsLeases safety.old ruled (newest (earlier ++ tape.old.items)) →
+        newest (earlier ++ tape.new.items) ≡ with_items c ruled (newest (earlier ++ tape.old.items)) (notes_shown me notes)) }
+    ensures leases { OnOk result ((c : Cluster) (ruled : ℕ → RuleNode) (earlier : List OnTape) → AreMembers c places.now ruled → KnowsLeases safety.old ruled (newest (earlier ++ tape.old.items)) →
+        KnowsLeases safety.new ruled (newest (earlier ++ tape.new.items))) }
     ensures lines { OnOk result (All HasLine tape.old.items → All HasLine (notes_shown me notes) → All HasLine tape.new.items) }
 {
     for note in notes.into_vec() {
@@ -92,8 +92,8 @@ impl World {
         made: Step,
         tape: &mut Tape,
     ) -> Result<(), NoMemory>
-        ensures shown { OnOk result ((c : Cluster) (was ruled : ℕ → RuleNode) → IsStepped c self.old me made.notes was ruled (newest tape.old.items) →
-            IsShown c self.old self.new me made ruled tape.old.items tape.new.items) }
+        ensures shown { OnOk result ((c : Cluster) (was ruled : ℕ → RuleNode) (earlier : List OnTape) → IsStepped c self.old me made.notes was ruled (newest (earlier ++ tape.old.items)) →
+            IsShown c self.old self.new me made ruled (earlier ++ tape.old.items) (earlier ++ tape.new.items)) }
         ensures lines { OnOk result ((before : List OnTape) → Carries self.old.mail before → All HasLine tape.old.items → All HasLine (notes_shown me made.notes) →
             All HasLine (numbered (sent_count before + 1) made.sends) → All HasLine tape.new.items) }
     {
@@ -112,7 +112,7 @@ impl World {
         made: Stepped,
         tape: &mut Tape,
     ) -> Result<(), NoMemory>
-        ensures shown { OnOk result ((c : Cluster) → ShowsStep c self.old self.new me made tape.old.items tape.new.items) }
+        ensures shown { OnOk result ((c : Cluster) (earlier : List OnTape) → ShowsStep c self.old self.new me made (earlier ++ tape.old.items) (earlier ++ tape.new.items)) }
         ensures lines { OnOk result (LinesStep self.old me made tape.old.items tape.new.items) }
     {
         match made {

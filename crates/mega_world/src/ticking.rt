@@ -1,9 +1,10 @@
 //! The clock of a node shows a time, unless it showed a later one.
-ghost use Rattle.std.specs.Prelude.{◌≡◌, ◌≢◌, ◌≤◌, ℕ, length, IfNone, OnOk, Err, Some, None, true};
+ghost use Rattle.std.specs.Prelude.{◌≡◌, ◌≢◌, ◌≤◌, ℕ, length, IfNone, OnOk, Err, Some, None, true, ◌++◌, List};
 ghost use Rattle.std.specs.Prelude.{All};
 ghost use Rattle.mega_cluster.specs.declared.cluster.Cluster.{Cluster};
 ghost use Rattle.mega_handler.specs.Named.{Meanings};
 ghost use Rattle.mega_schedule.specs.declared.world_event.WorldEvent.TheVariants as event;
+ghost use Rattle.mega_transcript.specs.declared.item.Item.{Item as OnTape};
 ghost use Rattle.mega_transcript.specs.Lines.{HasLine};
 ghost use Rattle.mega_rules.specs.Clock.{clock_of};
 ghost use Rattle.mega_rules.specs.Operations.{Node as RuleNode};
@@ -11,7 +12,7 @@ ghost use Rattle.mega_promises.specs.Runs.{Standing, after_event, by_fuse, refus
 ghost use Rattle.mega_world.specs.declared.fault.WorldFault.TheVariants.{Limit, Refused};
 ghost use Rattle.mega_world.specs.Formed.{IsSound};
 ghost use Rattle.mega_world.specs.Members.{AreMembers, is_up_at};
-ghost use Rattle.mega_world.specs.Stands.{IsAt, IsDue, MayCome};
+ghost use Rattle.mega_world.specs.Stands.{StandsWith, IsDue, MayCome};
 
 use crate::fault::WorldFault;
 use crate::place::Place;
@@ -63,15 +64,14 @@ impl World {
         tape: &mut Tape,
     ) -> Result<(), WorldFault>
         requires known { MayCome (H.meant handlers.old) self.old tape.old.items (event.Tick node clock) }
-        ensures state { OnOk result ((c : Cluster) (h : Meanings) (now : Standing) → IsAt c self.old tape.old.items now → IsSound (H.meant handlers.old) c h now (event.Tick node clock) →
-            IsAt c self.new tape.new.items (after_event c h by_fuse now (event.Tick node clock))) }
-        ensures lines { OnOk result ((c : Cluster) (h : Meanings) (now : Standing) → IsAt c self.old tape.old.items now → IsSound (H.meant handlers.old) c h now (event.Tick node clock) →
+        ensures state { OnOk result ((c : Cluster) (h : Meanings) (earlier : List OnTape) (now : Standing) → StandsWith c self.old (earlier ++ tape.old.items) now → IsSound (H.meant handlers.old) c h now (event.Tick node clock) →
+            StandsWith c self.new (earlier ++ tape.new.items) (after_event c h by_fuse now (event.Tick node clock))) }
+        ensures lines { OnOk result ((c : Cluster) (h : Meanings) (earlier : List OnTape) (now : Standing) → StandsWith c self.old (earlier ++ tape.old.items) now → IsSound (H.meant handlers.old) c h now (event.Tick node clock) →
             All HasLine tape.old.items → All HasLine tape.new.items) }
         ensures handlers { H.meant handlers.new ≡ H.meant handlers.old }
-        ensures happens { OnOk result ((c : Cluster) (now : Standing) → IsAt c self.old tape.old.items now → refusal c now (event.Tick node clock) ≡ None) }
-        ensures refused { (why : ℕ) → result ≡ Err (Refused why) → (c : Cluster) (now : Standing) → IsAt c self.old tape.old.items now → refusal c now (event.Tick node clock) ≡ Some why }
+        ensures happens { OnOk result ((c : Cluster) (items : List OnTape) (now : Standing) → StandsWith c self.old items now → refusal c now (event.Tick node clock) ≡ None) }
+        ensures refused { (why : ℕ) → result ≡ Err (Refused why) → (c : Cluster) (items : List OnTape) (now : Standing) → StandsWith c self.old items now → refusal c now (event.Tick node clock) ≡ Some why }
         ensures world { (why : ℕ) → result ≡ Err (Refused why) → self.new ≡ self.old }
-        ensures tape { (why : ℕ) → result ≡ Err (Refused why) → tape.new.items ≡ tape.old.items }
         ensures limited { result ≢ Err Limit }
     {
         match refusal(self.places.as_slice(), node, clock) {
@@ -93,9 +93,9 @@ impl World {
         requires most { node.0 ≤ length self.old.places.items }
         requires up { is_up_at self.old.places.items node.0 ≡ true }
         requires known { IsDue (H.meant handlers.old) self.old tape.old.items (event.Tick node clock) }
-        ensures state { OnOk result ((c : Cluster) (h : Meanings) (now : Standing) → IsAt c self.old tape.old.items now → IsSound (H.meant handlers.old) c h now (event.Tick node clock) →
-            IsAt c self.new tape.new.items (after_event c h by_fuse now (event.Tick node clock))) }
-        ensures lines { OnOk result ((c : Cluster) (h : Meanings) (now : Standing) → IsAt c self.old tape.old.items now → IsSound (H.meant handlers.old) c h now (event.Tick node clock) →
+        ensures state { OnOk result ((c : Cluster) (h : Meanings) (earlier : List OnTape) (now : Standing) → StandsWith c self.old (earlier ++ tape.old.items) now → IsSound (H.meant handlers.old) c h now (event.Tick node clock) →
+            StandsWith c self.new (earlier ++ tape.new.items) (after_event c h by_fuse now (event.Tick node clock))) }
+        ensures lines { OnOk result ((c : Cluster) (h : Meanings) (earlier : List OnTape) (now : Standing) → StandsWith c self.old (earlier ++ tape.old.items) now → IsSound (H.meant handlers.old) c h now (event.Tick node clock) →
             All HasLine tape.old.items → All HasLine tape.new.items) }
         ensures handlers { H.meant handlers.new ≡ H.meant handlers.old }
         ensures served { (why : ℕ) → result ≢ Err (Refused why) }

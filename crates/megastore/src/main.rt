@@ -3,6 +3,7 @@
 
 use mega_base::Text;
 use mega_io::{StdSink, StdSource};
+use mega_meanings::BuiltIn;
 use mega_replay::run;
 use std::process::ExitCode;
 use std::{env, io};
@@ -23,5 +24,13 @@ fn main(rt: HostRuntime) -> ExitCode {
         Ok(words) => words,
         Err(_) => Vec::new(rt.alloc()),
     };
-    ExitCode::from(run(rt.alloc(), words.as_slice(), &mut input, &mut out))
+    let mut handlers = BuiltIn::new();
+    let status = run(
+        rt.alloc(),
+        words.as_slice(),
+        &mut handlers,
+        &mut input,
+        &mut out,
+    );
+    ExitCode::from(status)
 }

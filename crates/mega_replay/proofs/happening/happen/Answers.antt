@@ -1,31 +1,34 @@
-use Rattle.std.proofs.Common.{ℕ, ◌≡◌, [], Some, None, Err, ap, subst, sym}
-use Rattle.mega_meanings.proofs.Lasting.{built_in_means}
+use Rattle.std.proofs.Common.{ℕ, ◌≡◌, [], Some, None, Err, ap, append-nil, subst, sym, List}
 use Rattle.mega_meanings.specs.BuiltIn.{built_in}
+use Rattle.mega_transcript.specs.declared.item.Item.{Item}
+use Rattle.mega_transcript.specs.Tape.{newest}
 use Rattle.mega_promises.specs.Runs.{refusal}
+use Rattle.mega_world.specs.Stands.{StandsWith}
 use Rattle.mega_replay.specs.Running.{stood}
 use Rattle.mega_replay.proofs.Running.{sound, went}
 use Rattle.mega_replay.proofs.happening.happen.Goals as goal
 
 pub returns-in-Ok-clause-state : goal.returns-in-Ok-clause-state
-returns-in-Ok-clause-state c done events after =
+returns-in-Ok-clause-state g c done events after =
     let cluster = c.args.cluster.now in
     let number = c.args.number in
     let line = c.args.line.now in
     let allowed = c.in-Ok.ensures.happens cluster (stood cluster events) after.here in
-    went cluster number line events c.args.event c.apply.new.self c.apply.new.tape.items c.requires.spelled allowed
-    (c.in-Ok.ensures.state cluster built_in (stood cluster events) after.here (sound cluster done events number line c.args.event after.starts after.happen c.requires.spelled allowed (built_in_means _ c.new-handlers.ensures)))
+    let right = sound cluster done events number line c.args.event after.starts after.happen c.requires.spelled allowed c.requires.meant in
+    went cluster number line events c.args.event c.apply.new.self c.in-Ok.added.items c.requires.spelled allowed (c.in-Ok.ensures.state cluster built_in (stood cluster events) after.here right)
+    (c.in-Ok.ensures.tape cluster built_in (stood cluster events) after.here right)
 
 pub returns-in-Ok-clause-lines : goal.returns-in-Ok-clause-lines
-returns-in-Ok-clause-lines c =
+returns-in-Ok-clause-lines g c =
     let cluster = c.args.cluster.now in
     let done = c.requires.standing.0 in
     let events = c.requires.standing.1 in
     let after = c.requires.standing.2 in
     let allowed = c.in-Ok.ensures.happens cluster (stood cluster events) after.here in
-    c.in-Ok.ensures.lines cluster built_in (stood cluster events) after.here (sound cluster done events c.args.number c.args.line.now c.args.event after.starts after.happen c.requires.spelled allowed (built_in_means _ c.new-handlers.ensures)) c.requires.lines
+    c.in-Ok.ensures.lines cluster built_in (stood cluster events) after.here (sound cluster done events c.args.number c.args.line.now c.args.event after.starts after.happen c.requires.spelled allowed c.requires.meant)
 
 pub returns-in-Err-Refused-clause-refused : goal.returns-in-Err-Refused-clause-refused
-returns-in-Err-Refused-clause-refused c at why is done events after =
+returns-in-Err-Refused-clause-refused g c at why is done events after =
     let cluster = c.args.cluster.now in
     let same : c.in-Err-Refused.why ≡ why = cc in
     let refused = c.in-Err-Refused.ensures.refused c.in-Err-Refused.why (ap Err c.in-Err-Refused.field-0-is) cluster (stood cluster events) after.here in (
@@ -34,14 +37,14 @@ returns-in-Err-Refused-clause-refused c at why is done events after =
     )
 
 pub returns-in-Err-Limit-clause-limit : goal.returns-in-Err-Limit-clause-limit
-returns-in-Err-Limit-clause-limit c at is done events after =
+returns-in-Err-Limit-clause-limit g c at is done events after =
     let cluster = c.args.cluster.now in (
       cc,
       record { event = c.args.event; spelled = c.requires.spelled; past = c.in-Err-Limit.ensures.limit (ap Err c.in-Err-Limit.field-0-is) cluster (stood cluster events) after.here },
     )
 
 pub apply-requires : goal.apply-requires
-apply-requires c =
+apply-requires g c =
     let cluster = c.args.cluster.now in
     let done = c.requires.standing.0 in
     let events = c.requires.standing.1 in
@@ -49,14 +52,15 @@ apply-requires c =
       known = record {
         cluster = cluster;
         handlers = built_in;
+        earlier = newest (stood cluster events).tape;
         now = stood cluster events;
-        at = after.here;
-        sound = λ allowed. sound cluster done events c.args.number c.args.line.now c.args.event after.starts after.happen c.requires.spelled allowed (built_in_means _ c.new-handlers.ensures);
+        at = subst (λ (items : List Item). StandsWith cluster c.args.world.now items (stood cluster events)) (sym (append-nil (newest (stood cluster events).tape))) after.here;
+        sound = λ allowed. sound cluster done events c.args.number c.args.line.now c.args.event after.starts after.happen c.requires.spelled allowed c.requires.meant;
       };
     }
 
 pub returns-in-Ok-clause-refused : goal.returns-in-Ok-clause-refused
-returns-in-Ok-clause-refused c at why is done events after = let none : ⊥ = cc in absurd none
+returns-in-Ok-clause-refused g c at why is done events after = let none : ⊥ = cc in absurd none
 
 pub returns-in-Ok-clause-limit : goal.returns-in-Ok-clause-limit
-returns-in-Ok-clause-limit c at is done events after = let none : ⊥ = cc in absurd none
+returns-in-Ok-clause-limit g c at is done events after = let none : ⊥ = cc in absurd none

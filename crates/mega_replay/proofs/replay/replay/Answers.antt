@@ -11,7 +11,7 @@ use Rattle.mega_replay.proofs.replay.replay.Goals as goal
 pub returns-in-Err-clause-cut : goal.returns-in-Err-clause-cut
 returns-in-Err-clause-cut g c =
     let held = g.O.Sink.held c.args.out.now in
-    input_unbegun c.args.report (g.I.Source.left c.args.input.now) (WritesFront held held c.args.waiting.now) (all_lost held c.args.waiting.now [] c.requires)
+    input_unbegun c.args.report (g.I.Source.left c.args.input.now) (WritesFront held held c.args.waiting.now) (all_lost held c.args.waiting.now [] c.requires.none_waits)
 
 pub returns-in-Err-read_header-clause-header : goal.returns-in-Err-read_header-clause-header
 returns-in-Err-read_header-clause-header g c rule is =
@@ -19,7 +19,7 @@ returns-in-Err-read_header-clause-header g c rule is =
     let stop_is : c.in-Err-read_header.stop ≡ Header rule = cc in
     let held = g.O.Sink.held c.args.out.now in
     input_broken (g.I.Source.left c.args.input.now) rule (Writes held held c.args.waiting.now) (subst (λ known. IsBroken known rule) fresh (c.in-Err-read_header.ensures.broken rule (ap Err stop_is)))
-    (nothing_written held c.args.waiting.now c.requires)
+    (nothing_written held c.args.waiting.now c.requires.none_waits)
 
 pub returns-clause-none : goal.returns-clause-none
 returns-clause-none g c at reason is =
@@ -49,7 +49,7 @@ returns-in-Err-read_header-clause-broken g c is =
     let held = g.O.Sink.held c.args.out.now in
     let left = g.I.Source.left c.read_header.new.input in
     input_unfailed c.args.report (g.I.Source.left c.args.input.now) left (Writes held held c.args.waiting.now) (subst (λ known. HeaderFails known left) fresh (c.in-Err-read_header.ensures.fault (ap Err stop_is)))
-    (nothing_written held c.args.waiting.now c.requires)
+    (nothing_written held c.args.waiting.now c.requires.none_waits)
 
 pub returns-clause-broken : goal.returns-clause-broken
 returns-clause-broken g c is =

@@ -1,7 +1,4 @@
-use Rattle.std.proofs.Common.{List, ◌++◌, subst, arith}
-use Rattle.mega_transcript.specs.declared.item.Item.{Item}
-use Rattle.mega_transcript.specs.Lines.{lines as text_of}
-use Rattle.mega_replay.specs.Progress.{WritesFront}
+use Rattle.std.proofs.Common.{arith}
 use Rattle.mega_replay.proofs.Texts.{item_written, item_cut}
 use Rattle.mega_replay.proofs.writing.write_lines.Goals as goal
 
@@ -10,8 +7,7 @@ returns-in-Err-clause-cut g c =
     let before = g.O.Sink.held c.args.out.now in
     let mid = g.O.Sink.held c.loop-item.out in
     let after = g.O.Sink.held c.write_item.new.out in
-    subst (λ (items : List Item). WritesFront before after c.write_item.new.waiting (c.args.waiting.now ++ text_of c.args.schema.now items)) c.items_from-fresh.ensures.fresh
-    (item_cut before mid after c.args.waiting.now c.loop-item.waiting c.write_item.new.waiting c.args.schema.now c.items_from-fresh.result.now c.loop-item.item-index c.item-item.result c.loop-item-test.true c.item-item.is c.loop-item.invariant.1 c.in-Err.ensures.cut)
+    item_cut before mid after c.args.waiting.now c.loop-item.waiting c.write_item.new.waiting c.args.schema.now c.args.items.now c.loop-item.item-index c.item-item.result c.loop-item-test.true c.item-item.is c.loop-item.invariant.1 c.in-Err.ensures.cut
 
 pub loop-item-preserved : goal.loop-item-preserved
 loop-item-preserved g c =
@@ -19,6 +15,6 @@ loop-item-preserved g c =
     let mid = g.O.Sink.held c.loop-item.out in
     let after = g.O.Sink.held c.write_item.new.out in (
       omega arith,
-      item_written before mid after c.args.waiting.now c.loop-item.waiting c.write_item.new.waiting c.args.schema.now c.items_from-fresh.result.now c.loop-item.item-index c.item-item.result c.loop-item-test.true c.item-item.is c.loop-item.invariant.1
+      item_written before mid after c.args.waiting.now c.loop-item.waiting c.write_item.new.waiting c.args.schema.now c.args.items.now c.loop-item.item-index c.item-item.result c.loop-item-test.true c.item-item.is c.loop-item.invariant.1
           c.in-Ok.ensures.text,
     )

@@ -1,3 +1,4 @@
+use Rattle.std.proofs.Common.{◌++◌}
 use Rattle.mega_transcript.specs.Tape.{newest}
 use Rattle.mega_world.proofs.Noted.{lined_first, lined_last, one_more}
 use Rattle.mega_world.proofs.showing.put_all.Goals as goal
@@ -8,9 +9,9 @@ loop-note-preserved c =
     let were = c.loop-note.invariant in
     let yielded = c.loop-note.yielded in
     let note = c.in-Some.note in record {
-      tape = λ cluster ruled up knows.
-          one_more cluster ruled me (newest c.args.tape.now.items) (newest c.loop-note.tape.items) (newest c.put.new.tape.items) yielded note
-          (c.in_ok-put.ensures.tape cluster ruled up (were.leases cluster ruled up knows)) (were.tape cluster ruled up knows);
-      leases = λ cluster ruled up knows. c.in_ok-put.ensures.leases cluster ruled up (were.leases cluster ruled up knows);
+      tape = λ cluster ruled earlier up knows.
+          one_more cluster ruled me (newest (earlier ++ c.args.tape.now.items)) (newest (earlier ++ c.loop-note.tape.items)) (newest (earlier ++ c.put.new.tape.items)) yielded note
+          (c.in_ok-put.ensures.tape cluster ruled earlier up (were.leases cluster ruled earlier up knows)) (were.tape cluster ruled earlier up knows);
+      leases = λ cluster ruled earlier up knows. c.in_ok-put.ensures.leases cluster ruled earlier up (were.leases cluster ruled earlier up knows);
       lines = λ lined all. c.in_ok-put.ensures.lines (were.lines lined (lined_first me yielded note all)) (lined_last me yielded note all);
     }

@@ -1,6 +1,7 @@
-use Rattle.std.proofs.Common.{◌≡◌, ℕ}
+use Rattle.std.proofs.Common.{◌≡◌, ◌++◌, ℕ, List}
 use Rattle.std.specs.List.{All}
 use Rattle.mega_cluster.specs.declared.cluster.Cluster.{Cluster}
+use Rattle.mega_transcript.specs.declared.item.Item.{Item}
 use Rattle.mega_transcript.specs.Lines.{HasLine}
 use Rattle.mega_transcript.specs.Tape.{newest}
 use Rattle.mega_rules.specs.Operations.{Node as RuleNode}
@@ -14,8 +15,8 @@ abbrev pub invariant-loop-note : goal.invariant-loop-note
 invariant-loop-note l =
     record {
       tape :
-          (c : Cluster) (ruled : ℕ → RuleNode) → AreMembers c l.places ruled → KnowsLeases l.initial.safety ruled (newest l.initial.tape.items)
-          → newest l.tape.items ≡ with_items c ruled (newest l.initial.tape.items) (notes_shown l.me l.yielded);
-      leases : (c : Cluster) (ruled : ℕ → RuleNode) → AreMembers c l.places ruled → KnowsLeases l.initial.safety ruled (newest l.initial.tape.items) → KnowsLeases l.safety ruled (newest l.tape.items);
+          (c : Cluster) (ruled : ℕ → RuleNode) (earlier : List Item) → AreMembers c l.places ruled → KnowsLeases l.initial.safety ruled (newest (earlier ++ l.initial.tape.items))
+          → newest (earlier ++ l.tape.items) ≡ with_items c ruled (newest (earlier ++ l.initial.tape.items)) (notes_shown l.me l.yielded);
+      leases : (c : Cluster) (ruled : ℕ → RuleNode) (earlier : List Item) → AreMembers c l.places ruled → KnowsLeases l.initial.safety ruled (newest (earlier ++ l.initial.tape.items)) → KnowsLeases l.safety ruled (newest (earlier ++ l.tape.items));
       lines : All HasLine l.initial.tape.items → All HasLine (notes_shown l.me l.yielded) → All HasLine l.tape.items;
     }

@@ -1,23 +1,38 @@
-use Rattle.std.proofs.lemmas.Result.{on_ok_weaker}
+use Rattle.std.proofs.Common.{◌≡◌, ◌++◌, [], List, ap, subst, sym}
+use Rattle.std.specs.List.{All}
+use Rattle.std.proofs.lemmas.List.Elements.{All-nil}
+use Rattle.mega_transcript.specs.declared.item.Item.{Item}
+use Rattle.mega_transcript.specs.Lines.{HasLine}
+use Rattle.mega_transcript.specs.Tape.{newest}
+use Rattle.mega_promises.specs.Runs.{after_event, by_fuse}
+use Rattle.mega_world.specs.Stands.{StandsWith}
+use Rattle.mega_world.proofs.Behind.{added_is, at_is, none_in_hand}
 use Rattle.mega_world.proofs.world.World.apply.Goals as goal
 
-pub deliver-requires : goal.deliver-requires
-deliver-requires g c = record { known = rw c.in-Deliver.is at c.requires.known }
+pub happen-requires : goal.happen-requires
+happen-requires g c =
+    let k = c.requires.known in
+    record {
+      known = record {
+        cluster = k.cluster;
+        handlers = k.handlers;
+        earlier = k.earlier;
+        now = k.now;
+        at = subst (λ (hand : List Item). StandsWith k.cluster c.args.self.now (k.earlier ++ hand) k.now) (sym c.new.ensures) k.at;
+        sound = k.sound;
+      };
+    }
 
-pub start-requires : goal.start-requires
-start-requires g c = record { known = (_, rw c.in-Start.is at c.requires.known) }
+pub returns-in-Ok-clause-state : goal.returns-in-Ok-clause-state
+returns-in-Ok-clause-state g c cluster h now r sound =
+    at_is cluster c.happen.new.self (newest now.tape ++ c.happen.new.tape.items) (after_event cluster h by_fuse now c.args.event)
+    (c.in-Ok.ensures.state cluster h (newest now.tape) now (none_in_hand cluster c.args.self.now c.new.result now c.new.ensures r) sound)
 
-pub returns-in-Begin-clause-refused : goal.returns-in-Begin-clause-refused
-returns-in-Begin-clause-refused g c = rw c.in-Begin.is c.begin.ensures.refused
+pub returns-in-Ok-clause-tape : goal.returns-in-Ok-clause-tape
+returns-in-Ok-clause-tape g c cluster h now r sound =
+    added_is now.tape c.happen.new.tape.items (after_event cluster h by_fuse now c.args.event).tape
+    (c.in-Ok.ensures.state cluster h (newest now.tape) now (none_in_hand cluster c.args.self.now c.new.result now c.new.ensures r) sound).tape
 
-pub returns-in-Drop-clause-state : goal.returns-in-Drop-clause-state
-returns-in-Drop-clause-state g c = rw c.in-Drop.is (on_ok_weaker c.drop_message.result (λ state cluster h now r sound. state cluster h now r) c.drop_message.ensures.state)
-
-pub returns-in-Tick-clause-refused : goal.returns-in-Tick-clause-refused
-returns-in-Tick-clause-refused g c = rw c.in-Tick.is c.tick.ensures.refused
-
-pub returns-in-Crash-clause-state : goal.returns-in-Crash-clause-state
-returns-in-Crash-clause-state g c = rw c.in-Crash.is (on_ok_weaker c.crash.result (λ state cluster h now r sound. state cluster h now r) c.crash.ensures.state)
-
-pub returns-in-Fuse-clause-state : goal.returns-in-Fuse-clause-state
-returns-in-Fuse-clause-state g c = rw c.in-Fuse.is (on_ok_weaker c.fuse.result (λ state cluster h now r sound. state cluster h c.args.tape.now.items now r) c.fuse.ensures.state)
+pub returns-in-Ok-clause-lines : goal.returns-in-Ok-clause-lines
+returns-in-Ok-clause-lines g c cluster h now r sound =
+    c.in-Ok.ensures.lines cluster h (newest now.tape) now (none_in_hand cluster c.args.self.now c.new.result now c.new.ensures r) sound (subst (All HasLine) (sym c.new.ensures) (All-nil HasLine))

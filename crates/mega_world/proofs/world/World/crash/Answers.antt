@@ -4,8 +4,8 @@ use Rattle.mega_world.specs.Members.{AreMembers}
 use Rattle.mega_world.proofs.world.World.crash.Goals as goal
 
 pub returns-in-Some-clause-refused : goal.returns-in-Some-clause-refused
-returns-in-Some-clause-refused c why is cluster now r =
+returns-in-Some-clause-refused c why is cluster items now r =
     let same : c.in-Some.why ≡ why = cc in sym (c.in-Some.ensures.value cluster now (subst (λ (ps : List Place). AreMembers cluster ps now.node) (sym c.as_slice.ensures.value) r.nodes.members)) ∙ ap Some same
 
 pub returns-in_ok-crashes-in-None-clause-happens : goal.returns-in_ok-crashes-in-None-clause-happens
-returns-in_ok-crashes-in-None-clause-happens c cluster now r = sym (c.in-None.ensures.value cluster now (subst (λ (ps : List Place). AreMembers cluster ps now.node) (sym c.as_slice.ensures.value) r.nodes.members))
+returns-in_ok-crashes-in-None-clause-happens c cluster items now r = sym (c.in-None.ensures.value cluster now (subst (λ (ps : List Place). AreMembers cluster ps now.node) (sym c.as_slice.ensures.value) r.nodes.members))

@@ -4,7 +4,7 @@ use Rattle.mega_world.specs.Members.{is_up_at}
 use Rattle.mega_world.proofs.world.World.deliver.Goals as goal
 
 pub returns-in-Some-clause-refused : goal.returns-in-Some-clause-refused
-returns-in-Some-clause-refused g c why is cluster now r =
+returns-in-Some-clause-refused g c why is cluster items now r =
     let same : c.in-Some.why ≡ why = cc in
     sym (c.in-Some.ensures cluster now r.mail (λ me. r.nodes.members.up_are me ∙ ap (λ (ps : List Place). is_up_at ps me) (sym c.as_slice.ensures.value))) ∙ ap Some same
 
@@ -14,7 +14,7 @@ anyway (Err e) P p = tt
 
 pub returns-in-None-clause-happens : goal.returns-in-None-clause-happens
 returns-in-None-clause-happens g c =
-    anyway c.hand.result _ (λ cluster now r. sym (c.in-None.ensures cluster now r.mail (λ me. r.nodes.members.up_are me ∙ ap (λ (ps : List Place). is_up_at ps me) (sym c.as_slice.ensures.value))))
+    anyway c.hand.result _ (λ cluster items now r. sym (c.in-None.ensures cluster now r.mail (λ me. r.nodes.members.up_are me ∙ ap (λ (ps : List Place). is_up_at ps me) (sym c.as_slice.ensures.value))))
 
 pub hand-requires : goal.hand-requires
 hand-requires g c =
@@ -23,6 +23,7 @@ hand-requires g c =
       known = record {
         cluster = k.cluster;
         handlers = k.handlers;
+        earlier = k.earlier;
         now = k.now;
         at = k.at;
         sound = k.sound allowed;

@@ -1,8 +1,9 @@
-use Rattle.std.proofs.Common.{◌≡◌, ◌∷◌, [], ◌∙◌, ◌≤◌, Err, List, ap, length, refl, subst, sym}
+use Rattle.std.proofs.Common.{◌≡◌, ◌∷◌, ◌++◌, [], ◌∙◌, ◌≤◌, Err, List, ap, length, refl, subst, sym}
 use Rattle.mega_rules.specs.Steps.{Take}
 use Rattle.mega_transcript.specs.declared.item.Item.TheVariants.{Taken}
 use Rattle.mega_world.specs.declared.place.Place.{Place}
 use Rattle.mega_world.specs.Members.{is_up_at}
+use Rattle.mega_world.proofs.Behind.{behind}
 use Rattle.mega_world.proofs.Due.{may_happen, take_fit, take_owns}
 use Rattle.mega_world.proofs.Fates.{handed_is}
 use Rattle.mega_world.proofs.Happening.{IsReady, came_at, came_lined, delivery_built, is_there, taken_own}
@@ -14,8 +15,8 @@ take_at-requires-clause-known g c =
     let message = c.in-Some.message.now in
     let number = c.args.number in
     let is = c.in-Some.ensures.found k.now k.at.mail in
-    let there = is_there k.cluster c.args.self.now c.args.tape.now.items k.now message.to k.at c.in-Some.ensures.least (subst (λ (ps : List Place). message.to ≤ length ps) c.as_slice.ensures.value c.in-Some.ensures.most) in
-    let fit = take_fit k.cluster k.handlers c.args.self.now c.args.tape.now.items k.now number message k.at k.sound is there in record {
+    let there = is_there k.cluster c.args.self.now (k.earlier ++ c.args.tape.now.items) k.now message.to k.at c.in-Some.ensures.least (subst (λ (ps : List Place). message.to ≤ length ps) c.as_slice.ensures.value c.in-Some.ensures.most) in
+    let fit = take_fit k.cluster k.handlers c.args.self.now (k.earlier ++ c.args.tape.now.items) k.now number message k.at k.sound is there in record {
       cluster = k.cluster;
       handlers = k.handlers;
       now = k.now;
@@ -25,34 +26,34 @@ take_at-requires-clause-known g c =
     }
 
 pub returns-clause-state : goal.returns-clause-state
-returns-clause-state g c cluster h now r sound =
+returns-clause-state g c cluster h earlier now r sound =
     let message = c.in-Some.message.now in
     let number = c.args.number in
     let old = c.args.self.now in
-    let items = c.args.tape.now.items in
+    let items = earlier ++ c.args.tape.now.items in
     let is = c.in-Some.ensures.found now r.mail in
     let there = is_there cluster old items now message.to r c.in-Some.ensures.least (subst (λ (ps : List Place). message.to ≤ length ps) c.as_slice.ensures.value c.in-Some.ensures.most) in
     let fit = take_fit cluster h old items now number message r sound is there in
     let comes = c.in-Ok.ensures.made cluster h now r.nodes (may_happen cluster h now message.to (Take message) fit (take_owns cluster h now number message sound is) sound.means) in
     let mid = record old { places = c.take_at.new.places; mail = c.take.new.self } in
-    let ready : IsReady now (Taken number ∷ []) old mid items c.push.new.self = record {
-      added = c.in_ok-push.ensures.ok;
+    let ready : IsReady now (Taken number ∷ []) old mid items (earlier ++ c.push.new.self) = record {
+      added = behind earlier c.args.tape.now.items (Taken number ∷ []) c.push.new.self c.in_ok-push.ensures.ok;
       cluster = refl;
       carries = c.take.ensures now.tape r.mail (c.in-Some.ensures.sent now r.mail);
       safety = refl;
     } in
-    handed_is cluster h now number message c.show_step.new.self c.show_step.new.tape.items is
-    (came_at cluster h now message.to (Taken number ∷ []) (Take message) old mid c.show_step.new.self items c.push.new.self c.show_step.new.tape.items c.in-Ok.made r (taken_own cluster number) fit comes ready (c.in_ok-show_step.ensures.shown cluster))
+    handed_is cluster h now number message c.show_step.new.self (earlier ++ c.show_step.new.tape.items) is
+    (came_at cluster h now message.to (Taken number ∷ []) (Take message) old mid c.show_step.new.self items (earlier ++ c.push.new.self) (earlier ++ c.show_step.new.tape.items) c.in-Ok.made r (taken_own cluster number) fit comes ready (c.in_ok-show_step.ensures.shown cluster earlier))
 
 pub returns-clause-lines : goal.returns-clause-lines
-returns-clause-lines g c cluster h now r sound =
+returns-clause-lines g c cluster h earlier now r sound =
     let message = c.in-Some.message.now in
     let number = c.args.number in
     let old = c.args.self.now in
     let items = c.args.tape.now.items in
     let is = c.in-Some.ensures.found now r.mail in
-    let there = is_there cluster old items now message.to r c.in-Some.ensures.least (subst (λ (ps : List Place). message.to ≤ length ps) c.as_slice.ensures.value c.in-Some.ensures.most) in
-    let fit = take_fit cluster h old items now number message r sound is there in
+    let there = is_there cluster old (earlier ++ items) now message.to r c.in-Some.ensures.least (subst (λ (ps : List Place). message.to ≤ length ps) c.as_slice.ensures.value c.in-Some.ensures.most) in
+    let fit = take_fit cluster h old (earlier ++ items) now number message r sound is there in
     let comes = c.in-Ok.ensures.made cluster h now r.nodes (may_happen cluster h now message.to (Take message) fit (take_owns cluster h now number message sound is) sound.means) in
     let mid = record old { places = c.take_at.new.places; mail = c.take.new.self } in
     let ready : IsReady now (Taken number ∷ []) old mid items c.push.new.self = record {

@@ -1,4 +1,4 @@
-use Rattle.std.proofs.Common.{List, refl, subst, sym}
+use Rattle.std.proofs.Common.{List, [], ◌∷◌, ◌++◌, refl, subst, sym}
 use Rattle.std.specs.List.{All}
 use Rattle.std.proofs.lemmas.List.Elements.{All-push}
 use Rattle.mega_transcript.specs.declared.item.Item.TheVariants.{Start}
@@ -6,18 +6,20 @@ use Rattle.mega_transcript.specs.Lines.{HasLine}
 use Rattle.mega_promises.specs.Items.{number}
 use Rattle.mega_world.specs.declared.place.Place.{Place}
 use Rattle.mega_world.specs.Members.{AreMembers}
+use Rattle.mega_world.proofs.Behind.{behind}
 use Rattle.mega_world.proofs.Showed.{owing_behind, start_shown}
 use Rattle.mega_world.proofs.world.World.show_start.Goals as goal
 
 pub returns-clause-shown : goal.returns-clause-shown
-returns-clause-shown c cluster was ruled owing =
+returns-clause-shown c cluster was ruled earlier owing =
     let old = c.args.self.now in
-    let items = c.args.tape.now.items in
-    let shows = c.in_ok-show_owed.ensures.shown cluster was ruled (owing_behind cluster old c.args.me c.args.opening.start _ was ruled items c.push.new.self c.in_ok-push.ensures.ok owing) in
+    let items = earlier ++ c.args.tape.now.items in
+    let begun = behind earlier c.args.tape.now.items (Start (number c.args.me) c.args.opening.start ∷ []) c.push.new.self c.in_ok-push.ensures.ok in
+    let shows = c.in_ok-show_owed.ensures.shown cluster was ruled earlier (owing_behind cluster old c.args.me c.args.opening.start _ was ruled items (earlier ++ c.push.new.self) begun owing) in
     let mid = c.show_owed.new.self in
     let up = subst (λ (ps : List Place). AreMembers cluster ps ruled) (sym c.as_slice.ensures.value) (subst (λ ps. AreMembers cluster ps.items ruled) (sym shows.places) owing.nodes) in
-    start_shown cluster old mid (record mid { safety = c.put_all.new.safety }) c.args.me c.args.opening ruled items c.push.new.self c.show_owed.new.tape.items c.put_all.new.tape.items c.in_ok-push.ensures.ok shows refl refl refl
-    (c.in_ok-put_all.ensures.tape cluster ruled up shows.leases) (c.in_ok-put_all.ensures.leases cluster ruled up shows.leases)
+    start_shown cluster old mid (record mid { safety = c.put_all.new.safety }) c.args.me c.args.opening ruled items (earlier ++ c.push.new.self) (earlier ++ c.show_owed.new.tape.items) (earlier ++ c.put_all.new.tape.items) begun shows refl refl refl
+    (c.in_ok-put_all.ensures.tape cluster ruled earlier up shows.leases) (c.in_ok-put_all.ensures.leases cluster ruled earlier up shows.leases)
 
 pub returns-clause-lines : goal.returns-clause-lines
 returns-clause-lines c lined owed notes =

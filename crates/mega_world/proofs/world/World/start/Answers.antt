@@ -6,4 +6,4 @@ use Rattle.mega_world.proofs.world.World.start.Goals as goal
 pub starts-requires-clause-known : goal.starts-requires-clause-known
 starts-requires-clause-known c =
     let k = c.requires.known.1 in
-    (c.requires.known.0, record { cluster = k.cluster; handlers = k.handlers; now = k.now; at = k.at; sound = k.sound (sym (c.in-None.ensures.value k.cluster k.now (subst (λ (ps : List Place). AreMembers k.cluster ps k.now.node) (sym c.as_slice.ensures.value) k.at.nodes.members))) })
+    (c.requires.known.0, record { cluster = k.cluster; handlers = k.handlers; earlier = k.earlier; now = k.now; at = k.at; sound = k.sound (sym (c.in-None.ensures.value k.cluster k.now (subst (λ (ps : List Place). AreMembers k.cluster ps k.now.node) (sym c.as_slice.ensures.value) k.at.nodes.members))) })
