@@ -17,11 +17,12 @@ use Rattle.mega_wal.specs.Same.{same_op}
 use Rattle.mega_core.specs.declared.node.Node.{Node}
 use Rattle.mega_durable.specs.Standing.{IsPlacedAt, IsUp, records_in}
 
--- a node that is up as this node of the rules, over rows that tell what they hold and handlers that make this of messages
-pub record IsServed {R V : Type 0} (store : Ghosts R) (rows : VersionGhosts V) (makes : List ℕ → Option Meaning) (h : Meanings) (one : Node R V) (node : RuleNode) : Type 0 where
+-- a node of this number that is up as this node of the rules, over rows that tell what they hold and handlers that make this of messages
+pub record IsServed {R V : Type 0} (store : Ghosts R) (rows : VersionGhosts V) (makes : List ℕ → Option Meaning) (h : Meanings) (one : Node R V) (number : ℕ) (node : RuleNode) : Type 0 where
   pub up : IsUp store rows.version h one node
   pub means : Means makes h
   pub told : rows.is_told ≡ true
+  pub numbered : one.replica.me ≡ number
 
 -- an event may happen: each group's rows are its own then, a decision that it brings is at a position from 1 on, and what is to be kept of the
 -- step has a text

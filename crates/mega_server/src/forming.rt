@@ -38,7 +38,7 @@ fn are_messages(messages: &[Message]) -> bool
 }
 
 /// The items that show what a node notes, where each has a line.
-pub(crate) fn items_of(alloc: Global, me: u8, notes: Items<Note>) -> Result<Items<Item>, NodeFault>
+pub fn items_of(alloc: Global, me: u8, notes: Items<Note>) -> Result<Items<Item>, NodeFault>
     ensures shown { IfOk result (λ items. items ≡ notes_shown me notes) }
     ensures lines { IfOk result (λ items. All HasLine items) }
     ensures failed { result ≢ Err NodeFault.DiskFault }

@@ -3,6 +3,9 @@
 
 mod faults;
 mod forming;
+mod number;
 mod server;
 
+pub use forming::items_of;
+pub use number::Number;
 pub use server::Server;

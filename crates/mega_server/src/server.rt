@@ -16,6 +16,7 @@ ghost use Rattle.mega_serve.specs.Stepping.{event_of};
 
 use crate::faults::fault_of;
 use crate::forming::formed;
+use crate::number::Number;
 use mega_base::{NodeId, OpId};
 use mega_core::Step;
 use mega_disk::{Records, Versions};
@@ -27,12 +28,12 @@ use mega_schema::Schema;
 use mega_serve::{Event, Made, NodeFault, Steps};
 use std::alloc::Global;
 
-/// A node that is up, numbered from 1 to 9, with the handlers of its queues.
+/// A node that is up, with the handlers of its queues and its number.
 #[derive(Drop)]
 pub struct Server<R: Records, V: Versions, H: QueueHandlers> {
     pub up: Up<R, V>,
     pub handlers: H,
-    ghost numbered: { (1 ≤ up.node.replica.me) × (up.node.replica.me ≤ 9) },
+    pub number: Number,
 }
 
 /// Whether an operation is open.
@@ -52,6 +53,7 @@ impl<R: Records, V: Versions, H: QueueHandlers> Server<R, V, H> {
         ensures went { LogWent R.Records (log_failed_by result) (records_in self.old.up.node) (records_in self.new.up.node) }
         ensures fares { Fares V.Versions (failed_by result) self.old.up.node.replica.rows.rows self.new.up.node.replica.rows.rows }
         ensures members { self.new.up.node.replica.members ≡ self.old.up.node.replica.members }
+        ensures number { self.new.number ≡ self.old.number }
         ensures me { self.new.up.node.replica.me ≡ self.old.up.node.replica.me }
     {
         match event {
@@ -68,11 +70,11 @@ impl<R: Records, V: Versions, H: QueueHandlers> Steps for Server<R, V, H> {
     ghost use Rattle.std.proofs.Common.{ap, sym};
     ghost use Rattle.mega_server.specs.Serving.{IsServed, MayStep, devices_of, opens_at};
 
-    ghost is_at = { λ s h node journal. IsServed R.Records V.Versions (H.meant s.handlers) h s.up.node node };
+    ghost is_at = { λ s h node journal. IsServed R.Records V.Versions (H.meant s.handlers) h s.up.node s.number.of node };
 
     ghost members = { λ s. s.up.node.replica.members };
 
-    ghost me = { λ s. s.up.node.replica.me };
+    ghost me = { λ s. s.number.of };
 
     ghost devices = { λ s. devices_of R.Records V.Versions s.up.node };
 
@@ -87,7 +89,7 @@ impl<R: Records, V: Versions, H: QueueHandlers> Steps for Server<R, V, H> {
     }
 
     fn number(&self) -> u8 {
-        self.up.node.replica.me
+        self.number.get()
     }
 
     fn next_op(&self) -> OpId {
@@ -99,9 +101,12 @@ impl<R: Records, V: Versions, H: QueueHandlers> Steps for Server<R, V, H> {
     }
 
     fn step(&mut self, alloc: Global, event: Event) -> Result<Made, NodeFault> {
-        let me = self.up.node.replica.me;
+        let me = self.number.get();
         match self.steps(alloc, event) {
-            Ok(step) => formed(alloc, me, step),
+            Ok(step) => match formed(alloc, me, step) {
+                Ok(made) => Ok(made),
+                Err(fault) => Err(fault),
+            },
             Err(fault) => Err(fault_of(fault)),
         }
     }
