@@ -59,8 +59,8 @@ fault_of-requires-clause-own g c =
     (λ is. c.in-Err-Step.ensures.stranger (ap Err (c.in-Err-Step.field-0-is ∙ ap Failed is)))
     (λ is. c.in-Err-Step.ensures.late (ap Err (c.in-Err-Step.field-0-is ∙ ap Failed is)))
 
-pub prove-unreachable-requires : goal.prove-unreachable-requires
-prove-unreachable-requires g c =
+pub unreachable-requires : goal.unreachable-requires
+unreachable-requires g c =
     let k = c.requires.known in
     let here = is_here k.cluster k.handlers k.me c.args.self.now k.ruled k.is in
     let may = subst (λ (s : Setting). MayHappen (g.H.QueueHandlers.meant c.args.handlers.now) s k.ruled (Begin c.args.request c.args.text.now)) (own_setting k.cluster k.handlers k.me c.args.self.now k.ruled k.is) k.may in
