@@ -33,6 +33,7 @@ fn words_of(rt: &HostRuntime, is_summary: bool) -> io::Result<Vec<Text>> {
 }
 
 /// Replays one schedule, and compares what is written with the file that has this ending.
+#[tactic(auto, using(mega_meanings::proofs::Lasting::built_in_means))]
 fn tried(rt: &HostRuntime, name: &str, words: &[Text], ending: &str) -> io::Result<Trial> {
     let alloc = rt.alloc();
     let schedule = fs::read(rt, format!(in alloc; "{name}.in")?)?;

@@ -17,6 +17,7 @@ fn arguments(rt: &HostRuntime) -> io::Result<Vec<Text>> {
     Ok(words)
 }
 
+#[tactic(auto, using(mega_meanings::proofs::Lasting::built_in_means))]
 fn main(rt: HostRuntime) -> ExitCode {
     let mut input = StdSource::new(rt.reader());
     let mut out = StdSink::new(io::writer(&rt));
