@@ -20,7 +20,7 @@ use crate::writing::write_on;
 use mega_base::{Bytes, Text};
 use mega_gen::generate;
 use mega_io::{Sink, SinkError, Source, put};
-use mega_meanings::QueueHandlers;
+use mega_meanings::{BuiltIn, QueueHandlers};
 use mega_words::{Command, Report, command_of};
 use std::alloc::Global;
 
@@ -28,20 +28,13 @@ use std::alloc::Global;
 const USAGE: &str =
     "usage: megastore replay [--summary] | gen --seed S --count N --nodes K | node --number K --turns T\n";
 
-/// Runs the program on its words, with handlers that mean what those that the store brings mean, and gives the status with which it ends: 0 where the input was read
+/// Runs the program on its words, with the handlers that the store brings, and gives the status with which it ends: 0 where the input was read
 /// to its end and every line was an event that happened, or where all lines were drawn; 2 where the words are no form; 3 where the
 /// header breaks a rule; 4 where a line is no event, or its event is refused; 5 and 6 where the source
 /// or the sink failed; 8 for want of memory and 10 where a line starts a node that started 4,294,967,295 times. A transcript grows with the lines that are done, a summary comes behind the last one. With 0 all of the report was written; with
 /// 3, 4 and 10 what there was of it before, and then the last line, which 10 has not; with 5 what there is of it after exactly the lines that
 /// the bytes before the fault spell, where the sink took it; with 6 and 8 a front of such a text.
-pub fn run<I: Source, O: Sink, H: QueueHandlers>(
-    alloc: Global,
-    words: &[Text],
-    handlers: &mut H,
-    input: &mut I,
-    out: &mut O,
-) -> u8
-    requires meant { Means (H.meant handlers.old) built_in }
+pub fn run<I: Source, O: Sink>(alloc: Global, words: &[Text], input: &mut I, out: &mut O) -> u8
     ensures unformed { result ≡ 2 → command_of words.now ≡ None }
     ensures no_form { command_of words.now ≡ None → (result ≡ 2) ⊎ (result ≡ 8) }
     ensures used { result ≡ 2 → Appends (O.held out.old) (O.held out.new) usage_line ⊎ Rose (O.faults out.old) (O.faults out.new) }
@@ -65,7 +58,7 @@ pub fn run<I: Source, O: Sink, H: QueueHandlers>(
     match command_of(words) {
         None => tell_usage(out),
         Some(Command::Gen { seed, count, nodes }) => draw(alloc, seed, count, nodes, out),
-        Some(Command::Replay { report }) => replay_all(alloc, report, handlers, input, out),
+        Some(Command::Replay { report }) => replay_all(alloc, report, input, out),
     }
 }
 
@@ -86,15 +79,9 @@ fn draw<O: Sink>(alloc: Global, seed: u64, count: u64, nodes: u8, out: &mut O) -
     }
 }
 
-/// Replays the input, and gives the status with which the program then ends.
-fn replay_all<I: Source, O: Sink, H: QueueHandlers>(
-    alloc: Global,
-    report: Report,
-    handlers: &mut H,
-    input: &mut I,
-    out: &mut O,
-) -> u8
-    requires { Means (H.meant handlers.old) built_in }
+/// Replays the input with the handlers that the store brings, and gives the status with which the program then ends.
+#[tactic(auto, using(mega_meanings::proofs::Lasting::built_in_means))]
+fn replay_all<I: Source, O: Sink>(alloc: Global, report: Report, input: &mut I, out: &mut O) -> u8
     ensures done { result ≡ 0 → InputDone report (I.left input.old) (Appends (O.held out.old) (O.held out.new)) }
     ensures end { result ≡ 0 → IsAtEnd (I.left input.new) }
     ensures header { result ≡ 3 → (rule : ℕ) × InputBroken (I.left input.old) rule (λ text. Appends (O.held out.old) (O.held out.new) (text ++ header_line rule)) }
@@ -108,7 +95,8 @@ fn replay_all<I: Source, O: Sink, H: QueueHandlers>(
     ensures inputs { I.faults input.old ≤ I.faults input.new }
     ensures outs { O.faults out.old ≤ O.faults out.new }
 {
-    match transcribe(alloc, report, handlers, input, out) {
+    let mut handlers = BuiltIn::new();
+    match transcribe(alloc, report, &mut handlers, input, out) {
         Ok(()) => 0,
         Err(stop) => stop.status(),
     }

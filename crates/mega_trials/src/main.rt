@@ -3,7 +3,6 @@
 
 use mega_base::Text;
 use mega_io::{MemSink, MemSource};
-use mega_meanings::BuiltIn;
 use mega_replay::run;
 use std::{fs, io};
 
@@ -33,15 +32,13 @@ fn words_of(rt: &HostRuntime, is_summary: bool) -> io::Result<Vec<Text>> {
 }
 
 /// Replays one schedule, and compares what is written with the file that has this ending.
-#[tactic(auto, using(mega_meanings::proofs::Lasting::built_in_means))]
 fn tried(rt: &HostRuntime, name: &str, words: &[Text], ending: &str) -> io::Result<Trial> {
     let alloc = rt.alloc();
     let schedule = fs::read(rt, format!(in alloc; "{name}.in")?)?;
     let wanted = fs::read(rt, format!(in alloc; "{name}.{ending}")?)?;
     let mut input = MemSource::new(schedule, Vec::new(alloc));
     let mut out = MemSink::new(alloc, Vec::new(alloc));
-    let mut handlers = BuiltIn::new();
-    let status = run(alloc, words, &mut handlers, &mut input, &mut out);
+    let status = run(alloc, words, &mut input, &mut out);
     Ok(Trial {
         status,
         is_same: out.bytes() == wanted.as_slice(),

@@ -2,28 +2,19 @@
 use Rattle.std.specs.Prelude.{ℕ, ◌≤◌, nat_eq, if◌then◌else◌, codes, List, [], ◌∷◌, Option, Some, None}
 use Rattle.std.specs.Cmp.Lexicographic.{pointwise}
 use Rattle.mega_words.specs.declared.command.Command.{Command}
-use Rattle.mega_words.specs.declared.command.Command.TheVariants.{Replay, Gen, Node}
+use Rattle.mega_words.specs.declared.command.Command.TheVariants.{Replay, Gen}
 use Rattle.mega_words.specs.declared.command.Report.TheVariants.{Transcript, Summary}
 use Rattle.mega_words.specs.declared.option.Options.{Options}
 use Rattle.mega_words.specs.Options.{none_yet, read_on}
 
--- all options of `gen` came, and no other
-abbrev pub with_drawn : Option ℕ → Option ℕ → Option ℕ → Option ℕ → Option ℕ → Option Command
-with_drawn (Some seed) (Some count) (Some nodes) None None = Some (Gen seed count nodes)
-with_drawn _ _ _ _ _ = None
+-- all options of `gen` came
+abbrev pub with_all : Option ℕ → Option ℕ → Option ℕ → Option Command
+with_all (Some seed) (Some count) (Some nodes) = Some (Gen seed count nodes)
+with_all _ _ _ = None
 
-abbrev pub drawn : Option Options → Option Command
-drawn None = None
-drawn (Some found) = with_drawn found.seed found.count found.nodes found.number found.turns
-
--- all options of `node` came, and no other
-abbrev pub with_served : Option ℕ → Option ℕ → Option ℕ → Option ℕ → Option ℕ → Option Command
-with_served None None None (Some number) (Some turns) = Some (Node number turns)
-with_served _ _ _ _ _ = None
-
-abbrev pub served : Option Options → Option Command
-served None = None
-served (Some found) = with_served found.seed found.count found.nodes found.number found.turns
+abbrev pub all_options : Option Options → Option Command
+all_options None = None
+all_options (Some found) = with_all found.seed found.count found.nodes
 
 -- behind `replay` stands nothing, or `--summary` once
 abbrev pub replay_with : List (List ℕ) → Option Command
@@ -36,12 +27,10 @@ abbrev pub command_of : List (List ℕ) → Option Command
 command_of [] = None
 command_of (word ∷ words) =
     if pointwise nat_eq word (codes "replay") then replay_with words
-    else if pointwise nat_eq word (codes "gen") then drawn (read_on None none_yet words)
-    else if pointwise nat_eq word (codes "node") then served (read_on None none_yet words)
+    else if pointwise nat_eq word (codes "gen") then all_options (read_on None none_yet words)
     else None
 
--- a cluster may have as many nodes as are asked for, and a node of the number that is asked for
+-- a cluster may have as many nodes as are asked for
 abbrev pub AsksForNodes : Option Command → Type 0
 AsksForNodes (Some (Gen seed count nodes)) = (1 ≤ nodes) × (nodes ≤ 9)
-AsksForNodes (Some (Node number turns)) = (1 ≤ number) × (number ≤ 9)
 AsksForNodes _ = Unit {0}

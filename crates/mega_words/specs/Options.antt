@@ -1,30 +1,24 @@
--- The options of `gen` and `node`, as words.
+-- The options of `gen`, as words.
 use Rattle.std.specs.Prelude.{ℕ, ◌≤◌, IfSome, ◌==◌, ◌||◌, Bool, nat_eq, if◌then◌else◌, codes, List, [], ◌∷◌, Option, Some, None, is_some, option_map, option_and_then}
 use Rattle.std.specs.Cmp.Lexicographic.{pointwise}
 use Rattle.mega_words.specs.declared.option.Name.{Name}
-use Rattle.mega_words.specs.declared.option.Name.TheVariants.{Seed, Count, Nodes, Number, Turns}
+use Rattle.mega_words.specs.declared.option.Name.TheVariants.{Seed, Count, Nodes}
 use Rattle.mega_words.specs.declared.option.Options.{Options}
 use Rattle.mega_words.specs.Numbers.{number_in}
 
 -- no option yet
 abbrev pub none_yet : Options
-none_yet = record { seed = None; count = None; nodes = None; number = None; turns = None }
+none_yet = record { seed = None; count = None; nodes = None }
 
 -- a number of nodes that a cluster may have
 abbrev pub AreNodes : Option ℕ → Type 0
 AreNodes nodes = IfSome nodes (λ n. (1 ≤ n) × (n ≤ 9))
-
--- the numbers of nodes are such
-abbrev pub AreInRange : Options → Type 0
-AreInRange found = AreNodes found.nodes × AreNodes found.number
 
 -- how an option is written
 abbrev pub text_of : Name → List ℕ
 text_of Seed = codes "--seed"
 text_of Count = codes "--count"
 text_of Nodes = codes "--nodes"
-text_of Number = codes "--number"
-text_of Turns = codes "--turns"
 
 -- what stands in a word behind a name and `=`
 abbrev pub behind : List ℕ → List ℕ → Option (List ℕ)
@@ -42,8 +36,6 @@ name_of word =
     if is_named (text_of Seed) word then Some Seed
     else if is_named (text_of Count) word then Some Count
     else if is_named (text_of Nodes) word then Some Nodes
-    else if is_named (text_of Number) word then Some Number
-    else if is_named (text_of Turns) word then Some Turns
     else None
 
 abbrev pub first_time : Option ℕ → Option ℕ → Option ℕ
@@ -55,8 +47,6 @@ abbrev pub with_value : Options → Name → List ℕ → Option Options
 with_value found Seed value = option_map (λ seed. record found { seed = Some seed }) (first_time found.seed (number_in 0 18446744073709551615 value))
 with_value found Count value = option_map (λ count. record found { count = Some count }) (first_time found.count (number_in 1 1000000 value))
 with_value found Nodes value = option_map (λ nodes. record found { nodes = Some nodes }) (first_time found.nodes (number_in 1 9 value))
-with_value found Number value = option_map (λ number. record found { number = Some number }) (first_time found.number (number_in 1 9 value))
-with_value found Turns value = option_map (λ turns. record found { turns = Some turns }) (first_time found.turns (number_in 0 1000000000 value))
 
 -- a value behind `=` is taken at once, else the option waits for the next word
 abbrev pub valued : Option (List ℕ) → (List ℕ → Option Options) → Option Options → Option Options

@@ -1,8 +1,8 @@
 //! Which command the words of the program are.
 ghost use Rattle.std.specs.Prelude.{◌≡◌, IfSome, nat_eq};
 ghost use Rattle.std.specs.Cmp.Lexicographic.{pointwise};
-ghost use Rattle.mega_words.specs.Commands.{AsksForNodes, command_of, drawn, replay_with, served};
-ghost use Rattle.mega_words.specs.Options.{AreInRange};
+ghost use Rattle.mega_words.specs.Commands.{AsksForNodes, all_options, command_of, replay_with};
+ghost use Rattle.mega_words.specs.Options.{AreNodes};
 
 use crate::option::{Options, options_of};
 use mega_base::Text;
@@ -23,8 +23,6 @@ pub enum Command {
     Replay { report: Report },
     /// A header of so many full nodes, and so many lines drawn from the seed.
     Gen { seed: u64, count: u64, nodes: u8 },
-    /// So many turns of the node of this number.
-    Node { number: u8, turns: u64 },
 }
 
 /// Whether a word is this one.
@@ -34,10 +32,10 @@ fn is(word: &Text, name: &str) -> bool
     word.as_str() == name
 }
 
-/// The drawing of a schedule, with all of its options.
-fn drawn(found: Option<Options>) -> Option<Command>
-    requires { IfSome found AreInRange }
-    ensures value { result ≡ drawn found }
+/// The command with all of its options.
+fn all_options(found: Option<Options>) -> Option<Command>
+    requires { IfSome found (λ options. AreNodes options.nodes) }
+    ensures value { result ≡ all_options found }
     ensures nodes { AsksForNodes result }
 {
     match found {
@@ -46,30 +44,8 @@ fn drawn(found: Option<Options>) -> Option<Command>
                 seed: Some(seed),
                 count: Some(count),
                 nodes: Some(nodes),
-                number: None,
-                turns: None,
             },
         ) => Some(Command::Gen { seed, count, nodes }),
-        _ => None,
-    }
-}
-
-/// A node that is served, with all of its options.
-fn served(found: Option<Options>) -> Option<Command>
-    requires { IfSome found AreInRange }
-    ensures value { result ≡ served found }
-    ensures nodes { AsksForNodes result }
-{
-    match found {
-        Some(
-            Options {
-                seed: None,
-                count: None,
-                nodes: None,
-                number: Some(number),
-                turns: Some(turns),
-            },
-        ) => Some(Command::Node { number, turns }),
         _ => None,
     }
 }
@@ -96,7 +72,7 @@ fn replay_with(words: &[Text]) -> Option<Command>
     }
 }
 
-/// The command that words are a form of: `replay`, maybe with `--summary`, or `gen` or `node` with each of its options once.
+/// The command that words are a form of: `replay`, maybe with `--summary`, or `gen` with each of its options once.
 pub fn command_of(words: &[Text]) -> Option<Command>
     ensures value { result ≡ command_of words.now }
     ensures nodes { AsksForNodes result }
@@ -107,9 +83,7 @@ pub fn command_of(words: &[Text]) -> Option<Command>
             if is(word, "replay") {
                 replay_with(words)
             } else if is(word, "gen") {
-                drawn(options_of(words))
-            } else if is(word, "node") {
-                served(options_of(words))
+                all_options(options_of(words))
             } else {
                 None
             }

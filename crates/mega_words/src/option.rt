@@ -1,29 +1,25 @@
-//! The options of `gen` and `node`: each comes once, in any order, as `--x v` or `--x=v`.
+//! The options of `gen`: each comes once, in any order, as `--x v` or `--x=v`.
 ghost use Rattle.std.specs.Prelude.{◌≡◌, Some, None, IfSome, is_some, option_map};
 ghost use Rattle.mega_words.specs.Numbers.{number_in};
-ghost use Rattle.mega_words.specs.Options.{AreInRange, AreNodes, behind, first_time, is_named, name_of, none_yet, read_on, text_of, with_value};
+ghost use Rattle.mega_words.specs.Options.{AreNodes, behind, first_time, is_named, name_of, none_yet, read_on, text_of, with_value};
 
 use crate::number::number_in;
 use mega_base::Text;
 
-/// An option of `gen` or of `node`.
+/// An option of `gen`.
 #[derive(Clone, Copy, PartialEq, Debug, Drop)]
 pub enum Name {
     Seed,
     Count,
     Nodes,
-    Number,
-    Turns,
 }
 
-/// The options that came so far.
+/// The options of `gen` that came so far.
 #[derive(Clone, Copy, PartialEq, Debug, Drop)]
 pub struct Options {
     pub seed: Option<u64>,
     pub count: Option<u64>,
     pub nodes: Option<u8>,
-    pub number: Option<u8>,
-    pub turns: Option<u64>,
 }
 
 /// How an option is written.
@@ -34,8 +30,6 @@ fn text_of(name: Name) -> &'static [u8]
         Name::Seed => b"--seed",
         Name::Count => b"--count",
         Name::Nodes => b"--nodes",
-        Name::Number => b"--number",
-        Name::Turns => b"--turns",
     }
 }
 
@@ -76,10 +70,6 @@ fn name_of(word: &[u8]) -> Option<Name>
         Some(Name::Count)
     } else if is_named(text_of(Name::Nodes), word) {
         Some(Name::Nodes)
-    } else if is_named(text_of(Name::Number), word) {
-        Some(Name::Number)
-    } else if is_named(text_of(Name::Turns), word) {
-        Some(Name::Turns)
     } else {
         None
     }
@@ -111,41 +101,43 @@ fn first_nodes(before: Option<u8>, value: &[u8]) -> Option<u8>
 
 /// The options with one more, where it comes for the first time and its value is in its range.
 fn with_value(found: Options, name: Name, value: &[u8]) -> Option<Options>
-    requires { AreInRange found }
+    requires { AreNodes found.nodes }
     ensures value { result ≡ with_value found name value.now }
-    ensures range { IfSome result AreInRange }
+    ensures range { IfSome result (λ more. AreNodes more.nodes) }
 {
-    let mut found = found;
     match name {
         Name::Seed => match first_time(found.seed, number_in(0, u64::MAX, value)) {
-            Some(seed) => found.seed = Some(seed),
-            None => return None,
+            Some(seed) => Some(Options {
+                seed: Some(seed),
+                count: found.count,
+                nodes: found.nodes,
+            }),
+            None => None,
         },
         Name::Count => match first_time(found.count, number_in(1, 1_000_000, value)) {
-            Some(count) => found.count = Some(count),
-            None => return None,
+            Some(count) => Some(Options {
+                seed: found.seed,
+                count: Some(count),
+                nodes: found.nodes,
+            }),
+            None => None,
         },
         Name::Nodes => match first_nodes(found.nodes, value) {
-            Some(nodes) => found.nodes = Some(nodes),
-            None => return None,
-        },
-        Name::Number => match first_nodes(found.number, value) {
-            Some(number) => found.number = Some(number),
-            None => return None,
-        },
-        Name::Turns => match first_time(found.turns, number_in(0, 1_000_000_000, value)) {
-            Some(turns) => found.turns = Some(turns),
-            None => return None,
+            Some(nodes) => Some(Options {
+                seed: found.seed,
+                count: found.count,
+                nodes: Some(nodes),
+            }),
+            None => None,
         },
     }
-    Some(found)
 }
 
 /// The options after more words, where these are options with their values; the first one is the value of an option that waits.
 fn read_on(waits: Option<Name>, found: Options, words: &[Text]) -> Option<Options>
-    requires { AreInRange found }
+    requires { AreNodes found.nodes }
     ensures value { result ≡ read_on waits found words.now }
-    ensures range { IfSome result AreInRange }
+    ensures range { IfSome result (λ more. AreNodes more.nodes) }
 {
     match words {
         [] => match waits {
@@ -174,14 +166,12 @@ fn read_on(waits: Option<Name>, found: Options, words: &[Text]) -> Option<Option
 /// The options that words are, each at most once, where they are nothing else.
 pub fn options_of(words: &[Text]) -> Option<Options>
     ensures value { result ≡ read_on None none_yet words.now }
-    ensures range { IfSome result AreInRange }
+    ensures range { IfSome result (λ found. AreNodes found.nodes) }
 {
     let none = Options {
         seed: None,
         count: None,
         nodes: None,
-        number: None,
-        turns: None,
     };
     read_on(None, none, words)
 }

@@ -3,7 +3,6 @@
 
 use mega_base::Text;
 use mega_io::{StdSink, StdSource};
-use mega_meanings::BuiltIn;
 use mega_replay::run;
 use std::process::ExitCode;
 use std::{env, io};
@@ -17,7 +16,6 @@ fn arguments(rt: &HostRuntime) -> io::Result<Vec<Text>> {
     Ok(words)
 }
 
-#[tactic(auto, using(mega_meanings::proofs::Lasting::built_in_means))]
 fn main(rt: HostRuntime) -> ExitCode {
     let mut input = StdSource::new(rt.reader());
     let mut out = StdSink::new(io::writer(&rt));
@@ -25,13 +23,5 @@ fn main(rt: HostRuntime) -> ExitCode {
         Ok(words) => words,
         Err(_) => Vec::new(rt.alloc()),
     };
-    let mut handlers = BuiltIn::new();
-    let status = run(
-        rt.alloc(),
-        words.as_slice(),
-        &mut handlers,
-        &mut input,
-        &mut out,
-    );
-    ExitCode::from(status)
+    ExitCode::from(run(rt.alloc(), words.as_slice(), &mut input, &mut out))
 }
