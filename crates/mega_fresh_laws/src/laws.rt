@@ -1,0 +1,4 @@
+//! Laws of fresh reads, as contracts of functions that do nothing.
+
+/// Nothing yet.
+pub fn nothing() {}
