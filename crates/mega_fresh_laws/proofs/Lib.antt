@@ -3,3 +3,9 @@ pub mod Accepts
 pub mod Good
 pub mod Meant
 pub mod Through
+pub mod Acting
+pub mod Heeding
+pub mod Tops
+pub mod Steps
+pub mod Tails
+pub mod Nearby

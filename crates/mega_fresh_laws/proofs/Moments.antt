@@ -15,6 +15,7 @@ use Rattle.mega_outcome.specs.declared.request.Request.{Request}
 use Rattle.mega_outcome.specs.declared.request.Request.TheVariants.{Batch as BatchRequest, Find, PumpEnter, PumpHandle, Read as ReadRequested, Refresh, Txn}
 use Rattle.mega_transcript.specs.declared.item.Item.{Item}
 use Rattle.mega_transcript.specs.declared.item.Item.TheVariants.{Begin, Counts as CountsItem, Decide, Lapse as LapseItem, Sent, Unsafe}
+use Rattle.mega_wal.specs.Same.{same_op}
 use Rattle.mega_promises.specs.Items.{shown}
 use Rattle.mega_promises.specs.Messages.{is_unsafe}
 use Rattle.mega_promises.specs.Promises.{Stands, asked_for}
@@ -31,54 +32,63 @@ abbrev pub NoBegin : Item → Type 0
 NoBegin (Begin op text) = ⊥
 NoBegin _ = Unit {0}
 
--- what a longer tape keeps of another one
-pub record Onward (old new : List Item) : Type 0 where
+-- what a longer tape keeps of another one, for an operation
+pub record Onward (op : OpId) (old new : List Item) : Type 0 where
   pub stood : Stood old new
-  pub same : (op : OpId) → before_begin new op ≡ before_begin old op
+  pub same : before_begin new op ≡ before_begin old op
   pub safe : is_unsafe new ≡ false → is_unsafe old ≡ false
-  pub asked : (meaning : List ℕ → Option Request) (op : OpId) → asked_for meaning new op ≡ asked_for meaning old op
+  pub asked : (meaning : List ℕ → Option Request) → asked_for meaning new op ≡ asked_for meaning old op
 
-pub onward_same : (tape : List Item) → Onward tape tape
-onward_same tape = record { stood = λ item s. s; same = λ op. refl; safe = λ h. h; asked = λ meaning op. refl }
+pub onward_same : (op : OpId) (tape : List Item) → Onward op tape tape
+onward_same op tape = record { stood = λ item s. s; same = refl; safe = λ h. h; asked = λ meaning. refl }
 
-pub onward_then : (one two three : List Item) → Onward one two → Onward two three → Onward one three
-onward_then one two three a b = record {
+pub onward_then : (op : OpId) (one two three : List Item) → Onward op one two → Onward op two three → Onward op one three
+onward_then op one two three a b = record {
   stood = λ item s. b.stood item (a.stood item s);
-  same = λ op. b.same op ∙ a.same op;
+  same = b.same ∙ a.same;
   safe = λ h. a.safe (b.safe h);
-  asked = λ meaning op. b.asked meaning op ∙ a.asked meaning op;
+  asked = λ meaning. b.asked meaning ∙ a.asked meaning;
 }
 
-pub onward_item : (tape : List Item) (item : Item) → NoBegin item → Onward tape (item ∷ tape)
-onward_item tape item none = record { stood = λ x s. inr s; same = same_by item none; safe = safe_by item; asked = asked_by item none }
+pub onward_item : (op : OpId) (tape : List Item) (item : Item) → NoBegin item → Onward op tape (item ∷ tape)
+onward_item op tape item none = record { stood = λ x s. inr s; same = same_by item none; safe = safe_by item; asked = λ meaning. asked_by meaning item none }
   where
-    same_by : (x : Item) → NoBegin x → (op : OpId) → before_begin (x ∷ tape) op ≡ before_begin tape op
-    same_by (Begin began text) nothing op = absurd nothing
-    same_by _ nothing op = refl
+    same_by : (x : Item) → NoBegin x → before_begin (x ∷ tape) op ≡ before_begin tape op
+    same_by (Begin began text) nothing = absurd nothing
+    same_by _ nothing = refl
 
     safe_by : (x : Item) → is_unsafe (x ∷ tape) ≡ false → is_unsafe tape ≡ false
     safe_by Unsafe h = cc
     safe_by _ h = h
 
-    asked_by : (x : Item) → NoBegin x → (meaning : List ℕ → Option Request) (op : OpId) → asked_for meaning (x ∷ tape) op ≡ asked_for meaning tape op
-    asked_by (Begin began text) nothing meaning op = absurd nothing
-    asked_by _ nothing meaning op = refl
+    asked_by : (meaning : List ℕ → Option Request) (x : Item) → NoBegin x → asked_for meaning (x ∷ tape) op ≡ asked_for meaning tape op
+    asked_by meaning (Begin began text) nothing = absurd nothing
+    asked_by meaning _ nothing = refl
 
-module _ (c : Cluster) (nodes : ℕ → Node) where
-  onward_with : (tape : List Item) (item : Item) → NoBegin item → Onward tape (with_item c nodes tape item)
+-- another operation begins
+pub onward_begin : (op began : OpId) (text : List ℕ) (tape : List Item) → same_op began op ≡ false → Onward op tape (Begin began text ∷ tape)
+onward_begin op began text tape apart = record {
+  stood = λ x s. inr s;
+  same = ap (λ t. cond t tape (before_begin tape op)) apart;
+  safe = λ h. h;
+  asked = λ meaning. ap (λ t. cond t (meaning text) (asked_for meaning tape op)) apart;
+}
+
+module _ (op : OpId) (c : Cluster) (nodes : ℕ → Node) where
+  onward_with : (tape : List Item) (item : Item) → NoBegin item → Onward op tape (with_item c nodes tape item)
   onward_with tape item none = by (breaks c nodes item && not (is_unsafe tape))
     where
-      by : (t : Bool) → Onward tape (cond t (Unsafe ∷ item ∷ tape) (item ∷ tape))
-      by true = onward_then tape (item ∷ tape) (Unsafe ∷ item ∷ tape) (onward_item tape item none) (onward_item (item ∷ tape) Unsafe tt)
-      by false = onward_item tape item none
+      by : (t : Bool) → Onward op tape (cond t (Unsafe ∷ item ∷ tape) (item ∷ tape))
+      by true = onward_then op tape (item ∷ tape) (Unsafe ∷ item ∷ tape) (onward_item op tape item none) (onward_item op (item ∷ tape) Unsafe tt)
+      by false = onward_item op tape item none
 
-  pub onward_items : (items tape : List Item) → Each NoBegin items → Onward tape (with_items c nodes tape items)
-  onward_items [] tape h = onward_same tape
-  onward_items (item ∷ items) tape h = onward_then tape (with_item c nodes tape item) (with_items c nodes (with_item c nodes tape item) items) (onward_with tape item h.0) (onward_items items (with_item c nodes tape item) h.1)
+  pub onward_items : (items tape : List Item) → Each NoBegin items → Onward op tape (with_items c nodes tape items)
+  onward_items [] tape h = onward_same op tape
+  onward_items (item ∷ items) tape h = onward_then op tape (with_item c nodes tape item) (with_items c nodes (with_item c nodes tape item) items) (onward_with tape item h.0) (onward_items items (with_item c nodes tape item) h.1)
 
-pub onward_sent : (n : ℕ) (ms : List Message) (tape : List Item) → Onward tape (sent n ms tape)
-onward_sent n [] tape = onward_same tape
-onward_sent n (m ∷ ms) tape = onward_then tape (Sent n m ∷ tape) (sent (n + 1) ms (Sent n m ∷ tape)) (onward_item tape (Sent n m) tt) (onward_sent (n + 1) ms (Sent n m ∷ tape))
+pub onward_sent : (op : OpId) (n : ℕ) (ms : List Message) (tape : List Item) → Onward op tape (sent n ms tape)
+onward_sent op n [] tape = onward_same op tape
+onward_sent op n (m ∷ ms) tape = onward_then op tape (Sent n m ∷ tape) (sent (n + 1) ms (Sent n m ∷ tape)) (onward_item op tape (Sent n m) tt) (onward_sent op (n + 1) ms (Sent n m ∷ tape))
 
 -- notes that begin nothing
 abbrev pub IsLater : Met → Type 0
@@ -114,16 +124,16 @@ calm_items c nodes (item ∷ items) tape h = calm_items c nodes items (with_item
 
 -- ---- what was read
 
-pub covers_on : (old new : List Item) → Onward old new → (op : OpId) (group : GroupId) (p : ℕ) → Covers old op group p → Covers new op group p
-covers_on old new o op group p h = λ un node n entry s. h (o.safe un) node n entry (subst (Stands (Decide node group n entry)) (o.same op) s)
+pub covers_on : (op : OpId) (old new : List Item) → Onward op old new → (group : GroupId) (p : ℕ) → Covers old op group p → Covers new op group p
+covers_on op old new o group p h = λ un node n entry s. h (o.safe un) node n entry (subst (Stands (Decide node group n entry)) o.same s)
 
-pub over_on : (old new : List Item) → Onward old new → (op : OpId) (group : GroupId) (Shows : ℕ → List Content → Type 0) → ReadOver old op group Shows → ReadOver new op group Shows
-over_on old new o op group Shows h = record { below = h.below; known = λ k d is. o.stood _ (h.known k d is); covers = covers_on old new o op group _ h.covers; shows = h.shows }
+pub over_on : (op : OpId) (old new : List Item) → Onward op old new → (group : GroupId) (Shows : ℕ → List Content → Type 0) → ReadOver old op group Shows → ReadOver new op group Shows
+over_on op old new o group Shows h = record { below = h.below; known = λ k d is. o.stood _ (h.known k d is); covers = covers_on op old new o group _ h.covers; shows = h.shows }
 
-module _ (c : Cluster) (old new : List Item) (o : Onward old new) (op : OpId) where
+module _ (c : Cluster) (op : OpId) (old new : List Item) (o : Onward op old new) where
   shown_on : (request : Request) (answer : Answer) → IsShown c old op request answer → IsShown c new op request answer
-  shown_on (ReadRequested request) answer h = λ current. over_on old new o op request.group _ (h current)
-  shown_on (Find request) answer h = λ current group is. over_on old new o op group _ (h current group is)
+  shown_on (ReadRequested request) answer h = λ current. over_on op old new o request.group _ (h current)
+  shown_on (Find request) answer h = λ current group is. over_on op old new o group _ (h current group is)
   shown_on (Txn transaction) answer h = tt
   shown_on (BatchRequest group transactions) answer h = tt
   shown_on PumpEnter answer h = tt
@@ -131,7 +141,7 @@ module _ (c : Cluster) (old new : List Item) (o : Onward old new) (op : OpId) wh
   shown_on Refresh answer h = tt
 
   turned_on : (request : Request) (turn : Turn) → IsTurned c old op request turn → IsTurned c new op request turn
-  turned_on (Txn transaction) turn h = over_on old new o op transaction.group _ h
+  turned_on (Txn transaction) turn h = over_on op old new o transaction.group _ h
   turned_on (ReadRequested request) turn h = shown_on (ReadRequested request) (Turned turn) h
   turned_on (Find request) turn h = shown_on (Find request) (Turned turn) h
   turned_on (BatchRequest group transactions) turn h = tt
@@ -140,7 +150,7 @@ module _ (c : Cluster) (old new : List Item) (o : Onward old new) (op : OpId) wh
   turned_on Refresh turn h = tt
 
   all_turned_on : (request : Request) (results : List (Result (List (Option Shown)) Turn)) → AreTurned c old op request results → AreTurned c new op request results
-  all_turned_on (BatchRequest group transactions) results h = over_on old new o op group _ h
+  all_turned_on (BatchRequest group transactions) results h = over_on op old new o group _ h
   all_turned_on (Txn transaction) results h = tt
   all_turned_on (ReadRequested request) results h = tt
   all_turned_on (Find request) results h = tt
@@ -153,12 +163,12 @@ module _ (c : Cluster) (old new : List Item) (o : Onward old new) (op : OpId) wh
   fresh_on request (FoundAnswer marks found) h = shown_on request (FoundAnswer marks found) h
   fresh_on request (Turned turn) h = turned_on request turn h
   fresh_on request (AllTurned results) h = all_turned_on request results h
-  fresh_on request (LogFull n) h = record { group = h.group; home = h.home; reads = over_on old new o op h.group _ h.reads }
+  fresh_on request (LogFull n) h = record { group = h.group; home = h.home; reads = over_on op old new o h.group _ h.reads }
   fresh_on request _ h = tt
 
-pub answered_on : (c : Cluster) (usage : Usage) (old new : List Item) → Onward old new → (op : OpId) (answer : Answer) → Answered c usage old op answer → Answered c usage new op answer
-answered_on c usage old new o op answer h = record { request = h.request; asked = o.asked usage.meaning op ∙ h.asked; fresh = fresh_on c old new o op h.request answer h.fresh }
+pub answered_on : (c : Cluster) (usage : Usage) (op : OpId) (old new : List Item) → Onward op old new → (answer : Answer) → Answered c usage old op answer → Answered c usage new op answer
+answered_on c usage op old new o answer h = record { request = h.request; asked = o.asked usage.meaning ∙ h.asked; fresh = fresh_on c op old new o h.request answer h.fresh }
 
-pub proposed_on : (old new : List Item) → Onward old new → (body : Body) → IsProposed old body → IsProposed new body
-proposed_on old new o (Accept op group n b e) h = λ is own. covers_on old new o op group _ (h is own)
+pub proposed_on : (old new : List Item) → ((op : OpId) → Onward op old new) → (body : Body) → IsProposed old body → IsProposed new body
+proposed_on old new o (Accept op group n b e) h = λ is own. covers_on op old new (o op) group _ (h is own)
 proposed_on old new o _ h = tt

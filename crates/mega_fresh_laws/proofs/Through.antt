@@ -82,13 +82,13 @@ tops_on c old new op group heard best s h = record {
   counted = h.counted;
 }
 
-stage_on : (c : Cluster) (old new : List Item) → Onward old new → (op : OpId) (group : GroupId) (stage : Stage) → StageFresh c old op group stage → StageFresh c new op group stage
-stage_on c old new o op group (Polling heard best at) h = (tt, tops_on c old new op group heard best o.stood h.1)
-stage_on c old new o op group (Catching through search) h = covers_on old new o op group through h
+stage_on : (c : Cluster) (op : OpId) (old new : List Item) → Onward op old new → (group : GroupId) (stage : Stage) → StageFresh c old op group stage → StageFresh c new op group stage
+stage_on c op old new o group (Polling heard best at) h = (tt, tops_on c old new op group heard best o.stood h.1)
+stage_on c op old new o group (Catching through search) h = covers_on op old new o group through h
 
-pub phase_on : (c : Cluster) (old new : List Item) → Onward old new → (op : OpId) (request : Request) (phase : Phase) → PhaseFresh c old op request phase → PhaseFresh c new op request phase
-phase_on c old new o op request (Reads group r) h = (h.0, ((h.1).0, stage_on c old new o op group r.stage (h.1).1))
-phase_on c old new o op request (Proposes group n asked proposal promised) h = covers_on old new o op group (n - 1) h
+pub phase_on : (c : Cluster) (op : OpId) (old new : List Item) → Onward op old new → (request : Request) (phase : Phase) → PhaseFresh c old op request phase → PhaseFresh c new op request phase
+phase_on c op old new o request (Reads group r) h = (h.0, ((h.1).0, stage_on c op old new o group r.stage (h.1).1))
+phase_on c op old new o request (Proposes group n asked proposal promised) h = covers_on op old new o group (n - 1) h
 
 -- ---- its moves
 
