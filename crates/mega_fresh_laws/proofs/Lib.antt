@@ -9,3 +9,4 @@ pub mod Tops
 pub mod Steps
 pub mod Tails
 pub mod Nearby
+pub mod Runs

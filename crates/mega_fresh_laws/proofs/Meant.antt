@@ -49,7 +49,7 @@ pub record Reached (c : Cluster) (usage : Usage) (first : Meanings) (cuts : Cuts
   pub fits : Fits usage events
   pub is : now ≡ goes_on c cuts (opening c first) events
 
-pub run_of : (c : Cluster) (usage : Usage) (first : Meanings) (cuts : Cuts) (now : Standing) → (r : Reached c usage first cuts now) → IsRun c first r.events now.tape
+abbrev pub run_of : (c : Cluster) (usage : Usage) (first : Meanings) (cuts : Cuts) (now : Standing) → (r : Reached c usage first cuts now) → IsRun c first r.events now.tape
 run_of c usage first cuts now r = record { cuts = cuts; tape_is = ap (λ (s : Standing). s.tape) r.is }
 
 goes_more : (c : Cluster) (cuts : Cuts) (events : List Happening) (one : Happening) (at : Standing)

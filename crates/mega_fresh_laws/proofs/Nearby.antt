@@ -312,10 +312,10 @@ module _ (c : Cluster) (few : length c.nodes ≤ 9) (five : c.cells ≤ 5) (usag
   made_met : (made.node).met ≡ onto (map Sends made.sends) (onto rest base)
   made_met = step_met s node event ∙ ap (onto (map Sends made.sends)) (ap (λ notes. onto notes own_met) parted.is ∙ onto_append front rest own_met)
 
-  run_now : IsRun c first r.events now.tape
+  abbrev run_now : IsRun c first r.events now.tape
   run_now = run_of c usage first cuts now r
 
-  run_next : IsRun c first then.events next.tape
+  abbrev run_next : IsRun c first then.events next.tape
   run_next = run_of c usage first cuts next then
 
   abbrev next_met : List Met

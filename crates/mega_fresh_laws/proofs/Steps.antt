@@ -45,7 +45,7 @@ use Rattle.mega_fresh_laws.proofs.Heeding.{Open, all_heard, all_ticked, begun_it
 
 -- ---- what proposes nothing
 
-abbrev Quiet : Message → Type 0
+abbrev pub Quiet : Message → Type 0
 Quiet m = NoAccept m.body
 
 quiet_map : {X : Type 0} (f : X → Message) → ((x : X) → Quiet (f x)) → (xs : List X) → Each Quiet (map f xs)
@@ -78,7 +78,7 @@ acquires_quiet s met now = by (acquires_at s.cluster s.me met now) (acquires_are
     by [] h = tt
     by (m ∷ ms) h = (subst Quiet (sym (All-head (Acquires s.cluster s.me met now) m ms h).is) tt, by ms (All-tail (Acquires s.cluster s.me met now) m ms h))
 
-reply_quiet : (c : Cluster) (tape : List Item) (me : ℕ) (met : List Met) (m : Message) → Shows tape me met → Took tape (message m.from me m.body) → Each Quiet (reply_to c me met m)
+pub reply_quiet : (c : Cluster) (tape : List Item) (me : ℕ) (met : List Met) (m : Message) → Shows tape me met → Took tape (message m.from me m.body) → Each Quiet (reply_to c me met m)
 reply_quiet c tape me met m shows took = by (answer_to c me met m.from m.body) (λ answer is. (answer_told c tape me m.from met shows m.body took answer is).2)
   where
     by : (o : Option Body) → ((answer : Body) → o ≡ Some answer → NoAccept answer) → Each Quiet (reply_message me m.from o)

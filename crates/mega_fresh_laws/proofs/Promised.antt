@@ -1,0 +1,221 @@
+-- So what is answered and what is proposed is fresh as it is promised: of the whole tape, also of what comes after.
+use Rattle.std.proofs.Common.{◌≡◌, ◌⊎◌, inl, inr, ℕ, zero, suc, ◌+◌, ◌-◌, ◌≤◌, ◌||◌, Bool, true, false, cond, List, [], ◌∷◌, ◌++◌, take, length, Option, Some, None, Result, Ok, Err, refl, sym, ap, ◌∙◌, subst, arith}
+use Rattle.mega_base.specs.declared.names.GroupId.{GroupId}
+use Rattle.mega_base.specs.declared.names.NodeId.{NodeId}
+use Rattle.mega_base.specs.declared.names.OpId.{OpId}
+use Rattle.mega_base.specs.declared.names.Position.{Position}
+use Rattle.mega_ballot.specs.Order.{zero_ballot}
+use Rattle.mega_cluster.specs.declared.cluster.Cluster.{Cluster}
+use Rattle.mega_schema.specs.declared.schema.Schema.{Schema}
+use Rattle.mega_entry.specs.declared.content.Content.{Content}
+use Rattle.mega_handler.specs.Named.{Meanings}
+use Rattle.mega_index.specs.Rows.{after, no_rows}
+use Rattle.mega_outcome.specs.declared.answer.Answer.{Answer}
+use Rattle.mega_outcome.specs.declared.answer.Answer.TheVariants.{AllTurned, Found as FoundAnswer, LogFull, Read as ReadAnswer, Turned, Worn}
+use Rattle.mega_outcome.specs.declared.answer.Done.{Done}
+use Rattle.mega_outcome.specs.declared.answer.Shown.{Shown}
+use Rattle.mega_outcome.specs.declared.answer.Turn.{Turn}
+use Rattle.mega_outcome.specs.declared.request.FindRequest.{FindRequest}
+use Rattle.mega_outcome.specs.declared.request.ReadRequest.{ReadRequest}
+use Rattle.mega_outcome.specs.declared.request.Request.{Request}
+use Rattle.mega_outcome.specs.declared.request.Request.TheVariants.{Batch as BatchRequest, Find, PumpEnter, PumpHandle, Read as ReadRequested, Refresh, Txn}
+use Rattle.mega_outcome.specs.declared.transaction.Transaction.{Transaction}
+use Rattle.mega_outcome.specs.Outcome.{batch_outcome, entry_of_batch, entry_of_done, outcome}
+use Rattle.mega_transcript.specs.declared.item.Item.{Item}
+use Rattle.mega_transcript.specs.declared.item.Item.TheVariants.{Answer as AnswerItem, Begin, Decide, Sent, Unsafe}
+use Rattle.mega_wal.specs.Same.{same_op}
+use Rattle.mega_wal.proofs.Sames.{same_op_equal, same_op_self}
+use Rattle.mega_wire.specs.declared.message.Body.TheVariants.{Accept}
+use Rattle.mega_promises.specs.Fresh.{IsSafeAt, ReadsThrough, WasDecided, find_over, is_shown, proposes, read_over}
+use Rattle.mega_promises.specs.Messages.{is_unsafe}
+use Rattle.mega_promises.specs.Promises.{Stands, StoodBefore, asked_for, comes_to, group_written, is_write, log_of}
+use Rattle.mega_promises.specs.Runs.{Happening, IsRun}
+use Rattle.mega_rules.specs.Steps.{is_current}
+use Rattle.mega_tape_laws.specs.Answers.{AreAnswered, IsAnswered}
+use Rattle.mega_tape_laws.specs.Lawful.{Lawful, message}
+use Rattle.mega_tape_laws.specs.Places.{In, Place, Proposes, move_of, moves}
+use Rattle.mega_tape_laws.specs.Writes.{AreWritten, IsFront, IsNamed, IsWritten, Knows, OwnEntry, Usage, enters, fills, handles, has_begun, runs, runs_all}
+use Rattle.mega_tape_laws.proofs.Complete.{known_is_front}
+use Rattle.mega_tape_laws.proofs.Lists.{kept, some_is}
+use Rattle.mega_tape_laws.proofs.Made.{proposed_here}
+use Rattle.mega_tape_laws.proofs.Origins.{Origin, id_is, origin}
+use Rattle.mega_run_laws.specs.Usages.{Fits}
+use Rattle.mega_run_laws.proofs.Opened.{at_place}
+use Rattle.mega_run_laws.proofs.Runs.{run_answered, run_lawful, run_written}
+use Rattle.mega_leased_laws.specs.Items.{Are}
+use Rattle.mega_fresh_laws.specs.Covering.{Answered, Covers, IsFreshItem, ReadOver, before_begin}
+use Rattle.mega_fresh_laws.proofs.Moments.{NoBegin, onward_item}
+use Rattle.mega_fresh_laws.proofs.Runs.{run_fresh}
+
+clash : {X : Type 0} (t : Bool) → t ≡ true → t ≡ false → X
+clash t h k = absurd (let both_ways = sym h ∙ k in cc)
+
+either_left : (t u : Bool) → t ≡ true → (t || u) ≡ true
+either_left true u h = refl
+either_left false u h = cc
+
+either_right : (t u : Bool) → u ≡ true → (t || u) ≡ true
+either_right true u h = refl
+either_right false u h = h
+
+-- ---- where an item stands
+
+pub record ItemAt (P : List Item → Item → Type 0) (item : Item) (tape : List Item) : Type 0 where
+  pub before : List Item
+  pub later : List Item
+  pub is : tape ≡ later ++ item ∷ before
+  pub holds : P before item
+
+item_at : (P : List Item → Item → Type 0) (item : Item) (tape : List Item) → Are P tape → Stands item tape → ItemAt P item tape
+item_at P item [] h s = absurd s
+item_at P item (other ∷ before) h (inl same) = record { before = before; later = []; is = ap (λ x. x ∷ before) same; holds = subst (P before) same h.0 }
+item_at P item (other ∷ before) h (inr s) = let rest = item_at P item before h.1 s in record { before = rest.before; later = other ∷ rest.later; is = ap (λ t. other ∷ t) rest.is; holds = rest.holds }
+
+stood_later : (later before : List Item) (x : Item) → Stands x before → Stands x (later ++ before)
+stood_later [] before x s = s
+stood_later (item ∷ later) before x s = inr (stood_later later before x s)
+
+stood_at : (later before : List Item) (x item : Item) → Stands x before → StoodBefore x item (later ++ item ∷ before)
+stood_at [] before x item s = inl (refl, s)
+stood_at (one ∷ later) before x item s = inr (stood_at later before x item s)
+
+unsafe_stands : (tape : List Item) → is_unsafe tape ≡ true → Stands Unsafe tape
+unsafe_stands [] h = cc
+unsafe_stands (item ∷ before) h = by item h
+  where
+    by : (x : Item) → is_unsafe (x ∷ before) ≡ true → Stands Unsafe (x ∷ before)
+    by Unsafe k = inl refl
+    by _ k = inr (unsafe_stands before k)
+
+-- ---- an operation begins once
+
+asked_begun : (meaning : List ℕ → Option Request) (tape : List Item) (op : OpId) (request : Request) → asked_for meaning tape op ≡ Some request → has_begun tape op ≡ true
+asked_begun meaning [] op request h = cc
+asked_begun meaning (Begin began text ∷ before) op request h = by (same_op began op) (asked_begun meaning before op request) h
+  where
+    by : (t : Bool) → (asked_for meaning before op ≡ Some request → has_begun before op ≡ true) → cond t (meaning text) (asked_for meaning before op) ≡ Some request → (t || has_begun before op) ≡ true
+    by true earlier k = refl
+    by false earlier k = earlier k
+asked_begun meaning (_ ∷ before) op request h = asked_begun meaning before op request h
+
+begun_later : (later before : List Item) (op : OpId) → has_begun before op ≡ true → has_begun (later ++ before) op ≡ true
+begun_later [] before op h = h
+begun_later (item ∷ later) before op h = by item (begun_later later before op h)
+  where
+    by : (x : Item) → has_begun (later ++ before) op ≡ true → has_begun (x ∷ (later ++ before)) op ≡ true
+    by (Begin began text) k = either_right (same_op began op) (has_begun (later ++ before) op) k
+    by _ k = k
+
+module _ (schema : Schema) (usage : Usage) (op : OpId) (named : IsNamed op) where
+  -- what a tape tells of its begin, as it goes on
+  record Once (old new : List Item) : Type 0 where
+    same : before_begin new op ≡ before_begin old op
+    asked : asked_for usage.meaning new op ≡ asked_for usage.meaning old op
+
+  once_item : (item : Item) (tape : List Item) → IsWritten schema usage tape item → has_begun tape op ≡ true → Once tape (item ∷ tape)
+  once_item (Begin began text) tape w begun = record { same = ap (λ t. cond t tape (before_begin tape op)) apart; asked = ap (λ t. cond t (usage.meaning text) (asked_for usage.meaning tape op)) apart }
+    where
+      by : (t : Bool) → same_op began op ≡ t → t ≡ false
+      by false e = refl
+      by true e = let is = same_op_equal began op e in clash (has_begun tape op) begun (subst (λ x. has_begun tape x ≡ false) is (w (subst IsNamed (sym is) named)))
+
+      apart : same_op began op ≡ false
+      apart = by (same_op began op) refl
+  once_item _ tape w begun = record { same = refl; asked = refl }
+
+  once_later : (later before : List Item) → AreWritten schema usage (later ++ before) → has_begun before op ≡ true → Once before (later ++ before)
+  once_later [] before w begun = record { same = refl; asked = refl }
+  once_later (item ∷ later) before w begun =
+      let rest = once_later later before w.1 begun in let one = once_item item (later ++ before) w.0 (begun_later later before op begun) in
+      record { same = one.same ∙ rest.same; asked = one.asked ∙ rest.asked }
+
+  begin_stood : (tape : List Item) (text : List ℕ) (x : Item) → StoodBefore x (Begin op text) tape → has_begun tape op ≡ true
+  begin_stood [] text x s = absurd s
+  begin_stood (item ∷ before) text x (inl both) = subst (λ y. has_begun (y ∷ before) op ≡ true) (sym both.0) (either_left (same_op op op) (has_begun before op) (same_op_self op))
+  begin_stood (item ∷ before) text x (inr s) = begun_later (item ∷ []) before op (begin_stood before text x s)
+
+  -- what stood before its begin
+  stood_before_begin : (tape : List Item) (text : List ℕ) (x : Item) → AreWritten schema usage tape → StoodBefore x (Begin op text) tape → Stands x (before_begin tape op)
+  stood_before_begin [] text x w s = absurd s
+  stood_before_begin (item ∷ before) text x w (inl both) = subst (λ y. Stands x (before_begin (y ∷ before) op)) (sym both.0)
+      (subst (λ t. Stands x (cond t before (before_begin before op))) (sym (same_op_self op)) both.1)
+  stood_before_begin (item ∷ before) text x w (inr s) = subst (Stands x) (sym (once_item item before w.0 (begin_stood before text x s)).same) (stood_before_begin before text x w.1 s)
+
+-- ---- what an operation read through
+
+module _ (c : Cluster) (usage : Usage) (tape : List Item) (l : Lawful c tape) (w : AreWritten c.schema usage tape) (op : OpId) (named : IsNamed op) where
+  covers_each : (before later : List Item) (item : Item) → NoBegin item → tape ≡ later ++ item ∷ before → has_begun before op ≡ true → (group : GroupId) (p : ℕ) → Covers before op group p
+      → (n : Position) → WasDecided tape group n op → IsSafeAt item tape → n.0 ≤ p
+  covers_each before later item plain is begun group p covers n d safe = covers (by (is_unsafe before) refl) d.0 n d.1
+      (subst (Stands (Decide d.0 group n d.1)) same (stood_before_begin c.schema usage op named tape d.2 (Decide d.0 group n d.1) w d.3))
+    where
+      by : (t : Bool) → is_unsafe before ≡ t → t ≡ false
+      by false e = refl
+      by true e = absurd (safe (subst (StoodBefore Unsafe item) (sym is) (stood_at later before Unsafe item (unsafe_stands before e))))
+
+      same : before_begin tape op ≡ before_begin before op
+      same = ap (λ t. before_begin t op) is
+          ∙ (once_later c.schema usage op named later (item ∷ before) (subst (AreWritten c.schema usage) is w) (begun_later (item ∷ []) before op begun)).same ∙ (onward_item op before item plain).same
+
+  reads_through : (before later : List Item) (item : Item) → NoBegin item → tape ≡ later ++ item ∷ before → has_begun before op ≡ true → (group : GroupId) (Shows : ℕ → List Content → Type 0) → ReadOver before op group Shows
+      → ReadsThrough tape op group item Shows
+  reads_through before later item plain is begun group Shows h = record {
+    p = length h.below;
+    within = front.shorter;
+    covers = covers_each before later item plain is begun group (length h.below) h.covers;
+    shows = subst (Shows (length h.below)) front.is h.shows;
+  }
+    where
+      stood : (x : Item) → Stands x before → Stands x tape
+      stood x s = subst (Stands x) (sym is) (stood_later later (item ∷ before) x (inr s))
+
+      front : IsFront (log_of tape group) h.below
+      front = known_is_front c tape l op.node.0 group h.below (λ k d there. stood _ (h.known k d there))
+
+-- ---- answers
+
+answered_named : (schema : Schema) (usage : Usage) (op : OpId) (answer : Answer) (tape : List Item) → AreAnswered schema usage tape → Stands (AnswerItem op answer) tape → (answer ≡ Worn) ⊎ IsNamed op
+answered_named schema usage op answer [] h s = absurd s
+answered_named schema usage op answer (item ∷ before) h (inl same) = let own = subst (IsAnswered schema usage before) same h.0 in (own.1).1
+answered_named schema usage op answer (item ∷ before) h (inr s) = answered_named schema usage op answer before h.1 s
+
+-- an answer of a run, with what it is of
+record Given (c : Cluster) (usage : Usage) (tape : List Item) (op : OpId) (answer : Answer) : Type 0 where
+  named : IsNamed op
+  before : List Item
+  later : List Item
+  is : tape ≡ later ++ AnswerItem op answer ∷ before
+  fresh : Answered c usage before op answer
+
+module _ (c : Cluster) (usage : Usage) (first : Meanings) (events : List Happening) (tape : List Item) (few : length c.nodes ≤ 9) (five : c.cells ≤ 5) (run : IsRun c first events tape) (fits : Fits usage events) where
+  lawful : Lawful c tape
+  lawful = run_lawful c first events tape run
+
+  written : AreWritten c.schema usage tape
+  written = (run_written c usage first events tape run fits).written
+
+  items : Are (IsFreshItem c usage) tape
+  items = run_fresh c usage first events tape few five run fits
+
+  given : (op : OpId) (answer : Answer) → (answer ≡ Worn → ⊥) → Stands (AnswerItem op answer) tape → Given c usage tape op answer
+  given op answer other s = let at = item_at (IsFreshItem c usage) (AnswerItem op answer) tape items s in record {
+    named = elim (answered_named c.schema usage op answer tape (run_answered c usage first events tape run fits).answered s) [ inl worn ↦ absurd (other worn) | inr named ↦ named ];
+    before = at.before;
+    later = at.later;
+    is = at.is;
+    fresh = at.holds;
+  }
+
+  module _ (op : OpId) (answer : Answer) (x : Given c usage tape op answer) where
+    begun : has_begun x.before op ≡ true
+    begun = asked_begun usage.meaning x.before op (x.fresh).request (x.fresh).asked
+
+    request_is : (request : Request) → asked_for usage.meaning tape op ≡ Some request → (x.fresh).request ≡ request
+    request_is request asked = some_is (x.fresh).request request (sym (x.fresh).asked ∙ sym same ∙ asked)
+      where
+        same : asked_for usage.meaning tape op ≡ asked_for usage.meaning x.before op
+        same = ap (λ t. asked_for usage.meaning t op) x.is
+            ∙ (once_later c.schema usage op x.named x.later (AnswerItem op answer ∷ x.before) (subst (AreWritten c.schema usage) x.is written) (begun_later (AnswerItem op answer ∷ []) x.before op begun)).asked
+
+    through : (group : GroupId) (Shows : ℕ → List Content → Type 0) → ReadOver x.before op group Shows → ReadsThrough tape op group (AnswerItem op answer) Shows
+    through group Shows h = reads_through c usage tape lawful written op x.named x.before x.later (AnswerItem op answer) tt x.is begun group Shows h
