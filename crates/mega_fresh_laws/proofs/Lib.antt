@@ -10,3 +10,4 @@ pub mod Steps
 pub mod Tails
 pub mod Nearby
 pub mod Runs
+pub mod Promised

@@ -43,7 +43,7 @@ use Rattle.mega_run_laws.specs.Usages.{Fits}
 use Rattle.mega_run_laws.proofs.Opened.{at_place}
 use Rattle.mega_run_laws.proofs.Runs.{run_answered, run_lawful, run_written}
 use Rattle.mega_leased_laws.specs.Items.{Are}
-use Rattle.mega_fresh_laws.specs.Covering.{Answered, Covers, IsFreshItem, ReadOver, before_begin}
+use Rattle.mega_fresh_laws.specs.Covering.{Answered, Covers, IsFreshAnswer, IsFreshItem, ReadOver, before_begin}
 use Rattle.mega_fresh_laws.proofs.Moments.{NoBegin, onward_item}
 use Rattle.mega_fresh_laws.proofs.Runs.{run_fresh}
 
@@ -81,11 +81,8 @@ stood_at (one ∷ later) before x item s = inr (stood_at later before x item s)
 
 unsafe_stands : (tape : List Item) → is_unsafe tape ≡ true → Stands Unsafe tape
 unsafe_stands [] h = cc
-unsafe_stands (item ∷ before) h = by item h
-  where
-    by : (x : Item) → is_unsafe (x ∷ before) ≡ true → Stands Unsafe (x ∷ before)
-    by Unsafe k = inl refl
-    by _ k = inr (unsafe_stands before k)
+unsafe_stands (Unsafe ∷ before) h = inl refl
+unsafe_stands (_ ∷ before) h = inr (unsafe_stands before h)
 
 -- ---- an operation begins once
 
@@ -219,3 +216,126 @@ module _ (c : Cluster) (usage : Usage) (first : Meanings) (events : List Happeni
 
     through : (group : GroupId) (Shows : ℕ → List Content → Type 0) → ReadOver x.before op group Shows → ReadsThrough tape op group (AnswerItem op answer) Shows
     through group Shows h = reads_through c usage tape lawful written op x.named x.before x.later (AnswerItem op answer) tt x.is begun group Shows h
+
+    fresh_of : (request : Request) → asked_for usage.meaning tape op ≡ Some request → IsFreshAnswer c x.before op request answer
+    fresh_of request asked = subst (λ q. IsFreshAnswer c x.before op q answer) (request_is request asked) (x.fresh).fresh
+
+  abbrev worn : Answer → Bool
+  worn Worn = true
+  worn _ = false
+
+  pub reads : (op : OpId) (request : ReadRequest) (answer : Answer) → asked_for usage.meaning tape op ≡ Some (ReadRequested request) → is_current request.mode ≡ true → Stands (AnswerItem op answer) tape → is_shown answer ≡ true
+      → ReadsThrough tape op request.group (AnswerItem op answer) (λ p log. read_over c request p log ≡ answer)
+  reads op request (ReadAnswer p rows) asked current s h = let x = given op (ReadAnswer p rows) (λ is. clash true refl (sym (ap worn is))) s in
+      through op (ReadAnswer p rows) x request.group (λ n log. read_over c request n log ≡ ReadAnswer p rows) (fresh_of op (ReadAnswer p rows) x (ReadRequested request) asked current)
+  reads op request (FoundAnswer marks found) asked current s h = let x = given op (FoundAnswer marks found) (λ is. clash true refl (sym (ap worn is))) s in
+      through op (FoundAnswer marks found) x request.group (λ n log. read_over c request n log ≡ FoundAnswer marks found) (fresh_of op (FoundAnswer marks found) x (ReadRequested request) asked current)
+  reads op request (Turned turn) asked current s h = let x = given op (Turned turn) (λ is. clash true refl (sym (ap worn is))) s in
+      through op (Turned turn) x request.group (λ n log. read_over c request n log ≡ Turned turn) (fresh_of op (Turned turn) x (ReadRequested request) asked current)
+  reads op request _ asked current s h = cc
+
+  pub finds : (op : OpId) (request : FindRequest) (group : GroupId) (answer : Answer) → asked_for usage.meaning tape op ≡ Some (Find request) → is_current request.mode ≡ true → request.group ≡ Some group
+      → Stands (AnswerItem op answer) tape → is_shown answer ≡ true → ReadsThrough tape op group (AnswerItem op answer) (λ p log. find_over c request p log ≡ answer)
+  finds op request group (ReadAnswer p rows) asked current of s h = let x = given op (ReadAnswer p rows) (λ is. clash true refl (sym (ap worn is))) s in
+      through op (ReadAnswer p rows) x group (λ n log. find_over c request n log ≡ ReadAnswer p rows) (fresh_of op (ReadAnswer p rows) x (Find request) asked current group of)
+  finds op request group (FoundAnswer marks found) asked current of s h = let x = given op (FoundAnswer marks found) (λ is. clash true refl (sym (ap worn is))) s in
+      through op (FoundAnswer marks found) x group (λ n log. find_over c request n log ≡ FoundAnswer marks found) (fresh_of op (FoundAnswer marks found) x (Find request) asked current group of)
+  finds op request group (Turned turn) asked current of s h = let x = given op (Turned turn) (λ is. clash true refl (sym (ap worn is))) s in
+      through op (Turned turn) x group (λ n log. find_over c request n log ≡ Turned turn) (fresh_of op (Turned turn) x (Find request) asked current group of)
+  finds op request group _ asked current of s h = cc
+
+  pub turned : (op : OpId) (transaction : Transaction) (turn : Turn) → asked_for usage.meaning tape op ≡ Some (Txn transaction) → Stands (AnswerItem op (Turned turn)) tape
+      → ReadsThrough tape op transaction.group (AnswerItem op (Turned turn)) (λ p log. outcome c.schema transaction (after log no_rows) ≡ Err turn)
+  turned op transaction turn asked s = let x = given op (Turned turn) (λ is. clash true refl (sym (ap worn is))) s in
+      through op (Turned turn) x transaction.group (λ n log. outcome c.schema transaction (after log no_rows) ≡ Err turn) (fresh_of op (Turned turn) x (Txn transaction) asked)
+
+  pub all_turned : (op : OpId) (group : GroupId) (transactions : List Transaction) (results : List (Result (List (Option Shown)) Turn)) → asked_for usage.meaning tape op ≡ Some (BatchRequest group transactions)
+      → Stands (AnswerItem op (AllTurned results)) tape → ReadsThrough tape op group (AnswerItem op (AllTurned results)) (λ p log. (batch_outcome c.schema group transactions (after log no_rows)).results ≡ results)
+  all_turned op group transactions results asked s = let x = given op (AllTurned results) (λ is. clash true refl (sym (ap worn is))) s in
+      through op (AllTurned results) x group (λ n log. (batch_outcome c.schema group transactions (after log no_rows)).results ≡ results) (fresh_of op (AllTurned results) x (BatchRequest group transactions) asked)
+
+  pub full : (op : OpId) (request : Request) (n : Position) → asked_for usage.meaning tape op ≡ Some request → Stands (AnswerItem op (LogFull n)) tape
+      → (group : GroupId) × (is_write request ≡ true → group_written request ≡ Some group) × ReadsThrough tape op group (AnswerItem op (LogFull n)) (λ p log. (p ≡ n.0) × ((c.limit).0 ≤ p))
+  full op request n asked s = let x = given op (LogFull n) (λ is. clash true refl (sym (ap worn is))) s in let f = fresh_of op (LogFull n) x request asked in
+      (f.group, f.home, through op (LogFull n) x f.group (λ p log. (p ≡ n.0) × ((c.limit).0 ≤ p)) f.reads)
+
+-- ---- proposals
+
+of_transaction : (schema : Schema) (op : OpId) (transaction : Transaction) (below : List Content) (done : Done) (e : Content) → outcome schema transaction (after below no_rows) ≡ Ok done → e ≡ entry_of_done op done
+    → comes_to schema op (Txn transaction) below ≡ Some e
+of_transaction schema op transaction below done e h is = rw h (ap Some (sym is))
+
+own_comes : (schema : Schema) (usage : Usage) (tape : List Item) (op : OpId) (group : GroupId) (below : List Content) (e : Content) → OwnEntry schema usage tape op group below e → e.id ≡ Some op → (request : Request)
+    → asked_for usage.meaning tape op ≡ Some request → is_write request ≡ true → comes_to schema op request below ≡ Some e
+own_comes schema usage tape op group below e (fills is) id request asked writes = let none = sym (ap (λ (x : Content). x.id) is) ∙ id in cc
+own_comes schema usage tape op group below e (runs transaction done own at comes is) id request asked writes =
+    subst (λ q. comes_to schema op q below ≡ Some e) (some_is (Txn transaction) request (sym own ∙ asked)) (of_transaction schema op transaction below done e comes is)
+own_comes schema usage tape op group below e (runs_all transactions own is) id request asked writes =
+    subst (λ q. comes_to schema op q below ≡ Some e) (some_is (BatchRequest group transactions) request (sym own ∙ asked)) (ap Some (sym is))
+own_comes schema usage tape op group below e (enters message sent posted own known stands to says fresh is) id request asked writes =
+    let none = ap is_write (some_is PumpEnter request (sym own ∙ asked)) ∙ writes in cc
+own_comes schema usage tape op group below e (handles message moment own oldest is) id request asked writes =
+    let none = ap is_write (some_is PumpHandle request (sym own ∙ asked)) ∙ writes in cc
+
+own_begun : (schema : Schema) (usage : Usage) (tape : List Item) (op : OpId) (group : GroupId) (below : List Content) (e : Content) → OwnEntry schema usage tape op group below e → e.id ≡ Some op → has_begun tape op ≡ true
+own_begun schema usage tape op group below e (fills is) id = let none = sym (ap (λ (x : Content). x.id) is) ∙ id in cc
+own_begun schema usage tape op group below e (runs transaction done own at comes is) id = asked_begun usage.meaning tape op (Txn transaction) own
+own_begun schema usage tape op group below e (runs_all transactions own is) id = asked_begun usage.meaning tape op (BatchRequest group transactions) own
+own_begun schema usage tape op group below e (enters message sent posted own known stands to says fresh is) id = asked_begun usage.meaning tape op PumpEnter own
+own_begun schema usage tape op group below e (handles message moment own oldest is) id = asked_begun usage.meaning tape op PumpHandle own
+
+before_written : (schema : Schema) (usage : Usage) (later before : List Item) → AreWritten schema usage (later ++ before) → AreWritten schema usage before
+before_written schema usage [] before w = w
+before_written schema usage (item ∷ later) before w = before_written schema usage later before w.1
+
+module _ (c : Cluster) (usage : Usage) (first : Meanings) (events : List Happening) (tape : List Item) (few : length c.nodes ≤ 9) (five : c.cells ≤ 5) (run : IsRun c first events tape) (fits : Fits usage events) where
+  pub proposals : (op : OpId) (number to : ℕ) (group : GroupId) (m : Position) (own : Content) → own.id ≡ Some op → Stands (proposes number op to group m own) tape
+      → ReadsThrough tape op group (proposes number op to group m own)
+      (λ p log. (m.0 ≡ suc p) × ((request : Request) → asked_for usage.meaning tape op ≡ Some request → is_write request ≡ true → comes_to c.schema op request log ≡ Some own))
+  proposals op number to group m own id s = record {
+    p = length o.below;
+    within = front.shorter;
+    covers = covers_each c usage tape lawful_all written_all op named at.before at.later item tt at.is begun group (length o.below) (subst (Covers at.before op group) (less m.0 (length o.below) o.reaches) (at.holds refl id));
+    shows = subst (λ log. (m.0 ≡ suc (length o.below)) × ((request : Request) → asked_for usage.meaning tape op ≡ Some request → is_write request ≡ true → comes_to c.schema op request log ≡ Some own)) front.is
+        (o.reaches, λ request asked writes. own_comes c.schema usage (item ∷ at.before) op group o.below own entry id request (sym same ∙ asked) writes);
+  }
+    where
+      item : Item
+      item = proposes number op to group m own
+
+      lawful_all : Lawful c tape
+      lawful_all = run_lawful c first events tape run
+
+      written_all : AreWritten c.schema usage tape
+      written_all = (run_written c usage first events tape run fits).written
+
+      at : ItemAt (IsFreshItem c usage) item tape
+      at = item_at (IsFreshItem c usage) item tape (run_fresh c usage first events tape few five run fits) s
+
+      written_there : AreWritten c.schema usage (item ∷ at.before)
+      written_there = before_written c.schema usage at.later (item ∷ at.before) (subst (AreWritten c.schema usage) at.is written_all)
+
+      o : Origin c.schema usage (item ∷ at.before) (record { group = group; position = m }) own
+      o = origin c.schema usage (item ∷ at.before) written_there op (record { group = group; position = m }) zero_ballot own
+          (kept (move_of op (record { group = group; position = m })) item (Proposes zero_ballot own) (item ∷ at.before) (proposed_here op (record { group = group; position = m }) zero_ballot own) (inl refl))
+
+      one : o.op ≡ op
+      one = id_is c.schema usage (item ∷ at.before) o.op group o.below own o.entry op id
+
+      named : IsNamed op
+      named = subst IsNamed one o.named
+
+      entry : OwnEntry c.schema usage (item ∷ at.before) op group o.below own
+      entry = subst (λ x. OwnEntry c.schema usage (item ∷ at.before) x group o.below own) one o.entry
+
+      begun : has_begun at.before op ≡ true
+      begun = own_begun c.schema usage (item ∷ at.before) op group o.below own entry id
+
+      same : asked_for usage.meaning tape op ≡ asked_for usage.meaning (item ∷ at.before) op
+      same = ap (λ t. asked_for usage.meaning t op) at.is ∙ (once_later c.schema usage op named at.later (item ∷ at.before) (subst (AreWritten c.schema usage) at.is written_all) begun).asked
+
+      front : IsFront (log_of tape group) o.below
+      front = known_is_front c tape lawful_all o.node group o.below (λ k d there. subst (Stands _) (sym at.is) (stood_later at.later (item ∷ at.before) _ (o.known k d there)))
+
+      less : (a b : ℕ) → a ≡ suc b → a - 1 ≡ b
+      less a b is = omega (arith, is)
