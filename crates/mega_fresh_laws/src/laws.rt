@@ -1,7 +1,8 @@
 //! Laws of fresh reads, as contracts of functions that do nothing.
 
-ghost use Rattle.std.specs.Prelude.{◌≡◌, ℕ, suc, ◌≤◌, true, Err, List, length, Option, Result, Some};
+ghost use Rattle.std.specs.Prelude.{◌≡◌, ℕ, suc, ◌≤◌, true, false, Err, List, length, Option, Result, Some};
 ghost use Rattle.mega_base.specs.declared.names.GroupId.{GroupId as Group};
+ghost use Rattle.mega_base.specs.declared.names.NodeId.{NodeId as Node};
 ghost use Rattle.mega_base.specs.declared.names.OpId.{OpId as Operation};
 ghost use Rattle.mega_base.specs.declared.names.Position.{Position as Index};
 ghost use Rattle.mega_cluster.specs.declared.cluster.Cluster.{Cluster};
@@ -19,15 +20,25 @@ ghost use Rattle.mega_outcome.specs.declared.request.Request.TheVariants.{Batch,
 ghost use Rattle.mega_outcome.specs.declared.transaction.Transaction.{Transaction};
 ghost use Rattle.mega_outcome.specs.Outcome.{batch_outcome, outcome};
 ghost use Rattle.mega_transcript.specs.declared.item.Item.{Item};
-ghost use Rattle.mega_transcript.specs.declared.item.Item.TheVariants.{Answer};
+ghost use Rattle.mega_transcript.specs.declared.item.Item.TheVariants.{Answer, Decide};
 ghost use Rattle.mega_rules.specs.Steps.{is_current};
 ghost use Rattle.mega_promises.specs.Fresh.{ReadsThrough, find_over, is_shown, proposes, read_over};
 ghost use Rattle.mega_promises.specs.Promises.{Stands, asked_for, comes_to, group_written, is_write};
 ghost use Rattle.mega_promises.specs.Runs.{Happening, IsRun};
+ghost use Rattle.mega_tape_laws.specs.Polls.{IsPolled};
 ghost use Rattle.mega_tape_laws.specs.Writes.{Usage};
 ghost use Rattle.mega_run_laws.specs.Usages.{Fits};
+ghost use Rattle.mega_settled_laws.specs.Covering.{Earlier};
+ghost use Rattle.mega_valid_laws.specs.Leases.{has_polled};
 ghost use Rattle.mega_leased_laws.specs.Items.{Are};
 ghost use Rattle.mega_fresh_laws.specs.Covering.{IsFreshItem};
+
+/// In every run a poll of a majority of the voters covers each position that was decided before its operation first asked about the group, whether leases are
+/// safe or not (CIDR 2011, current reads).
+pub fn a_poll_covers_what_was_decided_before_it()
+    ensures { (c : Cluster) (first : Meanings) (events : List Happening) (tape : List Item) → IsRun c first events tape → (op : Operation) (group : Group) (n p : Index) (moment : List Item) → Earlier moment tape → has_polled moment op group ≡ false →
+        (node : Node) (entry : Content) → Stands (Decide node group n entry) moment → IsPolled c tape op group p → n.0 ≤ p.0 }
+{}
 
 /// In every run of at most nine nodes and five cells, where each text means the request that begins with it, each answer shows what it shows of a log that the
 /// operation read through a position, and each entry that an operation proposes as its own stands right above such a position: it covers each that was decided
