@@ -475,8 +475,11 @@ module _ (c : Cluster) (few : length c.nodes ≤ 9) (five : c.cells ≤ 5) (usag
       later = with_items c those now.tape (flat_map (shown me) items)
 
       mute : Each IsMute items
-      mute = (tt, each_both IsMute (now.owed me) (start_notes (setting c h me) (onto (now.owed me) (Starts count ∷ (now.node me).met))) (owes_mute c now.tape me (now.owed me) (g.owes me))
-          (plain_mute (start_notes (setting c h me) (onto (now.owed me) (Starts count ∷ (now.node me).met))) (starts_plain (setting c h me) (onto (now.owed me) (Starts count ∷ (now.node me).met)))))
+      mute = (
+        tt,
+        each_both IsMute (now.owed me) (start_notes (setting c h me) (onto (now.owed me) (Starts count ∷ (now.node me).met))) (owes_mute c now.tape me (now.owed me) (g.owes me))
+            (plain_mute (start_notes (setting c h me) (onto (now.owed me) (Starts count ∷ (now.node me).met))) (starts_plain (setting c h me) (onto (now.owed me) (Starts count ∷ (now.node me).met)))),
+      )
 
   falls_fresh : (now : Standing) (me : ℕ) → AllFresh c usage now.tape now.node → AllFresh c usage (Crash (number me) ∷ now.tape) (set_at now.node me (crashed (now.node me)))
   falls_fresh now me q = record {
@@ -511,5 +514,5 @@ module _ (c : Cluster) (few : length c.nodes ≤ 9) (five : c.cells ≤ 5) (usag
 
 -- each answer and each proposal of every run
 pub run_fresh : (c : Cluster) (usage : Usage) (first : Meanings) (events : List Happening) (tape : List Item) → length c.nodes ≤ 9 → c.cells ≤ 5 → IsRun c first events tape → Fits usage events → Are (IsFreshItem c usage) tape
-run_fresh c usage first events tape few five run fits = subst (Are (IsFreshItem c usage)) (sym run.tape_is)
+run_fresh c usage first events _ few five run fits = subst (Are (IsFreshItem c usage)) (sym run.tape_is)
     (run_stays c usage first run.cuts (AllFresh c usage) (fresh_stays c few five usage first run.cuts) events fits (record { items = tt; opens = λ v. tt })).items

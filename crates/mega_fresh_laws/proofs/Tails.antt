@@ -182,9 +182,9 @@ module _ (c : Cluster) (group : GroupId) where
   valid_or (Validates g p ∷ notes) met each h = elim (valid_or notes (Validates g p ∷ met) each.1 h) [
     | inl hit ↦ inl (record { one = hit.one; position = hit.position; among = inr hit.among; same = hit.same })
     | inr k ↦ elim (validates_or g p met k) [
-        | inl is ↦ inl (record { one = g; position = p; among = inl refl; same = sym (is_group_is g group) ∙ is })
-        | inr before ↦ inr before
-      ]
+      | inl is ↦ inl (record { one = g; position = p; among = inl refl; same = sym (is_group_is g group) ∙ is })
+      | inr before ↦ inr before
+    ]
   ]
   valid_or (Applies g p ∷ notes) met each h = elim (valid_or notes (Applies g p ∷ met) each.1 h) [
     | inl hit ↦ inl (record { one = hit.one; position = hit.position; among = inr hit.among; same = hit.same })

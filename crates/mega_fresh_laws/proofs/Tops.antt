@@ -248,9 +248,9 @@ topped_holds c = record {
       | inl found ↦ mine now.node me made.node v group n.0 found.0 (subst (λ met. n.0 ≤ top_of met group) (sym (step_met (setting c h me) (now.node me) event))
           (then_most n.0 (top_of (onto made.notes first) group) (top_of (onto (map Sends made.sends) (onto made.notes first)) group) (noted_most made.notes first group n.0 e found.1) (top_onto (map Sends made.sends) (onto made.notes first) group)))
       | inr before ↦ elim before [
-          | inl same ↦ absurd (own_other item own v group n e same)
-          | inr older ↦ grown now.node me made.node v group n.0 more (k v group n e older)
-        ]
+        | inl same ↦ absurd (own_other item own v group n e same)
+        | inr older ↦ grown now.node me made.node v group n.0 more (k v group n e older)
+      ]
     ]
       where
         made : Step
