@@ -1,15 +1,14 @@
 -- What an operation proposes at ballot zero: a round its own entry at its place, and a read nothing with the id of its operation.
-use Rattle.std.proofs.Common.{◌≡◌, ◌<◌, ℕ, zero, suc, arith, subst, sym, ap, ◌∙◌, ◌+◌, ◌&&◌, ◌||◌, ◌==◌, max, nat_le, not, Bool, true, false, cond, List, [], ◌∷◌, ◌++◌, length, map, flat_map, Option, Some, None, refl}
+use Rattle.std.proofs.Common.{◌≡◌, ◌<◌, ℕ, arith, sym, ap, ◌∙◌, ◌+◌, ◌&&◌, ◌||◌, ◌==◌, max, nat_le, not, Bool, true, false, cond, List, [], ◌∷◌, ◌++◌, length, map, flat_map, Option, Some, None, refl}
 use Rattle.std.specs.List.{list_all, list_any}
 use Rattle.mega_base.specs.declared.names.Epoch.{Epoch}
-use Rattle.mega_base.specs.declared.names.GroupId.{GroupId}
 use Rattle.mega_base.specs.declared.names.OpId.{OpId}
 use Rattle.mega_ballot.specs.declared.ballot.Ballot.{Ballot}
 use Rattle.mega_ballot.specs.Order.{zero_ballot}
 use Rattle.mega_entry.specs.declared.content.Content.{Content}
 use Rattle.mega_wire.specs.declared.message.Message.{Message}
 use Rattle.mega_wire.specs.declared.message.Body.{Body}
-use Rattle.mega_wire.specs.declared.message.Body.TheVariants.{Accept, Accepted, HaveNot, Refused, Prepare, Promise, Invalidated, Top, Unheld, Where}
+use Rattle.mega_wire.specs.declared.message.Body.TheVariants.{Accept, Accepted, HaveNot, Refused, Prepare, Promise, Invalidated, Top, Unheld}
 use Rattle.mega_wal.specs.Same.{same_group, same_op}
 use Rattle.mega_propose.specs.Members.{has, is_majority, others, with_node, without}
 use Rattle.mega_propose.specs.declared.round.Site.{Site}

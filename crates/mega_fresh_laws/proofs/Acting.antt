@@ -1,12 +1,11 @@
 -- A walk through what an operation does in a step: each answer that it gives, and each proposal that it makes, is of a log that it read through a position
 -- which covers what was decided before it began. `tape` is behind the step's first notes and its decision, `base` is what the node met by then.
-use Rattle.std.proofs.Common.{◌≡◌, ℕ, zero, suc, ◌+◌, ◌-◌, ◌≤◌, nat_le, Bool, true, false, cond, List, [], ◌∷◌, ◌++◌, take, length, map, fold, Option, Some, None, Result, Ok, Err, refl, sym, ap, ◌∙◌, subst, arith}
+use Rattle.std.proofs.Common.{◌≡◌, ℕ, zero, suc, ◌+◌, ◌-◌, ◌≤◌, nat_le, Bool, true, false, cond, List, [], ◌∷◌, ◌++◌, take, length, Option, Some, None, Result, Ok, Err, refl, sym, ap, ◌∙◌, subst, arith}
 use Rattle.std.proofs.lemmas.Bool.Decides.{nat_tests}
 use Rattle.std.specs.List.{list_any}
 use Rattle.mega_base.specs.declared.names.Epoch.{Epoch}
 use Rattle.mega_base.specs.declared.names.GroupId.{GroupId}
 use Rattle.mega_base.specs.declared.names.OpId.{OpId}
-use Rattle.mega_ballot.specs.Order.{zero_ballot}
 use Rattle.mega_cluster.specs.declared.cluster.Cluster.{Cluster}
 use Rattle.mega_coordinator.specs.declared.answers.NotValid.{NotValid}
 use Rattle.mega_entry.specs.declared.content.Content.{Content}
@@ -15,15 +14,12 @@ use Rattle.mega_handler.specs.Named.{has}
 use Rattle.mega_index.specs.Rows.{Listed, after, list_after, no_rows}
 use Rattle.mega_index.specs.declared.found.Found.{Found}
 use Rattle.mega_outcome.specs.declared.answer.Answer.{Answer}
-use Rattle.mega_outcome.specs.declared.answer.Answer.TheVariants.{AllTurned, Conflict, LogFull, NoHandler, NothingToDo, Read as ReadAnswer, Turned as TurnedAnswer}
-use Rattle.mega_outcome.specs.declared.answer.Batch.{Batch}
+use Rattle.mega_outcome.specs.declared.answer.Answer.TheVariants.{AllTurned, Conflict, LogFull, NoHandler, Read as ReadAnswer, Turned as TurnedAnswer}
 use Rattle.mega_outcome.specs.declared.answer.Done.{Done}
 use Rattle.mega_outcome.specs.declared.answer.Mark.{Mark}
 use Rattle.mega_outcome.specs.declared.answer.Shown.{Shown}
 use Rattle.mega_outcome.specs.declared.answer.Turn.{Turn as Turned}
 use Rattle.mega_outcome.specs.declared.request.FindRequest.{FindRequest}
-use Rattle.mega_outcome.specs.declared.request.Mode.{Mode}
-use Rattle.mega_outcome.specs.declared.request.Mode.TheVariants.{Current, Snapshot, Inconsistent}
 use Rattle.mega_outcome.specs.declared.request.ReadRequest.{ReadRequest}
 use Rattle.mega_outcome.specs.declared.request.Request.{Request}
 use Rattle.mega_outcome.specs.declared.request.Request.TheVariants.{Txn, Batch as BatchRequest, Read as ReadRequested, Find, PumpEnter, PumpHandle, Refresh}
@@ -31,17 +27,17 @@ use Rattle.mega_outcome.specs.declared.transaction.RowRef.{RowRef}
 use Rattle.mega_outcome.specs.declared.transaction.Transaction.{Transaction}
 use Rattle.mega_outcome.specs.Outcome.{batch_outcome, entry_of_batch, entry_of_done, outcome}
 use Rattle.mega_outcome.specs.Reads.{all_rows, read_rows}
-use Rattle.mega_propose.specs.Rounds.{asks, due, takes}
+use Rattle.mega_propose.specs.Rounds.{asks}
 use Rattle.mega_read.specs.declared.reading.Move.{Move as ReadMove}
 use Rattle.mega_read.specs.declared.reading.Reading.{Reading}
 use Rattle.mega_read.specs.declared.reading.Search.{Search}
 use Rattle.mega_read.specs.declared.reading.Stage.{Stage}
 use Rattle.mega_read.specs.declared.reading.Stage.TheVariants.{Polling, Catching}
-use Rattle.mega_read.specs.Catching.{asked_by, falls_due, first_reading, hears, local_read, polled_read, seeks, site}
+use Rattle.mega_read.specs.Catching.{asked_by, local_read, polled_read, seeks, site}
 use Rattle.mega_schema.specs.declared.schema.Index.{Index}
 use Rattle.mega_transcript.specs.declared.item.Item.{Item}
 use Rattle.mega_transcript.specs.declared.item.Item.TheVariants.{Decide}
-use Rattle.mega_wal.specs.Same.{same_group, same_op, same_option}
+use Rattle.mega_wal.specs.Same.{same_op, same_option}
 use Rattle.mega_wire.specs.declared.message.Message.{Message}
 use Rattle.mega_wire.specs.declared.message.Body.{Body}
 use Rattle.mega_wire.specs.declared.message.Body.TheVariants.{Accept}
@@ -57,20 +53,20 @@ use Rattle.mega_rules.specs.Met.{Met, Answers, Validates}
 use Rattle.mega_rules.specs.Queues.{Posted, enter_entry, is_named, names_entered, next_to_enter, next_to_handle, oldest_unhandled}
 use Rattle.mega_rules.specs.Operations.{Now, Operation, Phase, Promised, Proposes, Reads, Replies, Results, Setting}
 use Rattle.mega_rules.specs.Acting.{acts, acts_within, applied_logs, batch_sealed, begins_read, committed, completes_read, ends, enters, finishes, goes_on, handles, handling, in_phase, is_taken, is_visited, keeps, leader_after, listed_at, picks_group, picks_message, proposes, proposes_by, read_answer, read_begun, reader_of, reads_on, rows_answer, rows_at, sealed, sends_more, table_rows, unless_decided, unless_full, validated_by, verdict, visiting}
-use Rattle.mega_rules.specs.Steps.{Heard, acts_in_turn, all_act, begins, does_due, find_begins, hears_message, is_current, is_out, last_answer, local_find_begins, new_operation, onto, read_begins, ticked, unless_refused}
+use Rattle.mega_rules.specs.Steps.{onto}
 use Rattle.mega_tape_laws.specs.Lawful.{Lawful, message}
-use Rattle.mega_tape_laws.specs.Places.{In, Took}
+use Rattle.mega_tape_laws.specs.Places.{In}
 use Rattle.mega_tape_laws.specs.Polls.{ArePolls}
 use Rattle.mega_tape_laws.specs.Writes.{Usage}
 use Rattle.mega_run_laws.specs.Vouched.{Each}
 use Rattle.mega_run_laws.proofs.Events.{onto_append}
 use Rattle.mega_run_laws.proofs.Owned.{front_length, knows_front}
 use Rattle.mega_run_laws.proofs.Prefixes.{prefix_more}
-use Rattle.mega_run_laws.proofs.Turns.{Known, each_on, each_push}
+use Rattle.mega_run_laws.proofs.Turns.{Known, each_push}
 use Rattle.mega_settled_laws.proofs.Tapes.{each_both}
 use Rattle.mega_fresh_laws.specs.Covering.{Answered, Covers, IsFreshAnswer, IsProposed, IsShown, ReadOver}
-use Rattle.mega_fresh_laws.proofs.Accepts.{Never, NeverBody, Zero, ZeroBody, due_zero, falls_due_never, hears_never, polled_never, seeks_never, takes_zero}
-use Rattle.mega_fresh_laws.proofs.Through.{Of, PhaseAbove, PhaseFresh, StageFresh, due_fresh, hears_fresh, polled_fresh, seeks_fresh}
+use Rattle.mega_fresh_laws.proofs.Accepts.{Never, NeverBody, polled_never, seeks_never}
+use Rattle.mega_fresh_laws.proofs.Through.{Of, PhaseFresh, StageFresh, polled_fresh, seeks_fresh}
 
 -- ---- what an answer shows
 

@@ -1,21 +1,18 @@
 -- Each kind of event leads a good standing to a good one, whoever uses the store, as in mega_run_laws (`Runs`), which keeps these to itself.
-use Rattle.std.proofs.Common.{◌≡◌, ◌⊎◌, inl, inr, ℕ, zero, suc, ◌+◌, ◌==◌, ◌&&◌, ◌≤◌, ◌<◌, nat_lt, Bool, true, false, not, cond, List, [], ◌∷◌, ◌++◌, map, filter, flat_map, fold, find, Option, Some, None, refl, sym, ap, ◌∙◌, subst, arith}
+use Rattle.std.proofs.Common.{◌≡◌, ◌⊎◌, inl, inr, ℕ, ◌+◌, ◌==◌, ◌&&◌, ◌≤◌, ◌<◌, nat_lt, Bool, true, false, not, cond, List, [], ◌∷◌, ◌++◌, map, filter, flat_map, find, Option, Some, None, refl, sym, ap, ◌∙◌, subst, arith}
 use Rattle.mega_base.specs.declared.names.GroupId.{GroupId}
 use Rattle.mega_base.specs.declared.names.OpId.{OpId}
 use Rattle.mega_cluster.specs.declared.cluster.Cluster.{Cluster}
 use Rattle.mega_handler.specs.Named.{Meanings}
 use Rattle.mega_outcome.specs.declared.request.Request.{Request}
 use Rattle.mega_wire.specs.declared.message.Message.{Message}
-use Rattle.mega_schedule.specs.declared.world_event.WorldEvent.{WorldEvent}
-use Rattle.mega_schedule.specs.declared.world_event.WorldEvent.TheVariants.{Tick as TickEvent, Deliver, Drop, Drain, Crash as CrashEvent, Start as StartEvent, Fuse as FuseEvent, Begin as BeginEvent}
 use Rattle.mega_transcript.specs.declared.item.Item.{Item}
-use Rattle.mega_transcript.specs.declared.item.Item.TheVariants.{Sent, Taken, Dropped, Start, Tick as TickItem, Begin as BeginItem, Crash, Cut as CutItem}
+use Rattle.mega_transcript.specs.declared.item.Item.TheVariants.{Taken, Start, Tick as TickItem, Begin as BeginItem, Crash}
 use Rattle.mega_promises.specs.Items.{number, shown}
-use Rattle.mega_promises.specs.Messages.{is_deliverable, is_dropped, message_of, next_delivery, receiver_up}
-use Rattle.mega_promises.specs.Runs.{Calls, CutByData, CutByLog, Cuts, Fate, Fuse, Happening, IsRun, Left, Standing, Whole, after_event, at_node, because, calls_of, crashes, cut_start, cut_step, delivered, drained, fate_by, fated, fated_start, goes_on, handed, is_durable, is_kept, log_fuse_after, marked, new_fuse, nothing_yet, opening, owes, receiver_down, records_left, refusal, set_at, setting, start_calls, started_records, unless_none, unless_refused, up, whole_start, whole_step, with_item, with_items}
-use Rattle.mega_transcript.specs.Tape.{is_sent, is_taken}
+use Rattle.mega_promises.specs.Messages.{message_of, receiver_up}
+use Rattle.mega_promises.specs.Runs.{Calls, CutByData, CutByLog, Cuts, Fate, Fuse, Left, Standing, Whole, at_node, because, calls_of, crashes, cut_start, cut_step, fate_by, fated, fated_start, handed, is_durable, is_kept, log_fuse_after, marked, nothing_yet, owes, records_left, set_at, setting, started_records, up, whole_start, whole_step, with_item, with_items}
 use Rattle.mega_rules.specs.Met.{Met, Answers, Applies, Begins, Crashes, Starts, Takes, Ticks, Unsends}
-use Rattle.mega_rules.specs.Members.{has_rows, is_node, nodes}
+use Rattle.mega_rules.specs.Members.{has_rows}
 use Rattle.mega_rules.specs.Clock.{is_up, start_of}
 use Rattle.mega_rules.specs.Logs.{groups_of, prefix_of}
 use Rattle.mega_rules.specs.Operations.{Node, Setting}
@@ -24,18 +21,18 @@ use Rattle.mega_tape_laws.specs.Places.{Place, moves, Took, acts}
 use Rattle.mega_run_laws.proofs.Owned.{Users}
 use Rattle.mega_tape_laws.specs.Lawful.{Lawful, message}
 use Rattle.mega_tape_laws.specs.Polls.{ArePolls, has_asked}
-use Rattle.mega_tape_laws.specs.Writes.{AreWritten, LawfulWrites, Usage, has_begun}
+use Rattle.mega_tape_laws.specs.Writes.{AreWritten, Usage, has_begun}
 use Rattle.mega_schema.specs.declared.schema.Schema.{Schema}
-use Rattle.mega_run_laws.specs.Usages.{Brought, Fits, IsMeant}
+use Rattle.mega_run_laws.specs.Usages.{Brought}
 use Rattle.mega_tape_laws.proofs.Ballots.{number_self}
 use Rattle.mega_tape_laws.proofs.Lists.{some_is}
 use Rattle.mega_run_laws.specs.Vouched.{Each}
-use Rattle.mega_run_laws.proofs.Noted.{Follows, Note, TapeOn, each_note_on, notes_follow, one_note, tape_item, with_append}
+use Rattle.mega_run_laws.proofs.Noted.{Follows, Note, TapeOn, each_note_on, notes_follow, one_note, with_append}
 use Rattle.mega_run_laws.proofs.Standing.{Good, IsNew, Owes, act_other, act_same, other_good, owes_on, unmoved_on}
 use Rattle.mega_run_laws.proofs.Stepping.{Next, OtherThan, Own, next_good}
 use Rattle.mega_run_laws.proofs.Events.{IsPlain, each_flat_map, onto_append, plain_notes, plain_silents}
 use Rattle.mega_run_laws.proofs.Silent.{IsSilent, flat_append, note_answered, note_failed, notes_answered, notes_failed}
-use Rattle.mega_tape_laws.specs.Answers.{AreAnswered, IsAnswered, LawfulAnswers, has_failed}
+use Rattle.mega_tape_laws.specs.Answers.{AreAnswered, IsAnswered, has_failed}
 use Rattle.mega_run_laws.proofs.Steps.{begins_other, begun_next, never_asked, never_begun, own_begin, stands_sent, whole_good}
 use Rattle.mega_run_laws.proofs.Ticking.{own_tick, ticked_next}
 use Rattle.mega_run_laws.proofs.Whole.{StepNext, own_taken, take_next}
@@ -46,7 +43,6 @@ use Rattle.std.specs.List.{cons_option}
 use Rattle.mega_rules.specs.Replies.{answer_to, reply_message, reply_to}
 use Rattle.mega_wire.specs.declared.message.Body.{Body}
 use Rattle.mega_rules.specs.Voting.{acts as acts_met}
-use Rattle.mega_disk.specs.declared.pair.Device.TheVariants.{Log, Data}
 use Rattle.mega_promises.specs.Promises.{Stands}
 
 old_moves : (users : Users) → (c : Cluster) (now : Standing) (me : ℕ) → Good users c now → (x : OpId) → x.node.0 ≡ me → IsNew (now.starts me) (now.node me).met x → (q : Place) → moves now.tape x q ≡ []

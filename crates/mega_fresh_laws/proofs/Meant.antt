@@ -5,25 +5,22 @@ use Rattle.std.specs.List.{range_with_len}
 use Rattle.mega_cluster.specs.declared.cluster.Cluster.{Cluster}
 use Rattle.mega_disk.specs.declared.pair.Device.TheVariants.{Log, Data}
 use Rattle.mega_handler.specs.Named.{Meanings}
-use Rattle.mega_outcome.specs.declared.request.Request.{Request}
 use Rattle.mega_schedule.specs.declared.world_event.WorldEvent.{WorldEvent}
 use Rattle.mega_schedule.specs.declared.world_event.WorldEvent.TheVariants.{Tick as TickEvent, Deliver, Drop, Drain, Crash as CrashEvent, Start as StartEvent, Fuse as FuseEvent, Begin as BeginEvent}
 use Rattle.mega_transcript.specs.declared.item.Item.{Item}
-use Rattle.mega_transcript.specs.declared.item.Item.TheVariants.{Begin as BeginItem, Crash, Cut as CutItem, Dropped, Sent, Taken, Tick as TickItem}
+use Rattle.mega_transcript.specs.declared.item.Item.TheVariants.{Begin as BeginItem, Crash, Cut as CutItem, Dropped, Taken, Tick as TickItem}
 use Rattle.mega_transcript.specs.Tape.{is_sent, is_taken, sent_count}
 use Rattle.mega_wire.specs.declared.message.Message.{Message}
 use Rattle.mega_promises.specs.Items.{number, numbered, shown}
 use Rattle.mega_promises.specs.Messages.{is_deliverable, is_dropped, message_of, next_delivery, receiver_up}
-use Rattle.mega_promises.specs.Promises.{Stands}
-use Rattle.mega_promises.specs.Runs.{Calls, Cuts, CutByData, CutByLog, Fate, Happening, IsRun, Standing, Whole, after_event, at_node, calls_of, crashes, delivered, drained, fate_by, fated, fated_start, goes_on, handed, marked, met_in, nothing_yet, opening, receiver_down, refusal, replies_in, set_at, setting, start_calls, unless_none, unless_refused, up, whole_step, with_item, with_items}
+use Rattle.mega_promises.specs.Runs.{Cuts, CutByData, CutByLog, Fate, Happening, IsRun, Standing, Whole, after_event, calls_of, delivered, drained, fate_by, fated, fated_start, goes_on, handed, marked, met_in, nothing_yet, opening, receiver_down, refusal, replies_in, set_at, setting, start_calls, unless_none, unless_refused, up, whole_step, with_item, with_items}
 use Rattle.mega_rules.specs.Clock.{is_up}
 use Rattle.mega_rules.specs.Members.{is_node, nodes}
-use Rattle.mega_rules.specs.Met.{Met, Begins, Ticks}
-use Rattle.mega_rules.specs.Operations.{Node, Setting}
+use Rattle.mega_rules.specs.Operations.{Node}
 use Rattle.mega_rules.specs.Steps.{Begin, Event, Step, Take, Tick, crashed, op_of, start, start_items, step}
 use Rattle.mega_tape_laws.specs.Writes.{Usage}
 use Rattle.mega_run_laws.specs.Usages.{Brought, Fits, FitsOne, IsMeant}
-use Rattle.mega_run_laws.specs.Vouched.{Each, sent}
+use Rattle.mega_run_laws.specs.Vouched.{sent}
 use Rattle.mega_run_laws.proofs.Noted.{tape_item, with_append, with_sent}
 use Rattle.mega_run_laws.proofs.Owned.{Users}
 use Rattle.mega_run_laws.proofs.Runs.{IsMark}

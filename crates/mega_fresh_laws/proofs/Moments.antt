@@ -1,5 +1,5 @@
 -- As a tape goes on without a begin, what stood before an operation began stays the same, and what was read then covers it still.
-use Rattle.std.proofs.Common.{◌≡◌, inr, ℕ, ◌+◌, ◌&&◌, Bool, true, false, not, cond, List, [], ◌∷◌, ◌++◌, flat_map, Option, Result, refl, ap, ◌∙◌, subst}
+use Rattle.std.proofs.Common.{◌≡◌, inr, ℕ, ◌+◌, ◌&&◌, Bool, true, false, not, cond, List, [], ◌∷◌, flat_map, Option, Result, refl, ap, ◌∙◌, subst}
 use Rattle.mega_base.specs.declared.names.GroupId.{GroupId}
 use Rattle.mega_base.specs.declared.names.OpId.{OpId}
 use Rattle.mega_cluster.specs.declared.cluster.Cluster.{Cluster}
@@ -26,7 +26,7 @@ use Rattle.mega_tape_laws.specs.Writes.{Usage}
 use Rattle.mega_run_laws.specs.Vouched.{Each, sent}
 use Rattle.mega_run_laws.proofs.Sending.{Stood}
 use Rattle.mega_settled_laws.proofs.Tapes.{each_both}
-use Rattle.mega_fresh_laws.specs.Covering.{Answered, AreTurned, Covers, IsFreshAnswer, IsFull, IsProposed, IsShown, IsTurned, ReadOver, before_begin}
+use Rattle.mega_fresh_laws.specs.Covering.{Answered, AreTurned, Covers, IsFreshAnswer, IsProposed, IsShown, IsTurned, ReadOver, before_begin}
 
 abbrev pub NoBegin : Item → Type 0
 NoBegin (Begin op text) = ⊥

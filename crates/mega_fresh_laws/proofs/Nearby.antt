@@ -1,6 +1,6 @@
 -- Where a node may read locally within a step, the greatest position that it accepted or decided by then covers each decision before the operation began,
 -- as long as leases are safe: what the tape shows at the step's end, before its messages, is that of a run.
-use Rattle.std.proofs.Common.{◌≡◌, ◌⊎◌, inl, inr, ℕ, zero, suc, ◌+◌, ◌≤◌, ◌<◌, ◌==◌, ◌&&◌, nat_le, not, Bool, true, false, cond, List, [], ◌∷◌, ◌++◌, filter, flat_map, length, map, Option, Some, None, refl, sym, ap, ◌∙◌, subst, arith}
+use Rattle.std.proofs.Common.{◌≡◌, ◌⊎◌, inl, inr, ℕ, zero, suc, ◌+◌, ◌≤◌, ◌<◌, ◌==◌, ◌&&◌, nat_le, not, Bool, true, false, cond, List, [], ◌∷◌, ◌++◌, filter, flat_map, length, map, refl, sym, ap, ◌∙◌, subst, arith}
 use Rattle.std.proofs.lemmas.Bool.Decides.{nat_tests}
 use Rattle.std.specs.List.{range_with_len}
 use Rattle.mega_base.specs.declared.names.Epoch.{Epoch}
@@ -8,7 +8,6 @@ use Rattle.mega_base.specs.declared.names.GroupId.{GroupId}
 use Rattle.mega_base.specs.declared.names.NodeId.{NodeId}
 use Rattle.mega_base.specs.declared.names.OpId.{OpId}
 use Rattle.mega_base.specs.declared.names.Position.{Position}
-use Rattle.mega_ballot.specs.declared.ballot.Ballot.{Ballot}
 use Rattle.mega_cluster.specs.declared.cluster.Cluster.{Cluster}
 use Rattle.mega_coordinator.specs.Laws.{ValidatedAbove}
 use Rattle.mega_coordinator.proofs.Validity.{validated_above}
@@ -18,22 +17,22 @@ use Rattle.mega_transcript.specs.declared.item.Item.{Item}
 use Rattle.mega_transcript.specs.declared.item.Item.TheVariants.{Begin as BeginItem, Decide, Sent, Unsafe}
 use Rattle.mega_transcript.specs.Tape.{sent_count}
 use Rattle.mega_wal.specs.Acceptor.{Voted}
-use Rattle.mega_wal.specs.Same.{same_group, same_op}
+use Rattle.mega_wal.specs.Same.{same_op}
 use Rattle.mega_wire.specs.declared.message.Message.{Message}
 use Rattle.mega_wire.specs.declared.message.Body.TheVariants.{Accepted}
 use Rattle.mega_promises.specs.Items.{number, shown}
 use Rattle.mega_promises.specs.Messages.{is_unsafe}
 use Rattle.mega_promises.specs.Promises.{Stands}
-use Rattle.mega_promises.specs.Runs.{Cuts, Happening, IsRun, Standing, breaks, goes_on, met_in, opening, set_at, setting, whole_step, with_item, with_items}
+use Rattle.mega_promises.specs.Runs.{Cuts, IsRun, Standing, breaks, goes_on, met_in, opening, set_at, setting, whole_step, with_item, with_items}
 use Rattle.mega_rules.specs.Clock.{is_up, start_of}
-use Rattle.mega_rules.specs.Coordinators.{coordinator_calls, serves_at, valid_at}
+use Rattle.mega_rules.specs.Coordinators.{coordinator_calls, valid_at}
 use Rattle.mega_rules.specs.Logs.{top_of}
 use Rattle.mega_rules.specs.Members.{full_nodes, is_full, nodes}
 use Rattle.mega_rules.specs.Met.{Met, Starts, Crashes, Ticks, Begins, Takes, Sends, Unsends, Grants, Lapses, Counts, Forgets, Serves, Loses, Validates, Invalidates, Decides, Applies, Answers}
 use Rattle.mega_rules.specs.Operations.{Node, Setting}
 use Rattle.mega_rules.specs.Steps.{Event, Step, onto, step}
 use Rattle.mega_tape_laws.specs.Lawful.{message}
-use Rattle.mega_tape_laws.specs.Places.{In, Place, acts}
+use Rattle.mega_tape_laws.specs.Places.{In}
 use Rattle.mega_tape_laws.specs.Polls.{ArePolls}
 use Rattle.mega_tape_laws.specs.Settled.{IsCellMajority}
 use Rattle.mega_tape_laws.specs.Writes.{Usage}
@@ -57,12 +56,12 @@ use Rattle.mega_leased_laws.proofs.Forms.{stepped}
 use Rattle.mega_leased_laws.proofs.Held.{run_held}
 use Rattle.mega_leased_laws.proofs.Leased.{run_leased}
 use Rattle.mega_leased_laws.proofs.Told.{step_met}
-use Rattle.mega_fresh_laws.specs.Covering.{Covers, before_begin}
+use Rattle.mega_fresh_laws.specs.Covering.{before_begin}
 use Rattle.mega_fresh_laws.proofs.Acting.{IsValidate, Locals}
 use Rattle.mega_fresh_laws.proofs.Meant.{Reached, run_of, those_of}
-use Rattle.mega_fresh_laws.proofs.Moments.{IsCalm, NoBegin, Onward, calm_items}
+use Rattle.mega_fresh_laws.proofs.Moments.{IsCalm, Onward, calm_items}
 use Rattle.mega_fresh_laws.proofs.Steps.{base_of, front_of}
-use Rattle.mega_fresh_laws.proofs.Tails.{Hit, IsTail, Parted, front_each, hit_shows, sends_valid, step_parted, tail_still, tail_valid, valid_or}
+use Rattle.mega_fresh_laws.proofs.Tails.{Hit, IsTail, Parted, front_each, hit_shows, sends_valid, step_parted, tail_valid, valid_or}
 use Rattle.mega_fresh_laws.proofs.Tops.{noted_most, notes_stood, run_topped, top_more, top_onto, votes_most}
 
 -- ---- lists

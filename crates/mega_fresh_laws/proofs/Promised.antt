@@ -1,7 +1,6 @@
 -- So what is answered and what is proposed is fresh as it is promised: of the whole tape, also of what comes after.
-use Rattle.std.proofs.Common.{◌≡◌, ◌⊎◌, inl, inr, ℕ, zero, suc, ◌+◌, ◌-◌, ◌≤◌, ◌||◌, Bool, true, false, cond, List, [], ◌∷◌, ◌++◌, take, length, Option, Some, None, Result, Ok, Err, refl, sym, ap, ◌∙◌, subst, arith}
+use Rattle.std.proofs.Common.{◌≡◌, ◌⊎◌, inl, inr, ℕ, suc, ◌-◌, ◌≤◌, ◌||◌, Bool, true, false, cond, List, [], ◌∷◌, ◌++◌, length, Option, Some, Result, Ok, Err, refl, sym, ap, ◌∙◌, subst, arith}
 use Rattle.mega_base.specs.declared.names.GroupId.{GroupId}
-use Rattle.mega_base.specs.declared.names.NodeId.{NodeId}
 use Rattle.mega_base.specs.declared.names.OpId.{OpId}
 use Rattle.mega_base.specs.declared.names.Position.{Position}
 use Rattle.mega_ballot.specs.Order.{zero_ballot}
@@ -18,14 +17,13 @@ use Rattle.mega_outcome.specs.declared.answer.Turn.{Turn}
 use Rattle.mega_outcome.specs.declared.request.FindRequest.{FindRequest}
 use Rattle.mega_outcome.specs.declared.request.ReadRequest.{ReadRequest}
 use Rattle.mega_outcome.specs.declared.request.Request.{Request}
-use Rattle.mega_outcome.specs.declared.request.Request.TheVariants.{Batch as BatchRequest, Find, PumpEnter, PumpHandle, Read as ReadRequested, Refresh, Txn}
+use Rattle.mega_outcome.specs.declared.request.Request.TheVariants.{Batch as BatchRequest, Find, PumpEnter, PumpHandle, Read as ReadRequested, Txn}
 use Rattle.mega_outcome.specs.declared.transaction.Transaction.{Transaction}
-use Rattle.mega_outcome.specs.Outcome.{batch_outcome, entry_of_batch, entry_of_done, outcome}
+use Rattle.mega_outcome.specs.Outcome.{batch_outcome, entry_of_done, outcome}
 use Rattle.mega_transcript.specs.declared.item.Item.{Item}
-use Rattle.mega_transcript.specs.declared.item.Item.TheVariants.{Answer as AnswerItem, Begin, Decide, Sent, Unsafe}
+use Rattle.mega_transcript.specs.declared.item.Item.TheVariants.{Answer as AnswerItem, Begin, Decide, Unsafe}
 use Rattle.mega_wal.specs.Same.{same_op}
 use Rattle.mega_wal.proofs.Sames.{same_op_equal, same_op_self}
-use Rattle.mega_wire.specs.declared.message.Body.TheVariants.{Accept}
 use Rattle.mega_promises.specs.Fresh.{IsSafeAt, ReadsThrough, WasDecided, find_over, is_shown, proposes, read_over}
 use Rattle.mega_promises.specs.Messages.{is_unsafe}
 use Rattle.mega_promises.specs.Promises.{Stands, StoodBefore, asked_for, comes_to, group_written, is_write, log_of}
@@ -33,14 +31,13 @@ use Rattle.mega_promises.specs.Runs.{Happening, IsRun}
 use Rattle.mega_rules.specs.Steps.{is_current}
 use Rattle.mega_tape_laws.specs.Answers.{AreAnswered, IsAnswered}
 use Rattle.mega_tape_laws.specs.Lawful.{Lawful, message}
-use Rattle.mega_tape_laws.specs.Places.{In, Place, Proposes, move_of, moves}
-use Rattle.mega_tape_laws.specs.Writes.{AreWritten, IsFront, IsNamed, IsWritten, Knows, OwnEntry, Usage, enters, fills, handles, has_begun, runs, runs_all}
+use Rattle.mega_tape_laws.specs.Places.{Proposes, move_of}
+use Rattle.mega_tape_laws.specs.Writes.{AreWritten, IsFront, IsNamed, IsWritten, OwnEntry, Usage, enters, fills, handles, has_begun, runs, runs_all}
 use Rattle.mega_tape_laws.proofs.Complete.{known_is_front}
 use Rattle.mega_tape_laws.proofs.Lists.{kept, some_is}
 use Rattle.mega_tape_laws.proofs.Made.{proposed_here}
 use Rattle.mega_tape_laws.proofs.Origins.{Origin, id_is, origin}
 use Rattle.mega_run_laws.specs.Usages.{Fits}
-use Rattle.mega_run_laws.proofs.Opened.{at_place}
 use Rattle.mega_run_laws.proofs.Runs.{run_answered, run_lawful, run_written}
 use Rattle.mega_leased_laws.specs.Items.{Are}
 use Rattle.mega_fresh_laws.specs.Covering.{Answered, Covers, IsFreshAnswer, IsFreshItem, ReadOver, before_begin}

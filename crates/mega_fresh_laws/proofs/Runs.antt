@@ -1,29 +1,25 @@
 -- In every run each answer and each proposal is fresh, item by item, and so is what stays open.
-use Rattle.std.proofs.Common.{◌≡◌, ◌⊎◌, inl, inr, ℕ, zero, suc, ◌+◌, ◌≤◌, ◌<◌, ◌==◌, ◌&&◌, ◌||◌, Bool, true, false, cond, List, [], ◌∷◌, ◌++◌, flat_map, length, map, Option, Some, None, refl, sym, ap, ◌∙◌, subst, arith}
+use Rattle.std.proofs.Common.{◌≡◌, inl, inr, ℕ, ◌+◌, ◌≤◌, ◌==◌, ◌&&◌, ◌||◌, Bool, true, false, cond, List, [], ◌∷◌, ◌++◌, flat_map, length, Option, Some, None, refl, sym, ap, ◌∙◌, subst}
 use Rattle.mega_base.specs.declared.names.GroupId.{GroupId}
 use Rattle.mega_base.specs.declared.names.OpId.{OpId}
 use Rattle.mega_cluster.specs.declared.cluster.Cluster.{Cluster}
 use Rattle.mega_entry.specs.declared.content.Content.{Content}
 use Rattle.mega_handler.specs.Named.{Meanings}
-use Rattle.mega_outcome.specs.declared.request.Request.{Request}
-use Rattle.mega_propose.specs.declared.round.Proposal.{Proposal}
-use Rattle.mega_read.specs.declared.reading.Reading.{Reading}
 use Rattle.mega_transcript.specs.declared.item.Item.{Item}
-use Rattle.mega_transcript.specs.declared.item.Item.TheVariants.{Answer as AnswerItem, Begin as BeginItem, Crash, Cut as CutItem, Decide, Dropped, Sent, Taken, Tick as TickItem, Unsafe}
+use Rattle.mega_transcript.specs.declared.item.Item.TheVariants.{Answer as AnswerItem, Begin as BeginItem, Crash, Decide, Sent, Taken, Tick as TickItem}
 use Rattle.mega_transcript.specs.Tape.{sent_count}
 use Rattle.mega_wal.specs.Same.{same_group, same_op}
 use Rattle.mega_wal.proofs.Sames.{same_group_equal, same_op_equal, same_op_self}
 use Rattle.mega_wire.specs.declared.message.Message.{Message}
 use Rattle.mega_promises.specs.Items.{number, numbered, shown}
 use Rattle.mega_promises.specs.Promises.{Stands, asked_for}
-use Rattle.mega_promises.specs.Runs.{Cuts, Happening, IsRun, Standing, goes_on, met_in, nothing_yet, opening, set_at, setting, whole_step, with_item, with_items}
-use Rattle.mega_rules.specs.Clock.{begun_of, is_up, last_number, start_of}
+use Rattle.mega_promises.specs.Runs.{Cuts, Happening, IsRun, Standing, met_in, set_at, setting, whole_step, with_item, with_items}
+use Rattle.mega_rules.specs.Clock.{begun_of, is_up, start_of}
 use Rattle.mega_rules.specs.Logs.{decided, first_of}
 use Rattle.mega_rules.specs.Met.{Met, Starts, Crashes, Ticks, Begins, Takes, Sends, Unsends, Grants, Lapses, Counts, Forgets, Serves, Loses, Validates, Invalidates, Decides, Applies, Answers}
-use Rattle.mega_rules.specs.Operations.{Node, Operation, Phase, Proposes, Reads, Setting}
-use Rattle.mega_rules.specs.Steps.{Begin, Event, Step, Take, Tick, crashed, lapse_notes, lease_notes, onto, op_of, start, start_items, start_notes, step, told_notes}
+use Rattle.mega_rules.specs.Operations.{Node, Operation, Setting}
+use Rattle.mega_rules.specs.Steps.{Begin, Event, Step, Take, Tick, crashed, lapse_notes, lease_notes, onto, op_of, start, start_items, start_notes, step}
 use Rattle.mega_tape_laws.specs.Lawful.{Lawful, message}
-use Rattle.mega_tape_laws.specs.Places.{Took}
 use Rattle.mega_tape_laws.specs.Polls.{ArePolls}
 use Rattle.mega_tape_laws.specs.Writes.{IsNamed, Usage, has_begun}
 use Rattle.mega_tape_laws.proofs.Ballots.{number_is}
@@ -33,7 +29,7 @@ use Rattle.mega_run_laws.specs.Vouched.{Each, sent}
 use Rattle.mega_run_laws.proofs.Events.{IsPlain, lapses_plain, lease_plain, told_plain}
 use Rattle.mega_run_laws.proofs.Noted.{with_append, with_sent}
 use Rattle.mega_rules.specs.Replies.{reply_to}
-use Rattle.mega_run_laws.proofs.Owned.{Mine, NoAccept, Plain, began_asked}
+use Rattle.mega_run_laws.proofs.Owned.{Mine, NoAccept, began_asked}
 use Rattle.mega_run_laws.proofs.Runs.{IsMark, run_lawful, run_polls, starts_plain}
 use Rattle.mega_run_laws.proofs.Sending.{took_on}
 use Rattle.mega_run_laws.proofs.Silent.{flat_append}
@@ -41,22 +37,22 @@ use Rattle.mega_run_laws.proofs.Standing.{Good, Owes}
 use Rattle.mega_run_laws.proofs.Steps.{never_begun}
 use Rattle.mega_run_laws.proofs.Turns.{Held, Known, each_on, each_zip}
 use Rattle.mega_settled_laws.specs.Covering.{Earlier}
-use Rattle.mega_settled_laws.proofs.Tapes.{each_both, earlier_stood, items_later, now_is, one_later, sent_later, then_later}
+use Rattle.mega_settled_laws.proofs.Tapes.{each_both, earlier_stood, items_later, sent_later, then_later}
 use Rattle.mega_valid_laws.proofs.Folds.{IsOwn}
 use Rattle.mega_leased_laws.specs.Items.{Are}
 use Rattle.mega_leased_laws.proofs.Cells.{by_node, occurs_own}
 use Rattle.mega_leased_laws.proofs.Forms.{Occurs, down, stepped}
 use Rattle.mega_leased_laws.proofs.Notes.{fronts}
 use Rattle.mega_leased_laws.proofs.Tapes.{IsFree, are_items, free_follows, free_notes}
-use Rattle.mega_fresh_laws.specs.Covering.{Answered, IsFreshItem, IsProposed}
+use Rattle.mega_fresh_laws.specs.Covering.{IsFreshItem, IsProposed}
 use Rattle.mega_fresh_laws.proofs.Acting.{IsValidate, Locals, NoteFresh}
 use Rattle.mega_fresh_laws.proofs.Heeding.{Open}
 use Rattle.mega_fresh_laws.proofs.Meant.{MayBegin, Reached, Stays, run_of, run_stays, those_of}
 use Rattle.mega_fresh_laws.proofs.Moments.{IsLater, NoBegin, Onward, answered_on, later_shown, onward_begin, onward_item, onward_items, onward_sent, onward_then, proposed_on}
-use Rattle.mega_fresh_laws.proofs.Nearby.{Lives, front_tape, step_locals}
+use Rattle.mega_fresh_laws.proofs.Nearby.{Lives, step_locals}
 use Rattle.mega_fresh_laws.proofs.Steps.{IsApply, Shown, StepFresh, base_of, front_of, reply_quiet, step_fresh}
 use Rattle.mega_fresh_laws.proofs.Tails.{IsTail, Parted, front_each, step_parted}
-use Rattle.mega_fresh_laws.proofs.Through.{PhaseAbove, PhaseFresh, phase_above, phase_on}
+use Rattle.mega_fresh_laws.proofs.Through.{PhaseFresh, phase_above, phase_on}
 
 clash : {X : Type 0} (t : Bool) → t ≡ true → t ≡ false → X
 clash t h k = absurd (let both_ways = sym h ∙ k in cc)

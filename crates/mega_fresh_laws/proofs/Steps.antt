@@ -1,5 +1,5 @@
 -- A step of a node: what it answers, what it proposes and what stays open are fresh, on the tape behind its first notes and its decision.
-use Rattle.std.proofs.Common.{◌≡◌, ◌⊎◌, inl, inr, ℕ, zero, suc, ◌+◌, ◌-◌, ◌<◌, ◌&&◌, nat_le, nat_lt, slice_get, length, arith, Bool, true, false, cond, List, [], ◌∷◌, ◌++◌, map, flat_map, fold, Option, Some, None, refl, sym, ap, ◌∙◌, subst}
+use Rattle.std.proofs.Common.{◌≡◌, inl, inr, ℕ, zero, suc, ◌-◌, ◌<◌, ◌&&◌, nat_le, nat_lt, slice_get, length, arith, Bool, true, false, cond, List, [], ◌∷◌, ◌++◌, map, flat_map, fold, Option, Some, None, refl, sym, ap, subst}
 use Rattle.std.proofs.lemmas.Bool.Decides.{nat_tests}
 use Rattle.std.specs.List.{All}
 use Rattle.std.proofs.lemmas.List.Elements.{All-head, All-tail}
@@ -24,7 +24,7 @@ use Rattle.mega_rules.specs.Members.{has_rows, is_full, is_node, kind_of, nodes,
 use Rattle.mega_rules.specs.Met.{Met, Applies, Begins, Takes, Ticks}
 use Rattle.mega_rules.specs.Operations.{Node, Now, Operation, Setting}
 use Rattle.mega_rules.specs.Replies.{answer_to, reply_message, reply_to}
-use Rattle.mega_rules.specs.Steps.{Begin, Decision, Event, Heard as HeardBy, Step, Take, Tick, all_act, applied_at, apply_note, apply_notes, at_first, at_open, background, begin_step, decide_to, decision_note, fetch_to, fetches_for, first_settled, hears_message, if_new, is_worn, lapse_notes, lease_notes, missing_kind, needs_full, new_operation, news, onto, op_of, portion_of, refusal, step, stored_after, take_step, taken, tick_step, ticked, told_decision, told_notes, unless_busy, unless_missing, unless_refused}
+use Rattle.mega_rules.specs.Steps.{Begin, Decision, Event, Heard as HeardBy, Step, Take, Tick, all_act, applied_at, apply_note, apply_notes, at_first, at_open, background, begin_step, decide_to, decision_note, fetch_to, fetches_for, first_settled, hears_message, if_new, is_worn, lapse_notes, lease_notes, missing_kind, needs_full, new_operation, news, onto, op_of, portion_of, refusal, step, stored_after, taken, tick_step, ticked, told_decision, told_notes, unless_missing, unless_refused}
 use Rattle.mega_tape_laws.specs.Lawful.{Lawful, message}
 use Rattle.mega_tape_laws.specs.Places.{In, Took}
 use Rattle.mega_tape_laws.specs.Polls.{ArePolls}
@@ -38,7 +38,7 @@ use Rattle.mega_run_laws.proofs.Turns.{Known, each_on}
 use Rattle.mega_run_laws.proofs.Whole.{in_left, in_right}
 use Rattle.mega_settled_laws.proofs.Tapes.{each_both}
 use Rattle.mega_lease_laws.proofs.Acting.{Acquires, acquires_are}
-use Rattle.mega_fresh_laws.specs.Covering.{IsFreshAnswer, IsProposed}
+use Rattle.mega_fresh_laws.specs.Covering.{IsProposed}
 use Rattle.mega_fresh_laws.proofs.Through.{PhaseFresh}
 use Rattle.mega_fresh_laws.proofs.Acting.{Acting, IsValidate, Locals, NoteFresh}
 use Rattle.mega_fresh_laws.proofs.Heeding.{Open, all_heard, all_ticked, begun_it, refused_fresh}

@@ -1,5 +1,5 @@
 -- What a step notes behind its first notes and its decision: what is applied, what becomes valid, and answers; none of these ends the validity of a group.
-use Rattle.std.proofs.Common.{◌≡◌, ◌⊎◌, inl, inr, ℕ, ◌+◌, ◌==◌, ◌&&◌, nat_lt, Bool, true, false, cond, List, [], ◌∷◌, ◌++◌, map, flat_map, fold, Option, Some, None, refl, sym, ap, ◌∙◌, subst}
+use Rattle.std.proofs.Common.{◌≡◌, ◌⊎◌, inl, inr, ℕ, ◌==◌, ◌&&◌, nat_lt, Bool, true, false, cond, List, [], ◌∷◌, ◌++◌, map, flat_map, Option, Some, None, refl, sym, ap, ◌∙◌}
 use Rattle.std.specs.Prelude.{is_none}
 use Rattle.mega_base.specs.declared.names.Epoch.{Epoch}
 use Rattle.mega_base.specs.declared.names.GroupId.{GroupId}
@@ -15,14 +15,14 @@ use Rattle.mega_transcript.specs.declared.item.Item.{Item}
 use Rattle.mega_transcript.specs.declared.item.Item.TheVariants.{Valid}
 use Rattle.mega_promises.specs.Items.{number, shown}
 use Rattle.mega_promises.specs.Runs.{with_items}
-use Rattle.mega_rules.specs.Clock.{clock_of, is_up, start_of}
+use Rattle.mega_rules.specs.Clock.{clock_of, start_of}
 use Rattle.mega_rules.specs.Coordinators.{coordinator_calls, valid_at, validated}
 use Rattle.mega_rules.specs.Logs.{groups_of}
 use Rattle.mega_rules.specs.Members.{has_rows}
 use Rattle.mega_rules.specs.Met.{Met, Answers, Applies, Begins, Decides, Sends, Validates}
 use Rattle.mega_rules.specs.Operations.{Node, Now, Setting}
 use Rattle.mega_rules.specs.Acting.{validated_by}
-use Rattle.mega_rules.specs.Steps.{Begin, Decision, Event, Heard, Step, Take, Tick, all_act, applied_at, apply_note, apply_notes, at_first, at_open, decision_note, first_settled, hears_message, if_new, lapse_notes, lease_notes, new_operation, news, onto, op_of, portion_of, refusal, step, stored_after, taken, ticked, told_decision, told_notes, unless_refused}
+use Rattle.mega_rules.specs.Steps.{Begin, Decision, Event, Heard, Step, Take, Tick, all_act, applied_at, apply_note, apply_notes, at_first, at_open, decision_note, first_settled, hears_message, if_new, lapse_notes, lease_notes, new_operation, news, onto, op_of, portion_of, refusal, step, stored_after, taken, told_decision, told_notes}
 use Rattle.mega_rules.specs.Replies.{reply_to}
 use Rattle.mega_tape_laws.specs.Places.{In}
 use Rattle.mega_tape_laws.proofs.Ballots.{number_self}

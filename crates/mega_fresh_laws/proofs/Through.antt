@@ -1,5 +1,5 @@
 -- What an open operation has read through: a poll, or a position that covers what was decided before it began.
-use Rattle.std.proofs.Common.{◌≡◌, ◌⊎◌, inl, inr, ℕ, ◌+◌, ◌-◌, ◌<◌, Bool, true, false, cond, List, [], ◌∷◌, Option, Some, None, refl, sym, ap, ◌∙◌, subst}
+use Rattle.std.proofs.Common.{◌≡◌, inl, inr, ℕ, ◌-◌, Bool, true, false, cond, List, [], ◌∷◌, Option, Some, None, refl, sym, ap, ◌∙◌}
 use Rattle.mega_base.specs.declared.names.Epoch.{Epoch}
 use Rattle.mega_base.specs.declared.names.GroupId.{GroupId}
 use Rattle.mega_base.specs.declared.names.OpId.{OpId}
@@ -7,8 +7,7 @@ use Rattle.mega_cluster.specs.declared.cluster.Cluster.{Cluster}
 use Rattle.mega_outcome.specs.declared.request.Request.{Request}
 use Rattle.mega_outcome.specs.declared.request.Request.TheVariants.{Batch as BatchRequest, Find, Read as ReadRequested, Txn}
 use Rattle.mega_propose.specs.declared.round.Round.{Round}
-use Rattle.mega_propose.specs.declared.round.Round.TheVariants.{Asking, Preparing, Accepting, Covering, Settled, Waiting}
-use Rattle.mega_read.specs.declared.reading.Move.{Move as ReadMove}
+use Rattle.mega_propose.specs.declared.round.Round.TheVariants.{Preparing}
 use Rattle.mega_read.specs.declared.reading.Reading.{Reading}
 use Rattle.mega_read.specs.declared.reading.Search.{Search}
 use Rattle.mega_read.specs.declared.reading.Search.TheVariants.{Fetching, Filling}
@@ -20,7 +19,6 @@ use Rattle.mega_transcript.specs.declared.item.Item.TheVariants.{Begin, Decide}
 use Rattle.mega_wal.specs.Same.{same_op}
 use Rattle.mega_wal.proofs.Sames.{same_op_equal}
 use Rattle.mega_wire.specs.declared.message.Body.{Body}
-use Rattle.mega_promises.specs.Messages.{is_unsafe}
 use Rattle.mega_promises.specs.Promises.{Stands, StoodBefore}
 use Rattle.mega_rules.specs.Members.{is_full}
 use Rattle.mega_rules.specs.Met.{Met}
@@ -30,12 +28,12 @@ use Rattle.mega_tape_laws.specs.Places.{Took}
 use Rattle.mega_tape_laws.specs.Polls.{ArePolls, IsPolled}
 use Rattle.mega_tape_laws.specs.Writes.{no_op_by}
 use Rattle.mega_tape_laws.proofs.Polled.{polled_above}
-use Rattle.mega_run_laws.specs.Vouched.{Knows, Vouched}
+use Rattle.mega_run_laws.specs.Vouched.{Knows}
 use Rattle.mega_run_laws.proofs.Opened.{Backed, at_place}
 use Rattle.mega_run_laws.proofs.Owned.{Plain}
 use Rattle.mega_run_laws.proofs.Reading.{who}
 use Rattle.mega_run_laws.proofs.Sending.{Stood, took_on}
-use Rattle.mega_leased_laws.proofs.Polls.{ReadPolls, StagePolls, Tops, due_polls, hears_polls, no_tops, seeks_polls}
+use Rattle.mega_leased_laws.proofs.Polls.{StagePolls, Tops, due_polls, hears_polls, no_tops, seeks_polls}
 use Rattle.mega_fresh_laws.specs.Covering.{Covers, before_begin}
 use Rattle.mega_fresh_laws.proofs.Accepts.{IsAbove, SearchAbove, StageAbove}
 use Rattle.mega_fresh_laws.proofs.Moments.{Onward, covers_on}

@@ -1,7 +1,6 @@
 -- The greatest position that a node accepted or decided is no lower than any that its tape shows of it.
-use Rattle.std.proofs.Common.{◌≡◌, ◌≢◌, ◌⊎◌, inl, inr, ℕ, zero, suc, ◌+◌, max, ◌≤◌, ◌<◌, ◌==◌, ◌&&◌, Bool, true, false, not, cond, List, [], ◌∷◌, flat_map, map, Option, Some, None, refl, sym, subst, arith, ap, ◌∙◌}
+use Rattle.std.proofs.Common.{◌≡◌, ◌⊎◌, inl, inr, ℕ, ◌+◌, max, ◌≤◌, ◌==◌, ◌&&◌, Bool, true, false, not, cond, List, [], ◌∷◌, flat_map, map, Some, refl, sym, subst, arith, ap, ◌∙◌}
 use Rattle.mega_base.specs.declared.names.GroupId.{GroupId}
-use Rattle.mega_base.specs.declared.names.NodeId.{NodeId}
 use Rattle.mega_base.specs.declared.names.Position.{Position}
 use Rattle.mega_ballot.specs.declared.ballot.Ballot.{Ballot}
 use Rattle.mega_cluster.specs.declared.cluster.Cluster.{Cluster}
@@ -22,11 +21,11 @@ use Rattle.mega_promises.specs.Promises.{Stands}
 use Rattle.mega_promises.specs.Runs.{Happening, IsRun, Standing, breaks, goes_on, met_in, opening, set_at, setting, with_item, with_items}
 use Rattle.mega_rules.specs.Met.{Met, Starts, Crashes, Ticks, Begins, Takes, Sends, Unsends, Grants, Lapses, Counts, Forgets, Serves, Loses, Validates, Invalidates, Decides, Applies, Answers}
 use Rattle.mega_rules.specs.Logs.{accepted_at, top_of}
-use Rattle.mega_rules.specs.Operations.{Node, Setting}
+use Rattle.mega_rules.specs.Operations.{Node}
 use Rattle.mega_rules.specs.Steps.{Event, Step, crashed, onto, start, start_items, step}
 use Rattle.mega_rules.specs.Voting.{act_if, act_in, acts}
 use Rattle.mega_tape_laws.specs.Places.{In}
-use Rattle.mega_tape_laws.proofs.Ballots.{number_is, number_self}
+use Rattle.mega_tape_laws.proofs.Ballots.{number_is}
 use Rattle.mega_tape_laws.proofs.Lists.{from_cons}
 use Rattle.mega_run_laws.specs.Vouched.{sent}
 use Rattle.mega_run_laws.proofs.Noted.{with_append}
