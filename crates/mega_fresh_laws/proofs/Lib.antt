@@ -1,0 +1,14 @@
+pub mod Asked
+pub mod Moments
+pub mod Accepts
+pub mod Good
+pub mod Meant
+pub mod Through
+pub mod Acting
+pub mod Heeding
+pub mod Tops
+pub mod Steps
+pub mod Tails
+pub mod Nearby
+pub mod Runs
+pub mod Promised

@@ -1,0 +1,150 @@
+-- What an open operation has read through: a poll, or a position that covers what was decided before it began.
+use Rattle.std.proofs.Common.{◌≡◌, inl, inr, ℕ, ◌-◌, Bool, true, false, cond, List, [], ◌∷◌, Option, Some, None, refl, sym, ap, ◌∙◌}
+use Rattle.mega_base.specs.declared.names.Epoch.{Epoch}
+use Rattle.mega_base.specs.declared.names.GroupId.{GroupId}
+use Rattle.mega_base.specs.declared.names.OpId.{OpId}
+use Rattle.mega_cluster.specs.declared.cluster.Cluster.{Cluster}
+use Rattle.mega_outcome.specs.declared.request.Request.{Request}
+use Rattle.mega_outcome.specs.declared.request.Request.TheVariants.{Batch as BatchRequest, Find, Read as ReadRequested, Txn}
+use Rattle.mega_propose.specs.declared.round.Round.{Round}
+use Rattle.mega_propose.specs.declared.round.Round.TheVariants.{Preparing}
+use Rattle.mega_read.specs.declared.reading.Reading.{Reading}
+use Rattle.mega_read.specs.declared.reading.Search.{Search}
+use Rattle.mega_read.specs.declared.reading.Search.TheVariants.{Fetching, Filling}
+use Rattle.mega_read.specs.declared.reading.Stage.{Stage}
+use Rattle.mega_read.specs.declared.reading.Stage.TheVariants.{Polling, Catching}
+use Rattle.mega_read.specs.Catching.{falls_due, hears, polled_read, seeks}
+use Rattle.mega_transcript.specs.declared.item.Item.{Item}
+use Rattle.mega_transcript.specs.declared.item.Item.TheVariants.{Begin, Decide}
+use Rattle.mega_wal.specs.Same.{same_op}
+use Rattle.mega_wal.proofs.Sames.{same_op_equal}
+use Rattle.mega_wire.specs.declared.message.Body.{Body}
+use Rattle.mega_promises.specs.Promises.{Stands, StoodBefore}
+use Rattle.mega_rules.specs.Members.{is_full}
+use Rattle.mega_rules.specs.Met.{Met}
+use Rattle.mega_rules.specs.Operations.{Phase, Proposes, Reads}
+use Rattle.mega_tape_laws.specs.Lawful.{Lawful, message}
+use Rattle.mega_tape_laws.specs.Places.{Took}
+use Rattle.mega_tape_laws.specs.Polls.{ArePolls, IsPolled}
+use Rattle.mega_tape_laws.specs.Writes.{no_op_by}
+use Rattle.mega_tape_laws.proofs.Polled.{polled_above}
+use Rattle.mega_run_laws.specs.Vouched.{Knows}
+use Rattle.mega_run_laws.proofs.Opened.{Backed, at_place}
+use Rattle.mega_run_laws.proofs.Owned.{Plain}
+use Rattle.mega_run_laws.proofs.Reading.{who}
+use Rattle.mega_run_laws.proofs.Sending.{Stood, took_on}
+use Rattle.mega_leased_laws.proofs.Polls.{StagePolls, Tops, due_polls, hears_polls, no_tops, seeks_polls}
+use Rattle.mega_fresh_laws.specs.Covering.{Covers, before_begin}
+use Rattle.mega_fresh_laws.proofs.Accepts.{IsAbove, SearchAbove, StageAbove}
+use Rattle.mega_fresh_laws.proofs.Moments.{Onward, covers_on}
+
+-- ---- what stood before a begin
+
+pub record BegunBefore (tape : List Item) (op : OpId) (item : Item) : Type 0 where
+  pub text : List ℕ
+  pub stood : StoodBefore item (Begin op text) tape
+
+pub begun_before : (tape : List Item) (op : OpId) (item : Item) → Stands item (before_begin tape op) → BegunBefore tape op item
+begun_before [] op item s = absurd s
+begun_before (Begin began words ∷ before) op item s = by (same_op began op) refl s (begun_before before op item)
+  where
+    by : (t : Bool) → same_op began op ≡ t → Stands item (cond t before (before_begin before op)) → (Stands item (before_begin before op) → BegunBefore before op item) → BegunBefore (Begin began words ∷ before) op item
+    by true e k again = record { text = words; stood = inl (ap (λ (x : OpId). Begin x words) (same_op_equal began op e), k) }
+    by false e k again = let rest = again k in record { text = rest.text; stood = inr rest.stood }
+begun_before (other ∷ before) op item s = let rest = begun_before before op item s in record { text = rest.text; stood = inr rest.stood }
+
+pub polled_covers : (c : Cluster) (tape : List Item) → Lawful c tape → ArePolls tape → (op : OpId) (group : GroupId) (p : ℕ) → IsPolled c tape op group (record { 0 = p }) → Covers tape op group p
+polled_covers c tape l q op group p polled = λ un node n entry s. let b = begun_before tape op (Decide node group n entry) s in polled_above c tape l q op b.text group n (record { 0 = p }) node entry b.stood polled
+
+-- ---- an open operation
+
+-- the group that it reads is the one that it asked for
+abbrev pub Of : Request → GroupId → Type 0
+Of (Txn transaction) group = transaction.group ≡ group
+Of (BatchRequest own transactions) group = own ≡ group
+Of (ReadRequested request) group = request.group ≡ group
+Of (Find request) group = request.group ≡ Some group
+Of _ group = Unit {0}
+
+abbrev pub StageFresh : Cluster → List Item → OpId → GroupId → Stage → Type 0
+StageFresh c tape op group (Polling heard best at) = Unit {0} × Tops c tape op group heard best
+StageFresh c tape op group (Catching through search) = Covers tape op group through
+
+abbrev pub PhaseFresh : Cluster → List Item → OpId → Request → Phase → Type 0
+PhaseFresh c tape op request (Reads group r) = (is_full c op.node.0 ≡ true) × (Of request group × StageFresh c tape op group r.stage)
+PhaseFresh c tape op request (Proposes group n asked proposal promised) = Covers tape op group (n - 1)
+
+tops_on : (c : Cluster) (old new : List Item) (op : OpId) (group : GroupId) (heard : List ℕ) (best : ℕ) → Stood old new → Tops c old op group heard best → Tops c new op group heard best
+tops_on c old new op group heard best s h = record {
+  each = λ voter t. let told = h.each voter t in record { top = told.top; heard = took_on old new s _ told.heard; most = told.most };
+  counted = h.counted;
+}
+
+stage_on : (c : Cluster) (op : OpId) (old new : List Item) → Onward op old new → (group : GroupId) (stage : Stage) → StageFresh c old op group stage → StageFresh c new op group stage
+stage_on c op old new o group (Polling heard best at) h = (tt, tops_on c old new op group heard best o.stood h.1)
+stage_on c op old new o group (Catching through search) h = covers_on op old new o group through h
+
+pub phase_on : (c : Cluster) (op : OpId) (old new : List Item) → Onward op old new → (request : Request) (phase : Phase) → PhaseFresh c old op request phase → PhaseFresh c new op request phase
+phase_on c op old new o request (Reads group r) h = (h.0, ((h.1).0, stage_on c op old new o group r.stage (h.1).1))
+phase_on c op old new o request (Proposes group n asked proposal promised) h = covers_on op old new o group (n - 1) h
+
+-- ---- its moves
+
+module _ (c : Cluster) (tape : List Item) (l : Lawful c tape) (q : ArePolls tape) (op : OpId) (group : GroupId) where
+  abbrev Any : Option Epoch → Type 0
+  Any noted = Unit {0}
+
+  abbrev Through : Option Epoch → ℕ → Type 0
+  Through noted p = Covers tape op group p
+
+  polled : (noted : Option Epoch) (p : ℕ) → Any noted → IsPolled c tape op group (record { 0 = p }) → Through noted p
+  polled noted p any h = polled_covers c tape l q op group p h
+
+  to_polls : (noted : Option Epoch) (stage : Stage) → StageFresh c tape op group stage → StagePolls c tape op group Any Through polled noted stage
+  to_polls noted (Polling heard best at) h = h
+  to_polls noted (Catching through search) h = h
+
+  from_polls : (noted : Option Epoch) (stage : Stage) → StagePolls c tape op group Any Through polled noted stage → StageFresh c tape op group stage
+  from_polls noted (Polling heard best at) h = h
+  from_polls noted (Catching through search) h = h
+
+  pub hears_fresh : (r : Reading) (from now : ℕ) (body : Body) → StageFresh c tape op group r.stage → Took tape (message from op.node.0 body) → StageFresh c tape op group ((hears (who c op group) r from now body).reading).stage
+  hears_fresh r from now body h took = from_polls ((hears (who c op group) r from now body).reading).noted ((hears (who c op group) r from now body).reading).stage
+      (hears_polls c tape op group Any Through polled r from now body (to_polls r.noted r.stage h) took)
+
+  pub due_fresh : (r : Reading) (retry now : ℕ) → StageFresh c tape op group r.stage → StageFresh c tape op group ((falls_due (who c op group) r retry now).reading).stage
+  due_fresh r retry now h = from_polls ((falls_due (who c op group) r retry now).reading).noted ((falls_due (who c op group) r retry now).reading).stage
+      (due_polls c tape op group Any Through polled r retry now (to_polls r.noted r.stage h))
+
+  pub seeks_fresh : (r : Reading) (least now : ℕ) → StageFresh c tape op group r.stage → StageFresh c tape op group ((seeks (who c op group) r least now).reading).stage
+  seeks_fresh r least now h = from_polls ((seeks (who c op group) r least now).reading).noted ((seeks (who c op group) r least now).reading).stage
+      (seeks_polls c tape op group Any Through polled r least now (to_polls r.noted r.stage h))
+
+  pub polled_fresh : (noted : Option Epoch) (asked : List ℕ) (now : ℕ) → StageFresh c tape op group ((polled_read (who c op group) noted asked now).reading).stage
+  polled_fresh noted asked now = (tt, no_tops c tape op group)
+
+-- ---- its rounds
+
+abbrev pub PhaseAbove : OpId → Phase → Type 0
+PhaseAbove op (Reads group r) = StageAbove op r.stage
+PhaseAbove op (Proposes group n asked proposal promised) = IsAbove proposal.round
+
+knows_above : (c : Cluster) (tape : List Item) (op : OpId) (group : GroupId) (n : ℕ) (round : Round) → Knows c tape op (at_place group n) round → IsAbove round
+knows_above c tape op group n (Preparing b reports at) k = (k.0).above
+knows_above c tape op group n _ k = tt
+
+no_id : (op : OpId) → (no_op_by op).id ≡ Some op → ⊥
+no_id op h = cc
+
+pub phase_above : (c : Cluster) (tape : List Item) (met : List Met) (op : OpId) (phase : Phase) → Backed c tape met op phase → ((group : GroupId) (r : Reading) → phase ≡ Reads group r → Plain op r.stage) → PhaseAbove op phase
+phase_above c tape met op (Proposes group n asked proposal promised) b plain = knows_above c tape op group n proposal.round b.knows
+phase_above c tape met op (Reads group r) b plain = by r.stage b (plain group r refl)
+  where
+    by_search : (through : ℕ) (search : Option Search) → Backed c tape met op (Reads group (record { noted = r.noted; asked = r.asked; stage = Catching through search })) → Plain op (Catching through search) → SearchAbove op search
+    by_search through None k p = tt
+    by_search through (Some (Fetching position denials at)) k p = tt
+    by_search through (Some (Filling position proposal)) k p = (knows_above c tape op group position proposal.round (k.1).knows, λ is. no_id op (ap (λ e. e.id) (sym p) ∙ is))
+
+    by : (stage : Stage) → Backed c tape met op (Reads group (record { noted = r.noted; asked = r.asked; stage = stage })) → Plain op stage → StageAbove op stage
+    by (Polling heard best at) k p = tt
+    by (Catching through search) k p = by_search through search k p
