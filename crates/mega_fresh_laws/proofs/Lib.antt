@@ -12,3 +12,4 @@ pub mod Tails
 pub mod Nearby
 pub mod Runs
 pub mod Promised
+pub mod Fresh

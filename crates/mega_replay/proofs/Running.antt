@@ -23,6 +23,7 @@ use Rattle.mega_tape_laws.proofs.Agreement.{agreement}
 use Rattle.mega_tape_laws.proofs.Answered.{serial}
 use Rattle.mega_tape_laws.proofs.IndexLogs.{indexed, rows_fit}
 use Rattle.mega_tape_laws.proofs.Sending.{messages}
+use Rattle.mega_fresh_laws.proofs.Fresh.{run_reads_fresh}
 use Rattle.mega_run_laws.specs.Usages.{Fits, FitsOne, IsMeant}
 use Rattle.mega_run_laws.proofs.Events.{each_append}
 use Rattle.mega_run_laws.proofs.Indexing.{asks_values}
@@ -102,6 +103,7 @@ replayed c lines events can happen =
       indexed = indexed c (usage c.schema) tape writes declared values;
       rows = rows_fit c (usage c.schema) tape writes declared values;
       local = all_read_all c events can;
+      fresh = run_reads_fresh c (usage c.schema) built_in (in_turn events []) tape can.few (cells_few c.cells can.cells) run fits;
     }
 
 -- what an event leads to, where it is not refused

@@ -25,6 +25,7 @@ use Rattle.mega_promises.specs.Promises.{Agree, AreMessages, IsSerial, Stands, a
 use Rattle.mega_promises.specs.Runs.{Happening, IsRun, Standing, after_event, by_fuse, goes_on, opening, refusal, unless_refused}
 use Rattle.mega_tape_laws.specs.Indexed.{AreRows, IsIndexed}
 use Rattle.mega_cause_laws.specs.Told.{is_told}
+use Rattle.mega_fresh_laws.specs.Fresh.{ReadsAreFresh}
 use Rattle.mega_world.specs.declared.world.World.{World}
 use Rattle.mega_world.specs.Stands.{IsAt}
 use Rattle.mega_line_laws.specs.Clusters.{CanStart}
@@ -75,7 +76,8 @@ AllReadAll c (one ∷ earlier) = AllReadAll c earlier × ReadsAll c (stood c (on
 -- the lines' events happen, and the tape is a run of the cluster over them, in order, in which a fuse on a log cuts the append that it names: so what nodes decided at one position is one entry; an
 -- entry with the id of an operation is what that came to over the entries below, and answers are as of one thread; messages between groups
 -- are entered and handled once, in order; answers that a log tells have their causes; what stands in a log under keys that are no row keys is what the local indexes have over the
--- tables' rows, each of which fits and stands under its own key; and behind each line local reads read through all that is decided, while leases are safe
+-- tables' rows, each of which fits and stands under its own key; behind each line local reads read through all that is decided, while leases are
+-- safe; and, as long as leases are safe by its end, what a current read, a find, a transaction or a batch comes to holds all that was decided before it began
 pub record Replayed (c : Cluster) (lines : List (List ℕ)) (events : List Happening) : Type 0 where
   pub happen : AllHappen c lines events
   pub run : IsRun c built_in (in_turn events []) (stood c events).tape
@@ -87,6 +89,7 @@ pub record Replayed (c : Cluster) (lines : List (List ℕ)) (events : List Happe
   pub indexed : (group : GroupId) (p : ℕ) → IsIndexed c.schema group (list_after (take p (log_of (stood c events).tape group)) [])
   pub rows : (group : GroupId) (p : ℕ) → AreRows c.schema group (list_after (take p (log_of (stood c events).tape group)) [])
   pub local : AllReadAll c events
+  pub fresh : ReadsAreFresh c (meaning_in c.schema) (stood c events).tape
 
 -- the world stands as the run does after these lines' events, in a cluster that can start
 pub record StandsAfter (c : Cluster) (lines : List (List ℕ)) (events : List Happening) (world : World) : Type 0 where
