@@ -1,0 +1,156 @@
+"""The scratch crate of a comparison: one function for each case, over the libraries of this checkout."""
+import pathlib
+import re
+import shutil
+import subprocess
+
+CHECKOUT = pathlib.Path(__file__).resolve().parent.parent.parent
+NAME = "compared"
+
+# The modules whose words the checker looks through to compute a run: of the kit, of std and of this repository.
+KIT_MODULES = {
+    "hex": ["Hex"],
+    "json": ["Lex", "Json", "Word", "Text", "Print"],
+    "serde_json": ["Read"],
+    "fast_float": ["Text"],
+    "toml": ["Parse", "Tables"],
+    "toml_parser": ["Lexical", "Numbers", "Strings"],
+    "sha2": ["Sha256"],
+}
+STD_WORDS = {"std.specs.Fmt": ["digits"], "std.specs.Str": ["is_utf8", "chars"], "std.specs.Char": ["encode_utf8"]}
+OUR_CRATES = ["mega_base", "mega_ballot", "mega_keys", "mega_syntax", "mega_cluster", "mega_entry", "mega_schedule"]
+
+
+def unfoldable_in(path):
+    """Returns the words that a file of definitions marks as unfoldable; those of types begin with a capital letter."""
+    return sorted({*re.findall(r"^ *unfoldable pub (?:use .*\bas )?([a-z]\w*)", path.read_text(encoding="utf-8"), re.M)})
+
+
+def words_to_unfold():
+    kit = pathlib.Path(subprocess.run(["rt", "doc"], capture_output=True, text=True, check=True).stdout.strip()).parent
+    found = dict(STD_WORDS)
+    for crate, modules in KIT_MODULES.items():
+        for module in modules:
+            found[f"{crate}.specs.{module}"] = unfoldable_in(kit / "rlibs" / f"{crate}.rlib/lang/antt/specs/{module}.antt")
+    for crate in OUR_CRATES:
+        for path in sorted((CHECKOUT / "crates" / crate / "specs").glob("*.antt")):
+            found[f"{crate}.specs.{path.stem}"] = unfoldable_in(path)
+    return {module: words for module, words in found.items() if words}
+
+
+def text_of(data):
+    """Returns a text of bytes as a term: a quoted text where it is ASCII, and numbers elsewhere."""
+    parts = []
+    for plain, others in re.findall(rb"([\x20-\x7e\n]+)|([^\x20-\x7e\n]+)", data):
+        quoted = plain.decode().replace("\\", "\\\\").replace('"', '\\"').replace("\n", "\\n")
+        parts.append(f'codes "{quoted}"' if plain else "(" + "".join(f"{byte} ∷ " for byte in others) + "[])")
+    return " ++ ".join(parts) or "[]"
+
+
+def list_of(name, kind, items):
+    """Returns the definition of a list, in pieces of forty items."""
+    pieces = [items[at : at + 40] for at in range(0, len(items), 40)]
+    told = []
+    for number, piece in enumerate(pieces, 1):
+        rows = [f"    ({it}) ∷" for it in piece]
+        told += [f"abbrev pub {name}_{number} : List {kind}", f"{name}_{number} =", *rows, "    []", ""]
+    joined = " ++ ".join(f"{name}_{number}" for number in range(1, len(pieces) + 1)) or "[]"
+    return told + [f"abbrev pub {name} : List {kind}", f"{name} = {joined}", ""]
+
+
+def given(case):
+    """Returns the definitions of a case: its input, and what it must lead to."""
+    cuts = [f"record {{ items = {items}; left = {left} }}" for items, left in case.cuts]
+    return "\n".join([
+        f"-- {case.name}",
+        "use Rattle.std.specs.Prelude.{ℕ, List, [], ◌∷◌, ◌++◌, codes}",
+        "use Rattle.mega_cluster.specs.Header.{read_of}",
+        "use Rattle.mega_promises.specs.Runs.{AsItWas, Recorded}",
+        f"use Rattle.{NAME}.specs.Told.{{DataCut, replayed, without_mark}}",
+        "",
+        "abbrev pub header : List ℕ",
+        f"header = {text_of(case.header)}",
+        "",
+        *list_of("lines", "(List ℕ)", [text_of(it) for it in case.lines]),
+        *list_of("cuts", "DataCut", cuts),
+        *list_of("expected", "(List ℕ)", [text_of(it) for it in case.expected]),
+        "abbrev pub told : List (List ℕ)",
+        f"told = replayed ({'' if case.has_mark else 'without_mark '}(read_of 1 header)) cuts lines",
+        "",
+    ])
+
+
+def source(case):
+    return f"""//! {case.name}
+ghost use Rattle.std.specs.Prelude.{{◌≡◌, None}};
+ghost use Rattle.{NAME}.specs.Told.{{first_other}};
+ghost use Rattle.{NAME}.specs.Given_{case.name}.{{expected, told}};
+
+/// The run of the definitions is told by this transcript.
+pub fn agrees()
+    ensures {{ first_other 1 told expected ≡ None }}
+{{}}
+"""
+
+
+def answers(case, words):
+    """Returns the proof: both sides compute to the same."""
+    imports, names = [], []
+    for module, found in words.items():
+        renamed = [(word, f"w{len(names) + number}") for number, word in enumerate(found)]
+        names += [name for _, name in renamed]
+        imports.append(f"use Rattle.{module}.{{{', '.join(f'{word} as {name}' for word, name in renamed)}}}")
+    return "\n".join([
+        "use Rattle.std.proofs.Common.{refl}",
+        *imports,
+        f"use Rattle.{NAME}.proofs.case_{case.name}.agrees.Goals as goal",
+        "",
+        "pub returns : goal.returns",
+        f"unfolding {' '.join(names)}",
+        "returns c = refl",
+        "",
+    ])
+
+
+def write(path, text):
+    path.parent.mkdir(parents=True, exist_ok=True)
+    path.write_text(text, encoding="utf-8")
+
+
+def crates_below(name, listed):
+    """Returns the crates of the checkout that a crate stands on, itself among them."""
+    found = {name}
+    for below in re.search(rf"^{name}:(.*)$", listed, re.M).group(1).split():
+        if re.search(rf"^{below}:", listed, re.M):
+            found |= crates_below(below, listed)
+    return found
+
+
+def copy_libraries(folder):
+    """Copies the text of the crates that the scratch crate stands on, and returns the libraries that it names: `rt` takes what the checkout proved."""
+    listed = (CHECKOUT / "crates.txt").read_text(encoding="utf-8")
+    crates = crates_below("mega_promises", listed) | crates_below("mega_meanings", listed)
+    for name in crates:
+        for part in ("src", "specs", "proofs"):
+            if (CHECKOUT / "crates" / name / part).is_dir():
+                shutil.copytree(CHECKOUT / "crates" / name / part, folder / "crates" / name / part)
+    libraries = {*crates, *KIT_MODULES}
+    kept = [line for line in listed.splitlines() if line.split(":")[0] in crates]
+    write(folder / "crates.txt", "\n".join([*kept, f"{NAME}: {' '.join(sorted(libraries))}", ""]))
+    shutil.copy(CHECKOUT / "HANDLES", folder / "HANDLES")
+
+
+def make(folder, cases):
+    """Makes the scratch crate in a folder of its own."""
+    shutil.rmtree(folder, ignore_errors=True)
+    copy_libraries(folder)
+    crate, words = folder / "crates" / NAME, words_to_unfold()
+    modules = "".join(f"pub mod case_{it.name};\n" for it in cases)
+    write(crate / "src/lib.rt", f"//! Cases, as contracts of functions that do nothing.\n#![tactic(auto)]\n\n{modules}")
+    write(crate / "specs/Lib.antt", "pub mod Told\n" + "".join(f"pub mod Given_{it.name}\n" for it in cases))
+    write(crate / "specs/Told.antt", (pathlib.Path(__file__).parent / "told.txt").read_text(encoding="utf-8"))
+    for case in cases:
+        write(crate / f"src/case_{case.name}.rt", source(case))
+        write(crate / f"specs/Given_{case.name}.antt", given(case))
+        write(crate / f"proofs/case_{case.name}/agrees/Answers.antt", answers(case, words))
+    return crate
