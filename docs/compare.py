@@ -1,23 +1,24 @@
 #!/usr/bin/env python3
 """Compares what the definitions of a run make of an input, as the checker computes it, with a transcript, item by item.
 
-    docs/compare.py FOLDER CASES.. [--only NAME..] [--most ITEMS]
-    docs/compare.py FOLDER [CASES..] --gen N --seed S --program PATH [--most ITEMS]
+    docs/compare.py FOLDER CASES.. [--only NAME..] [--most ITEMS] [--jobs N] [--keep]
+    docs/compare.py FOLDER [CASES..] --gen N --seed S --program PATH [..]
 
-FOLDER is made anew, outside the repository: it holds a crate over the libraries of this checkout, with one function for each case, whose
-clause says that the lines of the run of the definitions are those of the transcript. CASES are folders with files NAME.in and NAME.out.
-With --gen, N small schedules are drawn instead, half of them mutations of CASES where there are some, and the program at PATH replays each.
-Of a case with more than ITEMS items the longest front of its schedule that has no more is compared.
+FOLDER is made anew, outside the repository, unless --keep says to go on with the libraries that an earlier run left there. It holds N
+crates over the libraries of this checkout, with one function for each case, whose clause says that the lines of the run of the definitions
+are those of the transcript. CASES are folders with files NAME.in and NAME.out. With --gen, N small schedules are drawn instead, half of them
+mutations of CASES where there are some, and the program at PATH replays each. Of a case with more than ITEMS items the longest front of its
+schedule that has no more is compared.
 """
 import argparse
 import pathlib
 import re
-import subprocess
 import sys
 
 sys.path.insert(0, str(pathlib.Path(__file__).resolve().parent / "compare"))
 from alignment import Alignment  # noqa: E402
-import crate  # noqa: E402
+from crate import Claim, ScratchCrate, make, words_to_unfold  # noqa: E402
+from schedules import drawn  # noqa: E402
 
 
 class Case:
@@ -32,11 +33,8 @@ class Case:
         if self.lines and not self.lines[-1]:
             self.lines.pop()
         self.all_items = len(self.expected)
-        is_run = self.expected[:1] != [] and not self.expected[0].startswith(b"header")
-        self.cuts, self.ends = [], [self.all_items]
-        if is_run:
-            walk = Alignment(self.lines, self.expected)
-            self.cuts, self.ends = walk.cuts, walk.ends
+        walk = Alignment(self.lines, self.expected)
+        self.cuts, self.ends = walk.cuts, walk.ends
 
     def shorten(self, most):
         """Keeps the longest front of the schedule that leads to at most so many items."""
@@ -50,49 +48,79 @@ class Case:
 
 
 def cases_of(folders, only):
-    found = []
-    for folder in folders:
-        for path in sorted(pathlib.Path(folder).glob("*.in")):
-            if not only or path.stem in only:
-                found.append(Case(path.stem, path.read_bytes(), path.with_suffix(".out").read_bytes()))
-    return found
+    return [
+        Case(path.stem, path.read_bytes(), path.with_suffix(".out").read_bytes())
+        for folder in folders
+        for path in sorted(pathlib.Path(folder).glob("*.in"))
+        if not only or path.stem in only
+    ]
 
 
-def checked(folder):
-    """Runs the checker, and returns all that it said."""
-    run = subprocess.run(["rt", "check"], cwd=folder, capture_output=True, text=True)
-    return run.stdout + run.stderr
+class Comparison:
+    """Scratch crates that share out the claims between them."""
+
+    def __init__(self, folder, jobs, keep):
+        self.folder, self.words = folder, words_to_unfold()
+        self.names = [f"compared_{number}" for number in range(1, jobs + 1)]
+        if not (keep and folder.is_dir()):
+            make(folder, self.names)
+
+    def verdicts(self, claims):
+        """Has the checker look at the claims, and returns what it found."""
+        shares = [claims[number :: len(self.names)] for number in range(len(self.names))]
+        crates = [ScratchCrate(self.folder, name, share) for name, share in zip(self.names, shares) if share]
+        for crate in crates:
+            crate.write(self.words)
+        for run in [crate.start() for crate in crates]:
+            run.wait()
+        return {name: verdict for crate in crates for name, verdict in crate.verdicts().items()}
+
+    def first_other(self, case):
+        """Returns the number of the first item that differs: between two fronts of which the shorter agrees, a dozen more are tried."""
+        low, high = 0, max(len(case.expected), 1) + 1
+        while high - low > 1:
+            fronts = sorted({low + (high - low) * number // 12 for number in range(1, 12)} - {low, high})
+            found = self.verdicts([Claim(case, front) for front in fronts])
+            agreed = [front for front in fronts if found[f"{case.name}_{front}"] == "proved"]
+            low = max(agreed, default=low)
+            high = min([front for front in fronts if front > low], default=high)
+        return high
 
 
-def verdict_on(case, said):
-    """Returns what the checker's words mean for a case."""
-    if re.search(rf"^fn {crate.NAME}::case_{case.name}::agrees: proved$", said, re.M):
-        return "agrees"
-    faults = "\n".join(re.findall(rf"^[^\n]*case_{case.name}/agrees/Answers.antt:\d[^\n]*(?:\n  [^\n]*)*", said, re.M))
-    if "step limit" in faults or "ResourceLimit" in faults or "could not tell" in faults:
-        return "too large"
-    other = re.search(r"Some\W+(\d+)", faults)
-    if other:
-        return f"differs at item {other.group(1)}"
-    return "not told: " + (faults.split("\n")[0][:300] or "the checker said nothing of it")
-
-
-def main():
+def options():
     parser = argparse.ArgumentParser(description=__doc__, formatter_class=argparse.RawDescriptionHelpFormatter)
     parser.add_argument("folder", type=pathlib.Path)
     parser.add_argument("cases", nargs="*")
     parser.add_argument("--only", nargs="*", default=[])
-    parser.add_argument("--most", type=int, default=200)
-    words = parser.parse_args()
-    cases = cases_of(words.cases, words.only)
+    parser.add_argument("--most", type=int, default=600)
+    parser.add_argument("--jobs", type=int, default=1)
+    parser.add_argument("--keep", action="store_true")
+    parser.add_argument("--gen", type=int, default=0)
+    parser.add_argument("--seed", type=int, default=1)
+    parser.add_argument("--program")
+    return parser.parse_args()
+
+
+def main():
+    words = options()
+    if words.gen:
+        texts = [path.read_bytes() for folder in words.cases for path in sorted(pathlib.Path(folder).glob("*.in"))]
+        cases = [Case(*it) for it in drawn(words.program, words.gen, words.seed, texts)]
+    else:
+        cases = cases_of(words.cases, words.only)
     for case in cases:
         case.shorten(words.most)
-    said = checked(crate.make(words.folder.resolve(), cases))
-    (words.folder / "said.txt").write_text(said, encoding="utf-8")
-    verdicts = [(case, verdict_on(case, said)) for case in cases]
-    for case, verdict in verdicts:
-        print(f"{case.name}: {verdict} ({case.size()})")
-    sys.exit(any(not verdict.startswith(("agrees", "too large")) for _, verdict in verdicts))
+    # (the dearest first, so that the crates have equal shares)
+    cases.sort(key=lambda it: -len(it.expected))
+    comparison = Comparison(words.folder.resolve(), words.jobs, words.keep)
+    verdicts = comparison.verdicts([Claim(it) for it in cases])
+    told = {"proved": "agrees"}
+    for case in cases:
+        verdict = verdicts[case.name]
+        if verdict == "refused":
+            verdict = f"differs at item {comparison.first_other(case)}"
+        print(f"{case.name}: {told.get(verdict, verdict)} ({case.size()})", flush=True)
+    sys.exit(any(verdict not in ("proved", "too large") for verdict in verdicts.values()))
 
 
 if __name__ == "__main__":

@@ -1,11 +1,10 @@
-"""The scratch crate of a comparison: one function for each case, over the libraries of this checkout."""
+"""The scratch crates of a comparison: one function for each case, over the libraries of this checkout."""
 import pathlib
 import re
 import shutil
 import subprocess
 
 CHECKOUT = pathlib.Path(__file__).resolve().parent.parent.parent
-NAME = "compared"
 
 # The modules whose words the checker looks through to compute a run: of the kit, of std and of this repository.
 KIT_MODULES = {
@@ -58,58 +57,106 @@ def list_of(name, kind, items):
     return told + [f"abbrev pub {name} : List {kind}", f"{name} = {joined}", ""]
 
 
-def given(case):
-    """Returns the definitions of a case: its input, and what it must lead to."""
-    cuts = [f"record {{ items = {items}; left = {left} }}" for items, left in case.cuts]
-    return "\n".join([
-        f"-- {case.name}",
-        "use Rattle.std.specs.Prelude.{ℕ, List, [], ◌∷◌, ◌++◌, codes}",
-        "use Rattle.mega_cluster.specs.Header.{read_of}",
-        "use Rattle.mega_promises.specs.Runs.{AsItWas, Recorded}",
-        f"use Rattle.{NAME}.specs.Told.{{DataCut, replayed, without_mark}}",
-        "",
-        "abbrev pub header : List ℕ",
-        f"header = {text_of(case.header)}",
-        "",
-        *list_of("lines", "(List ℕ)", [text_of(it) for it in case.lines]),
-        *list_of("cuts", "DataCut", cuts),
-        *list_of("expected", "(List ℕ)", [text_of(it) for it in case.expected]),
-        "abbrev pub told : List (List ℕ)",
-        f"told = replayed ({'' if case.has_mark else 'without_mark '}(read_of 1 header)) cuts lines",
-        "",
-    ])
+class Claim:
+    """That the first lines of a case's run, so many or all of them, are those of its transcript."""
+
+    def __init__(self, case, front=None):
+        self.case, self.front = case, front
+        self.name = case.name if front is None else f"{case.name}_{front}"
+
+    def clause(self):
+        if self.front is None:
+            return "first_other 1 told expected ≡ None"
+        return f"first_other 1 (take {self.front} told) (take {self.front} expected) ≡ None"
 
 
-def source(case):
-    return f"""//! {case.name}
-ghost use Rattle.std.specs.Prelude.{{◌≡◌, None}};
-ghost use Rattle.{NAME}.specs.Told.{{first_other}};
-ghost use Rattle.{NAME}.specs.Given_{case.name}.{{expected, told}};
+class ScratchCrate:
+    """A crate with one function for each claim."""
+
+    def __init__(self, folder, name, claims):
+        self.folder, self.name, self.claims = folder / "crates" / name, name, claims
+
+    def given(self, case):
+        """Returns the definitions of a case: its input, and what it must lead to."""
+        cuts = [f"record {{ items = {items}; left = {left} }}" for items, left in case.cuts]
+        return "\n".join([
+            "use Rattle.std.specs.Prelude.{ℕ, List, [], ◌∷◌, ◌++◌, codes}",
+            "use Rattle.mega_cluster.specs.Header.{read_of}",
+            "use Rattle.mega_promises.specs.Runs.{AsItWas, Recorded}",
+            f"use Rattle.{self.name}.specs.Told.{{DataCut, replayed, without_mark}}",
+            "",
+            "abbrev pub header : List ℕ",
+            f"header = {text_of(case.header)}",
+            "",
+            *list_of("lines", "(List ℕ)", [text_of(it) for it in case.lines]),
+            *list_of("cuts", "DataCut", cuts),
+            *list_of("expected", "(List ℕ)", [text_of(it) for it in case.expected]),
+            "abbrev pub told : List (List ℕ)",
+            f"told = replayed ({'' if case.has_mark else 'without_mark '}(read_of 1 header)) cuts lines",
+            "",
+        ])
+
+    def source(self, claim):
+        return f"""//! {claim.name}
+ghost use Rattle.std.specs.Prelude.{{◌≡◌, None, take}};
+ghost use Rattle.{self.name}.specs.Told.{{first_other}};
+ghost use Rattle.{self.name}.specs.Given_{claim.case.name}.{{expected, told}};
 
 /// The run of the definitions is told by this transcript.
 pub fn agrees()
-    ensures {{ first_other 1 told expected ≡ None }}
+    ensures {{ {claim.clause()} }}
 {{}}
 """
 
+    def answers(self, claim, words):
+        """Returns the proof: both sides compute to the same."""
+        imports, names = [], []
+        for module, found in words.items():
+            renamed = [(word, f"w{len(names) + number}") for number, word in enumerate(found)]
+            names += [name for _, name in renamed]
+            imports.append(f"use Rattle.{module}.{{{', '.join(f'{word} as {name}' for word, name in renamed)}}}")
+        return "\n".join([
+            "use Rattle.std.proofs.Common.{refl}",
+            *imports,
+            f"use Rattle.{self.name}.proofs.case_{claim.name}.agrees.Goals as goal",
+            "",
+            "pub returns : goal.returns",
+            f"unfolding {' '.join(names)}",
+            "returns c = refl",
+            "",
+        ])
 
-def answers(case, words):
-    """Returns the proof: both sides compute to the same."""
-    imports, names = [], []
-    for module, found in words.items():
-        renamed = [(word, f"w{len(names) + number}") for number, word in enumerate(found)]
-        names += [name for _, name in renamed]
-        imports.append(f"use Rattle.{module}.{{{', '.join(f'{word} as {name}' for word, name in renamed)}}}")
-    return "\n".join([
-        "use Rattle.std.proofs.Common.{refl}",
-        *imports,
-        f"use Rattle.{NAME}.proofs.case_{case.name}.agrees.Goals as goal",
-        "",
-        "pub returns : goal.returns",
-        f"unfolding {' '.join(names)}",
-        "returns c = refl",
-        "",
-    ])
+    def write(self, words):
+        for part in ("src", "specs", "proofs"):
+            shutil.rmtree(self.folder / part, ignore_errors=True)
+        cases = sorted({it.case.name: it.case for it in self.claims}.items())
+        modules = "".join(f"pub mod case_{it.name};\n" for it in self.claims)
+        write(self.folder / "src/lib.rt", f"//! Cases, as contracts of functions that do nothing.\n#![tactic(auto)]\n\n{modules}")
+        write(self.folder / "specs/Lib.antt", "pub mod Told\n" + "".join(f"pub mod Given_{name}\n" for name, _ in cases))
+        write(self.folder / "specs/Told.antt", (pathlib.Path(__file__).parent / "told.txt").read_text(encoding="utf-8"))
+        for name, case in cases:
+            write(self.folder / f"specs/Given_{name}.antt", self.given(case))
+        for claim in self.claims:
+            write(self.folder / f"src/case_{claim.name}.rt", self.source(claim))
+            write(self.folder / f"proofs/case_{claim.name}/agrees/Answers.antt", self.answers(claim, words))
+
+    def start(self):
+        """Starts the checker, which writes to said.txt."""
+        return subprocess.Popen(["rt", "check"], cwd=self.folder, stdout=open(self.folder / "said.txt", "wb"), stderr=subprocess.STDOUT)
+
+    def verdicts(self):
+        """Returns what the checker's words mean, for each claim: proved, refused, or too large."""
+        said = (self.folder / "said.txt").read_text(encoding="utf-8", errors="replace")
+        return {it.name: self.verdict_on(it, said) for it in self.claims}
+
+    def verdict_on(self, claim, said):
+        told = re.search(rf"^fn {self.name}::case_{claim.name}::agrees: (.*)$", said, re.M)
+        if told and told.group(1) == "proved":
+            return "proved"
+        faults = re.findall(rf"^[^\n]*case_{claim.name}/agrees/Answers.antt:\d[^\n]*(?:\n  [^\n]*)*", said, re.M)
+        if not faults:
+            return "unknown" if told is None else f"unknown: {told.group(1)}"
+        return "too large" if re.search("step limit|ResourceLimit", faults[0]) else "refused"
 
 
 def write(path, text):
@@ -126,31 +173,20 @@ def crates_below(name, listed):
     return found
 
 
-def copy_libraries(folder):
-    """Copies the text of the crates that the scratch crate stands on, and returns the libraries that it names: `rt` takes what the checkout proved."""
+def make(folder, names):
+    """Makes the folder of the scratch crates with these names, with copies of the libraries below them; `rt` takes what the checkout proved."""
+    shutil.rmtree(folder, ignore_errors=True)
     listed = (CHECKOUT / "crates.txt").read_text(encoding="utf-8")
-    crates = crates_below("mega_promises", listed) | crates_below("mega_meanings", listed)
-    for name in crates:
+    below = crates_below("mega_promises", listed) | crates_below("mega_meanings", listed)
+    for name in below:
         for part in ("src", "specs", "proofs"):
             if (CHECKOUT / "crates" / name / part).is_dir():
                 shutil.copytree(CHECKOUT / "crates" / name / part, folder / "crates" / name / part)
-    libraries = {*crates, *KIT_MODULES}
-    kept = [line for line in listed.splitlines() if line.split(":")[0] in crates]
-    write(folder / "crates.txt", "\n".join([*kept, f"{NAME}: {' '.join(sorted(libraries))}", ""]))
+    kept = [line for line in listed.splitlines() if line.split(":")[0] in below]
+    libraries = " ".join(sorted({*below, *KIT_MODULES}))
+    write(folder / "crates.txt", "\n".join([*kept, *[f"{name}: {libraries}" for name in names], ""]))
     shutil.copy(CHECKOUT / "HANDLES", folder / "HANDLES")
-
-
-def make(folder, cases):
-    """Makes the scratch crate in a folder of its own."""
-    shutil.rmtree(folder, ignore_errors=True)
-    copy_libraries(folder)
-    crate, words = folder / "crates" / NAME, words_to_unfold()
-    modules = "".join(f"pub mod case_{it.name};\n" for it in cases)
-    write(crate / "src/lib.rt", f"//! Cases, as contracts of functions that do nothing.\n#![tactic(auto)]\n\n{modules}")
-    write(crate / "specs/Lib.antt", "pub mod Told\n" + "".join(f"pub mod Given_{it.name}\n" for it in cases))
-    write(crate / "specs/Told.antt", (pathlib.Path(__file__).parent / "told.txt").read_text(encoding="utf-8"))
-    for case in cases:
-        write(crate / f"src/case_{case.name}.rt", source(case))
-        write(crate / f"specs/Given_{case.name}.antt", given(case))
-        write(crate / f"proofs/case_{case.name}/agrees/Answers.antt", answers(case, words))
-    return crate
+    for name in names:
+        write(folder / "crates" / name / "src/lib.rt", "//! Cases.\n")
+    for line in kept:
+        subprocess.run(["rt", "lib"], cwd=folder / "crates" / line.split(":")[0], stdout=subprocess.DEVNULL, check=True)
