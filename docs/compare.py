@@ -1,14 +1,14 @@
 #!/usr/bin/env python3
 """Compares what the definitions of a run make of an input, as the checker computes it, with a transcript, item by item.
 
-    docs/compare.py FOLDER CASES.. [--only NAME..] [--most ITEMS] [--jobs N] [--keep]
+    docs/compare.py FOLDER CASES.. [--only NAME..] [--most ITEMS] [--batch N] [--keep]
     docs/compare.py FOLDER [CASES..] --gen N --seed S --program PATH [..]
 
-FOLDER is made anew, outside the repository, unless --keep says to go on with the libraries that an earlier run left there. It holds N
-crates over the libraries of this checkout, with one function for each case, whose clause says that the lines of the run of the definitions
-are those of the transcript. CASES are folders with files NAME.in and NAME.out. With --gen, N small schedules are drawn instead, half of them
-mutations of CASES where there are some, and the program at PATH replays each. Of a case with more than ITEMS items the longest front of its
-schedule that has no more is compared.
+FOLDER is made anew, outside the repository, unless --keep says to go on with the libraries that an earlier run left there. It holds a
+crate over the libraries of this checkout, with one function for each case, whose clause says that the lines of the run of the definitions
+are those of the transcript; N cases are checked at a time. CASES are folders with files NAME.in and NAME.out. With --gen, N small schedules
+are drawn instead, half of them mutations of CASES where there are some, and the program at PATH replays each. Of a case with more than
+ITEMS items the longest front of its schedule that has no more is compared.
 """
 import argparse
 import pathlib
@@ -57,23 +57,22 @@ def cases_of(folders, only):
 
 
 class Comparison:
-    """Scratch crates that share out the claims between them."""
+    """What the checker finds of claims in a scratch crate."""
 
-    def __init__(self, folder, jobs, keep):
-        self.folder, self.words = folder, words_to_unfold()
-        self.names = [f"compared_{number}" for number in range(1, jobs + 1)]
+    def __init__(self, folder, keep):
+        self.crate, self.words = ScratchCrate(folder), words_to_unfold()
         if not (keep and folder.is_dir()):
-            make(folder, self.names)
+            make(folder)
 
     def verdicts(self, claims):
-        """Has the checker look at the claims, and returns what it found."""
-        shares = [claims[number :: len(self.names)] for number in range(len(self.names))]
-        crates = [ScratchCrate(self.folder, name, share) for name, share in zip(self.names, shares) if share]
-        for crate in crates:
-            crate.write(self.words)
-        for run in [crate.start() for crate in crates]:
-            run.wait()
-        return {name: verdict for crate in crates for name, verdict in crate.verdicts().items()}
+        self.crate.write(claims, self.words)
+        return self.crate.check(claims)
+
+    def told(self, cases):
+        """Returns what is told of each case."""
+        found = self.verdicts([Claim(it) for it in cases])
+        told = {"proved": lambda case: "agrees", "refused": lambda case: f"differs at item {self.first_other(case)}"}
+        return [(case, told.get(found[case.name], lambda case: found[case.name])(case)) for case in cases]
 
     def first_other(self, case):
         """Returns the number of the first item that differs: between two fronts of which the shorter agrees, a dozen more are tried."""
@@ -93,7 +92,7 @@ def options():
     parser.add_argument("cases", nargs="*")
     parser.add_argument("--only", nargs="*", default=[])
     parser.add_argument("--most", type=int, default=600)
-    parser.add_argument("--jobs", type=int, default=1)
+    parser.add_argument("--batch", type=int, default=16)
     parser.add_argument("--keep", action="store_true")
     parser.add_argument("--gen", type=int, default=0)
     parser.add_argument("--seed", type=int, default=1)
@@ -110,17 +109,13 @@ def main():
         cases = cases_of(words.cases, words.only)
     for case in cases:
         case.shorten(words.most)
-    # (the dearest first, so that the crates have equal shares)
-    cases.sort(key=lambda it: -len(it.expected))
-    comparison = Comparison(words.folder.resolve(), words.jobs, words.keep)
-    verdicts = comparison.verdicts([Claim(it) for it in cases])
-    told = {"proved": "agrees"}
-    for case in cases:
-        verdict = verdicts[case.name]
-        if verdict == "refused":
-            verdict = f"differs at item {comparison.first_other(case)}"
-        print(f"{case.name}: {told.get(verdict, verdict)} ({case.size()})", flush=True)
-    sys.exit(any(verdict not in ("proved", "too large") for verdict in verdicts.values()))
+    cases.sort(key=lambda it: len(it.expected))
+    comparison, is_fine = Comparison(words.folder.resolve(), words.keep), True
+    for at in range(0, len(cases), words.batch):
+        for case, told in comparison.told(cases[at : at + words.batch]):
+            print(f"{case.name}: {told} ({case.size()})", flush=True)
+            is_fine = is_fine and told in ("agrees", "too large")
+    sys.exit(not is_fine)
 
 
 if __name__ == "__main__":

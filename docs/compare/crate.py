@@ -1,9 +1,10 @@
-"""The scratch crates of a comparison: one function for each case, over the libraries of this checkout."""
+"""The scratch crate of a comparison: one function for each case, over the libraries of this checkout."""
 import pathlib
 import re
 import shutil
 import subprocess
 
+NAME = "compared"
 CHECKOUT = pathlib.Path(__file__).resolve().parent.parent.parent
 
 # The modules whose words the checker looks through to compute a run: of the kit, of std and of this repository.
@@ -73,8 +74,8 @@ class Claim:
 class ScratchCrate:
     """A crate with one function for each claim."""
 
-    def __init__(self, folder, name, claims):
-        self.folder, self.name, self.claims = folder / "crates" / name, name, claims
+    def __init__(self, folder):
+        self.folder = folder / "crates" / NAME
 
     def given(self, case):
         """Returns the definitions of a case: its input, and what it must lead to."""
@@ -83,7 +84,7 @@ class ScratchCrate:
             "use Rattle.std.specs.Prelude.{ℕ, List, [], ◌∷◌, ◌++◌, codes}",
             "use Rattle.mega_cluster.specs.Header.{read_of}",
             "use Rattle.mega_promises.specs.Runs.{AsItWas, Recorded}",
-            f"use Rattle.{self.name}.specs.Told.{{DataCut, replayed, without_mark}}",
+            f"use Rattle.{NAME}.specs.Told.{{DataCut, replayed, without_mark}}",
             "",
             "abbrev pub header : List ℕ",
             f"header = {text_of(case.header)}",
@@ -99,8 +100,8 @@ class ScratchCrate:
     def source(self, claim):
         return f"""//! {claim.name}
 ghost use Rattle.std.specs.Prelude.{{◌≡◌, None, take}};
-ghost use Rattle.{self.name}.specs.Told.{{first_other}};
-ghost use Rattle.{self.name}.specs.Given_{claim.case.name}.{{expected, told}};
+ghost use Rattle.{NAME}.specs.Told.{{first_other}};
+ghost use Rattle.{NAME}.specs.Given_{claim.case.name}.{{expected, told}};
 
 /// The run of the definitions is told by this transcript.
 pub fn agrees()
@@ -118,7 +119,7 @@ pub fn agrees()
         return "\n".join([
             "use Rattle.std.proofs.Common.{refl}",
             *imports,
-            f"use Rattle.{self.name}.proofs.case_{claim.name}.agrees.Goals as goal",
+            f"use Rattle.{NAME}.proofs.case_{claim.name}.agrees.Goals as goal",
             "",
             "pub returns : goal.returns",
             f"unfolding {' '.join(names)}",
@@ -126,36 +127,34 @@ pub fn agrees()
             "",
         ])
 
-    def write(self, words):
+    def write(self, claims, words):
         for part in ("src", "specs", "proofs"):
             shutil.rmtree(self.folder / part, ignore_errors=True)
-        cases = sorted({it.case.name: it.case for it in self.claims}.items())
-        modules = "".join(f"pub mod case_{it.name};\n" for it in self.claims)
+        cases = sorted({it.case.name: it.case for it in claims}.items())
+        modules = "".join(f"pub mod case_{it.name};\n" for it in claims)
         write(self.folder / "src/lib.rt", f"//! Cases, as contracts of functions that do nothing.\n#![tactic(auto)]\n\n{modules}")
         write(self.folder / "specs/Lib.antt", "pub mod Told\n" + "".join(f"pub mod Given_{name}\n" for name, _ in cases))
         write(self.folder / "specs/Told.antt", (pathlib.Path(__file__).parent / "told.txt").read_text(encoding="utf-8"))
         for name, case in cases:
             write(self.folder / f"specs/Given_{name}.antt", self.given(case))
-        for claim in self.claims:
+        for claim in claims:
             write(self.folder / f"src/case_{claim.name}.rt", self.source(claim))
             write(self.folder / f"proofs/case_{claim.name}/agrees/Answers.antt", self.answers(claim, words))
 
-    def start(self):
-        """Starts the checker, which writes to said.txt."""
-        return subprocess.Popen(["rt", "check"], cwd=self.folder, stdout=open(self.folder / "said.txt", "wb"), stderr=subprocess.STDOUT)
-
-    def verdicts(self):
-        """Returns what the checker's words mean, for each claim: proved, refused, or too large."""
-        said = (self.folder / "said.txt").read_text(encoding="utf-8", errors="replace")
-        return {it.name: self.verdict_on(it, said) for it in self.claims}
+    def check(self, claims):
+        """Runs the checker, whose words stay in said.txt, and returns what they mean: proved, refused, or too large."""
+        run = subprocess.run(["rt", "check"], cwd=self.folder, stdout=subprocess.PIPE, stderr=subprocess.STDOUT)
+        said = run.stdout.decode("utf-8", "replace")
+        write(self.folder / "said.txt", said)
+        return {it.name: self.verdict_on(it, said) for it in claims}
 
     def verdict_on(self, claim, said):
-        told = re.search(rf"^fn {self.name}::case_{claim.name}::agrees: (.*)$", said, re.M)
+        told = re.search(rf"^fn {NAME}::case_{claim.name}::agrees: (.*)$", said, re.M)
         if told and told.group(1) == "proved":
             return "proved"
         faults = re.findall(rf"^[^\n]*case_{claim.name}/agrees/Answers.antt:\d[^\n]*(?:\n  [^\n]*)*", said, re.M)
         if not faults:
-            return "unknown" if told is None else f"unknown: {told.group(1)}"
+            return f"unknown: {told.group(1) if told else 'the checker said nothing'}"
         return "too large" if re.search("step limit|ResourceLimit", faults[0]) else "refused"
 
 
@@ -173,8 +172,8 @@ def crates_below(name, listed):
     return found
 
 
-def make(folder, names):
-    """Makes the folder of the scratch crates with these names, with copies of the libraries below them; `rt` takes what the checkout proved."""
+def make(folder):
+    """Makes the folder of the scratch crate, with copies of the libraries below it; `rt` takes what the checkout proved."""
     shutil.rmtree(folder, ignore_errors=True)
     listed = (CHECKOUT / "crates.txt").read_text(encoding="utf-8")
     below = crates_below("mega_promises", listed) | crates_below("mega_meanings", listed)
@@ -184,9 +183,8 @@ def make(folder, names):
                 shutil.copytree(CHECKOUT / "crates" / name / part, folder / "crates" / name / part)
     kept = [line for line in listed.splitlines() if line.split(":")[0] in below]
     libraries = " ".join(sorted({*below, *KIT_MODULES}))
-    write(folder / "crates.txt", "\n".join([*kept, *[f"{name}: {libraries}" for name in names], ""]))
+    write(folder / "crates.txt", "\n".join([*kept, f"{NAME}: {libraries}", ""]))
     shutil.copy(CHECKOUT / "HANDLES", folder / "HANDLES")
-    for name in names:
-        write(folder / "crates" / name / "src/lib.rt", "//! Cases.\n")
+    write(folder / "crates" / NAME / "src/lib.rt", "//! Cases.\n")
     for line in kept:
         subprocess.run(["rt", "lib"], cwd=folder / "crates" / line.split(":")[0], stdout=subprocess.DEVNULL, check=True)

@@ -9,7 +9,7 @@ def generated(program, draw):
     """Returns the front of a schedule that the program draws, for one to three nodes."""
     options = ["--seed", str(draw.randrange(2**32)), "--count", str(LINES), "--nodes", str(draw.randint(1, 3))]
     text = subprocess.run([program, "gen", *options], capture_output=True, check=True).stdout
-    return changed(text, draw, draw.randint(0, 6))
+    return changed(text, draw, draw.randint(0, 2))
 
 
 def changed(text, draw, times):
@@ -37,7 +37,7 @@ def drawn(program, count, seed, texts):
     draw = random.Random(seed)
     small = [it for it in texts if b"---\n" in it and len(it) < 8000]
     for number in range(1, count + 1):
-        given = changed(draw.choice(small), draw, draw.randint(1, 4)) if small and number % 2 == 0 else generated(program, draw)
+        given = changed(draw.choice(small), draw, draw.randint(1, 2)) if small and number % 2 == 0 else generated(program, draw)
         run = subprocess.run([program, "replay"], input=given, capture_output=True, timeout=60)
         if run.returncode not in (0, 3, 4):
             raise SystemExit(f"drawn {number} of seed {seed}: the program ended with {run.returncode}")
