@@ -4,7 +4,7 @@
     docs/compare.py FOLDER CASES.. [--only NAME..] [--most ITEMS] [--batch N] [--keep]
     docs/compare.py FOLDER [CASES..] --gen N --seed S --program PATH [..]
 
-FOLDER is made anew, outside the repository, unless --keep says to go on with the libraries that an earlier run left there. It holds a
+FOLDER is made anew, outside the repository; with --keep it is brought up to date, and its libraries that have not changed stay. It holds a
 crate over the libraries of this checkout, with one function for each case, whose clause says that the lines of the run of the definitions
 are those of the transcript; N cases are checked at a time. CASES are folders with files NAME.in and NAME.out. With --gen, N small schedules
 are drawn instead, half of them mutations of CASES where there are some, and the program at PATH replays each. Of a case with more than
@@ -13,6 +13,7 @@ ITEMS items the longest front of its schedule that has no more is compared.
 import argparse
 import pathlib
 import re
+import shutil
 import sys
 
 sys.path.insert(0, str(pathlib.Path(__file__).resolve().parent / "compare"))
@@ -61,8 +62,9 @@ class Comparison:
 
     def __init__(self, folder, keep):
         self.crate, self.words = ScratchCrate(folder), words_to_unfold()
-        if not (keep and folder.is_dir()):
-            make(folder)
+        if not keep:
+            shutil.rmtree(folder, ignore_errors=True)
+        make(folder)
 
     def verdicts(self, claims):
         self.crate.write(claims, self.words)

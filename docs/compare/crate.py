@@ -173,18 +173,19 @@ def crates_below(name, listed):
 
 
 def make(folder):
-    """Makes the folder of the scratch crate, with copies of the libraries below it; `rt` takes what the checkout proved."""
-    shutil.rmtree(folder, ignore_errors=True)
+    """Makes the folder of the scratch crate, or brings it up to date: it has copies of the libraries below. `rt` takes what the checkout proved."""
     listed = (CHECKOUT / "crates.txt").read_text(encoding="utf-8")
     below = crates_below("mega_promises", listed) | crates_below("mega_meanings", listed)
     for name in below:
         for part in ("src", "specs", "proofs"):
+            shutil.rmtree(folder / "crates" / name / part, ignore_errors=True)
             if (CHECKOUT / "crates" / name / part).is_dir():
                 shutil.copytree(CHECKOUT / "crates" / name / part, folder / "crates" / name / part)
-    kept = [line for line in listed.splitlines() if line.split(":")[0] in below]
+    lines = [line for line in listed.splitlines() if line.split(":")[0] in below]
     libraries = " ".join(sorted({*below, *KIT_MODULES}))
-    write(folder / "crates.txt", "\n".join([*kept, f"{NAME}: {libraries}", ""]))
+    write(folder / "crates.txt", "\n".join([*lines, f"{NAME}: {libraries}", ""]))
     shutil.copy(CHECKOUT / "HANDLES", folder / "HANDLES")
     write(folder / "crates" / NAME / "src/lib.rt", "//! Cases.\n")
-    for line in kept:
+    # (one after another, lowest first: `rt check` would read all sources of libraries that are not built)
+    for line in lines:
         subprocess.run(["rt", "lib"], cwd=folder / "crates" / line.split(":")[0], stdout=subprocess.DEVNULL, check=True)
