@@ -18,7 +18,7 @@ import sys
 
 sys.path.insert(0, str(pathlib.Path(__file__).resolve().parent / "compare"))
 from alignment import Alignment  # noqa: E402
-from crate import Claim, ScratchCrate, make, words_to_unfold  # noqa: E402
+from crate import Claim, ScratchCrate, is_scratch, make, words_to_unfold  # noqa: E402
 from schedules import drawn  # noqa: E402
 
 
@@ -62,6 +62,8 @@ class Comparison:
 
     def __init__(self, folder, keep):
         self.crate, self.words = ScratchCrate(folder), words_to_unfold()
+        if folder.exists() and not is_scratch(folder):
+            raise SystemExit(f"{folder} is there, and no folder of this script made it")
         if not keep:
             shutil.rmtree(folder, ignore_errors=True)
         make(folder)
@@ -73,11 +75,17 @@ class Comparison:
     def told(self, cases):
         """Returns what is told of each case."""
         found = self.verdicts([Claim(it) for it in cases])
-        told = {"proved": lambda case: "agrees", "refused": lambda case: f"differs at item {self.first_other(case)}"}
+        told = {"proved": lambda case: "agrees", "refused": self.where}
         return [(case, told.get(found[case.name], lambda case: found[case.name])(case)) for case in cases]
 
-    def first_other(self, case):
-        """Returns the number of the first item that differs: between two fronts of which the shorter agrees, a dozen more are tried."""
+    def where(self, case):
+        """Tells at which item a case differs; or where its run does not compute, if the checker does not see that it differs there."""
+        number = self.first_refused(case)
+        found = self.verdicts([Claim(case, number, f"Some {number}")])
+        return f"differs at item {number}" if "proved" in found.values() else f"does not compute at item {number}"
+
+    def first_refused(self, case):
+        """Returns the length of the shortest front that is refused: between two of which the shorter agrees, a dozen more are tried."""
         low, high = 0, max(len(case.expected), 1) + 1
         while high - low > 1:
             fronts = sorted({low + (high - low) * number // 12 for number in range(1, 12)} - {low, high})

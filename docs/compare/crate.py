@@ -59,16 +59,15 @@ def list_of(name, kind, items):
 
 
 class Claim:
-    """That the first lines of a case's run, so many or all of them, are those of its transcript."""
+    """That the first lines of a case's run, so many or all of them, are those of its transcript; or that one of them is the first that is not."""
 
-    def __init__(self, case, front=None):
-        self.case, self.front = case, front
+    def __init__(self, case, front=None, other="None"):
+        self.case, self.front, self.other = case, front, other
         self.name = case.name if front is None else f"{case.name}_{front}"
 
     def clause(self):
-        if self.front is None:
-            return "first_other 1 told expected ≡ None"
-        return f"first_other 1 (take {self.front} told) (take {self.front} expected) ≡ None"
+        both = "told expected" if self.front is None else f"(take {self.front} told) (take {self.front} expected)"
+        return f"first_other 1 {both} ≡ {self.other}"
 
 
 class ScratchCrate:
@@ -99,7 +98,7 @@ class ScratchCrate:
 
     def source(self, claim):
         return f"""//! {claim.name}
-ghost use Rattle.std.specs.Prelude.{{◌≡◌, None, take}};
+ghost use Rattle.std.specs.Prelude.{{◌≡◌, None, Some, take}};
 ghost use Rattle.{NAME}.specs.Told.{{first_other}};
 ghost use Rattle.{NAME}.specs.Given_{claim.case.name}.{{expected, told}};
 
@@ -170,6 +169,11 @@ def crates_below(name, listed):
         if re.search(rf"^{below}:", listed, re.M):
             found |= crates_below(below, listed)
     return found
+
+
+def is_scratch(folder):
+    """Returns whether a folder is one that this script made."""
+    return (folder / "crates" / NAME).is_dir() and CHECKOUT not in (folder, *folder.parents)
 
 
 def make(folder):
