@@ -1,6 +1,6 @@
 use Rattle.mega_world.proofs.Stepped.{as_member, is_here}
 use Rattle.mega_world.specs.declared.member.Member.{Member}
-use Rattle.std.proofs.Common.{[], Some, ◌∙◌}
+use Rattle.std.proofs.Common.{[], Some, refl, ◌∙◌}
 use Rattle.mega_world.proofs.member.Member.set_fuse.Goals as goal
 
 pub returns-clause-member : goal.returns-clause-member
