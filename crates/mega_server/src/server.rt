@@ -1,0 +1,113 @@
+//! A node over its devices, with the handlers of its queues, as one that is served.
+ghost use Rattle.std.specs.Prelude.{◌≡◌, ◌≤◌, ℕ, List, map, true, IfOk, OnOk};
+ghost use Rattle.std.specs.List.{list_any};
+ghost use Rattle.mega_base.specs.declared.names.OpId.{OpId as Op};
+ghost use Rattle.mega_handler.specs.Named.{Meanings};
+ghost use Rattle.mega_wal.specs.declared.item.JournalItem.{JournalItem};
+ghost use Rattle.mega_rules.specs.Operations.{Node as RuleNode};
+ghost use Rattle.mega_rules.specs.Steps.{step};
+ghost use Rattle.mega_replica.specs.Faring.{Fares};
+ghost use Rattle.mega_wal.specs.Same.{same_op};
+ghost use Rattle.mega_core.specs.Notes.{met_of};
+ghost use Rattle.mega_durable.specs.Cut.{LogWent, failed_by, log_failed_by};
+ghost use Rattle.mega_durable.specs.Standing.{IsUp, records_in};
+ghost use Rattle.mega_durable.specs.Stepped.{AtEach};
+ghost use Rattle.mega_serve.specs.Stepping.{event_of};
+
+use crate::faults::fault_of;
+use crate::forming::formed;
+use crate::number::Number;
+use mega_base::{NodeId, OpId};
+use mega_core::Step;
+use mega_disk::{Records, Versions};
+use mega_durable::{Up, UpFault};
+use mega_meanings::QueueHandlers;
+use mega_operations::Operation;
+use mega_propose::is_same_op;
+use mega_schema::Schema;
+use mega_serve::{Event, Made, NodeFault, Steps};
+use std::alloc::Global;
+
+/// A node that is up, with the handlers of its queues and its number.
+#[derive(Drop)]
+pub struct Server<R: Records, V: Versions, H: QueueHandlers> {
+    pub up: Up<R, V>,
+    pub handlers: H,
+    pub number: Number,
+}
+
+/// Whether an operation is open.
+fn opens(open: &[Operation], op: OpId) -> bool
+    ensures { result ≡ list_any (λ o. same_op o.id op) open.now }
+{
+    open.iter().any(|one| is_same_op(one.id, op))
+}
+
+impl<R: Records, V: Versions, H: QueueHandlers> Server<R, V, H> {
+    /// The node makes the step of an event.
+    fn steps(&mut self, alloc: Global, event: Event) -> Result<Step, UpFault>
+        ensures notes { V.is_told ≡ true → IfOk result (λ made. AtEach R.Records V.version (H.meant self.old.handlers) self.old.up.node (event_of event) (λ h s node. map met_of made.notes ≡ (step s node (event_of event)).notes)) }
+        ensures sends { V.is_told ≡ true → IfOk result (λ made. AtEach R.Records V.version (H.meant self.old.handlers) self.old.up.node (event_of event) (λ h s node. made.sends ≡ (step s node (event_of event)).sends)) }
+        ensures state { V.is_told ≡ true → OnOk result (AtEach R.Records V.version (H.meant self.old.handlers) self.old.up.node (event_of event) (λ h s node. IsUp R.Records V.version h self.new.up.node (step s node (event_of event)).node)) }
+        ensures handlers { H.meant self.new.handlers ≡ H.meant self.old.handlers }
+        ensures went { LogWent R.Records (log_failed_by result) (records_in self.old.up.node) (records_in self.new.up.node) }
+        ensures fares { Fares V.Versions (failed_by result) self.old.up.node.replica.rows.rows self.new.up.node.replica.rows.rows }
+        ensures members { self.new.up.node.replica.members ≡ self.old.up.node.replica.members }
+        ensures number { self.new.number ≡ self.old.number }
+        ensures me { self.new.up.node.replica.me ≡ self.old.up.node.replica.me }
+    {
+        match event {
+            Event::Tick { now } => self.up.tick(alloc, &mut self.handlers, now),
+            Event::Take { message } => self.up.take(alloc, &mut self.handlers, &message),
+            Event::Begin { request, text } => {
+                self.up.begin(alloc, &mut self.handlers, request, &text)
+            }
+        }
+    }
+}
+
+impl<R: Records, V: Versions, H: QueueHandlers> Steps for Server<R, V, H> {
+    ghost use Rattle.std.proofs.Common.{ap, sym};
+    ghost use Rattle.mega_server.specs.Serving.{IsServed, MayStep, devices_of, opens_at};
+
+    ghost is_at = { λ s h node journal. IsServed R.Records V.Versions (H.meant s.handlers) h s.up.node s.number.of node };
+
+    ghost members = { λ s. s.up.node.replica.members };
+
+    ghost me = { λ s. s.number.of };
+
+    ghost devices = { λ s. devices_of R.Records V.Versions s.up.node };
+
+    ghost may_happen = { MayStep };
+
+    ghost opens = { λ s op. opens_at s.up.node op };
+
+    ghost opens_are = { λ s h node journal at op. ap (list_any (λ o. same_op o.id op)) (sym at.up.stands.opened) };
+
+    fn schema(&self) -> &Schema {
+        &self.up.node.replica.members.cluster().schema
+    }
+
+    fn number(&self) -> u8 {
+        self.number.get()
+    }
+
+    fn next_op(&self) -> OpId {
+        self.up.next_op()
+    }
+
+    fn is_open(&self, op: OpId) -> bool {
+        opens(self.up.node.open.as_slice(), op)
+    }
+
+    fn step(&mut self, alloc: Global, event: Event) -> Result<Made, NodeFault> {
+        let me = self.number.get();
+        match self.steps(alloc, event) {
+            Ok(step) => match formed(alloc, me, step) {
+                Ok(made) => Ok(made),
+                Err(fault) => Err(fault),
+            },
+            Err(fault) => Err(fault_of(fault)),
+        }
+    }
+}
