@@ -37,10 +37,10 @@ pub struct Server<R: Records, V: Versions, H: QueueHandlers> {
 }
 
 /// Whether an operation is open.
-fn opens(open: &[Operation], op: OpId) -> bool
-    ensures { result ≡ list_any (λ o. same_op o.id op) open.now }
+fn opens(operations: &[Operation], op: OpId) -> bool
+    ensures { result ≡ list_any (λ o. same_op o.id op) operations.now }
 {
-    open.iter().any(|one| is_same_op(one.id, op))
+    operations.iter().any(|one| is_same_op(one.id, op))
 }
 
 impl<R: Records, V: Versions, H: QueueHandlers> Server<R, V, H> {
