@@ -12,7 +12,7 @@ use Rattle.mega_schema.specs.declared.schema.Table.{Table}
 use Rattle.mega_schema.specs.declared.schema.Schema.{Schema}
 use Rattle.mega_schema.specs.Shaping.{shape_of}
 use Rattle.mega_keys.specs.declared.fault.KeyFault.{KeyFault}
-use Rattle.mega_keys.specs.Reading.{read_key_of}
+use Rattle.mega_keys.specs.Reading.{key_at, read_key_of}
 use Rattle.mega_index.specs.Rows.{Rows, same_key, written}
 use Rattle.mega_index.specs.Fits.{numbered, group_of, stands_in}
 use Rattle.mega_index.specs.LocalWrites.{index_writes}
@@ -45,10 +45,10 @@ entered group send = record {
 abbrev pub enter_length : List ℕ → Send → ℕ
 enter_length group send = length (entry_text (entry_of [] [] (entered group send ∷ []) []))
 
--- the bytes are the group of a root with this table number: those of its row key but for the table's number at the end
+-- the bytes are the group of a root with this table number: at most 1,024, those of its row key but for the table's number at the end
 abbrev pub is_root_group : Schema → ℕ → Option Table → List ℕ → Bool
 is_root_group s n None group = false
-is_root_group s n (Some t) group = (t.root == n) && is_ok (read_key_of (shape_of s n t) (group ++ n ∷ []))
+is_root_group s n (Some t) group = (t.root == n) && nat_le (length group) 1024 && is_ok (key_at (shape_of s n t) (group ++ n ∷ []))
 
 -- the bytes are a group of the schema
 abbrev pub is_group : Schema → List ℕ → Bool

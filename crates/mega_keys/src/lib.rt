@@ -12,5 +12,5 @@ pub use fault::KeyFault;
 pub use laws::{
     keys_are_apart, keys_are_ordered, keys_are_read_back, refusals_are_told_where_they_are,
 };
-pub use read::read_key;
+pub use read::{is_spelled, read_key};
 pub use write::{group_of, index_key, row_key};

@@ -1,5 +1,5 @@
 //! Reads the values of a row key back, and tells the byte that cannot stand there.
-ghost use Rattle.std.specs.Prelude.{◌≡◌, ◌^◌, ◌++◌, List, ℕ, IfOk, Ok, length, take};
+ghost use Rattle.std.specs.Prelude.{◌≡◌, ◌^◌, ◌++◌, List, ℕ, IfOk, Ok, length, take, is_ok};
 ghost use Rattle.std.specs.Int.{w32, w64};
 ghost use Rattle.std.specs.List.{flat_map};
 ghost use Rattle.mega_keys.specs.declared.read.Stop.TheVariants.{Refused as Spent};
@@ -280,6 +280,19 @@ pub fn read_key(alloc: Global, shape: &Shape, key: &[u8]) -> Result<Items<Value>
     ensures exact { Gives result (read_key_of shape.now key.now) }
 {
     read_front(alloc, shape, key)
+}
+
+/// Whether the bytes spell a row key, however many they are: those of a group that is as long as a group may
+/// be, with the number of its root table behind them, are one byte more than a key may have.
+pub fn is_spelled(alloc: Global, shape: &Shape, key: &[u8]) -> Result<bool, NoMemory>
+    ensures { IfOk result (λ found. found ≡ is_ok (key_at shape.now key.now)) }
+{
+    let mut reader = KeyReader { left: key };
+    match reader.take_whole_key(alloc, shape) {
+        Ok(_) => Ok(true),
+        Err(Stop::Left(_)) => Ok(false),
+        Err(Stop::Refused) => Err(NoMemory),
+    }
 }
 
 /// Reads the bytes that a key may have, and refuses those behind them.

@@ -1,6 +1,6 @@
 -- What a transaction comes to under a schema that grew.
 use Rattle.std.proofs.Common.{◌≡◌, ◌∙◌, ap, refl, ℕ, zero, suc, ◌+◌, ◌-◌, Bool, true, false, List, [], ◌∷◌, ◌++◌, length, drop}
-use Rattle.std.specs.Prelude.{Option, Some, None, Result, Ok, Err, is_some, is_none, is_ok, ◌==◌, ◌&&◌, if◌then◌else◌, slice_get, option_map}
+use Rattle.std.specs.Prelude.{Option, Some, None, Result, Ok, Err, is_some, is_none, is_ok, ◌==◌, ◌&&◌, if◌then◌else◌, nat_le, slice_get, option_map}
 use Rattle.std.specs.List.{list_all}
 use Rattle.std.specs.Option.{option_to_list}
 use Rattle.mega_base.specs.declared.values.Kind.{Kind}
@@ -16,7 +16,7 @@ use Rattle.mega_schema.specs.Lookup.{is_root_table}
 use Rattle.mega_schema.specs.Shaping.{kinds_of, root_kinds, rest_kinds, space_of, shape_of}
 use Rattle.mega_keys.specs.Spelling.{root_part}
 use Rattle.mega_keys.specs.Answers.{row_key_of, group_key_of}
-use Rattle.mega_keys.specs.Reading.{read_key_of}
+use Rattle.mega_keys.specs.Reading.{key_at}
 use Rattle.mega_index.specs.Rows.{Rows}
 use Rattle.mega_index.specs.Fits.{numbered}
 use Rattle.mega_index.specs.Fitted.{is_root_group, is_group, is_queue, send_fits}
@@ -194,8 +194,8 @@ root_group_same s new e n None None at bytes = refl
 root_group_same s new e n None (Some u) at bytes = absurd at
 root_group_same s new e n (Some t) None at bytes = absurd at
 root_group_same s new e n (Some t) (Some u) at bytes =
-    ap (λ (root : ℕ). (root == n) && is_ok (read_key_of (shape_of new n u) (bytes ++ n ∷ []))) at.root
-    ∙ ap (λ (shape : Shape). (t.root == n) && is_ok (read_key_of shape (bytes ++ n ∷ []))) (shape_same s new e n t u at)
+    ap (λ (root : ℕ). (root == n) && nat_le (length bytes) 1024 && is_ok (key_at (shape_of new n u) (bytes ++ n ∷ []))) at.root
+    ∙ ap (λ (shape : Shape). (t.root == n) && nat_le (length bytes) 1024 && is_ok (key_at shape (bytes ++ n ∷ []))) (shape_same s new e n t u at)
 
 group_same : (s new : Schema) → Extends s new → (bytes : List ℕ) → is_group new bytes ≡ is_group s bytes
 group_same s new e [] = refl

@@ -1,6 +1,6 @@
 //! Which groups and queues the sends of a transaction may name.
 ghost use Rattle.std.specs.Prelude.{◌≡◌, ◌+◌, ◌<◌, ◌^◌, ◌++◌, ◌∷◌, [], length, is_ok, Some, IfOk};
-ghost use Rattle.mega_keys.specs.Reading.{read_key_of};
+ghost use Rattle.mega_keys.specs.Reading.{key_at};
 ghost use Rattle.mega_schema.specs.Shaping.{shape_of};
 ghost use Rattle.mega_index.specs.Fits.{numbered};
 ghost use Rattle.mega_index.specs.Fitted.{is_root_group, is_group, is_queue, send_fits};
@@ -11,9 +11,12 @@ use crate::answer::Turn;
 use mega_base::{Bytes, NoMemory, Shape, Text};
 use mega_entry::Send;
 use mega_index::table_at;
-use mega_keys::{KeyFault, read_key};
+use mega_keys::is_spelled;
 use mega_schema::{Schema, Table};
 use std::alloc::Global;
+
+/// The most bytes that a group has.
+const LONGEST: usize = 1024;
 
 fn shape_of(alloc: Global, schema: &Schema, number: u8, table: &Table) -> Result<Shape, NoMemory>
     requires { numbered schema.now.tables number ≡ Some table.now }
@@ -32,16 +35,12 @@ fn is_root_key(
     group: &[u8],
 ) -> Result<bool, NoMemory>
     requires { numbered schema.now.tables number ≡ Some table.now }
-    ensures { IfOk result (λ found. found ≡ is_ok (read_key_of (shape_of schema.now number table.now) (group.now ++ number ∷ []))) }
+    ensures { IfOk result (λ found. found ≡ is_ok (key_at (shape_of schema.now number table.now) (group.now ++ number ∷ []))) }
 {
     let shape = shape_of(alloc, schema, number, table)?;
     let mut key = Bytes::from_slice(alloc, group)?;
     key.push(number)?;
-    match read_key(alloc, &shape, key.as_slice()) {
-        Ok(_) => Ok(true),
-        Err(KeyFault::NoMemory) => Err(NoMemory),
-        Err(_) => Ok(false),
-    }
+    is_spelled(alloc, &shape, key.as_slice())
 }
 
 /// Whether the bytes are the group of a root with this table number.
@@ -49,7 +48,9 @@ fn is_root_group(alloc: Global, schema: &Schema, number: u8, group: &[u8]) -> Re
     ensures { IfOk result (λ found. found ≡ is_root_group schema.now number (numbered schema.now.tables number) group.now) }
 {
     match table_at(schema, number) {
-        Some(table) if table.root == number => is_root_key(alloc, schema, number, table, group),
+        Some(table) if table.root == number && group.len() <= LONGEST => {
+            is_root_key(alloc, schema, number, table, group)
+        }
         _ => Ok(false),
     }
 }
