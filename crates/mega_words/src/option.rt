@@ -127,12 +127,7 @@ fn with_value(found: Options, name: Name, value: &[u8]) -> Option<Options>
 
 /// The options after more words, where these are options of this list with their values; the first one is the value of an option that
 /// waits.
-fn read_on(
-    names: &[Name],
-    waits: Option<Name>,
-    found: Options,
-    words: &[Text],
-) -> Option<Options>
+fn read_on(names: &[Name], waits: Option<Name>, found: Options, words: &[Text]) -> Option<Options>
     requires { FitCluster found }
     ensures value { result ≡ read_on names.now waits found words.now }
     ensures range { IfSome result FitCluster }
