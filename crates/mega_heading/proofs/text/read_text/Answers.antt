@@ -1,8 +1,8 @@
 use Rattle.std.proofs.Common.{◌≡◌, Err, ap}
 use Rattle.std.specs.Io.KnownBytes.{prepend_known}
-use Rattle.mega_replay.specs.declared.status.Stop.TheVariants.{Source}
-use Rattle.mega_replay.proofs.Headings.{header_fails}
-use Rattle.mega_replay.proofs.heading.read_text.Goals as goal
+use Rattle.mega_heading.specs.declared.heading.HeadingFault.TheVariants.{Source}
+use Rattle.mega_heading.proofs.Headers.{header_fails}
+use Rattle.mega_heading.proofs.text.read_text.Goals as goal
 
 pub returns-in-Err-clause-fault : goal.returns-in-Err-clause-fault
 returns-in-Err-clause-fault g c is =
