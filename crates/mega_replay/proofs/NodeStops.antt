@@ -4,22 +4,22 @@ use Rattle.std.specs.Prelude.{OnOk, IfErr}
 use Rattle.mega_node.specs.declared.stop.Stop.{Stop}
 use Rattle.mega_node.specs.declared.stop.Stop.TheVariants.{BadRecord, Device, Full, Header, Link, NoMemory, Sink, Source, StartsFull, Unformed}
 use Rattle.mega_node.specs.Statuses.{ended_with}
-use Rattle.mega_node.specs.Statuses.{IsBehindHeader as IsBehind, IsBeforeOpening as IsBefore}
+use Rattle.mega_node.specs.Stops.{IsBehindHeader as IsBehind, IsBeforeOpening as IsBefore, IsNoRule}
 use Rattle.mega_replay.specs.Nodes.{IsBeforeOpening, IsBehindHeader}
 use Rattle.mega_replay.specs.Statuses.{IsNodeStatus}
 
-pub served_by : (ended : Result (Unit {0}) Stop) (P : Type 0) → ended_with ended ≡ 0 → OnOk ended P → P
-served_by (Ok done) P is said = said
-served_by (Err (Header rule)) P is said = absurd (omega arith)
-served_by (Err Source) P is said = absurd (omega arith)
-served_by (Err Sink) P is said = absurd (omega arith)
-served_by (Err Device) P is said = absurd (omega arith)
-served_by (Err NoMemory) P is said = absurd (omega arith)
-served_by (Err Unformed) P is said = absurd (omega arith)
-served_by (Err Link) P is said = absurd (omega arith)
-served_by (Err (Full length)) P is said = absurd (omega arith)
-served_by (Err StartsFull) P is said = absurd (omega arith)
-served_by (Err (BadRecord number)) P is said = absurd (omega arith)
+pub ran_by : (ended : Result (Unit {0}) Stop) (P : Type 0) → ended_with ended ≡ 0 → OnOk ended P → P
+ran_by (Ok done) P is said = said
+ran_by (Err (Header rule)) P is said = absurd (omega arith)
+ran_by (Err Source) P is said = absurd (omega arith)
+ran_by (Err Sink) P is said = absurd (omega arith)
+ran_by (Err Device) P is said = absurd (omega arith)
+ran_by (Err NoMemory) P is said = absurd (omega arith)
+ran_by (Err Unformed) P is said = absurd (omega arith)
+ran_by (Err Link) P is said = absurd (omega arith)
+ran_by (Err (Full length)) P is said = absurd (omega arith)
+ran_by (Err StartsFull) P is said = absurd (omega arith)
+ran_by (Err (BadRecord number)) P is said = absurd (omega arith)
 
 pub header_by : (ended : Result (Unit {0}) Stop) → ended_with ended ≡ 3 → (rule : ℕ) × (ended ≡ Err (Header rule))
 header_by (Err (Header rule)) is = (rule, refl)
@@ -144,18 +144,18 @@ before_by (Err (Full length)) P is said = absurd (not_before 10 (λ e. omega (ar
 before_by (Err StartsFull) P is said = absurd (not_before 10 (λ e. omega (arith, e)) (λ e. omega (arith, e)) (λ e. omega (arith, e)) is)
 before_by (Err (BadRecord number)) P is said = absurd (not_before 16 (λ e. omega (arith, e)) (λ e. omega (arith, e)) (λ e. omega (arith, e)) is)
 
-pub cut_by : (ended : Result (Unit {0}) Stop) (P : Type 0) → ended_with ended ≢ 0 → ended_with ended ≢ 3 → IfErr ended (λ stop. ((rule : ℕ) → stop ≡ Header rule → ⊥) → P) → P
+pub cut_by : (ended : Result (Unit {0}) Stop) (P : Type 0) → ended_with ended ≢ 0 → ended_with ended ≢ 3 → IfErr ended (λ stop. IsNoRule stop → P) → P
 cut_by (Ok done) P all broken said = absurd (all refl)
 cut_by (Err (Header rule)) P all broken said = absurd (broken refl)
-cut_by (Err Source) P all broken said = said (λ rule is. cc)
-cut_by (Err Sink) P all broken said = said (λ rule is. cc)
-cut_by (Err Device) P all broken said = said (λ rule is. cc)
-cut_by (Err NoMemory) P all broken said = said (λ rule is. cc)
-cut_by (Err Unformed) P all broken said = said (λ rule is. cc)
-cut_by (Err Link) P all broken said = said (λ rule is. cc)
-cut_by (Err (Full length)) P all broken said = said (λ rule is. cc)
-cut_by (Err StartsFull) P all broken said = said (λ rule is. cc)
-cut_by (Err (BadRecord number)) P all broken said = said (λ rule is. cc)
+cut_by (Err Source) P all broken said = said tt
+cut_by (Err Sink) P all broken said = said tt
+cut_by (Err Device) P all broken said = said tt
+cut_by (Err NoMemory) P all broken said = said tt
+cut_by (Err Unformed) P all broken said = said tt
+cut_by (Err Link) P all broken said = said tt
+cut_by (Err (Full length)) P all broken said = said tt
+cut_by (Err StartsFull) P all broken said = said tt
+cut_by (Err (BadRecord number)) P all broken said = said tt
 
 pub status_known : (ended : Result (Unit {0}) Stop) → IsNodeStatus (ended_with ended)
 status_known (Ok done) = inl refl

@@ -11,7 +11,7 @@ use Rattle.mega_journal.specs.Chain.{records_of}
 use Rattle.mega_meanings.specs.BuiltIn.{built_in}
 use Rattle.mega_serve.specs.declared.steps.Steps.{Ghosts as StepsGhosts}
 use Rattle.mega_wal.specs.Records.{first_bad}
-use Rattle.mega_node.specs.Calls.{HasServed, IsCut}
+use Rattle.mega_node.specs.Calls.{HasRun, IsCut}
 use Rattle.mega_node.specs.Headers.{IsBroken, IsHeaded, header_line}
 use Rattle.mega_node.specs.Outside.{OnlyWrites, Outside}
 
@@ -27,7 +27,7 @@ IsBeforeOpening status = (status ≡ 3) ⊎ (status ≡ 5) ⊎ (status ≡ 9)
 -- sent, and its log holds what it met; a header that breaks a rule is told of, and nothing else is done; at every other end a front of what there
 -- was to write is held. Devices that fail are handed back, as are all others but where memory was wanting
 pub record HasRunNode {D S : Type 0} (disks : DiskGhosts D) (steps : StepsGhosts S) (number turns : ℕ) (input rest : Option (List ℕ)) (devices : Pair D) (handed : Option (Pair D)) (before after : Outside) (status : ℕ) : Type 0 where
-  pub served : status ≡ 0 → (left : Pair D) × (handed ≡ Some left) × HasServed disks steps (meaning built_in) number turns input devices.log left.log before after
+  pub ran : status ≡ 0 → (left : Pair D) × (handed ≡ Some left) × HasRun disks steps (meaning built_in) number turns input devices.log left.log before after
   pub header : status ≡ 3 → (rule : ℕ) × IsBroken number input rule × OnlyWrites before after (λ held more_held. Appends held more_held (header_line rule))
   pub headed : IsBehindHeader status → (c : Cluster) × IsHeaded number input c
   pub cut : status ≢ 0 → status ≢ 3 → IsCut disks steps (meaning built_in) number input devices.log before after
