@@ -6,11 +6,12 @@ import time
 
 from cluster import Client, put_note, read_notes
 
-PUTS = 1_000
-READS = 3_000
-BATCHES = 2_000
+PUTS = 2_000
+READS = 20_000
+BATCHES = 4_000
 CLIENTS = 64
 TRANSACTIONS = 16
+SECONDS = 15
 
 
 def tell(name, times, each=1):
@@ -20,11 +21,12 @@ def tell(name, times, each=1):
 
 
 def timed(act, count):
-    """How long each of so many calls takes."""
+    """How long each of so many calls takes, or of those that are made in some seconds."""
     times = []
-    for number in range(count):
+    end = time.perf_counter() + SECONDS
+    while len(times) < count and time.perf_counter() < end:
         begun = time.perf_counter()
-        act(number)
+        act(len(times))
         times.append(time.perf_counter() - begun)
     return times
 
@@ -93,7 +95,7 @@ def batch_often(cluster):
     begun = time.perf_counter()
     for index in range(CLIENTS):
         send(index)
-    while sum(sent) < BATCHES and time.perf_counter() - begun < 60:
+    while sum(sent) < BATCHES and time.perf_counter() - begun < SECONDS:
         for one in select.select(list(by_socket), [], [], 5.0)[0]:
             index = by_socket[one]
             reply = clients[index].receive(1.0)
