@@ -80,13 +80,18 @@ pub fn run<I: Source, O: Sink, D: Disk + Drop, L: Link, C: Clock>(
     ensures outs { O.faults out.old ≤ O.faults out.new }
 {
     match command_of(words) {
-        None => Ended::offline(tell_usage(out), devices),
-        Some(Command::Gen { seed, count, nodes }) => {
-            Ended::offline(draw(alloc, seed, count, nodes, out), devices)
-        }
-        Some(Command::Replay { report }) => {
-            Ended::offline(replay_all(alloc, report, input, out), devices)
-        }
+        None => Ended {
+            status: tell_usage(out),
+            devices: Some(devices),
+        },
+        Some(Command::Gen { seed, count, nodes }) => Ended {
+            status: draw(alloc, seed, count, nodes, out),
+            devices: Some(devices),
+        },
+        Some(Command::Replay { report }) => Ended {
+            status: replay_all(alloc, report, input, out),
+            devices: Some(devices),
+        },
         Some(Command::Node { number, turns }) => {
             let number = Number::new(number);
             serve_node(alloc, number, turns, input, out, devices, link, clock)
