@@ -1,5 +1,5 @@
 -- The options of commands, as words.
-use Rattle.std.specs.Prelude.{ℕ, ◌≤◌, ◌×◌, IfSome, ◌==◌, ◌||◌, Bool, nat_eq, if◌then◌else◌, codes, List, [], ◌∷◌, Option, Some, None, is_some, option_map, option_and_then}
+use Rattle.std.specs.Prelude.{ℕ, ◌≤◌, IfSome, ◌==◌, ◌||◌, Bool, nat_eq, if◌then◌else◌, codes, List, [], ◌∷◌, Option, Some, None, is_some, option_map, option_and_then}
 use Rattle.std.specs.Cmp.Lexicographic.{pointwise}
 use Rattle.mega_words.specs.declared.option.Name.{Name}
 use Rattle.mega_words.specs.declared.option.Name.TheVariants.{Seed, Count, Nodes, Number, Turns}
