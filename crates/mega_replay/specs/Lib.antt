@@ -7,4 +7,5 @@ pub mod Running
 pub mod Replaying
 pub mod Known
 pub mod Statuses
+pub mod Nodes
 pub mod Stops

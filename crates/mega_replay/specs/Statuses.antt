@@ -1,5 +1,7 @@
 -- The statuses with which the program ends.
-use Rattle.std.specs.Prelude.{◌≡◌, ◌⊎◌, ℕ}
+use Rattle.std.specs.Prelude.{◌≡◌, ◌⊎◌, ℕ, Option, Some, None}
+use Rattle.mega_words.specs.declared.command.Command.{Command}
+use Rattle.mega_words.specs.declared.command.Command.TheVariants.{Gen, Node, Replay}
 use Rattle.mega_replay.specs.declared.status.Stop.{Stop}
 use Rattle.mega_replay.specs.declared.status.Stop.TheVariants.{Header, Schedule, Refused, Limit, Source, Sink, NoMemory}
 
@@ -25,6 +27,18 @@ IsReplayStatus status = (status ≡ 0) ⊎ (status ≡ 3) ⊎ (status ≡ 4) ⊎
 abbrev pub IsDrawn : ℕ → Type 0
 IsDrawn status = (status ≡ 0) ⊎ (status ≡ 6) ⊎ (status ≡ 8)
 
--- the statuses with which the program ends
-abbrev pub IsStatus : ℕ → Type 0
-IsStatus status = (status ≡ 2) ⊎ IsReplayStatus status
+-- the statuses with which a node ends
+abbrev pub IsNodeStatus : ℕ → Type 0
+IsNodeStatus status = (status ≡ 0) ⊎ (status ≡ 3) ⊎ (status ≡ 7) ⊎ (status ≡ 9) ⊎ (status ≡ 10) ⊎ (status ≡ 16) ⊎ IsCutStatus status
+
+-- the statuses with which what the words ask for ends
+abbrev pub IsStatusOf : Option Command → ℕ → Type 0
+IsStatusOf None status = (status ≡ 2) ⊎ (status ≡ 8)
+IsStatusOf (Some (Replay report)) status = IsReplayStatus status
+IsStatusOf (Some (Gen seed count nodes)) status = IsDrawn status
+IsStatusOf (Some (Node number turns)) status = IsNodeStatus status
+
+-- the words ask for no node
+abbrev pub IsOffline : Option Command → Type 0
+IsOffline (Some (Node number turns)) = ⊥
+IsOffline _ = Unit {0}

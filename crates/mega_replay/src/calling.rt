@@ -1,5 +1,7 @@
 //! The top call: its words, what it writes, and its status.
 ghost use Rattle.std.specs.Prelude.{◌≡◌, ◌≤◌, ◌⊎◌, ◌++◌, ℕ, List, Some, None, Ok, Err, OnOk, OnErr};
+ghost use Rattle.mega_node.specs.Outside.{told_by};
+ghost use Rattle.mega_replay.specs.Nodes.{HasRunNode};
 ghost use Rattle.std.specs.Io.KnownBytes.{Appends, IsAtEnd};
 ghost use Rattle.mega_meanings.specs.BuiltIn.{built_in};
 ghost use Rattle.mega_meanings.specs.Means.{Means};
@@ -7,20 +9,28 @@ ghost use Rattle.mega_base.specs.Causes.{Rose};
 ghost use Rattle.mega_io.specs.Pieces.{AppendsFront};
 ghost use Rattle.mega_replay.specs.LastLines.{header_line, schedule_line, refused_line, limit_line, last_line, usage_line};
 ghost use Rattle.mega_replay.specs.Known.{InputDone, InputFailed, InputBroken, InputNoEvent, InputRefused, InputPastLast, InputCut};
-ghost use Rattle.mega_replay.specs.Statuses.{IsCutStatus, IsDrawn, IsReplayStatus, IsStatus};
+ghost use Rattle.mega_replay.specs.Statuses.{IsCutStatus, IsDrawn, IsOffline, IsReplayStatus, IsStatusOf};
 ghost use Rattle.mega_gen.specs.Generated.{generated};
 ghost use Rattle.mega_words.specs.Commands.{command_of};
-ghost use Rattle.mega_words.specs.declared.command.Command.TheVariants.{Gen, Replay};
+ghost use Rattle.mega_words.specs.declared.command.Command.TheVariants.{Gen, Node, Replay};
 ghost use Rattle.mega_words.specs.declared.command.Report.{Report};
 ghost use Rattle.mega_replay.specs.Stops.{IsTold, IsWriteStop};
 
+use crate::ended::Ended;
 use crate::replay::replay;
+use crate::serving::serve_node;
 use crate::status::Stop;
 use crate::writing::write_on;
 use mega_base::{Bytes, Text};
+use mega_disk::{Disk, Pair};
 use mega_gen::generate;
 use mega_io::{Sink, SinkError, Source, put};
+use mega_journal::Journal;
+use mega_link::{Clock, Link};
 use mega_meanings::{BuiltIn, QueueHandlers};
+use mega_rows::VersionedRows;
+use mega_serve::Steps;
+use mega_server::{Number, Server};
 use mega_words::{Command, Report, command_of};
 use std::alloc::Global;
 
@@ -29,36 +39,63 @@ const USAGE: &str =
     "usage: megastore replay [--summary] | gen --seed S --count N --nodes K | node --number K --turns T\n";
 
 /// Runs the program on its words, with the handlers that the store brings, and gives the status with which it ends: 0 where the input was read
-/// to its end and every line was an event that happened, or where all lines were drawn; 2 where the words are no form; 3 where the
-/// header breaks a rule; 4 where a line is no event, or its event is refused; 5 and 6 where the source
-/// or the sink failed; 8 for want of memory and 10 where a line starts a node that started 4,294,967,295 times. A transcript grows with the lines that are done, a summary comes behind the last one. With 0 all of the report was written; with
+/// to its end and every line was an event that happened, where all lines were drawn, or where a node made all its turns; 2 where the words are
+/// no form; 3 where the header breaks a rule; 4 where a line is no event, or its event is refused; 5 and 6 where the source
+/// or the sink failed; 7 where a node's device failed; 8 for want of memory; 9 where its link was not bound; 10 where a line, or the call of a node,
+/// starts one that started 4,294,967,295 times, or a node's log would pass 2^40 bytes; and 16 where a record of its log is none of the format.
+/// A transcript grows with the lines that are done, a summary comes behind the last one. With 0 all of the report was written; with
 /// 3, 4 and 10 what there was of it before, and then the last line, which 10 has not; with 5 what there is of it after exactly the lines that
-/// the bytes before the fault spell, where the sink took it; with 6 and 8 a front of such a text.
-pub fn run<I: Source, O: Sink>(alloc: Global, words: &[Text], input: &mut I, out: &mut O) -> u8
-    ensures unformed { result ≡ 2 → command_of words.now ≡ None }
-    ensures no_form { command_of words.now ≡ None → (result ≡ 2) ⊎ (result ≡ 8) }
-    ensures used { result ≡ 2 → Appends (O.held out.old) (O.held out.new) usage_line ⊎ Rose (O.faults out.old) (O.faults out.new) }
+/// the bytes before the fault spell, where the sink took it; with 6 and 8 a front of such a text. Of the record of a node a front is written at
+/// every end but 0, where it is whole, and 3, where the last line alone is. Only a node uses devices, link and clock.
+pub fn run<I: Source, O: Sink, D: Disk + Drop, L: Link, C: Clock>(
+    alloc: Global,
+    words: &[Text],
+    input: &mut I,
+    out: &mut O,
+    devices: Pair<D>,
+    link: &mut L,
+    clock: &mut C,
+) -> Ended<D>
+    ensures unformed { result.status ≡ 2 → command_of words.now ≡ None }
+    ensures no_form { command_of words.now ≡ None → (result.status ≡ 2) ⊎ (result.status ≡ 8) }
+    ensures used { result.status ≡ 2 → Appends (O.held out.old) (O.held out.new) usage_line ⊎ Rose (O.faults out.old) (O.faults out.new) }
     ensures usage { command_of words.now ≡ None → AppendsFront (O.held out.old) (O.held out.new) usage_line }
-    ensures drawn { (seed count nodes : ℕ) → command_of words.now ≡ Some (Gen seed count nodes) → result ≡ 0 → Appends (O.held out.old) (O.held out.new) (generated seed count nodes) }
-    ensures drawing { (seed count nodes : ℕ) → command_of words.now ≡ Some (Gen seed count nodes) → IsDrawn result × AppendsFront (O.held out.old) (O.held out.new) (generated seed count nodes) }
+    ensures drawn { (seed count nodes : ℕ) → command_of words.now ≡ Some (Gen seed count nodes) → result.status ≡ 0 → Appends (O.held out.old) (O.held out.new) (generated seed count nodes) }
+    ensures drawing { (seed count nodes : ℕ) → command_of words.now ≡ Some (Gen seed count nodes) → IsDrawn result.status × AppendsFront (O.held out.old) (O.held out.new) (generated seed count nodes) }
     ensures unread { (seed count nodes : ℕ) → command_of words.now ≡ Some (Gen seed count nodes) → input.new ≡ input.old }
-    ensures done { (report : Report) → command_of words.now ≡ Some (Replay report) → result ≡ 0 → InputDone report (I.left input.old) (Appends (O.held out.old) (O.held out.new)) }
-    ensures end { (report : Report) → command_of words.now ≡ Some (Replay report) → result ≡ 0 → IsAtEnd (I.left input.new) }
-    ensures header { result ≡ 3 → (rule : ℕ) × InputBroken (I.left input.old) rule (λ text. Appends (O.held out.old) (O.held out.new) (text ++ header_line rule)) }
-    ensures refused { (report : Report) → command_of words.now ≡ Some (Replay report) → result ≡ 4 → ((line : ℕ) × (reason : ℕ) × InputNoEvent report (I.left input.old) line reason (λ text. Appends (O.held out.old) (O.held out.new) (text ++ schedule_line line reason))) ⊎ ((line : ℕ) × (why : ℕ) × InputRefused report (I.left input.old) line why (λ text. Appends (O.held out.old) (O.held out.new) (text ++ refused_line line why))) }
-    ensures limit { (report : Report) → command_of words.now ≡ Some (Replay report) → result ≡ 10 → (line : ℕ) × InputPastLast report (I.left input.old) line (λ text. Appends (O.held out.old) (O.held out.new) (text ++ limit_line line)) }
-    ensures broken { (report : Report) → command_of words.now ≡ Some (Replay report) → result ≡ 5 → InputFailed report (I.left input.old) (I.left input.new) (Appends (O.held out.old) (O.held out.new)) ⊎ Rose (O.faults out.old) (O.faults out.new) }
-    ensures cut { (report : Report) → command_of words.now ≡ Some (Replay report) → IsCutStatus result → InputCut report (I.left input.old) (AppendsFront (O.held out.old) (O.held out.new)) }
-    ensures source { result ≡ 5 → Rose (I.faults input.old) (I.faults input.new) }
-    ensures sink { result ≡ 6 → Rose (O.faults out.old) (O.faults out.new) }
-    ensures only { IsStatus result }
+    ensures done { (report : Report) → command_of words.now ≡ Some (Replay report) → result.status ≡ 0 → InputDone report (I.left input.old) (Appends (O.held out.old) (O.held out.new)) }
+    ensures end { (report : Report) → command_of words.now ≡ Some (Replay report) → result.status ≡ 0 → IsAtEnd (I.left input.new) }
+    ensures header { (report : Report) → command_of words.now ≡ Some (Replay report) → result.status ≡ 3 → (rule : ℕ) × InputBroken (I.left input.old) rule (λ text. Appends (O.held out.old) (O.held out.new) (text ++ header_line rule)) }
+    ensures refused { (report : Report) → command_of words.now ≡ Some (Replay report) → result.status ≡ 4 → ((line : ℕ) × (reason : ℕ) × InputNoEvent report (I.left input.old) line reason (λ text. Appends (O.held out.old) (O.held out.new) (text ++ schedule_line line reason))) ⊎ ((line : ℕ) × (why : ℕ) × InputRefused report (I.left input.old) line why (λ text. Appends (O.held out.old) (O.held out.new) (text ++ refused_line line why))) }
+    ensures limit { (report : Report) → command_of words.now ≡ Some (Replay report) → result.status ≡ 10 → (line : ℕ) × InputPastLast report (I.left input.old) line (λ text. Appends (O.held out.old) (O.held out.new) (text ++ limit_line line)) }
+    ensures broken { (report : Report) → command_of words.now ≡ Some (Replay report) → result.status ≡ 5 → InputFailed report (I.left input.old) (I.left input.new) (Appends (O.held out.old) (O.held out.new)) ⊎ Rose (O.faults out.old) (O.faults out.new) }
+    ensures cut { (report : Report) → command_of words.now ≡ Some (Replay report) → IsCutStatus result.status → InputCut report (I.left input.old) (AppendsFront (O.held out.old) (O.held out.new)) }
+    ensures source { result.status ≡ 5 → Rose (I.faults input.old) (I.faults input.new) }
+    ensures sink { result.status ≡ 6 → Rose (O.faults out.old) (O.faults out.new) }
+    ensures node { (number turns : ℕ) → command_of words.now ≡ Some (Node number turns) → HasRunNode D.Disk ⟦<Server<Journal<D>, VersionedRows, BuiltIn> as Steps>⟧ number turns (I.left input.old) (I.left input.new) devices result.devices (told_by L.Link C.Clock O.Sink link.old clock.old out.old) (told_by L.Link C.Clock O.Sink link.new clock.new out.new) result.status }
+    ensures link { result.status ≡ 9 → Rose (L.faults link.old) (L.faults link.new) }
+    ensures offline { IsOffline (command_of words.now) → (result.devices ≡ Some devices) × (link.new ≡ link.old) × (clock.new ≡ clock.old) }
+    ensures only { IsStatusOf (command_of words.now) result.status }
     ensures inputs { I.faults input.old ≤ I.faults input.new }
     ensures outs { O.faults out.old ≤ O.faults out.new }
 {
     match command_of(words) {
-        None => tell_usage(out),
-        Some(Command::Gen { seed, count, nodes }) => draw(alloc, seed, count, nodes, out),
-        Some(Command::Replay { report }) => replay_all(alloc, report, input, out),
+        None => Ended {
+            status: tell_usage(out),
+            devices: Some(devices),
+        },
+        Some(Command::Gen { seed, count, nodes }) => Ended {
+            status: draw(alloc, seed, count, nodes, out),
+            devices: Some(devices),
+        },
+        Some(Command::Replay { report }) => Ended {
+            status: replay_all(alloc, report, input, out),
+            devices: Some(devices),
+        },
+        Some(Command::Node { number, turns }) => {
+            let number = Number::new(number);
+            serve_node(alloc, number, turns, input, out, devices, link, clock)
+        }
     }
 }
 

@@ -1,13 +1,16 @@
-//! The replay of a schedule by the nodes of its cluster, and the call that the program makes.
+//! The call that the program makes: the replay of a schedule by the nodes of its cluster, a drawn schedule, or a node over its socket.
 #![tactic(auto)]
 
 mod calling;
+mod ended;
 mod happening;
 mod heading;
 mod input;
 mod opening;
 mod replay;
+mod serving;
 mod status;
 mod writing;
 
 pub use calling::run;
+pub use ended::Ended;

@@ -2,7 +2,9 @@
 #![tactic(auto)]
 
 use mega_base::Text;
+use mega_disk::{MemDisk, Pair};
 use mega_io::{MemSink, MemSource};
+use mega_link::{MemClock, MemLink};
 use mega_replay::run;
 use std::{fs, io};
 
@@ -38,9 +40,17 @@ fn tried(rt: &HostRuntime, name: &str, words: &[Text], ending: &str) -> io::Resu
     let wanted = fs::read(rt, format!(in alloc; "{name}.{ending}")?)?;
     let mut input = MemSource::new(schedule, Vec::new(alloc));
     let mut out = MemSink::new(alloc, Vec::new(alloc));
-    let status = run(alloc, words, &mut input, &mut out);
+    let devices = Pair {
+        log: MemDisk::new(alloc),
+        runs: MemDisk::new(alloc),
+    };
+    let mut link = MemLink::new(alloc, Vec::new(alloc));
+    let mut clock = MemClock::new(Vec::new(alloc));
+    let ended = run(
+        alloc, words, &mut input, &mut out, devices, &mut link, &mut clock,
+    );
     Ok(Trial {
-        status,
+        status: ended.status,
         is_same: out.bytes() == wanted.as_slice(),
     })
 }

@@ -2,19 +2,37 @@
 use Rattle.std.specs.Prelude.{ℕ, ◌≤◌, nat_eq, if◌then◌else◌, codes, List, [], ◌∷◌, Option, Some, None}
 use Rattle.std.specs.Cmp.Lexicographic.{pointwise}
 use Rattle.mega_words.specs.declared.command.Command.{Command}
-use Rattle.mega_words.specs.declared.command.Command.TheVariants.{Replay, Gen}
+use Rattle.mega_words.specs.declared.command.Command.TheVariants.{Replay, Gen, Node}
 use Rattle.mega_words.specs.declared.command.Report.TheVariants.{Transcript, Summary}
+use Rattle.mega_words.specs.declared.option.Name.{Name}
+use Rattle.mega_words.specs.declared.option.Name.TheVariants.{Seed, Count, Nodes, Number, Turns}
 use Rattle.mega_words.specs.declared.option.Options.{Options}
 use Rattle.mega_words.specs.Options.{none_yet, read_on}
 
--- all options of `gen` came
-abbrev pub with_all : Option ℕ → Option ℕ → Option ℕ → Option Command
-with_all (Some seed) (Some count) (Some nodes) = Some (Gen seed count nodes)
-with_all _ _ _ = None
+-- the options of `gen`, and of `node`
+abbrev pub gen_names : List Name
+gen_names = Seed ∷ Count ∷ Nodes ∷ []
 
-abbrev pub all_options : Option Options → Option Command
-all_options None = None
-all_options (Some found) = with_all found.seed found.count found.nodes
+abbrev pub node_names : List Name
+node_names = Number ∷ Turns ∷ []
+
+-- all options of `gen` came
+abbrev pub drawn_with : Option ℕ → Option ℕ → Option ℕ → Option Command
+drawn_with (Some seed) (Some count) (Some nodes) = Some (Gen seed count nodes)
+drawn_with _ _ _ = None
+
+abbrev pub gen_with : Option Options → Option Command
+gen_with None = None
+gen_with (Some found) = drawn_with found.seed found.count found.nodes
+
+-- all options of `node` came
+abbrev pub turned_with : Option ℕ → Option ℕ → Option Command
+turned_with (Some number) (Some turns) = Some (Node number turns)
+turned_with _ _ = None
+
+abbrev pub node_with : Option Options → Option Command
+node_with None = None
+node_with (Some found) = turned_with found.number found.turns
 
 -- behind `replay` stands nothing, or `--summary` once
 abbrev pub replay_with : List (List ℕ) → Option Command
@@ -27,10 +45,12 @@ abbrev pub command_of : List (List ℕ) → Option Command
 command_of [] = None
 command_of (word ∷ words) =
     if pointwise nat_eq word (codes "replay") then replay_with words
-    else if pointwise nat_eq word (codes "gen") then all_options (read_on None none_yet words)
+    else if pointwise nat_eq word (codes "gen") then gen_with (read_on gen_names None none_yet words)
+    else if pointwise nat_eq word (codes "node") then node_with (read_on node_names None none_yet words)
     else None
 
--- a cluster may have as many nodes as are asked for
-abbrev pub AsksForNodes : Option Command → Type 0
-AsksForNodes (Some (Gen seed count nodes)) = (1 ≤ nodes) × (nodes ≤ 9)
-AsksForNodes _ = Unit {0}
+-- a cluster may have as many nodes as are asked for, and a node of that number
+abbrev pub FitsCluster : Option Command → Type 0
+FitsCluster (Some (Gen seed count nodes)) = (1 ≤ nodes) × (nodes ≤ 9)
+FitsCluster (Some (Node number turns)) = (1 ≤ number) × (number ≤ 9)
+FitsCluster _ = Unit {0}

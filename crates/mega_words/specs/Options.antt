@@ -1,24 +1,29 @@
--- The options of `gen`, as words.
+-- The options of commands, as words.
 use Rattle.std.specs.Prelude.{ℕ, ◌≤◌, IfSome, ◌==◌, ◌||◌, Bool, nat_eq, if◌then◌else◌, codes, List, [], ◌∷◌, Option, Some, None, is_some, option_map, option_and_then}
 use Rattle.std.specs.Cmp.Lexicographic.{pointwise}
 use Rattle.mega_words.specs.declared.option.Name.{Name}
-use Rattle.mega_words.specs.declared.option.Name.TheVariants.{Seed, Count, Nodes}
+use Rattle.mega_words.specs.declared.option.Name.TheVariants.{Seed, Count, Nodes, Number, Turns}
 use Rattle.mega_words.specs.declared.option.Options.{Options}
 use Rattle.mega_words.specs.Numbers.{number_in}
 
 -- no option yet
 abbrev pub none_yet : Options
-none_yet = record { seed = None; count = None; nodes = None }
+none_yet = record { seed = None; count = None; nodes = None; number = None; turns = None }
 
--- a number of nodes that a cluster may have
-abbrev pub AreNodes : Option ℕ → Type 0
-AreNodes nodes = IfSome nodes (λ n. (1 ≤ n) × (n ≤ 9))
+-- a number of nodes that a cluster may have, or of a node in one
+abbrev pub IsOfCluster : Option ℕ → Type 0
+IsOfCluster number = IfSome number (λ n. (1 ≤ n) × (n ≤ 9))
+
+abbrev pub FitCluster : Options → Type 0
+FitCluster found = IsOfCluster found.nodes × IsOfCluster found.number
 
 -- how an option is written
 abbrev pub text_of : Name → List ℕ
 text_of Seed = codes "--seed"
 text_of Count = codes "--count"
 text_of Nodes = codes "--nodes"
+text_of Number = codes "--number"
+text_of Turns = codes "--turns"
 
 -- what stands in a word behind a name and `=`
 abbrev pub behind : List ℕ → List ℕ → Option (List ℕ)
@@ -31,12 +36,10 @@ behind (first ∷ name) (byte ∷ word) = if first == byte then behind name word
 abbrev pub is_named : List ℕ → List ℕ → Bool
 is_named name word = pointwise nat_eq word name || is_some (behind name word)
 
-abbrev pub name_of : List ℕ → Option Name
-name_of word =
-    if is_named (text_of Seed) word then Some Seed
-    else if is_named (text_of Count) word then Some Count
-    else if is_named (text_of Nodes) word then Some Nodes
-    else None
+-- the option of a list that a word names
+abbrev pub name_of : List Name → List ℕ → Option Name
+name_of [] word = None
+name_of (name ∷ names) word = if is_named (text_of name) word then Some name else name_of names word
 
 abbrev pub first_time : Option ℕ → Option ℕ → Option ℕ
 first_time (Some before) number = None
@@ -47,17 +50,19 @@ abbrev pub with_value : Options → Name → List ℕ → Option Options
 with_value found Seed value = option_map (λ seed. record found { seed = Some seed }) (first_time found.seed (number_in 0 18446744073709551615 value))
 with_value found Count value = option_map (λ count. record found { count = Some count }) (first_time found.count (number_in 1 1000000 value))
 with_value found Nodes value = option_map (λ nodes. record found { nodes = Some nodes }) (first_time found.nodes (number_in 1 9 value))
+with_value found Number value = option_map (λ number. record found { number = Some number }) (first_time found.number (number_in 1 9 value))
+with_value found Turns value = option_map (λ turns. record found { turns = Some turns }) (first_time found.turns (number_in 0 1000000000 value))
 
 -- a value behind `=` is taken at once, else the option waits for the next word
 abbrev pub valued : Option (List ℕ) → (List ℕ → Option Options) → Option Options → Option Options
 valued None joined next = next
 valued (Some value) joined next = joined value
 
--- the options after more words, of which the first is the value of an option that waits
-abbrev pub read_on : Option Name → Options → List (List ℕ) → Option Options
-read_on None found [] = Some found
-read_on (Some name) found [] = None
-read_on (Some name) found (word ∷ words) = option_and_then (λ more. read_on None more words) (with_value found name word)
-read_on None found (word ∷ words) =
-    option_and_then (λ name. valued (behind (text_of name) word) (λ value. option_and_then (λ more. read_on None more words) (with_value found name value)) (read_on (Some name) found words))
-    (name_of word)
+-- the options of this list after more words, of which the first is the value of an option that waits
+abbrev pub read_on : List Name → Option Name → Options → List (List ℕ) → Option Options
+read_on names None found [] = Some found
+read_on names (Some name) found [] = None
+read_on names (Some name) found (word ∷ words) = option_and_then (λ more. read_on names None more words) (with_value found name word)
+read_on names None found (word ∷ words) =
+    option_and_then (λ name. valued (behind (text_of name) word) (λ value. option_and_then (λ more. read_on names None more words) (with_value found name value)) (read_on names (Some name) found words))
+    (name_of names word)

@@ -1,10 +1,10 @@
 //! Which command the words of the program are.
 ghost use Rattle.std.specs.Prelude.{◌≡◌, IfSome, nat_eq};
 ghost use Rattle.std.specs.Cmp.Lexicographic.{pointwise};
-ghost use Rattle.mega_words.specs.Commands.{AsksForNodes, all_options, command_of, replay_with};
-ghost use Rattle.mega_words.specs.Options.{AreNodes};
+ghost use Rattle.mega_words.specs.Commands.{FitsCluster, command_of, gen_with, node_with, replay_with};
+ghost use Rattle.mega_words.specs.Options.{FitCluster};
 
-use crate::option::{Options, options_of};
+use crate::option::{Name, Options, options_of};
 use mega_base::Text;
 
 /// What a replay writes.
@@ -23,6 +23,8 @@ pub enum Command {
     Replay { report: Report },
     /// A header of so many full nodes, and so many lines drawn from the seed.
     Gen { seed: u64, count: u64, nodes: u8 },
+    /// The node of this number, over its socket, for so many turns.
+    Node { number: u8, turns: u64 },
 }
 
 /// Whether a word is this one.
@@ -32,11 +34,11 @@ fn is(word: &Text, name: &str) -> bool
     word.as_str() == name
 }
 
-/// The command with all of its options.
-fn all_options(found: Option<Options>) -> Option<Command>
-    requires { IfSome found (λ options. AreNodes options.nodes) }
-    ensures value { result ≡ all_options found }
-    ensures nodes { AsksForNodes result }
+/// The command `gen` with all of its options.
+fn gen_with(found: Option<Options>) -> Option<Command>
+    requires { IfSome found FitCluster }
+    ensures value { result ≡ gen_with found }
+    ensures range { FitsCluster result }
 {
     match found {
         Some(
@@ -44,8 +46,27 @@ fn all_options(found: Option<Options>) -> Option<Command>
                 seed: Some(seed),
                 count: Some(count),
                 nodes: Some(nodes),
+                ..
             },
         ) => Some(Command::Gen { seed, count, nodes }),
+        _ => None,
+    }
+}
+
+/// The command `node` with both of its options.
+fn node_with(found: Option<Options>) -> Option<Command>
+    requires { IfSome found FitCluster }
+    ensures value { result ≡ node_with found }
+    ensures range { FitsCluster result }
+{
+    match found {
+        Some(
+            Options {
+                number: Some(number),
+                turns: Some(turns),
+                ..
+            },
+        ) => Some(Command::Node { number, turns }),
         _ => None,
     }
 }
@@ -53,7 +74,7 @@ fn all_options(found: Option<Options>) -> Option<Command>
 /// The replay with what stands behind its word: nothing, or `--summary` once.
 fn replay_with(words: &[Text]) -> Option<Command>
     ensures value { result ≡ replay_with words.now }
-    ensures nodes { AsksForNodes result }
+    ensures range { FitsCluster result }
 {
     match words {
         [] => Some(Command::Replay {
@@ -72,10 +93,10 @@ fn replay_with(words: &[Text]) -> Option<Command>
     }
 }
 
-/// The command that words are a form of: `replay`, maybe with `--summary`, or `gen` with each of its options once.
+/// The command that words are a form of: `replay`, maybe with `--summary`, or `gen` or `node` with each of its options once.
 pub fn command_of(words: &[Text]) -> Option<Command>
     ensures value { result ≡ command_of words.now }
-    ensures nodes { AsksForNodes result }
+    ensures range { FitsCluster result }
 {
     match words {
         [] => None,
@@ -83,7 +104,9 @@ pub fn command_of(words: &[Text]) -> Option<Command>
             if is(word, "replay") {
                 replay_with(words)
             } else if is(word, "gen") {
-                all_options(options_of(words))
+                gen_with(options_of(&[Name::Seed, Name::Count, Name::Nodes], words))
+            } else if is(word, "node") {
+                node_with(options_of(&[Name::Number, Name::Turns], words))
             } else {
                 None
             }

@@ -1,7 +1,7 @@
 //! Worked forms of words, computed by the checker.
 ghost use Rattle.std.specs.Prelude.{◌≡◌, codes, [], ◌∷◌, Some, None};
 ghost use Rattle.mega_words.specs.Commands.{command_of};
-ghost use Rattle.mega_words.specs.declared.command.Command.TheVariants.{Gen, Replay};
+ghost use Rattle.mega_words.specs.declared.command.Command.TheVariants.{Gen, Node, Replay};
 ghost use Rattle.mega_words.specs.declared.command.Report.TheVariants.{Summary, Transcript};
 
 /// Options come in any order, with their values behind `=` or as the next word; each comes once, and is in its range.
@@ -10,6 +10,10 @@ pub fn words_are_read()
     ensures replay { command_of (codes "replay" ∷ []) ≡ Some (Replay Transcript) }
     ensures counted { command_of (codes "replay" ∷ codes "--summary" ∷ []) ≡ Some (Replay Summary) }
     ensures drawn { command_of (codes "gen" ∷ codes "--nodes=5" ∷ codes "--seed" ∷ codes "007" ∷ codes "--count" ∷ codes "5000" ∷ []) ≡ Some (Gen 7 5000 5) }
+    ensures served { command_of (codes "node" ∷ codes "--turns" ∷ codes "0" ∷ codes "--number=9" ∷ []) ≡ Some (Node 9 0) }
+    ensures strange { command_of (codes "node" ∷ codes "--turns=5" ∷ codes "--number=1" ∷ codes "--seed=7" ∷ []) ≡ None }
+    ensures halves { command_of (codes "node" ∷ codes "--number=1" ∷ []) ≡ None }
+    ensures long { command_of (codes "node" ∷ codes "--number=1" ∷ codes "--turns=1000000001" ∷ []) ≡ None }
     ensures twice { command_of (codes "gen" ∷ codes "--seed=7" ∷ codes "--seed=7" ∷ codes "--nodes=5" ∷ []) ≡ None }
     ensures range { command_of (codes "gen" ∷ codes "--seed=7" ∷ codes "--count=5" ∷ codes "--nodes=10" ∷ []) ≡ None }
     ensures wanting { command_of (codes "gen" ∷ codes "--seed=7" ∷ codes "--count=5" ∷ codes "--nodes" ∷ []) ≡ None }
