@@ -105,7 +105,7 @@ vote_heard tape p key voter to op b e s = kept (act_of voter p) (Sent key (messa
 -- ---- a poll
 
 -- what an operation asked stands
-polled_is : (tape : List Item) (key from to : ℕ) (op : OpId) (group : GroupId) → Stands (Sent key (message from to (Where op group))) tape → has_polled tape op group ≡ true
+pub polled_is : (tape : List Item) (key from to : ℕ) (op : OpId) (group : GroupId) → Stands (Sent key (message from to (Where op group))) tape → has_polled tape op group ≡ true
 polled_is [] key from to op group s = absurd s
 polled_is (item ∷ before) key from to op group (inl same) =
     subst (λ x. has_polled (x ∷ before) op group ≡ true) (sym same)
@@ -130,7 +130,7 @@ told_polled (item ∷ before) w key voter to op group top s = then_polled item b
     by (inr t) again = again t
 
 -- a voter that accepted a position before it was asked tells none below it
-told_above : (later moment : List Item) (op : OpId) (group : GroupId) (n top : Position) (voter key to : ℕ) (b : Ballot) (e : Content) → ArePolls (later ++ moment) → has_polled moment op group ≡ false
+pub told_above : (later moment : List Item) (op : OpId) (group : GroupId) (n top : Position) (voter key to : ℕ) (b : Ballot) (e : Content) → ArePolls (later ++ moment) → has_polled moment op group ≡ false
     → In (Voted b e) (acts moment voter (record { group = group; position = n })) → Stands (Sent key (message voter to (Top op group top))) (later ++ moment) → n.0 ≤ top.0
 told_above [] moment op group n top voter key to b e w none vote s = absurd (clash (has_polled moment op group) (told_polled moment w key voter to op group top s) none)
 told_above (item ∷ later) moment op group n top voter key to b e w none vote (inl same) =
