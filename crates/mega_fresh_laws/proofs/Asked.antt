@@ -20,12 +20,9 @@ use Rattle.mega_tape_laws.proofs.Agreement.{decided_chosen}
 use Rattle.mega_tape_laws.proofs.Majorities.{Shared, meet}
 use Rattle.mega_run_laws.proofs.Runs.{run_lawful, run_polls}
 use Rattle.mega_settled_laws.specs.Covering.{Earlier}
+use Rattle.mega_settled_laws.proofs.Tapes.{lawful_before}
 use Rattle.mega_valid_laws.specs.Leases.{has_polled}
 use Rattle.mega_valid_laws.proofs.Joint.{told_above}
-
-lawful_before : (c : Cluster) (later tape : List Item) → Lawful c (later ++ tape) → Lawful c tape
-lawful_before c [] tape l = l
-lawful_before c (item ∷ later) tape l = lawful_before c later tape l.1
 
 most_of : (a b d : ℕ) → a ≤ b → b ≤ d → a ≤ d
 most_of a b d h k = omega (arith, h, k)

@@ -6,10 +6,15 @@ pub mod Meant
 pub mod Through
 pub mod Acting
 pub mod Heeding
+pub mod Questions
+pub mod Inquiries
+pub mod Polling
+pub mod Inquired
 pub mod Tops
 pub mod Steps
 pub mod Tails
 pub mod Nearby
 pub mod Runs
 pub mod Promised
+pub mod Polled
 pub mod Fresh

@@ -37,7 +37,7 @@ use Rattle.mega_run_laws.proofs.Standing.{Good, Owes}
 use Rattle.mega_run_laws.proofs.Steps.{never_begun}
 use Rattle.mega_run_laws.proofs.Turns.{Held, Known, each_on, each_zip}
 use Rattle.mega_settled_laws.specs.Covering.{Earlier}
-use Rattle.mega_settled_laws.proofs.Tapes.{each_both, earlier_stood, items_later, sent_later, then_later}
+use Rattle.mega_settled_laws.proofs.Tapes.{each_both, earlier_stood, items_later, lawful_before, polls_before, sent_later, then_later}
 use Rattle.mega_valid_laws.proofs.Folds.{IsOwn}
 use Rattle.mega_leased_laws.specs.Items.{Are}
 use Rattle.mega_leased_laws.proofs.Cells.{by_node, occurs_own}
@@ -220,19 +220,11 @@ module _ (c : Cluster) (nodes' : ℕ → Node) (me : ℕ) where
 
 -- ---- earlier tapes
 
-before_lawful : (c : Cluster) (later tape : List Item) → Lawful c (later ++ tape) → Lawful c tape
-before_lawful c [] tape l = l
-before_lawful c (item ∷ later) tape l = before_lawful c later tape l.1
-
-before_polls : (later tape : List Item) → ArePolls (later ++ tape) → ArePolls tape
-before_polls [] tape l = l
-before_polls (item ∷ later) tape l = before_polls later tape l.1
-
 earlier_lawful : (c : Cluster) (moment tape : List Item) → Earlier moment tape → Lawful c tape → Lawful c moment
-earlier_lawful c moment tape e l = before_lawful c e.later moment (subst (Lawful c) e.is l)
+earlier_lawful c moment tape e l = lawful_before c e.later moment (subst (Lawful c) e.is l)
 
 earlier_polls : (moment tape : List Item) → Earlier moment tape → ArePolls tape → ArePolls moment
-earlier_polls moment tape e l = before_polls e.later moment (subst ArePolls e.is l)
+earlier_polls moment tape e l = polls_before e.later moment (subst ArePolls e.is l)
 
 stands_begun : (tape : List Item) (op : OpId) (text : List ℕ) → Stands (BeginItem op text) tape → has_begun tape op ≡ true
 stands_begun [] op text s = absurd s

@@ -23,6 +23,7 @@ use Rattle.mega_tape_laws.specs.Polls.{ArePolls, IsPolling, MayTell}
 use Rattle.mega_tape_laws.proofs.Ballots.{clash, number_is, number_self}
 use Rattle.mega_tape_laws.proofs.Lists.{in_tail, kept}
 use Rattle.mega_tape_laws.proofs.Majorities.{Shared, meet}
+use Rattle.mega_settled_laws.proofs.Tapes.{polls_before}
 use Rattle.mega_settled_laws.specs.Covering.{Earlier, HasSettled, IsCoveredSince, WasCovered, asks_about, free, has_asked_about, invalidated, voted}
 use Rattle.mega_valid_laws.specs.Leases.{AreLeased, HasAtLeast, IsHeld, IsLeased, MayBeValid, MayFree, MayObey, ServedBehind, WasChosen, accepted, asks_end, decided, has_polled, serving_on, valid_on}
 use Rattle.mega_valid_laws.proofs.Epochs.{served_behind, serving_stands}
@@ -56,10 +57,6 @@ leased_before c (item ∷ later) tape l = leased_before c later tape l.1
 
 leased_at : (c : Cluster) (moment tape : List Item) → Earlier moment tape → AreLeased c tape → AreLeased c moment
 leased_at c moment tape e l = leased_before c e.later moment (subst (AreLeased c) e.is l)
-
-polls_before : (later tape : List Item) → ArePolls (later ++ tape) → ArePolls tape
-polls_before [] tape l = l
-polls_before (item ∷ later) tape l = polls_before later tape l.1
 
 -- by what an item that stands was allowed, and when
 record Allowed (c : Cluster) (item : Item) (tape : List Item) : Type 0 where
