@@ -1,7 +1,6 @@
 pub mod Asked
 pub mod Moments
 pub mod Accepts
-pub mod Good
 pub mod Meant
 pub mod Through
 pub mod Acting

@@ -50,7 +50,7 @@ use Rattle.mega_fresh_laws.proofs.Heeding.{Open}
 use Rattle.mega_fresh_laws.proofs.Meant.{MayBegin, Reached, Stays, run_of, run_stays, those_of}
 use Rattle.mega_fresh_laws.proofs.Moments.{IsLater, NoBegin, Onward, answered_on, later_shown, onward_begin, onward_item, onward_items, onward_sent, onward_then, proposed_on}
 use Rattle.mega_fresh_laws.proofs.Nearby.{Lives, step_locals}
-use Rattle.mega_fresh_laws.proofs.Steps.{IsApply, Shown, StepFresh, base_of, front_of, reply_quiet, step_fresh}
+use Rattle.mega_fresh_laws.proofs.Steps.{IsApply, Shown, StepFresh, base_of, front_of, step_fresh}
 use Rattle.mega_fresh_laws.proofs.Tails.{IsTail, Parted, front_each, step_parted}
 use Rattle.mega_fresh_laws.proofs.Through.{PhaseFresh, phase_above, phase_on}
 
@@ -372,16 +372,10 @@ module _ (c : Cluster) (few : length c.nodes ≤ 9) (five : c.cells ≤ 5) (usag
         stood : (x : Item) → Stands x start_tape → Stands x tape
         stood x k = earlier_stood start_tape tape (items_later c those (flat_map (shown me) front) start_tape) x k
 
-        quiet : (m : Message) (j : ℕ) → Stands (Sent j m) now.tape → m.to ≡ me → Each (λ (x : Message). NoAccept x.body) (reply_to c me node.met m)
-        quiet m j stands to = reply_quiet c (Taken j ∷ now.tape) me node.met m (record { made = (g.node me).made; decides = λ group n e is. inr ((g.node me).known group n e is) })
-            (record { number = j; sent = inr (subst (λ v. Stands (Sent j (message m.from v m.body)) now.tape) to stands); taken = inl refl })
-
         by : (event' : Event) → Occurs now.tape s node.met item event' → MayBegin c usage me event' → ((x : OpId) → Onward x start_tape tape) → Shown s usage tape lawful polls node event'
         by (Tick clock) is allowed on = tt
-        by (Take m) is allowed on = (
-          took_on start_tape tape stood (message m.from me m.body) (record { number = is.0; sent = inr (subst (λ v. Stands (Sent is.0 (message m.from v m.body)) now.tape) is.3 is.2); taken = inl is.1 }),
-          quiet m is.0 is.2 is.3,
-        )
+        by (Take m) is allowed on =
+            took_on start_tape tape stood (message m.from me m.body) (record { number = is.0; sent = inr (subst (λ v. Stands (Sent is.0 (message m.from v m.body)) now.tape) is.3 is.2); taken = inl is.1 })
         by (Begin request text) is allowed on = (
           allowed.0,
           (on (op_of s node.met)).asked usage.meaning ∙ ap (λ x. asked_for usage.meaning (x ∷ now.tape) (op_of s node.met)) is
