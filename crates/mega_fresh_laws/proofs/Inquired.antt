@@ -1,13 +1,10 @@
 -- In every run operations ask before they propose, and propose by what their polls told them; and the numbers of messages rise.
-use Rattle.std.proofs.Common.{◌≡◌, ◌⊎◌, inl, inr, ℕ, ◌+◌, ◌-◌, ◌==◌, ◌&&◌, ◌≤◌, ◌<◌, Bool, true, false, not, cond, List, [], ◌∷◌, ◌++◌, length, map, flat_map, fold, Option, Some, None, refl, sym, ap, ◌∙◌, subst, arith}
+use Rattle.std.proofs.Common.{ℕ, ◌≡◌, inl, inr, ◌+◌, ◌==◌, ◌&&◌, ◌≤◌, ◌<◌, Bool, true, false, not, cond, List, [], ◌∷◌, ◌++◌, length, map, flat_map, fold, Option, Some, None, refl, sym, ap, ◌∙◌, subst, arith}
 use Rattle.mega_base.specs.declared.names.GroupId.{GroupId}
 use Rattle.mega_base.specs.declared.names.OpId.{OpId}
-use Rattle.mega_base.specs.declared.names.Position.{Position}
 use Rattle.mega_ballot.specs.Order.{zero_ballot}
 use Rattle.mega_cluster.specs.declared.cluster.Cluster.{Cluster}
-use Rattle.mega_entry.specs.declared.content.Content.{Content}
 use Rattle.mega_handler.specs.Named.{Meanings}
-use Rattle.mega_outcome.specs.declared.answer.Answer.{Answer}
 use Rattle.mega_outcome.specs.declared.request.Request.{Request}
 use Rattle.mega_transcript.specs.declared.item.Item.{Item}
 use Rattle.mega_transcript.specs.declared.item.Item.TheVariants.{Crash, Sent, Unsafe}
@@ -23,7 +20,7 @@ use Rattle.mega_rules.specs.Clock.{begun_of, clock_of, last_number, start_of}
 use Rattle.mega_rules.specs.Coordinators.{acquires_at}
 use Rattle.mega_rules.specs.Members.{kind_of}
 use Rattle.mega_rules.specs.Met.{Met, Begins, Takes, Ticks}
-use Rattle.mega_rules.specs.Operations.{Node, Now, Operation, Phase, Setting}
+use Rattle.mega_rules.specs.Operations.{Node, Now, Operation, Setting}
 use Rattle.mega_rules.specs.Replies.{reply_to}
 use Rattle.mega_rules.specs.Steps.{Begin, Decision, Event, Heard as HeardBy, Step, Take, Tick, all_act, at_first, at_open, background, begin_step, crashed, decision_note, first_settled, hears_message, if_new, is_worn, lapse_notes, lease_notes, missing_kind, new_operation, news, onto, op_of, portion_of, refusal, start, start_items, step, stored_after, taken, tick_step, ticked, told_decision, told_notes, unless_missing, unless_refused}
 use Rattle.mega_tape_laws.specs.Lawful.{message}
@@ -35,7 +32,7 @@ use Rattle.mega_run_laws.specs.Usages.{Fits}
 use Rattle.mega_run_laws.specs.Vouched.{Each, sent}
 use Rattle.mega_run_laws.proofs.Owned.{Mine}
 use Rattle.mega_run_laws.proofs.Runs.{IsMark}
-use Rattle.mega_run_laws.proofs.Sending.{Stood, took_on}
+use Rattle.mega_run_laws.proofs.Sending.{took_on}
 use Rattle.mega_run_laws.proofs.Standing.{Good}
 use Rattle.mega_run_laws.proofs.Steps.{never_asked, never_moved}
 use Rattle.mega_run_laws.proofs.Turns.{Held, IsRising, each_on, each_zip, sent_append}
@@ -46,7 +43,7 @@ use Rattle.mega_leased_laws.proofs.Cells.{by_node, occurs_own}
 use Rattle.mega_leased_laws.proofs.Forms.{Occurs, down, stepped}
 use Rattle.mega_leased_laws.proofs.Validating.{NoRequest, Plain, acquires_plain, background_plain, news_plain, next_is, not_worn, own_item, reply_plain, unasked_unpolled}
 use Rattle.mega_fresh_laws.proofs.Inquiries.{Beside, IsInquired, Unoffered, beside_items, beside_same, beside_silent, beside_then, mute_beside, mute_inquired, silent_inquired, silent_one}
-use Rattle.mega_fresh_laws.proofs.Meant.{MayBegin, Reached, Stays, run_stays, those_of}
+use Rattle.mega_fresh_laws.proofs.Meant.{Stays, run_stays, those_of}
 use Rattle.mega_fresh_laws.proofs.Polling.{Acted, AllActed, OpenHeard, Waits, all_heard_acted, all_ticked_acted, begins_acted, open_beside}
 use Rattle.mega_fresh_laws.proofs.Questions.{Mute, MuteBody}
 use Rattle.mega_fresh_laws.proofs.Through.{phase_above}

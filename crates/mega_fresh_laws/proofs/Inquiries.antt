@@ -1,6 +1,6 @@
 -- What a tape tells of what an operation asked and proposed: it asks nothing more once it proposed an entry of its own, and it proposes by what a poll told it
 -- where it asked anything about the group.
-use Rattle.std.proofs.Common.{◌≡◌, ◌⊎◌, inl, inr, ℕ, ◌+◌, ◌-◌, ◌&&◌, ◌||◌, Bool, true, false, not, cond, List, [], ◌∷◌, Some, refl, sym, ap, ◌∙◌, subst}
+use Rattle.std.proofs.Common.{ℕ, ◌≡◌, ◌⊎◌, inl, inr, ◌+◌, ◌-◌, ◌&&◌, Bool, true, false, not, cond, List, [], ◌∷◌, Some, refl, sym, ap, ◌∙◌, subst}
 use Rattle.mega_base.specs.declared.names.GroupId.{GroupId}
 use Rattle.mega_base.specs.declared.names.OpId.{OpId}
 use Rattle.mega_base.specs.declared.names.Position.{Position}
@@ -30,8 +30,8 @@ use Rattle.mega_leased_laws.proofs.Asking.{either_false, first_false, second_fal
 use Rattle.mega_leased_laws.proofs.Polls.{polled_on}
 use Rattle.mega_leased_laws.proofs.Tapes.{are_items, free_follows}
 use Rattle.mega_leased_laws.proofs.Validating.{silent_polled}
-use Rattle.mega_fresh_laws.proofs.Accepts.{Never, NeverBody}
-use Rattle.mega_fresh_laws.proofs.Questions.{Asks, AsksBody, Mute, MuteBody, Offers, OffersBody, Says, SaysBody, Unasking, UnaskingBody, asks_never, mute_never, mute_unasking, offers_unasking}
+use Rattle.mega_fresh_laws.proofs.Accepts.{Never}
+use Rattle.mega_fresh_laws.proofs.Questions.{Asks, AsksBody, Mute, MuteBody, Offers, OffersBody, Says, SaysBody, Unasking, UnaskingBody, asks_never, offers_unasking}
 
 -- ---- what is told
 

@@ -1,6 +1,6 @@
 -- What an operation proposes that polled its group stands above each position that was decided before it first asked, in every run, whether leases are safe or
 -- not.
-use Rattle.std.proofs.Common.{◌≡◌, ◌⊎◌, inl, inr, ℕ, suc, ◌+◌, ◌-◌, ◌&&◌, ◌||◌, ◌≤◌, ◌<◌, Bool, true, false, List, [], ◌∷◌, ◌++◌, Some, length, refl, sym, ap, ◌∙◌, subst, arith}
+use Rattle.std.proofs.Common.{ℕ, ◌≡◌, inl, inr, suc, ◌+◌, ◌-◌, ◌&&◌, ◌||◌, ◌≤◌, ◌<◌, Bool, true, false, List, [], ◌∷◌, ◌++◌, Some, length, refl, sym, ap, ◌∙◌, subst, arith}
 use Rattle.mega_base.specs.declared.names.GroupId.{GroupId}
 use Rattle.mega_base.specs.declared.names.NodeId.{NodeId}
 use Rattle.mega_base.specs.declared.names.OpId.{OpId}
@@ -8,7 +8,6 @@ use Rattle.mega_base.specs.declared.names.Position.{Position}
 use Rattle.mega_cluster.specs.declared.cluster.Cluster.{Cluster}
 use Rattle.mega_entry.specs.declared.content.Content.{Content}
 use Rattle.mega_handler.specs.Named.{Meanings}
-use Rattle.mega_wire.specs.declared.message.Message.{Message}
 use Rattle.mega_wire.specs.declared.message.Body.{Body}
 use Rattle.mega_wire.specs.declared.message.Body.TheVariants.{Where}
 use Rattle.mega_wal.specs.Same.{same_group, same_op}
@@ -26,7 +25,6 @@ use Rattle.mega_run_laws.specs.Usages.{Fits}
 use Rattle.mega_run_laws.proofs.Runs.{run_lawful, run_polls}
 use Rattle.mega_run_laws.proofs.Sending.{Stood}
 use Rattle.mega_settled_laws.specs.Covering.{Earlier}
-use Rattle.mega_settled_laws.proofs.Tapes.{earlier_stood, one_later}
 use Rattle.mega_valid_laws.specs.Leases.{asks_end, has_polled}
 use Rattle.mega_valid_laws.proofs.Joint.{polled_is}
 use Rattle.mega_leased_laws.specs.Items.{Are}

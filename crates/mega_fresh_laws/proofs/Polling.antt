@@ -1,20 +1,17 @@
 -- The operations of a node act one after another: each asks only while it polls and before it proposes, and where it asked about the group that it reads, it
 -- reads through what a poll told it.
-use Rattle.std.proofs.Common.{◌≡◌, ◌⊎◌, inl, inr, ℕ, ◌+◌, ◌-◌, ◌==◌, ◌≤◌, ◌<◌, Bool, true, false, cond, List, [], ◌∷◌, ◌++◌, length, map, fold, Option, Some, None, refl, sym, ap, ◌∙◌, subst, arith}
+use Rattle.std.proofs.Common.{ℕ, ◌≡◌, ◌⊎◌, inl, inr, ◌+◌, ◌-◌, ◌==◌, ◌≤◌, ◌<◌, Bool, true, false, cond, List, [], ◌∷◌, length, map, fold, Option, Some, None, refl, sym, ap, ◌∙◌, subst, arith}
 use Rattle.mega_base.specs.declared.names.Epoch.{Epoch}
 use Rattle.mega_base.specs.declared.names.GroupId.{GroupId}
 use Rattle.mega_base.specs.declared.names.OpId.{OpId}
 use Rattle.mega_cluster.specs.declared.cluster.Cluster.{Cluster}
 use Rattle.mega_coordinator.specs.declared.answers.NotValid.{NotValid}
-use Rattle.mega_entry.specs.declared.content.Content.{Content}
 use Rattle.mega_entry.specs.declared.content.Enter.{Enter}
 use Rattle.mega_outcome.specs.declared.answer.Answer.{Answer}
 use Rattle.mega_outcome.specs.declared.request.Request.{Request}
 use Rattle.mega_propose.specs.declared.round.Proposal.{Proposal}
-use Rattle.mega_propose.specs.declared.round.Site.{Site}
 use Rattle.mega_propose.specs.Rounds.{asks, due, takes}
 use Rattle.mega_read.specs.declared.reading.Move.{Move as ReadMove}
-use Rattle.mega_read.specs.declared.reading.Reading.{Reading}
 use Rattle.mega_read.specs.declared.reading.Search.{Search}
 use Rattle.mega_read.specs.declared.reading.Stage.{Stage}
 use Rattle.mega_read.specs.declared.reading.Stage.TheVariants.{Polling, Catching}
@@ -28,7 +25,7 @@ use Rattle.mega_rules.specs.Coordinators.{refused_at, serves_at, valid_at}
 use Rattle.mega_rules.specs.Logs.{top_of}
 use Rattle.mega_rules.specs.Operations.{Now, Operation, Phase, Promised, Proposes, Reads, Setting}
 use Rattle.mega_rules.specs.Acting.{completes_read, ends, in_phase, is_visited, keeps, read_begun, reader_of, sends_more, validated_by, visiting}
-use Rattle.mega_rules.specs.Steps.{Heard as HeardBy, acts_in_turn, all_act, does_due, hears_message, is_out, last_answer, new_operation, ticked, unless_refused}
+use Rattle.mega_rules.specs.Steps.{acts_in_turn, all_act, does_due, hears_message, is_out, last_answer, new_operation, ticked, unless_refused}
 use Rattle.mega_tape_laws.specs.Lawful.{message}
 use Rattle.mega_tape_laws.specs.Places.{Took}
 use Rattle.mega_tape_laws.proofs.Ballots.{number_self}
@@ -41,8 +38,8 @@ use Rattle.mega_leased_laws.specs.Items.{Are}
 use Rattle.mega_leased_laws.proofs.Asking.{apart_turned, not_seen, seen, seen_before, seen_now}
 use Rattle.mega_leased_laws.proofs.Polls.{tops_on}
 use Rattle.mega_leased_laws.proofs.Walk.{Walks, begun_it, caught, goes_on_it}
-use Rattle.mega_fresh_laws.proofs.Inquiries.{Beside, HasHeard, IsInquired, Unoffered, asks_elsewhere, asks_inquired, beside_same, beside_then, heard_stood, mute_beside, mute_inquired, never_sent, offers_inquired, says_beside, unasking_sent}
-use Rattle.mega_fresh_laws.proofs.Questions.{Asks, Mute, Offers, ReadSays, Says, StageSays, asks_never, asks_offers, asks_says, due_offers, due_says, hears_says, mute_never, mute_says, mute_unasking, offers_says, offers_unasking, polled_says, seeks_says, takes_offers}
+use Rattle.mega_fresh_laws.proofs.Inquiries.{Beside, HasHeard, IsInquired, Unoffered, asks_elsewhere, asks_inquired, beside_then, heard_stood, mute_inquired, never_sent, offers_inquired, says_beside, unasking_sent}
+use Rattle.mega_fresh_laws.proofs.Questions.{Offers, ReadSays, Says, StageSays, asks_never, asks_offers, asks_says, due_offers, due_says, hears_says, mute_never, mute_says, mute_unasking, offers_says, offers_unasking, polled_says, seeks_says, takes_offers}
 use Rattle.mega_fresh_laws.proofs.Through.{PhaseAbove, StageThrough, due_through, hears_through, polled_begins, seeks_through}
 
 -- ---- an open operation

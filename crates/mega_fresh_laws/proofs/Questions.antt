@@ -1,6 +1,6 @@
 -- Which messages of an operation ask where the log of a group ends, and which propose its own entry: a read asks only while it polls, and a round proposes at
 -- its place alone.
-use Rattle.std.proofs.Common.{◌≡◌, ℕ, ◌+◌, ◌-◌, ◌&&◌, ◌||◌, ◌==◌, not, Bool, true, false, cond, List, [], ◌∷◌, ◌++◌, length, map, max, Option, Some, None, refl, sym, ap, ◌∙◌}
+use Rattle.std.proofs.Common.{ℕ, ◌≡◌, ◌+◌, ◌&&◌, ◌||◌, ◌==◌, not, Bool, true, false, cond, List, [], ◌∷◌, length, map, Option, Some, None, refl, sym, ap, ◌∙◌}
 use Rattle.std.specs.List.{list_all}
 use Rattle.mega_base.specs.declared.names.Epoch.{Epoch}
 use Rattle.mega_base.specs.declared.names.GroupId.{GroupId}
@@ -16,17 +16,16 @@ use Rattle.mega_propose.specs.declared.round.Proposal.{Proposal}
 use Rattle.mega_propose.specs.declared.round.Site.{Site}
 use Rattle.mega_propose.specs.Rounds.{asks, due, is_due, takes}
 use Rattle.mega_read.specs.declared.reading.Reader.{Reader}
-use Rattle.mega_read.specs.declared.reading.Search.{Search}
 use Rattle.mega_read.specs.declared.reading.Search.TheVariants.{Fetching, Filling}
 use Rattle.mega_read.specs.declared.reading.Stage.{Stage}
 use Rattle.mega_read.specs.declared.reading.Stage.TheVariants.{Polling, Catching}
 use Rattle.mega_read.specs.declared.reading.Reading.{Reading}
 use Rattle.mega_read.specs.declared.reading.Move.{Move as ReadMove}
-use Rattle.mega_read.specs.Catching.{asked_by, denied, falls_due, fetch_to, fetches, fills, hears, helpers, is_position, local_read, move, no_op, polled_read, searched, seeks, site, topped, where_to}
+use Rattle.mega_read.specs.Catching.{asked_by, falls_due, fetch_to, fetches, fills, hears, helpers, is_position, move, no_op, polled_read, searched, seeks, site, topped, where_to}
 use Rattle.mega_run_laws.specs.Vouched.{Each}
 use Rattle.mega_run_laws.proofs.Turns.{each_on, each_zip}
 use Rattle.mega_leased_laws.proofs.Wheres.{EndsBody, EndsOf, completes_ends, due_ends, takes_ends}
-use Rattle.mega_fresh_laws.proofs.Accepts.{IsAbove, Never, NeverBody, StageAbove, Zero, ZeroBody, asks_zero, due_zero, falls_due_never, hears_never, polled_never, seeks_never, takes_zero}
+use Rattle.mega_fresh_laws.proofs.Accepts.{IsAbove, Never, NeverBody, StageAbove, Zero, ZeroBody, due_zero, falls_due_never, hears_never, seeks_never, takes_zero}
 
 -- ---- what a message may be
 

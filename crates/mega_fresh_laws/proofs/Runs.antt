@@ -1,5 +1,5 @@
 -- In every run each answer and each proposal is fresh, item by item, and so is what stays open.
-use Rattle.std.proofs.Common.{◌≡◌, inl, inr, ℕ, ◌+◌, ◌≤◌, ◌==◌, ◌&&◌, ◌||◌, Bool, true, false, cond, List, [], ◌∷◌, ◌++◌, flat_map, length, Option, Some, None, refl, sym, ap, ◌∙◌, subst}
+use Rattle.std.proofs.Common.{ℕ, ◌≡◌, inl, inr, ◌+◌, ◌≤◌, ◌==◌, ◌&&◌, ◌||◌, Bool, true, false, cond, List, [], ◌∷◌, ◌++◌, flat_map, length, Option, Some, None, refl, sym, ap, ◌∙◌, subst}
 use Rattle.mega_base.specs.declared.names.GroupId.{GroupId}
 use Rattle.mega_base.specs.declared.names.OpId.{OpId}
 use Rattle.mega_cluster.specs.declared.cluster.Cluster.{Cluster}
@@ -28,8 +28,7 @@ use Rattle.mega_run_laws.specs.Usages.{Fits}
 use Rattle.mega_run_laws.specs.Vouched.{Each, sent}
 use Rattle.mega_run_laws.proofs.Events.{IsPlain, lapses_plain, lease_plain, told_plain}
 use Rattle.mega_run_laws.proofs.Noted.{with_append, with_sent}
-use Rattle.mega_rules.specs.Replies.{reply_to}
-use Rattle.mega_run_laws.proofs.Owned.{Mine, NoAccept, began_asked}
+use Rattle.mega_run_laws.proofs.Owned.{Mine, began_asked}
 use Rattle.mega_run_laws.proofs.Runs.{IsMark, run_lawful, run_polls, starts_plain}
 use Rattle.mega_run_laws.proofs.Sending.{took_on}
 use Rattle.mega_run_laws.proofs.Silent.{flat_append}

@@ -1,8 +1,6 @@
 -- A step of a node: what it answers, what it proposes and what stays open are fresh, on the tape behind its first notes and its decision.
-use Rattle.std.proofs.Common.{◌≡◌, inl, inr, ℕ, zero, suc, ◌-◌, ◌<◌, ◌&&◌, nat_le, nat_lt, slice_get, length, arith, Bool, true, false, cond, List, [], ◌∷◌, ◌++◌, map, flat_map, fold, Option, Some, None, refl, sym, ap, subst}
+use Rattle.std.proofs.Common.{ℕ, ◌≡◌, inl, inr, zero, suc, ◌-◌, ◌<◌, ◌&&◌, nat_le, nat_lt, slice_get, length, arith, Bool, true, false, cond, List, [], ◌∷◌, ◌++◌, map, flat_map, fold, Option, Some, None, refl, sym, ap, subst}
 use Rattle.std.proofs.lemmas.Bool.Decides.{nat_tests}
-use Rattle.std.specs.List.{All}
-use Rattle.std.proofs.lemmas.List.Elements.{All-head, All-tail}
 use Rattle.mega_base.specs.declared.names.GroupId.{GroupId}
 use Rattle.mega_base.specs.declared.values.NodeKind.{NodeKind}
 use Rattle.mega_base.specs.declared.values.NodeKind.TheVariants.{Full, Witness, Read as ReadOnly}
@@ -10,21 +8,20 @@ use Rattle.mega_cluster.specs.declared.cluster.Cluster.{Cluster}
 use Rattle.mega_outcome.specs.declared.answer.Answer.{Answer}
 use Rattle.mega_outcome.specs.declared.answer.Answer.TheVariants.{Worn}
 use Rattle.mega_outcome.specs.declared.request.Request.{Request}
-use Rattle.mega_propose.specs.Members.{others}
 use Rattle.mega_transcript.specs.declared.item.Item.{Item}
 use Rattle.mega_wire.specs.declared.message.Message.{Message}
 use Rattle.mega_wire.specs.declared.message.Body.{Body}
 use Rattle.mega_wire.specs.declared.message.Body.TheVariants.{Accept}
 use Rattle.mega_promises.specs.Promises.{asked_for}
 use Rattle.mega_promises.specs.Runs.{met_in}
-use Rattle.mega_rules.specs.Clock.{clock_of, does_again, ticks_of}
+use Rattle.mega_rules.specs.Clock.{clock_of}
 use Rattle.mega_rules.specs.Coordinators.{acquires_at}
-use Rattle.mega_rules.specs.Logs.{groups_of, newest_of, prefix_of}
-use Rattle.mega_rules.specs.Members.{has_rows, is_full, is_node, kind_of, nodes, runs, voters}
+use Rattle.mega_rules.specs.Logs.{groups_of}
+use Rattle.mega_rules.specs.Members.{has_rows, is_full, is_node, kind_of, nodes, runs}
 use Rattle.mega_rules.specs.Met.{Met, Applies, Begins, Takes, Ticks}
 use Rattle.mega_rules.specs.Operations.{Node, Now, Operation, Setting}
-use Rattle.mega_rules.specs.Replies.{answer_to, reply_message, reply_to}
-use Rattle.mega_rules.specs.Steps.{Begin, Decision, Event, Heard as HeardBy, Step, Take, Tick, all_act, applied_at, apply_note, apply_notes, at_first, at_open, background, begin_step, decide_to, decision_note, fetch_to, fetches_for, first_settled, hears_message, if_new, is_worn, lapse_notes, lease_notes, missing_kind, needs_full, new_operation, news, onto, op_of, portion_of, refusal, step, stored_after, taken, tick_step, ticked, told_decision, told_notes, unless_missing, unless_refused}
+use Rattle.mega_rules.specs.Replies.{reply_to}
+use Rattle.mega_rules.specs.Steps.{Begin, Decision, Event, Heard as HeardBy, Step, Take, Tick, all_act, applied_at, apply_note, apply_notes, at_first, at_open, background, begin_step, decision_note, first_settled, hears_message, if_new, is_worn, lapse_notes, lease_notes, missing_kind, needs_full, new_operation, news, onto, op_of, portion_of, refusal, step, stored_after, taken, tick_step, ticked, told_decision, told_notes, unless_missing, unless_refused}
 use Rattle.mega_tape_laws.specs.Lawful.{Lawful, message}
 use Rattle.mega_tape_laws.specs.Places.{In, Took}
 use Rattle.mega_tape_laws.specs.Polls.{ArePolls}

@@ -1,39 +1,31 @@
--- The greatest position that a node accepted or decided is no lower than any that its tape shows of it.
-use Rattle.std.proofs.Common.{◌≡◌, ◌⊎◌, inl, inr, ℕ, ◌+◌, max, ◌≤◌, ◌==◌, ◌&&◌, Bool, true, false, not, cond, List, [], ◌∷◌, flat_map, map, Some, refl, sym, subst, arith, ap, ◌∙◌}
+-- The greatest position of a node is no lower than any that it accepted, or decided among some notes; and which decisions a tape shows of these.
+use Rattle.std.proofs.Common.{ℕ, ◌≡◌, ◌⊎◌, inl, inr, max, ◌≤◌, ◌==◌, ◌&&◌, Bool, true, false, not, cond, List, [], ◌∷◌, flat_map, Some, refl, sym, subst, arith, ap, ◌∙◌}
 use Rattle.mega_base.specs.declared.names.GroupId.{GroupId}
 use Rattle.mega_base.specs.declared.names.Position.{Position}
 use Rattle.mega_ballot.specs.declared.ballot.Ballot.{Ballot}
 use Rattle.mega_cluster.specs.declared.cluster.Cluster.{Cluster}
 use Rattle.mega_entry.specs.declared.content.Content.{Content}
-use Rattle.mega_handler.specs.Named.{Meanings}
 use Rattle.mega_wal.specs.Acceptor.{Promised, Voted}
 use Rattle.mega_wal.specs.Same.{same_group}
 use Rattle.mega_wal.proofs.Sames.{same_group_self}
-use Rattle.mega_wire.specs.declared.message.Message.{Message}
 use Rattle.mega_wire.specs.declared.message.Body.{Body}
 use Rattle.mega_wire.specs.declared.message.Body.TheVariants.{Accepted, Promise}
 use Rattle.mega_transcript.specs.declared.item.Item.{Item}
-use Rattle.mega_transcript.specs.declared.item.Item.TheVariants.{Answer, Apply, Begin, Counts as CountsItem, Crash, Decide, Forgets as ForgetsItem, Grant, Invalid, Lapse as LapseItem, Lost as LostItem, Sent, Serving, Start, Tick, Unsafe, Unsent, Valid}
-use Rattle.mega_transcript.specs.Tape.{sent_count}
+use Rattle.mega_transcript.specs.declared.item.Item.TheVariants.{Answer, Apply, Begin, Counts as CountsItem, Crash, Decide, Forgets as ForgetsItem, Grant, Invalid, Lapse as LapseItem, Lost as LostItem, Serving, Start, Tick, Unsafe, Unsent, Valid}
 use Rattle.mega_promises.specs.Items.{number, shown}
 use Rattle.mega_promises.specs.Messages.{is_unsafe}
 use Rattle.mega_promises.specs.Promises.{Stands}
-use Rattle.mega_promises.specs.Runs.{Happening, IsRun, Standing, breaks, goes_on, met_in, opening, set_at, setting, with_item, with_items}
+use Rattle.mega_promises.specs.Runs.{breaks, with_item, with_items}
 use Rattle.mega_rules.specs.Met.{Met, Starts, Crashes, Ticks, Begins, Takes, Sends, Unsends, Grants, Lapses, Counts, Forgets, Serves, Loses, Validates, Invalidates, Decides, Applies, Answers}
 use Rattle.mega_rules.specs.Logs.{accepted_at, top_of}
 use Rattle.mega_rules.specs.Operations.{Node}
-use Rattle.mega_rules.specs.Steps.{Event, Step, crashed, onto, start, start_items, step}
+use Rattle.mega_rules.specs.Steps.{onto}
 use Rattle.mega_rules.specs.Voting.{act_if, act_in, acts}
 use Rattle.mega_tape_laws.specs.Places.{In}
 use Rattle.mega_tape_laws.proofs.Ballots.{number_is}
 use Rattle.mega_tape_laws.proofs.Lists.{from_cons}
-use Rattle.mega_run_laws.specs.Vouched.{sent}
 use Rattle.mega_run_laws.proofs.Noted.{with_append}
-use Rattle.mega_run_laws.proofs.Runs.{IsMark}
-use Rattle.mega_valid_laws.proofs.Folds.{IsOwn}
-use Rattle.mega_leased_laws.proofs.Forms.{Anything, Holds, any_keeps, down, run_holds, stepped}
-use Rattle.mega_leased_laws.proofs.Told.{step_met}
-use Rattle.mega_leased_laws.proofs.Cells.{at_me, by_node, occurs_own}
+use Rattle.mega_leased_laws.proofs.Tops.{max_first, then_most, top_onto}
 
 both : (a b : Bool) → (a && b) ≡ true → (a ≡ true) × (b ≡ true)
 both true b h = (refl, h)

@@ -1,6 +1,6 @@
 -- The operations of a node act one after another: each that noted an epoch began its poll while that epoch served, and asked no group before that it
 -- did not read.
-use Rattle.std.proofs.Common.{◌≡◌, ◌⊎◌, inl, inr, ℕ, zero, suc, ◌+◌, ◌==◌, ◌&&◌, ◌||◌, ◌≤◌, ◌<◌, nat_le, nat_lt, Bool, true, false, cond, List, [], ◌∷◌, ◌++◌, length, map, fold, Option, Some, None, refl, sym, ap, ◌∙◌, subst, arith}
+use Rattle.std.proofs.Common.{ℕ, ◌≡◌, ◌⊎◌, inl, inr, zero, suc, ◌+◌, ◌==◌, ◌&&◌, ◌||◌, ◌≤◌, ◌<◌, nat_le, nat_lt, Bool, true, false, cond, List, [], ◌∷◌, ◌++◌, length, map, fold, Option, Some, None, refl, sym, ap, ◌∙◌, subst, arith}
 use Rattle.std.proofs.lemmas.Bool.Decides.{nat_tests}
 use Rattle.std.specs.List.{list_any}
 use Rattle.mega_base.specs.declared.names.Epoch.{Epoch}
@@ -37,13 +37,13 @@ use Rattle.mega_tape_laws.specs.Lawful.{message}
 use Rattle.mega_tape_laws.specs.Polls.{IsPolled}
 use Rattle.mega_run_laws.specs.Vouched.{Each}
 use Rattle.mega_run_laws.proofs.Prefixes.{IsDecided, prefix_decided}
-use Rattle.mega_run_laws.proofs.Sending.{Stood, took_on}
+use Rattle.mega_run_laws.proofs.Sending.{Stood}
 use Rattle.mega_run_laws.proofs.Turns.{IsRising, each_on, each_push}
 use Rattle.mega_settled_laws.specs.Covering.{Earlier}
 use Rattle.mega_settled_laws.proofs.Tapes.{each_both, earlier_stood, then_later}
 use Rattle.mega_settled_laws.proofs.Turns.{numbers_apart}
 use Rattle.mega_valid_laws.specs.Leases.{asks_end, has_polled, serving_on}
-use Rattle.mega_leased_laws.proofs.Polls.{ReadPolls, StagePolls, Tops, due_polls, hears_polls, no_tops, polled_on, seeks_polls, tops_on}
+use Rattle.mega_leased_laws.proofs.Polls.{ReadPolls, StagePolls, due_polls, hears_polls, no_tops, polled_on, seeks_polls, tops_on}
 use Rattle.mega_leased_laws.proofs.Walk.{Walks, begun_it, caught, goes_on_it}
 use Rattle.mega_leased_laws.proofs.Wheres.{EndsBody, EndsOf, falls_due_ends, hears_ends, polled_ends, seeks_ends, takes_ends, asks_ends, due_ends}
 
