@@ -7,7 +7,7 @@ use Rattle.mega_words.specs.declared.command.Report.{Report}
 use Rattle.mega_promises.specs.Runs.{Standing}
 use Rattle.mega_schedule.specs.Events.{event_of}
 use Rattle.mega_replay.specs.LastLines.{header_line, schedule_line, limit_line, refused_line}
-use Rattle.mega_replay.specs.Headings.{lines_behind}
+use Rattle.mega_heading.specs.Parts.{lines_behind}
 use Rattle.mega_replay.specs.Progress.{Writes, WritesFront}
 use Rattle.mega_replay.specs.Replaying.{AreDoneBehind, IsRefused, IsPastLast, StopsAt}
 use Rattle.mega_replay.specs.Known.{InputDone, InputFailed, InputBegun, InputBroken, InputCut, InputNoEvent, InputRefused, InputPastLast}

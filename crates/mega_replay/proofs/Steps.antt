@@ -13,14 +13,15 @@ use Rattle.mega_transcript.specs.Tape.{newest}
 use Rattle.mega_promises.specs.Runs.{Happening, Standing}
 use Rattle.mega_line_laws.specs.Clusters.{CanStart}
 use Rattle.mega_world.specs.declared.world.World.{World}
-use Rattle.mega_replay.specs.Known.{CutsLine, Ends, Follows, IsTooLong, LeftFails, LeftIsBegun, LeftIsDone, LeftRanOut, LeftStops, Passes, StopsNext, TakesLine}
+use Rattle.mega_heading.specs.Known.{Ends, Follows, Passes, TakesLine}
+use Rattle.mega_replay.specs.Known.{CutsLine, IsTooLong, LeftFails, LeftIsBegun, LeftIsDone, LeftRanOut, LeftStops, StopsNext}
 use Rattle.mega_replay.specs.Progress.{Writes, WritesFront}
 use Rattle.mega_replay.specs.Replaying.{AreRead, Reaches, in_order, text_at}
 use Rattle.mega_replay.specs.Running.{AllHappen, Happens, StandsAfter, Went, stood}
 use Rattle.mega_replay.specs.Stops.{IsBeforeWriting}
 use Rattle.mega_replay.specs.declared.status.Stop.{Stop}
 use Rattle.mega_replay.specs.Texts.{IsTallied, at_end, in_all, so_far}
-use Rattle.mega_replay.proofs.Inputs.{both_none, ended_none}
+use Rattle.mega_heading.proofs.Inputs.{both_none, ended_none}
 use Rattle.mega_replay.proofs.Progress.{as_front, more_waits, wrote_front}
 use Rattle.mega_replay.proofs.Running.{replayed}
 use Rattle.mega_replay.proofs.Texts.{front_on, newest_onto}

@@ -4,10 +4,11 @@ use Rattle.mega_cluster.specs.declared.cluster.Cluster.{Cluster}
 use Rattle.mega_cluster.specs.Header.{read_of}
 use Rattle.mega_words.specs.declared.command.Report.{Report}
 use Rattle.mega_schedule.specs.Events.{event_of}
-use Rattle.mega_replay.specs.Known.{AreParted, HeaderFails, InputBegun, InputBroken, InputDone, InputFailed, InputNoEvent, InputRefused, InputPastLast, IsBroken, IsHeaded, LeftFails, LeftIsBegun, LeftIsDone, LeftStops, TakesHeader}
-use Rattle.mega_replay.specs.Headings.{lines_behind}
+use Rattle.mega_heading.specs.Known.{AreParted, HeaderFails, TakesHeader}
+use Rattle.mega_replay.specs.Known.{InputBegun, InputBroken, InputDone, InputFailed, InputNoEvent, InputRefused, InputPastLast, IsBroken, IsHeaded, LeftFails, LeftIsBegun, LeftIsDone, LeftStops}
+use Rattle.mega_heading.specs.Parts.{lines_behind}
 use Rattle.mega_replay.specs.Replaying.{AreDone, AreDoneBehind, AreRead, InputIsFailed, IsRefused, IsPastLast}
-use Rattle.mega_replay.proofs.Inputs.{both_none}
+use Rattle.mega_heading.proofs.Inputs.{both_none}
 use Rattle.mega_io.specs.TextLines.{ended_lines, lines_of}
 
 pub input_done : (report : Report) (a b : Option (List ℕ)) (c : Cluster) (Says : List ℕ → Type 0) → IsHeaded a b c → LeftIsDone report c b Says → InputDone report a Says

@@ -10,7 +10,8 @@ use Rattle.mega_promises.specs.Runs.{Happening, Standing, refusal}
 use Rattle.mega_tally.specs.declared.tally.Tally.{Tally}
 use Rattle.mega_transcript.specs.Tape.{newest}
 use Rattle.mega_world.specs.Last.{IsPastLast as IsPastLastEvent}
-use Rattle.mega_replay.specs.Headings.{heading_of, lines_behind, text_before}
+use Rattle.mega_heading.specs.Parts.{lines_behind, text_before}
+use Rattle.mega_replay.specs.Headings.{heading_of}
 use Rattle.mega_replay.specs.Running.{Replayed, stood}
 use Rattle.mega_replay.specs.Texts.{IsTallied, in_all, so_far}
 use Rattle.mega_replay.specs.LastLines.{header_line, refused_line, schedule_line, limit_line}

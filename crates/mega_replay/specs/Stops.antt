@@ -42,12 +42,6 @@ IsWorldStop (Limit line) = Unit {0}
 IsWorldStop NoMemory = Unit {0}
 IsWorldStop _ = ⊥
 
--- a rule that the header breaks, or want of memory
-abbrev pub IsTextStop : Stop → Type 0
-IsTextStop (Header rule) = Unit {0}
-IsTextStop NoMemory = Unit {0}
-IsTextStop _ = ⊥
-
 -- any stop but that of a header
 abbrev pub IsScheduleStop : Stop → Type 0
 IsScheduleStop (Header rule) = ⊥

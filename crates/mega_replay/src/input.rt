@@ -3,7 +3,8 @@ ghost use Rattle.std.specs.Prelude.{◌≡◌, ◌≢◌, ◌≤◌, [], Ok, Err
 ghost use Rattle.std.specs.Io.KnownBytes.{prepend_known, IsAtEnd};
 ghost use Rattle.mega_base.specs.Causes.{Rose};
 ghost use Rattle.mega_io.specs.TextLines.{BreaksOff};
-ghost use Rattle.mega_replay.specs.Known.{Follows, Ends, IsTooLong};
+ghost use Rattle.mega_heading.specs.Known.{Ends, Follows};
+ghost use Rattle.mega_replay.specs.Known.{IsTooLong};
 ghost use Rattle.mega_replay.specs.Stops.{IsReadStop};
 
 use crate::status::Stop;

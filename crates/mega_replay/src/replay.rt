@@ -11,7 +11,8 @@ ghost use Rattle.mega_promises.specs.Runs.{Happening};
 ghost use Rattle.mega_replay.specs.Progress.{Writes, WritesFront};
 ghost use Rattle.mega_replay.specs.Running.{StandsAfter, IsStanding, stood};
 ghost use Rattle.mega_replay.specs.Replaying.{IsRefused, IsPastLast, text_at};
-ghost use Rattle.mega_replay.specs.Known.{Follows, Ends, StopsNext, LeftRanOut, LeftIsDone, LeftIsBegun, LeftStops, LeftFails, CutsLine, DoesLine, IsRead, InputDone, InputBegun, InputBroken, InputFailed, InputNoEvent, InputRefused, InputPastLast};
+ghost use Rattle.mega_heading.specs.Known.{Ends, Follows};
+ghost use Rattle.mega_replay.specs.Known.{StopsNext, LeftRanOut, LeftIsDone, LeftIsBegun, LeftStops, LeftFails, CutsLine, DoesLine, IsRead, InputDone, InputBegun, InputBroken, InputFailed, InputNoEvent, InputRefused, InputPastLast};
 ghost use Rattle.mega_replay.specs.Stops.{IsBeforeWriting, IsScheduleStop};
 ghost use Rattle.mega_replay.specs.Texts.{IsTallied};
 

@@ -1,4 +1,5 @@
-use Rattle.mega_replay.proofs.Inputs.{line_follows, last_follows, too_long}
+use Rattle.mega_heading.proofs.Inputs.{line_follows, last_follows}
+use Rattle.mega_replay.proofs.Inputs.{too_long}
 use Rattle.mega_replay.proofs.input.next_line.Goals as goal
 
 pub returns-in-Ok-Feed-clause-line : goal.returns-in-Ok-Feed-clause-line

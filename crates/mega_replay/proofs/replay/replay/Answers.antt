@@ -3,7 +3,8 @@ use Rattle.std.specs.Io.KnownBytes.{prepend_known}
 use Rattle.std.proofs.KnownBytes.{prepend_known-nil}
 use Rattle.mega_replay.specs.declared.status.Stop.TheVariants.{Header, Source}
 use Rattle.mega_replay.specs.Progress.{Writes, WritesFront}
-use Rattle.mega_replay.specs.Known.{HeaderFails, IsBroken, IsHeaded}
+use Rattle.mega_heading.specs.Known.{HeaderFails}
+use Rattle.mega_replay.specs.Known.{IsBroken, IsHeaded}
 use Rattle.mega_replay.proofs.Progress.{all_lost, nothing_written}
 use Rattle.mega_replay.proofs.Whole.{input_begun, input_broken, input_done, input_failed, input_no_event, input_refused, input_unbegun, input_unfailed, input_limit}
 use Rattle.mega_replay.proofs.replay.replay.Goals as goal

@@ -1,7 +1,7 @@
 use Rattle.std.proofs.Common.{◌≤◌}
 use Rattle.std.specs.Io.KnownBytes.{prepend_known}
-use Rattle.mega_replay.specs.Known.{HasFront}
-use Rattle.mega_replay.proofs.heading.read_text.Given as goal
+use Rattle.mega_heading.specs.Known.{HasFront}
+use Rattle.mega_heading.proofs.text.read_text.Given as goal
 
 abbrev pub invariant-loop : goal.invariant-loop
 invariant-loop g l =

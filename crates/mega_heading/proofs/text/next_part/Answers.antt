@@ -1,8 +1,8 @@
-use Rattle.std.proofs.Common.{List, ℕ, subst, sym}
+use Rattle.std.proofs.Common.{subst, sym}
 use Rattle.std.specs.Io.KnownBytes.{prepend_known}
-use Rattle.mega_replay.specs.Known.{HasFront, HasHeader, HasNoMark}
-use Rattle.mega_replay.proofs.Headings.{end_part, line_part, long_part, mark_last, mark_part}
-use Rattle.mega_replay.proofs.heading.next_part.Goals as goal
+use Rattle.mega_heading.specs.Known.{HasFront, HasHeader, HasNoMark}
+use Rattle.mega_heading.proofs.Headers.{end_part, line_part, long_part, mark_last, mark_part}
+use Rattle.mega_heading.proofs.text.next_part.Goals as goal
 
 pub returns-in-Ok-Feed-clause-line : goal.returns-in-Ok-Feed-clause-line
 returns-in-Ok-Feed-clause-line g c is first front =
@@ -28,4 +28,4 @@ returns-in-Ok-Input-clause-mark g c is first front =
     (mark_last _ _ c.next_line.new.line c.args.text.now 262144 (rw c.in-Ok-Input.field-0-is at c.in-Ok-Input.ensures.line) added.0 first front)
 
 pub returns-in-Ok-Long-clause-long : goal.returns-in-Ok-Long-clause-long
-returns-in-Ok-Long-clause-long g c is first front = long_part _ _ c.next_line.new.line c.args.text.now (rw c.in-Ok-Long.field-0-is at c.in-Ok-Long.ensures.line) first front
+returns-in-Ok-Long-clause-long g c is least first front = long_part least _ _ c.next_line.new.line c.args.text.now (rw c.in-Ok-Long.field-0-is at c.in-Ok-Long.ensures.line) first front
