@@ -23,12 +23,11 @@ use Rattle.mega_run_laws.specs.Usages.{Brought, Fits, FitsOne, IsMeant}
 use Rattle.mega_run_laws.specs.Vouched.{sent}
 use Rattle.mega_run_laws.proofs.Noted.{tape_item, with_append, with_sent}
 use Rattle.mega_run_laws.proofs.Owned.{Users}
-use Rattle.mega_run_laws.proofs.Runs.{IsMark}
+use Rattle.mega_run_laws.proofs.Runs.{IsMark, begin_good, both_true, crashes_good, fated_start_good, found, handed_good, marked_good, not_because, not_false, nothing_good, start_good, tick_good}
 use Rattle.mega_run_laws.proofs.Standing.{Good}
 use Rattle.mega_run_laws.proofs.Steps.{stands_sent}
 use Rattle.mega_run_laws.proofs.Turns.{each_push}
 use Rattle.mega_leased_laws.proofs.Forms.{Occurs, down, stepped}
-use Rattle.mega_fresh_laws.proofs.Good.{begin_good, both_true, crashes_good, fated_start_good, found, handed_good, marked_good, not_because, not_false, nothing_good, start_good, tick_good}
 
 -- whoever uses a store so that texts mean their requests
 abbrev pub those_of : Usage → Users

@@ -1,8 +1,6 @@
 -- Where a node may read locally within a step, the greatest position that it accepted or decided by then covers each decision before the operation began,
 -- as long as leases are safe: what the tape shows at the step's end, before its messages, is that of a run.
-use Rattle.std.proofs.Common.{◌≡◌, ◌⊎◌, inl, inr, ℕ, zero, suc, ◌+◌, ◌≤◌, ◌<◌, ◌==◌, ◌&&◌, nat_le, not, Bool, true, false, cond, List, [], ◌∷◌, ◌++◌, filter, flat_map, length, map, refl, sym, ap, ◌∙◌, subst, arith}
-use Rattle.std.proofs.lemmas.Bool.Decides.{nat_tests}
-use Rattle.std.specs.List.{range_with_len}
+use Rattle.std.proofs.Common.{ℕ, ◌≡◌, ◌⊎◌, inl, inr, zero, suc, ◌+◌, ◌≤◌, ◌<◌, ◌&&◌, not, Bool, true, false, cond, List, [], ◌∷◌, ◌++◌, flat_map, length, map, refl, sym, ap, ◌∙◌, subst, arith}
 use Rattle.mega_base.specs.declared.names.Epoch.{Epoch}
 use Rattle.mega_base.specs.declared.names.GroupId.{GroupId}
 use Rattle.mega_base.specs.declared.names.NodeId.{NodeId}
@@ -27,7 +25,7 @@ use Rattle.mega_promises.specs.Runs.{Cuts, IsRun, Standing, breaks, goes_on, met
 use Rattle.mega_rules.specs.Clock.{is_up, start_of}
 use Rattle.mega_rules.specs.Coordinators.{coordinator_calls, valid_at}
 use Rattle.mega_rules.specs.Logs.{top_of}
-use Rattle.mega_rules.specs.Members.{full_nodes, is_full, nodes}
+use Rattle.mega_rules.specs.Members.{is_full, nodes}
 use Rattle.mega_rules.specs.Met.{Met, Starts, Crashes, Ticks, Begins, Takes, Sends, Unsends, Grants, Lapses, Counts, Forgets, Serves, Loses, Validates, Invalidates, Decides, Applies, Answers}
 use Rattle.mega_rules.specs.Operations.{Node, Setting}
 use Rattle.mega_rules.specs.Steps.{Event, Step, onto, step}
@@ -53,7 +51,8 @@ use Rattle.mega_valid_laws.proofs.Shows.{run_serves, run_valid}
 use Rattle.mega_leased_laws.proofs.Beating.{IsNoCall, fronts_no_call}
 use Rattle.mega_leased_laws.proofs.Cells.{at_me}
 use Rattle.mega_leased_laws.proofs.Forms.{stepped}
-use Rattle.mega_leased_laws.proofs.Held.{run_held}
+use Rattle.mega_leased_laws.proofs.Held.{full_in, run_held}
+use Rattle.mega_leased_laws.proofs.Tops.{run_decided_most, then_most, top_more, top_onto}
 use Rattle.mega_leased_laws.proofs.Leased.{run_leased}
 use Rattle.mega_leased_laws.proofs.Told.{step_met}
 use Rattle.mega_fresh_laws.specs.Covering.{before_begin}
@@ -62,52 +61,9 @@ use Rattle.mega_fresh_laws.proofs.Meant.{Reached, run_of, those_of}
 use Rattle.mega_fresh_laws.proofs.Moments.{IsCalm, Onward, calm_items}
 use Rattle.mega_fresh_laws.proofs.Steps.{base_of, front_of}
 use Rattle.mega_fresh_laws.proofs.Tails.{Hit, IsTail, Parted, front_each, hit_shows, sends_valid, step_parted, tail_valid, valid_or}
-use Rattle.mega_fresh_laws.proofs.Tops.{noted_most, notes_stood, run_topped, top_more, top_onto, votes_most}
+use Rattle.mega_fresh_laws.proofs.Tops.{noted_most, notes_stood, votes_most}
 
 -- ---- lists
-
-in_filter : (f : ℕ → Bool) (x : ℕ) (xs : List ℕ) → f x ≡ true → In x xs → In x (filter f xs)
-in_filter f x [] h i = i
-in_filter f x (y ∷ xs) h (inl same) = by (f y) (ap f same ∙ h)
-  where
-    by : (t : Bool) → t ≡ true → In x (cond t (y ∷ filter f xs) (filter f xs))
-    by true k = inl same
-    by false k = cc
-in_filter f x (y ∷ xs) h (inr i) = by (f y) (in_filter f x xs h i)
-  where
-    by : (t : Bool) → In x (filter f xs) → In x (cond t (y ∷ filter f xs) (filter f xs))
-    by true k = inr k
-    by false k = k
-
-in_range : (x base n : ℕ) → base ≤ x → x < base + n → In x (range_with_len base n)
-in_range x base zero low high = absurd (omega (arith, low, high))
-in_range x base (suc n) low high = by (base == x) refl (λ next. in_range x (base + 1) n next (omega (arith, high)))
-  where
-    is_number : (a b : ℕ) → (a == b) ≡ true → a ≡ b
-    is_number a b k = grind (arith, nat_tests)
-
-    apart : (a b : ℕ) → (a == b) ≡ false → a ≤ b → a + 1 ≤ b
-    apart a b k le = grind (arith, nat_tests)
-
-    by : (t : Bool) → (base == x) ≡ t → (base + 1 ≤ x → In x (range_with_len (base + 1) n)) → (base ≡ x) ⊎ In x (range_with_len (base + 1) n)
-    by true at again = inl (is_number base x at)
-    by false at again = inr (again (apart base x at low))
-
-both : (a b : Bool) → (a && b) ≡ true → (a ≡ true) × (b ≡ true)
-both true b h = (refl, h)
-both false b h = cc
-
-full_in : (c : Cluster) (node : ℕ) → is_full c node ≡ true → In node (full_nodes c)
-full_in c node full = let parts = both _ _ (both _ _ full).0 in in_filter (is_full c) node (nodes c) full (in_range node 1 (length c.nodes) (low node parts.0) (high node (length c.nodes) parts.1))
-  where
-    low : (a : ℕ) → nat_le 1 a ≡ true → 1 ≤ a
-    low a h = grind (arith, nat_tests)
-
-    high : (a b : ℕ) → nat_le a b ≡ true → a < 1 + b
-    high a b h = grind (arith, nat_tests)
-
-then_most : (a b d : ℕ) → a ≤ b → b ≤ d → a ≤ d
-then_most a b d h k = omega (arith, h, k)
 
 in_either : {X : Type 0} (x : X) (xs ys : List X) → In x (xs ++ ys) → In x xs ⊎ In x ys
 in_either x [] ys i = inr i
@@ -411,7 +367,7 @@ module _ (c : Cluster) (few : length c.nodes ≤ 9) (five : c.cells ≤ 5) (usag
         at_start : (item ≡ Decide (number me) group m e) ⊎ Stands (Decide (number me) group m e) now.tape → m.0 ≤ top_of base group
         at_start (inl is) = clash (is_decide item) (ap is_decide is) (own_undecided item own)
         at_start (inr before) = then_most m.0 (top_of node.met group) (top_of base group)
-            (subst (λ (at : Standing). m.0 ≤ top_of (at.node me).met group) (sym r.is) (run_topped c first r.events now.tape run_now me group m e before)) node_base
+            (subst (λ (at : Standing). m.0 ≤ top_of (at.node me).met group) (sym r.is) (run_decided_most c first r.events now.tape run_now me group m e before)) node_base
 
         by : ((me ≡ me) × In (Decides group m.0 e) made.notes) ⊎ Stands (Decide (number me) group m e) start_tape → m.0 ≤ top_of base group
         by (inl noted) = in_front (in_either (Decides group m.0 e) front rest (subst (In (Decides group m.0 e)) parted.is noted.1))

@@ -39,6 +39,7 @@ use Rattle.mega_tape_laws.proofs.Made.{proposed_here}
 use Rattle.mega_tape_laws.proofs.Origins.{Origin, id_is, origin}
 use Rattle.mega_run_laws.specs.Usages.{Fits}
 use Rattle.mega_run_laws.proofs.Runs.{run_answered, run_lawful, run_written}
+use Rattle.mega_settled_laws.proofs.Tapes.{written_before}
 use Rattle.mega_leased_laws.specs.Items.{Are}
 use Rattle.mega_fresh_laws.specs.Covering.{Answered, Covers, IsFreshAnswer, IsFreshItem, ReadOver, before_begin}
 use Rattle.mega_fresh_laws.proofs.Moments.{NoBegin, onward_item}
@@ -63,12 +64,12 @@ pub record ItemAt (P : List Item → Item → Type 0) (item : Item) (tape : List
   pub is : tape ≡ later ++ item ∷ before
   pub holds : P before item
 
-item_at : (P : List Item → Item → Type 0) (item : Item) (tape : List Item) → Are P tape → Stands item tape → ItemAt P item tape
+pub item_at : (P : List Item → Item → Type 0) (item : Item) (tape : List Item) → Are P tape → Stands item tape → ItemAt P item tape
 item_at P item [] h s = absurd s
 item_at P item (other ∷ before) h (inl same) = record { before = before; later = []; is = ap (λ x. x ∷ before) same; holds = subst (P before) same h.0 }
 item_at P item (other ∷ before) h (inr s) = let rest = item_at P item before h.1 s in record { before = rest.before; later = other ∷ rest.later; is = ap (λ t. other ∷ t) rest.is; holds = rest.holds }
 
-stood_later : (later before : List Item) (x : Item) → Stands x before → Stands x (later ++ before)
+pub stood_later : (later before : List Item) (x : Item) → Stands x before → Stands x (later ++ before)
 stood_later [] before x s = s
 stood_later (item ∷ later) before x s = inr (stood_later later before x s)
 
@@ -281,10 +282,6 @@ own_begun schema usage tape op group below e (runs_all transactions own is) id =
 own_begun schema usage tape op group below e (enters message sent posted own known stands to says fresh is) id = asked_begun usage.meaning tape op PumpEnter own
 own_begun schema usage tape op group below e (handles message moment own oldest is) id = asked_begun usage.meaning tape op PumpHandle own
 
-before_written : (schema : Schema) (usage : Usage) (later before : List Item) → AreWritten schema usage (later ++ before) → AreWritten schema usage before
-before_written schema usage [] before w = w
-before_written schema usage (item ∷ later) before w = before_written schema usage later before w.1
-
 module _ (c : Cluster) (usage : Usage) (first : Meanings) (events : List Happening) (tape : List Item) (few : length c.nodes ≤ 9) (five : c.cells ≤ 5) (run : IsRun c first events tape) (fits : Fits usage events) where
   pub proposals : (op : OpId) (number to : ℕ) (group : GroupId) (m : Position) (own : Content) → own.id ≡ Some op → Stands (proposes number op to group m own) tape
       → ReadsThrough tape op group (proposes number op to group m own)
@@ -310,7 +307,7 @@ module _ (c : Cluster) (usage : Usage) (first : Meanings) (events : List Happeni
       at = item_at (IsFreshItem c usage) item tape (run_fresh c usage first events tape few five run fits) s
 
       written_there : AreWritten c.schema usage (item ∷ at.before)
-      written_there = before_written c.schema usage at.later (item ∷ at.before) (subst (AreWritten c.schema usage) at.is written_all)
+      written_there = written_before c.schema usage at.later (item ∷ at.before) (subst (AreWritten c.schema usage) at.is written_all)
 
       o : Origin c.schema usage (item ∷ at.before) (record { group = group; position = m }) own
       o = origin c.schema usage (item ∷ at.before) written_there op (record { group = group; position = m }) zero_ballot own

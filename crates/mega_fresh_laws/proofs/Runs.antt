@@ -1,5 +1,5 @@
 -- In every run each answer and each proposal is fresh, item by item, and so is what stays open.
-use Rattle.std.proofs.Common.{◌≡◌, inl, inr, ℕ, ◌+◌, ◌≤◌, ◌==◌, ◌&&◌, ◌||◌, Bool, true, false, cond, List, [], ◌∷◌, ◌++◌, flat_map, length, Option, Some, None, refl, sym, ap, ◌∙◌, subst}
+use Rattle.std.proofs.Common.{ℕ, ◌≡◌, inl, inr, ◌+◌, ◌≤◌, ◌==◌, ◌&&◌, ◌||◌, Bool, true, false, cond, List, [], ◌∷◌, ◌++◌, flat_map, length, Option, Some, None, refl, sym, ap, ◌∙◌, subst}
 use Rattle.mega_base.specs.declared.names.GroupId.{GroupId}
 use Rattle.mega_base.specs.declared.names.OpId.{OpId}
 use Rattle.mega_cluster.specs.declared.cluster.Cluster.{Cluster}
@@ -28,8 +28,7 @@ use Rattle.mega_run_laws.specs.Usages.{Fits}
 use Rattle.mega_run_laws.specs.Vouched.{Each, sent}
 use Rattle.mega_run_laws.proofs.Events.{IsPlain, lapses_plain, lease_plain, told_plain}
 use Rattle.mega_run_laws.proofs.Noted.{with_append, with_sent}
-use Rattle.mega_rules.specs.Replies.{reply_to}
-use Rattle.mega_run_laws.proofs.Owned.{Mine, NoAccept, began_asked}
+use Rattle.mega_run_laws.proofs.Owned.{Mine, began_asked}
 use Rattle.mega_run_laws.proofs.Runs.{IsMark, run_lawful, run_polls, starts_plain}
 use Rattle.mega_run_laws.proofs.Sending.{took_on}
 use Rattle.mega_run_laws.proofs.Silent.{flat_append}
@@ -37,7 +36,7 @@ use Rattle.mega_run_laws.proofs.Standing.{Good, Owes}
 use Rattle.mega_run_laws.proofs.Steps.{never_begun}
 use Rattle.mega_run_laws.proofs.Turns.{Held, Known, each_on, each_zip}
 use Rattle.mega_settled_laws.specs.Covering.{Earlier}
-use Rattle.mega_settled_laws.proofs.Tapes.{each_both, earlier_stood, items_later, sent_later, then_later}
+use Rattle.mega_settled_laws.proofs.Tapes.{each_both, earlier_stood, items_later, lawful_before, polls_before, sent_later, then_later}
 use Rattle.mega_valid_laws.proofs.Folds.{IsOwn}
 use Rattle.mega_leased_laws.specs.Items.{Are}
 use Rattle.mega_leased_laws.proofs.Cells.{by_node, occurs_own}
@@ -50,7 +49,7 @@ use Rattle.mega_fresh_laws.proofs.Heeding.{Open}
 use Rattle.mega_fresh_laws.proofs.Meant.{MayBegin, Reached, Stays, run_of, run_stays, those_of}
 use Rattle.mega_fresh_laws.proofs.Moments.{IsLater, NoBegin, Onward, answered_on, later_shown, onward_begin, onward_item, onward_items, onward_sent, onward_then, proposed_on}
 use Rattle.mega_fresh_laws.proofs.Nearby.{Lives, step_locals}
-use Rattle.mega_fresh_laws.proofs.Steps.{IsApply, Shown, StepFresh, base_of, front_of, reply_quiet, step_fresh}
+use Rattle.mega_fresh_laws.proofs.Steps.{IsApply, Shown, StepFresh, base_of, front_of, step_fresh}
 use Rattle.mega_fresh_laws.proofs.Tails.{IsTail, Parted, front_each, step_parted}
 use Rattle.mega_fresh_laws.proofs.Through.{PhaseFresh, phase_above, phase_on}
 
@@ -220,19 +219,11 @@ module _ (c : Cluster) (nodes' : ℕ → Node) (me : ℕ) where
 
 -- ---- earlier tapes
 
-before_lawful : (c : Cluster) (later tape : List Item) → Lawful c (later ++ tape) → Lawful c tape
-before_lawful c [] tape l = l
-before_lawful c (item ∷ later) tape l = before_lawful c later tape l.1
-
-before_polls : (later tape : List Item) → ArePolls (later ++ tape) → ArePolls tape
-before_polls [] tape l = l
-before_polls (item ∷ later) tape l = before_polls later tape l.1
-
 earlier_lawful : (c : Cluster) (moment tape : List Item) → Earlier moment tape → Lawful c tape → Lawful c moment
-earlier_lawful c moment tape e l = before_lawful c e.later moment (subst (Lawful c) e.is l)
+earlier_lawful c moment tape e l = lawful_before c e.later moment (subst (Lawful c) e.is l)
 
 earlier_polls : (moment tape : List Item) → Earlier moment tape → ArePolls tape → ArePolls moment
-earlier_polls moment tape e l = before_polls e.later moment (subst ArePolls e.is l)
+earlier_polls moment tape e l = polls_before e.later moment (subst ArePolls e.is l)
 
 stands_begun : (tape : List Item) (op : OpId) (text : List ℕ) → Stands (BeginItem op text) tape → has_begun tape op ≡ true
 stands_begun [] op text s = absurd s
@@ -380,16 +371,10 @@ module _ (c : Cluster) (few : length c.nodes ≤ 9) (five : c.cells ≤ 5) (usag
         stood : (x : Item) → Stands x start_tape → Stands x tape
         stood x k = earlier_stood start_tape tape (items_later c those (flat_map (shown me) front) start_tape) x k
 
-        quiet : (m : Message) (j : ℕ) → Stands (Sent j m) now.tape → m.to ≡ me → Each (λ (x : Message). NoAccept x.body) (reply_to c me node.met m)
-        quiet m j stands to = reply_quiet c (Taken j ∷ now.tape) me node.met m (record { made = (g.node me).made; decides = λ group n e is. inr ((g.node me).known group n e is) })
-            (record { number = j; sent = inr (subst (λ v. Stands (Sent j (message m.from v m.body)) now.tape) to stands); taken = inl refl })
-
         by : (event' : Event) → Occurs now.tape s node.met item event' → MayBegin c usage me event' → ((x : OpId) → Onward x start_tape tape) → Shown s usage tape lawful polls node event'
         by (Tick clock) is allowed on = tt
-        by (Take m) is allowed on = (
-          took_on start_tape tape stood (message m.from me m.body) (record { number = is.0; sent = inr (subst (λ v. Stands (Sent is.0 (message m.from v m.body)) now.tape) is.3 is.2); taken = inl is.1 }),
-          quiet m is.0 is.2 is.3,
-        )
+        by (Take m) is allowed on =
+            took_on start_tape tape stood (message m.from me m.body) (record { number = is.0; sent = inr (subst (λ v. Stands (Sent is.0 (message m.from v m.body)) now.tape) is.3 is.2); taken = inl is.1 })
         by (Begin request text) is allowed on = (
           allowed.0,
           (on (op_of s node.met)).asked usage.meaning ∙ ap (λ x. asked_for usage.meaning (x ∷ now.tape) (op_of s node.met)) is

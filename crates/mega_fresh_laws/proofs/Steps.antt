@@ -1,8 +1,6 @@
 -- A step of a node: what it answers, what it proposes and what stays open are fresh, on the tape behind its first notes and its decision.
-use Rattle.std.proofs.Common.{◌≡◌, inl, inr, ℕ, zero, suc, ◌-◌, ◌<◌, ◌&&◌, nat_le, nat_lt, slice_get, length, arith, Bool, true, false, cond, List, [], ◌∷◌, ◌++◌, map, flat_map, fold, Option, Some, None, refl, sym, ap, subst}
+use Rattle.std.proofs.Common.{ℕ, ◌≡◌, inl, inr, zero, suc, ◌-◌, ◌<◌, ◌&&◌, nat_le, nat_lt, slice_get, length, arith, Bool, true, false, cond, List, [], ◌∷◌, ◌++◌, map, flat_map, fold, Option, Some, None, refl, sym, ap, subst}
 use Rattle.std.proofs.lemmas.Bool.Decides.{nat_tests}
-use Rattle.std.specs.List.{All}
-use Rattle.std.proofs.lemmas.List.Elements.{All-head, All-tail}
 use Rattle.mega_base.specs.declared.names.GroupId.{GroupId}
 use Rattle.mega_base.specs.declared.values.NodeKind.{NodeKind}
 use Rattle.mega_base.specs.declared.values.NodeKind.TheVariants.{Full, Witness, Read as ReadOnly}
@@ -10,34 +8,31 @@ use Rattle.mega_cluster.specs.declared.cluster.Cluster.{Cluster}
 use Rattle.mega_outcome.specs.declared.answer.Answer.{Answer}
 use Rattle.mega_outcome.specs.declared.answer.Answer.TheVariants.{Worn}
 use Rattle.mega_outcome.specs.declared.request.Request.{Request}
-use Rattle.mega_propose.specs.Members.{others}
 use Rattle.mega_transcript.specs.declared.item.Item.{Item}
 use Rattle.mega_wire.specs.declared.message.Message.{Message}
 use Rattle.mega_wire.specs.declared.message.Body.{Body}
 use Rattle.mega_wire.specs.declared.message.Body.TheVariants.{Accept}
 use Rattle.mega_promises.specs.Promises.{asked_for}
 use Rattle.mega_promises.specs.Runs.{met_in}
-use Rattle.mega_rules.specs.Clock.{clock_of, does_again, ticks_of}
+use Rattle.mega_rules.specs.Clock.{clock_of}
 use Rattle.mega_rules.specs.Coordinators.{acquires_at}
-use Rattle.mega_rules.specs.Logs.{groups_of, newest_of, prefix_of}
-use Rattle.mega_rules.specs.Members.{has_rows, is_full, is_node, kind_of, nodes, runs, voters}
+use Rattle.mega_rules.specs.Logs.{groups_of}
+use Rattle.mega_rules.specs.Members.{has_rows, is_full, is_node, kind_of, nodes, runs}
 use Rattle.mega_rules.specs.Met.{Met, Applies, Begins, Takes, Ticks}
 use Rattle.mega_rules.specs.Operations.{Node, Now, Operation, Setting}
-use Rattle.mega_rules.specs.Replies.{answer_to, reply_message, reply_to}
-use Rattle.mega_rules.specs.Steps.{Begin, Decision, Event, Heard as HeardBy, Step, Take, Tick, all_act, applied_at, apply_note, apply_notes, at_first, at_open, background, begin_step, decide_to, decision_note, fetch_to, fetches_for, first_settled, hears_message, if_new, is_worn, lapse_notes, lease_notes, missing_kind, needs_full, new_operation, news, onto, op_of, portion_of, refusal, step, stored_after, taken, tick_step, ticked, told_decision, told_notes, unless_missing, unless_refused}
+use Rattle.mega_rules.specs.Replies.{reply_to}
+use Rattle.mega_rules.specs.Steps.{Begin, Decision, Event, Heard as HeardBy, Step, Take, Tick, all_act, applied_at, apply_note, apply_notes, at_first, at_open, background, begin_step, decision_note, first_settled, hears_message, if_new, is_worn, lapse_notes, lease_notes, missing_kind, needs_full, new_operation, news, onto, op_of, portion_of, refusal, step, stored_after, taken, tick_step, ticked, told_decision, told_notes, unless_missing, unless_refused}
 use Rattle.mega_tape_laws.specs.Lawful.{Lawful, message}
 use Rattle.mega_tape_laws.specs.Places.{In, Took}
 use Rattle.mega_tape_laws.specs.Polls.{ArePolls}
 use Rattle.mega_tape_laws.specs.Writes.{Usage}
-use Rattle.mega_run_laws.specs.Shows.{Shows}
 use Rattle.mega_run_laws.specs.Vouched.{Each}
 use Rattle.mega_run_laws.proofs.Events.{onto_append}
 use Rattle.mega_run_laws.proofs.Owned.{NoAccept}
-use Rattle.mega_run_laws.proofs.Told.{answer_told}
 use Rattle.mega_run_laws.proofs.Turns.{Known, each_on}
 use Rattle.mega_run_laws.proofs.Whole.{in_left, in_right}
 use Rattle.mega_settled_laws.proofs.Tapes.{each_both}
-use Rattle.mega_lease_laws.proofs.Acting.{Acquires, acquires_are}
+use Rattle.mega_leased_laws.proofs.Validating.{NoRequest, Plain, acquires_plain, background_plain, news_plain, reply_plain}
 use Rattle.mega_fresh_laws.specs.Covering.{IsProposed}
 use Rattle.mega_fresh_laws.proofs.Through.{PhaseFresh}
 use Rattle.mega_fresh_laws.proofs.Acting.{Acting, IsValidate, Locals, NoteFresh}
@@ -48,42 +43,12 @@ use Rattle.mega_fresh_laws.proofs.Heeding.{Open, all_heard, all_ticked, begun_it
 abbrev pub Quiet : Message → Type 0
 Quiet m = NoAccept m.body
 
-quiet_map : {X : Type 0} (f : X → Message) → ((x : X) → Quiet (f x)) → (xs : List X) → Each Quiet (map f xs)
-quiet_map f h [] = tt
-quiet_map f h (x ∷ xs) = (h x, quiet_map f h xs)
-
-quiet_flat : {X : Type 0} (f : X → List Message) → ((x : X) → Each Quiet (f x)) → (xs : List X) → Each Quiet (flat_map f xs)
-quiet_flat f h [] = tt
-quiet_flat f h (x ∷ xs) = each_both Quiet (f x) (flat_map f xs) (h x) (quiet_flat f h xs)
-
-quiet_if : (t : Bool) (ms : List Message) → Each Quiet ms → Each Quiet (cond t ms [])
-quiet_if true ms h = h
-quiet_if false ms h = tt
-
-news_quiet : (s : Setting) (d : Option Decision) → Each Quiet (news s d)
-news_quiet s None = tt
-news_quiet s (Some d) = quiet_map (decide_to s.me d) (λ to. tt) (others s.me (nodes s.cluster))
-
-background_quiet : (s : Setting) (met : List Met) (now : ℕ) → Each Quiet (background s met now)
-background_quiet s met now =
-    quiet_if (has_rows s.cluster s.me && does_again (s.cluster).retry (ticks_of met) now) (flat_map (fetches_for s met) (groups_of met))
-    (quiet_flat (fetches_for s met)
-    (λ group. quiet_if (nat_lt (prefix_of met group) (newest_of met group)) (map (fetch_to s met group) (others s.me (voters s.cluster))) (quiet_map (fetch_to s met group) (λ to. tt) (others s.me (voters s.cluster))))
-    (groups_of met))
-
-acquires_quiet : (s : Setting) (met : List Met) (now : ℕ) → Each Quiet (acquires_at s.cluster s.me met now)
-acquires_quiet s met now = by (acquires_at s.cluster s.me met now) (acquires_are s.cluster s.me met now)
+plain_quiet : (ms : List Message) → Each Plain ms → Each Quiet ms
+plain_quiet ms h = each_on Plain Quiet (λ m k. by m.body k) ms h
   where
-    by : (ms : List Message) → All (Acquires s.cluster s.me met now) ms → Each Quiet ms
-    by [] h = tt
-    by (m ∷ ms) h = (subst Quiet (sym (All-head (Acquires s.cluster s.me met now) m ms h).is) tt, by ms (All-tail (Acquires s.cluster s.me met now) m ms h))
-
-pub reply_quiet : (c : Cluster) (tape : List Item) (me : ℕ) (met : List Met) (m : Message) → Shows tape me met → Took tape (message m.from me m.body) → Each Quiet (reply_to c me met m)
-reply_quiet c tape me met m shows took = by (answer_to c me met m.from m.body) (λ answer is. (answer_told c tape me m.from met shows m.body took answer is).2)
-  where
-    by : (o : Option Body) → ((answer : Body) → o ≡ Some answer → NoAccept answer) → Each Quiet (reply_message me m.from o)
-    by None h = tt
-    by (Some answer) h = (h answer refl, tt)
+    by : (body : Body) → NoRequest body → NoAccept body
+    by (Accept op group n b e) k = absurd k
+    by _ k = tt
 
 quiet_fresh : (tape : List Item) (ms : List Message) → Each Quiet ms → Each (λ m. IsProposed tape m.body) ms
 quiet_fresh tape ms h = each_on Quiet (λ m. IsProposed tape m.body) (λ m k. by m.body k) ms h
@@ -237,8 +202,8 @@ module _ (s : Setting) (usage : Usage) (tape : List Item) (l : Lawful s.cluster 
     fresh = acted.answers;
     opens = acted.kept;
     sends = each_both (λ m'. IsProposed tape m'.body) (acquires_at s.cluster s.me node.met clock ++ now.sends) (background s node.met clock)
-        (each_both (λ m'. IsProposed tape m'.body) (acquires_at s.cluster s.me node.met clock) now.sends (quiet_fresh tape (acquires_at s.cluster s.me node.met clock) (acquires_quiet s node.met clock)) acted.sends)
-        (quiet_fresh tape (background s node.met clock) (background_quiet s node.met clock));
+        (each_both (λ m'. IsProposed tape m'.body) (acquires_at s.cluster s.me node.met clock) now.sends (quiet_fresh tape (acquires_at s.cluster s.me node.met clock) (plain_quiet _ (acquires_plain s node.met clock))) acted.sends)
+        (quiet_fresh tape (background s node.met clock) (plain_quiet _ (background_plain s node.met clock)));
   }
     where
       front : List Met
@@ -302,7 +267,7 @@ module _ (s : Setting) (usage : Usage) (tape : List Item) (l : Lawful s.cluster 
   -- what the tape shows of an event
   abbrev pub Shown : Event → Type 0
   Shown (Tick clock) = Unit {0}
-  Shown (Take m) = Took tape (message m.from s.me m.body) × Each Quiet (reply_to s.cluster s.me node.met m)
+  Shown (Take m) = Took tape (message m.from s.me m.body)
   Shown (Begin request text) = (is_node s.cluster s.me ≡ true) × (asked_for usage.meaning tape (op_of s node.met) ≡ Some request)
 
   abbrev take_by : Message → Option Decision → Step
@@ -319,13 +284,13 @@ module _ (s : Setting) (usage : Usage) (tape : List Item) (l : Lawful s.cluster 
       → StepFresh s usage tape (told_notes s node.met m.from m.body ++ decision_note (decision_in s node m told)) (take_by m told)
   take_fresh m (Some d) known locals shown opens =
       let apart = onto_append (told_notes s node.met m.from m.body) (decision_note (if_new node.met (Some d))) (Takes m ∷ node.met) in
-      taken_fresh m (if_new node.met (Some d)) [] (subst (λ b. Known s.me b tape) apart known) (subst (λ b. Locals s tape b (take_by m (Some d)).notes) apart locals) shown.0 opens
-      (subst (Each Quiet) (sym (append_nil (reply_to s.cluster s.me node.met m))) shown.1)
+      taken_fresh m (if_new node.met (Some d)) [] (subst (λ b. Known s.me b tape) apart known) (subst (λ b. Locals s tape b (take_by m (Some d)).notes) apart locals) shown opens
+      (subst (Each Quiet) (sym (append_nil (reply_to s.cluster s.me node.met m))) (plain_quiet _ (reply_plain s.cluster s.me node.met m)))
   take_fresh m None known locals shown opens =
       let d = if_new node.met (first_settled (map (hears_message s (clock_of node.met) m) node.open_operations)) in
       let apart = onto_append (told_notes s node.met m.from m.body) (decision_note d) (Takes m ∷ node.met) in
-      taken_fresh m d (news s d) (subst (λ b. Known s.me b tape) apart known) (subst (λ b. Locals s tape b (take_by m None).notes) apart locals) shown.0 opens
-      (each_both Quiet (reply_to s.cluster s.me node.met m) (news s d) shown.1 (news_quiet s d))
+      taken_fresh m d (news s d) (subst (λ b. Known s.me b tape) apart known) (subst (λ b. Locals s tape b (take_by m None).notes) apart locals) shown opens
+      (each_both Quiet (reply_to s.cluster s.me node.met m) (news s d) (plain_quiet _ (reply_plain s.cluster s.me node.met m)) (plain_quiet _ (news_plain s d)))
 
   pub step_fresh : (event : Event) → Known s.me (base_of s node event) tape → Locals s tape (base_of s node event) (step s node event).notes → Shown event → Opens node.open_operations
       → StepFresh s usage tape (front_of s node event) (step s node event)

@@ -32,8 +32,7 @@ use Rattle.mega_run_laws.specs.Vouched.{Knows}
 use Rattle.mega_run_laws.proofs.Opened.{Backed, at_place}
 use Rattle.mega_run_laws.proofs.Owned.{Plain}
 use Rattle.mega_run_laws.proofs.Reading.{who}
-use Rattle.mega_run_laws.proofs.Sending.{Stood, took_on}
-use Rattle.mega_leased_laws.proofs.Polls.{StagePolls, Tops, due_polls, hears_polls, no_tops, seeks_polls}
+use Rattle.mega_leased_laws.proofs.Polls.{StagePolls, Tops, due_polls, hears_polls, no_tops, seeks_polls, tops_on}
 use Rattle.mega_fresh_laws.specs.Covering.{Covers, before_begin}
 use Rattle.mega_fresh_laws.proofs.Accepts.{IsAbove, SearchAbove, StageAbove}
 use Rattle.mega_fresh_laws.proofs.Moments.{Onward, covers_on}
@@ -66,19 +65,17 @@ Of (ReadRequested request) group = request.group ≡ group
 Of (Find request) group = request.group ≡ Some group
 Of _ group = Unit {0}
 
+-- a read that polls, by what it was told, and one that has its position, by what holds of that
+abbrev pub StageThrough : Cluster → List Item → OpId → GroupId → (ℕ → Type 0) → Stage → Type 0
+StageThrough c tape op group K (Polling heard best at) = Unit {0} × Tops c tape op group heard best
+StageThrough c tape op group K (Catching through search) = K through
+
 abbrev pub StageFresh : Cluster → List Item → OpId → GroupId → Stage → Type 0
-StageFresh c tape op group (Polling heard best at) = Unit {0} × Tops c tape op group heard best
-StageFresh c tape op group (Catching through search) = Covers tape op group through
+StageFresh c tape op group stage = StageThrough c tape op group (Covers tape op group) stage
 
 abbrev pub PhaseFresh : Cluster → List Item → OpId → Request → Phase → Type 0
 PhaseFresh c tape op request (Reads group r) = (is_full c op.node.0 ≡ true) × (Of request group × StageFresh c tape op group r.stage)
 PhaseFresh c tape op request (Proposes group n asked proposal promised) = Covers tape op group (n - 1)
-
-tops_on : (c : Cluster) (old new : List Item) (op : OpId) (group : GroupId) (heard : List ℕ) (best : ℕ) → Stood old new → Tops c old op group heard best → Tops c new op group heard best
-tops_on c old new op group heard best s h = record {
-  each = λ voter t. let told = h.each voter t in record { top = told.top; heard = took_on old new s _ told.heard; most = told.most };
-  counted = h.counted;
-}
 
 stage_on : (c : Cluster) (op : OpId) (old new : List Item) → Onward op old new → (group : GroupId) (stage : Stage) → StageFresh c old op group stage → StageFresh c new op group stage
 stage_on c op old new o group (Polling heard best at) h = (tt, tops_on c old new op group heard best o.stood h.1)
@@ -90,38 +87,52 @@ phase_on c op old new o request (Proposes group n asked proposal promised) h = c
 
 -- ---- its moves
 
-module _ (c : Cluster) (tape : List Item) (l : Lawful c tape) (q : ArePolls tape) (op : OpId) (group : GroupId) where
+-- where a poll gives what is to hold of the position
+module _ (c : Cluster) (tape : List Item) (op : OpId) (group : GroupId) (K : ℕ → Type 0) (gives : (p : ℕ) → IsPolled c tape op group (record { 0 = p }) → K p) where
   abbrev Any : Option Epoch → Type 0
   Any noted = Unit {0}
 
   abbrev Through : Option Epoch → ℕ → Type 0
-  Through noted p = Covers tape op group p
+  Through noted p = K p
 
   polled : (noted : Option Epoch) (p : ℕ) → Any noted → IsPolled c tape op group (record { 0 = p }) → Through noted p
-  polled noted p any h = polled_covers c tape l q op group p h
+  polled noted p any h = gives p h
 
-  to_polls : (noted : Option Epoch) (stage : Stage) → StageFresh c tape op group stage → StagePolls c tape op group Any Through polled noted stage
+  to_polls : (noted : Option Epoch) (stage : Stage) → StageThrough c tape op group K stage → StagePolls c tape op group Any Through polled noted stage
   to_polls noted (Polling heard best at) h = h
   to_polls noted (Catching through search) h = h
 
-  from_polls : (noted : Option Epoch) (stage : Stage) → StagePolls c tape op group Any Through polled noted stage → StageFresh c tape op group stage
+  from_polls : (noted : Option Epoch) (stage : Stage) → StagePolls c tape op group Any Through polled noted stage → StageThrough c tape op group K stage
   from_polls noted (Polling heard best at) h = h
   from_polls noted (Catching through search) h = h
 
-  pub hears_fresh : (r : Reading) (from now : ℕ) (body : Body) → StageFresh c tape op group r.stage → Took tape (message from op.node.0 body) → StageFresh c tape op group ((hears (who c op group) r from now body).reading).stage
-  hears_fresh r from now body h took = from_polls ((hears (who c op group) r from now body).reading).noted ((hears (who c op group) r from now body).reading).stage
+  pub hears_through : (r : Reading) (from now : ℕ) (body : Body) → StageThrough c tape op group K r.stage → Took tape (message from op.node.0 body) → StageThrough c tape op group K ((hears (who c op group) r from now body).reading).stage
+  hears_through r from now body h took = from_polls ((hears (who c op group) r from now body).reading).noted ((hears (who c op group) r from now body).reading).stage
       (hears_polls c tape op group Any Through polled r from now body (to_polls r.noted r.stage h) took)
 
-  pub due_fresh : (r : Reading) (retry now : ℕ) → StageFresh c tape op group r.stage → StageFresh c tape op group ((falls_due (who c op group) r retry now).reading).stage
-  due_fresh r retry now h = from_polls ((falls_due (who c op group) r retry now).reading).noted ((falls_due (who c op group) r retry now).reading).stage
+  pub due_through : (r : Reading) (retry now : ℕ) → StageThrough c tape op group K r.stage → StageThrough c tape op group K ((falls_due (who c op group) r retry now).reading).stage
+  due_through r retry now h = from_polls ((falls_due (who c op group) r retry now).reading).noted ((falls_due (who c op group) r retry now).reading).stage
       (due_polls c tape op group Any Through polled r retry now (to_polls r.noted r.stage h))
 
-  pub seeks_fresh : (r : Reading) (least now : ℕ) → StageFresh c tape op group r.stage → StageFresh c tape op group ((seeks (who c op group) r least now).reading).stage
-  seeks_fresh r least now h = from_polls ((seeks (who c op group) r least now).reading).noted ((seeks (who c op group) r least now).reading).stage
+  pub seeks_through : (r : Reading) (least now : ℕ) → StageThrough c tape op group K r.stage → StageThrough c tape op group K ((seeks (who c op group) r least now).reading).stage
+  seeks_through r least now h = from_polls ((seeks (who c op group) r least now).reading).noted ((seeks (who c op group) r least now).reading).stage
       (seeks_polls c tape op group Any Through polled r least now (to_polls r.noted r.stage h))
 
+  pub polled_begins : (noted : Option Epoch) (asked : List ℕ) (now : ℕ) → StageThrough c tape op group K ((polled_read (who c op group) noted asked now).reading).stage
+  polled_begins noted asked now = (tt, no_tops c tape op group)
+
+module _ (c : Cluster) (tape : List Item) (l : Lawful c tape) (q : ArePolls tape) (op : OpId) (group : GroupId) where
+  pub hears_fresh : (r : Reading) (from now : ℕ) (body : Body) → StageFresh c tape op group r.stage → Took tape (message from op.node.0 body) → StageFresh c tape op group ((hears (who c op group) r from now body).reading).stage
+  hears_fresh r from now body h took = hears_through c tape op group (Covers tape op group) (polled_covers c tape l q op group) r from now body h took
+
+  pub due_fresh : (r : Reading) (retry now : ℕ) → StageFresh c tape op group r.stage → StageFresh c tape op group ((falls_due (who c op group) r retry now).reading).stage
+  due_fresh r retry now h = due_through c tape op group (Covers tape op group) (polled_covers c tape l q op group) r retry now h
+
+  pub seeks_fresh : (r : Reading) (least now : ℕ) → StageFresh c tape op group r.stage → StageFresh c tape op group ((seeks (who c op group) r least now).reading).stage
+  seeks_fresh r least now h = seeks_through c tape op group (Covers tape op group) (polled_covers c tape l q op group) r least now h
+
   pub polled_fresh : (noted : Option Epoch) (asked : List ℕ) (now : ℕ) → StageFresh c tape op group ((polled_read (who c op group) noted asked now).reading).stage
-  polled_fresh noted asked now = (tt, no_tops c tape op group)
+  polled_fresh noted asked now = polled_begins c tape op group (Covers tape op group) (polled_covers c tape l q op group) noted asked now
 
 -- ---- its rounds
 

@@ -1,39 +1,31 @@
--- The greatest position that a node accepted or decided is no lower than any that its tape shows of it.
-use Rattle.std.proofs.Common.{◌≡◌, ◌⊎◌, inl, inr, ℕ, ◌+◌, max, ◌≤◌, ◌==◌, ◌&&◌, Bool, true, false, not, cond, List, [], ◌∷◌, flat_map, map, Some, refl, sym, subst, arith, ap, ◌∙◌}
+-- The greatest position of a node is no lower than any that it accepted, or decided among some notes; and which decisions a tape shows of these.
+use Rattle.std.proofs.Common.{ℕ, ◌≡◌, ◌⊎◌, inl, inr, max, ◌≤◌, ◌==◌, ◌&&◌, Bool, true, false, not, cond, List, [], ◌∷◌, flat_map, Some, refl, sym, subst, arith, ap, ◌∙◌}
 use Rattle.mega_base.specs.declared.names.GroupId.{GroupId}
 use Rattle.mega_base.specs.declared.names.Position.{Position}
 use Rattle.mega_ballot.specs.declared.ballot.Ballot.{Ballot}
 use Rattle.mega_cluster.specs.declared.cluster.Cluster.{Cluster}
 use Rattle.mega_entry.specs.declared.content.Content.{Content}
-use Rattle.mega_handler.specs.Named.{Meanings}
 use Rattle.mega_wal.specs.Acceptor.{Promised, Voted}
 use Rattle.mega_wal.specs.Same.{same_group}
 use Rattle.mega_wal.proofs.Sames.{same_group_self}
-use Rattle.mega_wire.specs.declared.message.Message.{Message}
 use Rattle.mega_wire.specs.declared.message.Body.{Body}
 use Rattle.mega_wire.specs.declared.message.Body.TheVariants.{Accepted, Promise}
 use Rattle.mega_transcript.specs.declared.item.Item.{Item}
-use Rattle.mega_transcript.specs.declared.item.Item.TheVariants.{Answer, Apply, Begin, Counts as CountsItem, Crash, Decide, Forgets as ForgetsItem, Grant, Invalid, Lapse as LapseItem, Lost as LostItem, Sent, Serving, Start, Tick, Unsafe, Unsent, Valid}
-use Rattle.mega_transcript.specs.Tape.{sent_count}
+use Rattle.mega_transcript.specs.declared.item.Item.TheVariants.{Answer, Apply, Begin, Counts as CountsItem, Crash, Decide, Forgets as ForgetsItem, Grant, Invalid, Lapse as LapseItem, Lost as LostItem, Serving, Start, Tick, Unsafe, Unsent, Valid}
 use Rattle.mega_promises.specs.Items.{number, shown}
 use Rattle.mega_promises.specs.Messages.{is_unsafe}
 use Rattle.mega_promises.specs.Promises.{Stands}
-use Rattle.mega_promises.specs.Runs.{Happening, IsRun, Standing, breaks, goes_on, met_in, opening, set_at, setting, with_item, with_items}
+use Rattle.mega_promises.specs.Runs.{breaks, with_item, with_items}
 use Rattle.mega_rules.specs.Met.{Met, Starts, Crashes, Ticks, Begins, Takes, Sends, Unsends, Grants, Lapses, Counts, Forgets, Serves, Loses, Validates, Invalidates, Decides, Applies, Answers}
 use Rattle.mega_rules.specs.Logs.{accepted_at, top_of}
 use Rattle.mega_rules.specs.Operations.{Node}
-use Rattle.mega_rules.specs.Steps.{Event, Step, crashed, onto, start, start_items, step}
+use Rattle.mega_rules.specs.Steps.{onto}
 use Rattle.mega_rules.specs.Voting.{act_if, act_in, acts}
 use Rattle.mega_tape_laws.specs.Places.{In}
 use Rattle.mega_tape_laws.proofs.Ballots.{number_is}
 use Rattle.mega_tape_laws.proofs.Lists.{from_cons}
-use Rattle.mega_run_laws.specs.Vouched.{sent}
 use Rattle.mega_run_laws.proofs.Noted.{with_append}
-use Rattle.mega_run_laws.proofs.Runs.{IsMark}
-use Rattle.mega_valid_laws.proofs.Folds.{IsOwn}
-use Rattle.mega_leased_laws.proofs.Forms.{Anything, Holds, any_keeps, down, run_holds, stepped}
-use Rattle.mega_leased_laws.proofs.Told.{step_met}
-use Rattle.mega_leased_laws.proofs.Cells.{at_me, by_node, occurs_own}
+use Rattle.mega_leased_laws.proofs.Tops.{max_first, then_most, top_onto}
 
 both : (a b : Bool) → (a && b) ≡ true → (a ≡ true) × (b ≡ true)
 both true b h = (refl, h)
@@ -80,33 +72,7 @@ top_most (_ ∷ before) g n b e i = top_most before g n b e i
 pub votes_most : (met : List Met) (g : GroupId) (n : ℕ) (b : Ballot) (e : Content) → In (Voted b e) (acts met g n) → n ≤ top_of met g
 votes_most met g n b e i = top_most met g n b e i
 
--- ---- what a node met more
-
-same_most : (a : ℕ) → a ≤ a
-same_most a = omega arith
-
-then_most : (a b d : ℕ) → a ≤ b → b ≤ d → a ≤ d
-then_most a b d h k = omega (arith, h, k)
-
-max_grows : (a b : ℕ) → b ≤ max a b
-max_grows a b = omega arith
-
-max_first : (a b : ℕ) → a ≤ max a b
-max_first a b = omega arith
-
-if_grows : (t : Bool) (a b : ℕ) → b ≤ cond t (max a b) b
-if_grows true a b = max_grows a b
-if_grows false a b = same_most b
-
-pub top_more : (one : Met) (met : List Met) (g : GroupId) → top_of met g ≤ top_of (one ∷ met) g
-top_more (Decides group position entry) met g = if_grows (same_group group g) position (top_of met g)
-top_more (Sends m) met g = max_grows (accepted_at g m.body) (top_of met g)
-top_more (Unsends m) met g = max_grows (accepted_at g m.body) (top_of met g)
-top_more _ met g = same_most (top_of met g)
-
-pub top_onto : (notes met : List Met) (g : GroupId) → top_of met g ≤ top_of (onto notes met) g
-top_onto [] met g = same_most (top_of met g)
-top_onto (one ∷ notes) met g = then_most (top_of met g) (top_of (one ∷ met) g) (top_of (onto notes (one ∷ met)) g) (top_more one met g) (top_onto notes (one ∷ met) g)
+-- ---- what a node noted
 
 -- what was decided among these notes
 pub noted_most : (notes met : List Met) (g : GroupId) (n : ℕ) (e : Content) → In (Decides g n e) notes → n ≤ top_of (onto notes met) g
@@ -199,103 +165,3 @@ module _ (c : Cluster) (nodes : ℕ → Node) (me v : ℕ) (g : GroupId) (n : Po
     | inl found ↦ inl (found.0, inr found.1)
     | inr k ↦ elim (note_stood t note k) [ inl is ↦ inl (is.0, inl is.1) | inr before ↦ inr before ]
   ]
-
-  pub sends_stood : (k : ℕ) (ms : List Message) (t : List Item) → Stands Decided (sent k ms t) → Stands Decided t
-  sends_stood k [] t s = s
-  sends_stood k (m ∷ ms) t s = by (sends_stood (k + 1) ms (Sent k m ∷ t) s)
-    where
-      by : (Sent k m ≡ Decided) ⊎ Stands Decided t → Stands Decided t
-      by (inl is) = clash (is_decide (Sent k m)) (ap is_decide is) refl
-      by (inr before) = before
-
--- ---- in every run
-
-abbrev pub Topped : List Item → (ℕ → Node) → (ℕ → List Met) → Type 0
-Topped tape nodes owed = (v : ℕ) (g : GroupId) (n : Position) (e : Content) → Stands (Decide (number v) g n e) tape → n.0 ≤ top_of (nodes v).met g
-
-own_other : (item : Item) → IsOwn item → (v : ℕ) (g : GroupId) (n : Position) (e : Content) → item ≡ Decide (number v) g n e → ⊥
-own_other item own v g n e is = by (subst IsOwn is own)
-  where
-    by : IsOwn (Decide (number v) g n e) → ⊥
-    by h = h
-
-mark_other : (item : Item) → IsMark item → (v : ℕ) (g : GroupId) (n : Position) (e : Content) → item ≡ Decide (number v) g n e → ⊥
-mark_other item own v g n e is = by (subst IsMark is own)
-  where
-    by : IsMark (Decide (number v) g n e) → ⊥
-    by h = h
-
-module _ (old : ℕ → Node) (me : ℕ) (node : Node) where
-  grown : (v : ℕ) (g : GroupId) (n : ℕ) → ((g' : GroupId) → top_of (old me).met g' ≤ top_of node.met g') → n ≤ top_of (old v).met g → n ≤ top_of (set_at old me node v).met g
-  grown v g n more le = by_node (λ w x. n ≤ top_of (old w).met g → n ≤ top_of x.met g) old me node (λ h. then_most n (top_of (old me).met g) (top_of node.met g) h (more g)) (λ w apart h. h) v le
-
-  mine : (v : ℕ) (g : GroupId) (n : ℕ) → me ≡ v → n ≤ top_of node.met g → n ≤ top_of (set_at old me node v).met g
-  mine v g n same le = subst (λ w. n ≤ top_of (set_at old me node w).met g) same (subst (λ (x : Node). n ≤ top_of x.met g) (sym (at_me old me node)) le)
-
-topped_holds : (c : Cluster) → Holds c Anything Topped
-topped_holds c = record {
-  steps = λ h now me item event g p up o plain k v group n e s. by_step h now me item event (occurs_own now.tape (setting c h me) (now.node me).met item event o) k v group n e s;
-  cuts = λ h now me item event kept g p up o k v group n e s. by_cut h now me item event (occurs_own now.tape (setting c h me) (now.node me).met item event o) k v group n e s;
-  starts = λ h now me count g p less k v group n e s. by_start h now me count k v group n e s;
-  falls = λ now me g p k v group n e s. by_fall now me k v group n e s;
-  marks = λ now item is g p k v group n e s. elim s [ inl same ↦ absurd (mark_other item is v group n e same) | inr before ↦ k v group n e before ];
-}
-  where
-    by_step : (h : Meanings) (now : Standing) (me : ℕ) (item : Item) (event : Event) → IsOwn item → Topped now.tape now.node now.owed
-        → Topped (stepped c (set_at now.node me (step (setting c h me) (now.node me) event).node) me now.tape item (step (setting c h me) (now.node me) event)) (set_at now.node me (step (setting c h me) (now.node me) event).node) now.owed
-    by_step h now me item event own k v group n e s = elim (notes_stood c those me v group n e made.notes (item ∷ now.tape) (sends_stood c those me v group n e (sent_count now.tape + 1) made.sends _ s)) [
-      | inl found ↦ mine now.node me made.node v group n.0 found.0 (subst (λ met. n.0 ≤ top_of met group) (sym (step_met (setting c h me) (now.node me) event))
-          (then_most n.0 (top_of (onto made.notes first) group) (top_of (onto (map Sends made.sends) (onto made.notes first)) group) (noted_most made.notes first group n.0 e found.1) (top_onto (map Sends made.sends) (onto made.notes first) group)))
-      | inr before ↦ elim before [
-        | inl same ↦ absurd (own_other item own v group n e same)
-        | inr older ↦ grown now.node me made.node v group n.0 more (k v group n e older)
-      ]
-    ]
-      where
-        made : Step
-        made = step (setting c h me) (now.node me) event
-
-        those : ℕ → Node
-        those = set_at now.node me made.node
-
-        first : List Met
-        first = met_in (setting c h me) (now.node me).met event ∷ (now.node me).met
-
-        more : (other : GroupId) → top_of (now.node me).met other ≤ top_of made.node.met other
-        more other = subst (λ met. top_of (now.node me).met other ≤ top_of met other) (sym (step_met (setting c h me) (now.node me) event))
-            (then_most (top_of (now.node me).met other) (top_of (onto made.notes first) other) (top_of (onto (map Sends made.sends) (onto made.notes first)) other)
-            (then_most (top_of (now.node me).met other) (top_of first other) (top_of (onto made.notes first) other) (top_more (met_in (setting c h me) (now.node me).met event) (now.node me).met other) (top_onto made.notes first other))
-            (top_onto (map Sends made.sends) (onto made.notes first) other))
-
-    by_cut : (h : Meanings) (now : Standing) (me : ℕ) (item : Item) (event : Event) → IsOwn item → Topped now.tape now.node now.owed
-        → (v : ℕ) (g : GroupId) (n : Position) (e : Content) → Stands (Decide (number v) g n e) (Crash (number me) ∷ item ∷ now.tape) → n.0 ≤ top_of (set_at now.node me (down (met_in (setting c h me) (now.node me).met event) (now.node me)) v).met g
-    by_cut h now me item event own k v group n e (inl is) = cc
-    by_cut h now me item event own k v group n e (inr (inl same)) = absurd (own_other item own v group n e same)
-    by_cut h now me item event own k v group n e (inr (inr older)) = grown now.node me (down (met_in (setting c h me) (now.node me).met event) (now.node me)) v group n.0
-        (λ other. top_more (met_in (setting c h me) (now.node me).met event) (now.node me).met other) (k v group n e older)
-
-    by_fall : (now : Standing) (me : ℕ) → Topped now.tape now.node now.owed → (v : ℕ) (g : GroupId) (n : Position) (e : Content) → Stands (Decide (number v) g n e) (Crash (number me) ∷ now.tape) → n.0 ≤ top_of (set_at now.node me (crashed (now.node me)) v).met g
-    by_fall now me k v group n e (inl is) = cc
-    by_fall now me k v group n e (inr before) = grown now.node me (crashed (now.node me)) v group n.0 (λ other. same_most (top_of (now.node me).met other)) (k v group n e before)
-
-    by_start : (h : Meanings) (now : Standing) (me count : ℕ) → Topped now.tape now.node now.owed → (v : ℕ) (g : GroupId) (n : Position) (e : Content)
-        → Stands (Decide (number v) g n e) (with_items c (set_at now.node me (start (setting c h me) count (now.owed me) (now.node me).met)) now.tape (flat_map (shown me) (start_items (setting c h me) count (now.owed me) (now.node me).met)))
-        → n.0 ≤ top_of (set_at now.node me (start (setting c h me) count (now.owed me) (now.node me).met) v).met g
-    by_start h now me count k v group n e s = elim (notes_stood c those me v group n e items now.tape s) [
-      | inl found ↦ mine now.node me fresh v group n.0 found.0 (noted_most items (now.node me).met group n.0 e found.1)
-      | inr before ↦ grown now.node me fresh v group n.0 (λ other. top_onto items (now.node me).met other) (k v group n e before)
-    ]
-      where
-        items : List Met
-        items = start_items (setting c h me) count (now.owed me) (now.node me).met
-
-        fresh : Node
-        fresh = start (setting c h me) count (now.owed me) (now.node me).met
-
-        those : ℕ → Node
-        those = set_at now.node me fresh
-
-pub run_topped : (c : Cluster) (first : Meanings) (events : List Happening) (tape : List Item) → (run : IsRun c first events tape) → (v : ℕ) (g : GroupId) (n : Position) (e : Content) → Stands (Decide (number v) g n e) tape
-    → n.0 ≤ top_of ((goes_on c run.cuts (opening c first) events).node v).met g
-run_topped c first events tape run v g n e s =
-    run_holds c Anything (any_keeps c) Topped (topped_holds c) first events tape run tt (λ w h m d none. absurd none) v g n e (subst (Stands (Decide (number v) g n e)) run.tape_is s)

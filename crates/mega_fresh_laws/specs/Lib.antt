@@ -1,2 +1,2 @@
 pub mod Covering
-pub mod Fresh
+pub mod Stale

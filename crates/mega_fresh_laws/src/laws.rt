@@ -10,6 +10,7 @@ ghost use Rattle.mega_entry.specs.declared.content.Content.{Content};
 ghost use Rattle.mega_handler.specs.Named.{Meanings};
 ghost use Rattle.mega_transcript.specs.declared.item.Item.{Item};
 ghost use Rattle.mega_transcript.specs.declared.item.Item.TheVariants.{Decide};
+ghost use Rattle.mega_promises.specs.Fresh.{IsFresh};
 ghost use Rattle.mega_promises.specs.Promises.{Stands};
 ghost use Rattle.mega_promises.specs.Runs.{Happening, IsRun};
 ghost use Rattle.mega_tape_laws.specs.Polls.{IsPolled};
@@ -19,7 +20,6 @@ ghost use Rattle.mega_settled_laws.specs.Covering.{Earlier};
 ghost use Rattle.mega_valid_laws.specs.Leases.{has_polled};
 ghost use Rattle.mega_leased_laws.specs.Items.{Are};
 ghost use Rattle.mega_fresh_laws.specs.Covering.{IsFreshItem};
-ghost use Rattle.mega_fresh_laws.specs.Fresh.{ReadsAreFresh};
 
 /// In every run a poll of a majority of the voters covers each position that was decided before its operation first asked about the group, whether leases are
 /// safe or not (CIDR 2011, current reads).
@@ -35,11 +35,11 @@ pub fn each_answer_and_proposal_is_fresh()
     ensures { (c : Cluster) (usage : Usage) (first : Meanings) (events : List Happening) (tape : List Item) → length c.nodes ≤ 9 → c.cells ≤ 5 → IsRun c first events tape → Fits usage events → Are (IsFreshItem c usage) tape }
 {}
 
-/// So all that is promised of the freshness of a run holds, but of what a poll covers between its operation's begin and the poll: a current read, and a find over
-/// an index of a group, is answered or turned by the log of its group through a position that covers each that was decided anywhere before it began, as long as
-/// leases are safe by its answer; transactions and batches are turned, and any operation finds the log at its limit, by such a log; and what an operation
-/// proposes as its own stands right above the position through which it read, and is what a transaction or a batch comes to there (CIDR 2011, current reads and
-/// transactions).
-pub fn reads_and_writes_are_fresh()
-    ensures { (c : Cluster) (usage : Usage) (first : Meanings) (events : List Happening) (tape : List Item) → length c.nodes ≤ 9 → c.cells ≤ 5 → IsRun c first events tape → Fits usage events → ReadsAreFresh c usage.meaning tape }
+/// So all that is promised of the freshness of a run holds: a current read, and a find over an index of a group, is answered or turned by the log of its group
+/// through a position that covers each that was decided anywhere before it began, as long as leases are safe by its answer; transactions and batches are turned,
+/// and any operation finds the log at its limit, by such a log; what an operation proposes as its own stands right above the position through which it read, and
+/// is what a transaction or a batch comes to there; and where the operation polled the group it stands above each position that was decided before it first asked,
+/// whether leases are safe or not (CIDR 2011, current reads and transactions).
+pub fn runs_are_fresh()
+    ensures { (c : Cluster) (usage : Usage) (first : Meanings) (events : List Happening) (tape : List Item) → length c.nodes ≤ 9 → c.cells ≤ 5 → IsRun c first events tape → Fits usage events → IsFresh c usage.meaning tape }
 {}

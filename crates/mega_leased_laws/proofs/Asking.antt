@@ -1,6 +1,6 @@
 -- The operations of a node act one after another: each that noted an epoch began its poll while that epoch served, and asked no group before that it
 -- did not read.
-use Rattle.std.proofs.Common.{◌≡◌, ◌⊎◌, inl, inr, ℕ, zero, suc, ◌+◌, ◌==◌, ◌&&◌, ◌||◌, ◌≤◌, ◌<◌, nat_le, nat_lt, Bool, true, false, cond, List, [], ◌∷◌, ◌++◌, length, map, fold, Option, Some, None, refl, sym, ap, ◌∙◌, subst, arith}
+use Rattle.std.proofs.Common.{ℕ, ◌≡◌, ◌⊎◌, inl, inr, zero, suc, ◌+◌, ◌==◌, ◌&&◌, ◌||◌, ◌≤◌, ◌<◌, nat_le, nat_lt, Bool, true, false, cond, List, [], ◌∷◌, ◌++◌, length, map, fold, Option, Some, None, refl, sym, ap, ◌∙◌, subst, arith}
 use Rattle.std.proofs.lemmas.Bool.Decides.{nat_tests}
 use Rattle.std.specs.List.{list_any}
 use Rattle.mega_base.specs.declared.names.Epoch.{Epoch}
@@ -37,14 +37,14 @@ use Rattle.mega_tape_laws.specs.Lawful.{message}
 use Rattle.mega_tape_laws.specs.Polls.{IsPolled}
 use Rattle.mega_run_laws.specs.Vouched.{Each}
 use Rattle.mega_run_laws.proofs.Prefixes.{IsDecided, prefix_decided}
-use Rattle.mega_run_laws.proofs.Sending.{Stood, took_on}
+use Rattle.mega_run_laws.proofs.Sending.{Stood}
 use Rattle.mega_run_laws.proofs.Turns.{IsRising, each_on, each_push}
 use Rattle.mega_settled_laws.specs.Covering.{Earlier}
 use Rattle.mega_settled_laws.proofs.Tapes.{each_both, earlier_stood, then_later}
 use Rattle.mega_settled_laws.proofs.Turns.{numbers_apart}
 use Rattle.mega_valid_laws.specs.Leases.{asks_end, has_polled, serving_on}
-use Rattle.mega_leased_laws.proofs.Polls.{ReadPolls, StagePolls, Tops, due_polls, hears_polls, no_tops, seeks_polls}
-use Rattle.mega_leased_laws.proofs.Walk.{Walks, begun_it, goes_on_it}
+use Rattle.mega_leased_laws.proofs.Polls.{ReadPolls, StagePolls, due_polls, hears_polls, no_tops, polled_on, seeks_polls, tops_on}
+use Rattle.mega_leased_laws.proofs.Walk.{Walks, begun_it, caught, goes_on_it}
 use Rattle.mega_leased_laws.proofs.Wheres.{EndsBody, EndsOf, falls_due_ends, hears_ends, polled_ends, seeks_ends, takes_ends, asks_ends, due_ends}
 
 -- ---- messages that ask where a log ends
@@ -53,7 +53,7 @@ abbrev pub polls_in : List Message → OpId → GroupId → Bool
 polls_in [] op group = false
 polls_in (m ∷ ms) op group = asks_end op group m.body || polls_in ms op group
 
-either_false : (a b : Bool) → a ≡ false → b ≡ false → (a || b) ≡ false
+pub either_false : (a b : Bool) → a ≡ false → b ≡ false → (a || b) ≡ false
 either_false true b h k = h
 either_false false b h k = k
 
@@ -61,11 +61,11 @@ neither : (a b : Bool) → (a || b) ≡ false → (a ≡ false) × (b ≡ false)
 neither true b h = cc
 neither false b h = (refl, h)
 
-first_false : (a b : Bool) → a ≡ false → (a && b) ≡ false
+pub first_false : (a b : Bool) → a ≡ false → (a && b) ≡ false
 first_false true b h = cc
 first_false false b h = refl
 
-second_false : (a b : Bool) → b ≡ false → (a && b) ≡ false
+pub second_false : (a b : Bool) → b ≡ false → (a && b) ≡ false
 second_false true b h = h
 second_false false b h = refl
 
@@ -146,12 +146,12 @@ below_silent me k x g (m ∷ ms) le own = either_false (asks_end x g m.body) (po
 abbrev pub seen : List GroupId → GroupId → Bool
 seen visited group = list_any (same_group group) visited
 
-seen_before : (visited : List GroupId) (group g : GroupId) → seen (visited ++ group ∷ []) g ≡ false → (seen visited g ≡ false) × (same_group g group ≡ false)
+pub seen_before : (visited : List GroupId) (group g : GroupId) → seen (visited ++ group ∷ []) g ≡ false → (seen visited g ≡ false) × (same_group g group ≡ false)
 seen_before [] group g h = (refl, (neither (same_group g group) false h).0)
 seen_before (one ∷ visited) group g h =
     let parts = neither (same_group g one) (seen (visited ++ group ∷ []) g) h in let rest = seen_before visited group g parts.1 in (either_false (same_group g one) (seen visited g) parts.0 rest.0, rest.1)
 
-seen_now : (visited : List GroupId) (group : GroupId) → seen (visited ++ group ∷ []) group ≡ true
+pub seen_now : (visited : List GroupId) (group : GroupId) → seen (visited ++ group ∷ []) group ≡ true
 seen_now [] group = ap (λ t. t || false) (same_group_self group)
 seen_now (one ∷ visited) group = by (same_group group one) (seen_now visited group)
   where
@@ -160,14 +160,14 @@ seen_now (one ∷ visited) group = by (same_group group one) (seen_now visited g
     by false h = h
 
 -- what was seen is not this one
-not_seen : (visited : List GroupId) (group g : GroupId) → seen visited group ≡ true → seen visited g ≡ false → same_group group g ≡ false
+pub not_seen : (visited : List GroupId) (group g : GroupId) → seen visited group ≡ true → seen visited g ≡ false → same_group group g ≡ false
 not_seen visited group g h k = by (same_group group g) refl
   where
     by : (t : Bool) → same_group group g ≡ t → t ≡ false
     by false e = refl
     by true e = absurd (let clashing = sym h ∙ ap (seen visited) (same_group_equal group g e) ∙ k in cc)
 
-apart_turned : (group g : GroupId) → same_group g group ≡ false → same_group group g ≡ false
+pub apart_turned : (group g : GroupId) → same_group g group ≡ false → same_group group g ≡ false
 apart_turned group g h = by (same_group group g) refl
   where
     by : (t : Bool) → same_group group g ≡ t → t ≡ false
@@ -219,15 +219,9 @@ began_on : (old new : List Item) (me : ℕ) (op : OpId) (group : GroupId) (noted
 began_on old new me op group None later h = tt
 began_on old new me op group (Some epoch) later h = record { moment = h.moment; earlier = then_later h.moment old new h.earlier later; served = h.served; fresh = h.fresh }
 
-polled_on : (c : Cluster) (old new : List Item) (op : OpId) (group : GroupId) (noted : Option Epoch) (p : ℕ) → Stood old new → PolledBy c old op group noted p → PolledBy c new op group noted p
-polled_on c old new op group None p s h = tt
-polled_on c old new op group (Some epoch) p s h = record { test = h.test; majority = h.majority; heard = λ voter t. let told = h.heard voter t in (told.0, took_on old new s _ told.1, told.2) }
-
-tops_on : (c : Cluster) (old new : List Item) (op : OpId) (group : GroupId) (heard : List ℕ) (best : ℕ) → Stood old new → Tops c old op group heard best → Tops c new op group heard best
-tops_on c old new op group heard best s h = record {
-  each = λ voter t. let told = h.each voter t in record { top = told.top; heard = took_on old new s _ told.heard; most = told.most };
-  counted = h.counted;
-}
+polled_by_on : (c : Cluster) (old new : List Item) (op : OpId) (group : GroupId) (noted : Option Epoch) (p : ℕ) → Stood old new → PolledBy c old op group noted p → PolledBy c new op group noted p
+polled_by_on c old new op group None p s h = tt
+polled_by_on c old new op group (Some epoch) p s h = polled_on c old new op group (record { 0 = p }) s h
 
 pub phase_on : (c : Cluster) (old new : List Item) (me : ℕ) (op : OpId) (visited : List GroupId) (phase : Phase) → Earlier old new → PhaseKnows c old me op visited phase → PhaseKnows c new me op visited phase
 phase_on c old new me op visited (Proposes group n asked proposal promised) later k = tt
@@ -236,7 +230,7 @@ phase_on c old new me op visited (Reads group r) later k = by r.noted r.stage k
     by : (noted : Option Epoch) (stage : Stage) → StagePolls c old op group (NotedAt old me op visited group) (Through c old me op visited group) (polled_through c old me op visited group) noted stage
         → StagePolls c new op group (NotedAt new me op visited group) (Through c new me op visited group) (polled_through c new me op visited group) noted stage
     by noted (Polling heard best at) k = ((k.0.0, began_on old new me op group noted later k.0.1), tops_on c old new op group heard best (earlier_stood old new later) k.1)
-    by noted (Catching through search) k = ((k.0.0, began_on old new me op group noted later k.0.1), polled_on c old new op group noted through (earlier_stood old new later) k.1)
+    by noted (Catching through search) k = ((k.0.0, began_on old new me op group noted later k.0.1), polled_by_on c old new op group noted through (earlier_stood old new later) k.1)
 
 -- ---- what a node holds within a step
 
@@ -481,8 +475,9 @@ module _ (s : Setting) (tape : List Item) (base : List Met) (shows : (e : Epoch)
       acts_reads s.cluster tape s.me base now o.id o.visited group _ a.0 (seen_phase s.cluster tape s.me o.id o.visited group r.noted r.stage a.1) (seeks_ends (reader_of s o.id group) r least (clock_of now.met)),
       seeks_polls s.cluster tape o.id group (NotedAt tape s.me o.id o.visited group) (Through s.cluster tape s.me o.id o.visited group) (polled_through s.cluster tape s.me o.id o.visited group) r least (clock_of now.met) a.1,
     );
-    asks_it = λ now o group r n leader own promised a. (
-      acts_reads s.cluster tape s.me base now o.id o.visited group _ a.0 (seen_phase s.cluster tape s.me o.id o.visited group r.noted r.stage a.1) (asks_ends o.id group (site (reader_of s o.id group) (asked_by r) n) leader own (clock_of now.met)),
+    asks_it = λ now o group noted asked p search leader own promised a. (
+      acts_reads s.cluster tape s.me base now o.id o.visited group _ a.0 (seen_phase s.cluster tape s.me o.id o.visited group noted (Catching p search) a.1)
+          (asks_ends o.id group (site (reader_of s o.id group) (asked_by (caught noted asked p search)) (p + 1)) leader own (clock_of now.met)),
       tt,
     );
     visits_it = λ now o before r group message a. visits_acts now (in_phase o (Reads before r)) (asked_by r) group message a.0;

@@ -109,7 +109,7 @@ both : (a b : Bool) → (a && b) ≡ true → (a ≡ true) × (b ≡ true)
 both true b h = (refl, h)
 both false b h = cc
 
-full_in : (c : Cluster) (node : ℕ) → is_full c node ≡ true → In node (full_nodes c)
+pub full_in : (c : Cluster) (node : ℕ) → is_full c node ≡ true → In node (full_nodes c)
 full_in c node full = let parts = both _ _ (both _ _ full).0 in in_filter (is_full c) node (nodes c) full (in_range node 1 (length c.nodes) (low node parts.0) (high node (length c.nodes) parts.1))
   where
     low : (a : ℕ) → nat_le 1 a ≡ true → 1 ≤ a

@@ -27,6 +27,7 @@ use Rattle.mega_tape_laws.specs.Polls.{IsPolled}
 use Rattle.mega_tape_laws.proofs.Ballots.{number_is, number_self}
 use Rattle.mega_run_laws.proofs.Counted.{count_more, majority_is}
 use Rattle.mega_run_laws.proofs.Reading.{who}
+use Rattle.mega_run_laws.proofs.Sending.{Stood, took_on}
 
 both : (a b : Bool) → (a && b) ≡ true → (a ≡ true) × (b ≡ true)
 both true b h = (refl, h)
@@ -195,3 +196,14 @@ module _ (c : Cluster) (tape : List Item) (op : OpId) (group : GroupId) where
 
     pub local_begins : (asked : List ℕ) (top : ℕ) → K None top → ReadPolls (local_read asked top)
     local_begins asked top k = k
+
+-- ---- on a longer tape
+
+pub tops_on : (c : Cluster) (old new : List Item) (op : OpId) (group : GroupId) (heard : List ℕ) (best : ℕ) → Stood old new → Tops c old op group heard best → Tops c new op group heard best
+tops_on c old new op group heard best s h = record {
+  each = λ voter t. let told = h.each voter t in record { top = told.top; heard = took_on old new s _ told.heard; most = told.most };
+  counted = h.counted;
+}
+
+pub polled_on : (c : Cluster) (old new : List Item) (op : OpId) (group : GroupId) (p : Position) → Stood old new → IsPolled c old op group p → IsPolled c new op group p
+polled_on c old new op group p s h = record { test = h.test; majority = h.majority; heard = λ voter t. let told = h.heard voter t in (told.0, took_on old new s _ told.1, told.2) }

@@ -53,22 +53,22 @@ if_grows false a b = omega arith
 max_grows : (a b : ℕ) → b ≤ max a b
 max_grows a b = omega arith
 
-max_first : (a b : ℕ) → a ≤ max a b
+pub max_first : (a b : ℕ) → a ≤ max a b
 max_first a b = omega arith
 
-same_most : (a : ℕ) → a ≤ a
+pub same_most : (a : ℕ) → a ≤ a
 same_most a = omega arith
 
-then_most : (a b d : ℕ) → a ≤ b → b ≤ d → a ≤ d
+pub then_most : (a b d : ℕ) → a ≤ b → b ≤ d → a ≤ d
 then_most a b d h k = omega (arith, h, k)
 
-top_more : (one : Met) (met : List Met) (g : GroupId) → top_of met g ≤ top_of (one ∷ met) g
+pub top_more : (one : Met) (met : List Met) (g : GroupId) → top_of met g ≤ top_of (one ∷ met) g
 top_more (Decides group position entry) met g = if_grows (same_group group g) position (top_of met g)
 top_more (Sends m) met g = max_grows (accepted_at g m.body) (top_of met g)
 top_more (Unsends m) met g = max_grows (accepted_at g m.body) (top_of met g)
 top_more _ met g = same_most (top_of met g)
 
-top_onto : (notes met : List Met) (g : GroupId) → top_of met g ≤ top_of (onto notes met) g
+pub top_onto : (notes met : List Met) (g : GroupId) → top_of met g ≤ top_of (onto notes met) g
 top_onto [] met g = same_most (top_of met g)
 top_onto (one ∷ notes) met g = then_most (top_of met g) (top_of (one ∷ met) g) (top_of (onto notes (one ∷ met)) g) (top_more one met g) (top_onto notes (one ∷ met) g)
 
@@ -260,6 +260,11 @@ stands_topped nodes (other ∷ before) x h (inl same) = subst (IsTopped nodes []
     at_any (Decide node group n entry) k = k
     at_any _ k = tt
 stands_topped nodes (other ∷ before) x h (inr s) = stands_topped nodes before x h.1 s
+
+-- each position that a node decided
+pub run_decided_most : (c : Cluster) (first : Meanings) (events : List Happening) (tape : List Item) → (run : IsRun c first events tape) → (v : ℕ) (g : GroupId) (n : Position) (e : Content) → Stands (Decide (number v) g n e) tape
+    → n.0 ≤ top_of ((goes_on c run.cuts (opening c first) events).node v).met g
+run_decided_most c first events tape run v g n e s = stands_topped (λ w. (goes_on c run.cuts (opening c first) events).node w) tape (Decide (number v) g n e) (run_topped c first events tape run) s
 
 at_most_top : (nodes : ℕ → Node) (tape : List Item) (node : ℕ) (group : GroupId) (n : Position) → Are (IsTopped nodes) tape → HasAtLeast tape node group n → n.0 ≤ top_of (nodes node).met group
 at_most_top nodes tape node group n h (accepted key to op m b e le s) = then_most n.0 m.0 (top_of (nodes node).met group) le

@@ -81,19 +81,20 @@ use Rattle.mega_leased_laws.proofs.Epochs.{Before, Epoching, IsTold, Tells, epoc
 use Rattle.mega_leased_laws.proofs.Asking.{AllActed, Kept, MayNote, OpenAt, Own, OwnBody, ValidNote, all_heard_acted, all_ticked_acted, begins_acted, phase_on, polls_both, polls_in}
 use Rattle.mega_leased_laws.proofs.Beating.{Beats, IsIdle, IsNoCall, NoGrant, NoGrantBody, Uncalled, beaten_at, beaten_met, beaten_on, fronts_beat, fronts_no_call, idle_none, invalid_most, next_beaten, step_beats, step_idle, step_unchanged, tells_beaten, uncalled_all, uncalled_idle, uncalled_serves, own_idle}
 
--- ---- what a node sends by itself, and its reply, asks no end of a log
+-- ---- what a node sends by itself, and its reply, asks no end of a log and proposes nothing
 
-abbrev NoWhere : Body → Type 0
-NoWhere (Where op group) = ⊥
-NoWhere _ = Unit {0}
+abbrev pub NoRequest : Body → Type 0
+NoRequest (Where op group) = ⊥
+NoRequest (Accept op group n b e) = ⊥
+NoRequest _ = Unit {0}
 
-abbrev Plain : Message → Type 0
-Plain m = NoWhere m.body
+abbrev pub Plain : Message → Type 0
+Plain m = NoRequest m.body
 
 plain_own : (me k : ℕ) (m : Message) → Plain m → Own me k m
 plain_own me k m h = by m.body h
   where
-    by : (body : Body) → NoWhere body → OwnBody me k body
+    by : (body : Body) → NoRequest body → OwnBody me k body
     by (Where op group) none = absurd none
     by _ none = tt
 
@@ -109,7 +110,7 @@ plain_silent : (ms : List Message) (op : OpId) (group : GroupId) → Each Plain 
 plain_silent [] op group h = refl
 plain_silent (m ∷ ms) op group h = either_false (asks_end op group m.body) (polls_in ms op group) (by m.body h.0) (plain_silent ms op group h.1)
   where
-    by : (body : Body) → NoWhere body → asks_end op group body ≡ false
+    by : (body : Body) → NoRequest body → asks_end op group body ≡ false
     by (Where asking g) none = absurd none
     by _ none = refl
 
@@ -127,32 +128,32 @@ plain_if false ms h = tt
 
 abbrev PlainAnswer : Option Body → Type 0
 PlainAnswer None = Unit {0}
-PlainAnswer (Some body) = NoWhere body
+PlainAnswer (Some body) = NoRequest body
 
-served : (t : Bool) (body : Body) → NoWhere body → PlainAnswer (where_served t body)
+served : (t : Bool) (body : Body) → NoRequest body → PlainAnswer (where_served t body)
 served true body is = is
 served false body is = tt
 
-prepared_plain : (op : OpId) (group : GroupId) (n : Position) (b : Ballot) (a : PromiseAnswer) → NoWhere (promise_body op group n b a)
+prepared_plain : (op : OpId) (group : GroupId) (n : Position) (b : Ballot) (a : PromiseAnswer) → NoRequest (promise_body op group n b a)
 prepared_plain op group n b (promise.Yes report) = tt
 prepared_plain op group n b (promise.Shown greater) = tt
 
-voted_plain : (op : OpId) (group : GroupId) (n : Position) (b : Ballot) (e : Content) (a : AcceptAnswer) → NoWhere (vote_body op group n b e a)
+voted_plain : (op : OpId) (group : GroupId) (n : Position) (b : Ballot) (e : Content) (a : AcceptAnswer) → NoRequest (vote_body op group n b e a)
 voted_plain op group n b e vote.Yes = tt
 voted_plain op group n b e (vote.Shown greater) = tt
 voted_plain op group n b e (vote.Other other) = tt
 
-fetched_plain : (op : OpId) (group : GroupId) (n : Position) (found : Option Content) → NoWhere (fetched op group n found)
+fetched_plain : (op : OpId) (group : GroupId) (n : Position) (found : Option Content) → NoRequest (fetched op group n found)
 fetched_plain op group n None = tt
 fetched_plain op group n (Some entry) = tt
 
-lock_plain : (cell : ℕ) (epoch : Epoch) (clock : ℕ) (asked : Asked) → NoWhere (lock_answer cell epoch clock asked)
+lock_plain : (cell : ℕ) (epoch : Epoch) (clock : ℕ) (asked : Asked) → NoRequest (lock_answer cell epoch clock asked)
 lock_plain cell epoch clock Granted = tt
 lock_plain cell epoch clock Renewed = tt
 lock_plain cell epoch clock (TakenBy greatest) = tt
 lock_plain cell epoch clock (Over greatest) = tt
 
-held_plain : (op : OpId) (cell : ℕ) (node : NodeId) (held : Option Epoch) → NoWhere (held_answer op cell node held)
+held_plain : (op : OpId) (cell : ℕ) (node : NodeId) (held : Option Epoch) → NoRequest (held_answer op cell node held)
 held_plain op cell node None = tt
 held_plain op cell node (Some epoch) = tt
 
@@ -170,21 +171,21 @@ message_plain : (me to : ℕ) (o : Option Body) → PlainAnswer o → Each Plain
 message_plain me to None h = tt
 message_plain me to (Some body) h = (h, tt)
 
-reply_plain : (c : Cluster) (me : ℕ) (met : List Met) (m : Message) → Each Plain (reply_to c me met m)
+pub reply_plain : (c : Cluster) (me : ℕ) (met : List Met) (m : Message) → Each Plain (reply_to c me met m)
 reply_plain c me met m = message_plain me m.from (answer_to c me met m.from m.body) (answer_plain c me met m.from m.body)
 
-news_plain : (s : Setting) (d : Option Decision) → Each Plain (news s d)
+pub news_plain : (s : Setting) (d : Option Decision) → Each Plain (news s d)
 news_plain s None = tt
 news_plain s (Some d) = plain_map (decide_to s.me d) (λ to. tt) (others s.me (nodes s.cluster))
 
-background_plain : (s : Setting) (met : List Met) (now : ℕ) → Each Plain (background s met now)
+pub background_plain : (s : Setting) (met : List Met) (now : ℕ) → Each Plain (background s met now)
 background_plain s met now =
     plain_if (has_rows s.cluster s.me && does_again (s.cluster).retry (ticks_of met) now) (flat_map (fetches_for s met) (groups_of met))
     (plain_flat (fetches_for s met)
     (λ group. plain_if (nat_lt (prefix_of met group) (newest_of met group)) (map (fetch_to s met group) (others s.me (voters s.cluster))) (plain_map (fetch_to s met group) (λ to. tt) (others s.me (voters s.cluster))))
     (groups_of met))
 
-acquires_plain : (s : Setting) (met : List Met) (now : ℕ) → Each Plain (acquires_at s.cluster s.me met now)
+pub acquires_plain : (s : Setting) (met : List Met) (now : ℕ) → Each Plain (acquires_at s.cluster s.me met now)
 acquires_plain s met now = by (acquires_at s.cluster s.me met now) (acquires_are s.cluster s.me met now)
   where
     by : (ms : List Message) → All (Acquires s.cluster s.me met now) ms → Each Plain ms
@@ -582,7 +583,7 @@ module _ (c : Cluster) (nodes' : ℕ → Node) (me : ℕ) where
 
 -- ---- what was asked
 
-silent_polled : (tape : List Item) (item : Item) (op : OpId) (group : GroupId) → IsSilent item → has_polled (item ∷ tape) op group ≡ has_polled tape op group
+pub silent_polled : (tape : List Item) (item : Item) (op : OpId) (group : GroupId) → IsSilent item → has_polled (item ∷ tape) op group ≡ has_polled tape op group
 silent_polled tape (Sent key m) op group h = absurd h
 silent_polled tape _ op group h = refl
 
@@ -604,7 +605,7 @@ sent_polled n (m ∷ ms) tape op group h k = let parts = neither (asks_end op gr
     sent_polled (n + 1) ms (Sent n m ∷ tape) op group parts.1 (either_false (asks_end op group m.body) (has_polled tape op group) parts.0 k)
 
 -- who asked nothing asked about no group
-unasked_unpolled : (tape : List Item) (op : OpId) (group : GroupId) → has_asked tape op ≡ false → has_polled tape op group ≡ false
+pub unasked_unpolled : (tape : List Item) (op : OpId) (group : GroupId) → has_asked tape op ≡ false → has_polled tape op group ≡ false
 unasked_unpolled [] op group h = refl
 unasked_unpolled (Sent key m ∷ tape) op group h = let parts = neither (is_asking op m.body) (has_asked tape op) h in
     either_false (asks_end op group m.body) (has_polled tape op group) (by m.body parts.0) (unasked_unpolled tape op group parts.1)
@@ -666,14 +667,14 @@ granted_full c j m (item ∷ before) told given (inr s) = granted_full c j m bef
 clash : {X : Type 0} (t : Bool) → t ≡ true → t ≡ false → X
 clash t h k = absurd (let both = sym h ∙ k in cc)
 
-not_worn : (t : Bool) (o : Option Answer) → cond t (Some Worn) o ≡ None → t ≡ false
+pub not_worn : (t : Bool) (o : Option Answer) → cond t (Some Worn) o ≡ None → t ≡ false
 not_worn true o h = cc
 not_worn false o h = refl
 
 less_is : (a b : ℕ) → nat_le a b ≡ false → b < a
 less_is a b h = grind (arith, nat_tests)
 
-next_is : (b last : ℕ) → nat_le (last - 1) b ≡ false → b + 1 ≤ min (b + 1) last
+pub next_is : (b last : ℕ) → nat_le (last - 1) b ≡ false → b + 1 ≤ min (b + 1) last
 next_is b last h = let less = less_is (last - 1) b h in omega (arith, less)
 
 plain_decided : (notes met : List Met) → Each IsPlain notes → (g : GroupId) (n : ℕ) → decided (onto notes met) g n ≡ decided met g n
@@ -699,7 +700,7 @@ own_decided s met (Tick clock) g n = refl
 own_decided s met (Take m) g n = refl
 own_decided s met (Begin request text) g n = refl
 
-own_item : (item : Item) → IsOwn item → IsSilent item
+pub own_item : (item : Item) → IsOwn item → IsSilent item
 own_item (Sent key m) h = absurd h
 own_item _ h = tt
 

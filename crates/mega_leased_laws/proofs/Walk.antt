@@ -32,18 +32,23 @@ use Rattle.mega_rules.specs.Operations.{Now, Operation, Phase, Promised, Propose
 use Rattle.mega_rules.specs.Acting.{acts, acts_within, applied_logs, batch_sealed, begins_read, completes_read, ends, enters, finishes, goes_on, handles, handling, in_phase, is_taken, keeps, leader_after, listed_at, picks_group, picks_message, proposes, proposes_by, read_begun, reader_of, reads_on, rows_at, sealed, sends_more, table_rows, unless_decided, unless_full, visiting}
 use Rattle.mega_rules.specs.Steps.{begins, find_begins, local_find_begins, new_operation, read_begins, unless_refused}
 
+-- a read that has its position
+abbrev pub caught : Option Epoch → List ℕ → ℕ → Option Search → Reading
+caught noted asked p search = record { noted = noted; asked = asked; stage = Catching p search }
+
 -- what one operation's moves lead to: `B` is what holds as it begins, `W` while it acts, and `P` once it has acted
 pub record Walks (s : Setting) (B P : OpId → Now → Type 0) (W : Now → Operation → Type 0) : Type 0 where
   pub keeps_it : (now : Now) (o : Operation) → W now o → P o.id (keeps now o)
   pub ends_it : (now : Now) (o : Operation) (answer : Answer) → W now o → P o.id (ends now o.id answer)
   pub completes_it : (now : Now) (o : Operation) (group : GroupId) (noted : Option Epoch) (asked : List ℕ) (p : ℕ) (search : Option Search)
-      → nat_le p (prefix_of now.met group) ≡ true → W now (in_phase o (Reads group (record { noted = noted; asked = asked; stage = Catching p search })))
-      → W (completes_read s now group (record { noted = noted; asked = asked; stage = Catching p search }) p) (in_phase o (Reads group (record { noted = noted; asked = asked; stage = Catching p search })))
+      → nat_le p (prefix_of now.met group) ≡ true → W now (in_phase o (Reads group (caught noted asked p search)))
+      → W (completes_read s now group (caught noted asked p search) p) (in_phase o (Reads group (caught noted asked p search)))
   pub seeks_it : (now : Now) (o : Operation) (group : GroupId) (r : Reading) (least : ℕ) → W now (in_phase o (Reads group r))
       → W (sends_more now (seeks (reader_of s o.id group) r least (clock_of now.met)).sends) (in_phase o (Reads group (seeks (reader_of s o.id group) r least (clock_of now.met)).reading))
-  pub asks_it : (now : Now) (o : Operation) (group : GroupId) (r : Reading) (n leader : ℕ) (own : Content) (promised : Promised) → W now (in_phase o (Reads group r))
-      → W (sends_more now (asks (site (reader_of s o.id group) (asked_by r) n) leader own (clock_of now.met)).sends)
-      (in_phase o (Proposes group n (asked_by r) (asks (site (reader_of s o.id group) (asked_by r) n) leader own (clock_of now.met)).proposal promised))
+  pub asks_it : (now : Now) (o : Operation) (group : GroupId) (noted : Option Epoch) (asked : List ℕ) (p : ℕ) (search : Option Search) (leader : ℕ) (own : Content) (promised : Promised)
+      → W now (in_phase o (Reads group (caught noted asked p search)))
+      → W (sends_more now (asks (site (reader_of s o.id group) (asked_by (caught noted asked p search)) (p + 1)) leader own (clock_of now.met)).sends)
+      (in_phase o (Proposes group (p + 1) (asked_by (caught noted asked p search)) (asks (site (reader_of s o.id group) (asked_by (caught noted asked p search)) (p + 1)) leader own (clock_of now.met)).proposal promised))
   pub visits_it : (now : Now) (o : Operation) (before : GroupId) (r : Reading) (group : GroupId) (message : Option Enter) → W now (in_phase o (Reads before r))
       → W (sends_more now (read_begun s now o group (asked_by r)).sends) (visiting o group message (read_begun s now o group (asked_by r)))
   pub first_it : (now : Now) (id : OpId) (request : Request) (clock : ℕ) (group : GroupId) (message : Option Enter) → B id now
@@ -83,34 +88,34 @@ module _ (s : Setting) (B P : OpId → Now → Type 0) (W : Now → Operation �
     unless_decided_it now o n promised None h = l.keeps_it now o h
     unless_decided_it now o n promised (Some entry) h = l.ends_it now o _ h
 
-    proposes_by_it : (now : Now) (o : Operation) (group : GroupId) (r : Reading) (p : ℕ) (own : Content) (promised : Promised) (leader : Option ℕ) → W now (in_phase o (Reads group r))
-        → P o.id (proposes_by s now (in_phase o (Reads group r)) group r p own promised leader)
-    proposes_by_it now o group r p own promised None h = l.keeps_it now (in_phase o (Reads group r)) h
-    proposes_by_it now o group r p own promised (Some leader) h =
-        unless_decided_it (sends_more now (asks (site (reader_of s o.id group) (asked_by r) (p + 1)) leader own (clock_of now.met)).sends)
-        (in_phase o (Proposes group (p + 1) (asked_by r) (asks (site (reader_of s o.id group) (asked_by r) (p + 1)) leader own (clock_of now.met)).proposal promised))
-        (p + 1) promised (decided now.met group (p + 1)) (l.asks_it now o group r (p + 1) leader own promised h)
+    proposes_by_it : (now : Now) (o : Operation) (group : GroupId) (noted : Option Epoch) (asked : List ℕ) (p : ℕ) (search : Option Search) (own : Content) (promised : Promised) (leader : Option ℕ) → W now (in_phase o (Reads group (caught noted asked p search)))
+        → P o.id (proposes_by s now (in_phase o (Reads group (caught noted asked p search))) group (caught noted asked p search) p own promised leader)
+    proposes_by_it now o group noted asked p search own promised None h = l.keeps_it now (in_phase o (Reads group (caught noted asked p search))) h
+    proposes_by_it now o group noted asked p search own promised (Some leader) h =
+        unless_decided_it (sends_more now (asks (site (reader_of s o.id group) (asked_by (caught noted asked p search)) (p + 1)) leader own (clock_of now.met)).sends)
+        (in_phase o (Proposes group (p + 1) (asked_by (caught noted asked p search)) (asks (site (reader_of s o.id group) (asked_by (caught noted asked p search)) (p + 1)) leader own (clock_of now.met)).proposal promised))
+        (p + 1) promised (decided now.met group (p + 1)) (l.asks_it now o group noted asked p search leader own promised h)
 
-    proposes_it : (now : Now) (o : Operation) (group : GroupId) (r : Reading) (p : ℕ) (own : Content) (promised : Promised) → W now (in_phase o (Reads group r))
-        → P o.id (proposes s now (in_phase o (Reads group r)) group r p own promised)
-    proposes_it now o group r p own promised h = proposes_by_it now o group r p own promised (leader_after s now group p) h
+    proposes_it : (now : Now) (o : Operation) (group : GroupId) (noted : Option Epoch) (asked : List ℕ) (p : ℕ) (search : Option Search) (own : Content) (promised : Promised) → W now (in_phase o (Reads group (caught noted asked p search)))
+        → P o.id (proposes s now (in_phase o (Reads group (caught noted asked p search))) group (caught noted asked p search) p own promised)
+    proposes_it now o group noted asked p search own promised h = proposes_by_it now o group noted asked p search own promised (leader_after s now group p) h
 
-    sealed_it : (now : Now) (o : Operation) (group : GroupId) (r : Reading) (p : ℕ) (result : Result Done Turned) → W now (in_phase o (Reads group r)) → P o.id (sealed s now (in_phase o (Reads group r)) group r p result)
-    sealed_it now o group r p (Err turn) h = l.ends_it now (in_phase o (Reads group r)) _ h
-    sealed_it now o group r p (Ok done) h = proposes_it now o group r p (entry_of_done o.id done) (Replies done.replies) h
+    sealed_it : (now : Now) (o : Operation) (group : GroupId) (noted : Option Epoch) (asked : List ℕ) (p : ℕ) (search : Option Search) (result : Result Done Turned) → W now (in_phase o (Reads group (caught noted asked p search))) → P o.id (sealed s now (in_phase o (Reads group (caught noted asked p search))) group (caught noted asked p search) p result)
+    sealed_it now o group noted asked p search (Err turn) h = l.ends_it now (in_phase o (Reads group (caught noted asked p search))) _ h
+    sealed_it now o group noted asked p search (Ok done) h = proposes_it now o group noted asked p search (entry_of_done o.id done) (Replies done.replies) h
 
-    batch_sealed_it : (now : Now) (o : Operation) (group : GroupId) (r : Reading) (p : ℕ) (b : Batch) → W now (in_phase o (Reads group r)) → P o.id (batch_sealed s now (in_phase o (Reads group r)) group r p b)
-    batch_sealed_it now o group r p b h = either o.id (list_any is_taken b.results) _ _ (proposes_it now o group r p (entry_of_batch o.id b) (Results b.results) h) (l.ends_it now (in_phase o (Reads group r)) _ h)
+    batch_sealed_it : (now : Now) (o : Operation) (group : GroupId) (noted : Option Epoch) (asked : List ℕ) (p : ℕ) (search : Option Search) (b : Batch) → W now (in_phase o (Reads group (caught noted asked p search))) → P o.id (batch_sealed s now (in_phase o (Reads group (caught noted asked p search))) group (caught noted asked p search) p b)
+    batch_sealed_it now o group noted asked p search b h = either o.id (list_any is_taken b.results) _ _ (proposes_it now o group noted asked p search (entry_of_batch o.id b) (Results b.results) h) (l.ends_it now (in_phase o (Reads group (caught noted asked p search))) _ h)
 
-    enters_it : (now : Now) (o : Operation) (group : GroupId) (r : Reading) (p : ℕ) (message : Option Enter) → W now (in_phase o (Reads group r)) → P o.id (enters s again now (in_phase o (Reads group r)) group r p message)
-    enters_it now o group r p None h = picks_message_it now o group r (next_to_enter o.id (applied_logs now)) h
-    enters_it now o group r p (Some message) h = either o.id (is_named message.name (names_entered (take p (log_of now.met group)))) _ _
-        (picks_message_it now o group r (next_to_enter o.id (applied_logs now)) h) (proposes_it now o group r p (enter_entry o.id message) (Replies []) h)
+    enters_it : (now : Now) (o : Operation) (group : GroupId) (noted : Option Epoch) (asked : List ℕ) (p : ℕ) (search : Option Search) (message : Option Enter) → W now (in_phase o (Reads group (caught noted asked p search))) → P o.id (enters s again now (in_phase o (Reads group (caught noted asked p search))) group (caught noted asked p search) p message)
+    enters_it now o group noted asked p search None h = picks_message_it now o group (caught noted asked p search) (next_to_enter o.id (applied_logs now)) h
+    enters_it now o group noted asked p search (Some message) h = either o.id (is_named message.name (names_entered (take p (log_of now.met group)))) _ _
+        (picks_message_it now o group (caught noted asked p search) (next_to_enter o.id (applied_logs now)) h) (proposes_it now o group noted asked p search (enter_entry o.id message) (Replies []) h)
 
-    handles_it : (now : Now) (o : Operation) (group : GroupId) (r : Reading) (p : ℕ) (message : Option Enter) → W now (in_phase o (Reads group r)) → P o.id (handles s again now (in_phase o (Reads group r)) group r p message)
-    handles_it now o group r p None h = picks_group_it now o group r (next_to_handle (applied_logs now)) h
-    handles_it now o group r p (Some message) h = either o.id (has s.handlers message.queue) _ _
-        (proposes_it now o group r p (handling s o.id group message (table_rows s.cluster.schema group (listed_at now group p))) (Replies []) h) (l.ends_it now (in_phase o (Reads group r)) _ h)
+    handles_it : (now : Now) (o : Operation) (group : GroupId) (noted : Option Epoch) (asked : List ℕ) (p : ℕ) (search : Option Search) (message : Option Enter) → W now (in_phase o (Reads group (caught noted asked p search))) → P o.id (handles s again now (in_phase o (Reads group (caught noted asked p search))) group (caught noted asked p search) p message)
+    handles_it now o group noted asked p search None h = picks_group_it now o group (caught noted asked p search) (next_to_handle (applied_logs now)) h
+    handles_it now o group noted asked p search (Some message) h = either o.id (has s.handlers message.queue) _ _
+        (proposes_it now o group noted asked p search (handling s o.id group message (table_rows s.cluster.schema group (listed_at now group p))) (Replies []) h) (l.ends_it now (in_phase o (Reads group (caught noted asked p search))) _ h)
 
     unless_full_it : (now : Now) (o : Operation) (p : ℕ) (next : Now) → W now o → P o.id next → P o.id (unless_full s now o p next)
     unless_full_it now o p next h k = either o.id (nat_le (s.cluster.limit).0 p) _ next (l.ends_it now o _ h) k
@@ -119,28 +124,28 @@ module _ (s : Setting) (B P : OpId → Now → Type 0) (W : Now → Operation �
       abbrev one : Request → Phase → Operation
       one request phase = record { id = id; request = request; began = began; visited = visited; message = message; phase = phase }
 
-      finishes_by : (now : Now) (request : Request) (group : GroupId) (r : Reading) (p : ℕ) → W now (one request (Reads group r)) → P id (finishes s again now (one request (Reads group r)) group r p)
-      finishes_by now (Txn transaction) group r p h =
-          unless_full_it now (one (Txn transaction) (Reads group r)) p _ h (sealed_it now (one (Txn transaction) (Reads group r)) group r p (outcome s.cluster.schema transaction (rows_at now group p)) h)
-      finishes_by now (BatchRequest own transactions) group r p h =
-          unless_full_it now (one (BatchRequest own transactions) (Reads group r)) p _ h
-          (batch_sealed_it now (one (BatchRequest own transactions) (Reads group r)) group r p (batch_outcome s.cluster.schema own transactions (rows_at now group p)) h)
-      finishes_by now (ReadRequested request) group r p h = l.ends_it now (one (ReadRequested request) (Reads group r)) _ h
-      finishes_by now (Find request) group r p h = l.ends_it now (one (Find request) (Reads group r)) _ h
-      finishes_by now PumpEnter group r p h = unless_full_it now (one PumpEnter (Reads group r)) p _ h (enters_it now (one PumpEnter (Reads group r)) group r p message h)
-      finishes_by now PumpHandle group r p h =
-          unless_full_it now (one PumpHandle (Reads group r)) p _ h (handles_it now (one PumpHandle (Reads group r)) group r p (oldest_unhandled (take p (log_of now.met group))) h)
-      finishes_by now Refresh group r p h = l.keeps_it now (one Refresh (Reads group r)) h
+      finishes_by : (now : Now) (request : Request) (group : GroupId) (noted : Option Epoch) (asked : List ℕ) (p : ℕ) (search : Option Search) → W now (one request (Reads group (caught noted asked p search))) → P id (finishes s again now (one request (Reads group (caught noted asked p search))) group (caught noted asked p search) p)
+      finishes_by now (Txn transaction) group noted asked p search h =
+          unless_full_it now (one (Txn transaction) (Reads group (caught noted asked p search))) p _ h (sealed_it now (one (Txn transaction) (Reads group (caught noted asked p search))) group noted asked p search (outcome s.cluster.schema transaction (rows_at now group p)) h)
+      finishes_by now (BatchRequest own transactions) group noted asked p search h =
+          unless_full_it now (one (BatchRequest own transactions) (Reads group (caught noted asked p search))) p _ h
+          (batch_sealed_it now (one (BatchRequest own transactions) (Reads group (caught noted asked p search))) group noted asked p search (batch_outcome s.cluster.schema own transactions (rows_at now group p)) h)
+      finishes_by now (ReadRequested request) group noted asked p search h = l.ends_it now (one (ReadRequested request) (Reads group (caught noted asked p search))) _ h
+      finishes_by now (Find request) group noted asked p search h = l.ends_it now (one (Find request) (Reads group (caught noted asked p search))) _ h
+      finishes_by now PumpEnter group noted asked p search h = unless_full_it now (one PumpEnter (Reads group (caught noted asked p search))) p _ h (enters_it now (one PumpEnter (Reads group (caught noted asked p search))) group noted asked p search message h)
+      finishes_by now PumpHandle group noted asked p search h =
+          unless_full_it now (one PumpHandle (Reads group (caught noted asked p search))) p _ h (handles_it now (one PumpHandle (Reads group (caught noted asked p search))) group noted asked p search (oldest_unhandled (take p (log_of now.met group))) h)
+      finishes_by now Refresh group noted asked p search h = l.keeps_it now (one Refresh (Reads group (caught noted asked p search))) h
 
       reads_on_by : (now : Now) (request : Request) (group : GroupId) (noted : Option Epoch) (asked : List ℕ) (stage : Stage) → W now (one request (Reads group (record { noted = noted; asked = asked; stage = stage })))
           → P id (reads_on s again now (one request (Reads group (record { noted = noted; asked = asked; stage = stage }))) group (record { noted = noted; asked = asked; stage = stage }))
       reads_on_by now request group noted asked (Polling heard best at) h = l.keeps_it now (one request (Reads group (record { noted = noted; asked = asked; stage = Polling heard best at }))) h
       reads_on_by now request group noted asked (Catching p search) h = either_so id (nat_le p (prefix_of now.met group)) _ _
-          (λ has_all. finishes_by (completes_read s now group (record { noted = noted; asked = asked; stage = Catching p search }) p) request group (record { noted = noted; asked = asked; stage = Catching p search }) p
-          (l.completes_it now (one request (Reads group (record { noted = noted; asked = asked; stage = Catching p search }))) group noted asked p search has_all h))
-          (l.keeps_it (sends_more now (seeks (reader_of s id group) (record { noted = noted; asked = asked; stage = Catching p search }) (prefix_of now.met group + 1) (clock_of now.met)).sends)
-          (one request (Reads group (seeks (reader_of s id group) (record { noted = noted; asked = asked; stage = Catching p search }) (prefix_of now.met group + 1) (clock_of now.met)).reading))
-          (l.seeks_it now (one request (Reads group (record { noted = noted; asked = asked; stage = Catching p search }))) group (record { noted = noted; asked = asked; stage = Catching p search }) (prefix_of now.met group + 1) h))
+          (λ has_all. finishes_by (completes_read s now group (caught noted asked p search) p) request group noted asked p search
+          (l.completes_it now (one request (Reads group (caught noted asked p search))) group noted asked p search has_all h))
+          (l.keeps_it (sends_more now (seeks (reader_of s id group) (caught noted asked p search) (prefix_of now.met group + 1) (clock_of now.met)).sends)
+          (one request (Reads group (seeks (reader_of s id group) (caught noted asked p search) (prefix_of now.met group + 1) (clock_of now.met)).reading))
+          (l.seeks_it now (one request (Reads group (caught noted asked p search))) group (caught noted asked p search) (prefix_of now.met group + 1) h))
 
       acts_by : (now : Now) (request : Request) (phase : Phase) → W now (one request phase) → P id (acts s again now (one request phase))
       acts_by now request (Reads group r) h = reads_on_by now request group r.noted r.asked r.stage h

@@ -23,7 +23,8 @@ use Rattle.mega_tape_laws.proofs.Agreement.{agreement}
 use Rattle.mega_tape_laws.proofs.Answered.{serial}
 use Rattle.mega_tape_laws.proofs.IndexLogs.{indexed, rows_fit}
 use Rattle.mega_tape_laws.proofs.Sending.{messages}
-use Rattle.mega_fresh_laws.proofs.Fresh.{run_reads_fresh}
+use Rattle.mega_fresh_laws.proofs.Fresh.{run_is_fresh}
+use Rattle.mega_settled_laws.proofs.Answering.{run_settled}
 use Rattle.mega_run_laws.specs.Usages.{Fits, FitsOne, IsMeant}
 use Rattle.mega_run_laws.proofs.Events.{each_append}
 use Rattle.mega_run_laws.proofs.Indexing.{asks_values}
@@ -34,6 +35,7 @@ use Rattle.mega_cause_laws.proofs.Told.{run_causes}
 use Rattle.mega_line_laws.proofs.Asking.{clock_asked, request_asked}
 use Rattle.mega_line_laws.proofs.Again.{means}
 use Rattle.mega_line_laws.specs.Clusters.{CanStart}
+use Rattle.mega_leased_laws.proofs.Leased.{run_leased}
 use Rattle.mega_leased_laws.proofs.Tops.{run_fresh}
 use Rattle.mega_line_laws.specs.Meanings.{meaning_in}
 use Rattle.mega_replay.specs.Meanings.{usage}
@@ -103,7 +105,9 @@ replayed c lines events can happen =
       indexed = indexed c (usage c.schema) tape writes declared values;
       rows = rows_fit c (usage c.schema) tape writes declared values;
       local = all_read_all c events can;
-      fresh = run_reads_fresh c (usage c.schema) built_in (in_turn events []) tape can.few (cells_few c.cells can.cells) run fits;
+      fresh = run_is_fresh c (usage c.schema) built_in (in_turn events []) tape can.few (cells_few c.cells can.cells) run fits;
+      settled = run_settled c (usage c.schema) built_in (in_turn events []) tape run fits;
+      leased = run_leased c built_in (in_turn events []) tape can.few run;
     }
 
 -- what an event leads to, where it is not refused

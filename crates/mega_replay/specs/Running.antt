@@ -19,13 +19,15 @@ use Rattle.mega_rules.specs.Clock.{is_up}
 use Rattle.mega_rules.specs.Coordinators.{valid_at}
 use Rattle.mega_rules.specs.Logs.{top_of}
 use Rattle.mega_rules.specs.Members.{is_full}
+use Rattle.mega_promises.specs.Fresh.{IsFresh}
 use Rattle.mega_promises.specs.Messages.{is_unsafe}
 use Rattle.mega_promises.specs.Moments.{StoodOn}
 use Rattle.mega_promises.specs.Promises.{Agree, AreMessages, IsSerial, Stands, asked_for, log_of}
 use Rattle.mega_promises.specs.Runs.{Happening, IsRun, Standing, after_event, by_fuse, goes_on, opening, refusal, unless_refused}
 use Rattle.mega_tape_laws.specs.Indexed.{AreRows, IsIndexed}
 use Rattle.mega_cause_laws.specs.Told.{is_told}
-use Rattle.mega_fresh_laws.specs.Fresh.{ReadsAreFresh}
+use Rattle.mega_settled_laws.specs.Covering.{AreSettled}
+use Rattle.mega_valid_laws.specs.Leases.{AreLeased}
 use Rattle.mega_world.specs.declared.world.World.{World}
 use Rattle.mega_world.specs.Stands.{IsAt}
 use Rattle.mega_line_laws.specs.Clusters.{CanStart}
@@ -77,7 +79,9 @@ AllReadAll c (one ∷ earlier) = AllReadAll c earlier × ReadsAll c (stood c (on
 -- entry with the id of an operation is what that came to over the entries below, and answers are as of one thread; messages between groups
 -- are entered and handled once, in order; answers that a log tells have their causes; what stands in a log under keys that are no row keys is what the local indexes have over the
 -- tables' rows, each of which fits and stands under its own key; behind each line local reads read through all that is decided, while leases are
--- safe; and, as long as leases are safe by its end, what a current read, a find, a transaction or a batch comes to holds all that was decided before it began
+-- safe; as long as leases are safe by its end, what a current read, a find, a transaction or a batch comes to holds all that was decided before it began, and what
+-- an operation proposes that polled stands above all that was decided before it asked, whether leases are safe or not; what is decided, committed or answered of a
+-- batch stands behind what settled its entry; and leases are as the rules have them
 pub record Replayed (c : Cluster) (lines : List (List ℕ)) (events : List Happening) : Type 0 where
   pub happen : AllHappen c lines events
   pub run : IsRun c built_in (in_turn events []) (stood c events).tape
@@ -89,7 +93,9 @@ pub record Replayed (c : Cluster) (lines : List (List ℕ)) (events : List Happe
   pub indexed : (group : GroupId) (p : ℕ) → IsIndexed c.schema group (list_after (take p (log_of (stood c events).tape group)) [])
   pub rows : (group : GroupId) (p : ℕ) → AreRows c.schema group (list_after (take p (log_of (stood c events).tape group)) [])
   pub local : AllReadAll c events
-  pub fresh : ReadsAreFresh c (meaning_in c.schema) (stood c events).tape
+  pub fresh : IsFresh c (meaning_in c.schema) (stood c events).tape
+  pub settled : AreSettled c (stood c events).tape
+  pub leased : AreLeased c (stood c events).tape
 
 -- the world stands as the run does after these lines' events, in a cluster that can start
 pub record StandsAfter (c : Cluster) (lines : List (List ℕ)) (events : List Happening) (world : World) : Type 0 where

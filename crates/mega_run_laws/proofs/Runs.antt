@@ -189,7 +189,7 @@ down_next users c now me starts g le same = record {
     older x (inl less) = inl (omega (arith, less, le))
     older x (inr both) = inr both
 
-crashes_good : (users : Users) → (c : Cluster) (now : Standing) (me : ℕ) → Good users c now → Good users c (crashes now me)
+pub crashes_good : (users : Users) → (c : Cluster) (now : Standing) (me : ℕ) → Good users c now → Good users c (crashes now me)
 crashes_good users c now me g = next_good users c now me (Crash (number me) ∷ now.tape) (crashed (now.node me)) now.log_fuse now.data_fuse now.starts now.records now.owed g (down_next users c now me now.starts g (omega arith) (λ v apart. refl))
 
 cut_start_good : (users : Users) → (c : Cluster) (now : Standing) (me : ℕ) (left : Left) (log_fuse data_fuse : ℕ → Option Fuse) → Good users c now → Good users c (cut_start now me left log_fuse data_fuse)
@@ -262,7 +262,7 @@ owed_shown c me nodes' (one ∷ more) tape met h made known =
       started = rest.started ∙ (first.met_on).start;
     })
 
-start_good : (users : Users) → (c : Cluster) (h : Meanings) (now : Standing) (me : ℕ) → Good users c now
+pub start_good : (users : Users) → (c : Cluster) (h : Meanings) (now : Standing) (me : ℕ) → Good users c now
     → Good users c (whole_start c now me (start_items (setting c h me) (now.starts me + 1) (now.owed me) (now.node me).met) (start (setting c h me) (now.starts me + 1) (now.owed me) (now.node me).met))
 start_good users c h now me g = next_good users c now me _ node2 (log_fuse_after now me true) now.data_fuse (set_at now.starts me (now.starts me + 1)) (started_records now me) (set_at now.owed me []) g
     (coe 1 0 (i. Next users c now me (tape_is i) (record { met = met_is i; open_operations = []; stored = node2.stored }) (set_at now.starts me (now.starts me + 1)) (set_at now.owed me [])) (record {
@@ -347,14 +347,14 @@ start_good users c h now me g = next_good users c now me _ node2 (log_fuse_after
     later x (inl less) = let is = at_self now.starts me (now.starts me + 1) in omega (arith, less, is)
     later x (inr both) = let is = both.0 in let at = started in omega (arith, is, at)
 
-fated_start_good : (users : Users) → (c : Cluster) (h : Meanings) (now : Standing) (me : ℕ) (fate : Fate) → Good users c now → Good users c (fated_start c h now me fate)
+pub fated_start_good : (users : Users) → (c : Cluster) (h : Meanings) (now : Standing) (me : ℕ) (fate : Fate) → Good users c now → Good users c (fated_start c h now me fate)
 fated_start_good users c h now me Whole g = start_good users c h now me g
 fated_start_good users c h now me (CutByLog left) g = cut_start_good users c now me left (set_at now.log_fuse me None) now.data_fuse g
 fated_start_good users c h now me (CutByData left) g = cut_start_good users c now me left (log_fuse_after now me (is_kept left)) (set_at now.data_fuse me None) g
 
 -- ---- events
 
-handed_good : (users : Users) → (c : Cluster) (h : Meanings) → (users.fits → Brought users.usage h) → (cuts : Cuts) (now : Standing) (j : ℕ) (o : Option Message) → message_of now.tape j ≡ o → receiver_up (up now) o ≡ true → Good users c now → Good users c (handed c h cuts now j o)
+pub handed_good : (users : Users) → (c : Cluster) (h : Meanings) → (users.fits → Brought users.usage h) → (cuts : Cuts) (now : Standing) (j : ℕ) (o : Option Message) → message_of now.tape j ≡ o → receiver_up (up now) o ≡ true → Good users c now → Good users c (handed c h cuts now j o)
 handed_good users c h brought cuts now j None is r g = g
 handed_good users c h brought cuts now j (Some m) is r g = fated_good users c now m.to (Taken j) (Takes m) made (reply_to c m.to (now.node m.to).met m) (fate_by now m.to (cuts now m.to) (calls_of c h now m.to (Take m) made)) g (λ n. refl) (own_taken c now.tape j m (now.node m.to).met) (λ x other. tt)
     (owes_notes c tape2 m.to made.notes (map Unsends (reply_to c m.to (now.node m.to).met m)) (each_note_on c (Taken j ∷ now.tape) tape2 (λ item s. inr s) m.to made.notes next.1)
@@ -373,7 +373,7 @@ handed_good users c h brought cuts now j (Some m) is r g = fated_good users c no
     next : StepNext users s now (set_at now.node m.to made.node) (Taken j) (Takes m) made
     next = take_next users s brought now (set_at now.node m.to made.node) j m g r (stands_sent now.tape j m is)
 
-tick_good : (users : Users) → (c : Cluster) (h : Meanings) → (users.fits → Brought users.usage h) → (now : Standing) (me clock : ℕ) (cut : Calls → Fate) → is_up (now.node me).met ≡ true → Good users c now → Good users c (at_node c h now me (shown me (Ticks clock)) (Tick clock) cut)
+pub tick_good : (users : Users) → (c : Cluster) (h : Meanings) → (users.fits → Brought users.usage h) → (now : Standing) (me clock : ℕ) (cut : Calls → Fate) → is_up (now.node me).met ≡ true → Good users c now → Good users c (at_node c h now me (shown me (Ticks clock)) (Tick clock) cut)
 tick_good users c h brought now me clock cut r g = fated_good users c now me (TickItem (number me) clock) (Ticks clock) made [] (fate_by now me cut (calls_of c h now me (Tick clock) made)) g (λ n. refl) (own_tick c now.tape me clock (now.node me).met) (λ x other. tt)
     (owes_notes c (Crash (number me) ∷ TickItem (number me) clock ∷ now.tape) me made.notes [] (each_note_on c (TickItem (number me) clock ∷ now.tape) (Crash (number me) ∷ TickItem (number me) clock ∷ now.tape) (λ item s. inr s) me made.notes next.1) tt)
     (whole_good users s now (TickItem (number me) clock) (Ticks clock) made g (λ n. refl) next)
@@ -387,7 +387,7 @@ tick_good users c h brought now me clock cut r g = fated_good users c now me (Ti
     next : StepNext users s now (set_at now.node me made.node) (TickItem (number me) clock) (Ticks clock) made
     next = ticked_next users s brought now (set_at now.node me made.node) clock g r
 
-begin_good : (users : Users) → (c : Cluster) (h : Meanings) → (users.fits → Brought users.usage h) → (now : Standing) (me : ℕ) (request : Request) (text : List ℕ) (cut : Calls → Fate) → (users.fits → (users.usage).meaning text ≡ Some request) → is_up (now.node me).met ≡ true → Good users c now
+pub begin_good : (users : Users) → (c : Cluster) (h : Meanings) → (users.fits → Brought users.usage h) → (now : Standing) (me : ℕ) (request : Request) (text : List ℕ) (cut : Calls → Fate) → (users.fits → (users.usage).meaning text ≡ Some request) → is_up (now.node me).met ≡ true → Good users c now
     → Good users c (at_node c h now me (shown me (Begins (op_of (setting c h me) (now.node me).met) text)) (Begin request text) cut)
 begin_good users c h brought now me request text cut means r g = fated_good users c now me (BeginItem id text) (Begins id text) made [] (fate_by now me cut (calls_of c h now me (Begin request text) made)) g (λ n. refl) (own_begin c now.tape id text (now.node me).met (never_asked users s now g) (never_begun users s now g)) (begins_other users s now text g)
     (owes_notes c (Crash (number me) ∷ BeginItem id text ∷ now.tape) me made.notes [] (each_note_on c (BeginItem id text ∷ now.tape) (Crash (number me) ∷ BeginItem id text ∷ now.tape) (λ item s. inr s) me made.notes next.1) tt)
@@ -405,7 +405,7 @@ begin_good users c h brought now me request text cut means r g = fated_good user
     next : StepNext users s now (set_at now.node me made.node) (BeginItem id text) (Begins id text) made
     next = begun_next users s brought now (set_at now.node me made.node) request text means g r
 
-marked_good : (users : Users) → (c : Cluster) (now : Standing) (item : Item) → TapeOn c now.tape (item ∷ now.tape) → ((x : OpId) → has_begun (item ∷ now.tape) x ≡ has_begun now.tape x) → ((schema : Schema) (usage : Usage) → IsAnswered schema usage now.tape item) → ((x : OpId) → has_failed (item ∷ now.tape) x ≡ has_failed now.tape x)
+pub marked_good : (users : Users) → (c : Cluster) (now : Standing) (item : Item) → TapeOn c now.tape (item ∷ now.tape) → ((x : OpId) → has_begun (item ∷ now.tape) x ≡ has_begun now.tape x) → ((schema : Schema) (usage : Usage) → IsAnswered schema usage now.tape item) → ((x : OpId) → has_failed (item ∷ now.tape) x ≡ has_failed now.tape x)
     → Good users c now → Good users c (marked now item)
 marked_good users c now item on same answered failed g = record {
   lawful = on.lawful g.lawful;
@@ -423,11 +423,11 @@ marked_good users c now item on same answered failed g = record {
   owed = g.owed;
 }
 
-both_true : (a b : Bool) → (a && b) ≡ true → (a ≡ true) × (b ≡ true)
+pub both_true : (a b : Bool) → (a && b) ≡ true → (a ≡ true) × (b ≡ true)
 both_true true b h = (refl, h)
 both_true false b h = cc
 
-found : (test : ℕ → Bool) (xs : List ℕ) (j : ℕ) → find test xs ≡ Some j → test j ≡ true
+pub found : (test : ℕ → Bool) (xs : List ℕ) (j : ℕ) → find test xs ≡ Some j → test j ≡ true
 found test [] j h = cc
 found test (x ∷ xs) j h = go (test x) refl h (found test xs j)
   where
@@ -452,11 +452,11 @@ drained_good users c h brought cuts (suc most) now g = go (next_delivery (up now
     go None e more = g
     go (Some j) e more = more j (deliverable_good users c h brought cuts now j e g)
 
-not_because : (t : Bool) (why : ℕ) (other : Option ℕ) → because t why other ≡ None → (t ≡ false) × (other ≡ None)
+pub not_because : (t : Bool) (why : ℕ) (other : Option ℕ) → because t why other ≡ None → (t ≡ false) × (other ≡ None)
 not_because true why other h = cc
 not_because false why other h = (refl, h)
 
-not_false : (t : Bool) → not t ≡ false → t ≡ true
+pub not_false : (t : Bool) → not t ≡ false → t ≡ true
 not_false true h = refl
 not_false false h = cc
 
@@ -489,7 +489,7 @@ run_good users c cuts (one ∷ events) now fits g = run_good users c cuts events
     go None r = event_good users c one.handlers (λ f. ((fits f).0).brought) cuts now one.event (λ f. ((fits f).0).meant) r g
     go (Some why) r = g
 
-nothing_good : (users : Users) → (c : Cluster) → Good users c nothing_yet
+pub nothing_good : (users : Users) → (c : Cluster) → Good users c nothing_yet
 nothing_good users c = record {
   lawful = tt;
   node = λ v. record { made = λ q. refl; known = λ g n e h. cc; held = tt; rising = tt; unfailed = tt };

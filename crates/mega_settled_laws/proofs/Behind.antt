@@ -17,9 +17,13 @@ use Rattle.mega_tape_laws.specs.Places.{Place}
 use Rattle.mega_tape_laws.proofs.Lists.{lookback}
 use Rattle.mega_run_laws.proofs.Runs.{run_lawful}
 use Rattle.mega_settled_laws.specs.Covering.{WasCovered}
-use Rattle.mega_settled_laws.proofs.Tapes.{now_is, one_later}
+use Rattle.mega_settled_laws.proofs.Tapes.{lawful_before, now_is, one_later}
 use Rattle.mega_settled_laws.proofs.Settle.{Cause, by_answer, by_news, by_own}
 use Rattle.mega_settled_laws.proofs.Runs.{AreCaused, IsCaused, run_caused}
+
+pub caused_before : (c : Cluster) (later tape : List Item) → AreCaused c (later ++ tape) → AreCaused c tape
+caused_before c [] tape k = k
+caused_before c (item ∷ later) tape k = caused_before c later tape k.1
 
 module _ (c : Cluster) (p : Place) (e : Content) where
   abbrev Decided : NodeId → List Item → Type 0
@@ -40,24 +44,16 @@ module _ (c : Cluster) (p : Place) (e : Content) where
   longer : (tape : List Item) (item : Item) → WasCovered c tape p e → WasCovered c (item ∷ tape) p e
   longer tape item w = record { op = w.op; moment = w.moment; earlier = one_later w.moment tape item w.earlier; settled = w.settled }
 
-  decided_covered : (tape : List Item) → Lawful c tape → AreCaused c tape → (node : NodeId) → Decided node tape → WasCovered c tape p e
+  pub decided_covered : (tape : List Item) → Lawful c tape → AreCaused c tape → (node : NodeId) → Decided node tape → WasCovered c tape p e
   decided_covered [] l k node s = absurd s
   decided_covered (item ∷ before) l k node (inl same) =
       longer before item (cause_covered before l.1 (decided_covered before l.1 k.1) node.0 (subst (IsCaused c before) same k.0))
   decided_covered (item ∷ before) l k node (inr s) = longer before item (decided_covered before l.1 k.1 node s)
 
-  lawful_before : (later tape : List Item) → Lawful c (later ++ tape) → Lawful c tape
-  lawful_before [] tape l = l
-  lawful_before (item ∷ later) tape l = lawful_before later tape l.1
-
-  caused_before : (later tape : List Item) → AreCaused c (later ++ tape) → AreCaused c tape
-  caused_before [] tape k = k
-  caused_before (item ∷ later) tape k = caused_before later tape k.1
-
   pub stood_covered : (tape : List Item) → Lawful c tape → AreCaused c tape → (node : NodeId) (before : List Item) → StoodOn (Decide node p.group p.position e) before tape → WasCovered c before p e
   stood_covered tape l k node before s =
-      let lawful = lawful_before s.later (Decide node p.group p.position e ∷ before) (subst (Lawful c) s.is l) in
-      let caused = caused_before s.later (Decide node p.group p.position e ∷ before) (subst (AreCaused c) s.is k) in
+      let lawful = lawful_before c s.later (Decide node p.group p.position e ∷ before) (subst (Lawful c) s.is l) in
+      let caused = caused_before c s.later (Decide node p.group p.position e ∷ before) (subst (AreCaused c) s.is k) in
       cause_covered before lawful.1 (decided_covered before lawful.1 caused.1) node.0 caused.0
 
 pub run_covered : (c : Cluster) (first : Meanings) (events : List Happening) (tape : List Item) → IsRun c first events tape → (node : NodeId) (p : Place) (e : Content) (before : List Item)

@@ -7,3 +7,4 @@ pub mod Settle
 pub mod Steps
 pub mod Runs
 pub mod Behind
+pub mod Answering

@@ -15,6 +15,11 @@ use Rattle.mega_promises.specs.Runs.{breaks, with_item, with_items}
 use Rattle.mega_propose.specs.Members.{has, joined, without}
 use Rattle.mega_rules.specs.Met.{Met, Starts, Crashes, Ticks, Begins, Takes, Sends, Unsends, Grants, Lapses, Counts, Forgets, Serves, Loses, Validates, Invalidates, Decides, Applies, Answers}
 use Rattle.mega_rules.specs.Operations.{Node}
+use Rattle.mega_schema.specs.declared.schema.Schema.{Schema}
+use Rattle.mega_tape_laws.specs.Answers.{AreAnswered}
+use Rattle.mega_tape_laws.specs.Lawful.{Lawful}
+use Rattle.mega_tape_laws.specs.Polls.{ArePolls}
+use Rattle.mega_tape_laws.specs.Writes.{AreWritten, Usage}
 use Rattle.mega_tape_laws.proofs.Ballots.{number_is}
 use Rattle.mega_run_laws.specs.Vouched.{Each, sent}
 use Rattle.mega_run_laws.proofs.Sending.{Stood}
@@ -45,6 +50,23 @@ earlier_stood moment tape e item s = subst (Stands item) (sym e.is) (stood_behin
 pub sent_later : (n : ℕ) (ms : List Message) (tape : List Item) → Earlier tape (sent n ms tape)
 sent_later n [] tape = now_is tape
 sent_later n (m ∷ ms) tape = then_later tape (Sent n m ∷ tape) (sent (n + 1) ms (Sent n m ∷ tape)) (one_later tape tape (Sent n m) (now_is tape)) (sent_later (n + 1) ms (Sent n m ∷ tape))
+
+-- what holds of each item by what stood before it holds of earlier moments
+pub lawful_before : (c : Cluster) (later tape : List Item) → Lawful c (later ++ tape) → Lawful c tape
+lawful_before c [] tape l = l
+lawful_before c (item ∷ later) tape l = lawful_before c later tape l.1
+
+pub polls_before : (later tape : List Item) → ArePolls (later ++ tape) → ArePolls tape
+polls_before [] tape l = l
+polls_before (item ∷ later) tape l = polls_before later tape l.1
+
+pub written_before : (schema : Schema) (usage : Usage) (later tape : List Item) → AreWritten schema usage (later ++ tape) → AreWritten schema usage tape
+written_before schema usage [] tape w = w
+written_before schema usage (item ∷ later) tape w = written_before schema usage later tape w.1
+
+pub answered_before : (schema : Schema) (usage : Usage) (later tape : List Item) → AreAnswered schema usage (later ++ tape) → AreAnswered schema usage tape
+answered_before schema usage [] tape a = a
+answered_before schema usage (item ∷ later) tape a = answered_before schema usage later tape a.1
 
 module _ (c : Cluster) (nodes : ℕ → Node) where
   item_later : (tape : List Item) (item : Item) → Earlier tape (with_item c nodes tape item)

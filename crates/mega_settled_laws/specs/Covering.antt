@@ -1,16 +1,24 @@
 -- What settles an entry, as a tape shows it (CIDR 2011, write algorithm): a majority accepted it at one ballot, and every full node accepted it at that
 -- ballot, is invalidated, or held no lock at a majority of the cells, of which they were asked after the acceptances alone.
-use Rattle.std.specs.Prelude.{◌≡◌, ℕ, ◌==◌, ◌&&◌, ◌||◌, ◌++◌, Bool, true, false, List, [], ◌∷◌}
+use Rattle.std.specs.Prelude.{◌≡◌, ℕ, ◌==◌, ◌&&◌, ◌||◌, ◌++◌, Bool, true, false, List, [], ◌∷◌, Option, Some, Result}
+use Rattle.mega_base.specs.declared.names.GroupId.{GroupId}
+use Rattle.mega_base.specs.declared.names.NodeId.{NodeId}
 use Rattle.mega_base.specs.declared.names.OpId.{OpId}
+use Rattle.mega_base.specs.declared.names.Position.{Position}
 use Rattle.mega_ballot.specs.declared.ballot.Ballot.{Ballot}
 use Rattle.mega_cluster.specs.declared.cluster.Cluster.{Cluster}
 use Rattle.mega_entry.specs.declared.content.Content.{Content}
 use Rattle.mega_wire.specs.declared.message.Body.{Body}
 use Rattle.mega_wire.specs.declared.message.Body.TheVariants.{Accepted, Dead, Invalidated, Unheld}
 use Rattle.mega_wal.specs.Same.{same_op}
+use Rattle.mega_outcome.specs.declared.answer.Answer.TheVariants.{Batched, Committed}
+use Rattle.mega_outcome.specs.declared.answer.Shown.{Shown}
+use Rattle.mega_outcome.specs.declared.answer.Turn.{Turn}
 use Rattle.mega_transcript.specs.declared.item.Item.{Item}
-use Rattle.mega_transcript.specs.declared.item.Item.TheVariants.{Sent}
+use Rattle.mega_transcript.specs.declared.item.Item.TheVariants.{Answer as AnswerItem, Decide, Sent}
 use Rattle.mega_promises.specs.Items.{number}
+use Rattle.mega_promises.specs.Moments.{StoodOn}
+use Rattle.mega_promises.specs.Promises.{Stands}
 use Rattle.mega_rules.specs.Members.{full_nodes}
 use Rattle.mega_tape_laws.specs.Lawful.{Heard}
 use Rattle.mega_tape_laws.specs.Places.{In, IsMajority, Place}
@@ -55,3 +63,17 @@ pub record WasCovered (c : Cluster) (tape : List Item) (p : Place) (e : Content)
   pub moment : List Item
   pub earlier : Earlier moment tape
   pub settled : HasSettled c moment op p e
+
+-- an operation's own entry is decided at its node, and was settled by then
+pub record OwnSettled (c : Cluster) (tape : List Item) (op : OpId) (n : Position) : Type 0 where
+  pub group : GroupId
+  pub entry : Content
+  pub own : entry.id ≡ Some op
+  pub decided : Stands (Decide op.node group n entry) tape
+  pub covered : WasCovered c tape (record { group = group; position = n }) entry
+
+-- each decision, and each answer that an operation's own entry is in the log, stands behind what settled the entry
+pub record AreSettled (c : Cluster) (tape : List Item) : Type 0 where
+  pub decisions : (node : NodeId) (p : Place) (e : Content) (before : List Item) → StoodOn (Decide node p.group p.position e) before tape → WasCovered c before p e
+  pub committed : (op : OpId) (n : Position) (replies : List (Option Shown)) (before : List Item) → StoodOn (AnswerItem op (Committed n replies)) before tape → OwnSettled c before op n
+  pub batched : (op : OpId) (n : Position) (results : List (Result (List (Option Shown)) Turn)) (before : List Item) → StoodOn (AnswerItem op (Batched n results)) before tape → OwnSettled c before op n

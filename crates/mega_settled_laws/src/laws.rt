@@ -10,7 +10,9 @@ ghost use Rattle.mega_transcript.specs.declared.item.Item.TheVariants.{Decide};
 ghost use Rattle.mega_promises.specs.Moments.{StoodOn};
 ghost use Rattle.mega_promises.specs.Runs.{Happening, IsRun};
 ghost use Rattle.mega_tape_laws.specs.Places.{Place};
-ghost use Rattle.mega_settled_laws.specs.Covering.{WasCovered};
+ghost use Rattle.mega_tape_laws.specs.Writes.{Usage};
+ghost use Rattle.mega_run_laws.specs.Usages.{Fits};
+ghost use Rattle.mega_settled_laws.specs.Covering.{AreSettled, WasCovered};
 
 /// In every run a decision stands behind what settled its entry (CIDR 2011, write algorithm): an operation heard a majority accept it at one ballot,
 /// and of each full node that it accepted at that ballot, that it is invalidated there, or that a majority of the cells, asked only after those
@@ -18,4 +20,10 @@ ghost use Rattle.mega_settled_laws.specs.Covering.{WasCovered};
 pub fn each_decision_stands_behind_what_settled_it()
     ensures { (c : Cluster) (first : Meanings) (events : List Happening) (tape : List Item) → IsRun c first events tape → (node : Node) (p : Place) (e : Content) (before : List Item) →
         StoodOn (Decide node p.group p.position e) before tape → WasCovered c before p e }
+{}
+
+/// So in every run where each text means the request that begins with it each decision, and each answer that an operation's own entry is in the log, alone or
+/// with a batch, stands behind what settled the entry.
+pub fn what_is_committed_was_settled()
+    ensures { (c : Cluster) (usage : Usage) (first : Meanings) (events : List Happening) (tape : List Item) → IsRun c first events tape → Fits usage events → AreSettled c tape }
 {}

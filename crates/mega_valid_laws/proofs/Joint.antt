@@ -23,6 +23,7 @@ use Rattle.mega_tape_laws.specs.Polls.{ArePolls, IsPolling, MayTell}
 use Rattle.mega_tape_laws.proofs.Ballots.{clash, number_is, number_self}
 use Rattle.mega_tape_laws.proofs.Lists.{in_tail, kept}
 use Rattle.mega_tape_laws.proofs.Majorities.{Shared, meet}
+use Rattle.mega_settled_laws.proofs.Tapes.{polls_before}
 use Rattle.mega_settled_laws.specs.Covering.{Earlier, HasSettled, IsCoveredSince, WasCovered, asks_about, free, has_asked_about, invalidated, voted}
 use Rattle.mega_valid_laws.specs.Leases.{AreLeased, HasAtLeast, IsHeld, IsLeased, MayBeValid, MayFree, MayObey, ServedBehind, WasChosen, accepted, asks_end, decided, has_polled, serving_on, valid_on}
 use Rattle.mega_valid_laws.proofs.Epochs.{served_behind, serving_stands}
@@ -56,10 +57,6 @@ leased_before c (item ∷ later) tape l = leased_before c later tape l.1
 
 leased_at : (c : Cluster) (moment tape : List Item) → Earlier moment tape → AreLeased c tape → AreLeased c moment
 leased_at c moment tape e l = leased_before c e.later moment (subst (AreLeased c) e.is l)
-
-polls_before : (later tape : List Item) → ArePolls (later ++ tape) → ArePolls tape
-polls_before [] tape l = l
-polls_before (item ∷ later) tape l = polls_before later tape l.1
 
 -- by what an item that stands was allowed, and when
 record Allowed (c : Cluster) (item : Item) (tape : List Item) : Type 0 where
@@ -105,7 +102,7 @@ vote_heard tape p key voter to op b e s = kept (act_of voter p) (Sent key (messa
 -- ---- a poll
 
 -- what an operation asked stands
-polled_is : (tape : List Item) (key from to : ℕ) (op : OpId) (group : GroupId) → Stands (Sent key (message from to (Where op group))) tape → has_polled tape op group ≡ true
+pub polled_is : (tape : List Item) (key from to : ℕ) (op : OpId) (group : GroupId) → Stands (Sent key (message from to (Where op group))) tape → has_polled tape op group ≡ true
 polled_is [] key from to op group s = absurd s
 polled_is (item ∷ before) key from to op group (inl same) =
     subst (λ x. has_polled (x ∷ before) op group ≡ true) (sym same)
@@ -130,7 +127,7 @@ told_polled (item ∷ before) w key voter to op group top s = then_polled item b
     by (inr t) again = again t
 
 -- a voter that accepted a position before it was asked tells none below it
-told_above : (later moment : List Item) (op : OpId) (group : GroupId) (n top : Position) (voter key to : ℕ) (b : Ballot) (e : Content) → ArePolls (later ++ moment) → has_polled moment op group ≡ false
+pub told_above : (later moment : List Item) (op : OpId) (group : GroupId) (n top : Position) (voter key to : ℕ) (b : Ballot) (e : Content) → ArePolls (later ++ moment) → has_polled moment op group ≡ false
     → In (Voted b e) (acts moment voter (record { group = group; position = n })) → Stands (Sent key (message voter to (Top op group top))) (later ++ moment) → n.0 ≤ top.0
 told_above [] moment op group n top voter key to b e w none vote s = absurd (clash (has_polled moment op group) (told_polled moment w key voter to op group top s) none)
 told_above (item ∷ later) moment op group n top voter key to b e w none vote (inl same) =
