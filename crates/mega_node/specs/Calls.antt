@@ -1,0 +1,69 @@
+-- Calls of a node: it starts over what its log holds, and makes its turns.
+use Rattle.std.specs.Prelude.{◌≡◌, ◌⊎◌, ℕ, true, List, Option}
+use Rattle.mega_cluster.specs.declared.cluster.Cluster.{Cluster}
+use Rattle.mega_disk.specs.declared.disk.Disk.{Ghosts as DiskGhosts}
+use Rattle.mega_handler.specs.Named.{Meaning, Meanings}
+use Rattle.mega_io.specs.Pieces.{AppendsFront}
+use Rattle.mega_journal.specs.Chain.{records_of}
+use Rattle.mega_link.specs.Datagrams.{Datagram}
+use Rattle.mega_meanings.specs.Means.{Means}
+use Rattle.mega_promises.specs.Runs.{setting}
+use Rattle.mega_promises.specs.Served.{Served, Turn, served, served_start}
+use Rattle.mega_rules.specs.Clock.{start_of}
+use Rattle.mega_rules.specs.Operations.{Setting}
+use Rattle.mega_serve.specs.declared.steps.Steps.{Ghosts as StepsGhosts}
+use Rattle.mega_serve.specs.Pages.{GoesOn, Stops}
+use Rattle.mega_serve.specs.Turns.{HasBegun, HasTurned, MayServe, turns_of}
+use Rattle.mega_serve.specs.Wishes.{wish_of}
+use Rattle.mega_voter.specs.Holding.{HoldsMet}
+use Rattle.mega_wal.specs.Records.{history_of}
+use Rattle.mega_node.specs.Headers.{IsBroken, IsHeaded, header_line}
+use Rattle.mega_node.specs.Logs.{AreFound}
+use Rattle.mega_node.specs.Outside.{OnlyWrites, Outside}
+
+-- the node at its start over these records, and after these turns
+abbrev pub started_over : Setting → List (List ℕ) → Served
+started_over s found = served_start s.cluster s.me s.handlers (history_of found)
+
+abbrev pub served_over : Setting → List (List ℕ) → List Turn → Served
+served_over s found turns = served s.cluster s.me (wish_of s.cluster.schema s.me) s.handlers (history_of found) turns
+
+-- of each meaning of the handlers under which the turns may happen
+abbrev pub AtEachRun : {S : Type 0} → StepsGhosts S → (List ℕ → Option Meaning) → Cluster → ℕ → List (List ℕ) → List (ℕ × Option Datagram) → (Served → Type 0) → Type 0
+AtEachRun steps makes c number found given Is =
+    (h : Meanings) → Means makes h → MayServe steps (setting c h number) (started_over (setting c h number) found) (turns_of h given) → Is (served_over (setting c h number) found (turns_of h given))
+
+-- the log holds what the node met
+abbrev pub KeepsMet : {D : Type 0} → DiskGhosts D → D → Served → Type 0
+KeepsMet disks log now = disks.is_told ≡ true → HoldsMet (records_of (disks.seen log)) (start_of now.node.met) now.node.met
+
+-- the node of this number, in the cluster of the header, started over what its log held and made so many turns: its record is held, what stands
+-- there was sent, and its log holds what it met
+pub record HasServed {D S : Type 0} (disks : DiskGhosts D) (steps : StepsGhosts S) (makes : List ℕ → Option Meaning) (number turns : ℕ) (input : Option (List ℕ)) (log left : D) (before after : Outside) : Type 0 where
+  pub cluster : Cluster
+  pub headed : IsHeaded number input cluster
+  pub found : List (List ℕ)
+  pub are_found : AreFound disks log found
+  pub given : List (ℕ × Option Datagram)
+  pub turned : HasTurned turns before.readings after.readings before.taken after.taken given
+  pub recorded : AtEachRun steps makes cluster number found given (λ now. GoesOn cluster.schema before.held after.held before.sent after.sent now.lines)
+  pub kept : AtEachRun steps makes cluster number found given (KeepsMet disks left)
+
+-- it started and began turns, and ended on its way: a front of its record is held, and what was sent stands in it
+pub record HasStopped {D S : Type 0} (disks : DiskGhosts D) (steps : StepsGhosts S) (makes : List ℕ → Option Meaning) (number : ℕ) (input : Option (List ℕ)) (log : D) (before after : Outside) : Type 0 where
+  pub cluster : Cluster
+  pub headed : IsHeaded number input cluster
+  pub found : List (List ℕ)
+  pub are_found : AreFound disks log found
+  pub given : List (ℕ × Option Datagram)
+  pub begun : HasBegun before.readings after.readings before.taken after.taken given
+  pub stops : AtEachRun steps makes cluster number found given (λ now. Stops cluster.schema before.held after.held before.sent after.sent now.lines)
+
+-- a front of the header's last line is held
+abbrev pub IsHeaderCut : ℕ → Option (List ℕ) → Outside → Outside → Type 0
+IsHeaderCut number input before after = (rule : ℕ) × IsBroken number input rule × OnlyWrites before after (λ held more_held. AppendsFront held more_held (header_line rule))
+
+-- what is held is a front of what there was to write: nothing, of the header's last line, or of the record
+abbrev pub IsCut : {D S : Type 0} → DiskGhosts D → StepsGhosts S → (List ℕ → Option Meaning) → ℕ → Option (List ℕ) → D → Outside → Outside → Type 0
+IsCut disks steps makes number input log before after =
+    (after ≡ before) ⊎ (IsHeaderCut number input before after ⊎ HasStopped disks steps makes number input log before after)

@@ -1,0 +1,24 @@
+-- The header of a node: its cluster has the node, and an address for each node.
+use Rattle.std.specs.Prelude.{◌≡◌, ℕ, ◌==◌, if◌then◌else◌, codes, decimal, length, List, ◌++◌, Option, Result, Ok, Err}
+use Rattle.mega_cluster.specs.declared.cluster.Cluster.{Cluster}
+use Rattle.mega_cluster.specs.Header.{◌>>=◌}
+use Rattle.mega_heading.specs.Known.{Told}
+use Rattle.mega_heading.specs.Parts.{cluster_in}
+
+-- a cluster with one address for each node; any other breaks rule 8
+abbrev pub addressed : Cluster → Result Cluster ℕ
+addressed c = if length c.addresses == length c.nodes then Ok c else Err 8
+
+-- the cluster of the header for the node of this number, or the first rule that it breaks
+abbrev pub members_in : ℕ → List ℕ → Result Cluster ℕ
+members_in number input = cluster_in number input >>= addressed
+
+abbrev pub IsHeaded : ℕ → Option (List ℕ) → Cluster → Type 0
+IsHeaded number input c = Told input (λ bytes. members_in number bytes ≡ Ok c)
+
+abbrev pub IsBroken : ℕ → Option (List ℕ) → ℕ → Type 0
+IsBroken number input rule = Told input (λ bytes. members_in number bytes ≡ Err rule)
+
+-- the last line, where the header breaks this rule
+abbrev pub header_line : ℕ → List ℕ
+header_line rule = codes "header " ++ (decimal rule ++ codes "\n")

@@ -1,0 +1,5 @@
+pub mod Statuses
+pub mod Headers
+pub mod Outside
+pub mod Logs
+pub mod Calls

@@ -1,0 +1,8 @@
+//! A node over its socket and its devices, as one call: the header, the link, the start over what the log holds, and the turns.
+#![tactic(auto)]
+
+mod program;
+mod stop;
+
+pub use program::{Outcome, run_node};
+pub use stop::Stop;
