@@ -37,33 +37,36 @@ AtEachRun steps makes c number found given Is =
 abbrev pub KeepsMet : {D : Type 0} → DiskGhosts D → D → Served → Type 0
 KeepsMet disks log now = disks.is_told ≡ true → HoldsMet (records_of (disks.seen log)) (start_of now.node.met) now.node.met
 
--- the node of this number, in the cluster of the header, started over what its log held and made so many turns: its record is held, what stands
+-- the node of this number started over what its log held and made so many turns, those that clock and link tell: its record is held, what stands
 -- there was sent, and its log holds what it met
-pub record HasServed {D S : Type 0} (disks : DiskGhosts D) (steps : StepsGhosts S) (makes : List ℕ → Option Meaning) (number turns : ℕ) (input : Option (List ℕ)) (log left : D) (before after : Outside) : Type 0 where
-  pub cluster : Cluster
-  pub headed : IsHeaded number input cluster
+pub record Ran {D S : Type 0} (disks : DiskGhosts D) (steps : StepsGhosts S) (makes : List ℕ → Option Meaning) (c : Cluster) (number turns : ℕ) (log left : D) (before after : Outside) : Type 0 where
   pub found : List (List ℕ)
   pub are_found : AreFound disks log found
   pub given : List (ℕ × Option Datagram)
   pub turned : HasTurned turns before.readings after.readings before.taken after.taken given
-  pub recorded : AtEachRun steps makes cluster number found given (λ now. GoesOn cluster.schema before.held after.held before.sent after.sent now.lines)
-  pub kept : AtEachRun steps makes cluster number found given (KeepsMet disks left)
+  pub recorded : AtEachRun steps makes c number found given (λ now. GoesOn c.schema before.held after.held before.sent after.sent now.lines)
+  pub kept : AtEachRun steps makes c number found given (KeepsMet disks left)
 
--- it started and began turns, and ended on its way: a front of its record is held, and what was sent stands in it
-pub record HasStopped {D S : Type 0} (disks : DiskGhosts D) (steps : StepsGhosts S) (makes : List ℕ → Option Meaning) (number : ℕ) (input : Option (List ℕ)) (log : D) (before after : Outside) : Type 0 where
-  pub cluster : Cluster
-  pub headed : IsHeaded number input cluster
+-- it started, began turns, and ended on its way: a front of its record is held, and what was sent stands in it
+pub record Halted {D S : Type 0} (disks : DiskGhosts D) (steps : StepsGhosts S) (makes : List ℕ → Option Meaning) (c : Cluster) (number : ℕ) (log : D) (before after : Outside) : Type 0 where
   pub found : List (List ℕ)
   pub are_found : AreFound disks log found
   pub given : List (ℕ × Option Datagram)
   pub begun : HasBegun before.readings after.readings before.taken after.taken given
-  pub stops : AtEachRun steps makes cluster number found given (λ now. Stops cluster.schema before.held after.held before.sent after.sent now.lines)
+  pub stops : AtEachRun steps makes c number found given (λ now. Stops c.schema before.held after.held before.sent after.sent now.lines)
+
+-- the same, in the cluster of the header
+abbrev pub HasRun : {D S : Type 0} → DiskGhosts D → StepsGhosts S → (List ℕ → Option Meaning) → ℕ → ℕ → Option (List ℕ) → D → D → Outside → Outside → Type 0
+HasRun disks steps makes number turns input log left before after = (c : Cluster) × IsHeaded number input c × Ran disks steps makes c number turns log left before after
+
+abbrev pub HasHalted : {D S : Type 0} → DiskGhosts D → StepsGhosts S → (List ℕ → Option Meaning) → ℕ → Option (List ℕ) → D → Outside → Outside → Type 0
+HasHalted disks steps makes number input log before after = (c : Cluster) × IsHeaded number input c × Halted disks steps makes c number log before after
 
 -- a front of the header's last line is held
 abbrev pub IsHeaderCut : ℕ → Option (List ℕ) → Outside → Outside → Type 0
 IsHeaderCut number input before after = (rule : ℕ) × IsBroken number input rule × OnlyWrites before after (λ held more_held. AppendsFront held more_held (header_line rule))
 
--- what is held is a front of what there was to write: nothing, of the header's last line, or of the record
+-- what is held is a front of what there was to write: nothing of it, of the header's last line, or of the record
 abbrev pub IsCut : {D S : Type 0} → DiskGhosts D → StepsGhosts S → (List ℕ → Option Meaning) → ℕ → Option (List ℕ) → D → Outside → Outside → Type 0
 IsCut disks steps makes number input log before after =
-    (after ≡ before) ⊎ (IsHeaderCut number input before after ⊎ HasStopped disks steps makes number input log before after)
+    (after ≡ before) ⊎ (IsHeaderCut number input before after ⊎ HasHalted disks steps makes number input log before after)

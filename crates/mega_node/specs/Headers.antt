@@ -1,7 +1,7 @@
 -- The header of a node: its cluster has the node, and an address for each node.
 use Rattle.std.specs.Prelude.{◌≡◌, ℕ, ◌==◌, if◌then◌else◌, codes, decimal, length, List, ◌++◌, Option, Result, Ok, Err}
 use Rattle.mega_cluster.specs.declared.cluster.Cluster.{Cluster}
-use Rattle.mega_cluster.specs.Header.{◌>>=◌}
+use Rattle.mega_cluster.specs.Header.{◌>>=◌, read_of}
 use Rattle.mega_heading.specs.Known.{Told}
 use Rattle.mega_heading.specs.Parts.{cluster_in}
 
@@ -18,6 +18,10 @@ IsHeaded number input c = Told input (λ bytes. members_in number bytes ≡ Ok c
 
 abbrev pub IsBroken : ℕ → Option (List ℕ) → ℕ → Type 0
 IsBroken number input rule = Told input (λ bytes. members_in number bytes ≡ Err rule)
+
+-- it was read from some text
+abbrev pub IsRead : ℕ → Cluster → Type 0
+IsRead number c = (text : List ℕ) × (read_of number text ≡ Ok c)
 
 -- the last line, where the header breaks this rule
 abbrev pub header_line : ℕ → List ℕ

@@ -20,18 +20,3 @@ status_of (BadRecord number) = 16
 abbrev pub ended_with : Result (Unit {0}) Stop → ℕ
 ended_with (Ok done) = 0
 ended_with (Err stop) = status_of stop
-
--- it is met behind a header that was read
-abbrev pub IsBehindHeader : Stop → Type 0
-IsBehindHeader (Header rule) = ⊥
-IsBehindHeader Source = ⊥
-IsBehindHeader NoMemory = ⊥
-IsBehindHeader Sink = ⊥
-IsBehindHeader _ = Unit {0}
-
--- the log was not opened yet
-abbrev pub IsBeforeOpening : Stop → Type 0
-IsBeforeOpening (Header rule) = Unit {0}
-IsBeforeOpening Source = Unit {0}
-IsBeforeOpening Link = Unit {0}
-IsBeforeOpening _ = ⊥

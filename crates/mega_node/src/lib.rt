@@ -1,7 +1,13 @@
 //! A node over its socket and its devices, as one call: the header, the link, the start over what the log holds, and the turns.
 #![tactic(auto)]
 
+mod heading;
+mod opening;
 mod program;
+mod record;
+mod running;
+mod serving;
+mod starting;
 mod stop;
 
 pub use program::{Outcome, run_node};

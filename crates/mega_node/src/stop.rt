@@ -1,5 +1,9 @@
 //! Why a node's call ends before its turns are made, and its status.
-ghost use Rattle.std.specs.Prelude.{◌≡◌};
+ghost use Rattle.std.specs.Prelude.{◌≡◌, ◌++◌, OnErr, OnOk};
+ghost use Rattle.mega_node.specs.Headers.{header_line};
+
+use mega_base::{Bytes, NoMemory};
+use std::alloc::Global;
 
 /// Why a call ends before its turns are made.
 #[derive(Clone, Copy, PartialEq, Eq, Debug, Drop)]
@@ -44,4 +48,13 @@ impl Stop {
             Stop::BadRecord { .. } => 16,
         }
     }
+}
+
+/// Appends the last line, which tells of the rule that a header breaks. A refusal leaves `out`.
+pub(crate) fn put_rule(alloc: Global, rule: u8, out: &mut Bytes) -> Result<(), NoMemory>
+    ensures ok { OnOk result (out.new ≡ out.old ++ header_line rule) }
+    ensures err { OnErr result (out.new ≡ out.old) }
+{
+    let told = format!(in alloc; "header {rule}\n")?;
+    out.extend_from_slice(told.as_bytes())
 }

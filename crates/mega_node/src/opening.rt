@@ -1,0 +1,58 @@
+//! The logs that a log device holds.
+ghost use Rattle.std.specs.Prelude.{◌≡◌, ◌≤◌, ◌⊎◌, ℕ, [], Some, Err, true, IfErr, IfOk};
+ghost use Rattle.mega_base.specs.Causes.{Rose};
+ghost use Rattle.mega_journal.specs.Chain.{records_of};
+ghost use Rattle.mega_wal.specs.Records.{first_bad};
+ghost use Rattle.mega_node.specs.Logs.{AreOpened};
+ghost use Rattle.mega_node.specs.Stops.{IsOpeningStop};
+
+use crate::stop::Stop;
+use mega_disk::{Disk, RecordError, Records};
+use mega_journal::Journal;
+use mega_voter::Voter;
+use mega_wal::{LogFault, Logs};
+use std::alloc::Global;
+
+/// Why a log device was not opened.
+fn device_stop(error: RecordError) -> Stop
+    ensures device { result ≡ Stop.Device → error ≡ RecordError.DiskFault }
+    ensures only { (result ≡ Stop.Device) ⊎ (result ≡ Stop.NoMemory) }
+{
+    match error {
+        RecordError::DiskFault => Stop::Device,
+        _ => Stop::NoMemory,
+    }
+}
+
+/// Why logs were not opened.
+fn logs_stop(fault: LogFault) -> Stop
+    ensures bad { (n : ℕ) → result ≡ Stop.BadRecord n → fault ≡ LogFault.BadRecord n }
+    ensures only { (result ≡ Stop.NoMemory) ⊎ ((n : ℕ) × (result ≡ Stop.BadRecord n)) }
+{
+    match fault {
+        LogFault::BadRecord { number } => Stop::BadRecord { number },
+        _ => Stop::NoMemory,
+    }
+}
+
+/// Opens the logs that a device holds. A refusal hands the device back.
+pub(crate) fn open_logs<D: Disk + Drop>(
+    alloc: Global,
+    log: D,
+) -> Result<Voter<Journal<D>>, (Stop, D)>
+    ensures opened { IfOk result (λ voter. AreOpened D.Disk ⟦<Journal<D> as Records>⟧ log voter.logs.kept voter.logs.records) }
+    ensures staged { IfOk result (λ voter. voter.logs.staged.items ≡ []) }
+    ensures device { IfErr result (λ refused. refused.0 ≡ Stop.Device → Rose (D.faults log) (D.faults refused.1)) }
+    ensures bad { IfErr result (λ refused. (n : ℕ) → refused.0 ≡ Stop.BadRecord n → D.is_told ≡ true → first_bad (records_of (D.seen log)) ≡ Some n) }
+    ensures only { IfErr result (λ refused. IsOpeningStop refused.0) }
+    ensures later { IfErr result (λ refused. D.faults log ≤ D.faults refused.1) }
+{
+    let journal = match Journal::open(alloc, log) {
+        Ok(journal) => journal,
+        Err((error, log)) => return Err((device_stop(error), log)),
+    };
+    match Logs::open(alloc, journal) {
+        Ok(logs) => Ok(Voter::new(logs)),
+        Err((fault, journal)) => Err((logs_stop(fault), journal.close())),
+    }
+}
