@@ -1,0 +1,141 @@
+-- Why a node did not start, or is served no longer, and what it leaves then.
+use Rattle.std.proofs.Common.{◌≡◌, ◌≢◌, ℕ, ◌+◌, ◌<◌, ◌≤◌, ◌^◌, ◌-◌, inl, inr, min, List, Option, Some, None, refl, sym, ap, subst, ◌∙◌, arith}
+use Rattle.mega_base.specs.Causes.{Rose}
+use Rattle.mega_disk.specs.declared.records.Records.{Ghosts}
+use Rattle.mega_durable.specs.declared.starting.NotStarted.{NotStarted}
+use Rattle.mega_durable.specs.declared.starting.NotStarted.TheVariants as refused
+use Rattle.mega_durable.specs.Starting.{IsRefused}
+use Rattle.mega_serve.specs.declared.fault.NodeFault.{NodeFault}
+use Rattle.mega_serve.specs.declared.fault.NodeFault.TheVariants as node
+use Rattle.mega_serve.specs.declared.fault.ServeFault.{ServeFault}
+use Rattle.mega_serve.specs.declared.fault.ServeFault.TheVariants as serve
+use Rattle.mega_serve.specs.Causes.{IsCaused}
+use Rattle.mega_serve.specs.Stepping.{Devices}
+use Rattle.mega_voter.specs.declared.voter.Voter.{Voter}
+use Rattle.mega_voter.specs.Faring.{LogFares}
+use Rattle.mega_wal.specs.declared.answers.LogFault.{LogFault}
+use Rattle.mega_wal.specs.declared.answers.LogFault.TheVariants as log
+use Rattle.mega_node.specs.declared.stop.Stop.{Stop}
+use Rattle.mega_node.specs.declared.stop.Stop.TheVariants.{BadRecord, Device, Full, Header, Link, NoMemory, Sink, Source, StartsFull, Unformed}
+use Rattle.mega_node.specs.Serving.{IsDue, serve_stop}
+use Rattle.mega_node.specs.Starting.{HandsBack, fault_stop, left_of, start_stop}
+use Rattle.mega_node.specs.Stops.{IsStartStop}
+
+-- ---- a node that did not start
+
+-- what is said of the device, of a full log, and of what is lost
+kept_back : {R : Type 0} (store : Ghosts R) (length : ℕ) (fault : LogFault) (old records : R) → fault ≢ log.DiskFault → LogFares store length (Some fault) old records → HandsBack store.faults (store.faults old) (fault_stop fault) (Some records)
+kept_back store length log.DiskFault old records not went = absurd (not refl)
+kept_back store length (log.Full n) old records not went = record {
+  device = λ is. absurd (cc);
+  full = λ m is. let same : n ≡ m = cc in subst (λ (k : ℕ). 2 ^ 40 < k) same (went.full n refl).0.2;
+  lost = λ is. absurd (cc);
+  later = λ now is. let same : records ≡ now = cc in subst (λ (r : _). store.faults old ≤ store.faults r) same went.later;
+}
+kept_back store length log.Spent old records not went = record {
+  device = λ is. absurd (cc);
+  full = λ m is. absurd (cc);
+  lost = λ is. refl;
+  later = λ now is. let same : records ≡ now = cc in subst (λ (r : _). store.faults old ≤ store.faults r) same went.later;
+}
+kept_back store length (log.BadRecord n) old records not went = record {
+  device = λ is. absurd (cc);
+  full = λ m is. absurd (cc);
+  lost = λ is. refl;
+  later = λ now is. let same : records ≡ now = cc in subst (λ (r : _). store.faults old ≤ store.faults r) same went.later;
+}
+kept_back store length log.NoMemory old records not went = record {
+  device = λ is. absurd (cc);
+  full = λ m is. absurd (cc);
+  lost = λ is. refl;
+  later = λ now is. let same : records ≡ now = cc in subst (λ (r : _). store.faults old ≤ store.faults r) same went.later;
+}
+
+pub handed : {R : Type 0} (store : Ghosts R) (voter : Voter R) (one : NotStarted R) → IsRefused store voter one → HandsBack store.faults (store.faults voter.logs.records) (start_stop one) (left_of one)
+handed store voter (refused.StartsFull records) is = record {
+  device = λ same. absurd (cc);
+  full = λ m same. absurd (cc);
+  lost = λ same. absurd (cc);
+  later = λ now same. let one : records ≡ now = cc in subst (λ (r : _). store.faults voter.logs.records ≤ store.faults r) (sym is.1 ∙ one) (omega arith);
+}
+handed store voter (refused.Cut records) is = record {
+  device = λ same. (records, refl, is.1.cause refl);
+  full = λ m same. absurd (cc);
+  lost = λ same. absurd (cc);
+  later = λ now same. let one : records ≡ now = cc in subst (λ (r : _). store.faults voter.logs.records ≤ store.faults r) one is.1.later;
+}
+handed store voter (refused.Log fault records) is = kept_back store (store.length_with voter.logs.records is.1.0) fault voter.logs.records records is.0 is.1.1
+handed store voter refused.NoMemory is = record {
+  device = λ same. absurd (cc);
+  full = λ m same. absurd (cc);
+  lost = λ same. refl;
+  later = λ now same. absurd (cc);
+}
+
+-- it started too often
+pub often : {R : Type 0} (store : Ghosts R) (voter : Voter R) (one : NotStarted R) → IsRefused store voter one → start_stop one ≡ StartsFull → voter.logs.kept.starts ≡ 4294967295
+often store voter (refused.StartsFull records) is same = is.0
+often store voter (refused.Cut records) is same = absurd (cc)
+often store voter (refused.Log fault records) is same = absurd (of fault same)
+  where
+    of : (fault : LogFault) → fault_stop fault ≡ StartsFull → ⊥
+    of log.DiskFault same = cc
+    of (log.Full n) same = cc
+    of log.Spent same = cc
+    of (log.BadRecord n) same = cc
+    of log.NoMemory same = cc
+often store voter refused.NoMemory is same = absurd (cc)
+
+of_fault : (fault : LogFault) → IsStartStop (fault_stop fault)
+of_fault log.DiskFault = tt
+of_fault (log.Full n) = tt
+of_fault log.Spent = tt
+of_fault (log.BadRecord n) = tt
+of_fault log.NoMemory = tt
+
+pub only_these : {R : Type 0} (one : NotStarted R) → IsStartStop (start_stop one)
+only_these (refused.StartsFull records) = tt
+only_these (refused.Cut records) = tt
+only_these (refused.Log fault records) = of_fault fault
+only_these refused.NoMemory = tt
+
+-- ---- a node that is served no longer
+
+node_due : (fault : NodeFault) (before now : Devices) (sink more : ℕ) → IsCaused (serve.Node fault) before now sink more → IsDue (serve_stop (serve.Node fault)) before now sink more
+node_due node.DiskFault before now sink more is = is
+node_due (node.Full length) before now sink more is = is
+node_due (node.BadRecord number) before now sink more is = tt
+node_due node.Spent before now sink more is = tt
+node_due node.Unformed before now sink more is = tt
+node_due node.NoMemory before now sink more is = tt
+
+pub due : (fault : ServeFault) (before now : Devices) (sink more : ℕ) → IsCaused fault before now sink more → IsDue (serve_stop fault) before now sink more
+due (serve.Node fault) before now sink more is = node_due fault before now sink more is
+due serve.SinkFault before now sink more is = is
+due serve.NoMemory before now sink more is = tt
+
+-- a sink that failed later failed from before on
+pub due_later : (stop : Stop) (before now : Devices) (x y z : ℕ) → x ≤ y → IsDue stop before now y z → IsDue stop before now x z
+due_later Device before now x y z le is = is
+due_later (Full length) before now x y z le is = is
+due_later Sink before now x y z le is = omega (arith, le, is)
+due_later Unformed before now x y z le is = tt
+due_later NoMemory before now x y z le is = tt
+due_later (Header rule) before now x y z le is = absurd is
+due_later Source before now x y z le is = absurd is
+due_later Link before now x y z le is = absurd is
+due_later StartsFull before now x y z le is = absurd is
+due_later (BadRecord number) before now x y z le is = absurd is
+
+-- the device of a node whose rows are in memory is handed back
+pub due_back : {X : Type 0} (faults : X → ℕ) (before mid : ℕ) (stop : Stop) (log : X) (x y : ℕ) → before ≤ mid → mid ≤ faults log → IsDue stop (mid, 0) (faults log, 0) x y → HandsBack faults before stop (Some log)
+due_back faults before mid stop log x y from le is = record {
+  device = λ same. (log, refl, failed (subst (λ (s : Stop). IsDue s (mid, 0) (faults log, 0) x y) same is));
+  full = λ n same. subst (λ (s : Stop). IsDue s (mid, 0) (faults log, 0) x y) same is;
+  lost = λ same. absurd (cc);
+  later = λ now same. let one : log ≡ now = cc in subst (λ (d : _). before ≤ faults d) one (omega (arith, from, le));
+}
+  where
+    failed : IsDue Device (mid, 0) (faults log, 0) x y → Rose before (faults log)
+    failed (inl rose) = omega (arith, from, rose)
+    failed (inr rose) = absurd (omega (arith, rose))
