@@ -7,10 +7,13 @@ ghost use Rattle.mega_journal.specs.Journals.{disk_of};
 ghost use Rattle.mega_rules.specs.Members.{is_node};
 ghost use Rattle.mega_wal.specs.History.{starts_of};
 ghost use Rattle.mega_wal.specs.Records.{first_bad, history_of};
+ghost use Rattle.mega_cluster.specs.declared.cluster.Cluster.{Cluster as Members};
+ghost use Rattle.mega_handler.specs.Named.{Meaning};
 ghost use Rattle.mega_node.specs.Calls.{Halted, Ran};
+ghost use Rattle.mega_node.specs.Logs.{AreFound};
 ghost use Rattle.mega_node.specs.Outside.{told_by};
 ghost use Rattle.mega_node.specs.Serving.{HasTurnedOff, HasTurnedOn, IsDue};
-ghost use Rattle.mega_node.specs.Starting.{HandsBack};
+ghost use Rattle.mega_node.specs.Starting.{HandsBack, HasStarted};
 ghost use Rattle.mega_node.specs.Stops.{IsOverStop};
 ghost use Rattle.mega_serve.specs.Stepping.{HaveGone};
 
@@ -76,8 +79,12 @@ fn serve_begun<O: Sink, D: Disk + Drop, L: Link, C: Clock, H: QueueHandlers + Dr
     clock: &mut C,
     out: &mut O,
 ) -> (Result<(), Stop>, D)
-    ensures on { OnOk result.0 ((last : _) × HasTurnedOn ⟦<Server<Journal<D>, VersionedRows, H> as Steps>⟧ begun.server last begun.start begun.notes turns (told_by L.Link C.Clock O.Sink link.old clock.old out.old) (told_by L.Link C.Clock O.Sink link.new clock.new out.new) × (result.1 ≡ disk_of last.up.node.replica.voter.logs.records)) }
-    ensures off { OnErr result.0 (HasTurnedOff ⟦<Server<Journal<D>, VersionedRows, H> as Steps>⟧ begun.server begun.start begun.notes (told_by L.Link C.Clock O.Sink link.old clock.old out.old) (told_by L.Link C.Clock O.Sink link.new clock.new out.new)) }
+    ensures ran { OnOk result.0 ((makes : List ℕ → Option Meaning) (c : Members) (me : ℕ) (log : D) (found : List (List ℕ)) → AreFound D.Disk log found →
+        HasStarted ⟦<Server<Journal<D>, VersionedRows, H> as Steps>⟧ makes c me found begun.server begun.start begun.notes →
+        Ran D.Disk ⟦<Server<Journal<D>, VersionedRows, H> as Steps>⟧ makes c me turns log result.1 (told_by L.Link C.Clock O.Sink link.old clock.old out.old) (told_by L.Link C.Clock O.Sink link.new clock.new out.new)) }
+    ensures halted { OnErr result.0 ((makes : List ℕ → Option Meaning) (c : Members) (me : ℕ) (log : D) (found : List (List ℕ)) → AreFound D.Disk log found →
+        HasStarted ⟦<Server<Journal<D>, VersionedRows, H> as Steps>⟧ makes c me found begun.server begun.start begun.notes →
+        Halted D.Disk ⟦<Server<Journal<D>, VersionedRows, H> as Steps>⟧ makes c me log (told_by L.Link C.Clock O.Sink link.old clock.old out.old) (told_by L.Link C.Clock O.Sink link.new clock.new out.new)) }
     ensures cause { IfErr result.0 (λ stop. IsDue stop (D.faults (disk_of begun.server.up.node.replica.voter.logs.records), 0) (D.faults result.1, 0) (O.faults out.old) (O.faults out.new)) }
     ensures later { D.faults (disk_of begun.server.up.node.replica.voter.logs.records) ≤ D.faults result.1 }
     ensures count { O.faults out.old ≤ O.faults out.new }
