@@ -1,0 +1,85 @@
+//! A call of a node over what is in memory, and what it came to.
+ghost use Rattle.std.specs.Prelude.{◌≤◌};
+
+use mega_base::{Bytes, NodeId};
+use mega_disk::{MemDisk, Pair};
+use mega_io::{MemSink, MemSource};
+use mega_link::{MemClock, MemLink, Peer};
+use mega_meanings::BuiltIn;
+use mega_node::run_node;
+use mega_server::Number;
+use std::alloc::Global;
+use std::test::Fail;
+
+/// What a call came to: its status, what it wrote, how many datagrams it sent, and its devices.
+#[derive(Drop)]
+pub struct Called {
+    pub status: u8,
+    pub text: Bytes,
+    pub sent: usize,
+    pub devices: Option<Pair<MemDisk>>,
+}
+
+/// Devices that hold nothing.
+pub fn empty(alloc: Global) -> Pair<MemDisk> {
+    Pair {
+        log: MemDisk::new(alloc),
+        runs: MemDisk::new(alloc),
+    }
+}
+
+/// The other end of a datagram: a node, or a client behind the letter `c`.
+fn peer_of(text: &str) -> Result<Peer, Fail> {
+    match text.strip_prefix('c') {
+        Some(client) => Ok(Peer::Client(client.parse::<u32>()?)),
+        None => Ok(Peer::Node(NodeId(text.parse::<u8>()?))),
+    }
+}
+
+/// The datagrams of a text, a line for each.
+pub fn datagrams(alloc: Global, text: &str) -> Result<Vec<Option<(Peer, Bytes)>>, Fail> {
+    let mut all = Vec::new(alloc);
+    for line in text.lines() {
+        let (peer, hex) = line.split_once(' ').ok_or("no peer")?;
+        let bytes = hex::decode(alloc, hex.as_bytes())?;
+        all.push(Some((peer_of(peer)?, Bytes::from_vec(bytes))))?;
+    }
+    Ok(all)
+}
+
+/// Calls the node of this number, to which these datagrams come.
+pub fn call(
+    alloc: Global,
+    number: u8,
+    turns: u64,
+    header: &str,
+    coming: &str,
+    clock: MemClock,
+    devices: Pair<MemDisk>,
+) -> Result<Called, Fail>
+    requires least { 1 ≤ number }
+    requires most { number ≤ 9 }
+{
+    let header = Bytes::from_slice(alloc, header.as_bytes())?;
+    let mut input = MemSource::new(header.into_vec(), Vec::new(alloc));
+    let mut out = MemSink::new(alloc, Vec::new(alloc));
+    let mut link = MemLink::new(alloc, datagrams(alloc, coming)?);
+    let mut clock = clock;
+    let outcome = run_node(
+        alloc,
+        Number::new(number),
+        turns,
+        &mut input,
+        &mut out,
+        devices,
+        &mut link,
+        &mut clock,
+        BuiltIn::new(),
+    );
+    Ok(Called {
+        status: outcome.status(),
+        text: Bytes::from_slice(alloc, out.bytes())?,
+        sent: link.sent().len(),
+        devices: outcome.devices,
+    })
+}

@@ -1,0 +1,58 @@
+//! How a call ends that does not make its turns.
+
+use crate::called::{call, empty};
+use crate::samples;
+use mega_base::Bytes;
+use mega_disk::{Disk, MemDisk, Pair};
+use mega_link::MemClock;
+use std::alloc::Global;
+use std::process::Abort;
+use std::test::Fail;
+
+/// Asserts the status of a call for no turn, and what it writes.
+fn check(
+    rt: &impl Abort,
+    alloc: Global,
+    header: &str,
+    devices: Pair<MemDisk>,
+    status: u8,
+    text: &str,
+) -> Result<(), Fail> {
+    let clock = MemClock::new(Vec::new(alloc));
+    let made = call(alloc, 2, 0, header, "", clock, devices)?;
+    assert_eq!(rt; made.status, status);
+    assert_eq!(rt; made.text.as_slice(), text.as_bytes());
+    Ok(())
+}
+
+#[test]
+fn a_header_without_the_node_breaks_rule_3(rt: HostRuntime) -> Result<(), Fail> {
+    let alloc = rt.alloc();
+    check(&rt, alloc, samples::ONE, empty(alloc), 3, "header 3\n")
+}
+
+#[test]
+fn a_header_without_an_address_for_each_node_breaks_rule_8(rt: HostRuntime) -> Result<(), Fail> {
+    let alloc = rt.alloc();
+    check(&rt, alloc, samples::UNADDRESSED, empty(alloc), 3, "header 8\n")
+}
+
+#[test]
+fn a_log_device_that_fails_ends_the_call(rt: HostRuntime) -> Result<(), Fail> {
+    let alloc = rt.alloc();
+    let mut devices = empty(alloc);
+    devices.log.fail_at(1);
+    check(&rt, alloc, samples::THREE, devices, 7, "")
+}
+
+#[test]
+fn a_record_of_no_format_ends_the_call(rt: HostRuntime) -> Result<(), Fail> {
+    let alloc = rt.alloc();
+    let mut devices = empty(alloc);
+    let bad = Bytes::from_slice(alloc, &[1, 0, 0, 0, 1, 255, 0])?;
+    match devices.log.write(0, bad.as_slice()) {
+        Ok(()) => {}
+        Err(_) => return Err(Fail::from("not written")),
+    }
+    check(&rt, alloc, samples::THREE, devices, 16, "")
+}

@@ -1,0 +1,11 @@
+//! Tests of a node's call over links, clocks and devices in memory.
+#![tactic(auto)]
+
+#[cfg(test)]
+mod called;
+#[cfg(test)]
+mod ends_tests;
+#[cfg(test)]
+mod record_tests;
+#[cfg(test)]
+mod samples;

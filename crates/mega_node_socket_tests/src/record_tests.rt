@@ -1,0 +1,63 @@
+//! The records of nodes: worked, of strange datagrams, and over devices that were used before.
+
+use crate::called::{Called, call, empty};
+use crate::samples;
+use mega_link::MemClock;
+use std::alloc::Global;
+use std::process::Abort;
+use std::test::Fail;
+
+/// A clock that shows 0.
+fn still(alloc: Global) -> MemClock {
+    MemClock::new(Vec::new(alloc))
+}
+
+/// A clock that shows 5 and then 60.
+fn moving(alloc: Global) -> Result<MemClock, Fail> {
+    Ok(MemClock::new(vec![in alloc; 5u64, 60]?))
+}
+
+#[test]
+fn one_node_asks_its_cell_at_each_tick_that_is_due(rt: HostRuntime) -> Result<(), Fail> {
+    let alloc = rt.alloc();
+    let made = call(alloc, 1, 2, samples::ONE, "", moving(alloc)?, empty(alloc))?;
+    assert_eq!(rt; made.status, 0);
+    assert_eq!(rt; made.text.as_slice(), samples::WORKED.as_bytes());
+    assert_eq!(rt; made.sent, 2);
+    Ok(())
+}
+
+#[test]
+fn a_node_counts_its_starts_on_its_log(rt: HostRuntime) -> Result<(), Fail> {
+    let alloc = rt.alloc();
+    let first = call(alloc, 1, 0, samples::ONE, "", still(alloc), empty(alloc))?;
+    let devices = first.devices.ok_or("no devices")?;
+    let second = call(alloc, 1, 0, samples::ONE, "", still(alloc), devices)?;
+    assert_eq!(rt; first.text.as_slice(), b"start 1 1\n".as_slice());
+    assert_eq!(rt; second.text.as_slice(), b"start 1 2\n".as_slice());
+    Ok(())
+}
+
+/// Asserts that a node of three records this behind its first tick.
+fn check(rt: &impl Abort, alloc: Global, turns: u64, coming: &str, wanted: &str) -> Result<Called, Fail> {
+    let made = call(alloc, 1, turns, samples::THREE, coming, still(alloc), empty(alloc))?;
+    let mut whole = mega_base::Bytes::from_slice(alloc, samples::FIRST_TICK.as_bytes())?;
+    whole.extend_from_slice(wanted.as_bytes())?;
+    assert_eq!(rt; made.text.as_slice(), whole.as_slice());
+    assert_eq!(rt; made.status, 0);
+    Ok(made)
+}
+
+#[test]
+fn strange_datagrams_change_nothing(rt: HostRuntime) -> Result<(), Fail> {
+    let made = check(&rt, rt.alloc(), 6, samples::STRANGE, samples::STRANGE_RECORD)?;
+    assert_eq!(rt; made.sent, 3);
+    Ok(())
+}
+
+#[test]
+fn a_client_that_asks_for_nothing_is_told_why_not(rt: HostRuntime) -> Result<(), Fail> {
+    let made = check(&rt, rt.alloc(), 1, samples::NOTHING_ASKED, samples::NOTHING_ASKED_RECORD)?;
+    assert_eq!(rt; made.sent, 4);
+    Ok(())
+}
