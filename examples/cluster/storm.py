@@ -142,7 +142,8 @@ def rage(cluster, client, storm, count):
                 node.sendto(storm.of_node(), cluster.address(1))
             else:
                 client.socket.sendto(storm.of_client(), cluster.address(1))
-            if number % PROBE_EACH == 0 and not client.ask(1, read_notes(1, "snapshot")):
+            is_last = number + 1 == count
+            if (is_last or number % PROBE_EACH == 0) and not client.ask(1, read_notes(1, "snapshot")):
                 return False
     return True
 
