@@ -15,7 +15,7 @@ returns-in-Some-Node-clause-node g c number turns is =
     rw (← same, ← often, ← c.new-number.ensures) c.serve_node.ensures.node
 
 pub returns-in-Some-Node-clause-offline : goal.returns-in-Some-Node-clause-offline
-returns-in-Some-Node-clause-offline g c is = 
+returns-in-Some-Node-clause-offline g c is =
     absurd (subst (λ (command : Command). IsOffline (Some command)) c.in-Some-Node.field-0-is (subst IsOffline (sym c.in-Some-Node.ensures.value) is))
 
 pub returns-in-None-clause-only : goal.returns-in-None-clause-only

@@ -1,4 +1,3 @@
-use Rattle.std.proofs.Common.{◌≡◌}
 use Rattle.mega_replay.proofs.NodeHandlers.{with_meaning}
 use Rattle.mega_replay.proofs.serving.serve_node.Goals as goal
 

@@ -1,4 +1,4 @@
-use Rattle.std.proofs.Common.{◌≡◌, ◌∙◌, ap, sym, subst}
+use Rattle.std.proofs.Common.{◌∙◌, ap, sym, subst}
 use Rattle.mega_node.specs.Statuses.{ended_with}
 use Rattle.mega_replay.specs.Nodes.{IsBeforeOpening, IsBehindHeader}
 use Rattle.mega_replay.specs.Statuses.{IsNodeStatus}
@@ -24,16 +24,16 @@ returns-clause-node g c =
     record {
       ran = λ is. ran_by ended _ (sym status ∙ is) c.run_node-outcome.ensures.ran;
       header = λ is.
-        let broken = header_by ended (sym status ∙ is) in
-        let said = c.run_node-outcome.ensures.header broken.0 broken.1 in
-        (broken.0, said.0, said.1);
+          let broken = header_by ended (sym status ∙ is) in
+          let said = c.run_node-outcome.ensures.header broken.0 broken.1 in
+          (broken.0, said.0, said.1);
       headed = λ is. behind_by ended _ (subst IsBehindHeader status is) c.run_node-outcome.ensures.headed;
       cut = λ all broken. cut_by ended _ (λ is. all (status ∙ is)) (λ is. broken (status ∙ is)) c.run_node-outcome.ensures.cut;
       source = λ is. (c.run_node-outcome.ensures.source (source_by ended (sym status ∙ is))).1;
       device = λ is. c.run_node-outcome.ensures.device (device_by ended (sym status ∙ is));
       bad = λ is told.
-        let record_of = bad_by ended (sym status ∙ is) in
-        (record_of.0, c.run_node-outcome.ensures.bad record_of.0 record_of.1 told);
+          let record_of = bad_by ended (sym status ∙ is) in
+          (record_of.0, c.run_node-outcome.ensures.bad record_of.0 record_of.1 told);
       unopened = λ is. before_by ended _ (subst IsBeforeOpening status is) c.run_node-outcome.ensures.unopened;
       runs = c.run_node-outcome.ensures.runs;
       later = c.run_node-outcome.ensures.log;
