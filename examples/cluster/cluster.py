@@ -17,6 +17,9 @@ SCHEMA = (
     "PRIMARY KEY(user_id, note_id), IN TABLE User, ENTITY GROUP KEY(user_id) REFERENCES User;"
 )
 
+# How many milliseconds a lease holds and how long rounds wait; a client waits as long for an answer.
+TIMES = {"lease": 1_000, "margin": 100, "retry": 100, "patience": 10_000}
+
 REQUEST, REPLY = 20, 21
 HEAD = struct.Struct(">3sBBB")
 TOKEN = struct.Struct(">QI")
@@ -63,18 +66,21 @@ def read_reply(datagram):
 class Cluster:
     """So many nodes, each with a folder of its own for its devices and its records. They make at most so many turns."""
 
-    def __init__(self, folder, program, kinds=("full", "full", "full"), turns=20_000_000, values=""):
+    def __init__(self, folder, program, kinds=("full", "full", "full"), turns=20_000_000, slower=1, values=""):
         self.folder = pathlib.Path(folder)
         self.program = program
         self.turns = turns
+        self.slower = slower
         self.ports = free_ports(len(kinds))
         self.processes = {}
         self.starts = {}
-        places = [f"127.0.0.1:{port}" for port in self.ports]
         self.header = self.folder / "header"
-        self.header.write_text(
-            f"nodes = {json.dumps(kinds)}\naddresses = {json.dumps(places)}\n{values}schema = {json.dumps(SCHEMA)}\n---\n"
-        )
+        self.header.write_text(self.header_text(kinds, values))
+
+    def header_text(self, kinds, values):
+        places = [f"127.0.0.1:{port}" for port in self.ports]
+        times = "".join(f"{name} = {time * self.slower}\n" for name, time in TIMES.items() if name not in values)
+        return f"nodes = {json.dumps(kinds)}\naddresses = {json.dumps(places)}\n{times}{values}schema = {json.dumps(SCHEMA)}\n---\n"
 
     def numbers(self):
         return range(1, len(self.ports) + 1)
@@ -142,23 +148,22 @@ class Client:
         except socket.timeout:
             return None
 
-    def ask(self, node, wish, seconds=5.0):
+    def ask(self, node, wish, seconds=10.0):
         """The text of the reply to a request, or nothing where none came in time."""
         token = self.send(node, wish)
-        end = time.monotonic() + seconds
+        end = time.monotonic() + seconds * self.cluster.slower
         while time.monotonic() < end:
             reply = self.receive(end - time.monotonic())
             if reply and reply[:2] == (node, token):
                 return reply[2]
         return None
 
-    def wait_for(self, node, seconds=20.0):
+    def wait_for(self, node):
         """Waits until a node answers."""
-        end = time.monotonic() + seconds
-        while time.monotonic() < end:
+        for _ in range(50):
             if not self.cluster.is_up(node):
                 raise SystemExit(f"node {node} has ended")
-            if self.ask(node, {"do": "refresh"}, 0.2):
+            if self.ask(node, {"do": "refresh"}, 0.5):
                 return
         raise SystemExit(f"node {node} does not answer")
 

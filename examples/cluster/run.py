@@ -74,11 +74,12 @@ def main():
     parser = argparse.ArgumentParser(description=__doc__, formatter_class=argparse.RawDescriptionHelpFormatter)
     parser.add_argument("--program", type=pathlib.Path, help="the program, where ./build did not make it")
     parser.add_argument("--folder", type=pathlib.Path, help="where the temporary folder is made")
+    parser.add_argument("--slower", type=int, default=1, metavar="N", help="N times as long leases and rounds, for a busy machine")
     parser.add_argument("--figures", action="store_true", help="measure")
     given = parser.parse_args()
     program = (given.program or find_program()).resolve()
     with tempfile.TemporaryDirectory(prefix="megastore-", dir=given.folder) as folder:
-        with Cluster(folder, program) as cluster:
+        with Cluster(folder, program, slower=given.slower) as cluster:
             client = Client(cluster)
             for node in cluster.numbers():
                 client.wait_for(node)

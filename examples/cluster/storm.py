@@ -142,7 +142,8 @@ def rage(cluster, client, storm, count):
                 node.sendto(storm.of_node(), cluster.address(1))
             else:
                 client.socket.sendto(storm.of_client(), cluster.address(1))
-            if number % PROBE_EACH == 0 and not client.ask(1, read_notes(1, "snapshot")):
+            is_last = number + 1 == count
+            if (is_last or number % PROBE_EACH == 0) and not client.ask(1, read_notes(1, "snapshot")):
                 return False
     return True
 
@@ -181,12 +182,13 @@ def try_storm(cluster, client, storm, count):
 def main():
     parser = argparse.ArgumentParser(description=__doc__, formatter_class=argparse.RawDescriptionHelpFormatter)
     parser.add_argument("--program", type=pathlib.Path, help="the program, where ./build did not make it")
+    parser.add_argument("--slower", type=int, default=1, metavar="N", help="N times as long rounds, for a busy machine")
     parser.add_argument("--count", type=int, default=100_000)
     parser.add_argument("--seed", type=int, default=1)
     given = parser.parse_args()
     program = (given.program or find_program()).resolve()
     with tempfile.TemporaryDirectory(prefix="megastore-") as folder:
-        cluster = Cluster(folder, program, kinds=("full", "read"), values=VALUES)
+        cluster = Cluster(folder, program, kinds=("full", "read"), slower=given.slower, values=VALUES)
         cluster.start(1)
         try:
             return try_storm(cluster, Client(cluster), Storm(given.seed), given.count)

@@ -1,6 +1,7 @@
 pub mod Headings
 pub mod Holding
 pub mod Inputs
+pub mod NodeHandlers
 pub mod NodeStops
 pub mod Progress
 pub mod Running

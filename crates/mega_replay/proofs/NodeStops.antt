@@ -1,5 +1,5 @@
 -- What the status of a node's call tells of how it ended.
-use Rattle.std.proofs.Common.{◌≡◌, ◌≢◌, ℕ, ◌≤◌, ◌⊎◌, inl, inr, Result, Ok, Err, refl, sym, ◌∙◌, arith}
+use Rattle.std.proofs.Common.{◌≡◌, ◌≢◌, ℕ, ◌≤◌, inl, inr, Result, Ok, Err, refl, arith}
 use Rattle.std.specs.Prelude.{OnOk, IfErr}
 use Rattle.mega_node.specs.declared.stop.Stop.{Stop}
 use Rattle.mega_node.specs.declared.stop.Stop.TheVariants.{BadRecord, Device, Full, Header, Link, NoMemory, Sink, Source, StartsFull, Unformed}

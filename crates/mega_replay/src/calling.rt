@@ -3,6 +3,7 @@ ghost use Rattle.std.specs.Prelude.{◌≡◌, ◌≤◌, ◌⊎◌, ◌++◌, �
 ghost use Rattle.mega_node.specs.Outside.{told_by};
 ghost use Rattle.mega_replay.specs.Nodes.{HasRunNode};
 ghost use Rattle.std.specs.Io.KnownBytes.{Appends, IsAtEnd};
+ghost use Rattle.mega_handler.specs.Named.{meaning};
 ghost use Rattle.mega_meanings.specs.BuiltIn.{built_in};
 ghost use Rattle.mega_meanings.specs.Means.{Means};
 ghost use Rattle.mega_base.specs.Causes.{Rose};
@@ -72,7 +73,7 @@ pub fn run<I: Source, O: Sink, D: Disk + Drop, L: Link, C: Clock>(
     ensures cut { (report : Report) → command_of words.now ≡ Some (Replay report) → IsCutStatus result.status → InputCut report (I.left input.old) (AppendsFront (O.held out.old) (O.held out.new)) }
     ensures source { result.status ≡ 5 → Rose (I.faults input.old) (I.faults input.new) }
     ensures sink { result.status ≡ 6 → Rose (O.faults out.old) (O.faults out.new) }
-    ensures node { (number turns : ℕ) → command_of words.now ≡ Some (Node number turns) → HasRunNode D.Disk ⟦<Server<Journal<D>, VersionedRows, BuiltIn> as Steps>⟧ number turns (I.left input.old) (I.left input.new) devices result.devices (told_by L.Link C.Clock O.Sink link.old clock.old out.old) (told_by L.Link C.Clock O.Sink link.new clock.new out.new) result.status }
+    ensures node { (number turns : ℕ) → command_of words.now ≡ Some (Node number turns) → HasRunNode D.Disk ⟦<Server<Journal<D>, VersionedRows, BuiltIn> as Steps>⟧ (meaning built_in) number turns (I.left input.old) (I.left input.new) devices result.devices (told_by L.Link C.Clock O.Sink link.old clock.old out.old) (told_by L.Link C.Clock O.Sink link.new clock.new out.new) result.status }
     ensures link { result.status ≡ 9 → Rose (L.faults link.old) (L.faults link.new) }
     ensures offline { IsOffline (command_of words.now) → (result.devices ≡ Some devices) × (link.new ≡ link.old) × (clock.new ≡ clock.old) }
     ensures only { IsStatusOf (command_of words.now) result.status }

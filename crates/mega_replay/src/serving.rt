@@ -1,6 +1,8 @@
 //! The node that the words ask for, over its socket.
 ghost use Rattle.std.specs.Prelude.{◌≡◌, ◌≤◌};
 ghost use Rattle.mega_base.specs.Causes.{Rose};
+ghost use Rattle.mega_handler.specs.Named.{meaning};
+ghost use Rattle.mega_meanings.specs.BuiltIn.{built_in};
 ghost use Rattle.mega_node.specs.Outside.{told_by};
 ghost use Rattle.mega_replay.specs.Nodes.{HasRunNode};
 ghost use Rattle.mega_replay.specs.Statuses.{IsNodeStatus};
@@ -10,12 +12,41 @@ use mega_disk::{Disk, Pair};
 use mega_io::{Sink, Source};
 use mega_journal::Journal;
 use mega_link::{Clock, Link};
-use mega_meanings::BuiltIn;
+use mega_meanings::{BuiltIn, QueueHandlers};
 use mega_node::run_node;
 use mega_rows::VersionedRows;
 use mega_serve::Steps;
 use mega_server::{Number, Server};
 use std::alloc::Global;
+
+/// Runs a node, and gives the status with which the program then ends.
+fn serve_with<I: Source, O: Sink, D: Disk + Drop, L: Link, C: Clock, H: QueueHandlers + Drop>(
+    alloc: Global,
+    number: Number,
+    turns: u64,
+    input: &mut I,
+    out: &mut O,
+    devices: Pair<D>,
+    link: &mut L,
+    clock: &mut C,
+    handlers: H,
+) -> Ended<D>
+    ensures node { HasRunNode D.Disk ⟦<Server<Journal<D>, VersionedRows, H> as Steps>⟧ (H.meant handlers) number.of turns (I.left input.old) (I.left input.new) devices result.devices (told_by L.Link C.Clock O.Sink link.old clock.old out.old) (told_by L.Link C.Clock O.Sink link.new clock.new out.new) result.status }
+    ensures source { result.status ≡ 5 → Rose (I.faults input.old) (I.faults input.new) }
+    ensures sink { result.status ≡ 6 → Rose (O.faults out.old) (O.faults out.new) }
+    ensures link { result.status ≡ 9 → Rose (L.faults link.old) (L.faults link.new) }
+    ensures only { IsNodeStatus result.status }
+    ensures inputs { I.faults input.old ≤ I.faults input.new }
+    ensures outs { O.faults out.old ≤ O.faults out.new }
+{
+    let outcome = run_node(
+        alloc, number, turns, input, out, devices, link, clock, handlers,
+    );
+    Ended {
+        status: outcome.status(),
+        devices: outcome.devices,
+    }
+}
 
 /// Runs a node with the handlers that the store brings.
 pub fn serve_node<I: Source, O: Sink, D: Disk + Drop, L: Link, C: Clock>(
@@ -28,7 +59,7 @@ pub fn serve_node<I: Source, O: Sink, D: Disk + Drop, L: Link, C: Clock>(
     link: &mut L,
     clock: &mut C,
 ) -> Ended<D>
-    ensures node { HasRunNode D.Disk ⟦<Server<Journal<D>, VersionedRows, BuiltIn> as Steps>⟧ number.of turns (I.left input.old) (I.left input.new) devices result.devices (told_by L.Link C.Clock O.Sink link.old clock.old out.old) (told_by L.Link C.Clock O.Sink link.new clock.new out.new) result.status }
+    ensures node { HasRunNode D.Disk ⟦<Server<Journal<D>, VersionedRows, BuiltIn> as Steps>⟧ (meaning built_in) number.of turns (I.left input.old) (I.left input.new) devices result.devices (told_by L.Link C.Clock O.Sink link.old clock.old out.old) (told_by L.Link C.Clock O.Sink link.new clock.new out.new) result.status }
     ensures source { result.status ≡ 5 → Rose (I.faults input.old) (I.faults input.new) }
     ensures sink { result.status ≡ 6 → Rose (O.faults out.old) (O.faults out.new) }
     ensures link { result.status ≡ 9 → Rose (L.faults link.old) (L.faults link.new) }
@@ -37,11 +68,7 @@ pub fn serve_node<I: Source, O: Sink, D: Disk + Drop, L: Link, C: Clock>(
     ensures outs { O.faults out.old ≤ O.faults out.new }
 {
     let handlers = BuiltIn::new();
-    let outcome = run_node(
+    serve_with(
         alloc, number, turns, input, out, devices, link, clock, handlers,
-    );
-    Ended {
-        status: outcome.status(),
-        devices: outcome.devices,
-    }
+    )
 }
