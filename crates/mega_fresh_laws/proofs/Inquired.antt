@@ -11,11 +11,12 @@ use Rattle.mega_transcript.specs.declared.item.Item.TheVariants.{Crash, Sent, Un
 use Rattle.mega_transcript.specs.Tape.{sent_count}
 use Rattle.mega_wire.specs.declared.message.Message.{Message}
 use Rattle.mega_wire.specs.declared.message.Body.{Body}
+use Rattle.mega_wire.specs.declared.message.Body.TheVariants.{Accept, Where}
 use Rattle.mega_promises.specs.Fresh.{proposes}
 use Rattle.mega_promises.specs.Items.{number, shown}
 use Rattle.mega_promises.specs.Messages.{is_unsafe}
 use Rattle.mega_promises.specs.Promises.{Stands}
-use Rattle.mega_promises.specs.Runs.{Cuts, Happening, IsRun, Standing, breaks, met_in, set_at, setting, with_item, with_items}
+use Rattle.mega_promises.specs.Runs.{Cuts, Happening, IsRun, Standing, breaks, goes_on, met_in, opening, set_at, setting, with_item, with_items}
 use Rattle.mega_rules.specs.Clock.{begun_of, clock_of, last_number, start_of}
 use Rattle.mega_rules.specs.Coordinators.{acquires_at}
 use Rattle.mega_rules.specs.Members.{kind_of}
@@ -386,5 +387,5 @@ pub record Inquired (c : Cluster) (tape : List Item) : Type 0 where
 pub run_inquired : (c : Cluster) (usage : Usage) (first : Meanings) (events : List Happening) (tape : List Item) → IsRun c first events tape → Fits usage events → Inquired c tape
 run_inquired c usage first events tape run fits = subst (Inquired c) (sym run.tape_is) (record { items = all.items; numbered = all.numbered })
   where
-    all : AllInquired c _ _
+    all : AllInquired c (goes_on c run.cuts (opening c first) events).tape (λ me. (goes_on c run.cuts (opening c first) events).node me)
     all = run_stays c usage first run.cuts (AllInquired c) (inquired_stays c usage first run.cuts) events fits (record { items = tt; numbered = tt; opens = λ v. tt })

@@ -139,12 +139,12 @@ unasking op ms ends = each_zip (EndsOf op (record { key = [] })) (EndsOf op (rec
     by _ one other = tt
 
 round_offers : (s : Site) (own : Content) (ms : List Message) → Each (Zero s own) ms → Each Unasking ms → Each (Offers s.op s.group s.position) ms
-round_offers s own ms zeros none = each_zip (Zero s own) Unasking (Offers s.op s.group s.position) (λ m zero no. by m.body zero no) ms zeros none
+round_offers s own ms zeros none = each_zip (Zero s own) Unasking (Offers s.op s.group s.position) (λ m zero quiet. by m.body zero quiet) ms zeros none
   where
     by : (body : Body) → ZeroBody s own body → UnaskingBody body → OffersBody s.op s.group s.position body
-    by (Where asking g) zero no = absurd no
-    by (Accept o g m b e) zero no = λ is id. let at = zero is in ((at.0).0, ((at.0).1, (at.1).0))
-    by _ zero no = tt
+    by (Where asking g) zero quiet = absurd quiet
+    by (Accept o g m b e) zero quiet = λ is id. let at = zero is in ((at.0).0, ((at.0).1, (at.1).0))
+    by _ zero quiet = tt
 
 pub asks_offers : (s : Site) (leader : ℕ) (own : Content) (now : ℕ) → Each (Offers s.op s.group s.position) (asks s leader own now).sends
 asks_offers s leader own now = ((λ zero id. (refl, (refl, refl))), tt)
@@ -175,12 +175,12 @@ module _ (who : Reader) where
 
   to_says : (stage : Stage) (ms : List Message) → StageAsks stage ms → Each Never ms → StageSays stage ms
   to_says (Polling heard best at) ms asks_only never = asks_only
-  to_says (Catching through search) ms none never = each_zip Unasking Never Mute (λ m no nothing. by m.body no nothing) ms none never
+  to_says (Catching through search) ms none never = each_zip Unasking Never Mute (λ m quiet nothing. by m.body quiet nothing) ms none never
     where
       by : (body : Body) → UnaskingBody body → NeverBody body → MuteBody body
-      by (Where asking g) no nothing = no
-      by (Accept o g n b e) no nothing = nothing
-      by _ no nothing = tt
+      by (Where asking g) quiet nothing = quiet
+      by (Accept o g n b e) quiet nothing = nothing
+      by _ quiet nothing = tt
 
   either_asks : (t : Bool) (one other : ReadMove) → ReadAsks one → ReadAsks other → ReadAsks (cond t one other)
   either_asks true one other h k = h

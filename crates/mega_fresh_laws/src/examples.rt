@@ -19,5 +19,5 @@ pub fn a_local_read_shows_what_another_node_put()
 #[tactic(auto, unfolding(mega_base::specs::Codec::number_text))]
 pub fn a_local_read_is_stale_where_leases_are_unsafe()
     ensures shows { answers (run stale) ≡ told (op 1 1 1) (committed_at 1) ∷ told (op 2 1 1) (committed_at 2) ∷ told (op 1 1 2) (read_through 1) ∷ [] }
-    ensures unsafe { is_unsafe (reverse (run stale)) ≡ true }
+    ensures not_safe { is_unsafe (reverse (run stale)) ≡ true }
 {}

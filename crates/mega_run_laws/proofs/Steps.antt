@@ -107,13 +107,6 @@ never_asked users s now g = go (nat_lt (begun_of (now.node s.me).met) last_numbe
     go true h = g.unasked (op_of s (now.node s.me).met) (inr (refl, next_new (begun_of (now.node s.me).met) last_number h))
     go false h = (g.worn (op_of s (now.node s.me).met) (next_last (begun_of (now.node s.me).met) last_number h)).asked
 
-pub never_moved : (users : Users) → (s : Setting) (now : Standing) → Good users s.cluster now → (q : Place) → moves now.tape (op_of s (now.node s.me).met) q ≡ []
-never_moved users s now g = go (nat_lt (begun_of (now.node s.me).met) last_number) refl
-  where
-    go : (t : Bool) → nat_lt (begun_of (now.node s.me).met) last_number ≡ t → (q : Place) → moves now.tape (op_of s (now.node s.me).met) q ≡ []
-    go true h = g.fresh (op_of s (now.node s.me).met) (inr (refl, next_new (begun_of (now.node s.me).met) last_number h))
-    go false h = (g.worn (op_of s (now.node s.me).met) (next_last (begun_of (now.node s.me).met) last_number h)).moved
-
 named_new : (b last : ℕ) → min (b + 1) last < last → b < min (b + 1) last
 named_new b last less = omega arith
 
