@@ -1,5 +1,5 @@
 //! The cluster of a header.
-ghost use Rattle.std.specs.Prelude.{◌≡◌, ◌≢◌, ◌≤◌, ◌×◌, ℕ, List, true, false, Ok, Err, IfOk};
+ghost use Rattle.std.specs.Prelude.{◌≡◌, ◌≢◌, ◌≤◌, ℕ, List, true, false, Ok, Err, IfOk};
 ghost use Rattle.std.specs.Io.KnownBytes.{prepend_known};
 ghost use Rattle.mega_base.specs.Causes.{Rose};
 ghost use Rattle.mega_cluster.specs.Header.{read_of};

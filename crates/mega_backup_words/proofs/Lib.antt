@@ -1,0 +1,6 @@
+pub mod Endings
+pub mod Statuses
+pub mod Within
+pub mod Parts
+pub mod Rows
+pub mod Backings
