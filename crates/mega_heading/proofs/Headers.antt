@@ -1,12 +1,11 @@
 -- How a header is read, line by line, up to the line that ends it.
-use Rattle.std.proofs.Common.{◌≡◌, ◌≢◌, ℕ, ◌+◌, ◌≤◌, ◌<◌, cond, Bool, true, false, Option, Some, None, Result, Ok, Err, List, [], ◌∷◌, ◌++◌, length, refl, sym, ◌∙◌, ap, subst, append_assoc, append-nil, length-append, arith, rules, inl, inr}
+use Rattle.std.proofs.Common.{◌≡◌, ℕ, ◌+◌, ◌≤◌, ◌<◌, cond, Bool, true, false, Option, Some, None, Err, List, [], ◌∷◌, ◌++◌, length, refl, sym, ◌∙◌, ap, subst, append_assoc, append-nil, length-append, arith, rules, inl, inr}
 use Rattle.std.specs.Prelude.{nat_lt, if◌then◌else◌}
 use Rattle.std.proofs.lemmas.Bool.Decides.{nat_tests}
-use Rattle.mega_cluster.specs.declared.cluster.Cluster.{Cluster}
 use Rattle.mega_cluster.specs.Header.{◌>>=◌, document_of, header_of, read_of}
 use Rattle.mega_io.specs.declared.lines.Ended.TheVariants.{Feed, Input, Long}
 use Rattle.mega_io.specs.TextLines.{BreaksOff, IsUnbroken, ReadsLine, close_line, ended_lines, lines_after, lines_of}
-use Rattle.mega_heading.specs.Parts.{cluster_in, header_before, header_text, is_mark, lines_behind, text_before}
+use Rattle.mega_heading.specs.Parts.{cluster_in, header_before, is_mark, lines_behind, text_before}
 use Rattle.mega_heading.specs.Known.{Breaks, Follows, HasFront, HasHeader, HasNoMark, HeaderFails, IsOfHeader, Takes, TakesHeader, TakesLine}
 use Rattle.mega_heading.proofs.Inputs.{ended_line, ended_none, last_follows, line_follows, lines_on, long_line}
 

@@ -2,7 +2,7 @@
 use Rattle.std.proofs.Common.{◌≡◌, ◌≢◌, ℕ, ◌≤◌, ◌<◌, ◌==◌, if◌then◌else◌, Bool, true, false, Option, Some, None, List, [], ◌∷◌, ◌++◌, length, refl, sym, ◌∙◌, ap, append_assoc, append-nil, length-append, arith, inl, inr}
 use Rattle.std.proofs.lemmas.Bool.Decides.{nat_tests}
 use Rattle.std.proofs.lemmas.List.Elements.{All-head, All-tail}
-use Rattle.mega_io.specs.declared.lines.Ended.TheVariants.{Feed, Input, Long}
+use Rattle.mega_io.specs.declared.lines.Ended.TheVariants.{Feed, Input}
 use Rattle.mega_io.specs.TextLines.{IsUnbroken, ReadsLine, close_line, ended_after, ended_lines, lines_after, lines_of}
 use Rattle.mega_heading.specs.Known.{Ends, Follows}
 

@@ -1,4 +1,4 @@
-use Rattle.std.proofs.Common.{List, ℕ, subst, sym}
+use Rattle.std.proofs.Common.{subst, sym}
 use Rattle.std.specs.Io.KnownBytes.{prepend_known}
 use Rattle.mega_heading.specs.Known.{HasFront, HasHeader, HasNoMark}
 use Rattle.mega_heading.proofs.Headers.{end_part, line_part, long_part, mark_last, mark_part, takes_feed, takes_last}
