@@ -2,6 +2,10 @@
 use Rattle.std.specs.Prelude.{◌≡◌, ℕ, ◌⊎◌}
 use Rattle.mega_backup.specs.declared.fault.BackupFault.{BackupFault}
 use Rattle.mega_backup.specs.declared.fault.BackupFault.TheVariants as fault
+use Rattle.mega_disk.specs.declared.records.RecordError.{RecordError}
+use Rattle.mega_disk.specs.declared.records.RecordError.TheVariants as error
+use Rattle.mega_wal.specs.declared.answers.LogFault.{LogFault}
+use Rattle.mega_wal.specs.declared.answers.LogFault.TheVariants as log
 use Rattle.mega_backup_words.specs.declared.stop.Stop.{Stop}
 use Rattle.mega_backup_words.specs.declared.stop.Stop.TheVariants.{Header, Source, Sink, Device, NoMemory, Malformed, Short, TooLarge, BadRecord}
 
@@ -12,6 +16,20 @@ stop_of (fault.Malformed line) = Malformed line
 stop_of (fault.TooLarge key) = TooLarge key
 stop_of fault.SinkFault = Sink
 stop_of fault.NoMemory = NoMemory
+
+-- the stop of a device that was not opened, and of a log; either has one cause beside want of memory
+abbrev pub device_stop_of : RecordError → Stop
+device_stop_of error.DiskFault = Device
+device_stop_of (error.Full length) = NoMemory
+device_stop_of error.Spent = NoMemory
+device_stop_of error.NoMemory = NoMemory
+
+abbrev pub log_stop_of : LogFault → Stop
+log_stop_of (log.BadRecord number) = BadRecord
+log_stop_of log.DiskFault = NoMemory
+log_stop_of (log.Full length) = NoMemory
+log_stop_of log.Spent = NoMemory
+log_stop_of log.NoMemory = NoMemory
 
 -- a fault of the source, or want of memory
 abbrev pub IsReadStop : Stop → Type 0

@@ -8,7 +8,7 @@ ghost use Rattle.mega_wal.specs.Kept.{Represents};
 ghost use Rattle.mega_wal.specs.Records.{first_bad, history_of};
 ghost use Rattle.mega_backup_words.specs.Backing.{AreHeld, log_ending, records_ending};
 ghost use Rattle.mega_backup_words.specs.Endings.{Ends, end_status, is_cut};
-ghost use Rattle.mega_backup_words.specs.Stops.{IsLogStop, IsOpeningStop, IsWriteStop};
+ghost use Rattle.mega_backup_words.specs.Stops.{IsLogStop, IsOpeningStop, IsWriteStop, device_stop_of, log_stop_of};
 
 use crate::stop::Stop;
 use mega_backup::write;
@@ -21,6 +21,7 @@ use std::alloc::Global;
 
 /// Why a device was not opened. An opening is refused for two causes alone.
 fn device_stop(error: RecordError) -> Stop
+    ensures exact { result ≡ device_stop_of error }
     ensures device { result ≡ Stop.Device → error ≡ RecordError.DiskFault }
     ensures only { IsOpeningStop result }
     ensures good { result ≢ Stop.BadRecord }
@@ -33,6 +34,7 @@ fn device_stop(error: RecordError) -> Stop
 
 /// Why logs were not opened. An opening is refused for two causes alone.
 fn log_stop(fault: LogFault) -> Stop
+    ensures exact { result ≡ log_stop_of fault }
     ensures bad { result ≡ Stop.BadRecord → (n : ℕ) × (fault ≡ LogFault.BadRecord n) }
     ensures only { IsOpeningStop result }
     ensures device { result ≢ Stop.Device }
