@@ -78,8 +78,7 @@ fn a_log_is_backed_up_again_and_again(rt: HostRuntime) -> Result<(), Fail> {
 fn a_device_that_fails_and_a_bad_record_are_told(rt: HostRuntime) -> Result<(), Fail> {
     let alloc = rt.alloc();
     let log = device(alloc, samples::BAD_LOG)?;
-    let mut log = check_backup(&rt, alloc, log, 1, 0, (16, ""))?;
-    log.fail_at(1);
+    check_backup(&rt, alloc, log, 1, 0, (16, ""))?;
     let mut failing = device(alloc, samples::USER_LOG)?;
     failing.fail_at(2);
     check_backup(&rt, alloc, failing, 1, 1, (7, ""))?;

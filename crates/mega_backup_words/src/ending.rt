@@ -10,6 +10,7 @@ use mega_io::{Sink, SinkError, put};
 use std::alloc::Global;
 
 /// Writes a last line, and gives this status where the sink took it.
+#[tactic(auto, using(crate::proofs::Endings::all_front))]
 fn write_last<O: Sink>(status: u8, line: &[u8], out: &mut O) -> u8
     ensures whole { is_cut result ≡ false → (result ≡ status) × Appends (O.held out.old) (O.held out.new) line.now }
     ensures front { AppendsFront (O.held out.old) (O.held out.new) line.now }
