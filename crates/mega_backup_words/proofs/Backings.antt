@@ -23,7 +23,7 @@ use Rattle.mega_backup_words.specs.declared.stop.Stop.{Stop}
 use Rattle.mega_backup_words.specs.declared.stop.Stop.TheVariants.{Header, Source, Sink, Device, NoMemory, Malformed, Short, TooLarge, BadRecord}
 use Rattle.mega_backup_words.specs.Backing.{AreHeld, BacksUp, backup_of, log_ending, records_ending}
 use Rattle.mega_backup_words.specs.Endings.{Ending, Ends, EndsBy, ending_of}
-use Rattle.mega_backup_words.specs.Stops.{IsHeaderStop, IsOpeningStop, stop_of}
+use Rattle.mega_backup_words.specs.Stops.{IsBackupStop, IsHeaderStop, IsLogStop, IsOpeningStop, IsWriteStop, stop_of}
 use Rattle.mega_backup_words.proofs.Endings.{unwritten}
 
 -- ---- the log is long enough, or it is not
@@ -122,3 +122,63 @@ pub backs_so : (group : GroupId) (p least : ℕ) (known : Option (List ℕ)) (to
     → BacksUp group p least known told seen Says → BacksUp group p least known told seen More
 backs_so group p least known told seen Says More so backs =
     record { header = backs.header; headed = backs.headed; records = backs.records; held = backs.held; said = so (backup_of group p backs.header backs.records) backs.said }
+
+-- ---- why writing stops
+
+pub write_stop : (why : BackupFault) → IsShortOrStop why → IsWriteStop (stop_of why)
+write_stop (fault.Short has) only = tt
+write_stop (fault.Malformed line) only = absurd only
+write_stop (fault.TooLarge key) only = absurd only
+write_stop fault.SinkFault only = tt
+write_stop fault.NoMemory only = tt
+
+pub sink_stop : (why : BackupFault) → stop_of why ≡ Sink → why ≡ fault.SinkFault
+sink_stop (fault.Short has) is = cc
+sink_stop (fault.Malformed line) is = cc
+sink_stop (fault.TooLarge key) is = cc
+sink_stop fault.SinkFault is = refl
+sink_stop fault.NoMemory is = cc
+
+pub log_stop : (stop : Stop) → IsWriteStop stop → IsLogStop stop
+log_stop (Header rule) only = absurd only
+log_stop Source only = absurd only
+log_stop Sink only = tt
+log_stop Device only = absurd only
+log_stop NoMemory only = tt
+log_stop (Malformed line) only = absurd only
+log_stop (Short has) only = tt
+log_stop (TooLarge key) only = absurd only
+log_stop BadRecord only = absurd only
+
+pub opening_stop : (stop : Stop) → IsOpeningStop stop → IsLogStop stop
+opening_stop (Header rule) only = absurd only
+opening_stop Source only = absurd only
+opening_stop Sink only = absurd only
+opening_stop Device only = tt
+opening_stop NoMemory only = tt
+opening_stop (Malformed line) only = absurd only
+opening_stop (Short has) only = absurd only
+opening_stop (TooLarge key) only = absurd only
+opening_stop BadRecord only = tt
+
+pub backup_stop : (stop : Stop) → IsLogStop stop → IsBackupStop stop
+backup_stop (Header rule) only = absurd only
+backup_stop Source only = absurd only
+backup_stop Sink only = tt
+backup_stop Device only = tt
+backup_stop NoMemory only = tt
+backup_stop (Malformed line) only = absurd only
+backup_stop (Short has) only = tt
+backup_stop (TooLarge key) only = absurd only
+backup_stop BadRecord only = tt
+
+pub header_stop : (stop : Stop) → IsHeaderStop stop → IsBackupStop stop
+header_stop (Header rule) only = tt
+header_stop Source only = tt
+header_stop Sink only = absurd only
+header_stop Device only = absurd only
+header_stop NoMemory only = tt
+header_stop (Malformed line) only = absurd only
+header_stop (Short has) only = absurd only
+header_stop (TooLarge key) only = absurd only
+header_stop BadRecord only = absurd only

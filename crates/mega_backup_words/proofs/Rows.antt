@@ -1,5 +1,5 @@
 -- The schedule lines of a restore, which are written one after another, and how it ends.
-use Rattle.std.proofs.Common.{◌≡◌, ℕ, ◌+◌, ◌≤◌, ◌<◌, List, [], ◌∷◌, ◌++◌, length, drop, get_or, Option, Result, Ok, Err, sym, ◌∙◌, ap, subst}
+use Rattle.std.proofs.Common.{◌≡◌, ℕ, ◌+◌, ◌≤◌, ◌<◌, List, [], ◌∷◌, ◌++◌, length, drop, get_or, Option, Some, None, Result, Ok, Err, refl, sym, ◌∙◌, ap, subst}
 use Rattle.std.specs.Prelude.{OnOk, OnErr, IfErr}
 use Rattle.std.specs.Io.KnownBytes.{Appends}
 use Rattle.std.proofs.KnownBytes.{Keeps-refl}
@@ -9,6 +9,10 @@ use Rattle.mega_io.specs.Pieces.{AppendsFront}
 use Rattle.mega_io.proofs.Writing.{Written}
 use Rattle.mega_schema.specs.declared.schema.Schema.{Schema}
 use Rattle.mega_outcome.specs.declared.transaction.Transaction.{Transaction}
+use Rattle.mega_cluster.specs.declared.cluster.Cluster.{Cluster}
+use Rattle.mega_heading.specs.Parts.{cluster_in, lines_behind}
+use Rattle.mega_heading.specs.Known.{Told}
+use Rattle.mega_backup.specs.Restoring.{read_of}
 use Rattle.mega_backup.specs.declared.fault.BackupFault.{BackupFault}
 use Rattle.mega_backup.specs.declared.fault.BackupFault.TheVariants as fault
 use Rattle.mega_backup.specs.Faults.{Refuses}
@@ -16,9 +20,9 @@ use Rattle.mega_backup.specs.Spelling.{line_of}
 use Rattle.mega_backup.proofs.Streams.{wrote_all, wrote_front, wrote_on}
 use Rattle.mega_backup_words.specs.declared.stop.Stop.{Stop}
 use Rattle.mega_backup_words.specs.declared.stop.Stop.TheVariants.{Header, Source, Sink, Device, NoMemory, Malformed, Short, TooLarge, BadRecord}
-use Rattle.mega_backup_words.specs.Endings.{Ending, Ends}
-use Rattle.mega_backup_words.specs.Inputs.{lines_text, read_ending}
-use Rattle.mega_backup_words.specs.Stops.{IsSinkStop, stop_of}
+use Rattle.mega_backup_words.specs.Endings.{Ending, Ends, ending_of}
+use Rattle.mega_backup_words.specs.Inputs.{lines_text, lines_within, most_bytes, parts_ending, read_ending, restore_of}
+use Rattle.mega_backup_words.specs.Stops.{IsHeaderStop, IsRowStop, IsSinkStop, stop_of}
 use Rattle.mega_backup_words.proofs.Endings.{unwritten}
 
 -- the line of one transaction
@@ -63,3 +67,44 @@ fault_ends s answer old (fault.Malformed line) is = (ap (read_ending s) is, Keep
 fault_ends s answer old (fault.TooLarge key) is = (ap (read_ending s) is, Keeps-refl old)
 fault_ends s answer old fault.SinkFault is = absurd is
 fault_ends s answer old fault.NoMemory is = unwritten old (read_ending s answer).text
+
+pub row_stop : (why : BackupFault) → IsRowStop (stop_of why)
+row_stop (fault.Short has) = tt
+row_stop (fault.Malformed line) = tt
+row_stop (fault.TooLarge key) = tt
+row_stop fault.SinkFault = tt
+row_stop fault.NoMemory = tt
+
+-- a reading meets no sink
+pub no_sink : (answer : Result (List Transaction) BackupFault) (why : BackupFault) → Refuses why answer → stop_of why ≡ Sink → ⊥
+no_sink answer (fault.Short has) is sinks = cc
+no_sink answer (fault.Malformed line) is sinks = cc
+no_sink answer (fault.TooLarge key) is sinks = cc
+no_sink answer fault.SinkFault is sinks = is
+no_sink answer fault.NoMemory is sinks = cc
+
+-- ---- where the input is told
+
+pub restored_so : (known old new : Option (List ℕ)) (at : ℕ) (c : Cluster) (lines : List (List ℕ)) (r : Result (Unit {0}) Stop) → Told known (λ input. (cluster_in 1 input ≡ Ok c) × (lines_behind (lines_within most_bytes input) ≡ Some lines))
+    → Ends (read_ending c.schema (read_of c.schema lines at)) old new r → Told known (λ input. Ends (restore_of at input) old new r)
+restored_so None old new at c lines r read ends = tt
+restored_so (Some input) old new at c lines r read ends =
+    subst (λ (e : Ending). Ends e old new r)
+    (sym (ap (λ (header : Result Cluster ℕ). parts_ending at header (lines_behind (lines_within most_bytes input))) read.0 ∙ ap (parts_ending at (Ok c)) read.1)) ends
+
+pub unread_so : (known old : Option (List ℕ)) (at : ℕ) (stop : Stop) → IsHeaderStop stop → ((rule : ℕ) → stop ≡ Header rule → Told known (λ input. (q : ℕ) → restore_of q input ≡ ending_of (Header rule)))
+    → Told known (λ input. Ends (restore_of at input) old old (Err stop))
+unread_so None old at stop only broken = tt
+unread_so (Some input) old at (Header rule) only broken = (broken rule refl at, Keeps-refl old)
+unread_so (Some input) old at Source only broken = unwritten old (restore_of at input).text
+unread_so (Some input) old at NoMemory only broken = unwritten old (restore_of at input).text
+unread_so (Some input) old at Sink only broken = absurd only
+unread_so (Some input) old at Device only broken = absurd only
+unread_so (Some input) old at (Malformed line) only broken = absurd only
+unread_so (Some input) old at (Short has) only broken = absurd only
+unread_so (Some input) old at (TooLarge key) only broken = absurd only
+unread_so (Some input) old at BadRecord only broken = absurd only
+
+pub told_so : (known : Option (List ℕ)) (IsSo More : List ℕ → Type 0) → ((input : List ℕ) → IsSo input → More input) → Told known IsSo → Told known More
+told_so None IsSo More so told = tt
+told_so (Some input) IsSo More so told = so input told

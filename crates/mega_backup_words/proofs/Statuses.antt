@@ -1,6 +1,7 @@
 -- With which status the program ends, by what stopped it.
-use Rattle.std.proofs.Common.{◌≡◌, ℕ, Bool, true, false, Result, Ok, Err, refl, sym, ◌∙◌, ap, subst, inl, inr}
+use Rattle.std.proofs.Common.{◌≡◌, ℕ, ◌≤◌, Bool, true, false, Result, Ok, Err, refl, sym, ◌∙◌, ap, subst, arith, inl, inr}
 use Rattle.std.specs.Prelude.{◌⊎◌, IfErr}
+use Rattle.mega_base.specs.Causes.{Rose}
 use Rattle.mega_backup_words.specs.declared.stop.Stop.{Stop}
 use Rattle.mega_backup_words.specs.declared.stop.Stop.TheVariants.{Header, Source, Sink, Device, NoMemory, Malformed, Short, TooLarge, BadRecord}
 use Rattle.mega_backup_words.specs.Endings.{end_status, is_cut, status_of}
@@ -47,53 +48,65 @@ restore_status (Err stop) status only (inl is) = subst IsRestoreStatus (sym is) 
 -- ---- which stop a status tells of
 
 source_of : (ended : Result (Unit {0}) Stop) → end_status ended ≡ 5 → ended ≡ Err Source
-source_of (Ok done) is = cc
-source_of (Err (Header rule)) is = cc
+source_of (Ok done) is = absurd (omega (arith, is))
+source_of (Err (Header rule)) is = absurd (omega (arith, is))
 source_of (Err Source) is = refl
-source_of (Err Sink) is = cc
-source_of (Err Device) is = cc
-source_of (Err NoMemory) is = cc
-source_of (Err (Malformed line)) is = cc
-source_of (Err (Short has)) is = cc
-source_of (Err (TooLarge key)) is = cc
-source_of (Err BadRecord) is = cc
+source_of (Err Sink) is = absurd (omega (arith, is))
+source_of (Err Device) is = absurd (omega (arith, is))
+source_of (Err NoMemory) is = absurd (omega (arith, is))
+source_of (Err (Malformed line)) is = absurd (omega (arith, is))
+source_of (Err (Short has)) is = absurd (omega (arith, is))
+source_of (Err (TooLarge key)) is = absurd (omega (arith, is))
+source_of (Err BadRecord) is = absurd (omega (arith, is))
 
 pub source_end : (ended : Result (Unit {0}) Stop) (status : ℕ) → EndsWith ended status → status ≡ 5 → ended ≡ Err Source
 source_end ended status (inl same) is = source_of ended (sym same ∙ is)
-source_end ended status (inr (inl six)) is = cc
-source_end ended status (inr (inr eight)) is = cc
+source_end ended status (inr (inl six)) is = absurd (omega (arith, six, is))
+source_end ended status (inr (inr eight)) is = absurd (omega (arith, eight, is))
 
 device_of : (ended : Result (Unit {0}) Stop) → end_status ended ≡ 7 → ended ≡ Err Device
-device_of (Ok done) is = cc
-device_of (Err (Header rule)) is = cc
-device_of (Err Source) is = cc
-device_of (Err Sink) is = cc
+device_of (Ok done) is = absurd (omega (arith, is))
+device_of (Err (Header rule)) is = absurd (omega (arith, is))
+device_of (Err Source) is = absurd (omega (arith, is))
+device_of (Err Sink) is = absurd (omega (arith, is))
 device_of (Err Device) is = refl
-device_of (Err NoMemory) is = cc
-device_of (Err (Malformed line)) is = cc
-device_of (Err (Short has)) is = cc
-device_of (Err (TooLarge key)) is = cc
-device_of (Err BadRecord) is = cc
+device_of (Err NoMemory) is = absurd (omega (arith, is))
+device_of (Err (Malformed line)) is = absurd (omega (arith, is))
+device_of (Err (Short has)) is = absurd (omega (arith, is))
+device_of (Err (TooLarge key)) is = absurd (omega (arith, is))
+device_of (Err BadRecord) is = absurd (omega (arith, is))
 
 pub device_end : (ended : Result (Unit {0}) Stop) (status : ℕ) → EndsWith ended status → status ≡ 7 → ended ≡ Err Device
 device_end ended status (inl same) is = device_of ended (sym same ∙ is)
-device_end ended status (inr (inl six)) is = cc
-device_end ended status (inr (inr eight)) is = cc
+device_end ended status (inr (inl six)) is = absurd (omega (arith, six, is))
+device_end ended status (inr (inr eight)) is = absurd (omega (arith, eight, is))
 
 pub sink_end : (ended : Result (Unit {0}) Stop) → end_status ended ≡ 6 → ended ≡ Err Sink
-sink_end (Ok done) is = cc
-sink_end (Err (Header rule)) is = cc
-sink_end (Err Source) is = cc
+sink_end (Ok done) is = absurd (omega (arith, is))
+sink_end (Err (Header rule)) is = absurd (omega (arith, is))
+sink_end (Err Source) is = absurd (omega (arith, is))
 sink_end (Err Sink) is = refl
-sink_end (Err Device) is = cc
-sink_end (Err NoMemory) is = cc
-sink_end (Err (Malformed line)) is = cc
-sink_end (Err (Short has)) is = cc
-sink_end (Err (TooLarge key)) is = cc
-sink_end (Err BadRecord) is = cc
+sink_end (Err Device) is = absurd (omega (arith, is))
+sink_end (Err NoMemory) is = absurd (omega (arith, is))
+sink_end (Err (Malformed line)) is = absurd (omega (arith, is))
+sink_end (Err (Short has)) is = absurd (omega (arith, is))
+sink_end (Err (TooLarge key)) is = absurd (omega (arith, is))
+sink_end (Err BadRecord) is = absurd (omega (arith, is))
 
 -- what is not cut was not cut before
 pub uncut : (ended : Result (Unit {0}) Stop) (status : ℕ) → EndsWith ended status → is_cut status ≡ false → is_cut (end_status ended) ≡ false
 uncut ended status (inl same) is = ap is_cut (sym same) ∙ is
 uncut ended status (inr (inl six)) is = absurd (let none : ◌≡◌ {A = Bool} true false = ap is_cut (sym six) ∙ is in cc)
 uncut ended status (inr (inr eight)) is = absurd (let none : ◌≡◌ {A = Bool} true false = ap is_cut (sym eight) ∙ is in cc)
+
+-- ---- a count that rose stays risen
+
+pub rose_then : (one two three : ℕ) → Rose one two → two ≤ three → Rose one three
+rose_then one two three rose more = omega (arith, rose, more)
+
+pub then_rose : (one two three : ℕ) → one ≤ two → Rose two three → Rose one three
+then_rose one two three more rose = omega (arith, more, rose)
+
+pub either_rose : (ended : Result (Unit {0}) Stop) (one two three : ℕ) → one ≤ two → two ≤ three → (ended ≡ Err Sink → Rose one two) → (end_status ended ≡ 6) ⊎ Rose two three → Rose one three
+either_rose ended one two three first then before (inl six) = rose_then one two three (before (sink_end ended six)) then
+either_rose ended one two three first then before (inr rose) = then_rose one two three first rose
