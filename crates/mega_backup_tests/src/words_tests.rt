@@ -115,6 +115,12 @@ fn an_input_that_is_no_backup_is_told(rt: HostRuntime) -> Result<(), Fail> {
     let alloc = rt.alloc();
     let missing = [samples::HEADER, "---\nbackup 018000000000000065 1\n"];
     check_restore(&rt, alloc, &missing, 1, (12, "malformed 2\n"))?;
-    check_restore(&rt, alloc, &[samples::HEADER, "---"], 0, (12, "malformed 1\n"))?;
+    check_restore(
+        &rt,
+        alloc,
+        &[samples::HEADER, "---"],
+        0,
+        (12, "malformed 1\n"),
+    )?;
     check_restore(&rt, alloc, &[samples::HEADER], 0, (3, "header 9\n"))
 }

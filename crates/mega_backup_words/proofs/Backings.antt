@@ -28,7 +28,6 @@ use Rattle.mega_backup_words.proofs.Endings.{unwritten}
 
 -- ---- the log is long enough, or it is not
 
-
 is_most : (m n : ℕ) → m ≤ n → nat_le m n ≡ true
 is_most m n most = grind (arith, nat_tests)
 

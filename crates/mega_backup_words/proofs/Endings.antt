@@ -1,5 +1,5 @@
 -- What was written once the last line of a stop is written.
-use Rattle.std.proofs.Common.{◌≡◌, ℕ, ◌+◌, Bool, true, false, List, [], ◌∷◌, ◌++◌, length, take, Option, Some, None, Result, Ok, Err, refl, sym, ◌∙◌, ap, subst, append-nil, inl, inr}
+use Rattle.std.proofs.Common.{◌≡◌, ℕ, zero, suc, Bool, true, false, List, [], ◌∷◌, ◌++◌, length, take, Option, Some, None, Result, Ok, Err, refl, sym, ◌∙◌, ap, subst, append-nil, inl, inr}
 use Rattle.std.specs.Prelude.{◌⊎◌}
 use Rattle.std.specs.Io.KnownBytes.{Appends, Keeps}
 use Rattle.std.proofs.KnownBytes.{Appends-nil, Appends-trans}
@@ -25,7 +25,8 @@ kept_front before old new text kept (n, front) = (n, kept_appends before old new
 
 -- nothing more was written
 nothing : (n : ℕ) → take {A = ℕ} n [] ≡ []
-nothing n = search rules
+nothing zero = refl
+nothing (suc n) = refl
 
 front_kept : (before old new : Option (List ℕ)) (text : List ℕ) → AppendsFront before old text → AppendsFront old new [] → AppendsFront before new text
 front_kept before old new text (m, front) (n, none) =
@@ -65,13 +66,7 @@ stop_front (Short has) ending before old new ends front = told_front (Short has)
 stop_front (TooLarge key) ending before old new ends front = told_front (TooLarge key) ending before old new ends front
 stop_front BadRecord ending before old new ends front = told_front BadRecord ending before old new ends front
 
--- nothing was written of the last line
+-- nothing was written of a text
 pub unwritten : (old : Option (List ℕ)) (text : List ℕ) → AppendsFront old old text
-unwritten old text = (0, subst (Appends old old) (sym none) (Appends-nil old))
-  where
-    none : take 0 text ≡ []
-    none = search rules
-
--- without a stop
-pub done_whole : (ending : Ending) (before old : Option (List ℕ)) → Ends ending before old (Ok tt) → (0 ≡ ending.status) × Appends before old ending.text
-done_whole ending before old ends = (sym ends.0, ends.1)
+unwritten old [] = (0, Appends-nil old)
+unwritten old (byte ∷ text) = (0, Appends-nil old)

@@ -3,6 +3,8 @@ use Rattle.std.proofs.Common.{◌≡◌, ℕ, ◌+◌, ◌-◌, ◌≤◌, ◌<�
 use Rattle.std.specs.Prelude.{◌⊎◌, nat_lt, if◌then◌else◌}
 use Rattle.std.proofs.lemmas.Bool.Decides.{nat_tests}
 use Rattle.std.proofs.Math.Seq.{take-append-add}
+use Rattle.std.specs.Io.KnownBytes.{prepend_known}
+use Rattle.std.proofs.KnownBytes.{prepend_known-nil}
 use Rattle.mega_cluster.specs.declared.cluster.Cluster.{Cluster}
 use Rattle.mega_cluster.specs.Header.{◌>>=◌, document_of, header_of, read_of}
 use Rattle.mega_io.specs.TextLines.{ended_lines, lines_of}
@@ -107,3 +109,38 @@ unmarked_broken (Some first) c text reads none = λ at.
     let few : length first ≤ most_bytes = (let short = short_header 1 text c reads in let more = enough in omega (arith, short, more, ap length none.0)) in
     ap (λ (header : Result Cluster ℕ). parts_ending at header (lines_behind (lines_within most_bytes first))) (all_headed 1 first text c none reads)
     ∙ ap (parts_ending at (Ok c)) (ap lines_behind (all_within most_bytes first few) ∙ none.1)
+
+-- ---- a reader that has read nothing yet
+
+known_is : (reader : List ℕ) (known : Option (List ℕ)) → reader ≡ [] → prepend_known reader known ≡ known
+known_is reader known none = ap (λ (xs : List ℕ). prepend_known xs known) none ∙ prepend_known-nil known
+
+pub all_parts : (reader : List ℕ) (known left : Option (List ℕ)) (taken : ℕ) (c d : Cluster) (lines : List (List ℕ)) → reader ≡ [] → taken ≤ 262149 → d ≡ c
+    → (text : List ℕ) × (read_of 1 text ≡ Ok c) × HasHeader (prepend_known reader known) left text → Takes (prepend_known reader known) left taken → Told left (λ left. lines_within (1073741824 - taken) left ≡ lines)
+    → Told known (λ input. (cluster_in 1 input ≡ Ok d) × (lines_behind (lines_within most_bytes input) ≡ Some lines))
+unfolding most_bytes
+all_parts reader known left taken c d lines none few same (text, reads, header) takes read =
+    parts_read 1073741824 taken known left d lines text (omega (arith, few)) (reads ∙ ap Ok (sym same))
+    (subst (λ (first : Option (List ℕ)). HasHeader first left text) (known_is reader known none) header) (subst (λ (first : Option (List ℕ)). Takes first left taken) (known_is reader known none) takes) read
+
+pub new_broken : (reader : List ℕ) (known : Option (List ℕ)) (rule : ℕ) → reader ≡ [] → Breaks 1 (prepend_known reader known) rule → Told known (λ input. (at : ℕ) → restore_of at input ≡ ending_of (Header rule))
+new_broken reader known rule none breaks = rule_broken known rule (subst (λ (first : Option (List ℕ)). Breaks 1 first rule) (known_is reader known none) breaks)
+
+pub new_unmarked : (reader : List ℕ) (known : Option (List ℕ)) (c : Cluster) (rule : ℕ) → reader ≡ [] → rule ≡ 9 → (text : List ℕ) × (read_of 1 text ≡ Ok c) × HasNoMark (prepend_known reader known) text
+    → Told known (λ input. (at : ℕ) → restore_of at input ≡ ending_of (Header rule))
+new_unmarked reader known c rule none nine (text, reads, whole) =
+    subst (λ (n : ℕ). Told known (λ input. (at : ℕ) → restore_of at input ≡ ending_of (Header n))) (sym nine)
+    (unmarked_broken known c text reads (subst (λ (first : Option (List ℕ)). HasNoMark first text) (known_is reader known none) whole))
+
+pub new_breaks : (least : ℕ) (reader : List ℕ) (known : Option (List ℕ)) (rule : ℕ) → reader ≡ [] → Breaks least (prepend_known reader known) rule → Breaks least known rule
+new_breaks least reader known rule none breaks = subst (λ (first : Option (List ℕ)). Breaks least first rule) (known_is reader known none) breaks
+
+pub new_read : (least : ℕ) (reader : List ℕ) (known left : Option (List ℕ)) (c : Cluster) (marked : Bool) → reader ≡ []
+    → (marked ≡ true → (text : List ℕ) × (read_of least text ≡ Ok c) × HasHeader (prepend_known reader known) left text)
+    → (marked ≡ false → (text : List ℕ) × (read_of least text ≡ Ok c) × HasNoMark (prepend_known reader known) text) → Told known (λ input. cluster_in least input ≡ Ok c)
+new_read least reader known left c true none there missing =
+    let found = there refl in
+    subst (λ (first : Option (List ℕ)). Told first (λ input. cluster_in least input ≡ Ok c)) (known_is reader known none) (header_read least (prepend_known reader known) left c found.0 found.1 found.2)
+new_read least reader known left c false none there missing =
+    let found = missing refl in
+    subst (λ (first : Option (List ℕ)). Told first (λ input. cluster_in least input ≡ Ok c)) (known_is reader known none) (whole_read least (prepend_known reader known) c found.0 found.1 found.2)

@@ -42,7 +42,11 @@ fn last_line(line: &Bytes) -> Next
     ensures last { result ≡ Next.Last → line.now ≢ [] }
     ensures more { result ≢ Next.Line }
 {
-    if line.is_empty() { Next::End } else { Next::Last }
+    if line.is_empty() {
+        Next::End
+    } else {
+        Next::Last
+    }
 }
 
 /// Reads the next line, where so many bytes may come.

@@ -66,10 +66,7 @@ fn open<D: Disk>(alloc: Global, log: D) -> Result<Logs<Journal<D>>, (Stop, D)>
 }
 
 /// Opens the log that a journal tells. A refusal hands the device back.
-fn open_records<D: Disk>(
-    alloc: Global,
-    journal: Journal<D>,
-) -> Result<Logs<Journal<D>>, (Stop, D)>
+fn open_records<D: Disk>(alloc: Global, journal: Journal<D>) -> Result<Logs<Journal<D>>, (Stop, D)>
     ensures opened { IfOk result (λ logs. (first_bad (⟦<Journal<D> as Records>⟧.opened journal) ≡ None) × Represents logs.kept (history_of (⟦<Journal<D> as Records>⟧.opened journal))) }
     ensures format { IfOk result (λ logs. IsOfFormat logs.kept) }
     ensures list { IfOk result (λ logs. ⟦<Journal<D> as Records>⟧.list logs.records ≡ ⟦<Journal<D> as Records>⟧.list journal) }

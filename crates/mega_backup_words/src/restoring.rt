@@ -109,7 +109,13 @@ fn restore<I: Source, O: Sink>(
     ensures outs { O.faults out.old ≤ O.faults out.new }
 {
     match read_parts(alloc, input) {
-        Ok(parts) => restore_lines(alloc, &parts.cluster.schema, parts.lines.as_slice(), at, out),
+        Ok(parts) => restore_lines(
+            alloc,
+            &parts.cluster.schema,
+            parts.lines.as_slice(),
+            at,
+            out,
+        ),
         Err(stop) => Err(stop),
     }
 }
