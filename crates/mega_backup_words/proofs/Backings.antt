@@ -22,7 +22,7 @@ use Rattle.mega_backup.specs.Texts.{backup_text}
 use Rattle.mega_backup_words.specs.declared.stop.Stop.{Stop}
 use Rattle.mega_backup_words.specs.declared.stop.Stop.TheVariants.{Header, Source, Sink, Device, NoMemory, Malformed, Short, TooLarge, BadRecord}
 use Rattle.mega_backup_words.specs.Backing.{AreHeld, BacksUp, backup_of, log_ending, records_ending}
-use Rattle.mega_backup_words.specs.Endings.{Ending, Ends, EndsBy, ending_of}
+use Rattle.mega_backup_words.specs.Endings.{Ending, Ends, EndsBy, ending_of, is_cut, status_of}
 use Rattle.mega_backup_words.specs.Stops.{IsBackupStop, IsHeaderStop, IsLogStop, IsOpeningStop, IsWriteStop, stop_of}
 use Rattle.mega_backup_words.proofs.Endings.{unwritten}
 
@@ -181,3 +181,15 @@ header_stop (Malformed line) only = absurd only
 header_stop (Short has) only = absurd only
 header_stop (TooLarge key) only = absurd only
 header_stop BadRecord only = absurd only
+
+-- what is not cut and was not opened has a bad record
+pub uncut_bad : (stop : Stop) → IsOpeningStop stop → is_cut (status_of stop) ≡ false → stop ≡ BadRecord
+uncut_bad Device only plain = absurd (let none : ◌≡◌ {A = Bool} true false = plain in cc)
+uncut_bad NoMemory only plain = absurd (let none : ◌≡◌ {A = Bool} true false = plain in cc)
+uncut_bad BadRecord only plain = refl
+uncut_bad (Header rule) only plain = absurd only
+uncut_bad Source only plain = absurd only
+uncut_bad Sink only plain = absurd only
+uncut_bad (Malformed line) only plain = absurd only
+uncut_bad (Short has) only plain = absurd only
+uncut_bad (TooLarge key) only plain = absurd only
