@@ -12,7 +12,7 @@ use mega_io::{Ended, LineError, LineReader, Source};
 use std::alloc::Global;
 
 /// What was read of the lines next.
-#[derive(Clone, Copy, PartialEq, Debug, Drop)]
+#[derive(Clone, Copy, Drop)]
 enum Next {
     /// A line, behind which others may stand.
     Line,

@@ -6,7 +6,7 @@ use mega_base::{Bytes, NoMemory, Position};
 use std::alloc::Global;
 
 /// Why a backup or a restore ends before its end.
-#[derive(Debug, Drop)]
+#[derive(Drop)]
 pub enum Stop {
     /// The header breaks this rule.
     Header { rule: u8 },
