@@ -10,7 +10,9 @@ use Rattle.mega_cluster.specs.Header.{◌>>=◌, document_of, header_of, read_of
 use Rattle.mega_io.specs.TextLines.{ended_lines, lines_of}
 use Rattle.mega_heading.specs.Parts.{cluster_in, header_before, header_text, is_mark, lines_behind}
 use Rattle.mega_heading.specs.Known.{AreParted, Breaks, HasHeader, HasNoMark, Takes, Told}
-use Rattle.mega_backup_words.specs.declared.stop.Stop.TheVariants.{Header}
+use Rattle.mega_backup_words.specs.declared.stop.Stop.{Stop}
+use Rattle.mega_backup_words.specs.declared.stop.Stop.TheVariants.{Header, Source, Sink, Device, NoMemory, Malformed, Short, TooLarge, BadRecord}
+use Rattle.mega_backup_words.specs.Stops.{IsHeaderStop, IsReadStop}
 use Rattle.mega_backup_words.specs.Endings.{ending_of}
 use Rattle.mega_backup_words.specs.Inputs.{lines_within, most_bytes, parts_ending, restore_of}
 use Rattle.mega_backup_words.proofs.Within.{all_within, cut_within, decided}
@@ -144,3 +146,14 @@ new_read least reader known left c true none there missing =
 new_read least reader known left c false none there missing =
     let found = missing refl in
     subst (λ (first : Option (List ℕ)). Told first (λ input. cluster_in least input ≡ Ok c)) (known_is reader known none) (whole_read least (prepend_known reader known) c found.0 found.1 found.2)
+
+pub read_stop : (stop : Stop) → IsReadStop stop → IsHeaderStop stop
+read_stop (Header rule) only = absurd only
+read_stop Source only = tt
+read_stop Sink only = absurd only
+read_stop Device only = absurd only
+read_stop NoMemory only = tt
+read_stop (Malformed line) only = absurd only
+read_stop (Short has) only = absurd only
+read_stop (TooLarge key) only = absurd only
+read_stop BadRecord only = absurd only

@@ -22,7 +22,7 @@ use Rattle.mega_backup_words.specs.declared.stop.Stop.{Stop}
 use Rattle.mega_backup_words.specs.declared.stop.Stop.TheVariants.{Header, Source, Sink, Device, NoMemory, Malformed, Short, TooLarge, BadRecord}
 use Rattle.mega_backup_words.specs.Endings.{Ending, Ends, ending_of}
 use Rattle.mega_backup_words.specs.Inputs.{lines_text, lines_within, most_bytes, parts_ending, read_ending, restore_of}
-use Rattle.mega_backup_words.specs.Stops.{IsHeaderStop, IsRowStop, IsSinkStop, stop_of}
+use Rattle.mega_backup_words.specs.Stops.{IsHeaderStop, IsRestoreStop, IsRowStop, IsSinkStop, stop_of}
 use Rattle.mega_backup_words.proofs.Endings.{unwritten}
 
 -- the line of one transaction
@@ -108,3 +108,38 @@ unread_so (Some input) old at BadRecord only broken = absurd only
 pub told_so : (known : Option (List ℕ)) (IsSo More : List ℕ → Type 0) → ((input : List ℕ) → IsSo input → More input) → Told known IsSo → Told known More
 told_so None IsSo More so told = tt
 told_so (Some input) IsSo More so told = so input told
+
+-- ---- which stops there are
+
+pub row_restore : (stop : Stop) → IsRowStop stop → IsRestoreStop stop
+row_restore (Header rule) only = absurd only
+row_restore Source only = absurd only
+row_restore Sink only = tt
+row_restore Device only = absurd only
+row_restore NoMemory only = tt
+row_restore (Malformed line) only = tt
+row_restore (Short has) only = tt
+row_restore (TooLarge key) only = tt
+row_restore BadRecord only = absurd only
+
+pub header_restore : (stop : Stop) → IsHeaderStop stop → IsRestoreStop stop
+header_restore (Header rule) only = tt
+header_restore Source only = tt
+header_restore Sink only = absurd only
+header_restore Device only = absurd only
+header_restore NoMemory only = tt
+header_restore (Malformed line) only = absurd only
+header_restore (Short has) only = absurd only
+header_restore (TooLarge key) only = absurd only
+header_restore BadRecord only = absurd only
+
+pub sink_row : (stop : Stop) → IsSinkStop stop → IsRowStop stop
+sink_row (Header rule) only = absurd only
+sink_row Source only = absurd only
+sink_row Sink only = tt
+sink_row Device only = absurd only
+sink_row NoMemory only = tt
+sink_row (Malformed line) only = absurd only
+sink_row (Short has) only = absurd only
+sink_row (TooLarge key) only = absurd only
+sink_row BadRecord only = absurd only

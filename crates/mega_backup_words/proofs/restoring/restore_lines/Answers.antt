@@ -4,7 +4,8 @@ use Rattle.mega_backup_words.specs.declared.stop.Stop.{Stop}
 use Rattle.mega_backup_words.specs.Endings.{Ends}
 use Rattle.mega_backup_words.specs.Inputs.{read_ending}
 use Rattle.mega_backup_words.specs.Stops.{IsRowStop}
-use Rattle.mega_backup_words.proofs.Rows.{fault_ends, no_sink, row_stop, rows_end}
+use Rattle.mega_backup_words.proofs.Results.{if_err_then}
+use Rattle.mega_backup_words.proofs.Rows.{fault_ends, no_sink, row_stop, rows_end, sink_row}
 use Rattle.mega_backup_words.proofs.restoring.restore_lines.Goals as goal
 
 pub returns-in-Ok-clause-ends : goal.returns-in-Ok-clause-ends
@@ -27,3 +28,6 @@ returns-in-Err-clause-sink g c is =
 
 pub returns-in-Err-clause-only : goal.returns-in-Err-clause-only
 returns-in-Err-clause-only g c = subst IsRowStop (sym c.from.ensures) (row_stop c.in-Err.fault)
+
+pub returns-in-Ok-clause-only : goal.returns-in-Ok-clause-only
+returns-in-Ok-clause-only g c = if_err_then c.write_lines.result _ _ sink_row c.write_lines.ensures.only
