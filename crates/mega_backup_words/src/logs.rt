@@ -122,7 +122,8 @@ pub fn back_up<O: Sink, D: Disk>(
     match open(alloc, log) {
         Ok(logs) => {
             let ended = write_log(alloc, &logs, group, through, out);
-            (ended, logs.close().close())
+            let journal = logs.close();
+            (ended, journal.close())
         }
         Err((stop, log)) => (Err(stop), log),
     }

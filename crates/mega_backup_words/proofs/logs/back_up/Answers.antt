@@ -16,7 +16,7 @@ returns-in-Ok-clause-ends g c =
     (c.write_log-ended.ensures.ends _ found.3)
 
 pub returns-in-Ok-clause-kept : goal.returns-in-Ok-clause-kept
-returns-in-Ok-clause-kept g c told plain = ap (λ d. records_of (g.D.Disk.seen d)) (c.close-2.ensures ∙ ap disk_of c.close.ensures) ∙ c.in-Ok.ensures.list told
+returns-in-Ok-clause-kept g c told plain = ap (λ d. records_of (g.D.Disk.seen d)) (c.close.ensures ∙ ap disk_of c.close-journal.ensures) ∙ c.in-Ok.ensures.list told
 
 pub returns-in-Ok-clause-device : goal.returns-in-Ok-clause-device
 returns-in-Ok-clause-device g c is = absurd (subst (λ (r : Result (Unit {0}) Stop). IfErr r IsWriteStop) is c.write_log-ended.ensures.only)

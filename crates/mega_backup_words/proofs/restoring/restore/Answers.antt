@@ -1,7 +1,10 @@
-use Rattle.std.proofs.Common.{◌≡◌, Result, Err, ap, subst}
+use Rattle.std.proofs.Common.{◌≡◌, ℕ, List, Result, Err, ap, subst, rules}
 use Rattle.std.specs.Prelude.{IfErr}
 use Rattle.mega_backup_words.specs.declared.stop.Stop.{Stop}
 use Rattle.mega_backup_words.specs.declared.stop.Stop.TheVariants.{Sink}
+use Rattle.mega_backup.specs.Restoring.{read_of}
+use Rattle.mega_backup_words.specs.Endings.{Ends}
+use Rattle.mega_backup_words.specs.Inputs.{read_ending}
 use Rattle.mega_backup_words.specs.Stops.{IsHeaderStop, IsRowStop}
 use Rattle.mega_backup_words.proofs.Results.{if_err_then}
 use Rattle.mega_backup_words.proofs.Rows.{header_restore, restored_so, row_restore, unread_so}
@@ -9,8 +12,14 @@ use Rattle.mega_backup_words.proofs.restoring.restore.Goals as goal
 
 pub returns-in-Ok-clause-ends : goal.returns-in-Ok-clause-ends
 returns-in-Ok-clause-ends g c =
-    restored_so (g.I.Source.left c.args.input.now) (g.O.Sink.held c.args.out.now) (g.O.Sink.held c.restore_lines.new.out) c.args.at.0 c.in-Ok.parts.cluster c.in-Ok.parts.lines.items c.restore_lines.result c.in-Ok.ensures.read
-    (rw c.as_slice.ensures at c.restore_lines.ensures.ends)
+    let old = g.O.Sink.held c.args.out.now in
+    let new = g.O.Sink.held c.restore_lines.new.out in
+    let at = c.args.at.0 in
+    let parts = c.in-Ok.parts in
+    let s = parts.cluster.schema in
+    let same : c.as_slice.result.now ≡ parts.lines.items = search rules in
+    restored_so (g.I.Source.left c.args.input.now) old new at parts.cluster parts.lines.items c.restore_lines.result c.in-Ok.ensures.read
+    (subst (λ (lines : List (List ℕ)). Ends (read_ending s (read_of s lines at)) old new c.restore_lines.result) same c.restore_lines.ensures.ends)
 
 pub returns-in-Err-clause-ends : goal.returns-in-Err-clause-ends
 returns-in-Err-clause-ends g c =

@@ -1,8 +1,12 @@
-use Rattle.std.proofs.Common.{◌≡◌, Err, sym, subst, ◌∙◌}
+use Rattle.std.proofs.Common.{◌≡◌, List, Err, sym, subst, ◌∙◌, rules}
+use Rattle.std.specs.Prelude.{OnErr, OnOk}
+use Rattle.std.specs.Io.KnownBytes.{Appends}
+use Rattle.mega_io.specs.Pieces.{AppendsFront}
+use Rattle.mega_outcome.specs.declared.transaction.Transaction.{Transaction}
 use Rattle.mega_backup.specs.Restoring.{read_of}
 use Rattle.mega_backup_words.specs.declared.stop.Stop.{Stop}
 use Rattle.mega_backup_words.specs.Endings.{Ends}
-use Rattle.mega_backup_words.specs.Inputs.{read_ending}
+use Rattle.mega_backup_words.specs.Inputs.{lines_text, read_ending}
 use Rattle.mega_backup_words.specs.Stops.{IsRowStop}
 use Rattle.mega_backup_words.proofs.Results.{if_err_then}
 use Rattle.mega_backup_words.proofs.Rows.{fault_ends, no_sink, row_stop, rows_end, sink_row}
@@ -11,8 +15,12 @@ use Rattle.mega_backup_words.proofs.restoring.restore_lines.Goals as goal
 pub returns-in-Ok-clause-ends : goal.returns-in-Ok-clause-ends
 returns-in-Ok-clause-ends g c =
     let s = c.args.schema.now in
-    rows_end s (read_of s c.args.lines.now c.args.at.0) c.in-Ok.txns.items (g.O.Sink.held c.args.out.now) (g.O.Sink.held c.write_lines.new.out) c.write_lines.result c.in-Ok.ensures
-    (rw c.as_slice.ensures at c.write_lines.ensures.ok) (rw c.as_slice.ensures at c.write_lines.ensures.err) c.write_lines.ensures.only
+    let old = g.O.Sink.held c.args.out.now in
+    let new = g.O.Sink.held c.write_lines.new.out in
+    let same : c.as_slice.result.now ≡ c.in-Ok.txns.items = search rules in
+    rows_end s (read_of s c.args.lines.now c.args.at.0) c.in-Ok.txns.items old new c.write_lines.result c.in-Ok.ensures
+    (subst (λ (txns : List Transaction). OnOk c.write_lines.result (Appends old new (lines_text s txns))) same c.write_lines.ensures.ok)
+    (subst (λ (txns : List Transaction). OnErr c.write_lines.result (AppendsFront old new (lines_text s txns))) same c.write_lines.ensures.err) c.write_lines.ensures.only
 
 pub returns-in-Err-clause-ends : goal.returns-in-Err-clause-ends
 returns-in-Err-clause-ends g c =
