@@ -8,7 +8,7 @@ use Rattle.std.proofs.KnownBytes.{prepend_known-nil}
 use Rattle.mega_cluster.specs.declared.cluster.Cluster.{Cluster}
 use Rattle.mega_cluster.specs.Header.{◌>>=◌, document_of, header_of, read_of}
 use Rattle.mega_io.specs.TextLines.{ended_lines, lines_of}
-use Rattle.mega_heading.specs.Parts.{cluster_in, header_before, header_text, is_mark, lines_behind}
+use Rattle.mega_heading.specs.Parts.{cluster_in, header_before, is_mark, lines_behind}
 use Rattle.mega_heading.specs.Known.{AreParted, Breaks, HasHeader, HasNoMark, Takes, Told}
 use Rattle.mega_backup_words.specs.declared.stop.Stop.{Stop}
 use Rattle.mega_backup_words.specs.declared.stop.Stop.TheVariants.{Header, Source, Sink, Device, NoMemory, Malformed, Short, TooLarge, BadRecord}

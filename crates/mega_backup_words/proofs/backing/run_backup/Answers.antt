@@ -1,4 +1,4 @@
-use Rattle.std.proofs.Common.{◌≡◌, sym}
+use Rattle.std.proofs.Common.{◌≡◌}
 use Rattle.std.specs.Io.KnownBytes.{Appends}
 use Rattle.mega_io.specs.Pieces.{AppendsFront}
 use Rattle.mega_backup_words.specs.Endings.{Ends}

@@ -1,4 +1,4 @@
-use Rattle.std.proofs.Common.{◌≡◌, Result, Err, ap, subst, ◌∙◌}
+use Rattle.std.proofs.Common.{◌≡◌, Result, ap, subst, ◌∙◌}
 use Rattle.std.specs.Prelude.{IfErr}
 use Rattle.mega_journal.specs.Chain.{records_of}
 use Rattle.mega_journal.specs.Journals.{disk_of}

@@ -1,4 +1,4 @@
-use Rattle.std.proofs.Common.{◌≡◌, ℕ, ◌≤◌, sym, ◌∙◌, subst}
+use Rattle.std.proofs.Common.{ℕ, ◌≤◌, sym, ◌∙◌, subst}
 use Rattle.mega_backup_words.proofs.Results.{if_err_then, if_ok_then}
 use Rattle.mega_backup_words.proofs.logs.open.Goals as goal
 

@@ -1,5 +1,4 @@
-use Rattle.std.proofs.Common.{◌≡◌, Err, Ok, ap, sym, subst, ◌∙◌}
-use Rattle.mega_backup_words.specs.declared.stop.Stop.{Stop}
+use Rattle.std.proofs.Common.{Err, ap, sym, subst, ◌∙◌}
 use Rattle.mega_backup_words.specs.Backing.{log_ending}
 use Rattle.mega_backup_words.specs.Endings.{EndsBy}
 use Rattle.mega_backup_words.specs.Stops.{IsWriteStop}
