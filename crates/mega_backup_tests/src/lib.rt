@@ -8,4 +8,6 @@ mod restored;
 #[cfg(test)]
 mod samples;
 #[cfg(test)]
+mod words_tests;
+#[cfg(test)]
 mod writing_tests;

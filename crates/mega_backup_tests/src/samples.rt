@@ -12,6 +12,22 @@ pub const USER_BACKUP: &str = "backup 018000000000000065 1
 entry 010101000000010000000101000000010000000a0180000000000000650101020100000001020000000000000065020000000104000000044a6f686e000000000000000000000000
 ";
 
+/// A log in which that entry is decided at position 1, and one whose record is none.
+pub const USER_LOG: &str =
+    "0100000066000000010400000009018000000000000065000000000000000100000048010101000000010000000101000000010000000a0180000000000000650101020100000001020000000000000065020000000104000000044a6f686e00000000000000000000000000";
+
+pub const BAD_LOG: &str = "01000000040000000900";
+
+/// A header of three nodes.
+pub const HEADER: &str = r#"nodes = ["full", "full", "full"]
+schema = "CREATE SCHEMA S; CREATE TABLE User { required int64 user_id; required string name; } PRIMARY KEY(user_id), ENTITY GROUP ROOT;"
+"#;
+
+/// The schedule line that brings that row back.
+pub const USER_LINE: &str =
+    r#"{"checks":[],"do":"txn","group":["User",[101]],"node":1,"reads":[],"sends":[],"writes":[{"put":"User","row":{"name":"John","user_id":101}}]}
+"#;
+
 /// A position, and what a restore there writes.
 pub const USER_ROWS: &str = r#"0 
 1 {"checks":[],"do":"txn","group":["User",[101]],"node":1,"reads":[],"sends":[],"writes":[{"put":"User","row":{"name":"John","user_id":101}}]}

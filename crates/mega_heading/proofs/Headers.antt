@@ -1,12 +1,12 @@
 -- How a header is read, line by line, up to the line that ends it.
-use Rattle.std.proofs.Common.{◌≡◌, ℕ, ◌<◌, cond, Bool, true, false, Option, Some, None, Err, List, [], ◌∷◌, ◌++◌, length, refl, sym, ◌∙◌, ap, subst, append_assoc, append-nil, length-append, arith, rules, inl, inr}
+use Rattle.std.proofs.Common.{◌≡◌, ℕ, ◌+◌, ◌≤◌, ◌<◌, cond, Bool, true, false, Option, Some, None, Err, List, [], ◌∷◌, ◌++◌, length, refl, sym, ◌∙◌, ap, subst, append_assoc, append-nil, length-append, arith, rules, inl, inr}
 use Rattle.std.specs.Prelude.{nat_lt, if◌then◌else◌}
 use Rattle.std.proofs.lemmas.Bool.Decides.{nat_tests}
 use Rattle.mega_cluster.specs.Header.{◌>>=◌, document_of, header_of, read_of}
 use Rattle.mega_io.specs.declared.lines.Ended.TheVariants.{Feed, Input, Long}
 use Rattle.mega_io.specs.TextLines.{BreaksOff, IsUnbroken, ReadsLine, close_line, ended_lines, lines_after, lines_of}
 use Rattle.mega_heading.specs.Parts.{cluster_in, header_before, is_mark, lines_behind, text_before}
-use Rattle.mega_heading.specs.Known.{Breaks, Follows, HasFront, HasHeader, HasNoMark, HeaderFails, IsOfHeader, TakesHeader, TakesLine}
+use Rattle.mega_heading.specs.Known.{Breaks, Follows, HasFront, HasHeader, HasNoMark, HeaderFails, IsOfHeader, Takes, TakesHeader, TakesLine}
 use Rattle.mega_heading.proofs.Inputs.{ended_line, ended_none, last_follows, line_follows, lines_on, long_line}
 
 -- ---- a header that is too long
@@ -181,3 +181,30 @@ header_fails (Some first) None left text line waiting front breaks = absurd fron
 header_fails (Some first) (Some now) None text line waiting front breaks = absurd breaks.0
 header_fails (Some first) (Some now) (Some left) text line waiting front breaks =
     (text ++ line, front.0 ∙ ap (λ (rest : List ℕ). text ++ rest) breaks.0 ∙ sym (append_assoc text line left), (front.3 line).1 ∙ ap lines_behind (ended_none line breaks.1))
+
+-- ---- how many bytes were read
+
+pub takes_feed : (old new : Option (List ℕ)) (line : List ℕ) (most : ℕ) → ReadsLine most old new line Feed → Takes old new (length line + 1)
+takes_feed None new line most reads = tt
+takes_feed (Some old) None line most reads = absurd reads.0
+takes_feed (Some old) (Some new) line most reads = inl (omega (arith, ap length reads.0, length-append (line ++ 10 ∷ []) new, length-append line (10 ∷ [])))
+
+pub takes_last : (old new : Option (List ℕ)) (line : List ℕ) (most : ℕ) → ReadsLine most old new line Input → Takes old new (length line + 1)
+takes_last None new line most reads = tt
+takes_last (Some old) None line most reads = absurd reads.0
+takes_last (Some old) (Some new) line most reads = inr (reads.1, omega (arith, ap length reads.0, length-append line new, ap length reads.1))
+
+pub takes_all : (first old new : Option (List ℕ)) (text : List ℕ) (count : ℕ) → HasFront first old text → Takes old new count → Takes first new (length text + count)
+takes_all None old new text count front takes = tt
+takes_all (Some first) None new text count front takes = absurd front
+takes_all (Some first) (Some old) None text count front takes = absurd takes
+takes_all (Some first) (Some old) (Some new) text count front (inl is) = inl (omega (arith, is, ap length front.0, length-append text old))
+takes_all (Some first) (Some old) (Some new) text count front (inr (none, few)) = inr (none, omega (arith, few, ap length front.0, length-append text old))
+
+pub mark_few : (line : List ℕ) → is_mark line ≡ true → length line ≤ 4
+mark_few [] marks = omega arith
+mark_few (a ∷ []) marks = omega arith
+mark_few (a ∷ b ∷ []) marks = omega arith
+mark_few (a ∷ b ∷ c ∷ []) marks = omega arith
+mark_few (a ∷ b ∷ c ∷ d ∷ []) marks = omega arith
+mark_few (a ∷ b ∷ c ∷ d ∷ e ∷ line) marks = absurd (let none : ◌≡◌ {A = Bool} false true = sym (mark_short (a ∷ b ∷ c ∷ d ∷ e ∷ line) (omega arith)) ∙ marks in cc)

@@ -1,5 +1,5 @@
 -- What is said of an input, where its bytes are told, while its header is read and afterwards.
-use Rattle.std.specs.Prelude.{◌≡◌, ℕ, ◌⊎◌, List, [], ◌∷◌, ◌++◌, Option, Some, None, Err}
+use Rattle.std.specs.Prelude.{◌≡◌, ℕ, ◌+◌, ◌≤◌, ◌⊎◌, List, [], ◌∷◌, ◌++◌, length, Option, Some, None, Err}
 use Rattle.mega_io.specs.TextLines.{ended_lines, lines_of}
 use Rattle.mega_heading.specs.Parts.{cluster_in, lines_behind, text_before}
 
@@ -17,6 +17,10 @@ Passes (Some old) (Some new) Holds = Holds old new
 -- these bytes were read, in which this line ended with a line feed, or with the input
 abbrev pub TakesLine : List ℕ → List ℕ → List ℕ → Type 0
 TakesLine old new line = (read : List ℕ) × (old ≡ read ++ new) × (((more : List ℕ) → ended_lines (read ++ more) ≡ line ∷ ended_lines more) ⊎ (new ≡ []))
+
+-- so many bytes were read; the last of them may be missing at the end
+abbrev pub Takes : Option (List ℕ) → Option (List ℕ) → ℕ → Type 0
+Takes old new count = Passes old new (λ old new. (length old ≡ count + length new) ⊎ ((new ≡ []) × (length old ≤ count)))
 
 -- a line was read
 abbrev pub Follows : Option (List ℕ) → Option (List ℕ) → List ℕ → Type 0

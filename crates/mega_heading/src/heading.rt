@@ -3,7 +3,7 @@ ghost use Rattle.std.specs.Prelude.{◌≡◌, ◌≢◌, ◌≤◌, ℕ, List, 
 ghost use Rattle.std.specs.Io.KnownBytes.{prepend_known};
 ghost use Rattle.mega_base.specs.Causes.{Rose};
 ghost use Rattle.mega_cluster.specs.Header.{read_of};
-ghost use Rattle.mega_heading.specs.Known.{Breaks, HasHeader, HasNoMark, HeaderFails};
+ghost use Rattle.mega_heading.specs.Known.{Breaks, HasHeader, HasNoMark, HeaderFails, Takes};
 
 use crate::text::read_text;
 use mega_base::Bytes;
@@ -11,11 +11,13 @@ use mega_cluster::{Cluster, HeaderFault, read};
 use mega_io::{LineReader, Source};
 use std::alloc::Global;
 
-/// A header that was read: its cluster, and whether the line `---` stands behind it.
+/// A header that was read: its cluster, whether the line `---` stands behind it, and how many bytes it has, with that
+/// line and its line feed.
 #[derive(Drop)]
 pub struct Heading {
     pub cluster: Cluster,
     pub marked: bool,
+    pub taken: usize,
 }
 
 /// Why a header was not read.
@@ -52,6 +54,7 @@ pub fn read_heading<I: Source>(
 ) -> Result<Heading, HeadingFault>
     ensures marked { IfOk result (λ heading. heading.marked ≡ true → (text : List ℕ) × (read_of least text ≡ Ok heading.cluster) × HasHeader (prepend_known reader.old (I.left input.old)) (prepend_known reader.new (I.left input.new)) text) }
     ensures unmarked { IfOk result (λ heading. heading.marked ≡ false → (text : List ℕ) × (read_of least text ≡ Ok heading.cluster) × HasNoMark (prepend_known reader.old (I.left input.old)) text) }
+    ensures taken { IfOk result (λ heading. heading.marked ≡ true → (heading.taken ≤ 262149) × Takes (prepend_known reader.old (I.left input.old)) (prepend_known reader.new (I.left input.new)) heading.taken) }
     ensures broken { (rule : ℕ) → result ≡ Err (HeadingFault.Rule rule) → Breaks least (prepend_known reader.old (I.left input.old)) rule }
     ensures fault { result ≡ Err HeadingFault.Source → HeaderFails (prepend_known reader.old (I.left input.old)) (I.left input.new) }
     ensures source { result ≡ Err HeadingFault.Source → Rose (I.faults input.old) (I.faults input.new) }
@@ -62,8 +65,17 @@ pub fn read_heading<I: Source>(
         Ok(marked) => marked,
         Err(fault) => return Err(fault),
     };
+    let taken = if marked {
+        text.len() + line.len() + 1
+    } else {
+        text.len()
+    };
     match cluster_of(alloc, least, text.as_slice()) {
-        Ok(cluster) => Ok(Heading { cluster, marked }),
+        Ok(cluster) => Ok(Heading {
+            cluster,
+            marked,
+            taken,
+        }),
         Err(fault) => Err(fault),
     }
 }

@@ -1,10 +1,10 @@
 //! The text of a header, line by line, up to the line that ends it.
-ghost use Rattle.std.specs.Prelude.{◌≡◌, ◌≢◌, ◌≤◌, ◌++◌, ◌∷◌, ℕ, List, Option, [], true, false, Ok, Err, IfErr};
+ghost use Rattle.std.specs.Prelude.{◌≡◌, ◌≢◌, ◌≤◌, ◌+◌, ◌++◌, ◌∷◌, ℕ, List, Option, [], true, false, Ok, Err, IfErr, length};
 ghost use Rattle.std.specs.Io.KnownBytes.{prepend_known};
 ghost use Rattle.mega_base.specs.Causes.{Rose};
 ghost use Rattle.mega_io.specs.TextLines.{BreaksOff};
 ghost use Rattle.mega_heading.specs.Parts.{is_mark};
-ghost use Rattle.mega_heading.specs.Known.{Breaks, HasFront, HasHeader, HasNoMark, HeaderFails};
+ghost use Rattle.mega_heading.specs.Known.{Breaks, HasFront, HasHeader, HasNoMark, HeaderFails, Takes};
 
 use crate::heading::HeadingFault;
 use mega_base::Bytes;
@@ -80,6 +80,8 @@ fn next_part<I: Source>(
 ) -> Result<Part, HeadingFault>
     ensures line { result ≡ Ok Part.Line → (first : Option (List ℕ)) → HasFront first (prepend_known reader.old (I.left input.old)) text.old → HasFront first (prepend_known reader.new (I.left input.new)) text.new }
     ensures mark { result ≡ Ok Part.Mark → (first : Option (List ℕ)) → HasFront first (prepend_known reader.old (I.left input.old)) text.old → HasHeader first (prepend_known reader.new (I.left input.new)) text.new }
+    ensures same { result ≡ Ok Part.Mark → text.new ≡ text.old }
+    ensures taken { result ≡ Ok Part.Mark → (is_mark line.new ≡ true) × Takes (prepend_known reader.old (I.left input.old)) (prepend_known reader.new (I.left input.new)) (length line.new + 1) }
     ensures end { result ≡ Ok Part.End → (first : Option (List ℕ)) → HasFront first (prepend_known reader.old (I.left input.old)) text.old → HasNoMark first text.new }
     ensures long { result ≡ Ok Part.Long → (least : ℕ) (first : Option (List ℕ)) → HasFront first (prepend_known reader.old (I.left input.old)) text.old → Breaks least first 6 }
     ensures fault { result ≡ Err HeadingFault.Source → BreaksOff (prepend_known reader.old (I.left input.old)) reader.new (I.left input.new) line.new }
@@ -106,6 +108,7 @@ pub(crate) fn read_text<I: Source>(
 ) -> Result<bool, HeadingFault>
     requires { text.old ≡ [] }
     ensures marked { result ≡ Ok true → HasHeader (prepend_known reader.old (I.left input.old)) (prepend_known reader.new (I.left input.new)) text.new }
+    ensures taken { result ≡ Ok true → (length text.new ≤ 262144) × (length line.new ≤ 4) × Takes (prepend_known reader.old (I.left input.old)) (prepend_known reader.new (I.left input.new)) (length text.new + length line.new + 1) }
     ensures unmarked { result ≡ Ok false → HasNoMark (prepend_known reader.old (I.left input.old)) text.new }
     ensures broken { (rule : ℕ) → result ≡ Err (HeadingFault.Rule rule) → (least : ℕ) → Breaks least (prepend_known reader.old (I.left input.old)) rule }
     ensures fault { result ≡ Err HeadingFault.Source → HeaderFails (prepend_known reader.old (I.left input.old)) (I.left input.new) }

@@ -1,0 +1,7 @@
+pub mod Endings
+pub mod Statuses
+pub mod Within
+pub mod Parts
+pub mod Results
+pub mod Rows
+pub mod Backings

@@ -1,0 +1,4 @@
+pub mod Endings
+pub mod Stops
+pub mod Inputs
+pub mod Backing
