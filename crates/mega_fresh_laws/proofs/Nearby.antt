@@ -25,7 +25,7 @@ use Rattle.mega_promises.specs.Runs.{Cuts, IsRun, Standing, breaks, goes_on, met
 use Rattle.mega_rules.specs.Clock.{is_up, start_of}
 use Rattle.mega_rules.specs.Coordinators.{coordinator_calls, valid_at}
 use Rattle.mega_rules.specs.Logs.{top_of}
-use Rattle.mega_rules.specs.Members.{is_full, nodes}
+use Rattle.mega_rules.specs.Members.{is_full}
 use Rattle.mega_rules.specs.Met.{Met, Starts, Crashes, Ticks, Begins, Takes, Sends, Unsends, Grants, Lapses, Counts, Forgets, Serves, Loses, Validates, Invalidates, Decides, Applies, Answers}
 use Rattle.mega_rules.specs.Operations.{Node, Setting}
 use Rattle.mega_rules.specs.Steps.{Event, Step, onto, step}

@@ -323,7 +323,7 @@ module _ (s : Setting) (base : List Item) (next : ℕ) where
       goes_on_it s First ActedAt ActsAt walks (sends_more now (due (site (reader_of s o.id group) asked n) proposal (s.cluster).retry clock).sends)
       (in_phase o (Proposes group n asked (due (site (reader_of s o.id group) asked n) proposal (s.cluster).retry clock).proposal promised))
       (rounds_acts now o group n asked (due (site (reader_of s o.id group) asked n) proposal (s.cluster).retry clock).proposal promised (due (site (reader_of s o.id group) asked n) proposal (s.cluster).retry clock).sends
-      (busy_at k now o.id le node a) h.heard h.unasked (due_offers (site (reader_of s o.id group) asked n) proposal (s.cluster).retry clock above))
+      (busy_at k now o.id le node a) h.heard h.unasked (due_offers (site (reader_of s o.id group) asked n) proposal (s.cluster).retry clock))
 
   at_later : (now : Now) → Stood base (at now)
   at_later now = earlier_stood base (at now) (sent_later next now.sends base)

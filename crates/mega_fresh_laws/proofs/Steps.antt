@@ -17,7 +17,7 @@ use Rattle.mega_promises.specs.Runs.{met_in}
 use Rattle.mega_rules.specs.Clock.{clock_of}
 use Rattle.mega_rules.specs.Coordinators.{acquires_at}
 use Rattle.mega_rules.specs.Logs.{groups_of}
-use Rattle.mega_rules.specs.Members.{has_rows, is_full, is_node, kind_of, nodes, runs}
+use Rattle.mega_rules.specs.Members.{has_rows, is_full, is_node, kind_of, runs}
 use Rattle.mega_rules.specs.Met.{Met, Applies, Begins, Takes, Ticks}
 use Rattle.mega_rules.specs.Operations.{Node, Now, Operation, Setting}
 use Rattle.mega_rules.specs.Replies.{reply_to}
