@@ -33,6 +33,17 @@ def find_program():
     return program
 
 
+def end_within(seconds):
+    """Lets the script end by itself, with its nodes, after so many seconds or where it is told to."""
+
+    def end(number, _):
+        raise SystemExit(f"ended by signal {number}")
+
+    signal.signal(signal.SIGTERM, end)
+    signal.signal(signal.SIGALRM, end)
+    signal.alarm(seconds)
+
+
 def free_ports(count):
     """Ports of the loopback at which nothing listens."""
     sockets = [socket.socket(socket.AF_INET, socket.SOCK_DGRAM) for _ in range(count)]

@@ -12,7 +12,7 @@ import pathlib
 import sys
 import tempfile
 
-from cluster import Client, Cluster, find_program, put_note, read_notes
+from cluster import Client, Cluster, end_within, find_program, put_note, read_notes
 from figures import measure
 
 USERS = (1, 2, 3)
@@ -78,6 +78,7 @@ def main():
     parser.add_argument("--figures", action="store_true", help="measure")
     given = parser.parse_args()
     program = (given.program or find_program()).resolve()
+    end_within(120 * given.slower)
     with tempfile.TemporaryDirectory(prefix="megastore-", dir=given.folder) as folder:
         with Cluster(folder, program, slower=given.slower) as cluster:
             client = Client(cluster)

@@ -15,7 +15,7 @@ import sys
 import tempfile
 import time
 
-from cluster import HEAD, TOKEN, Client, Cluster, find_program, put_note, read_notes, request_message
+from cluster import HEAD, TOKEN, Client, Cluster, end_within, find_program, put_note, read_notes, request_message
 
 GROUP = bytes.fromhex("018000000000000001")
 PROBE_EACH = 100
@@ -187,6 +187,7 @@ def main():
     parser.add_argument("--seed", type=int, default=1)
     given = parser.parse_args()
     program = (given.program or find_program()).resolve()
+    end_within(600 * given.slower)
     with tempfile.TemporaryDirectory(prefix="megastore-") as folder:
         cluster = Cluster(folder, program, kinds=("full", "read"), slower=given.slower, values=VALUES)
         cluster.start(1)
