@@ -34,7 +34,14 @@ fn a_header_without_the_node_breaks_rule_3(rt: HostRuntime) -> Result<(), Fail> 
 #[test]
 fn a_header_without_an_address_for_each_node_breaks_rule_8(rt: HostRuntime) -> Result<(), Fail> {
     let alloc = rt.alloc();
-    check(&rt, alloc, samples::UNADDRESSED, empty(alloc), 3, "header 8\n")
+    check(
+        &rt,
+        alloc,
+        samples::UNADDRESSED,
+        empty(alloc),
+        3,
+        "header 8\n",
+    )
 }
 
 #[test]

@@ -39,8 +39,22 @@ fn a_node_counts_its_starts_on_its_log(rt: HostRuntime) -> Result<(), Fail> {
 }
 
 /// Asserts that a node of three records this behind its first tick.
-fn check(rt: &impl Abort, alloc: Global, turns: u64, coming: &str, wanted: &str) -> Result<Called, Fail> {
-    let made = call(alloc, 1, turns, samples::THREE, coming, still(alloc), empty(alloc))?;
+fn check(
+    rt: &impl Abort,
+    alloc: Global,
+    turns: u64,
+    coming: &str,
+    wanted: &str,
+) -> Result<Called, Fail> {
+    let made = call(
+        alloc,
+        1,
+        turns,
+        samples::THREE,
+        coming,
+        still(alloc),
+        empty(alloc),
+    )?;
     let mut whole = mega_base::Bytes::from_slice(alloc, samples::FIRST_TICK.as_bytes())?;
     whole.extend_from_slice(wanted.as_bytes())?;
     assert_eq!(rt; made.text.as_slice(), whole.as_slice());
@@ -50,14 +64,26 @@ fn check(rt: &impl Abort, alloc: Global, turns: u64, coming: &str, wanted: &str)
 
 #[test]
 fn strange_datagrams_change_nothing(rt: HostRuntime) -> Result<(), Fail> {
-    let made = check(&rt, rt.alloc(), 6, samples::STRANGE, samples::STRANGE_RECORD)?;
+    let made = check(
+        &rt,
+        rt.alloc(),
+        6,
+        samples::STRANGE,
+        samples::STRANGE_RECORD,
+    )?;
     assert_eq!(rt; made.sent, 3);
     Ok(())
 }
 
 #[test]
 fn a_client_that_asks_for_nothing_is_told_why_not(rt: HostRuntime) -> Result<(), Fail> {
-    let made = check(&rt, rt.alloc(), 1, samples::NOTHING_ASKED, samples::NOTHING_ASKED_RECORD)?;
+    let made = check(
+        &rt,
+        rt.alloc(),
+        1,
+        samples::NOTHING_ASKED,
+        samples::NOTHING_ASKED_RECORD,
+    )?;
     assert_eq!(rt; made.sent, 4);
     Ok(())
 }

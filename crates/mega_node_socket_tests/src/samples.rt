@@ -1,28 +1,36 @@
 //! Headers, datagrams and records of nodes.
 
 /// One full node.
-pub const ONE: &str = "nodes = [\"full\"]\nschema = \"CREATE SCHEMA S; CREATE TABLE User { required int64 user_id; required string name; } PRIMARY KEY(user_id), ENTITY GROUP ROOT;\"\naddresses = [\"127.0.0.1:7001\"]\n";
+pub const ONE: &str =
+    "nodes = [\"full\"]\nschema = \"CREATE SCHEMA S; CREATE TABLE User { required int64 user_id; required string name; } PRIMARY KEY(user_id), ENTITY GROUP ROOT;\"\naddresses = [\"127.0.0.1:7001\"]\n";
 
 /// Two full nodes and a witness, with a line behind the header.
-pub const THREE: &str = "nodes = [\"full\", \"full\", \"witness\"]\nschema = \"CREATE SCHEMA S; CREATE TABLE User { required int64 user_id; required string name; } PRIMARY KEY(user_id), ENTITY GROUP ROOT;\"\naddresses = [\"127.0.0.1:7001\", \"127.0.0.1:7002\", \"127.0.0.1:7003\"]\n---\nnot read\n";
+pub const THREE: &str =
+    "nodes = [\"full\", \"full\", \"witness\"]\nschema = \"CREATE SCHEMA S; CREATE TABLE User { required int64 user_id; required string name; } PRIMARY KEY(user_id), ENTITY GROUP ROOT;\"\naddresses = [\"127.0.0.1:7001\", \"127.0.0.1:7002\", \"127.0.0.1:7003\"]\n---\nnot read\n";
 
 /// Two nodes, and one address.
-pub const UNADDRESSED: &str = "nodes = [\"full\", \"full\"]\nschema = \"CREATE SCHEMA S;\"\naddresses = [\"127.0.0.1:7001\"]\n";
+pub const UNADDRESSED: &str =
+    "nodes = [\"full\", \"full\"]\nschema = \"CREATE SCHEMA S;\"\naddresses = [\"127.0.0.1:7001\"]\n";
 
 /// The record of one node whose clock shows 5 and then 60.
-pub const WORKED: &str = "start 1 1\ntick 1 5\nput 1 4d53011101010100000001000000000000000000000005\ntick 1 60\nput 1 4d5301110101010000000100000000000000000000003c\n";
+pub const WORKED: &str =
+    "start 1 1\ntick 1 5\nput 1 4d53011101010100000001000000000000000000000005\ntick 1 60\nput 1 4d5301110101010000000100000000000000000000003c\n";
 
 /// What a node of three records at its start and first tick, at 0.
-pub const FIRST_TICK: &str = "start 1 1\ntick 1 0\nput 1 4d53011101010100000001000000000000000000000000\nput 2 4d53011101020200000001000000000000000000000000\nput 3 4d53011101030300000001000000000000000000000000\n";
+pub const FIRST_TICK: &str =
+    "start 1 1\ntick 1 0\nput 1 4d53011101010100000001000000000000000000000000\nput 2 4d53011101020200000001000000000000000000000000\nput 3 4d53011101030300000001000000000000000000000000\n";
 
 /// Datagrams that change nothing at node 1 and have no reply: each from a node, or from a client behind the letter `c`. They are no message; for
 /// another node; of another sender; of an operation of an older start; a client's reply; a grant of an older epoch.
-pub const STRANGE: &str = "2 4d53010101\n2 4d530101020302000000010000000100000009018000000000000065\n2 4d530101030103000000010000000100000009018000000000000065\n1 4d5301020101010000000900000001000000090180000000000000650000000000000000\nc1 4d53011501000000000000000001000000026f6b\n1 4d53011201010100000000000000070000000000000000\n";
+pub const STRANGE: &str =
+    "2 4d53010101\n2 4d530101020302000000010000000100000009018000000000000065\n2 4d530101030103000000010000000100000009018000000000000065\n1 4d5301020101010000000900000001000000090180000000000000650000000000000000\nc1 4d53011501000000000000000001000000026f6b\n1 4d53011201010100000000000000070000000000000000\n";
 
 /// What node 1 records of them.
-pub const STRANGE_RECORD: &str = "got 2 4d53010101\ntick 1 0\ngot 2 4d530101020302000000010000000100000009018000000000000065\ntick 1 0\ngot 2 4d530101030103000000010000000100000009018000000000000065\ntick 1 0\ngot 1 4d5301020101010000000900000001000000090180000000000000650000000000000000\ntick 1 0\ngot client 1 4d53011501000000000000000001000000026f6b\ntick 1 0\ngot 1 4d53011201010100000000000000070000000000000000\n";
+pub const STRANGE_RECORD: &str =
+    "got 2 4d53010101\ntick 1 0\ngot 2 4d530101020302000000010000000100000009018000000000000065\ntick 1 0\ngot 2 4d530101030103000000010000000100000009018000000000000065\ntick 1 0\ngot 1 4d5301020101010000000900000001000000090180000000000000650000000000000000\ntick 1 0\ngot client 1 4d53011501000000000000000001000000026f6b\ntick 1 0\ngot 1 4d53011201010100000000000000070000000000000000\n";
 
 /// A client asks for nothing, and is told why not.
 pub const NOTHING_ASKED: &str = "c1 4d53011400010000000000000007000000025b5d\n";
 
-pub const NOTHING_ASKED_RECORD: &str = "got client 1 4d53011400010000000000000007000000025b5d\nput client 1 4d530115010000000000000000070000001272656675736564207363686564756c652031\n";
+pub const NOTHING_ASKED_RECORD: &str =
+    "got client 1 4d53011400010000000000000007000000025b5d\nput client 1 4d530115010000000000000000070000001272656675736564207363686564756c652031\n";
