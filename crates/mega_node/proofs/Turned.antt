@@ -1,5 +1,5 @@
 -- The record of a start, and of the turns behind it.
-use Rattle.std.proofs.Common.{◌≡◌, ◌⊎◌, ℕ, List, [], ◌∷◌, ◌++◌, Option, None, filter_map, map, refl, sym, subst, ◌∙◌}
+use Rattle.std.proofs.Common.{◌≡◌, ℕ, List, [], ◌∷◌, Option, Result, Ok, Err, OnOk, OnErr, map, refl, sym, subst, ◌∙◌}
 use Rattle.std.specs.Io.KnownBytes.{Appends}
 use Rattle.mega_cluster.specs.declared.cluster.Cluster.{Cluster}
 use Rattle.mega_core.specs.declared.note.Note.{Note}
@@ -7,18 +7,21 @@ use Rattle.mega_handler.specs.Named.{Meaning, Meanings}
 use Rattle.mega_io.specs.Pieces.{AppendsFront}
 use Rattle.mega_link.specs.Datagrams.{Datagram}
 use Rattle.mega_meanings.specs.Means.{Means}
+use Rattle.mega_promises.specs.Items.{number}
 use Rattle.mega_promises.specs.Runs.{setting}
-use Rattle.mega_promises.specs.Served.{Line, Noted, Served, put_in}
+use Rattle.mega_promises.specs.Served.{Line, Noted, Served}
 use Rattle.mega_rules.specs.Operations.{Setting}
 use Rattle.mega_schema.specs.declared.schema.Schema.{Schema}
 use Rattle.mega_serve.specs.declared.steps.Steps.{Ghosts as StepsGhosts}
 use Rattle.mega_serve.specs.declared.waiting.Waiting.{Waiting as Waits}
 use Rattle.mega_serve.specs.Lines.{record_text}
 use Rattle.mega_serve.specs.Pages.{ArePut, GoesOn, Stops}
-use Rattle.mega_serve.specs.Turns.{Ended, EndsIn, HasBegun, HasTurned, IsServing, MayServe, Runs, Went, schema_of, served_by, setting_of, turns_of}
+use Rattle.mega_serve.specs.Turns.{Ended, EndsIn, HasBegun, HasTurned, MayServe, Runs, Went, schema_of, served_by, setting_of, turns_of}
 use Rattle.mega_serve.proofs.Ending.{ended_further, none_begun}
 use Rattle.mega_serve.proofs.Going.{all_nothing, went_further}
+use Rattle.mega_server.specs.Forming.{notes_shown}
 use Rattle.mega_transcript.specs.declared.item.Item.{Item}
+use Rattle.mega_transcript.specs.declared.item.Item.TheVariants.{Start}
 use Rattle.mega_node.specs.Calls.{served_over, started_over}
 use Rattle.mega_node.specs.Outside.{Outside}
 use Rattle.mega_node.specs.Serving.{HasTurnedOff, HasTurnedOn}
@@ -47,7 +50,7 @@ begins steps makes c me found one start notes held more_held sent started writte
       goes_on = record {
         text = subst (λ (all : List Line). Appends held more_held (record_text (schema_of steps one) all)) (sym lines) written;
         sends = [];
-        are_put = subst (λ (all : List Line). ArePut all []) (sym lines) (quiet _);
+        are_put = subst (λ (all : List Line). ArePut all []) (sym lines) (quiet (Start (number (steps.me one)) start ∷ notes_shown (steps.me one) notes));
         sent_are = all_nothing sent;
       };
     }
@@ -139,3 +142,13 @@ unrecorded steps one start notes before after written same = record {
   where
     ap_sent : after ≡ record before { held = after.held } → after.sent ≡ before.sent
     ap_sent is = λ i. (is i).sent
+
+-- ---- what is said of a call's end
+
+pub ok_then : {T E A B : Type 0} (made : Result T E) → (A → B) → OnOk made A → OnOk made B
+ok_then (Ok one) so a = so a
+ok_then (Err stop) so a = tt
+
+pub err_then : {T E A B : Type 0} (made : Result T E) → (A → B) → OnErr made A → OnErr made B
+err_then (Ok one) so a = tt
+err_then (Err stop) so a = so a
