@@ -29,9 +29,13 @@ pub fn read_header<I: Source>(
     ensures count { I.faults input.old ≤ I.faults input.new }
 {
     match read_heading(alloc, 1, reader, input, line) {
-        Ok(Heading {
-            cluster, marked, ..
-        }) => {
+        Ok(
+            Heading {
+                cluster,
+                marked,
+                ..
+            },
+        ) => {
             if !marked {
                 drop(cluster);
                 return Err(Stop::Header { rule: 9 });
