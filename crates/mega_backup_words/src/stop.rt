@@ -1,5 +1,6 @@
 //! Why a backup or a restore stops, its status, and the last line that tells of it.
 ghost use Rattle.std.specs.Prelude.{◌≡◌, IfOk};
+ghost use Rattle.mega_backup_words.specs.Endings.{large_line};
 
 use mega_backup::BackupFault;
 use mega_base::{Bytes, NoMemory, Position};
@@ -100,8 +101,6 @@ impl Stop {
         }
     }
 }
-
-ghost use Rattle.mega_backup_words.specs.Endings.{large_line};
 
 /// The line that tells of a row that is too large, by its key in hex.
 fn large_line(alloc: Global, key: &[u8]) -> Result<Bytes, NoMemory>
