@@ -8,6 +8,11 @@ returns-in-Some-Replay-clause-refused g c report is stops =
     let same : c.in-Some-Replay.report ≡ report = cc in
     rw (← same) (c.replay_all.ensures.refused stops)
 
+pub returns-in-Some-Replay-clause-limit : goal.returns-in-Some-Replay-clause-limit
+returns-in-Some-Replay-clause-limit g c report is stops =
+    let same : c.in-Some-Replay.report ≡ report = cc in
+    rw (← same) (c.replay_all.ensures.limit stops)
+
 pub returns-in-Some-Node-clause-node : goal.returns-in-Some-Node-clause-node
 returns-in-Some-Node-clause-node g c number turns is =
     let same : c.in-Some-Node.number ≡ number = cc in
