@@ -1,0 +1,3 @@
+pub mod Moves
+pub mod Words
+pub mod Rows
