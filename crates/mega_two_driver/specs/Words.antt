@@ -12,11 +12,11 @@ has_word (b ∷ word) (c ∷ text) = (b == c) && has_word word text
 
 -- something came in between
 abbrev pub is_again : List ℕ → Bool
-is_again reply = has_word (codes "conflict") reply || (has_word (codes "timedout") reply || has_word (codes "busy") reply)
+is_again reply = (has_word (codes "conflict") reply || has_word (codes "timedout") reply) || has_word (codes "busy") reply
 
 -- the node does not serve it
 abbrev pub is_closed : List ℕ → Bool
-is_closed reply = has_word (codes "nothere") reply || (has_word (codes "worn") reply || has_word (codes "refused") reply)
+is_closed reply = (has_word (codes "nothere") reply || has_word (codes "worn") reply) || has_word (codes "refused") reply
 
 -- what the reply to a transaction tells; where the reply is none of those that are known, none knows
 unfoldable pub transaction_told : List ℕ → Told

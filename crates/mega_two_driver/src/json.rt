@@ -8,6 +8,7 @@ ghost use Rattle.mega_schedule.specs.Fields.{pair_of};
 ghost use Rattle.mega_schedule.specs.Values.{list_in, number_of_place, primary_of, properties_of, table_number, text_in};
 ghost use Rattle.mega_two_driver.specs.Texts.{first_of, group_pair, root_name, root_table, root_values, second_of};
 
+use crate::words::same;
 use mega_index::table_at;
 use mega_schema::{Property, Schema, Table};
 use serde_json::Value as Json;
@@ -96,12 +97,6 @@ pub(crate) fn root_values(part: &Json) -> &[Json]
     }
 }
 
-fn same(text: &str, other: &str) -> bool
-    ensures { result ≡ same text.now other.now }
-{
-    text == other
-}
-
 fn number_of_place(place: Option<usize>) -> u8
     ensures { result ≡ number_of_place place }
 {
@@ -116,7 +111,7 @@ fn table_place(tables: &[Table], name: &str) -> Option<usize>
 {
     tables
         .iter()
-        .position(|table| same(table.name.as_str(), name))
+        .position(|table| same(table.name.as_bytes(), name.as_bytes()))
 }
 
 fn table_number(schema: &Schema, name: &str) -> u8

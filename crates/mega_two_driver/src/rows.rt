@@ -2,11 +2,10 @@
 ghost use Rattle.std.specs.Prelude.{◌≡◌, IfOk, option_map, option_and_then, Some};
 ghost use Rattle.std.specs.Option.{option_copied};
 ghost use Rattle.serde_json.specs.View.{view};
-ghost use Rattle.mega_two.specs.World.{same};
 ghost use Rattle.mega_two_driver.specs.Rows.{data_in, first_row, holder_told, line_digits, list_in, lock_row_told, lock_told, number_in, plan_line, plan_row_told, plan_told, row_or_null, rows_in, state_told, text_in};
 
 use crate::told::{State, Told};
-use crate::words::{has_word, unread_told};
+use crate::words::{has_word, same, unread_told};
 use hex::FromHexError;
 use mega_base::{Bytes, NoMemory};
 use serde_json::Value as Json;
@@ -118,18 +117,12 @@ pub(crate) fn plan_told(alloc: Global, reply: &[u8]) -> Result<Told, NoMemory>
     }
 }
 
-fn same(text: &str, name: &str) -> bool
-    ensures { result ≡ same text.now name.now }
-{
-    text == name
-}
-
 fn holder_told(name: &str, holder: Option<&str>) -> Told
     ensures { result ≡ holder_told name.now (option_map (λ s. s.now) holder.entry) }
 {
     match holder {
         Some(holder) => {
-            if same(holder, name) {
+            if same(holder.as_bytes(), name.as_bytes()) {
                 Told::Held
             } else {
                 Told::Free

@@ -1,8 +1,16 @@
 //! What the first word of a reply tells.
 ghost use Rattle.std.specs.Prelude.{◌≡◌};
+ghost use Rattle.mega_syntax.specs.Names.{same};
 ghost use Rattle.mega_two_driver.specs.Words.{has_word, is_again, is_closed, transaction_told, unread_told};
 
 use crate::told::Told;
+
+/// Whether the two texts are the same.
+pub(crate) fn same(text: &[u8], other: &[u8]) -> bool
+    ensures { result ≡ same text.now other.now }
+{
+    text == other
+}
 
 /// Whether the text's first word is this one.
 pub(crate) fn has_word(word: &[u8], text: &[u8]) -> bool
