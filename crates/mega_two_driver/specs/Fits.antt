@@ -1,5 +1,5 @@
 -- Whether a part fits a schema: its tables are there, and its finish may be done.
-use Rattle.std.specs.Prelude.{ℕ, ◌&&◌, not, nat_le, Bool, true, false, if◌then◌else◌, List, [], ◌∷◌, length, map, Option, Some, None, option_map, option_and_then, Result, Ok, Err}
+use Rattle.std.specs.Prelude.{ℕ, ◌&&◌, not, nat_le, Bool, true, false, if◌then◌else◌, List, [], ◌∷◌, ◌++◌, length, map, Option, Some, None, option_map, option_and_then, Result, Ok, Err}
 use Rattle.std.specs.List.{list_all, list_any}
 use Rattle.std.specs.Result.{result_ok}
 use Rattle.serde_json.specs.Data.{Data, Items}
@@ -73,6 +73,11 @@ with_write (Some write) (Some writes) = Some (write ∷ writes)
 abbrev pub writes_of : Schema → List ℕ → List Change → Option (List Write)
 writes_of s group [] = Some []
 writes_of s group (change ∷ changes) = with_write (write_of s group change) (writes_of s group changes)
+
+-- those that were found, before those that are left
+abbrev pub with_front : List Write → Option (List Write) → Option (List Write)
+with_front found None = None
+with_front found (Some writes) = Some (found ++ writes)
 
 -- no key stands twice
 abbrev pub is_new : List ℕ → List (List ℕ) → Bool

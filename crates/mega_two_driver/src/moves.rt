@@ -1,6 +1,6 @@
 //! How a change goes on by what it is told.
-ghost use Rattle.std.specs.Prelude.{◌≡◌, true};
-ghost use Rattle.mega_two_driver.specs.Moves.{by_state, checked, decided, ended_in, ending_of, finished, finishing, is_within, looked, moved, planned, prepared, preparing};
+ghost use Rattle.std.specs.Prelude.{◌≡◌, ◌+◌};
+ghost use Rattle.mega_two_driver.specs.Moves.{by_state, checked, decided, ended_in, ending_of, finished, finishing, looked, moved, planned, prepared, preparing};
 
 use crate::phase::{Ended, Phase};
 use crate::told::{State, Told};
@@ -11,6 +11,18 @@ fn preparing(count: usize, part: usize) -> Phase
 {
     if part < count {
         Phase::Prepares(part)
+    } else {
+        Phase::Decides(true)
+    }
+}
+
+/// So are those behind this one.
+#[tactic(auto, using(crate::proofs::Behind::is_beyond))]
+fn preparing_behind(count: usize, part: usize) -> Phase
+    ensures { result ≡ preparing count (part + 1) }
+{
+    if part < count {
+        preparing(count, part + 1)
     } else {
         Phase::Decides(true)
     }
@@ -28,6 +40,18 @@ fn finishing(count: usize, made: bool, part: usize) -> Phase
 {
     if part < count {
         Phase::Finishes(made, part)
+    } else {
+        Phase::Over(ending_of(made))
+    }
+}
+
+/// So are those behind this one.
+#[tactic(auto, using(crate::proofs::Behind::is_beyond))]
+fn finishing_behind(count: usize, made: bool, part: usize) -> Phase
+    ensures { result ≡ finishing count made (part + 1) }
+{
+    if part < count {
+        finishing(count, made, part + 1)
     } else {
         Phase::Over(ending_of(made))
     }
@@ -57,11 +81,10 @@ fn planned(count: usize, told: Told) -> Phase
 
 /// Only where each prepare was done is the change made.
 fn prepared(count: usize, part: usize, told: Told) -> Phase
-    requires { is_within count (Phase.Prepares part) ≡ true }
     ensures { result ≡ prepared count part told }
 {
     match told {
-        Told::Done => preparing(count, part + 1),
+        Told::Done => preparing_behind(count, part),
         Told::Turned | Told::Lost => Phase::Decides(false),
         Told::Refused => Phase::Over(Ended::Open),
         _ => Phase::Prepares(part),
@@ -90,11 +113,10 @@ fn looked(count: usize, made: bool, same: Phase, told: Told) -> Phase
 }
 
 fn finished(count: usize, made: bool, part: usize, told: Told) -> Phase
-    requires { is_within count (Phase.Finishes made part) ≡ true }
     ensures { result ≡ finished count made part told }
 {
     match told {
-        Told::Done => finishing(count, made, part + 1),
+        Told::Done => finishing_behind(count, made, part),
         Told::Turned | Told::Lost => Phase::Checks(made, part),
         Told::Refused => Phase::Over(Ended::Open),
         _ => Phase::Finishes(made, part),
@@ -102,11 +124,10 @@ fn finished(count: usize, made: bool, part: usize, told: Told) -> Phase
 }
 
 fn checked(count: usize, made: bool, part: usize, told: Told) -> Phase
-    requires { is_within count (Phase.Checks made part) ≡ true }
     ensures { result ≡ checked count made part told }
 {
     match told {
-        Told::Free => finishing(count, made, part + 1),
+        Told::Free => finishing_behind(count, made, part),
         Told::Held => Phase::Finishes(made, part),
         Told::Refused => Phase::Over(Ended::Open),
         _ => Phase::Checks(made, part),
@@ -115,7 +136,6 @@ fn checked(count: usize, made: bool, part: usize, told: Told) -> Phase
 
 /// Where a change of so many parts is, once it is told this of its present request.
 pub(crate) fn moved(count: usize, phase: Phase, told: Told) -> Phase
-    requires { is_within count phase ≡ true }
     ensures { result ≡ moved count phase told }
 {
     match phase {

@@ -1,0 +1,4 @@
+pub mod Driven
+pub mod Past
+pub mod Saw
+pub mod Within
