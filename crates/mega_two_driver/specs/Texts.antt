@@ -40,9 +40,9 @@ abbrev pub plan_group : List ℕ → List ℕ
 plan_group name = codes "[\"TwoPlan\"," ++ (bracketed (quoted name) ++ codes "]")
 
 -- the put of a plan in a state, which is a digit
-unfoldable pub plan_put : List ℕ → List ℕ → ℕ → List ℕ
+unfoldable pub plan_put : List ℕ → List ℕ → List ℕ → List ℕ
 plan_put name line state =
-    codes "[{\"put\":\"TwoPlan\",\"row\":{\"gid\":" ++ (quoted name ++ (codes ",\"plan\":" ++ (quoted (encode_lower line) ++ (codes ",\"state\":" ++ (state ∷ codes "}}]")))))
+    codes "[{\"put\":\"TwoPlan\",\"row\":{\"gid\":" ++ (quoted name ++ (codes ",\"plan\":" ++ (quoted (encode_lower line) ++ (codes ",\"state\":" ++ (state ++ codes "}}]")))))
 
 unfoldable pub no_plan_check : List ℕ → List ℕ
 no_plan_check name = codes "[{\"gone\":\"TwoPlan\",\"key\":" ++ (bracketed (quoted name) ++ codes "}]")
@@ -52,12 +52,12 @@ undecided_check name = codes "[{\"is\":\"TwoPlan\",\"key\":" ++ (bracketed (quot
 
 -- the plan is put where there is none of this name, undecided
 unfoldable pub planning_text : List ℕ → List ℕ → List ℕ
-planning_text name line = transaction_text (no_plan_check name) (plan_group name) (plan_put name line 48)
+planning_text name line = transaction_text (no_plan_check name) (plan_group name) (plan_put name line (codes "0"))
 
 -- it is put as made or dropped where it is undecided
-abbrev pub state_digit : Bool → ℕ
-state_digit true = 49
-state_digit false = 50
+abbrev pub state_digit : Bool → List ℕ
+state_digit true = codes "1"
+state_digit false = codes "2"
 
 unfoldable pub deciding_text : Bool → List ℕ → List ℕ → List ℕ
 deciding_text made name line = transaction_text (undecided_check name) (plan_group name) (plan_put name line (state_digit made))
@@ -119,6 +119,12 @@ lock_table root = root ++ codes "Two"
 abbrev pub end_table : List ℕ → List ℕ
 end_table root = root ++ codes "Done"
 
+abbrev pub quoted_locks : Data → List ℕ
+quoted_locks part = quoted (lock_table (root_name part))
+
+abbrev pub quoted_ends : Data → List ℕ
+quoted_ends part = quoted (end_table (root_name part))
+
 abbrev pub lock_key : Data → List ℕ
 lock_key part = field_text (second_of (group_pair part))
 
@@ -144,8 +150,8 @@ deleted_texts (item write writes) = deleted_text write ++ deleted_texts writes
 -- the part's group has no lock, and no end of this change
 unfoldable pub free_checks : List ℕ → Data → List ℕ
 free_checks name part =
-    codes "{\"gone\":" ++ (quoted (lock_table (root_name part)) ++ (codes ",\"key\":" ++ (lock_key part
-    ++ (codes "},{\"gone\":" ++ (quoted (end_table (root_name part)) ++ (codes ",\"key\":" ++ (end_key name part ++ codes "}")))))))
+    codes "{\"gone\":" ++ (quoted_locks part ++ (codes ",\"key\":" ++ (lock_key part
+    ++ (codes "},{\"gone\":" ++ (quoted_ends part ++ (codes ",\"key\":" ++ (end_key name part ++ codes "}")))))))
 
 unfoldable pub prepare_checks : List ℕ → Data → List ℕ
 prepare_checks name part =
@@ -153,7 +159,7 @@ prepare_checks name part =
 
 unfoldable pub lock_put : Schema → List ℕ → Data → List ℕ
 lock_put schema name part =
-    codes "[{\"put\":" ++ (quoted (lock_table (root_name part)) ++ (codes ",\"row\":{" ++ (key_members schema part
+    codes "[{\"put\":" ++ (quoted_locks part ++ (codes ",\"row\":{" ++ (key_members schema part
     ++ (codes "\"gid\":" ++ (quoted name ++ codes "}}]")))))
 
 -- the group is locked where it is free, the part's checks are true, and each row is there that the part deletes
@@ -163,19 +169,20 @@ prepare_text schema name part =
 
 unfoldable pub held_check : List ℕ → Data → List ℕ
 held_check name part =
-    codes "[{\"is\":" ++ (quoted (lock_table (root_name part)) ++ (codes ",\"key\":" ++ (lock_key part
+    codes "[{\"is\":" ++ (quoted_locks part ++ (codes ",\"key\":" ++ (lock_key part
     ++ (codes ",\"property\":\"gid\",\"values\":" ++ (bracketed (quoted name) ++ codes "}]")))))
 
 abbrev pub truth_text : Bool → List ℕ
 truth_text true = codes "true"
 truth_text false = codes "false"
 
+-- with a comma behind
 unfoldable pub lock_delete : Data → List ℕ
-lock_delete part = codes "{\"delete\":" ++ (quoted (lock_table (root_name part)) ++ (codes ",\"key\":" ++ (lock_key part ++ codes "}")))
+lock_delete part = codes "{\"delete\":" ++ (quoted_locks part ++ (codes ",\"key\":" ++ (lock_key part ++ codes "},")))
 
 unfoldable pub end_put : Schema → Bool → List ℕ → Data → List ℕ
 end_put schema made name part =
-    codes "{\"put\":" ++ (quoted (end_table (root_name part)) ++ (codes ",\"row\":{" ++ (key_members schema part
+    codes "{\"put\":" ++ (quoted_ends part ++ (codes ",\"row\":{" ++ (key_members schema part
     ++ (codes "\"commit\":" ++ (truth_text made ++ (codes ",\"gid\":" ++ (quoted name ++ codes "}}")))))))
 
 -- the part's own writes, where the change is made
@@ -184,7 +191,7 @@ own_writes true part = before_commas (list_in (get (codes "writes") part))
 own_writes false part = []
 
 unfoldable pub finish_writes : Schema → Bool → List ℕ → Data → List ℕ
-finish_writes schema made name part = bracketed (own_writes made part ++ (lock_delete part ++ (44 ∷ end_put schema made name part)))
+finish_writes schema made name part = bracketed (own_writes made part ++ (lock_delete part ++ end_put schema made name part))
 
 -- where the group is locked for the change, the part's writes are made or not, the lock goes, and its end is noted
 unfoldable pub finish_text : Schema → Bool → List ℕ → Data → List ℕ

@@ -176,7 +176,7 @@ fn finish_fits(
 ) -> Result<bool, NoMemory>
     ensures { IfOk result (λ fits. fits ≡ transaction_fits schema.now (transaction_of schema.now (finish_text schema.now true name.now (view part.now)))) }
 {
-    let text = finish_text(alloc, schema, true, name, part)?;
+    let text = finish_text(alloc, schema, true, name.as_bytes(), part)?;
     let finish = transaction_of(alloc, schema, text.as_slice())?;
     transaction_fits(alloc, schema, &finish)
 }

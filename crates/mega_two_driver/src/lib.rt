@@ -7,6 +7,7 @@ mod fault;
 mod fields;
 mod fits;
 mod floats;
+mod joins;
 mod json;
 mod lengths;
 mod moves;

@@ -1,43 +1,62 @@
 //! The requests of a part: to prepare it, to finish it, and to look at its lock.
 ghost use Rattle.std.specs.Prelude.{◌≡◌, ◌++◌, IfOk, OnOk};
 ghost use Rattle.serde_json.specs.View.{view};
-ghost use Rattle.mega_two_driver.specs.Texts.{end_put, finish_text, finish_writes, free_checks, held_check, lock_delete, lock_look, lock_put, own_text, own_writes, part_requests, prepare_checks, prepare_text, truth_text};
+ghost use Rattle.mega_two_driver.specs.Texts.{end_put, finish_text, finish_writes, free_checks, held_check, lock_delete, lock_look, lock_put, own_text, own_writes, part_requests, prepare_checks, prepare_text, quoted_ends, quoted_locks, truth_text};
 
+use crate::joins::{bracketed, joined5, joined7, joined9, listed, quoted};
 use crate::json::{list_in, root_name};
 use crate::pieces::{
-    end_key, end_table, field_text, lock_table, put_after_commas, put_all_deleted,
-    put_before_commas, put_key_members, put_lock_key,
+    end_key, end_table, field_text, key_members, lock_key, lock_table, put_after_commas,
+    put_all_deleted, put_before_commas,
 };
 use crate::plan::PartRequests;
-use crate::texts::{bracketed, listed_name, look_text, put_quoted, transaction_text};
+use crate::texts::{look_text, transaction_text};
 use mega_base::{Bytes, NoMemory};
 use mega_schema::Schema;
 use serde_json::Value as Json;
 use std::alloc::Global;
 
+/// The table of a part's lock, quoted.
+fn quoted_locks(alloc: Global, part: &Json) -> Result<Bytes, NoMemory>
+    ensures { IfOk result (λ text. text ≡ quoted_locks (view part.now)) }
+{
+    let name = lock_table(alloc, root_name(part))?;
+    quoted(alloc, name.as_slice())
+}
+
+/// The table of its end, quoted.
+fn quoted_ends(alloc: Global, part: &Json) -> Result<Bytes, NoMemory>
+    ensures { IfOk result (λ text. text ≡ quoted_ends (view part.now)) }
+{
+    let name = end_table(alloc, root_name(part))?;
+    quoted(alloc, name.as_slice())
+}
+
 /// The part's group has no lock, and no end of this change.
 #[tactic(auto, unfolding(crate::specs::Texts::free_checks))]
-fn free_checks(alloc: Global, name: &str, part: &Json) -> Result<Bytes, NoMemory>
+fn free_checks(alloc: Global, name: &[u8], part: &Json) -> Result<Bytes, NoMemory>
     ensures { IfOk result (λ text. text ≡ free_checks name.now (view part.now)) }
 {
-    let locks = lock_table(alloc, root_name(part))?;
-    let ends = end_table(alloc, root_name(part))?;
+    let locks = quoted_locks(alloc, part)?;
+    let lock = lock_key(alloc, part)?;
+    let ends = quoted_ends(alloc, part)?;
     let end = end_key(alloc, name, part)?;
-    let mut out = Bytes::new(alloc);
-    out.extend_from_slice(br#"{"gone":"#)?;
-    put_quoted(locks.as_slice(), &mut out)?;
-    out.extend_from_slice(br#","key":"#)?;
-    put_lock_key(alloc, part, &mut out)?;
-    out.extend_from_slice(br#"},{"gone":"#)?;
-    put_quoted(ends.as_slice(), &mut out)?;
-    out.extend_from_slice(br#","key":"#)?;
-    out.extend_from_slice(end.as_slice())?;
-    out.extend_from_slice(b"}")?;
-    Ok(out)
+    joined9(
+        alloc,
+        br#"{"gone":"#,
+        locks.as_slice(),
+        br#","key":"#,
+        lock.as_slice(),
+        br#"},{"gone":"#,
+        ends.as_slice(),
+        br#","key":"#,
+        end.as_slice(),
+        b"}",
+    )
 }
 
 #[tactic(auto, unfolding(crate::specs::Texts::prepare_checks))]
-fn prepare_checks(alloc: Global, name: &str, part: &Json) -> Result<Bytes, NoMemory>
+fn prepare_checks(alloc: Global, name: &[u8], part: &Json) -> Result<Bytes, NoMemory>
     ensures { IfOk result (λ text. text ≡ prepare_checks name.now (view part.now)) }
 {
     let mut out = free_checks(alloc, name, part)?;
@@ -47,24 +66,27 @@ fn prepare_checks(alloc: Global, name: &str, part: &Json) -> Result<Bytes, NoMem
 }
 
 #[tactic(auto, unfolding(crate::specs::Texts::lock_put))]
-fn lock_put(alloc: Global, schema: &Schema, name: &str, part: &Json) -> Result<Bytes, NoMemory>
+fn lock_put(alloc: Global, schema: &Schema, name: &[u8], part: &Json) -> Result<Bytes, NoMemory>
     ensures { IfOk result (λ text. text ≡ lock_put schema.now name.now (view part.now)) }
 {
-    let locks = lock_table(alloc, root_name(part))?;
-    let mut out = Bytes::new(alloc);
-    out.extend_from_slice(br#"[{"put":"#)?;
-    put_quoted(locks.as_slice(), &mut out)?;
-    out.extend_from_slice(br#","row":{"#)?;
-    put_key_members(alloc, schema, part, &mut out)?;
-    out.extend_from_slice(br#""gid":"#)?;
-    put_quoted(name.as_bytes(), &mut out)?;
-    out.extend_from_slice(b"}}]")?;
-    Ok(out)
+    let locks = quoted_locks(alloc, part)?;
+    let members = key_members(alloc, schema, part)?;
+    let name = quoted(alloc, name)?;
+    joined7(
+        alloc,
+        br#"[{"put":"#,
+        locks.as_slice(),
+        br#","row":{"#,
+        members.as_slice(),
+        br#""gid":"#,
+        name.as_slice(),
+        b"}}]",
+    )
 }
 
 /// The group is locked where it is free, the part's checks are true, and each row is there that the part deletes.
 #[tactic(auto, unfolding(crate::specs::Texts::prepare_text))]
-fn prepare_text(alloc: Global, schema: &Schema, name: &str, part: &Json) -> Result<Bytes, NoMemory>
+fn prepare_text(alloc: Global, schema: &Schema, name: &[u8], part: &Json) -> Result<Bytes, NoMemory>
     ensures { IfOk result (λ text. text ≡ prepare_text schema.now name.now (view part.now)) }
 {
     let checks = prepare_checks(alloc, name, part)?;
@@ -74,65 +96,71 @@ fn prepare_text(alloc: Global, schema: &Schema, name: &str, part: &Json) -> Resu
 }
 
 #[tactic(auto, unfolding(crate::specs::Texts::held_check))]
-fn held_check(alloc: Global, name: &str, part: &Json) -> Result<Bytes, NoMemory>
+fn held_check(alloc: Global, name: &[u8], part: &Json) -> Result<Bytes, NoMemory>
     ensures { IfOk result (λ text. text ≡ held_check name.now (view part.now)) }
 {
-    let locks = lock_table(alloc, root_name(part))?;
-    let names = listed_name(alloc, name)?;
-    let mut out = Bytes::new(alloc);
-    out.extend_from_slice(br#"[{"is":"#)?;
-    put_quoted(locks.as_slice(), &mut out)?;
-    out.extend_from_slice(br#","key":"#)?;
-    put_lock_key(alloc, part, &mut out)?;
-    out.extend_from_slice(br#","property":"gid","values":"#)?;
-    out.extend_from_slice(names.as_slice())?;
-    out.extend_from_slice(b"}]")?;
-    Ok(out)
+    let locks = quoted_locks(alloc, part)?;
+    let lock = lock_key(alloc, part)?;
+    let names = listed(alloc, name)?;
+    joined7(
+        alloc,
+        br#"[{"is":"#,
+        locks.as_slice(),
+        br#","key":"#,
+        lock.as_slice(),
+        br#","property":"gid","values":"#,
+        names.as_slice(),
+        b"}]",
+    )
 }
 
-fn put_truth(truth: bool, out: &mut Bytes) -> Result<(), NoMemory>
-    ensures { OnOk result (out.new ≡ out.old ++ truth_text truth) }
+fn truth_text(truth: bool) -> &'static [u8]
+    ensures { result.now ≡ truth_text truth }
 {
-    if truth {
-        out.extend_from_slice(b"true")
-    } else {
-        out.extend_from_slice(b"false")
-    }
+    if truth { b"true" } else { b"false" }
 }
 
 #[tactic(auto, unfolding(crate::specs::Texts::lock_delete))]
-fn put_lock_delete(alloc: Global, part: &Json, out: &mut Bytes) -> Result<(), NoMemory>
-    ensures { OnOk result (out.new ≡ out.old ++ lock_delete (view part.now)) }
+fn lock_delete(alloc: Global, part: &Json) -> Result<Bytes, NoMemory>
+    ensures { IfOk result (λ text. text ≡ lock_delete (view part.now)) }
 {
-    let locks = lock_table(alloc, root_name(part))?;
-    out.extend_from_slice(br#"{"delete":"#)?;
-    put_quoted(locks.as_slice(), out)?;
-    out.extend_from_slice(br#","key":"#)?;
-    put_lock_key(alloc, part, out)?;
-    out.extend_from_slice(b"}")
+    let locks = quoted_locks(alloc, part)?;
+    let lock = lock_key(alloc, part)?;
+    joined5(
+        alloc,
+        br#"{"delete":"#,
+        locks.as_slice(),
+        br#","key":"#,
+        lock.as_slice(),
+        b"},",
+    )
 }
 
 #[tactic(auto, unfolding(crate::specs::Texts::end_put))]
-fn put_end(
+fn end_put(
     alloc: Global,
     schema: &Schema,
     made: bool,
-    name: &str,
+    name: &[u8],
     part: &Json,
-    out: &mut Bytes,
-) -> Result<(), NoMemory>
-    ensures { OnOk result (out.new ≡ out.old ++ end_put schema.now made name.now (view part.now)) }
+) -> Result<Bytes, NoMemory>
+    ensures { IfOk result (λ text. text ≡ end_put schema.now made name.now (view part.now)) }
 {
-    let ends = end_table(alloc, root_name(part))?;
-    out.extend_from_slice(br#"{"put":"#)?;
-    put_quoted(ends.as_slice(), out)?;
-    out.extend_from_slice(br#","row":{"#)?;
-    put_key_members(alloc, schema, part, out)?;
-    out.extend_from_slice(br#""commit":"#)?;
-    put_truth(made, out)?;
-    out.extend_from_slice(br#","gid":"#)?;
-    put_quoted(name.as_bytes(), out)?;
-    out.extend_from_slice(b"}}")
+    let ends = quoted_ends(alloc, part)?;
+    let members = key_members(alloc, schema, part)?;
+    let name = quoted(alloc, name)?;
+    joined9(
+        alloc,
+        br#"{"put":"#,
+        ends.as_slice(),
+        br#","row":{"#,
+        members.as_slice(),
+        br#""commit":"#,
+        truth_text(made),
+        br#","gid":"#,
+        name.as_slice(),
+        b"}}",
+    )
 }
 
 /// The part's own writes, where the change is made.
@@ -156,16 +184,17 @@ fn finish_writes(
     alloc: Global,
     schema: &Schema,
     made: bool,
-    name: &str,
+    name: &[u8],
     part: &Json,
 ) -> Result<Bytes, NoMemory>
     ensures { IfOk result (λ text. text ≡ finish_writes schema.now made name.now (view part.now)) }
 {
+    let lock = lock_delete(alloc, part)?;
+    let end = end_put(alloc, schema, made, name, part)?;
     let mut out = Bytes::new(alloc);
     put_own_writes(alloc, made, part, &mut out)?;
-    put_lock_delete(alloc, part, &mut out)?;
-    out.push(b',')?;
-    put_end(alloc, schema, made, name, part, &mut out)?;
+    out.extend_from_slice(lock.as_slice())?;
+    out.extend_from_slice(end.as_slice())?;
     bracketed(alloc, out.as_slice())
 }
 
@@ -175,7 +204,7 @@ pub(crate) fn finish_text(
     alloc: Global,
     schema: &Schema,
     made: bool,
-    name: &str,
+    name: &[u8],
     part: &Json,
 ) -> Result<Bytes, NoMemory>
     ensures { IfOk result (λ text. text ≡ finish_text schema.now made name.now (view part.now)) }
@@ -192,8 +221,7 @@ fn lock_look(alloc: Global, group: &[u8], part: &Json) -> Result<Bytes, NoMemory
     ensures { IfOk result (λ text. text ≡ lock_look group.now (view part.now)) }
 {
     let table = lock_table(alloc, root_name(part))?;
-    let mut key = Bytes::new(alloc);
-    put_lock_key(alloc, part, &mut key)?;
+    let key = lock_key(alloc, part)?;
     look_text(alloc, group, key.as_slice(), table.as_slice())
 }
 
@@ -218,9 +246,9 @@ pub(crate) fn part_requests(
 ) -> Result<PartRequests, NoMemory>
     ensures { IfOk result (λ made. made ≡ part_requests schema.now name.now (view part.now)) }
 {
-    let prepare = prepare_text(alloc, schema, name, part)?;
-    let commit = finish_text(alloc, schema, true, name, part)?;
-    let abort = finish_text(alloc, schema, false, name, part)?;
+    let prepare = prepare_text(alloc, schema, name.as_bytes(), part)?;
+    let commit = finish_text(alloc, schema, true, name.as_bytes(), part)?;
+    let abort = finish_text(alloc, schema, false, name.as_bytes(), part)?;
     let group = field_text(alloc, part, "group")?;
     let look = lock_look(alloc, group.as_slice(), part)?;
     Ok(PartRequests {

@@ -1,50 +1,10 @@
-//! The JSON of a change's requests, put together from pieces.
-ghost use Rattle.std.specs.Prelude.{◌≡◌, ◌++◌, ◌∷◌, [], IfOk, OnOk};
-ghost use Rattle.serde_json.specs.View.{view};
-ghost use Rattle.mega_two_driver.specs.Texts.{bracketed, look_text, no_plan_check, plan_group, plan_put, quoted, transaction_text, undecided_check, value_text};
+//! The JSON of transactions and looks, and of the plan.
+ghost use Rattle.std.specs.Prelude.{◌≡◌, IfOk};
+ghost use Rattle.mega_two_driver.specs.Texts.{deciding_text, look_text, no_plan_check, plan_group, plan_look, plan_put, planning_text, state_digit, transaction_text, undecided_check};
 
-use crate::floats::has_float;
+use crate::joins::{joined3, joined7, listed, quoted};
 use mega_base::{Bytes, NoMemory};
-use serde_json::Value as Json;
 use std::alloc::Global;
-
-/// A value with no space in it.
-pub(crate) fn put_value(alloc: Global, value: &Json, out: &mut Bytes) -> Result<(), NoMemory>
-    ensures { OnOk result (out.new ≡ out.old ++ value_text (view value.now)) }
-{
-    if has_float(value) {
-        return Ok(());
-    }
-    let text = value.to_string(alloc)?;
-    out.extend_from_slice(text.as_bytes())
-}
-
-pub(crate) fn put_quoted(name: &[u8], out: &mut Bytes) -> Result<(), NoMemory>
-    ensures { OnOk result (out.new ≡ out.old ++ quoted name.now) }
-{
-    out.push(b'"')?;
-    out.extend_from_slice(name)?;
-    out.push(b'"')
-}
-
-pub(crate) fn bracketed(alloc: Global, text: &[u8]) -> Result<Bytes, NoMemory>
-    ensures { IfOk result (λ made. made ≡ bracketed text.now) }
-{
-    let mut out = Bytes::new(alloc);
-    out.push(b'[')?;
-    out.extend_from_slice(text)?;
-    out.push(b']')?;
-    Ok(out)
-}
-
-/// A list of the name alone.
-pub(crate) fn listed_name(alloc: Global, name: &str) -> Result<Bytes, NoMemory>
-    ensures { IfOk result (λ made. made ≡ bracketed (quoted name.now)) }
-{
-    let mut out = Bytes::new(alloc);
-    put_quoted(name.as_bytes(), &mut out)?;
-    bracketed(alloc, out.as_slice())
-}
 
 /// A transaction with these lists of checks and writes.
 #[tactic(auto, unfolding(crate::specs::Texts::transaction_text))]
@@ -56,15 +16,16 @@ pub(crate) fn transaction_text(
 ) -> Result<Bytes, NoMemory>
     ensures { IfOk result (λ text. text ≡ transaction_text checks.now group.now writes.now) }
 {
-    let mut out = Bytes::new(alloc);
-    out.extend_from_slice(br#"{"checks":"#)?;
-    out.extend_from_slice(checks)?;
-    out.extend_from_slice(br#","do":"txn","group":"#)?;
-    out.extend_from_slice(group)?;
-    out.extend_from_slice(br#","reads":[],"sends":[],"writes":"#)?;
-    out.extend_from_slice(writes)?;
-    out.extend_from_slice(b"}")?;
-    Ok(out)
+    joined7(
+        alloc,
+        br#"{"checks":"#,
+        checks,
+        br#","do":"txn","group":"#,
+        group,
+        br#","reads":[],"sends":[],"writes":"#,
+        writes,
+        b"}",
+    )
 }
 
 /// A current read of one row.
@@ -77,70 +38,111 @@ pub(crate) fn look_text(
 ) -> Result<Bytes, NoMemory>
     ensures { IfOk result (λ text. text ≡ look_text group.now key.now table.now) }
 {
-    let mut out = Bytes::new(alloc);
-    out.extend_from_slice(br#"{"do":"read","group":"#)?;
-    out.extend_from_slice(group)?;
-    out.extend_from_slice(br#","mode":"current","rows":[{"key":"#)?;
-    out.extend_from_slice(key)?;
-    out.extend_from_slice(br#","row":"#)?;
-    put_quoted(table, &mut out)?;
-    out.extend_from_slice(b"}]}")?;
-    Ok(out)
+    let table = quoted(alloc, table)?;
+    joined7(
+        alloc,
+        br#"{"do":"read","group":"#,
+        group,
+        br#","mode":"current","rows":[{"key":"#,
+        key,
+        br#","row":"#,
+        table.as_slice(),
+        b"}]}",
+    )
 }
 
-pub(crate) fn plan_group(alloc: Global, name: &str) -> Result<Bytes, NoMemory>
+fn plan_group(alloc: Global, name: &[u8]) -> Result<Bytes, NoMemory>
     ensures { IfOk result (λ text. text ≡ plan_group name.now) }
 {
-    let key = listed_name(alloc, name)?;
-    let mut out = Bytes::new(alloc);
-    out.extend_from_slice(br#"["TwoPlan","#)?;
-    out.extend_from_slice(key.as_slice())?;
-    out.extend_from_slice(b"]")?;
-    Ok(out)
+    let key = listed(alloc, name)?;
+    joined3(alloc, br#"["TwoPlan","#, key.as_slice(), b"]")
 }
 
 /// The put of a plan in a state, which is a digit.
 #[tactic(auto, unfolding(crate::specs::Texts::plan_put))]
-pub(crate) fn plan_put(
-    alloc: Global,
-    name: &str,
-    line: &[u8],
-    state: u8,
-) -> Result<Bytes, NoMemory>
-    ensures { IfOk result (λ text. text ≡ plan_put name.now line.now state) }
+fn plan_put(alloc: Global, name: &[u8], line: &[u8], state: &[u8]) -> Result<Bytes, NoMemory>
+    ensures { IfOk result (λ text. text ≡ plan_put name.now line.now state.now) }
 {
+    let name = quoted(alloc, name)?;
     let digits = hex::encode(alloc, line)?;
-    let mut out = Bytes::new(alloc);
-    out.extend_from_slice(br#"[{"put":"TwoPlan","row":{"gid":"#)?;
-    put_quoted(name.as_bytes(), &mut out)?;
-    out.extend_from_slice(br#","plan":"#)?;
-    put_quoted(digits.as_bytes(), &mut out)?;
-    out.extend_from_slice(br#","state":"#)?;
-    out.push(state)?;
-    out.extend_from_slice(b"}}]")?;
-    Ok(out)
+    let digits = quoted(alloc, digits.as_bytes())?;
+    joined7(
+        alloc,
+        br#"[{"put":"TwoPlan","row":{"gid":"#,
+        name.as_slice(),
+        br#","plan":"#,
+        digits.as_slice(),
+        br#","state":"#,
+        state,
+        b"}}]",
+    )
 }
 
 #[tactic(auto, unfolding(crate::specs::Texts::no_plan_check))]
-pub(crate) fn no_plan_check(alloc: Global, name: &str) -> Result<Bytes, NoMemory>
+fn no_plan_check(alloc: Global, name: &[u8]) -> Result<Bytes, NoMemory>
     ensures { IfOk result (λ text. text ≡ no_plan_check name.now) }
 {
-    let key = listed_name(alloc, name)?;
-    let mut out = Bytes::new(alloc);
-    out.extend_from_slice(br#"[{"gone":"TwoPlan","key":"#)?;
-    out.extend_from_slice(key.as_slice())?;
-    out.extend_from_slice(b"}]")?;
-    Ok(out)
+    let key = listed(alloc, name)?;
+    joined3(
+        alloc,
+        br#"[{"gone":"TwoPlan","key":"#,
+        key.as_slice(),
+        b"}]",
+    )
 }
 
 #[tactic(auto, unfolding(crate::specs::Texts::undecided_check))]
-pub(crate) fn undecided_check(alloc: Global, name: &str) -> Result<Bytes, NoMemory>
+fn undecided_check(alloc: Global, name: &[u8]) -> Result<Bytes, NoMemory>
     ensures { IfOk result (λ text. text ≡ undecided_check name.now) }
 {
-    let key = listed_name(alloc, name)?;
-    let mut out = Bytes::new(alloc);
-    out.extend_from_slice(br#"[{"is":"TwoPlan","key":"#)?;
-    out.extend_from_slice(key.as_slice())?;
-    out.extend_from_slice(br#","property":"state","values":[0]}]"#)?;
-    Ok(out)
+    let key = listed(alloc, name)?;
+    joined3(
+        alloc,
+        br#"[{"is":"TwoPlan","key":"#,
+        key.as_slice(),
+        br#","property":"state","values":[0]}]"#,
+    )
+}
+
+/// The plan is put where there is none of this name, undecided.
+#[tactic(auto, unfolding(crate::specs::Texts::planning_text))]
+pub(crate) fn planning_text(alloc: Global, name: &[u8], line: &[u8]) -> Result<Bytes, NoMemory>
+    ensures { IfOk result (λ text. text ≡ planning_text name.now line.now) }
+{
+    let checks = no_plan_check(alloc, name)?;
+    let group = plan_group(alloc, name)?;
+    let writes = plan_put(alloc, name, line, b"0")?;
+    transaction_text(alloc, checks.as_slice(), group.as_slice(), writes.as_slice())
+}
+
+fn state_digit(made: bool) -> &'static [u8]
+    ensures { result.now ≡ state_digit made }
+{
+    if made { b"1" } else { b"2" }
+}
+
+/// The plan is put as made or dropped where it is undecided.
+#[tactic(auto, unfolding(crate::specs::Texts::deciding_text))]
+pub(crate) fn deciding_text(
+    alloc: Global,
+    made: bool,
+    name: &[u8],
+    line: &[u8],
+) -> Result<Bytes, NoMemory>
+    ensures { IfOk result (λ text. text ≡ deciding_text made name.now line.now) }
+{
+    let checks = undecided_check(alloc, name)?;
+    let group = plan_group(alloc, name)?;
+    let writes = plan_put(alloc, name, line, state_digit(made))?;
+    transaction_text(alloc, checks.as_slice(), group.as_slice(), writes.as_slice())
+}
+
+/// The plan is looked at.
+#[tactic(auto, unfolding(crate::specs::Texts::plan_look))]
+pub(crate) fn plan_look(alloc: Global, name: &[u8]) -> Result<Bytes, NoMemory>
+    ensures { IfOk result (λ text. text ≡ plan_look name.now) }
+{
+    let group = plan_group(alloc, name)?;
+    let key = listed(alloc, name)?;
+    look_text(alloc, group.as_slice(), key.as_slice(), b"TwoPlan")
 }

@@ -1,6 +1,6 @@
 //! The laws, as contracts of functions that do nothing.
 
-ghost use Rattle.std.specs.Prelude.{◌≡◌, ◌×◌, ℕ, List, Bool, true, length, nat_lt};
+ghost use Rattle.std.specs.Prelude.{◌≡◌, ℕ, List, true, length, nat_lt};
 ghost use Rattle.mega_two.specs.Parts.{Part};
 ghost use Rattle.mega_two.specs.World.{Text, Reply, Event};
 ghost use Rattle.mega_two.specs.Driver.{Reached, Told as IsTold, IsHistory, asks, next, parts_read};
