@@ -66,7 +66,8 @@ fn key_in_table(
         Some(own) if own.key.as_slice().cmp(group).is_eq() => {
             spelled(alloc, schema, number, table, key)
         }
-        _ => Ok(None),
+        Some(_) => Ok(None),
+        None => Ok(None),
     }
 }
 

@@ -184,12 +184,15 @@ impl Two {
     fn learn(&mut self, state: State, plan: Option<Plan>)
         ensures { self.new ≡ learned self.old state plan }
     {
-        match plan {
-            Some(plan) if same(plan.name.as_bytes(), self.plan.name.as_bytes()) => {
-                self.phase = by_state(plan.parts.len(), false, state);
-                self.plan = plan;
-            }
-            _ => self.phase = Phase::Over(Ended::Open),
+        let Some(plan) = plan else {
+            self.phase = Phase::Over(Ended::Open);
+            return;
+        };
+        if same(plan.name.as_bytes(), self.plan.name.as_bytes()) {
+            self.phase = by_state(plan.parts.len(), false, state);
+            self.plan = plan;
+        } else {
+            self.phase = Phase::Over(Ended::Open);
         }
     }
 

@@ -17,7 +17,7 @@ use Rattle.mega_two_driver.specs.declared.told.Told.TheVariants.{Done, Turned, A
 use Rattle.mega_two_driver.specs.Moves.{preparing, ending_of, finishing, by_state, planned, prepared, decided, looked, finished, checked, moved, is_within}
 use Rattle.mega_two_driver_laws.specs.Joined.{ending_in, phase_in, driver_in, state_in, plan_in, lock_in, told_in}
 
-no_part : Part
+abbrev no_part : Part
 no_part = record { group = []; is_true = λ rows. true; written = λ rows. None }
 
 is_below : (i n : ℕ) → nat_lt i n ≡ true → i < n
@@ -35,7 +35,7 @@ here : (parts : List Part) (i : ℕ) → nat_lt i (length parts) ≡ true → dr
 here parts i is = drop_more parts i no_part (is_below i (length parts) is)
 
 none_left : (parts : List Part) (i : ℕ) → nat_lt i (length parts) ≡ false → drop i parts ≡ []
-none_left parts i is = drop_of_length-le parts i (is_beyond i (length parts) is)
+none_left parts i is = drop_of_length-le parts (is_beyond i (length parts) is)
 
 preparing_is : (parts : List Part) (i : ℕ) → drivers.preparing (drop i parts) ≡ phase_in parts (preparing (length parts) i)
 preparing_is parts i = by (nat_lt i (length parts)) refl
@@ -147,10 +147,10 @@ checks name parts made i part world.Lost left = ap (drivers.Checks made) (sym le
 checks name parts made i part world.Refused left = refl
 
 -- the parts with which it goes on
-Read : List Part → Phase → Reply → List Part
+abbrev Read : List Part → Phase → Reply → List Part
 Read parts phase reply = parts_read parts (phase_in parts phase) reply
 
-Moves : Text → List Part → Phase → Reply → Type 0
+abbrev Moves : Text → List Part → Phase → Reply → Type 0
 Moves name parts phase reply =
     drivers.moved name (Read parts phase reply) (phase_in parts phase) reply ≡ phase_in (Read parts phase reply) (moved (length (Read parts phase reply)) phase (told_in name reply))
 
@@ -181,7 +181,7 @@ moves name parts (Checks made i) reply is =
 moves name parts Recovers reply is = recovers_moved name parts reply
 moves name parts (Over ending) reply is = refl
 
-driver_with : Text → List Part → drivers.Phase → Driver
+abbrev driver_with : Text → List Part → drivers.Phase → Driver
 driver_with name parts phase = record { name = name; parts = parts; phase = phase }
 
 pub moves_as_driver : (name : Text) (parts : List Part) (phase : Phase) (reply : Reply) → is_within (length parts) phase ≡ true

@@ -12,7 +12,7 @@ use Rattle.mega_two_driver.specs.Moves.{preparing, ending_of, finishing, by_stat
 use Rattle.mega_two_driver_laws.specs.Runs.{run, gives_up, was}
 
 -- it never asks a commit from here on
-is_past : Phase → Bool
+abbrev is_past : Phase → Bool
 is_past Begins = false
 is_past (Prepares i) = false
 is_past (Decides true) = false

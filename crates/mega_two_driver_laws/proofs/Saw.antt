@@ -13,11 +13,11 @@ use Rattle.mega_two_driver.specs.Moves.{preparing, ending_of, finishing, by_stat
 use Rattle.mega_two_driver_laws.specs.Runs.{run, is_done, is_free, is_made, stands_made, shows_made, closes, was}
 
 -- the parts before number i are closed
-AllClosed : (ℕ → Bool) → ℕ → Type 0
+abbrev AllClosed : (ℕ → Bool) → ℕ → Type 0
 AllClosed closed i = (part : ℕ) → nat_lt part i ≡ true → closed part ≡ true
 
 -- where the change is finished as made its plan was shown so, and the parts before are closed
-Saw : ℕ → Bool → (ℕ → Bool) → Phase → Type 0
+abbrev Saw : ℕ → Bool → (ℕ → Bool) → Phase → Type 0
 Saw count made closed Begins = Unit {0}
 Saw count made closed (Prepares i) = Unit {0}
 Saw count made closed (Decides truth) = Unit {0}
@@ -86,7 +86,7 @@ still closed shows i all part before = or_right (shows part) (closed part) (all 
 
 -- ---- one reply more, at each place
 
-Next : ℕ → Bool → (ℕ → Bool) → Phase → Told → Phase → Type 0
+abbrev Next : ℕ → Bool → (ℕ → Bool) → Phase → Told → Phase → Type 0
 Next count made closed phase told after = Saw count (shows_made phase told || made) (λ part. closes part phase told || closed part) after
 
 stands : (count : ℕ) (made truth : Bool) (closed : ℕ → Bool) (state : State) → Saw count (is_made state || made) closed (by_state count truth state)
@@ -228,7 +228,7 @@ saw_all count from first [] = first
 saw_all count from first (told ∷ before) =
     step count (was shows_made count from before) (λ part. was (closes part) count from before) (run count from before) told (saw_all count from first before)
 
-pub Seen : ℕ → Phase → List Told → Type 0
+abbrev pub Seen : ℕ → Phase → List Told → Type 0
 Seen count from told = (was shows_made count from told ≡ true) × ((part : ℕ) → nat_lt part count ≡ true → was (closes part) count from told ≡ true)
 
 seen_by : (count : ℕ) (from : Phase) → Saw count false (λ part. false) from → (told : List Told) → run count from told ≡ Over Committed → Seen count from told
