@@ -1,5 +1,5 @@
 -- A change as it is driven: what it asks, and what a reply or a loss makes of it.
-use Rattle.std.specs.Prelude.{ℕ, if◌then◌else◌, Bool, true, false, List, [], length, slice_get, Option, Some, None, option_map, Result, Ok, Err}
+use Rattle.std.specs.Prelude.{◌≡◌, ℕ, if◌then◌else◌, Bool, true, false, List, [], length, slice_get, Option, Some, None, option_map, Result, Ok, Err}
 use Rattle.std.specs.Result.{result_ok}
 use Rattle.mega_syntax.specs.Names.{same}
 use Rattle.mega_schema.specs.declared.schema.Schema.{Schema}
@@ -12,7 +12,7 @@ use Rattle.mega_two_driver.specs.declared.told.Told.TheVariants.{Done, Turned, A
 use Rattle.mega_two_driver.specs.declared.plan.PartRequests.{PartRequests}
 use Rattle.mega_two_driver.specs.declared.plan.Plan.{Plan}
 use Rattle.mega_two_driver.specs.declared.two.Two.{Two}
-use Rattle.mega_two_driver.specs.Moves.{moved, by_state}
+use Rattle.mega_two_driver.specs.Moves.{moved, by_state, is_within}
 use Rattle.mega_two_driver.specs.Words.{transaction_told}
 use Rattle.mega_two_driver.specs.Rows.{plan_told, lock_told, plan_line}
 use Rattle.mega_two_driver.specs.Lines.{is_name}
@@ -48,6 +48,10 @@ asked_in plan (Over ending) = None
 
 abbrev pub asks : Two → Option (List ℕ)
 asks two = asked_in two.plan two.phase
+
+-- the part that it is at is one of its parts
+abbrev pub IsSound : Two → Type 0
+IsSound two = is_within (length two.plan.parts) two.phase ≡ true
 
 -- ---- how it begins
 

@@ -9,6 +9,7 @@ mod fits;
 mod floats;
 mod joins;
 mod json;
+pub mod laws;
 mod lengths;
 mod moves;
 mod parts;

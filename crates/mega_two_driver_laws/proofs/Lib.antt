@@ -1,4 +1,3 @@
 pub mod Driven
 pub mod Past
 pub mod Saw
-pub mod Within

@@ -24,7 +24,7 @@ finishes count made i = by (nat_lt i count) refl
     by true is = is
     by false is = refl
 
-stands : (count : ℕ) (made : Bool) (state : State) → is_within count (by_state count made state) ≡ true
+pub stands : (count : ℕ) (made : Bool) (state : State) → is_within count (by_state count made state) ≡ true
 stands count made Undecided = refl
 stands count made Made = finishes count true 0
 stands count made Dropped = finishes count false 0
