@@ -61,11 +61,11 @@ pub fn is_at(two: &Two, wanted: &str) -> bool {
     }
 }
 
-/// The reason for which a line begins no change, 0 where it begins one.
+/// The reason for which a line begins no change, 0 where it begins one, 255 where memory ran out.
 pub fn reason_of(alloc: Global, schema: &Schema, line: &str) -> Result<u8, Fail> {
     match Two::begin(alloc, schema, line.as_bytes()) {
         Ok(_) => Ok(0),
         Err(TwoFault::Refused { reason }) => Ok(reason),
-        Err(TwoFault::NoMemory) => Err(Fail::from("no memory")),
+        Err(TwoFault::NoMemory) => Ok(255),
     }
 }

@@ -30,10 +30,9 @@ fn follow(rt: &impl Abort, alloc: Global, two: &mut Two, history: &str) -> Resul
 
 fn begun(alloc: Global) -> Result<Two, Fail> {
     let schema = schema(alloc)?;
-    match Two::begin(alloc, &schema, samples::TRANSFER.as_bytes()) {
-        Ok(two) => Ok(two),
-        Err(_) => Err(Fail::from("not begun")),
-    }
+    let begun = Two::begin(alloc, &schema, samples::TRANSFER.as_bytes()).ok();
+    let two = begun.ok_or("not begun")?;
+    Ok(two)
 }
 
 #[test]
@@ -61,15 +60,15 @@ fn plan_reply(alloc: Global, state: &str) -> Result<Bytes, Fail> {
 fn recovered(alloc: Global, name: &str) -> Result<Two, Fail> {
     let schema = schema(alloc)?;
     let name = Text::from_str(alloc, name)?;
-    match Two::recover(alloc, &schema, &name) {
-        Ok(two) => Ok(two),
-        Err(_) => Err(Fail::from("not recovered")),
-    }
+    let recovered = Two::recover(alloc, &schema, &name).ok();
+    let two = recovered.ok_or("not recovered")?;
+    Ok(two)
 }
 
 #[test]
 fn a_recovered_change_goes_on_by_its_plan(rt: HostRuntime) -> Result<(), Fail> {
-    for (state, wanted) in [("0", "2"), ("1", "commit1"), ("2", "abort1")] {
+    for row in "0 2\n1 commit1\n2 abort1".lines() {
+        let (state, wanted) = row.split_once(' ').ok_or("no state")?;
         let mut two = recovered(rt.alloc(), "t1")?;
         assert!(rt; is_at(&two, "look"));
         let reply = plan_reply(rt.alloc(), state)?;
