@@ -155,9 +155,7 @@ impl Checked for GroupField {
             return Verdict::WrongKind;
         };
         match pair_of(items.as_slice()) {
-            Some((table, values)) => {
-                both(TextField::check(table), ValuesField::check(values))
-            }
+            Some((table, values)) => { both(TextField::check(table), ValuesField::check(values)) }
             None => Verdict::WrongKind,
         }
     }

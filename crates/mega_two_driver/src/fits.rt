@@ -168,12 +168,7 @@ fn may_write_all(
     Ok(true)
 }
 
-fn finish_fits(
-    alloc: Global,
-    schema: &Schema,
-    name: &str,
-    part: &Json,
-) -> Result<bool, NoMemory>
+fn finish_fits(alloc: Global, schema: &Schema, name: &str, part: &Json) -> Result<bool, NoMemory>
     ensures { IfOk result (λ fits. fits ≡ transaction_fits schema.now (transaction_of schema.now (finish_text schema.now true name.now (view part.now)))) }
 {
     let text = finish_text(alloc, schema, true, name.as_bytes(), part)?;

@@ -31,7 +31,11 @@ fn preparing_behind(count: usize, part: usize) -> Phase
 fn ending_of(made: bool) -> Ended
     ensures { result ≡ ending_of made }
 {
-    if made { Ended::Committed } else { Ended::Aborted }
+    if made {
+        Ended::Committed
+    } else {
+        Ended::Aborted
+    }
 }
 
 /// The parts from this one on are finished.

@@ -92,7 +92,12 @@ fn prepare_text(alloc: Global, schema: &Schema, name: &[u8], part: &Json) -> Res
     let checks = prepare_checks(alloc, name, part)?;
     let group = field_text(alloc, part, "group")?;
     let writes = lock_put(alloc, schema, name, part)?;
-    transaction_text(alloc, checks.as_slice(), group.as_slice(), writes.as_slice())
+    transaction_text(
+        alloc,
+        checks.as_slice(),
+        group.as_slice(),
+        writes.as_slice(),
+    )
 }
 
 #[tactic(auto, unfolding(crate::specs::Texts::held_check))]
@@ -164,12 +169,7 @@ fn end_put(
 }
 
 /// The part's own writes, where the change is made.
-fn put_own_writes(
-    alloc: Global,
-    made: bool,
-    part: &Json,
-    out: &mut Bytes,
-) -> Result<(), NoMemory>
+fn put_own_writes(alloc: Global, made: bool, part: &Json, out: &mut Bytes) -> Result<(), NoMemory>
     ensures { OnOk result (out.new ≡ out.old ++ own_writes made (view part.now)) }
 {
     if made {
@@ -212,7 +212,12 @@ pub(crate) fn finish_text(
     let checks = held_check(alloc, name, part)?;
     let group = field_text(alloc, part, "group")?;
     let writes = finish_writes(alloc, schema, made, name, part)?;
-    transaction_text(alloc, checks.as_slice(), group.as_slice(), writes.as_slice())
+    transaction_text(
+        alloc,
+        checks.as_slice(),
+        group.as_slice(),
+        writes.as_slice(),
+    )
 }
 
 /// A look at the lock of a part.
@@ -233,7 +238,12 @@ pub(crate) fn own_text(alloc: Global, part: &Json) -> Result<Bytes, NoMemory>
     let checks = field_text(alloc, part, "checks")?;
     let group = field_text(alloc, part, "group")?;
     let writes = field_text(alloc, part, "writes")?;
-    transaction_text(alloc, checks.as_slice(), group.as_slice(), writes.as_slice())
+    transaction_text(
+        alloc,
+        checks.as_slice(),
+        group.as_slice(),
+        writes.as_slice(),
+    )
 }
 
 /// The requests of a part.

@@ -17,13 +17,7 @@ fn list_in(reply: &[u8]) -> &[u8]
 {
     match reply {
         [] => reply,
-        [byte, text @ ..] => {
-            if *byte == b'[' {
-                reply
-            } else {
-                list_in(text)
-            }
-        }
+        [byte, text @ ..] => { if *byte == b'[' { reply } else { list_in(text) } }
     }
 }
 

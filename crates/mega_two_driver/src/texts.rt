@@ -112,7 +112,12 @@ pub(crate) fn planning_text(alloc: Global, name: &[u8], line: &[u8]) -> Result<B
     let checks = no_plan_check(alloc, name)?;
     let group = plan_group(alloc, name)?;
     let writes = plan_put(alloc, name, line, b"0")?;
-    transaction_text(alloc, checks.as_slice(), group.as_slice(), writes.as_slice())
+    transaction_text(
+        alloc,
+        checks.as_slice(),
+        group.as_slice(),
+        writes.as_slice(),
+    )
 }
 
 fn state_digit(made: bool) -> &'static [u8]
@@ -134,7 +139,12 @@ pub(crate) fn deciding_text(
     let checks = undecided_check(alloc, name)?;
     let group = plan_group(alloc, name)?;
     let writes = plan_put(alloc, name, line, state_digit(made))?;
-    transaction_text(alloc, checks.as_slice(), group.as_slice(), writes.as_slice())
+    transaction_text(
+        alloc,
+        checks.as_slice(),
+        group.as_slice(),
+        writes.as_slice(),
+    )
 }
 
 /// The plan is looked at.

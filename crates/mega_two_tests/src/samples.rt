@@ -11,10 +11,12 @@ CREATE LOCAL INDEX EntryByAmount ON Entry(id, amount);
 "#;
 
 /// A transfer of 30 from account 1 to account 2.
-pub const TRANSFER: &str = r#"{"gid":"t1","parts":[{"group":["Account",[1]],"checks":[{"is":"Account","key":[1],"property":"balance","values":[100]}],"writes":[{"put":"Account","row":{"id":1,"balance":70}}]},{"group":["Account",[2]],"checks":[],"writes":[{"delete":"Account","key":[2]}]}]}"#;
+pub const TRANSFER: &str =
+    r#"{"gid":"t1","parts":[{"group":["Account",[1]],"checks":[{"is":"Account","key":[1],"property":"balance","values":[100]}],"writes":[{"put":"Account","row":{"id":1,"balance":70}}]},{"group":["Account",[2]],"checks":[],"writes":[{"delete":"Account","key":[2]}]}]}"#;
 
 /// What it asks: its plan, its prepares, its decisions, its finishes with their writes and without, and its looks, by name.
-pub const REQUESTS: &str = r#"prepare1 {"checks":[{"gone":"AccountTwo","key":[1]},{"gone":"AccountDone","key":[1,"t1"]},{"is":"Account","key":[1],"property":"balance","values":[100]}],"do":"txn","group":["Account",[1]],"reads":[],"sends":[],"writes":[{"put":"AccountTwo","row":{"id":1,"gid":"t1"}}]}
+pub const REQUESTS: &str =
+    r#"prepare1 {"checks":[{"gone":"AccountTwo","key":[1]},{"gone":"AccountDone","key":[1,"t1"]},{"is":"Account","key":[1],"property":"balance","values":[100]}],"do":"txn","group":["Account",[1]],"reads":[],"sends":[],"writes":[{"put":"AccountTwo","row":{"id":1,"gid":"t1"}}]}
 prepare2 {"checks":[{"gone":"AccountTwo","key":[2]},{"gone":"AccountDone","key":[2,"t1"]},{"key":[2],"there":"Account"}],"do":"txn","group":["Account",[2]],"reads":[],"sends":[],"writes":[{"put":"AccountTwo","row":{"id":2,"gid":"t1"}}]}
 commit1 {"checks":[{"is":"AccountTwo","key":[1],"property":"gid","values":["t1"]}],"do":"txn","group":["Account",[1]],"reads":[],"sends":[],"writes":[{"put":"Account","row":{"balance":70,"id":1}},{"delete":"AccountTwo","key":[1]},{"put":"AccountDone","row":{"id":1,"commit":true,"gid":"t1"}}]}
 commit2 {"checks":[{"is":"AccountTwo","key":[2],"property":"gid","values":["t1"]}],"do":"txn","group":["Account",[2]],"reads":[],"sends":[],"writes":[{"delete":"Account","key":[2]},{"delete":"AccountTwo","key":[2]},{"put":"AccountDone","row":{"id":2,"commit":true,"gid":"t1"}}]}
@@ -26,11 +28,13 @@ look {"do":"read","group":["TwoPlan",["t1"]],"mode":"current","rows":[{"key":["t
 none none"#;
 
 /// The front of the requests that put the plan, which end with the line in hex and a state.
-pub const PUTS: &str = r#"plan {"checks":[{"gone":"TwoPlan","key":["t1"]}],"do":"txn","group":["TwoPlan",["t1"]],"reads":[],"sends":[],"writes":[{"put":"TwoPlan","row":{"gid":"t1","plan":"7b2267
+pub const PUTS: &str =
+    r#"plan {"checks":[{"gone":"TwoPlan","key":["t1"]}],"do":"txn","group":["TwoPlan",["t1"]],"reads":[],"sends":[],"writes":[{"put":"TwoPlan","row":{"gid":"t1","plan":"7b2267
 decide {"checks":[{"is":"TwoPlan","key":["t1"],"property":"state","values":[0]}],"do":"txn","group":["TwoPlan",["t1"]],"reads":[],"sends":[],"writes":[{"put":"TwoPlan","row":{"gid":"t1","plan":"7b2267"#;
 
 /// Replies, each with the name of the request that follows it, and how it ends: a history a line.
-pub const HISTORIES: &str = "committed>prepare1;committed>prepare2;turned check 2>2;committed>abort1;committed>abort2;turned check 0>lock2;read 3 [null]>aborted
+pub const HISTORIES: &str =
+    "committed>prepare1;committed>prepare2;turned check 2>2;committed>abort1;committed>abort2;turned check 0>lock2;read 3 [null]>aborted
 committed 1 []>prepare1;lost>2;committed 2 []>abort1
 committed 1 []>prepare1;committed 1 []>prepare2;committed 1 []>1;committed 2 []>commit1;unknown>lock1;read 4 [[\"AccountTwo\",{\"gid\":\"t1\",\"id\":1}]]>commit1;committed 5 []>commit2;lost>lock2;read 4 [[\"AccountTwo\",{\"gid\":\"t2\",\"id\":1}]]>committed
 committed 1 []>prepare1;committed 1 []>prepare2;committed 1 []>1;unknown>look;timedout>look;read 2 [[\"TwoPlan\",{\"gid\":\"t1\",\"plan\":\"00\",\"state\":2}]]>abort1
