@@ -8,3 +8,6 @@ abbrev pub Gives : {X A : Type 0} → (X → A) → Result X TwoFault → Result
 Gives view (Ok x) answer = answer ≡ Ok (view x)
 Gives view (Err NoMemory) answer = Unit {0}
 Gives view (Err (Refused reason)) answer = answer ≡ Err reason
+
+abbrev pub GivesOrReason : {A : Type 0} → Result A TwoFault → Result A ℕ → Type 0
+GivesOrReason result answer = Gives (λ x. x) result answer

@@ -3,7 +3,7 @@ ghost use Rattle.std.specs.Prelude.{◌≡◌, IfOk, Ok};
 ghost use Rattle.serde_json.specs.View.{view, items_view};
 ghost use Rattle.mega_schedule.specs.Events.{object_of};
 ghost use Rattle.mega_schedule.specs.Rows.{each_in};
-ghost use Rattle.mega_two_driver.specs.Answers.{Gives};
+ghost use Rattle.mega_two_driver.specs.Answers.{Gives, GivesOrReason};
 ghost use Rattle.mega_two_driver.specs.Begins.{all_fit, are_parts, name_in, parts_fit, parts_in, plan_of, plan_of_object, plan_of_parts};
 ghost use Rattle.mega_two_driver.specs.Fits.{own_of};
 
@@ -108,7 +108,7 @@ fn plan_of_parts(
     parts: &[Json],
     owns: &[Transaction],
 ) -> Result<Plan, TwoFault>
-    ensures { Gives (λ x. x) result (plan_of_parts schema.now line.now name.now (items_view parts.now) owns.now) }
+    ensures { GivesOrReason result (plan_of_parts schema.now line.now name.now (items_view parts.now) owns.now) }
 {
     if !are_parts(owns) {
         return Err(TwoFault::Refused { reason: 9 });
@@ -127,7 +127,7 @@ fn plan_of_object(
     line: &[u8],
     object: &Json,
 ) -> Result<Plan, TwoFault>
-    ensures { Gives (λ x. x) result (plan_of_object schema.now line.now (Ok (view object.now))) }
+    ensures { GivesOrReason result (plan_of_object schema.now line.now (Ok (view object.now))) }
 {
     judge(line_check(object))?;
     let parts = list_in(object, "parts");
@@ -139,7 +139,7 @@ fn plan_of_object(
 /// The change that a line tells, or the first reason for which it tells none.
 #[tactic(auto, unfolding(crate::specs::Begins::plan_of))]
 pub(crate) fn plan_of(alloc: Global, schema: &Schema, line: &[u8]) -> Result<Plan, TwoFault>
-    ensures { Gives (λ x. x) result (plan_of schema.now line.now) }
+    ensures { GivesOrReason result (plan_of schema.now line.now) }
 {
     if MOST_BYTES < line.len() {
         return Err(TwoFault::Refused { reason: 7 });

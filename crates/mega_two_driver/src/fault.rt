@@ -1,7 +1,6 @@
 //! Why a change is not begun.
-ghost use Rattle.std.specs.Prelude.{◌≡◌, Ok, Err};
 ghost use Rattle.mega_schedule.specs.Verdicts.{judged};
-ghost use Rattle.mega_two_driver.specs.Answers.{Gives};
+ghost use Rattle.mega_two_driver.specs.Answers.{GivesOrReason};
 
 use mega_base::NoMemory;
 use mega_schedule::Verdict;
@@ -26,7 +25,7 @@ impl From<NoMemory> for TwoFault {
 
 /// The reason for which a line with this verdict is refused.
 pub(crate) fn judge(verdict: Verdict) -> Result<(), TwoFault>
-    ensures { Gives (λ x. x) result (judged verdict tt) }
+    ensures { GivesOrReason result (judged verdict tt) }
 {
     let reason = match verdict {
         Verdict::Missing => 3,

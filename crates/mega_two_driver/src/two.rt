@@ -2,11 +2,10 @@
 ghost use Rattle.std.specs.Prelude.{◌≡◌, slice_get, option_map, IfOk, OnOk, OnErr, Ok};
 ghost use Rattle.std.specs.Option.{option_copied};
 ghost use Rattle.std.specs.Result.{result_ok};
-ghost use Rattle.mega_two_driver.specs.Answers.{Gives};
+ghost use Rattle.mega_two_driver.specs.Answers.{GivesOrReason};
 ghost use Rattle.mega_two_driver.specs.Begins.{plan_of};
-ghost use Rattle.mega_two_driver.specs.Driver.{asked_in, asks, begun, decision, finish_of, learned, lost, read_plan, recovered, stepped, taken, told_in};
+ghost use Rattle.mega_two_driver.specs.Driver.{asked_in, asks, begun, decision, finish_of, learned, look_of, lost, prepare_of, read_plan, recovered, stepped, taken, told_in};
 ghost use Rattle.mega_two_driver.specs.Moves.{ended_in};
-ghost use Rattle.mega_two_driver.specs.declared.phase.Phase.TheVariants as phases;
 
 use crate::begins::plan_of;
 use crate::checks::is_name;
@@ -57,7 +56,7 @@ fn part_at(plan: &Plan, part: usize) -> Option<&PartRequests>
 }
 
 fn prepare_at(plan: &Plan, part: usize) -> Option<&[u8]>
-    ensures { option_map (λ s. s.now) result ≡ asked_in plan.now (phases.Prepares part) }
+    ensures { option_map (λ s. s.now) result ≡ option_map prepare_of (slice_get plan.now.parts part) }
 {
     match part_at(plan, part) {
         Some(part) => Some(part.prepare.as_slice()),
@@ -66,7 +65,7 @@ fn prepare_at(plan: &Plan, part: usize) -> Option<&[u8]>
 }
 
 fn finish_at(plan: &Plan, made: bool, part: usize) -> Option<&[u8]>
-    ensures { option_map (λ s. s.now) result ≡ asked_in plan.now (phases.Finishes made part) }
+    ensures { option_map (λ s. s.now) result ≡ option_map (finish_of made) (slice_get plan.now.parts part) }
 {
     match part_at(plan, part) {
         Some(part) => Some(finish_of(part, made)),
@@ -74,10 +73,9 @@ fn finish_at(plan: &Plan, made: bool, part: usize) -> Option<&[u8]>
     }
 }
 
-fn look_at(plan: &Plan, made: bool, part: usize) -> Option<&[u8]>
-    ensures { option_map (λ s. s.now) result ≡ asked_in plan.now (phases.Checks made part) }
+fn look_at(plan: &Plan, part: usize) -> Option<&[u8]>
+    ensures { option_map (λ s. s.now) result ≡ option_map look_of (slice_get plan.now.parts part) }
 {
-    let _made = made;
     match part_at(plan, part) {
         Some(part) => Some(part.look.as_slice()),
         None => None,
@@ -94,7 +92,7 @@ fn asked_in(plan: &Plan, phase: Phase) -> Option<&[u8]>
         Phase::Decides(made) => Some(decision(plan, made)),
         Phase::Looks(_) | Phase::Recovers => Some(plan.look.as_slice()),
         Phase::Finishes(made, part) => finish_at(plan, made, part),
-        Phase::Checks(made, part) => look_at(plan, made, part),
+        Phase::Checks(_, part) => look_at(plan, part),
         Phase::Over(_) => None,
     }
 }
@@ -128,7 +126,7 @@ impl Two {
     /// A change that is begun by a line, or the first reason for which the line or the schema does not allow it.
     #[tactic(auto, unfolding(crate::specs::Driver::begun))]
     pub fn begin(alloc: Global, schema: &Schema, line: &[u8]) -> Result<Two, TwoFault>
-        ensures exact { Gives (λ x. x) result (begun schema.now line.now) }
+        ensures exact { GivesOrReason result (begun schema.now line.now) }
     {
         let plan = plan_of(alloc, schema, line)?;
         let schema = schema.copy(alloc)?;
@@ -142,7 +140,7 @@ impl Two {
     /// A change of this name that is recovered, whoever began it.
     #[tactic(auto, unfolding(crate::specs::Driver::recovered))]
     pub fn recover(alloc: Global, schema: &Schema, name: &Text) -> Result<Two, TwoFault>
-        ensures exact { Gives (λ x. x) result (recovered schema.now name.now) }
+        ensures exact { GivesOrReason result (recovered schema.now name.now) }
     {
         if !is_name(name.as_bytes()) {
             return Err(TwoFault::Refused { reason: 5 });
