@@ -6,13 +6,14 @@ use Rattle.std.proofs.Math.Nat.{div-add-mod, mod-lt}
 use Rattle.std.proofs.lemmas.Bool.Decides.{nat_tests}
 use Rattle.std.proofs.lemmas.List.{get_or-take, get_or-drop, ext_get_or}
 use Rattle.std.proofs.lemmas.List.FromFn.{get_or-map-range_with_len, length-map-range_with_len}
-use Rattle.byteorder.specs.Endian.{big_from, big_number}
+use Rattle.byteorder.specs.Endian.{big_from, big_number, big_bytes}
+use Rattle.byteorder.specs.Numbers.{big_number-reads_back}
 use Rattle.mega_journal.specs.Chain.{records_of}
 use Rattle.mega_journal.proofs.Records.{both}
 use Rattle.mega_checkpoint.specs.declared.area.Area.{Area}
 use Rattle.mega_checkpoint.specs.declared.area.Area.TheVariants.{Odd, Even}
 use Rattle.mega_checkpoint.specs.Format.{first_page, other_of, offset, pages_in, length_of_pages, space, is_open, generation_of, chain_in, outranks, counts, is_marked, is_areas, area_records, list_of}
-use Rattle.mega_checkpoint.proofs.Layout.{Parted, parted, within_page}
+use Rattle.mega_checkpoint.proofs.Offsets.{Parted, parted, within_page}
 
 -- the whole pages of a length
 pub pages_parted : (length : ℕ) → 4096 ≤ length → (8192 * pages_in length + 4096 ≤ length) × (length < 8192 * pages_in length + 12288)
@@ -52,7 +53,7 @@ same_chain area n old new same room some longer =
       get_or-take n (chain_in area new) i 0 lt ∙ get_or-chain area new i (omega (arith, lt, room, more))
       ∙ same (9 + i) (omega (arith, lt)) ∙ sym (get_or-chain area old i (omega (arith, lt, room))) ∙ sym (get_or-take n (chain_in area old) i 0 lt))
 
-first_offset : (area : Area) → offset area 0 ≡ 4096 * first_page area
+pub first_offset : (area : Area) → offset area 0 ≡ 4096 * first_page area
 first_offset Odd = refl
 first_offset Even = refl
 
@@ -66,9 +67,9 @@ same_from i (suc n) xs ys same =
     let rest = same_from (suc i) n xs ys (λ j less. ap (λ (k : ℕ). get_or xs k 0) (let e : suc i + j ≡ i + suc j = omega arith in e) ∙ same (suc j) (omega (arith, less)) ∙ ap (λ (k : ℕ). get_or ys k 0) (let e : i + suc j ≡ suc i + j = omega arith in e)) in
     λ k. first k * 256 ^ n + rest k
 
-pub same_generation : (area : Area) (old new : List ℕ) → SameFront area 9 old new → generation_of area new ≡ generation_of area old
+pub same_generation : (area : Area) (old new : List ℕ) → ((j : ℕ) → j < 8 → get_or new (offset area (1 + j)) 0 ≡ get_or old (offset area (1 + j)) 0) → generation_of area new ≡ generation_of area old
 unfolding generation_of
-same_generation area old new same = same_from 0 8 (drop k new) (drop k old) (λ j less. get_or-drop k new j 0 ∙ there new j less ∙ same (1 + j) (omega (arith, less)) ∙ sym (there old j less) ∙ sym (get_or-drop k old j 0))
+same_generation area old new same = same_from 0 8 (drop k new) (drop k old) (λ j less. get_or-drop k new j 0 ∙ there new j less ∙ same j less ∙ sym (there old j less) ∙ sym (get_or-drop k old j 0))
   where
     k : ℕ
     k = 4096 * first_page area + 1
@@ -105,7 +106,7 @@ pub list_none : (file : List ℕ) → is_areas file ≡ false → list_of file �
 unfolding list_of
 list_none file no = ap (λ (b : Bool). if b then area_records file else records_of file) no
 
-list_areas : (file : List ℕ) → is_areas file ≡ true → list_of file ≡ area_records file
+pub list_areas : (file : List ℕ) → is_areas file ≡ true → list_of file ≡ area_records file
 unfolding list_of
 list_areas file yes = ap (λ (b : Bool). if b then area_records file else records_of file) yes
 
@@ -126,3 +127,46 @@ list_idle file yes odd even =
     list_areas file yes
     ∙ ap (λ (b : Bool). if b && (not (is_open Even file) || outranks Odd (generation_of Odd file) (generation_of Even file)) then records_of (chain_in Odd file) else (if counts Even file then records_of (chain_in Even file) else [])) odd
     ∙ ap (λ (b : Bool). if b && (not (is_open Odd file) || outranks Even (generation_of Even file) (generation_of Odd file)) then records_of (chain_in Even file) else []) even
+
+-- a generation that is written is read
+pub generation_put : (area : Area) (file : List ℕ) (generation : ℕ) (rest : List ℕ) → generation < 2 ^ 64 → ((j : ℕ) → j < 8 → get_or file (offset area (1 + j)) 0 ≡ get_or (big_bytes 8 generation ++ rest) j 0) → generation_of area file ≡ generation
+unfolding generation_of
+generation_put area file generation rest fits there =
+    same_from 0 8 (drop k file) (big_bytes 8 generation ++ rest) (λ j less. get_or-drop k file j 0 ∙ ap (λ (i : ℕ). get_or file i 0) (at j less) ∙ there j less) ∙ big_number-reads_back 8 generation rest fits
+  where
+    k : ℕ
+    k = 4096 * first_page area + 1
+
+    at : (j : ℕ) → j < 8 → k + j ≡ offset area (1 + j)
+    at j less = sym (within_page area 0 (1 + j) (omega (arith, less)) ∙ ap (λ (i : ℕ). i + (1 + j)) (first_offset area) ∙ (let e : 4096 * first_page area + (1 + j) ≡ 4096 * first_page area + 1 + j = omega arith in e))
+
+pub counts_open : (area : Area) (file : List ℕ) → counts area file ≡ true → is_open area file ≡ true
+counts_open area file is = (both (is_open area file) (not (is_open (other_of area) file) || outranks area (generation_of area file) (generation_of (other_of area) file)) is).0
+
+-- an area with the one open gate counts
+pub counts_alone : (area : Area) (file : List ℕ) → is_open area file ≡ true → is_open (other_of area) file ≡ false → counts area file ≡ true
+counts_alone area file mine other = λ i. mine i && (not (other i) || outranks area (generation_of area file) (generation_of (other_of area) file))
+
+-- so does one of a later generation
+pub counts_later : (area : Area) (file : List ℕ) → is_open area file ≡ true → generation_of (other_of area) file < generation_of area file → counts area file ≡ true
+counts_later area file mine later = (λ i. mine i && (not (is_open (other_of area) file) || above area i)) ∙ or_true (not (is_open (other_of area) file))
+  where
+    above : (a : Area) → outranks a (generation_of area file) (generation_of (other_of area) file) ≡ true
+    above Odd = grind (arith, nat_tests)
+    above Even = grind (arith, nat_tests)
+
+    or_true : (b : Bool) → b || true ≡ true
+    or_true true = refl
+    or_true false = refl
+
+pub other_other : (area : Area) → other_of (other_of area) ≡ area
+other_other Odd = refl
+other_other Even = refl
+
+-- chains with the same bytes
+pub equal_chain : (area : Area) (old new : List ℕ) → pages_in (length new) ≡ pages_in (length old) → ((i : ℕ) → 9 + i < 4096 * pages_in (length old) → get_or new (offset area (9 + i)) 0 ≡ get_or old (offset area (9 + i)) 0) → chain_in area new ≡ chain_in area old
+equal_chain area old new pages same =
+    ext_get_or 0 (chain_in area new) (chain_in area old) (omega (arith, length-chain area old, length-chain area new, pages)) (λ i less.
+      let lt : 9 + i < 4096 * pages_in (length new) = omega (arith, less, length-chain area new) in
+      let fits : 9 + i < 4096 * pages_in (length old) = omega (arith, lt, pages) in
+      get_or-chain area new i lt ∙ same i fits ∙ sym (get_or-chain area old i fits))

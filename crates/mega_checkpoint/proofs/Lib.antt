@@ -1,4 +1,9 @@
+mod Adding
 mod Bytes
+mod Ended
 mod Fronts
 mod Kept
-mod Layout
+mod Offsets
+mod Plain
+mod Swapped
+mod Trimmed

@@ -76,6 +76,6 @@ list_of file = if is_areas file then area_records file else records_of file
 abbrev pub replacing : ℕ → List ℕ → List ℕ
 replacing generation body = big_bytes 8 generation ++ (1 ∷ (to_be_bytes w32 (length body) ++ (body ++ 0 ∷ [])))
 
--- a body whose length would spell the mark
+-- a record with a body of this length would begin as a file of areas does
 abbrev pub spells_mark : ℕ → Bool
-spells_mark size = size / 256 == 4669746
+spells_mark size = is_marked (1 ∷ to_be_bytes w32 size)

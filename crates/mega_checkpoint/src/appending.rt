@@ -1,0 +1,44 @@
+//! Appends a record to the area that counts.
+ghost use Rattle.std.specs.Prelude.{◌≡◌, ◌+◌, ◌*◌, ◌<◌, ◌≤◌, ◌^◌, ◌++◌, [], ◌∷◌, true, false, max, length, IfOk, OnOk};
+ghost use Rattle.mega_base.specs.Causes.{Rose};
+ghost use Rattle.mega_disk.specs.Images.{Only, LeavesOnly};
+ghost use Rattle.mega_disk.specs.Fuse.{LowersBy, MayBurn, Burns};
+ghost use Rattle.mega_disk.specs.RecordLists.{IsBeforeOrAfter};
+ghost use Rattle.mega_checkpoint.specs.Format.{list_of, length_of_pages, pages_for};
+ghost use Rattle.mega_checkpoint.specs.Held.{HoldsAreas};
+
+use crate::area::{Areas, pages_for};
+use crate::chain::behind_gate;
+use crate::writing::{set_byte, stage};
+use mega_disk::{Disk, DiskError};
+use std::alloc::Global;
+
+/// Writes a record behind the closed gate at `end` of the area's chain and, once it is on the disk, opens the gate.
+pub(crate) fn add_to_area<D: Disk>(
+    alloc: Global,
+    disk: &mut D,
+    areas: Areas,
+    end: u64,
+    body: &[u8],
+) -> Result<Areas, DiskError>
+    requires held { D.is_told ≡ true → HoldsAreas (D.seen disk.old) (D.may_leave disk.old) areas end }
+    requires short { length body.now < 2 ^ 32 }
+    requires room { end < 2 ^ 61 }
+    requires small { areas.pages < 2 ^ 50 }
+    ensures added { D.is_told ≡ true → OnOk result (list_of (D.seen disk.new) ≡ list_of (D.seen disk.old) ++ body.now ∷ []) }
+    ensures held { D.is_told ≡ true → IfOk result (λ areas. HoldsAreas (D.seen disk.new) (D.may_leave disk.new) areas (end + 5 + length body.now)) }
+    ensures pages { IfOk result (λ grown. grown.pages ≡ max areas.pages (pages_for (end + 15 + length body.now))) }
+    ensures any_moment { D.is_told ≡ true → LeavesOnly D.moment D.left_since disk.old disk.new (λ image. IsBeforeOrAfter (list_of (D.seen disk.old)) body.now (list_of image)) }
+    ensures cause { result ≡ Err DiskError.Failed → Rose (D.faults disk.old) (D.faults disk.new) }
+    ensures later { D.faults disk.old ≤ D.faults disk.new }
+    ensures lowers { OnOk result (LowersBy 4 (D.fuse_left disk.old) (D.fuse_left disk.new)) }
+    ensures may_burn { MayBurn (D.fuse_left disk.old) (D.fuse_left disk.new) }
+    ensures burns { D.fails_by_fuse disk.old ≡ true → result ≡ Err DiskError.Failed → Burns (D.fuse_left disk.old) (D.fuse_left disk.new) }
+    ensures by_fuse { D.fails_by_fuse disk.old ≡ true → D.fails_by_fuse disk.new ≡ true }
+{
+    let record = behind_gate(alloc, body)?;
+    let pages = areas.pages.max(pages_for(end + 15 + body.len() as u64));
+    stage(alloc, disk, areas.active, end + 10, record.as_slice(), areas.pages, pages)?;
+    set_byte(disk, areas.active, end + 9, 1)?;
+    Ok(Areas { pages, ..areas })
+}
