@@ -5,5 +5,6 @@ mod Fronts
 mod Kept
 mod Offsets
 mod Plain
+mod Rooms
 mod Swapped
 mod Trimmed

@@ -1,10 +1,10 @@
 -- A chain that does not begin as a file of areas does: it stays so, whatever a write leaves of it.
-use Rattle.std.proofs.Common.{◌≡◌, ◌≢◌, inl, inr, ⊎_elim, ℕ, ◌+◌, ◌*◌, ◌<◌, ◌≤◌, ◌^◌, Bool, true, false, List, [], ◌∷◌, ◌++◌, length, get_or, take, drop, refl, sym, ◌∙◌, ap, subst, arith, append_assoc, length-append}
+use Rattle.std.proofs.Common.{◌≡◌, ◌≢◌, ◌⊎◌, inl, inr, ⊎_elim, ℕ, ◌+◌, ◌*◌, ◌<◌, ◌≤◌, ◌^◌, Bool, true, false, List, [], ◌∷◌, ◌++◌, length, get_or, take, drop, refl, sym, ◌∙◌, ap, subst, arith, append_assoc, length-append}
 use Rattle.std.specs.Prelude.{◌==◌, ◌&&◌, not, nat_le}
 use Rattle.std.specs.Int.{from_be_bytes, to_be_bytes, w32}
 use Rattle.std.proofs.lemmas.Bool.{cases_lt, cases_eq}
 use Rattle.std.proofs.lemmas.Bool.Decides.{nat_tests}
-use Rattle.std.proofs.lemmas.List.{get_or-take, take_more}
+use Rattle.std.proofs.lemmas.List.{get_or_default}
 use Rattle.std.proofs.lemmas.Nat.{from_be_bytes-to_be_bytes_4}
 use Rattle.mega_disk.specs.Images.{overwritten, Torn, Only}
 use Rattle.mega_disk.specs.RecordLists.{IsBeforeOrAfter}
@@ -105,3 +105,135 @@ from_four (a ∷ []) four first = absurd (omega arith)
 from_four (a ∷ b ∷ []) four first = absurd (omega arith)
 from_four (a ∷ b ∷ c ∷ []) four first = absurd (omega arith)
 from_four (a ∷ b ∷ c ∷ d ∷ e ∷ more) four first = absurd (omega arith)
+
+-- and which counts at most one byte for its first gate
+pub unmarked_chain : (file : List ℕ) (end : ℕ) → IsRead file end → is_areas file ≡ false → 0 < end → is_marked file ≡ false
+unmarked_chain file end read no some = go (records_of file) refl
+  where
+    go : (bodies : List (List ℕ)) → records_of file ≡ bodies → is_marked file ≡ false
+    go [] none = let p = read.place in absurd (omega (arith, some, p, ap (λ (l : List (List ℕ)). length (chain_of l)) none))
+    go (body ∷ bodies) is = ⊎_elim short long (cases_lt (length file) 12288)
+      where
+        spelled : file ≡ record_of body ++ (chain_of bodies ++ drop end file)
+        spelled = read.spelled ∙ ap (λ (l : List (List ℕ)). chain_of l ++ drop end file) is ∙ append_assoc (record_of body) (chain_of bodies) (drop end file)
+
+        long : 12288 ≤ length file → is_marked file ≡ false
+        long le = false_of (is_marked file) (λ mark. true_false (sym (areas_whole file le mark) ∙ no))
+          where
+            true_false : true ≡ false → ⊥
+            true_false is = absurd (cc)
+
+            false_of : (b : Bool) → (b ≡ true → ⊥) → b ≡ false
+            false_of true no = absurd (no refl)
+            false_of false no = refl
+
+        short : length file < 12288 → is_marked file ≡ false
+        short less = not_mark (cases_eq (get_or file 1 0) 71)
+          where
+            first : get_or file 1 0 ≡ get_or (to_be_bytes w32 (length body)) 0 0
+            first = ap (λ (l : List ℕ). get_or l 1 0) spelled
+
+            size : length file ≡ 5 + length body + length (chain_of bodies ++ drop end file)
+            size = omega (arith, ap length spelled, length-append (record_of body) (chain_of bodies ++ drop end file), length-append (to_be_bytes w32 (length body)) body, four)
+              where
+                four : length (to_be_bytes w32 (length body)) ≡ 4
+                four = refl
+
+            small : length body < 2 ^ 32
+            small = omega (arith, size, less)
+
+            not_mark : (get_or file 1 0 ≡ 71) ⊎ (get_or file 1 0 ≢ 71) → is_marked file ≡ false
+            not_mark (inl same) =
+                let big = from_four (to_be_bytes w32 (length body)) refl (sym first ∙ same) in
+                let value = from_be_bytes-to_be_bytes_4 (length body) small in absurd (omega (arith, big, value, size, less))
+            not_mark (inr other) =
+                let e : (get_or file 1 0 == 71) ≡ false = grind (arith, nat_tests) in
+                (λ i. not (get_or file 0 0 == 0) && (e i && ((get_or file 2 0 == 65) && (get_or file 3 0 == 50)))) ∙ last (not (get_or file 0 0 == 0))
+
+            last : (b : Bool) → b && false ≡ false
+            last true = refl
+            last false = refl
+
+module _ (file : List ℕ) (end : ℕ) (read : IsRead file end) (no : is_areas file ≡ false) (inside : end < length file) where
+  read_list : list_of file ≡ records_of file
+  read_list = list_none file no
+
+  module _ (torn_no : get_or file 0 0 ≤ 1) (shut : get_or file end 1 ≢ 1) where
+    first_shut : end ≡ 0 → get_or file 0 0 ≡ 0
+    first_shut zero = ⊎_elim (λ less. omega (arith, less)) (λ le. absurd (shut (ap (λ (i : ℕ). get_or file i 1) zero ∙ default ∙ (let e : get_or file 0 0 ≡ 1 = omega (arith, le, torn_no) in e)))) (cases_lt (get_or file 0 0) 1)
+      where
+        default : get_or file 0 1 ≡ get_or file 0 0
+        default = get_or_default file 0 1 0 (omega (arith, inside))
+
+    shut_unmarked : is_marked file ≡ false
+    shut_unmarked = ⊎_elim (unmarked_chain file end read no) (λ none. no_first file (first_shut (omega (arith, none)))) (cases_lt 0 end)
+
+    pub shut_held : (may_leave : List ℕ → Type 0) → Only file may_leave → HoldsChain file may_leave end
+    shut_held may_leave durable = record {
+      unmarked = shut_unmarked;
+      first = first_shut;
+      settled = record { at_rest = shut_end file end read inside shut; durable = durable };
+    }
+
+  module _ (one : get_or file end 1 ≡ 1) (c : List ℕ) (torn : Torn end 1 file c) where
+    same_size : length c ≡ length file
+    same_size = let a = torn.no_shorter in let b = torn.no_longer in omega (arith, a, b, inside)
+
+    open_no : is_areas c ≡ false
+    open_no = ⊎_elim behind front (cases_lt 0 end)
+      where
+        behind : 0 < end → is_areas c ≡ false
+        behind some =
+            let five = long_chain (records_of file) (let p = read.place in omega (arith, some, p)) in
+            let p = read.place in
+            no_areas_by_mark c (same_mark file c (λ i less. torn_before end 1 file c i torn (omega (arith, less, five, p))) ∙ unmarked_chain file end read no some)
+
+        front : end ≤ 0 → is_areas c ≡ false
+        front none = ⊎_elim (λ few. no_areas_by_length c few) (λ many. no_areas_by_mark c (other many)) (cases_lt (length c) 12288)
+          where
+            byte : (j : ℕ) → 1 ≤ j → get_or c j 0 ≡ get_or file j 0
+            byte j some = torn_after end 1 file c j torn (omega (arith, none, some))
+
+            gate : get_or file 0 0 ≡ 1
+            gate = sym (get_or_default file 0 1 0 (omega (arith, inside))) ∙ ap (λ (i : ℕ). get_or file i 1) (let e : 0 ≡ end = omega (arith, none) in e) ∙ one
+
+            rest : Bool
+            rest = (get_or file 1 0 == 71) && ((get_or file 2 0 == 65) && (get_or file 3 0 == 50))
+
+            without : 12288 ≤ length c → (get_or file 1 0 == 71) && ((get_or file 2 0 == 65) && (get_or file 3 0 == 50)) ≡ false
+            without many = false_of _ (λ mark. true_false (sym (areas_whole file (omega (arith, many, same_size)) ((λ i. not (gate i == 0) && mark i))) ∙ no))
+              where
+                true_false : true ≡ false → ⊥
+                true_false is = absurd (cc)
+
+                false_of : (b : Bool) → (b ≡ true → ⊥) → b ≡ false
+                false_of true no = absurd (no refl)
+                false_of false no = refl
+
+            other : 12288 ≤ length c → is_marked c ≡ false
+            other many = (λ i. not (get_or c 0 0 == 0) && ((byte 1 (omega arith) i == 71) && ((byte 2 (omega arith) i == 65) && (byte 3 (omega arith) i == 50)))) ∙ (λ i. not (get_or c 0 0 == 0) && without many i) ∙ last (not (get_or c 0 0 == 0))
+              where
+                last : (b : Bool) → b && false ≡ false
+                last true = refl
+                last false = refl
+
+    pub open_list : list_of c ≡ list_of file
+    open_list = list_none c open_no ∙ torn_end file end read (open_end file end read inside one) c torn ∙ sym read_list
+
+  pub open_held : get_or file end 1 ≡ 1 → (c : List ℕ) (may_leave : List ℕ → Type 0) → c ≡ overwritten end (0 ∷ []) file → Only c may_leave → HoldsChain c may_leave end
+  open_held one c may_leave is durable = record {
+    unmarked = ⊎_elim behind (λ none. no_first c (zero none)) (cases_lt 0 end);
+    first = λ none. zero (omega (arith, none));
+    settled = record { at_rest = (closed_end file end read c is).0; durable = durable };
+  }
+    where
+      zero : end ≤ 0 → get_or c 0 0 ≡ 0
+      zero none =
+          ap (λ (l : List ℕ). get_or l 0 0) is ∙ ap (λ (i : ℕ). get_or (overwritten end (0 ∷ []) file) i 0) (let e : 0 ≡ end + 0 = omega (arith, none) in e)
+          ∙ over_there end (0 ∷ []) file (omega (arith, inside)) 0 (omega arith)
+
+      behind : 0 < end → is_marked c ≡ false
+      behind some =
+          let five = long_chain (records_of file) (let p = read.place in omega (arith, some, p)) in
+          let p = read.place in
+          same_mark file c (λ i less. ap (λ (l : List ℕ). get_or l i 0) is ∙ over_before end (0 ∷ []) file (omega (arith, inside)) i (omega (arith, less, five, p))) ∙ unmarked_chain file end read no some
