@@ -1,5 +1,5 @@
 -- How pieces that are written to an area, whole or torn, leave a file.
-use Rattle.std.proofs.Common.{◌≡◌, ◌≢◌, ◌⊎◌, inl, inr, ⊎_elim, ℕ, ◌+◌, ◌-◌, ◌*◌, ◌<◌, ◌≤◌, max, List, [], ◌∷◌, ◌++◌, length, get_or, take, drop, refl, sym, ◌∙◌, ap, subst, arith, length-take-le}
+use Rattle.std.proofs.Common.{◌≡◌, ◌≢◌, ◌⊎◌, inl, inr, ⊎_elim, ℕ, ◌+◌, ◌-◌, ◌*◌, ◌<◌, ◌≤◌, max, List, [], ◌∷◌, ◌++◌, length, get_or, take, drop, refl, sym, ◌∙◌, ap, subst, arith, length-take-le, length-take, length-drop}
 use Rattle.std.specs.Prelude.{◌/◌, ◌%◌}
 use Rattle.std.proofs.lemmas.Bool.{cases_lt, cases_eq}
 use Rattle.mega_disk.specs.Images.{overwritten, Torn}
@@ -7,7 +7,9 @@ use Rattle.mega_checkpoint.specs.declared.area.Area.{Area}
 use Rattle.mega_checkpoint.specs.Format.{offset, other_of}
 use Rattle.mega_checkpoint.specs.Places.{Keeps, Puts, Sets, SetsAny}
 use Rattle.mega_checkpoint.proofs.Bytes.{torn_before, torn_after, over_before, over_there, over_after, length-over}
-use Rattle.std.proofs.lemmas.List.{get_or-take, get_or_past}
+use Rattle.std.specs.Prelude.{slice_range}
+use Rattle.std.proofs.lemmas.List.{get_or-take, get_or-drop, get_or_past}
+use Rattle.mega_disk.specs.Fuse.{Fuse, Untold, Unset, Left, LowersBy}
 use Rattle.mega_checkpoint.proofs.Offsets.{within_page, ascends}
 
 -- no offset of these bytes is that place
@@ -132,3 +134,19 @@ set_torn area place old new room torn =
         same = λ i less other. ⊎_elim (λ before. torn_before at 1 old new i torn before) (λ past. ⊎_elim (λ few. absurd (other (omega (arith, past, few)))) (λ after. torn_after at 1 old new i torn after) (cases_lt i (at + 1))) (cases_lt i at);
       },
     )
+
+-- a piece of the bytes, as it is read of them
+pub put_read : (area : Area) (place n k : ℕ) (bytes old mid new : List ℕ) → n + k ≤ length bytes → length new ≡ length mid → Puts area place (take n bytes) old mid → Puts area (place + n) (slice_range bytes n (n + k)) mid new → Puts area place (take (n + k) bytes) old new
+put_read area place n k bytes old mid new room size first second =
+    let piece = slice_range bytes n (n + k) in
+    let count : n + k - n ≡ k = omega arith in
+    let long : length piece ≡ k = omega (arith, length-take (n + k - n) (drop n bytes), length-drop n bytes, count, room) in
+    subst (λ (m : ℕ). Puts area place (take (n + m) bytes) old new) long
+    (put_more area place n bytes piece old mid new (omega (arith, long, room))
+      (λ j less. get_or-take (n + k - n) (drop n bytes) j 0 (omega (arith, less, long, count)) ∙ get_or-drop n bytes j 0) size first second)
+
+-- calls of a device one after another
+pub lowers_on : (a b c : Fuse) (n m k : ℕ) → k ≤ n + m → LowersBy n a b → LowersBy m b c → LowersBy k a c
+lowers_on Untold b c n m k le first second = subst (λ (f : Fuse). LowersBy m f c) first second
+lowers_on Unset b c n m k le first second = subst (λ (f : Fuse). LowersBy m f c) first second
+lowers_on (Left x) b c n m k le (y, is, fits) second = let s = subst (λ (f : Fuse). LowersBy m f c) is second in (s.0, s.1, let last = s.2 in omega (arith, le, fits, last))

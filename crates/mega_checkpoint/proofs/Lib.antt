@@ -1,6 +1,7 @@
 mod Adding
 mod Bytes
 mod Ended
+mod Fresh
 mod Fronts
 mod Kept
 mod Offsets

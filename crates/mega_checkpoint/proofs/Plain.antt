@@ -23,7 +23,7 @@ long_chain : (bodies : List (List ℕ)) → 0 < length (chain_of bodies) → 5 �
 long_chain [] some = absurd (omega arith)
 long_chain (body ∷ bodies) some = omega (arith, length-append (record_of body) (chain_of bodies), length-append (to_be_bytes w32 (length body)) body)
 
-no_first : (file : List ℕ) → get_or file 0 0 ≡ 0 → is_marked file ≡ false
+pub no_first : (file : List ℕ) → get_or file 0 0 ≡ 0 → is_marked file ≡ false
 no_first file zero = λ i. not (zero i == 0) && ((get_or file 1 0 == 71) && ((get_or file 2 0 == 65) && (get_or file 3 0 == 50)))
 
 -- through the closed gate the bytes are the same

@@ -1,6 +1,6 @@
 -- A record that is written to the other area in place of all: what each write leaves, whole or torn.
 use Rattle.std.proofs.Common.{◌≡◌, ◌≢◌, ◌⊎◌, inl, inr, ⊎_elim, ℕ, ◌+◌, ◌-◌, ◌*◌, ◌<◌, ◌≤◌, ◌^◌, Bool, true, false, List, [], ◌∷◌, ◌++◌, length, get_or, take, drop, refl, sym, ◌∙◌, ap, subst, arith, append_assoc, length-append}
-use Rattle.std.specs.Prelude.{◌==◌}
+use Rattle.std.specs.Prelude.{◌==◌, ◌&&◌, ◌||◌, not}
 use Rattle.std.specs.Int.{to_be_bytes, w32}
 use Rattle.std.proofs.lemmas.Bool.{cases_eq}
 use Rattle.std.proofs.lemmas.Bool.Decides.{nat_tests}
@@ -10,8 +10,11 @@ use Rattle.mega_disk.specs.RecordLists.{IsOldOrReplaced}
 use Rattle.mega_journal.specs.Chain.{record_of, chain_of, records_of}
 use Rattle.mega_journal.specs.Rest.{IsAtRest}
 use Rattle.mega_journal.proofs.Written.{at_rest, inside as gate_inside}
+use Rattle.mega_disk.specs.Images.{Only}
 use Rattle.mega_checkpoint.specs.declared.area.Area.{Area}
-use Rattle.mega_checkpoint.specs.Format.{first_page, other_of, offset, pages_in, length_of_pages, is_open, generation_of, chain_in, counts, is_marked, is_areas, list_of, replacing}
+use Rattle.mega_checkpoint.specs.declared.area.Areas.{Areas}
+use Rattle.mega_checkpoint.specs.Held.{HoldsAreas, shut}
+use Rattle.mega_checkpoint.specs.Format.{first_page, other_of, offset, pages_in, length_of_pages, is_open, generation_of, chain_in, counts, outranks, is_marked, is_areas, list_of, replacing}
 use Rattle.mega_checkpoint.specs.Places.{Keeps, Puts, Sets}
 use Rattle.mega_checkpoint.proofs.Offsets.{inside, ascends}
 use Rattle.mega_checkpoint.proofs.Fronts.{SameFront, same_chain, same_gate, same_generation, areas_parts, areas_whole, list_counts, length-chain, pages_parted, pages_whole, counts_open, counts_alone, counts_later, other_other, equal_chain, generation_put, first_offset}
@@ -56,9 +59,14 @@ gate_stays area from old new form some kept =
 pub gate_set : (area : Area) (byte : ℕ) (old new : List ℕ) → Sets area 0 byte old new → is_open area new ≡ (byte == 1)
 gate_set area byte old new set = ap (λ (b : ℕ). b == 1) (ap (λ (i : ℕ). get_or new i 0) (sym (first_offset area)) ∙ set.there)
 
+-- behind it the area stays
+pub beyond_gate : (area : Area) (byte : ℕ) (old new : List ℕ) → 12288 ≤ length old → Sets area 0 byte old new → (place : ℕ) → 0 < place → place < 4096 * pages_in (length old) → get_or new (offset area place) 0 ≡ get_or old (offset area place) 0
+beyond_gate area byte old new long set place some less =
+    set.same (offset area place) (in_pages area 0 old new (set_keeps area 0 0 byte old new (omega arith) set) long area place less) (λ same. let up = ascends area 0 place some in absurd (omega (arith, up, same)))
+
 -- the next generation behind its closed gate, in a file with so many pages
 module _ (area : Area) (end : ℕ) (body old mid : List ℕ) (form : is_areas old ≡ true) (counting : counts area old ≡ true) (rests : IsAtRest (chain_in area old) end) (small : length body < 2 ^ 32) (generation : ℕ) (next : generation < 2 ^ 64)
-    (later : generation_of area old < generation) (pages : ℕ) (size : length mid ≡ length_of_pages pages) (fits : 15 + length body ≤ 4096 * pages) (put : Puts (other_of area) 1 (replacing generation body) old mid) (shut : is_open (other_of area) old ≡ false) where
+    (later : generation_of area old < generation) (pages : ℕ) (size : length mid ≡ length_of_pages pages) (fits : 15 + length body ≤ 4096 * pages) (put : Puts (other_of area) 1 (replacing generation body) old mid) (gate_shut : is_open (other_of area) old ≡ false) where
   abbrev tail : List ℕ
   tail = 1 ∷ (to_be_bytes w32 (length body) ++ (body ++ 0 ∷ []))
 
@@ -69,7 +77,7 @@ module _ (area : Area) (end : ℕ) (body old mid : List ℕ) (form : is_areas ol
   mid_beside = beside area end 1 old mid form counting rests kept
 
   pub mid_shut : is_open (other_of area) mid ≡ false
-  mid_shut = gate_stays (other_of area) 1 old mid form (omega arith) kept ∙ shut
+  mid_shut = gate_stays (other_of area) 1 old mid form (omega arith) kept ∙ gate_shut
 
   pub mid_list : list_of mid ≡ list_of old
   mid_list = list_beside area end old mid mid_beside mid_shut
@@ -112,25 +120,22 @@ module _ (area : Area) (end : ℕ) (body old mid : List ℕ) (form : is_areas ol
     mid_counts : counts area mid ≡ true
     mid_counts = counts_alone area mid mid_beside.mine mid_shut
 
-    new_beside : Beside area end mid new
+    pub new_beside : Beside area end mid new
     new_beside = beside area end 0 mid new mid_beside.form mid_counts mid_beside.rests set_kept
 
     long_mid : 12288 ≤ length mid
     long_mid = (areas_parts mid mid_beside.form).0
 
     behind : (place : ℕ) → 0 < place → place < 4096 * pages_in (length mid) → get_or new (offset (other_of area) place) 0 ≡ get_or mid (offset (other_of area) place) 0
-    behind place some less = set.same (offset (other_of area) place) (in_pages (other_of area) 0 mid new set_kept long_mid (other_of area) place less) (λ same. far (other_of area) place some same)
-      where
-        far : (a : Area) (p : ℕ) → 0 < p → offset a 0 ≡ offset a p → ⊥
-        far a p more same = let up = ascends a 0 p more in absurd (omega (arith, up, same))
+    behind = beyond_gate (other_of area) byte mid new long_mid set
 
-    new_number : generation_of (other_of area) new ≡ generation
+    pub new_number : generation_of (other_of area) new ≡ generation
     new_number = same_generation (other_of area) mid new (λ j less. behind (1 + j) (omega arith) (let p = some_pages (other_of area) 0 mid new set_kept long_mid in omega (arith, less, p))) ∙ mid_number
 
     new_chain : chain_in (other_of area) new ≡ chain_of (body ∷ []) ++ 0 ∷ rest
     new_chain = equal_chain (other_of area) mid new (ap pages_in set.size) (λ i less. behind (9 + i) (omega arith) less) ∙ mid_chain
 
-    new_rests : IsAtRest (chain_in (other_of area) new) (5 + length body) × (records_of (chain_in (other_of area) new) ≡ body ∷ [])
+    pub new_rests : IsAtRest (chain_in (other_of area) new) (5 + length body) × (records_of (chain_in (other_of area) new) ≡ body ∷ [])
     new_rests = at_rest (body ∷ []) 0 rest (chain_in (other_of area) new) (5 + length body) (small, tt) (λ zero_one. absurd (omega arith)) new_chain place
       where
         place : 5 + length body ≡ length (chain_of (body ∷ []))
@@ -151,3 +156,50 @@ module _ (area : Area) (end : ℕ) (body old mid : List ℕ) (form : is_areas ol
       | inl one ↦ inr (replaced one)
       | inr other ↦ inl (list_beside area end mid new new_beside (gate_set (other_of area) byte mid new set ∙ (let e : (byte == 1) ≡ false = grind (arith, nat_tests) in e)) ∙ mid_list)
     ]
+
+-- a file of areas has a page of each
+pub some_room : (file : List ℕ) (pages : ℕ) → length file ≡ length_of_pages pages → is_areas file ≡ true → 1 ≤ pages
+some_room file pages size form = let long = (areas_parts file form).0 in omega (arith, size, long)
+
+-- the other's gate, which is open, is set to any byte
+pub set_list : (area : Area) (end : ℕ) (old : List ℕ) → is_areas old ≡ true → counts area old ≡ true → IsAtRest (chain_in area old) end → is_open (other_of area) old ≡ true → (byte : ℕ) (new : List ℕ) → Sets (other_of area) 0 byte old new → list_of new ≡ list_of old
+set_list area end old form counting rests open byte new set = elim (cases_eq byte 1) [
+    | inl one ↦ list_counts area new b.form (still one) ∙ b.records
+    | inr other ↦ list_beside area end old new b (gate_set (other_of area) byte old new set ∙ (let e : (byte == 1) ≡ false = grind (arith, nat_tests) in e))
+  ]
+  where
+    kept : Keeps (other_of area) 0 old new
+    kept = set_keeps (other_of area) 0 0 byte old new (omega arith) set
+
+    b : Beside area end old new
+    b = beside area end 0 old new form counting rests kept
+
+    still : byte ≡ 1 → counts area new ≡ true
+    still one = (λ i. gate i && (not (others i) || outranks area (b.number i) (number i))) ∙ counting
+      where
+        gate : is_open area new ≡ is_open area old
+        gate = b.mine ∙ sym (counts_open area old counting)
+
+        others : is_open (other_of area) new ≡ is_open (other_of area) old
+        others = gate_set (other_of area) byte old new set ∙ (let e : (byte == 1) ≡ true = ap (λ (n : ℕ). n == 1) one in e) ∙ sym open
+
+        number : generation_of (other_of area) new ≡ generation_of (other_of area) old
+        number = same_generation (other_of area) old new (λ j less. beyond_gate (other_of area) byte old new long set (1 + j) (omega arith) (omega (arith, less, some_pages (other_of area) 0 old new kept long)))
+          where
+            long : 12288 ≤ length old
+            long = (areas_parts old form).0
+
+-- and closed
+pub set_shut : (old : List ℕ) (areas : Areas) (end : ℕ) {may_leave : List ℕ → Type 0} → HoldsAreas old may_leave areas end → (new : List ℕ) {images : List ℕ → Type 0} → Sets (other_of areas.active) 0 0 old new → Only new images → HoldsAreas new images (shut areas) end
+set_shut old areas end held new set durable =
+    let b = beside areas.active end 0 old new held.form held.counting held.at_rest (set_keeps (other_of areas.active) 0 0 0 old new (omega arith) set) in
+    let gate : is_open (other_of areas.active) new ≡ false = gate_set (other_of areas.active) 0 old new set in
+    record {
+      size = set.size ∙ held.size;
+      form = b.form;
+      counting = counts_alone areas.active new b.mine gate;
+      number = b.number ∙ held.number;
+      other = gate;
+      at_rest = b.rests;
+      durable = durable;
+    }

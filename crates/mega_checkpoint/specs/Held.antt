@@ -1,5 +1,5 @@
 -- A file of records between two calls.
-use Rattle.std.specs.Prelude.{◌≡◌, ℕ, ◌+◌, ◌-◌, ◌≤◌, ◌<◌, ◌^◌, max, Bool, true, false, ◌&&◌, nat_le, nat_lt, if◌then◌else◌, List, length, get_or}
+use Rattle.std.specs.Prelude.{◌≡◌, ℕ, ◌+◌, ◌-◌, ◌*◌, ◌≤◌, ◌<◌, ◌^◌, max, Bool, true, false, ◌&&◌, nat_le, nat_lt, if◌then◌else◌, List, length, get_or}
 use denote.Struct.Props as logic
 use Rattle.std.specs.List.{AllByRecursion-prop}
 use Rattle.mega_disk.specs.Images.{Only}
@@ -44,6 +44,11 @@ abbrev pub pages_of : Form → ℕ
 pages_of Chain = 0
 pages_of (InAreas areas) = areas.pages
 
+-- what the end of the records stays below
+abbrev pub limit_of : Form → ℕ
+limit_of Chain = 2 ^ 63
+limit_of (InAreas areas) = 4096 * areas.pages
+
 -- the length of the file with a body of so many bytes behind the end
 abbrev pub length_with : Form → ℕ → ℕ → ℕ
 length_with Chain end size = end + 6 + size
@@ -75,3 +80,12 @@ IsHeld file may_leave (InAreas areas) end = HoldsAreas file may_leave areas end
 pub IsHeld-prop : (file : List ℕ) (may_leave : List ℕ → Type 0) (form : Form) (end : ℕ) → IsProp (IsHeld file may_leave form end)
 IsHeld-prop file may_leave Chain end = Prim.hlevel (logic.props, AllByRecursion-prop)
 IsHeld-prop file may_leave (InAreas areas) end = Prim.hlevel (logic.props, AllByRecursion-prop)
+
+pub durable_of : (file : List ℕ) (may_leave : List ℕ → Type 0) (form : Form) (end : ℕ) → IsHeld file may_leave form end → Only file may_leave
+durable_of file may_leave Chain end held = held.settled.durable
+durable_of file may_leave (InAreas areas) end held = held.durable
+
+-- the pages that each area has with a body of so many bytes behind the end
+abbrev pub pages_with : Form → ℕ → ℕ → ℕ
+pages_with Chain end size = 0
+pages_with (InAreas areas) end size = max areas.pages (pages_for (end + 15 + size))

@@ -24,7 +24,7 @@ pub(crate) fn add_to_chain<D: Disk>(
 ) -> Result<(), DiskError>
     requires held { D.is_told ≡ true → HoldsChain (D.seen disk.old) (D.may_leave disk.old) at }
     requires short { length body.now < 2 ^ 32 }
-    requires room { at < 2 ^ 62 }
+    requires room { at < 2 ^ 63 }
     requires plain { at ≡ 0 → spells_mark (length body.now) ≡ false }
     ensures added { D.is_told ≡ true → OnOk result (list_of (D.seen disk.new) ≡ list_of (D.seen disk.old) ++ body.now ∷ []) }
     ensures held { D.is_told ≡ true → OnOk result (HoldsChain (D.seen disk.new) (D.may_leave disk.new) (at + 5 + length body.now)) }

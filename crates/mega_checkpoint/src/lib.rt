@@ -5,8 +5,11 @@
 mod appending;
 mod area;
 mod chain;
+mod checkpoint;
 mod making;
 mod opening;
 mod reading;
 mod replacing;
 mod writing;
+
+pub use checkpoint::Checkpoint;

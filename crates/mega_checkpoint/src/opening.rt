@@ -5,7 +5,7 @@ ghost use Rattle.mega_disk.specs.Images.{Only, LeavesOnly};
 ghost use Rattle.mega_disk.specs.Fuse.{LowersBy, MayBurn, Burns};
 ghost use Rattle.mega_journal.specs.Rest.{IsRead};
 ghost use Rattle.mega_checkpoint.specs.Format.{chain_in, counts, generation_of, is_areas, is_open, length_of_pages, list_of, other_of, pages_in};
-ghost use Rattle.mega_checkpoint.specs.Held.{HoldsAreas, HoldsAs, IsHeld, pages_of};
+ghost use Rattle.mega_checkpoint.specs.Held.{HoldsAreas, HoldsAs, IsHeld, limit_of, pages_of};
 
 use crate::area::{Area, Areas, Form, length_of_pages};
 use crate::chain::open_chain;
@@ -33,7 +33,7 @@ pub(crate) fn open_file<D: Disk>(alloc: Global, disk: &mut D) -> Result<Opened, 
     ensures held { D.is_told ≡ true → IfOk result (λ opened. IsHeld (D.seen disk.new) (D.may_leave disk.new) opened.form opened.end) }
     ensures any_moment { D.is_told ≡ true → LeavesOnly D.moment D.left_since disk.old disk.new (HoldsAs (D.may_leave disk.old)) }
     ensures few { IfOk result (λ opened. length opened.records.items ≤ opened.end) }
-    ensures room { IfOk result (λ opened. opened.end < 2 ^ 63) }
+    ensures room { IfOk result (λ opened. opened.end < limit_of opened.form) }
     ensures small { IfOk result (λ opened. pages_of opened.form < 2 ^ 50) }
     ensures cause { result ≡ Err DiskError.Failed → Rose (D.faults disk.old) (D.faults disk.new) }
     ensures later { D.faults disk.old ≤ D.faults disk.new }
@@ -56,7 +56,7 @@ fn open_read<D: Disk>(alloc: Global, disk: &mut D, bytes: &[u8]) -> Result<Opene
     ensures held { D.is_told ≡ true → IfOk result (λ opened. IsHeld (D.seen disk.new) (D.may_leave disk.new) opened.form opened.end) }
     ensures any_moment { D.is_told ≡ true → LeavesOnly D.moment D.left_since disk.old disk.new (λ image. list_of image ≡ list_of bytes.now) }
     ensures few { IfOk result (λ opened. length opened.records.items ≤ opened.end) }
-    ensures room { IfOk result (λ opened. opened.end < 2 ^ 63) }
+    ensures room { IfOk result (λ opened. opened.end < limit_of opened.form) }
     ensures small { IfOk result (λ opened. pages_of opened.form < 2 ^ 50) }
     ensures cause { result ≡ Err DiskError.Failed → Rose (D.faults disk.old) (D.faults disk.new) }
     ensures later { D.faults disk.old ≤ D.faults disk.new }
@@ -89,7 +89,7 @@ fn open_new<D: Disk>(alloc: Global, disk: &mut D, bytes: &[u8]) -> Result<Opened
     ensures held { D.is_told ≡ true → IfOk result (λ opened. IsHeld (D.seen disk.new) (D.may_leave disk.new) opened.form opened.end) }
     ensures any_moment { D.is_told ≡ true → LeavesOnly D.moment D.left_since disk.old disk.new (λ image. list_of image ≡ list_of bytes.now) }
     ensures few { IfOk result (λ opened. length opened.records.items ≤ opened.end) }
-    ensures room { IfOk result (λ opened. opened.end < 2 ^ 63) }
+    ensures room { IfOk result (λ opened. opened.end < limit_of opened.form) }
     ensures small { IfOk result (λ opened. pages_of opened.form < 2 ^ 50) }
     ensures cause { result ≡ Err DiskError.Failed → Rose (D.faults disk.old) (D.faults disk.new) }
     ensures later { D.faults disk.old ≤ D.faults disk.new }
@@ -118,7 +118,7 @@ fn open_areas<D: Disk>(alloc: Global, disk: &mut D, bytes: &[u8]) -> Result<Open
     ensures held { D.is_told ≡ true → IfOk result (λ opened. IsHeld (D.seen disk.new) (D.may_leave disk.new) opened.form opened.end) }
     ensures any_moment { D.is_told ≡ true → LeavesOnly D.moment D.left_since disk.old disk.new (λ image. list_of image ≡ list_of bytes.now) }
     ensures few { IfOk result (λ opened. length opened.records.items ≤ opened.end) }
-    ensures room { IfOk result (λ opened. opened.end < 2 ^ 63) }
+    ensures room { IfOk result (λ opened. opened.end < limit_of opened.form) }
     ensures small { IfOk result (λ opened. pages_of opened.form < 2 ^ 50) }
     ensures cause { result ≡ Err DiskError.Failed → Rose (D.faults disk.old) (D.faults disk.new) }
     ensures later { D.faults disk.old ≤ D.faults disk.new }
@@ -189,7 +189,7 @@ fn open_area<D: Disk>(
     ensures held { D.is_told ≡ true → IfOk result (λ opened. IsHeld (D.seen disk.new) (D.may_leave disk.new) opened.form opened.end) }
     ensures any_moment { D.is_told ≡ true → LeavesOnly D.moment D.left_since disk.old disk.new (λ image. list_of image ≡ list_of bytes.now) }
     ensures few { IfOk result (λ opened. length opened.records.items ≤ opened.end) }
-    ensures room { IfOk result (λ opened. opened.end < 2 ^ 63) }
+    ensures room { IfOk result (λ opened. opened.end < limit_of opened.form) }
     ensures small { IfOk result (λ opened. pages_of opened.form < 2 ^ 50) }
     ensures cause { result ≡ Err DiskError.Failed → Rose (D.faults disk.old) (D.faults disk.new) }
     ensures later { D.faults disk.old ≤ D.faults disk.new }

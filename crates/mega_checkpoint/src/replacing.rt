@@ -40,12 +40,12 @@ pub(crate) fn replace_area<D: Disk>(
     let generation = areas.generation + 1;
     let bytes = replacing(alloc, generation, body)?;
     let pages = areas.pages.max(pages_for(15 + body.len() as u64));
-    let other = areas.active.other();
+    let beside = areas.active.other();
     shut_other(disk, areas, end)?;
-    stage(alloc, disk, other, 1, bytes.as_slice(), areas.pages, pages)?;
-    set_byte(disk, other, 0, 1)?;
+    stage(alloc, disk, beside, 1, bytes.as_slice(), areas.pages, pages)?;
+    set_byte(disk, beside, 0, 1)?;
     Ok(Areas {
-        active: other,
+        active: beside,
         generation,
         pages,
         other_open: true,
