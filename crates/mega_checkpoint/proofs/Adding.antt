@@ -168,8 +168,11 @@ module _ (area : Area) (end : ℕ) (body old mid : List ℕ) (form : is_areas ol
   room : 9 + (end + 1) + length (behind_gate body) ≤ 4096 * pages_in (length mid)
   room = let five = length-behind in omega (arith, fits, mid_pages, five)
     where
+      four : length (to_be_bytes w32 (length body)) ≡ 4
+      four = refl
+
       length-behind : length (behind_gate body) ≡ 5 + length body
-      length-behind = omega (arith, length-append (to_be_bytes w32 (length body)) (body ++ 0 ∷ []), length-append body (0 ∷ []))
+      length-behind = omega (arith, length-append (to_be_bytes w32 (length body)) (body ++ 0 ∷ []), length-append body (0 ∷ []), four)
 
   same_there : staged (chain_in area mid) end mid_rests body small ≡ chain_in area mid
   same_there = put_chain area (end + 1) (behind_gate body) mid (subst (λ (place : ℕ). Puts area place (behind_gate body) old mid) (let e : end + 10 ≡ 9 + (end + 1) = omega arith in e) put).there room

@@ -1,5 +1,5 @@
 -- A file of at most one byte that becomes one of areas, and its first generation.
-use Rattle.std.proofs.Common.{◌≡◌, ◌≢◌, ◌⊎◌, inl, inr, ⊎_elim, ℕ, zero, suc, ◌+◌, ◌*◌, ◌<◌, ◌≤◌, ◌^◌, Bool, true, false, List, [], ◌∷◌, ◌++◌, length, get_or, take, drop, replicate, refl, sym, ◌∙◌, ap, subst, arith}
+use Rattle.std.proofs.Common.{◌≡◌, ◌≢◌, ◌⊎◌, inl, inr, ⊎_elim, ℕ, ◌+◌, ◌*◌, ◌<◌, ◌≤◌, ◌^◌, Bool, true, false, List, [], ◌∷◌, ◌++◌, length, get_or, take, drop, refl, sym, ◌∙◌, ap, subst, arith}
 use Rattle.std.specs.Prelude.{◌==◌, ◌&&◌, not}
 use Rattle.std.proofs.lemmas.Bool.{cases_eq, cases_lt}
 use Rattle.std.proofs.lemmas.Bool.Decides.{nat_tests}
@@ -38,7 +38,7 @@ list_few file few = list_none file (no_areas_by_length file (omega (arith, few))
 
 -- with a closed first gate
 pub list_shut : (file : List ℕ) → get_or file 0 0 ≡ 0 → list_of file ≡ []
-list_shut file zero = list_none file (no_areas_by_mark file (no_first file zero)) ∙ none_closed file (λ one. absurd (omega (arith, zero, one)))
+list_shut file is = list_none file (no_areas_by_mark file (no_first file is)) ∙ none_closed file (λ one. absurd (omega (arith, is, one)))
 
 -- a file of areas with no open gate keeps none while its first area is written
 module _ (old mid : List ℕ) (form : is_areas old ≡ true) (odd : is_open Odd old ≡ false) (even : is_open Even old ≡ false) (kept : Keeps Odd 1 old mid) where
@@ -89,14 +89,20 @@ module _ (old mid : List ℕ) (form : is_areas old ≡ true) (odd : is_open Odd 
   pub first_number : generation_of Odd new ≡ 1
   first_number =
       same_generation Odd mid new (λ j less. behind (1 + j) (omega arith) (omega (arith, less, some)))
-      ∙ generation_put Odd mid 1 (0 ∷ []) (omega arith) (λ j less. put.there j (omega (arith, less)))
+      ∙ generation_put Odd mid 1 (0 ∷ []) (omega arith) (λ j less. put.there j (omega (arith, less, nine)))
+    where
+      nine : length (big_bytes 8 1 ++ 0 ∷ []) ≡ 9
+      nine = refl
 
   gate : get_or (chain_in Odd new) 0 0 ≡ 0
-  gate = get_or-chain Odd new 0 (omega (arith, some, ap pages_in set.size)) ∙ behind 9 (omega arith) (omega (arith, some)) ∙ put.there 8 (omega arith)
+  gate = get_or-chain Odd new 0 (omega (arith, some, ap pages_in set.size)) ∙ behind 9 (omega arith) (omega (arith, some)) ∙ put.there 8 (omega (arith, nine))
+    where
+      nine : length (big_bytes 8 1 ++ 0 ∷ []) ≡ 9
+      nine = refl
 
   first_shut : (chain : List ℕ) → get_or chain 0 0 ≡ 0 → 0 < length chain → IsAtRest chain 0 × (records_of chain ≡ [])
-  first_shut [] zero more = absurd (omega (arith, more))
-  first_shut (gate ∷ rest) zero more = at_rest [] gate rest (gate ∷ rest) 0 tt (λ one. absurd (omega (arith, zero, one))) refl refl
+  first_shut [] is more = absurd (omega (arith, more))
+  first_shut (first ∷ rest) is more = at_rest [] first rest (first ∷ rest) 0 tt (λ one. absurd (omega (arith, is, one))) refl refl
 
   pub first_rests : IsAtRest (chain_in Odd new) 0 × (records_of (chain_in Odd new) ≡ [])
   first_rests = first_shut (chain_in Odd new) gate (omega (arith, length-chain Odd new, some, ap pages_in set.size))

@@ -13,11 +13,13 @@ use Rattle.mega_journal.proofs.Records.{both}
 use Rattle.mega_checkpoint.specs.declared.area.Area.{Area}
 use Rattle.mega_checkpoint.specs.declared.area.Area.TheVariants.{Odd, Even}
 use Rattle.mega_checkpoint.specs.Format.{first_page, other_of, offset, pages_in, length_of_pages, space, is_open, generation_of, chain_in, outranks, counts, is_marked, is_areas, area_records, list_of}
-use Rattle.mega_checkpoint.proofs.Offsets.{Parted, parted, within_page}
+use Rattle.mega_checkpoint.proofs.Offsets.{front_offset}
 
 -- the whole pages of a length
-pub pages_parted : (length : ℕ) → 4096 ≤ length → (8192 * pages_in length + 4096 ≤ length) × (length < 8192 * pages_in length + 12288)
-pages_parted length le = let a = div-add-mod (length - 4096) 8192 in let b = mod-lt (length - 4096) {8192} (omega arith) in (omega (arith, a, le), omega (arith, a, b, le))
+pub pages_parted : (size : ℕ) → 4096 ≤ size → (8192 * pages_in size + 4096 ≤ size) × (size < 8192 * pages_in size + 12288)
+pages_parted size le =
+    let a = div-add-mod (size - 4096) 8192 in
+    let b : (size - 4096) % 8192 < 8192 = mod-lt (size - 4096) (omega arith) in (omega (arith, a, le), omega (arith, a, b, le))
 
 pub pages_whole : (pages : ℕ) → pages_in (length_of_pages pages) ≡ pages
 pages_whole pages = let a = pages_parted (length_of_pages pages) (omega arith) in let b = a.0 in let c = a.1 in omega (arith, b, c)
@@ -60,22 +62,26 @@ first_offset Even = refl
 pub same_gate : (area : Area) (n : ℕ) (old new : List ℕ) → SameFront area n old new → 0 < n → is_open area new ≡ is_open area old
 same_gate area n old new same some = ap (λ (b : ℕ). b == 1) (ap (λ (i : ℕ). get_or new i 0) (sym (first_offset area)) ∙ same 0 some ∙ ap (λ (i : ℕ). get_or old i 0) (first_offset area))
 
-same_from : (i n : ℕ) (xs ys : List ℕ) → ((j : ℕ) → j < n → get_or xs (i + j) 0 ≡ get_or ys (i + j) 0) → big_from i n xs ≡ big_from i n ys
+same_from : (i n : ℕ) (xs ys : List ℕ) → ((k : ℕ) → i ≤ k → k < i + n → get_or xs k 0 ≡ get_or ys k 0) → big_from i n xs ≡ big_from i n ys
 same_from i zero xs ys same = refl
 same_from i (suc n) xs ys same =
-    let first : get_or xs i 0 ≡ get_or ys i 0 = ap (λ (k : ℕ). get_or xs k 0) (let e : i ≡ i + 0 = omega arith in e) ∙ same 0 (omega arith) ∙ ap (λ (k : ℕ). get_or ys k 0) (let e : i + 0 ≡ i = omega arith in e) in
-    let rest = same_from (suc i) n xs ys (λ j less. ap (λ (k : ℕ). get_or xs k 0) (let e : suc i + j ≡ i + suc j = omega arith in e) ∙ same (suc j) (omega (arith, less)) ∙ ap (λ (k : ℕ). get_or ys k 0) (let e : i + suc j ≡ suc i + j = omega arith in e)) in
-    λ k. first k * 256 ^ n + rest k
+    let first = same i (omega arith) (omega arith) in
+    let rest = same_from (suc i) n xs ys (λ k le less. same k (omega (arith, le)) (omega (arith, less))) in
+    λ j. first j * 256 ^ n + rest j
+
+abbrev behind_gate_at : Area → ℕ
+behind_gate_at area = 4096 * first_page area + 1
+
+number_at : (area : Area) (j : ℕ) → j < 8 → behind_gate_at area + j ≡ offset area (1 + j)
+number_at area j less = let e = front_offset area (1 + j) (omega (arith, less)) in omega (arith, e)
 
 pub same_generation : (area : Area) (old new : List ℕ) → ((j : ℕ) → j < 8 → get_or new (offset area (1 + j)) 0 ≡ get_or old (offset area (1 + j)) 0) → generation_of area new ≡ generation_of area old
 unfolding generation_of
-same_generation area old new same = same_from 0 8 (drop k new) (drop k old) (λ j less. get_or-drop k new j 0 ∙ there new j less ∙ same j less ∙ sym (there old j less) ∙ sym (get_or-drop k old j 0))
-  where
-    k : ℕ
-    k = 4096 * first_page area + 1
-
-    there : (file : List ℕ) (j : ℕ) → j < 8 → get_or file (k + j) 0 ≡ get_or file (offset area (1 + j)) 0
-    there file j less = ap (λ (i : ℕ). get_or file i 0) (sym (within_page area 0 (1 + j) (omega (arith, less)) ∙ ap (λ (i : ℕ). i + (1 + j)) (first_offset area) ∙ (let e : 4096 * first_page area + (1 + j) ≡ 4096 * first_page area + 1 + j = omega arith in e)))
+same_generation area old new same =
+    same_from 0 8 (drop (behind_gate_at area) new) (drop (behind_gate_at area) old) (λ j le less.
+      let lt : j < 8 = omega (arith, less) in
+      get_or-drop (behind_gate_at area) new j 0 ∙ ap (λ (i : ℕ). get_or new i 0) (number_at area j lt) ∙ same j lt
+      ∙ ap (λ (i : ℕ). get_or old i 0) (sym (number_at area j lt)) ∙ sym (get_or-drop (behind_gate_at area) old j 0))
 
 -- the first four bytes tell the mark
 pub same_mark : (old new : List ℕ) → ((i : ℕ) → i < 4 → get_or new i 0 ≡ get_or old i 0) → is_marked new ≡ is_marked old
@@ -86,7 +92,7 @@ same_mark old new same =
 pub areas_parts : (file : List ℕ) → is_areas file ≡ true → (12288 ≤ length file) × (is_marked file ≡ true)
 areas_parts file is =
     let parts = both (nat_le 12288 (length file)) (is_marked file) is in
-    (let e : nat_le 12288 (length file) ≡ true = parts.0 in grind (arith, nat_tests), parts.1)
+    ((let e : nat_le 12288 (length file) ≡ true = parts.0 in grind (arith, nat_tests)), parts.1)
 
 pub areas_whole : (file : List ℕ) → 12288 ≤ length file → is_marked file ≡ true → is_areas file ≡ true
 areas_whole file long mark = let e : nat_le 12288 (length file) ≡ true = grind (arith, nat_tests) in λ i. e i && mark i
@@ -132,13 +138,10 @@ list_idle file yes odd even =
 pub generation_put : (area : Area) (file : List ℕ) (generation : ℕ) (rest : List ℕ) → generation < 2 ^ 64 → ((j : ℕ) → j < 8 → get_or file (offset area (1 + j)) 0 ≡ get_or (big_bytes 8 generation ++ rest) j 0) → generation_of area file ≡ generation
 unfolding generation_of
 generation_put area file generation rest fits there =
-    same_from 0 8 (drop k file) (big_bytes 8 generation ++ rest) (λ j less. get_or-drop k file j 0 ∙ ap (λ (i : ℕ). get_or file i 0) (at j less) ∙ there j less) ∙ big_number-reads_back 8 generation rest fits
-  where
-    k : ℕ
-    k = 4096 * first_page area + 1
-
-    at : (j : ℕ) → j < 8 → k + j ≡ offset area (1 + j)
-    at j less = sym (within_page area 0 (1 + j) (omega (arith, less)) ∙ ap (λ (i : ℕ). i + (1 + j)) (first_offset area) ∙ (let e : 4096 * first_page area + (1 + j) ≡ 4096 * first_page area + 1 + j = omega arith in e))
+    same_from 0 8 (drop (behind_gate_at area) file) (big_bytes 8 generation ++ rest) (λ j le less.
+      let lt : j < 8 = omega (arith, less) in
+      get_or-drop (behind_gate_at area) file j 0 ∙ ap (λ (i : ℕ). get_or file i 0) (number_at area j lt) ∙ there j lt)
+    ∙ big_number-reads_back 8 generation rest fits
 
 pub counts_open : (area : Area) (file : List ℕ) → counts area file ≡ true → is_open area file ≡ true
 counts_open area file is = (both (is_open area file) (not (is_open (other_of area) file) || outranks area (generation_of area file) (generation_of (other_of area) file)) is).0

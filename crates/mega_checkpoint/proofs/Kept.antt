@@ -117,12 +117,10 @@ set_whole area place byte old room =
     record {
       size = omega (arith, length-over at (byte ∷ []) old le, room);
       there = ap (λ (i : ℕ). get_or (overwritten at (byte ∷ []) old) i 0) (let e : at ≡ at + 0 = omega arith in e) ∙ over_there at (byte ∷ []) old le 0 (omega arith);
-      same = λ i less other. ⊎_elim (over_before at (byte ∷ []) old le i) (λ past. ⊎_elim (over_after at (byte ∷ []) old le i) (λ few. absurd (other (omega (arith, past, few)))) (swap (cases_lt i (at + 1)))) (cases_lt i at);
+      same = λ i less other.
+          ⊎_elim (over_before at (byte ∷ []) old le i)
+          (λ past. ⊎_elim (λ few. absurd (other (omega (arith, past, few)))) (λ after. over_after at (byte ∷ []) old le i (omega (arith, after))) (cases_lt i (at + 1))) (cases_lt i at);
     }
-  where
-    swap : {A B : Type 0} → A ⊎ B → B ⊎ A
-    swap (inl a) = inr a
-    swap (inr b) = inl b
 
 pub set_torn : (area : Area) (place : ℕ) (old new : List ℕ) → offset area place < length old → Torn (offset area place) 1 old new → SetsAny area place old new
 set_torn area place old new room torn =

@@ -19,6 +19,10 @@ pub within_page : (area : Area) (place j : ℕ) → place % 4096 + j < 4096 → 
 within_page area place j fits = let p = parted place in let q = parted (place + j) in
     let a = p.whole in let b = p.below in let c = q.whole in let d = q.below in omega (arith, a, b, c, d, fits)
 
+-- and the first page has its places in order
+pub front_offset : (area : Area) (place : ℕ) → place < 4096 → offset area place ≡ 4096 * first_page area + place
+front_offset area place less = let p = parted place in let a = p.whole in let b = p.below in omega (arith, a, b, less)
+
 pub ascends : (area : Area) (p q : ℕ) → p < q → offset area p < offset area q
 ascends area p q less = let a = (parted p).whole in let b = (parted p).below in let c = (parted q).whole in let d = (parted q).below in omega (arith, a, b, c, d, less)
 

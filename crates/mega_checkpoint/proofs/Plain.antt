@@ -24,7 +24,7 @@ long_chain [] some = absurd (omega arith)
 long_chain (body ∷ bodies) some = omega (arith, length-append (record_of body) (chain_of bodies), length-append (to_be_bytes w32 (length body)) body)
 
 pub no_first : (file : List ℕ) → get_or file 0 0 ≡ 0 → is_marked file ≡ false
-no_first file zero = λ i. not (zero i == 0) && ((get_or file 1 0 == 71) && ((get_or file 2 0 == 65) && (get_or file 3 0 == 50)))
+no_first file is = λ i. not (is i == 0) && ((get_or file 1 0 == 71) && ((get_or file 2 0 == 65) && (get_or file 3 0 == 50)))
 
 -- through the closed gate the bytes are the same
 pub same_front : (file c : List ℕ) (end : ℕ) → (end ≡ length (chain_of (records_of file))) → is_marked file ≡ false → (end ≡ 0 → get_or file 0 0 ≡ 0) → ((i : ℕ) → i < end + 1 → get_or c i 0 ≡ get_or file i 0) → is_marked c ≡ false
@@ -51,7 +51,7 @@ module _ (file : List ℕ) (end : ℕ) (unmarked : is_marked file ≡ false) (fi
 
     -- the length of the first record does not spell the mark
     at_front : end ≡ 0 → (c : List ℕ) → Torn end 1 staged_file c → is_marked c ≡ false
-    at_front zero c torn = ap (λ (b : Bool). not (get_or c 0 0 == 0) && b) rest ∙ none (not (get_or c 0 0 == 0))
+    at_front start c torn = ap (λ (b : Bool). not (get_or c 0 0 == 0) && b) rest ∙ none (not (get_or c 0 0 == 0))
       where
         none : (b : Bool) → b && false ≡ false
         none true = refl
@@ -59,15 +59,15 @@ module _ (file : List ℕ) (end : ℕ) (unmarked : is_marked file ≡ false) (fi
 
         byte : (j : ℕ) → j < 4 → get_or c (1 + j) 0 ≡ get_or (behind_gate body) j 0
         byte j less =
-            torn_after end 1 staged_file c (1 + j) torn (omega (arith, zero))
-            ∙ ap (λ (i : ℕ). get_or staged_file i 0) (let e : 1 + j ≡ end + 1 + j = omega (arith, zero) in e)
+            torn_after end 1 staged_file c (1 + j) torn (omega (arith, start))
+            ∙ ap (λ (i : ℕ). get_or staged_file i 0) (let e : 1 + j ≡ end + 1 + j = omega (arith, start) in e)
             ∙ over_there (end + 1) (behind_gate body) file room j (omega (arith, less, length-append (to_be_bytes w32 (length body)) (body ++ 0 ∷ []), four))
           where
             four : length (to_be_bytes w32 (length body)) ≡ 4
             four = refl
 
         rest : (get_or c 1 0 == 71) && ((get_or c 2 0 == 65) && (get_or c 3 0 == 50)) ≡ false
-        rest = (λ i. (byte 0 (omega arith) i == 71) && ((byte 1 (omega arith) i == 65) && (byte 2 (omega arith) i == 50))) ∙ plain zero
+        rest = (λ i. (byte 0 (omega arith) i == 71) && ((byte 1 (omega arith) i == 65) && (byte 2 (omega arith) i == 50))) ∙ plain start
 
     gate_unmarked : (c : List ℕ) → Torn end 1 staged_file c → is_marked c ≡ false
     gate_unmarked c torn = ⊎_elim some (λ none. at_front (omega (arith, none)) c torn) (cases_lt 0 end)
@@ -142,6 +142,10 @@ unmarked_chain file end read no some = go (records_of file) refl
             small : length body < 2 ^ 32
             small = omega (arith, size, less)
 
+            last : (b : Bool) → b && false ≡ false
+            last true = refl
+            last false = refl
+
             not_mark : (get_or file 1 0 ≡ 71) ⊎ (get_or file 1 0 ≢ 71) → is_marked file ≡ false
             not_mark (inl same) =
                 let big = from_four (to_be_bytes w32 (length body)) refl (sym first ∙ same) in
@@ -150,17 +154,13 @@ unmarked_chain file end read no some = go (records_of file) refl
                 let e : (get_or file 1 0 == 71) ≡ false = grind (arith, nat_tests) in
                 (λ i. not (get_or file 0 0 == 0) && (e i && ((get_or file 2 0 == 65) && (get_or file 3 0 == 50)))) ∙ last (not (get_or file 0 0 == 0))
 
-            last : (b : Bool) → b && false ≡ false
-            last true = refl
-            last false = refl
-
 module _ (file : List ℕ) (end : ℕ) (read : IsRead file end) (no : is_areas file ≡ false) (inside : end < length file) where
   read_list : list_of file ≡ records_of file
   read_list = list_none file no
 
   module _ (torn_no : get_or file 0 0 ≤ 1) (shut : get_or file end 1 ≢ 1) where
     first_shut : end ≡ 0 → get_or file 0 0 ≡ 0
-    first_shut zero = ⊎_elim (λ less. omega (arith, less)) (λ le. absurd (shut (ap (λ (i : ℕ). get_or file i 1) zero ∙ default ∙ (let e : get_or file 0 0 ≡ 1 = omega (arith, le, torn_no) in e)))) (cases_lt (get_or file 0 0) 1)
+    first_shut start = ⊎_elim (λ less. omega (arith, less)) (λ le. absurd (shut (ap (λ (i : ℕ). get_or file i 1) start ∙ default ∙ (let e : get_or file 0 0 ≡ 1 = omega (arith, le, torn_no) in e)))) (cases_lt (get_or file 0 0) 1)
       where
         default : get_or file 0 1 ≡ get_or file 0 0
         default = get_or_default file 0 1 0 (omega (arith, inside))
@@ -222,13 +222,13 @@ module _ (file : List ℕ) (end : ℕ) (read : IsRead file end) (no : is_areas f
 
   pub open_held : get_or file end 1 ≡ 1 → (c : List ℕ) (may_leave : List ℕ → Type 0) → c ≡ overwritten end (0 ∷ []) file → Only c may_leave → HoldsChain c may_leave end
   open_held one c may_leave is durable = record {
-    unmarked = ⊎_elim behind (λ none. no_first c (zero none)) (cases_lt 0 end);
-    first = λ none. zero (omega (arith, none));
+    unmarked = ⊎_elim behind (λ none. no_first c (shut_first none)) (cases_lt 0 end);
+    first = λ none. shut_first (omega (arith, none));
     settled = record { at_rest = (closed_end file end read c is).0; durable = durable };
   }
     where
-      zero : end ≤ 0 → get_or c 0 0 ≡ 0
-      zero none =
+      shut_first : end ≤ 0 → get_or c 0 0 ≡ 0
+      shut_first none =
           ap (λ (l : List ℕ). get_or l 0 0) is ∙ ap (λ (i : ℕ). get_or (overwritten end (0 ∷ []) file) i 0) (let e : 0 ≡ end + 0 = omega (arith, none) in e)
           ∙ over_there end (0 ∷ []) file (omega (arith, inside)) 0 (omega arith)
 

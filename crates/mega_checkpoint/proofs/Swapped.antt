@@ -86,7 +86,10 @@ module _ (area : Area) (end : ℕ) (body old mid : List ℕ) (form : is_areas ol
   eight = refl
 
   length-tail : length tail ≡ 6 + length body
-  length-tail = omega (arith, length-append (to_be_bytes w32 (length body)) (body ++ 0 ∷ []), length-append body (0 ∷ []))
+  length-tail = omega (arith, length-append (to_be_bytes w32 (length body)) (body ++ 0 ∷ []), length-append body (0 ∷ []), four)
+    where
+      four : length (to_be_bytes w32 (length body)) ≡ 4
+      four = refl
 
   long : length (replacing generation body) ≡ 14 + length body
   long = omega (arith, length-append (big_bytes 8 generation) tail, eight, length-tail)
@@ -138,8 +141,11 @@ module _ (area : Area) (end : ℕ) (body old mid : List ℕ) (form : is_areas ol
     pub new_rests : IsAtRest (chain_in (other_of area) new) (5 + length body) × (records_of (chain_in (other_of area) new) ≡ body ∷ [])
     new_rests = at_rest (body ∷ []) 0 rest (chain_in (other_of area) new) (5 + length body) (small, tt) (λ zero_one. absurd (omega arith)) new_chain place
       where
+        four : length (to_be_bytes w32 (length body)) ≡ 4
+        four = refl
+
         place : 5 + length body ≡ length (chain_of (body ∷ []))
-        place = omega (arith, ap length (append-nil (record_of body)), length-append (to_be_bytes w32 (length body)) body)
+        place = omega (arith, ap length (append-nil (record_of body)), length-append (to_be_bytes w32 (length body)) body, four)
 
     -- with an open gate the other counts
     pub opened : byte ≡ 1 → counts (other_of area) new ≡ true

@@ -22,7 +22,7 @@ offset area place = 4096 * (2 * (place / 4096) + first_page area) + place % 4096
 
 -- of how many pages each area has a whole one
 abbrev pub pages_in : ℕ → ℕ
-pages_in length = (length - 4096) / 8192
+pages_in size = (size - 4096) / 8192
 
 -- the length of a file with so many pages of each area
 abbrev pub length_of_pages : ℕ → ℕ
