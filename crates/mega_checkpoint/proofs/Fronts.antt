@@ -121,6 +121,16 @@ alone false b g h is = refl
 alone true false g h is = absurd (cc)
 alone true true g h is = let e : nat_lt g h ≡ true = is in grind (arith, nat_tests)
 
+neither_open : (a b : Bool) (g h : ℕ) → a && (not b || nat_le h g) ≡ false → b && (not a || nat_lt g h) ≡ false → (a ≡ false) × (b ≡ false)
+neither_open false false g h first second = (refl, refl)
+neither_open false true g h first second = absurd (cc)
+neither_open true false g h first second = absurd (cc)
+neither_open true true g h first second = let e : nat_le h g ≡ false = first in let f : nat_lt g h ≡ false = second in absurd (grind (arith, nat_tests))
+
+-- where neither area counts, no gate is open
+pub neither : (file : List ℕ) → counts Odd file ≡ false → counts Even file ≡ false → (is_open Odd file ≡ false) × (is_open Even file ≡ false)
+neither file odd even = neither_open (is_open Odd file) (is_open Even file) (generation_of Odd file) (generation_of Even file) odd even
+
 pub list_counts : (area : Area) (file : List ℕ) → is_areas file ≡ true → counts area file ≡ true → list_of file ≡ records_of (chain_in area file)
 list_counts Odd file yes is = list_areas file yes ∙ ap (λ (b : Bool). if b then records_of (chain_in Odd file) else (if counts Even file then records_of (chain_in Even file) else [])) is
 list_counts Even file yes is =

@@ -102,7 +102,6 @@ fn clear<D: Disk>(disk: &mut D, bytes: &[u8]) -> Result<(), DiskError>
     requires chain { is_areas bytes.now ≡ false }
     requires bytes { D.is_told ≡ true → bytes.now ≡ D.seen disk.old }
     requires durable { D.is_told ≡ true → Only (D.seen disk.old) (D.may_leave disk.old) }
-    ensures none { list_of bytes.now ≡ [] }
     ensures same { D.is_told ≡ true → OnOk result (list_of (D.seen disk.new) ≡ []) }
     ensures held { D.is_told ≡ true → OnOk result (HoldsChain (D.seen disk.new) (D.may_leave disk.new) 0) }
     ensures any_moment { D.is_told ≡ true → LeavesOnly D.moment D.left_since disk.old disk.new (λ image. list_of image ≡ []) }

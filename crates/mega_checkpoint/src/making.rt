@@ -8,8 +8,7 @@ ghost use Rattle.mega_checkpoint.specs.Format.{list_of};
 ghost use Rattle.mega_checkpoint.specs.Held.{HoldsAreas, IsIdle};
 
 use crate::area::{Area, Areas};
-use crate::writing::{set_byte, stage, zeros};
-use byteorder::{BigEndian, ByteOrder};
+use crate::writing::{generation_bytes, set_byte, stage, zeros};
 use mega_base::NoMemory;
 use mega_disk::{Disk, DiskError};
 use mega_journal::write_through;
@@ -21,7 +20,6 @@ pub(crate) fn make<D: Disk>(alloc: Global, disk: &mut D, size: usize) -> Result<
     requires size { D.is_told ≡ true → size ≡ length (D.seen disk.old) }
     requires durable { D.is_told ≡ true → Only (D.seen disk.old) (D.may_leave disk.old) }
     ensures idle { D.is_told ≡ true → OnOk result (IsIdle (D.seen disk.new) (D.may_leave disk.new) 1) }
-    ensures none { D.is_told ≡ true → list_of (D.seen disk.old) ≡ [] }
     ensures any_moment { D.is_told ≡ true → LeavesOnly D.moment D.left_since disk.old disk.new (λ image. list_of image ≡ []) }
     ensures cause { result ≡ Err DiskError.Failed → Rose (D.faults disk.old) (D.faults disk.new) }
     ensures later { D.faults disk.old ≤ D.faults disk.new }
@@ -59,7 +57,6 @@ pub(crate) fn begin<D: Disk>(
     ensures held { D.is_told ≡ true → IfOk result (λ areas. HoldsAreas (D.seen disk.new) (D.may_leave disk.new) areas 0) }
     ensures pages { IfOk result (λ areas. areas.pages ≡ pages) }
     ensures empty { D.is_told ≡ true → OnOk result (list_of (D.seen disk.new) ≡ []) }
-    ensures none { D.is_told ≡ true → list_of (D.seen disk.old) ≡ [] }
     ensures any_moment { D.is_told ≡ true → LeavesOnly D.moment D.left_since disk.old disk.new (λ image. list_of image ≡ []) }
     ensures cause { result ≡ Err DiskError.Failed → Rose (D.faults disk.old) (D.faults disk.new) }
     ensures later { D.faults disk.old ≤ D.faults disk.new }
@@ -68,8 +65,8 @@ pub(crate) fn begin<D: Disk>(
     ensures burns { D.fails_by_fuse disk.old ≡ true → result ≡ Err DiskError.Failed → Burns (D.fuse_left disk.old) (D.fuse_left disk.new) }
     ensures by_fuse { D.fails_by_fuse disk.old ≡ true → D.fails_by_fuse disk.new ≡ true }
 {
-    let front = first_generation();
-    stage(alloc, disk, Area::Odd, 1, &front, pages, pages)?;
+    let front = first_generation(alloc)?;
+    stage(alloc, disk, Area::Odd, 1, front.as_slice(), pages, pages)?;
     set_byte(disk, Area::Odd, 0, 1)?;
     Ok(Areas {
         active: Area::Odd,
@@ -80,10 +77,10 @@ pub(crate) fn begin<D: Disk>(
 }
 
 /// The first generation, and a closed gate behind it.
-fn first_generation() -> [u8; 9]
-    ensures { result ≡ big_bytes 8 1 ++ 0 ∷ [] }
+fn first_generation(alloc: Global) -> Result<Vec<u8>, NoMemory>
+    ensures { IfOk result (λ bytes. bytes.items ≡ big_bytes 8 1 ++ 0 ∷ []) }
 {
-    let mut bytes = [0; 9];
-    BigEndian::write_u64(&mut bytes, 1);
-    bytes
+    let mut bytes = generation_bytes(alloc, 1)?;
+    bytes.push(0)?;
+    Ok(bytes)
 }

@@ -153,8 +153,6 @@ fn trim<D: Disk>(disk: &mut D, bytes: &[u8], pages: u64) -> Result<(), DiskError
     requires durable { D.is_told ≡ true → Only (D.seen disk.old) (D.may_leave disk.old) }
     ensures seen { D.is_told ≡ true → OnOk result (D.seen disk.new ≡ take (length_of_pages pages) bytes.now) }
     ensures durable { D.is_told ≡ true → OnOk result (Only (D.seen disk.new) (D.may_leave disk.new)) }
-    ensures same { list_of (take (length_of_pages pages) bytes.now) ≡ list_of bytes.now }
-    ensures areas { is_areas (take (length_of_pages pages) bytes.now) ≡ true }
     ensures any_moment { D.is_told ≡ true → LeavesOnly D.moment D.left_since disk.old disk.new (λ image. list_of image ≡ list_of bytes.now) }
     ensures cause { result ≡ Err DiskError.Failed → Rose (D.faults disk.old) (D.faults disk.new) }
     ensures later { D.faults disk.old ≤ D.faults disk.new }

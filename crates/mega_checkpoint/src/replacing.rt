@@ -8,8 +8,7 @@ ghost use Rattle.mega_checkpoint.specs.Format.{is_open, list_of, other_of, pages
 ghost use Rattle.mega_checkpoint.specs.Held.{HoldsAreas, shut};
 
 use crate::area::{Areas, pages_for};
-use crate::writing::{set_byte, stage};
-use byteorder::{BigEndian, ByteOrder};
+use crate::writing::{generation_bytes, set_byte, stage};
 use mega_base::NoMemory;
 use mega_disk::{Disk, DiskError};
 use std::alloc::Global;
@@ -58,10 +57,7 @@ fn replacing(alloc: Global, generation: u64, body: &[u8]) -> Result<Vec<u8>, NoM
     requires { length body.now < 2 ^ 32 }
     ensures { IfOk result (λ bytes. bytes.items ≡ replacing generation body.now) }
 {
-    let mut front = [0; 8];
-    BigEndian::write_u64(&mut front, generation);
-    let mut bytes = Vec::with_capacity(alloc, body.len() + 14)?;
-    bytes.extend_from_slice(&front)?;
+    let mut bytes = generation_bytes(alloc, generation)?;
     bytes.push(1)?;
     bytes.extend_from_slice(&(body.len() as u32).to_be_bytes())?;
     bytes.extend_from_slice(body)?;

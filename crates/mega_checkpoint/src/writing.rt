@@ -3,11 +3,13 @@ ghost use Rattle.std.specs.Prelude.{◌≡◌, ◌+◌, ◌*◌, ◌%◌, ◌<�
 ghost use Rattle.mega_base.specs.Causes.{Rose};
 ghost use Rattle.mega_disk.specs.Images.{Only, LeavesOnly};
 ghost use Rattle.mega_disk.specs.Fuse.{LowersBy, MayBurn, Burns};
+ghost use Rattle.byteorder.specs.Endian.{big_bytes};
 ghost use Rattle.mega_checkpoint.specs.Format.{offset, length_of_pages};
 ghost use Rattle.mega_checkpoint.specs.Places.{Keeps, AllKeep, Puts, Sets, SetsAny};
 ghost use Rattle.mega_checkpoint.specs.declared.area.Area.{Area as AreaWord};
 
 use crate::area::{Area, PAGE, length_of_pages};
+use byteorder::{BigEndian, ByteOrder};
 use mega_base::NoMemory;
 use mega_disk::{Disk, DiskError};
 use mega_journal::write_through;
@@ -82,6 +84,15 @@ pub(crate) fn zeros(alloc: Global, size: usize) -> Result<Vec<u8>, NoMemory>
     ensures { IfOk result (λ bytes. bytes.items ≡ replicate size 0) }
 {
     Ok(vec![in alloc; 0; size]?)
+}
+
+/// The bytes of a generation.
+pub(crate) fn generation_bytes(alloc: Global, generation: u64) -> Result<Vec<u8>, NoMemory>
+    ensures { IfOk result (λ bytes. bytes.items ≡ big_bytes 8 generation) }
+{
+    let mut bytes = zeros(alloc, 8)?;
+    BigEndian::write_u64(bytes.as_mut_slice(), generation);
+    Ok(bytes)
 }
 
 /// Lengthens a file to so many pages of each area, by a page of each at a time.
