@@ -19,12 +19,7 @@ use Rattle.mega_checkpoint.proofs.Offsets.{ascends}
 use Rattle.mega_checkpoint.proofs.Fronts.{no_areas_by_mark, no_areas_by_length, areas_parts, areas_whole, list_none, list_idle, list_counts, same_generation, generation_put, counts_alone, length-chain, get_or-chain, pages_whole}
 use Rattle.mega_checkpoint.proofs.Adding.{areas_stay, front_stays, other_stays, some_pages, in_pages, put_keeps, set_keeps}
 use Rattle.mega_checkpoint.proofs.Swapped.{gate_stays, gate_set}
-use Rattle.mega_checkpoint.proofs.Plain.{no_first}
-
--- with a first byte that is no open gate, a chain holds no record
-pub none_closed : (file : List ℕ) → get_or file 0 0 ≢ 1 → records_of file ≡ []
-none_closed [] shut = records_none [] refl
-none_closed (gate ∷ rest) shut = records_none (gate ∷ rest) (first_closed gate rest shut)
+use Rattle.mega_checkpoint.proofs.Plain.{no_first, none_closed}
 
 pub list_few : (file : List ℕ) → length file ≤ 2 → list_of file ≡ []
 list_few file few = list_none file (no_areas_by_length file (omega (arith, few))) ∙ go file few

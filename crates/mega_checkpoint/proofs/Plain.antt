@@ -1,16 +1,17 @@
 -- A chain that does not begin as a file of areas does: it stays so, whatever a write leaves of it.
-use Rattle.std.proofs.Common.{◌≡◌, ◌≢◌, ◌⊎◌, inl, inr, ⊎_elim, ℕ, ◌+◌, ◌*◌, ◌<◌, ◌≤◌, ◌^◌, Bool, true, false, List, [], ◌∷◌, ◌++◌, length, get_or, take, drop, refl, sym, ◌∙◌, ap, subst, arith, append_assoc, length-append}
+use Rattle.std.proofs.Common.{◌≡◌, ◌≢◌, ◌⊎◌, inl, inr, ⊎_elim, ℕ, ◌+◌, ◌*◌, ◌<◌, ◌≤◌, ◌^◌, Bool, true, false, List, [], ◌∷◌, ◌++◌, length, get_or, take, drop, refl, sym, ◌∙◌, ap, subst, arith, append_assoc, length-append, length-take}
 use Rattle.std.specs.Prelude.{◌==◌, ◌&&◌, not, nat_le}
 use Rattle.std.specs.Int.{from_be_bytes, to_be_bytes, w32}
 use Rattle.std.proofs.lemmas.Bool.{cases_lt, cases_eq}
 use Rattle.std.proofs.lemmas.Bool.Decides.{nat_tests}
-use Rattle.std.proofs.lemmas.List.{get_or_default}
+use Rattle.std.proofs.lemmas.List.{get_or_default, get_or-take}
 use Rattle.std.proofs.lemmas.Nat.{from_be_bytes-to_be_bytes_4}
-use Rattle.mega_disk.specs.Images.{overwritten, Torn, Only}
+use Rattle.mega_disk.specs.Images.{overwritten, Torn, Cut, Only}
 use Rattle.mega_disk.specs.RecordLists.{IsBeforeOrAfter}
 use Rattle.mega_disk.proofs.Steps.{torn_written}
 use Rattle.mega_journal.specs.Chain.{record_of, chain_of, records_of, behind_gate, AreShort}
 use Rattle.mega_journal.specs.Rest.{IsAtRest, IsRead, IsSettled}
+use Rattle.mega_journal.proofs.Records.{records_none, first_closed}
 use Rattle.mega_journal.proofs.Written.{torn_behind, torn_gate, at_rest_after, inside as gate_inside}
 use Rattle.mega_journal.proofs.Repaired.{torn_end, closed_end, shut_end, open_end}
 use Rattle.mega_checkpoint.specs.Format.{is_marked, is_areas, list_of, spells_mark}
@@ -25,6 +26,11 @@ long_chain (body ∷ bodies) some = omega (arith, length-append (record_of body)
 
 pub no_first : (file : List ℕ) → get_or file 0 0 ≡ 0 → is_marked file ≡ false
 no_first file is = λ i. not (is i == 0) && ((get_or file 1 0 == 71) && ((get_or file 2 0 == 65) && (get_or file 3 0 == 50)))
+
+-- with a first byte that is no open gate, a chain holds no record
+pub none_closed : (file : List ℕ) → get_or file 0 0 ≢ 1 → records_of file ≡ []
+none_closed [] shut = records_none [] refl
+none_closed (gate ∷ rest) shut = records_none (gate ∷ rest) (first_closed gate rest shut)
 
 -- through the closed gate the bytes are the same
 pub same_front : (file c : List ℕ) (end : ℕ) → (end ≡ length (chain_of (records_of file))) → is_marked file ≡ false → (end ≡ 0 → get_or file 0 0 ≡ 0) → ((i : ℕ) → i < end + 1 → get_or c i 0 ≡ get_or file i 0) → is_marked c ≡ false
@@ -237,3 +243,37 @@ module _ (file : List ℕ) (end : ℕ) (read : IsRead file end) (no : is_areas f
           let five = long_chain (records_of file) (let p = read.place in omega (arith, some, p)) in
           let p = read.place in
           same_mark file c (λ i less. ap (λ (l : List ℕ). get_or l i 0) is ∙ over_before end (0 ∷ []) file (omega (arith, inside)) i (omega (arith, less, five, p))) ∙ unmarked_chain file end read no some
+
+-- by the test of the gate
+pub shut_by : (gate : ℕ) → not (gate == 1) ≡ true → gate ≢ 1
+shut_by gate test one = grind (arith, nat_tests)
+
+pub open_by : (gate : ℕ) → not (gate == 1) ≡ false → gate ≡ 1
+open_by gate test = grind (arith, nat_tests)
+
+-- a chain with a torn first gate holds none, and cut to any length from two bytes on neither
+module _ (file : List ℕ) (torn_first : 1 < get_or file 0 0) (no : is_areas file ≡ false) (c : List ℕ) (cut : Cut 2 file c) where
+  first_same : get_or c 0 0 ≡ get_or file 0 0
+  first_same = sym (get_or-take 2 c 0 0 (omega arith)) ∙ ap (λ (l : List ℕ). get_or l 0 0) cut.no_shorter ∙ get_or-take 2 file 0 0 (omega arith)
+
+  cut_no : is_areas c ≡ false
+  cut_no = ⊎_elim (no_areas_by_length c) long (cases_lt (length c) 12288)
+    where
+      true_false : true ≡ false → ⊥
+      true_false is = absurd (cc)
+
+      false_of : (b : Bool) → (b ≡ true → ⊥) → b ≡ false
+      false_of true not_so = absurd (not_so refl)
+      false_of false not_so = refl
+
+      byte : 12288 ≤ length c → (i : ℕ) → i < 4 → get_or c i 0 ≡ get_or file i 0
+      byte many i less = sym (ap (λ (l : List ℕ). get_or l i 0) cut.front) ∙ get_or-take (length c) file i 0 (omega (arith, less, many))
+
+      longer : length c ≤ length file
+      longer = let e = ap length cut.front in let f = length-take (length c) file in omega (arith, e, f)
+
+      long : 12288 ≤ length c → is_areas c ≡ false
+      long many = no_areas_by_mark c (same_mark file c (byte many) ∙ false_of (is_marked file) (λ mark. true_false (sym (areas_whole file (omega (arith, many, longer)) mark) ∙ no)))
+
+  pub cut_none : list_of c ≡ []
+  cut_none = list_none c cut_no ∙ none_closed c (λ one. absurd (omega (arith, one, first_same, torn_first)))

@@ -9,6 +9,7 @@ ghost use Rattle.mega_journal.specs.Rest.{IsRead};
 ghost use Rattle.mega_checkpoint.specs.Format.{is_areas, list_of, spells_mark};
 ghost use Rattle.mega_checkpoint.specs.Held.{HoldsChain};
 
+use crate::reading::is_shut;
 use mega_base::NoMemory;
 use mega_disk::{Disk, DiskError};
 use mega_journal::{Found, parse, write_through};
@@ -72,10 +73,10 @@ pub(crate) fn open_chain<D: Disk>(
     requires chain { is_areas bytes.now ≡ false }
     requires bytes { D.is_told ≡ true → bytes.now ≡ D.seen disk.old }
     requires durable { D.is_told ≡ true → Only (D.seen disk.old) (D.may_leave disk.old) }
-    ensures records { IfOk result (λ found. found.records.items ≡ list_of bytes.now) }
-    ensures same { D.is_told ≡ true → OnOk result (list_of (D.seen disk.new) ≡ list_of bytes.now) }
+    ensures records { D.is_told ≡ true → IfOk result (λ found. found.records.items ≡ list_of (D.seen disk.old)) }
+    ensures same { D.is_told ≡ true → OnOk result (list_of (D.seen disk.new) ≡ list_of (D.seen disk.old)) }
     ensures held { D.is_told ≡ true → IfOk result (λ found. HoldsChain (D.seen disk.new) (D.may_leave disk.new) found.end) }
-    ensures any_moment { D.is_told ≡ true → LeavesOnly D.moment D.left_since disk.old disk.new (λ image. list_of image ≡ list_of bytes.now) }
+    ensures any_moment { D.is_told ≡ true → LeavesOnly D.moment D.left_since disk.old disk.new (λ image. list_of image ≡ list_of (D.seen disk.old)) }
     ensures few { IfOk result (λ found. length found.records.items ≤ found.end) }
     ensures room { IfOk result (λ found. found.end < 2 ^ 63) }
     ensures cause { result ≡ Err DiskError.Failed → Rose (D.faults disk.old) (D.faults disk.new) }
@@ -126,9 +127,9 @@ fn shut_chain<D: Disk>(disk: &mut D, bytes: &[u8], end: usize) -> Result<(), Dis
     requires read { IsRead bytes.now end }
     requires bytes { D.is_told ≡ true → bytes.now ≡ D.seen disk.old }
     requires durable { D.is_told ≡ true → Only (D.seen disk.old) (D.may_leave disk.old) }
-    ensures same { D.is_told ≡ true → OnOk result (list_of (D.seen disk.new) ≡ list_of bytes.now) }
+    ensures same { D.is_told ≡ true → OnOk result (list_of (D.seen disk.new) ≡ list_of (D.seen disk.old)) }
     ensures held { D.is_told ≡ true → OnOk result (HoldsChain (D.seen disk.new) (D.may_leave disk.new) end) }
-    ensures any_moment { D.is_told ≡ true → LeavesOnly D.moment D.left_since disk.old disk.new (λ image. list_of image ≡ list_of bytes.now) }
+    ensures any_moment { D.is_told ≡ true → LeavesOnly D.moment D.left_since disk.old disk.new (λ image. list_of image ≡ list_of (D.seen disk.old)) }
     ensures cause { result ≡ Err DiskError.Failed → Rose (D.faults disk.old) (D.faults disk.new) }
     ensures later { D.faults disk.old ≤ D.faults disk.new }
     ensures lowers { OnOk result (LowersBy 0 (D.fuse_left disk.old) (D.fuse_left disk.new)) }
@@ -136,7 +137,7 @@ fn shut_chain<D: Disk>(disk: &mut D, bytes: &[u8], end: usize) -> Result<(), Dis
     ensures burns { D.fails_by_fuse disk.old ≡ true → result ≡ Err DiskError.Failed → Burns (D.fuse_left disk.old) (D.fuse_left disk.new) }
     ensures by_fuse { D.fails_by_fuse disk.old ≡ true → D.fails_by_fuse disk.new ≡ true }
 {
-    if bytes[end] != 1 {
+    if is_shut(bytes, end) {
         return Ok(());
     }
     write_through(disk, end as u64, &[0])

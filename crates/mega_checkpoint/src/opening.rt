@@ -10,7 +10,7 @@ ghost use Rattle.mega_checkpoint.specs.Held.{HoldsAreas, HoldsAs, IsHeld, limit_
 use crate::area::{Area, Areas, Form, length_of_pages};
 use crate::chain::open_chain;
 use crate::making::{begin, make};
-use crate::reading::{counts, generation_of, is_areas, is_open, pages_in, space};
+use crate::reading::{counts, generation_of, is_areas, is_open, is_shut, pages_in, space};
 use crate::writing::set_byte;
 use mega_base::Bytes;
 use mega_disk::{Disk, DiskError};
@@ -51,10 +51,10 @@ pub(crate) fn open_file<D: Disk>(alloc: Global, disk: &mut D) -> Result<Opened, 
 fn open_read<D: Disk>(alloc: Global, disk: &mut D, bytes: &[u8]) -> Result<Opened, DiskError>
     requires bytes { D.is_told ≡ true → bytes.now ≡ D.seen disk.old }
     requires durable { D.is_told ≡ true → Only (D.seen disk.old) (D.may_leave disk.old) }
-    ensures records { IfOk result (λ opened. opened.records.items ≡ list_of bytes.now) }
-    ensures same { D.is_told ≡ true → OnOk result (list_of (D.seen disk.new) ≡ list_of bytes.now) }
+    ensures records { D.is_told ≡ true → IfOk result (λ opened. opened.records.items ≡ list_of (D.seen disk.old)) }
+    ensures same { D.is_told ≡ true → OnOk result (list_of (D.seen disk.new) ≡ list_of (D.seen disk.old)) }
     ensures held { D.is_told ≡ true → IfOk result (λ opened. IsHeld (D.seen disk.new) (D.may_leave disk.new) opened.form opened.end) }
-    ensures any_moment { D.is_told ≡ true → LeavesOnly D.moment D.left_since disk.old disk.new (λ image. list_of image ≡ list_of bytes.now) }
+    ensures any_moment { D.is_told ≡ true → LeavesOnly D.moment D.left_since disk.old disk.new (λ image. list_of image ≡ list_of (D.seen disk.old)) }
     ensures few { IfOk result (λ opened. length opened.records.items ≤ opened.end) }
     ensures room { IfOk result (λ opened. opened.end < limit_of opened.form) }
     ensures small { IfOk result (λ opened. pages_of opened.form < 2 ^ 50) }
@@ -84,10 +84,10 @@ fn open_new<D: Disk>(alloc: Global, disk: &mut D, bytes: &[u8]) -> Result<Opened
     requires few { length bytes.now ≤ 1 }
     requires bytes { D.is_told ≡ true → bytes.now ≡ D.seen disk.old }
     requires durable { D.is_told ≡ true → Only (D.seen disk.old) (D.may_leave disk.old) }
-    ensures records { IfOk result (λ opened. opened.records.items ≡ list_of bytes.now) }
-    ensures same { D.is_told ≡ true → OnOk result (list_of (D.seen disk.new) ≡ list_of bytes.now) }
+    ensures records { D.is_told ≡ true → IfOk result (λ opened. opened.records.items ≡ list_of (D.seen disk.old)) }
+    ensures same { D.is_told ≡ true → OnOk result (list_of (D.seen disk.new) ≡ list_of (D.seen disk.old)) }
     ensures held { D.is_told ≡ true → IfOk result (λ opened. IsHeld (D.seen disk.new) (D.may_leave disk.new) opened.form opened.end) }
-    ensures any_moment { D.is_told ≡ true → LeavesOnly D.moment D.left_since disk.old disk.new (λ image. list_of image ≡ list_of bytes.now) }
+    ensures any_moment { D.is_told ≡ true → LeavesOnly D.moment D.left_since disk.old disk.new (λ image. list_of image ≡ list_of (D.seen disk.old)) }
     ensures few { IfOk result (λ opened. length opened.records.items ≤ opened.end) }
     ensures room { IfOk result (λ opened. opened.end < limit_of opened.form) }
     ensures small { IfOk result (λ opened. pages_of opened.form < 2 ^ 50) }
@@ -113,10 +113,10 @@ fn open_areas<D: Disk>(alloc: Global, disk: &mut D, bytes: &[u8]) -> Result<Open
     requires areas { is_areas bytes.now ≡ true }
     requires bytes { D.is_told ≡ true → bytes.now ≡ D.seen disk.old }
     requires durable { D.is_told ≡ true → Only (D.seen disk.old) (D.may_leave disk.old) }
-    ensures records { IfOk result (λ opened. opened.records.items ≡ list_of bytes.now) }
-    ensures same { D.is_told ≡ true → OnOk result (list_of (D.seen disk.new) ≡ list_of bytes.now) }
+    ensures records { D.is_told ≡ true → IfOk result (λ opened. opened.records.items ≡ list_of (D.seen disk.old)) }
+    ensures same { D.is_told ≡ true → OnOk result (list_of (D.seen disk.new) ≡ list_of (D.seen disk.old)) }
     ensures held { D.is_told ≡ true → IfOk result (λ opened. IsHeld (D.seen disk.new) (D.may_leave disk.new) opened.form opened.end) }
-    ensures any_moment { D.is_told ≡ true → LeavesOnly D.moment D.left_since disk.old disk.new (λ image. list_of image ≡ list_of bytes.now) }
+    ensures any_moment { D.is_told ≡ true → LeavesOnly D.moment D.left_since disk.old disk.new (λ image. list_of image ≡ list_of (D.seen disk.old)) }
     ensures few { IfOk result (λ opened. length opened.records.items ≤ opened.end) }
     ensures room { IfOk result (λ opened. opened.end < limit_of opened.form) }
     ensures small { IfOk result (λ opened. pages_of opened.form < 2 ^ 50) }
@@ -151,9 +151,9 @@ fn trim<D: Disk>(disk: &mut D, bytes: &[u8], pages: u64) -> Result<(), DiskError
     requires pages { pages ≡ pages_in (length bytes.now) }
     requires bytes { D.is_told ≡ true → bytes.now ≡ D.seen disk.old }
     requires durable { D.is_told ≡ true → Only (D.seen disk.old) (D.may_leave disk.old) }
-    ensures seen { D.is_told ≡ true → OnOk result (D.seen disk.new ≡ take (length_of_pages pages) bytes.now) }
+    ensures seen { D.is_told ≡ true → OnOk result (D.seen disk.new ≡ take (length_of_pages pages) (D.seen disk.old)) }
     ensures durable { D.is_told ≡ true → OnOk result (Only (D.seen disk.new) (D.may_leave disk.new)) }
-    ensures any_moment { D.is_told ≡ true → LeavesOnly D.moment D.left_since disk.old disk.new (λ image. list_of image ≡ list_of bytes.now) }
+    ensures any_moment { D.is_told ≡ true → LeavesOnly D.moment D.left_since disk.old disk.new (λ image. list_of image ≡ list_of (D.seen disk.old)) }
     ensures cause { result ≡ Err DiskError.Failed → Rose (D.faults disk.old) (D.faults disk.new) }
     ensures later { D.faults disk.old ≤ D.faults disk.new }
     ensures lowers { OnOk result (LowersBy 0 (D.fuse_left disk.old) (D.fuse_left disk.new)) }
@@ -182,10 +182,10 @@ fn open_area<D: Disk>(
     requires counts { counts area bytes.now ≡ true }
     requires bytes { D.is_told ≡ true → bytes.now ≡ D.seen disk.old }
     requires durable { D.is_told ≡ true → Only (D.seen disk.old) (D.may_leave disk.old) }
-    ensures records { IfOk result (λ opened. opened.records.items ≡ list_of bytes.now) }
-    ensures same { D.is_told ≡ true → OnOk result (list_of (D.seen disk.new) ≡ list_of bytes.now) }
+    ensures records { D.is_told ≡ true → IfOk result (λ opened. opened.records.items ≡ list_of (D.seen disk.old)) }
+    ensures same { D.is_told ≡ true → OnOk result (list_of (D.seen disk.new) ≡ list_of (D.seen disk.old)) }
     ensures held { D.is_told ≡ true → IfOk result (λ opened. IsHeld (D.seen disk.new) (D.may_leave disk.new) opened.form opened.end) }
-    ensures any_moment { D.is_told ≡ true → LeavesOnly D.moment D.left_since disk.old disk.new (λ image. list_of image ≡ list_of bytes.now) }
+    ensures any_moment { D.is_told ≡ true → LeavesOnly D.moment D.left_since disk.old disk.new (λ image. list_of image ≡ list_of (D.seen disk.old)) }
     ensures few { IfOk result (λ opened. length opened.records.items ≤ opened.end) }
     ensures room { IfOk result (λ opened. opened.end < limit_of opened.form) }
     ensures small { IfOk result (λ opened. pages_of opened.form < 2 ^ 50) }
@@ -205,7 +205,7 @@ fn open_area<D: Disk>(
     let joined = space(alloc, bytes, area)?;
     let chain = &joined.as_slice()[9..];
     let found = parse(alloc, chain)?;
-    let closed = chain[found.end] != 1;
+    let closed = is_shut(chain, found.end);
     shut_area(disk, areas, found.end as u64, closed, bytes)?;
     Ok(Opened {
         records: found.records,
@@ -227,9 +227,9 @@ fn shut_area<D: Disk>(disk: &mut D, areas: Areas, end: u64, closed: bool, bytes:
     requires small { areas.pages < 2 ^ 50 }
     requires bytes { D.is_told ≡ true → bytes.now ≡ D.seen disk.old }
     requires durable { D.is_told ≡ true → Only (D.seen disk.old) (D.may_leave disk.old) }
-    ensures same { D.is_told ≡ true → OnOk result (list_of (D.seen disk.new) ≡ list_of bytes.now) }
+    ensures same { D.is_told ≡ true → OnOk result (list_of (D.seen disk.new) ≡ list_of (D.seen disk.old)) }
     ensures held { D.is_told ≡ true → OnOk result (HoldsAreas (D.seen disk.new) (D.may_leave disk.new) areas end) }
-    ensures any_moment { D.is_told ≡ true → LeavesOnly D.moment D.left_since disk.old disk.new (λ image. list_of image ≡ list_of bytes.now) }
+    ensures any_moment { D.is_told ≡ true → LeavesOnly D.moment D.left_since disk.old disk.new (λ image. list_of image ≡ list_of (D.seen disk.old)) }
     ensures cause { result ≡ Err DiskError.Failed → Rose (D.faults disk.old) (D.faults disk.new) }
     ensures later { D.faults disk.old ≤ D.faults disk.new }
     ensures lowers { OnOk result (LowersBy 0 (D.fuse_left disk.old) (D.fuse_left disk.new)) }

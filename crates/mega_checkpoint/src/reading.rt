@@ -1,5 +1,5 @@
 //! Reads a file of areas: its mark, which area counts, and the bytes of an area.
-ghost use Rattle.std.specs.Prelude.{◌≡◌, ◌+◌, ◌*◌, ◌<◌, ◌≤◌, ◌^◌, Some, None, true, length, IfOk, IfSome, IfNone};
+ghost use Rattle.std.specs.Prelude.{◌≡◌, ◌==◌, not, get_or, ◌+◌, ◌*◌, ◌<◌, ◌≤◌, ◌^◌, Some, None, true, length, IfOk, IfSome, IfNone};
 ghost use Rattle.mega_checkpoint.specs.Format.{counts, generation_of, is_areas, is_open, length_of_pages, offset, pages_in, space};
 
 use crate::area::{Area, PAGE};
@@ -62,6 +62,14 @@ pub(crate) fn counts(bytes: &[u8], area: Area) -> bool
         Area::Odd => others <= mine,
         Area::Even => others < mine,
     }
+}
+
+/// Whether the gate there is closed.
+pub(crate) fn is_shut(bytes: &[u8], end: usize) -> bool
+    requires { end < length bytes.now }
+    ensures { result ≡ not (get_or bytes.now end 1 == 1) }
+{
+    bytes[end] != 1
 }
 
 /// The bytes of the area's pages, joined.
