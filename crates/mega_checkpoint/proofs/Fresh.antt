@@ -5,7 +5,7 @@ use Rattle.std.proofs.lemmas.Bool.{cases_eq, cases_lt}
 use Rattle.std.proofs.lemmas.Bool.Decides.{nat_tests}
 use Rattle.std.proofs.lemmas.List.{get_or_past, get_or-append_right}
 use Rattle.byteorder.specs.Endian.{big_bytes}
-use Rattle.mega_disk.specs.Images.{overwritten, Torn}
+use Rattle.mega_disk.specs.Images.{overwritten, Torn, Only}
 use Rattle.mega_journal.specs.Chain.{records_of, first_record}
 use Rattle.mega_journal.specs.Rest.{IsAtRest}
 use Rattle.mega_journal.proofs.Records.{records_none, first_closed, first_torn}
@@ -13,8 +13,9 @@ use Rattle.mega_journal.proofs.Written.{at_rest}
 use Rattle.mega_checkpoint.specs.declared.area.Area.{Area}
 use Rattle.mega_checkpoint.specs.declared.area.Area.TheVariants.{Odd, Even}
 use Rattle.mega_checkpoint.specs.Format.{offset, pages_in, length_of_pages, is_open, generation_of, chain_in, counts, is_marked, is_areas, list_of}
+use Rattle.mega_checkpoint.specs.Held.{HoldsChain}
 use Rattle.mega_checkpoint.specs.Places.{Keeps, Puts, Sets}
-use Rattle.mega_checkpoint.proofs.Bytes.{torn_before, torn_after}
+use Rattle.mega_checkpoint.proofs.Bytes.{torn_before, torn_after, length-over}
 use Rattle.mega_checkpoint.proofs.Offsets.{ascends}
 use Rattle.mega_checkpoint.proofs.Fronts.{no_areas_by_mark, no_areas_by_length, areas_parts, areas_whole, list_none, list_idle, list_counts, same_generation, generation_put, counts_alone, length-chain, get_or-chain, pages_whole}
 use Rattle.mega_checkpoint.proofs.Adding.{areas_stay, front_stays, other_stays, some_pages, in_pages, put_keeps, set_keeps}
@@ -110,3 +111,20 @@ module _ (old mid : List ℕ) (form : is_areas old ≡ true) (odd : is_open Odd 
     | inl one ↦ list_counts Odd new first_form (first_counts one) ∙ first_rests.1
     | inr other ↦ list_idle new first_form (gate_set Odd byte mid new set ∙ (let e : (byte == 1) ≡ false = grind (arith, nat_tests) in e)) first_other
   ]
+
+-- a file of two bytes whose gate is closed, whole or torn
+pub torn_few : (file c : List ℕ) → length file ≡ 2 → Torn 0 1 file c → list_of c ≡ []
+torn_few file c two torn = list_few c (let long = torn.no_longer in omega (arith, long, two))
+
+pub cleared_list : (file c : List ℕ) → length file ≡ 2 → c ≡ overwritten 0 (0 ∷ []) file → list_of c ≡ []
+cleared_list file c two is = list_few c (let e = ap length is in let f = length-over 0 (0 ∷ []) file (omega arith) in omega (arith, e, f, two))
+
+pub cleared_held : (file c : List ℕ) → length file ≡ 2 → c ≡ overwritten 0 (0 ∷ []) file → (may_leave : List ℕ → Type 0) → Only c may_leave → HoldsChain c may_leave 0
+cleared_held file c two is may_leave durable = record {
+  unmarked = no_first c first;
+  first = λ start. first;
+  settled = record { at_rest = (at_rest [] 0 (drop 1 file) c 0 tt (λ zero_one. absurd (omega arith)) is refl).0; durable = durable };
+}
+  where
+    first : get_or c 0 0 ≡ 0
+    first = ap (λ (l : List ℕ). get_or l 0 0) is
