@@ -1,9 +1,10 @@
 -- A file of at most one byte that becomes one of areas, and its first generation.
-use Rattle.std.proofs.Common.{◌≡◌, ◌≢◌, ◌⊎◌, inl, inr, ⊎_elim, ℕ, ◌+◌, ◌*◌, ◌<◌, ◌≤◌, ◌^◌, Bool, true, false, List, [], ◌∷◌, ◌++◌, length, get_or, take, drop, refl, sym, ◌∙◌, ap, subst, arith}
+use Rattle.std.proofs.Common.{◌≡◌, ◌≢◌, ◌⊎◌, inl, inr, ⊎_elim, ℕ, ◌+◌, ◌-◌, ◌*◌, ◌<◌, ◌≤◌, ◌^◌, Bool, true, false, List, [], ◌∷◌, ◌++◌, length, get_or, take, drop, replicate, refl, sym, ◌∙◌, ap, subst, arith}
 use Rattle.std.specs.Prelude.{◌==◌, ◌&&◌, not}
 use Rattle.std.proofs.lemmas.Bool.{cases_eq, cases_lt}
 use Rattle.std.proofs.lemmas.Bool.Decides.{nat_tests}
-use Rattle.std.proofs.lemmas.List.{get_or_past, get_or-append_right}
+use Rattle.std.proofs.lemmas.List.{get_or_past, get_or-append_right, get_or-replicate, drop_all, drop_more, take_all, append-nil}
+use Rattle.mega_base.specs.Lists.{length-replicate}
 use Rattle.byteorder.specs.Endian.{big_bytes}
 use Rattle.mega_disk.specs.Images.{overwritten, Torn, Only}
 use Rattle.mega_journal.specs.Chain.{records_of, first_record}
@@ -12,8 +13,8 @@ use Rattle.mega_journal.proofs.Records.{records_none, first_closed, first_torn}
 use Rattle.mega_journal.proofs.Written.{at_rest}
 use Rattle.mega_checkpoint.specs.declared.area.Area.{Area}
 use Rattle.mega_checkpoint.specs.declared.area.Area.TheVariants.{Odd, Even}
-use Rattle.mega_checkpoint.specs.Format.{offset, pages_in, length_of_pages, is_open, generation_of, chain_in, counts, is_marked, is_areas, list_of}
-use Rattle.mega_checkpoint.specs.Held.{HoldsChain}
+use Rattle.mega_checkpoint.specs.Format.{offset, pages_in, length_of_pages, is_open, generation_of, chain_in, counts, is_marked, is_areas, list_of, zero_bytes}
+use Rattle.mega_checkpoint.specs.Held.{HoldsChain, IsIdle}
 use Rattle.mega_checkpoint.specs.Places.{Keeps, Puts, Sets}
 use Rattle.mega_checkpoint.proofs.Bytes.{torn_before, torn_after, length-over}
 use Rattle.mega_checkpoint.proofs.Offsets.{ascends}
@@ -128,3 +129,58 @@ cleared_held file c two is may_leave durable = record {
   where
     first : get_or c 0 0 ≡ 0
     first = ap (λ (l : List ℕ). get_or l 0 0) is
+
+-- zero bytes
+pub length-zeros : (n : ℕ) → length (zero_bytes n) ≡ n
+unfolding zero_bytes
+length-zeros n = length-replicate n 0
+
+pub zeros_at : (n i : ℕ) → get_or (zero_bytes n) i 0 ≡ 0
+unfolding zero_bytes
+zeros_at n i = ⊎_elim (get_or-replicate n i 0 0) (λ past. get_or_past (replicate n 0) i 0 (let l = length-replicate n 0 in omega (arith, past, l))) (cases_lt i n)
+
+pub eight_zeros : (bytes : List ℕ) → bytes ++ drop 8 (zero_bytes 8) ≡ bytes
+eight_zeros bytes = ap (λ (l : List ℕ). bytes ++ l) (drop_all 8 (zero_bytes 8) (let l = length-zeros 8 in omega (arith, l))) ∙ append-nil bytes
+
+-- what is written at the end
+pub over_end : (at : ℕ) (bytes old : List ℕ) → at ≡ length old → overwritten at bytes old ≡ old ++ bytes
+over_end at bytes old is =
+    (λ i. take_all at old (omega (arith, is)) i ++ (bytes ++ drop_all (at + length bytes) old (omega (arith, is)) i)) ∙ ap (λ (l : List ℕ). old ++ l) (append-nil bytes)
+
+pub over_few : (old : List ℕ) → length old ≤ 1 → overwritten 0 (0 ∷ []) old ≡ 0 ∷ []
+over_few old few = ap (λ (l : List ℕ). 0 ∷ l) (drop_all 1 old few)
+
+-- a new file, with any first byte
+module _ (zeros : List ℕ) (many : length zeros ≡ 12284) (all : (i : ℕ) → get_or zeros i 0 ≡ 0) where
+  abbrev pub made : ℕ → List ℕ
+  made gate = gate ∷ 71 ∷ 65 ∷ 50 ∷ zeros
+
+  made_at : (gate i : ℕ) → 4 ≤ i → get_or (made gate) i 0 ≡ 0
+  made_at gate i le = get_or-append_right (gate ∷ 71 ∷ 65 ∷ 50 ∷ []) zeros 4 i 0 refl le ∙ all (i - 4)
+
+  pub made_shut : (gate : ℕ) (area : Area) → is_open area (made gate) ≡ false
+  made_shut gate Odd = ap (λ (b : ℕ). b == 1) (made_at gate 4096 (omega arith))
+  made_shut gate Even = ap (λ (b : ℕ). b == 1) (made_at gate 8192 (omega arith))
+
+  pub made_form : (gate : ℕ) → gate ≢ 0 → is_areas (made gate) ≡ true
+  made_form gate some = areas_whole (made gate) (omega (arith, many)) (let e : (gate == 0) ≡ false = grind (arith, nat_tests) in λ i. not (e i))
+
+  pub made_list : (gate : ℕ) → list_of (made gate) ≡ []
+  made_list gate = elim (cases_eq gate 0) [
+    | inl none ↦ list_shut (made gate) none
+    | inr some ↦ list_idle (made gate) (made_form gate some) (made_shut gate Odd) (made_shut gate Even)
+  ]
+
+  pub made_torn : (c : List ℕ) → Torn 0 1 (made 0) c → list_of c ≡ []
+  made_torn c torn =
+      let long : 0 < length c = let l = torn.no_shorter in omega (arith, l, many) in
+      ap list_of (drop_more c 0 0 long ∙ ap (λ (l : List ℕ). get_or c 0 0 ∷ l) torn.after) ∙ made_list (get_or c 0 0)
+
+  pub made_idle : (may_leave : List ℕ → Type 0) → Only (made 1) may_leave → IsIdle (made 1) may_leave 1
+  made_idle may_leave durable = record {
+    size = omega (arith, many);
+    form = made_form 1 (λ one_zero. absurd (omega arith));
+    odd_shut = made_shut 1 Odd;
+    even_shut = made_shut 1 Even;
+    durable = durable;
+  }

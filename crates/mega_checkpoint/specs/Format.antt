@@ -1,5 +1,5 @@
 -- The two forms of a file of records: a chain, or pages that belong to two areas in turn, of which one counts.
-use Rattle.std.specs.Prelude.{ℕ, ◌+◌, ◌-◌, ◌*◌, ◌/◌, ◌%◌, Bool, not, ◌&&◌, ◌||◌, ◌==◌, nat_lt, nat_le, if◌then◌else◌, List, [], ◌∷◌, ◌++◌, length, get_or, drop, map}
+use Rattle.std.specs.Prelude.{ℕ, ◌+◌, ◌-◌, ◌*◌, ◌/◌, ◌%◌, Bool, not, ◌&&◌, ◌||◌, ◌==◌, nat_lt, nat_le, if◌then◌else◌, List, [], ◌∷◌, ◌++◌, length, get_or, drop, map, replicate}
 use Rattle.std.specs.Int.{to_be_bytes, w32}
 use Rattle.std.specs.List.{range_with_len}
 use Rattle.byteorder.specs.Endian.{big_number, big_bytes}
@@ -71,6 +71,10 @@ area_records file = if counts Odd file then records_of (chain_in Odd file) else 
 -- the records that a file holds
 unfoldable pub list_of : List ℕ → List (List ℕ)
 list_of file = if is_areas file then area_records file else records_of file
+
+-- so many zero bytes
+unfoldable pub zero_bytes : ℕ → List ℕ
+zero_bytes n = replicate n 0
 
 -- what stands behind the gate of an area that holds one record
 abbrev pub replacing : ℕ → List ℕ → List ℕ

@@ -1,10 +1,10 @@
 //! Makes a new file of areas, and begins the first generation.
-ghost use Rattle.std.specs.Prelude.{◌≡◌, ◌+◌, ◌<◌, ◌≤◌, ◌^◌, ◌++◌, [], ◌∷◌, true, false, length, replicate, IfOk, OnOk};
+ghost use Rattle.std.specs.Prelude.{◌≡◌, ◌+◌, ◌<◌, ◌≤◌, ◌^◌, ◌++◌, [], ◌∷◌, true, false, length, IfOk, OnOk};
 ghost use Rattle.mega_base.specs.Causes.{Rose};
 ghost use Rattle.mega_disk.specs.Images.{Only, LeavesOnly};
 ghost use Rattle.mega_disk.specs.Fuse.{LowersBy, MayBurn, Burns};
 ghost use Rattle.byteorder.specs.Endian.{big_bytes};
-ghost use Rattle.mega_checkpoint.specs.Format.{list_of};
+ghost use Rattle.mega_checkpoint.specs.Format.{list_of, zero_bytes};
 ghost use Rattle.mega_checkpoint.specs.Held.{HoldsAreas, IsIdle};
 
 use crate::area::{Area, Areas};
@@ -36,7 +36,7 @@ pub(crate) fn make<D: Disk>(alloc: Global, disk: &mut D, size: usize) -> Result<
 
 /// What stands behind the first gate of a new file: the mark, and zero bytes to the end of the third page.
 fn behind_first(alloc: Global) -> Result<Vec<u8>, NoMemory>
-    ensures { IfOk result (λ bytes. bytes.items ≡ 71 ∷ 65 ∷ 50 ∷ replicate 12284 0) }
+    ensures { IfOk result (λ bytes. bytes.items ≡ 71 ∷ 65 ∷ 50 ∷ zero_bytes 12284) }
 {
     let mut bytes = Vec::with_capacity(alloc, 12287)?;
     bytes.extend_from_slice(&[0x47, 0x41, 0x32])?;

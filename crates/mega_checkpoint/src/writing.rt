@@ -1,10 +1,10 @@
 //! Writes into an area: bytes cut at the ends of pages, pages that the file grows by, and gates.
-ghost use Rattle.std.specs.Prelude.{◌≡◌, ◌+◌, ◌*◌, ◌%◌, ◌<◌, ◌≤◌, ◌^◌, ℕ, List, [], ◌∷◌, true, length, get_or, replicate, IfOk, OnOk};
+ghost use Rattle.std.specs.Prelude.{◌≡◌, ◌+◌, ◌*◌, ◌%◌, ◌<◌, ◌≤◌, ◌^◌, ℕ, List, [], ◌∷◌, true, length, get_or, IfOk, OnOk};
 ghost use Rattle.mega_base.specs.Causes.{Rose};
 ghost use Rattle.mega_disk.specs.Images.{Only, LeavesOnly};
 ghost use Rattle.mega_disk.specs.Fuse.{LowersBy, MayBurn, Burns};
 ghost use Rattle.byteorder.specs.Endian.{big_bytes};
-ghost use Rattle.mega_checkpoint.specs.Format.{offset, length_of_pages};
+ghost use Rattle.mega_checkpoint.specs.Format.{offset, length_of_pages, zero_bytes};
 ghost use Rattle.mega_checkpoint.specs.Places.{Keeps, AllKeep, Puts, Sets, SetsAny};
 ghost use Rattle.mega_checkpoint.specs.declared.area.Area.{Area as AreaWord};
 
@@ -80,13 +80,15 @@ fn add_page<D: Disk>(disk: &mut D, zeros: &[u8], pages: u64) -> Result<(), DiskE
 }
 
 /// So many zero bytes.
+#[tactic(auto, unfolding(crate::specs::Format::zero_bytes))]
 pub(crate) fn zeros(alloc: Global, size: usize) -> Result<Vec<u8>, NoMemory>
-    ensures { IfOk result (λ bytes. bytes.items ≡ replicate size 0) }
+    ensures { IfOk result (λ bytes. bytes.items ≡ zero_bytes size) }
 {
     Ok(vec![in alloc; 0; size]?)
 }
 
 /// The bytes of a generation.
+#[tactic(auto, using(crate::proofs::Fresh::eight_zeros))]
 pub(crate) fn generation_bytes(alloc: Global, generation: u64) -> Result<Vec<u8>, NoMemory>
     ensures { IfOk result (λ bytes. bytes.items ≡ big_bytes 8 generation) }
 {
