@@ -10,7 +10,7 @@ use Rattle.mega_checkpoint.specs.declared.area.Areas.{Areas}
 use Rattle.mega_checkpoint.specs.Format.{other_of, pages_in, length_of_pages, is_open, generation_of, chain_in, counts, is_areas, list_of}
 use Rattle.mega_checkpoint.specs.Places.{Keeps, Sets}
 use Rattle.mega_checkpoint.specs.Held.{HoldsAreas}
-use Rattle.mega_checkpoint.proofs.Fronts.{areas_parts, list_counts, length-chain}
+use Rattle.mega_checkpoint.proofs.Fronts.{areas_parts, list_counts, length-chain, pages_whole}
 use Rattle.mega_checkpoint.proofs.Adding.{Stays, stays, set_keeps, set_chain}
 
 -- the file as it was read
@@ -67,3 +67,14 @@ module _ (file : List ℕ) (areas : Areas) (end : ℕ) (is : IsAreaRead file are
         at_rest = (closed_end (chain_in areas.active file) end is.read (chain_in areas.active new) (new_chain one 0 new set)).0;
         durable = durable;
       }
+
+pub area_read : (file : List ℕ) (areas : Areas) (end : ℕ) → is_areas file ≡ true → length file ≡ length_of_pages areas.pages → counts areas.active file ≡ true → generation_of areas.active file ≡ areas.generation → is_open (other_of areas.active) file ≡ areas.other_open → IsRead (chain_in areas.active file) end → end + 9 < 4096 * areas.pages → IsAreaRead file areas end
+area_read file areas end form size counting number other read inside = record {
+  size = size;
+  form = form;
+  counting = counting;
+  number = number;
+  other = other;
+  read = read;
+  inside = let p = ap pages_in size ∙ pages_whole areas.pages in omega (arith, p, inside);
+}

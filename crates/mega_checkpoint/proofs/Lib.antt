@@ -3,6 +3,7 @@ mod Bytes
 mod Ended
 mod Fresh
 mod Fronts
+mod Joined
 mod Kept
 mod Offsets
 mod Plain
