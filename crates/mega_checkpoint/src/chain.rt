@@ -1,5 +1,5 @@
 //! A file that is one chain: it is opened, and records are written behind it.
-ghost use Rattle.std.specs.Prelude.{◌≡◌, ◌≢◌, ◌+◌, ◌<◌, ◌≤◌, ◌^◌, ◌++◌, [], ◌∷◌, true, false, length, get_or, IfOk, OnOk};
+ghost use Rattle.std.specs.Prelude.{◌≡◌, ◌≢◌, ◌+◌, ◌<◌, ◌≤◌, ◌^◌, ◌++◌, [], ◌∷◌, true, false, nat_lt, length, get_or, IfOk, OnOk};
 ghost use Rattle.mega_base.specs.Causes.{Rose};
 ghost use Rattle.mega_disk.specs.Images.{Only, LeavesOnly};
 ghost use Rattle.mega_disk.specs.Fuse.{LowersBy, MayBurn, Burns};
@@ -86,14 +86,45 @@ pub(crate) fn open_chain<D: Disk>(
     ensures burns { D.fails_by_fuse disk.old ≡ true → result ≡ Err DiskError.Failed → Burns (D.fuse_left disk.old) (D.fuse_left disk.new) }
     ensures by_fuse { D.fails_by_fuse disk.old ≡ true → D.fails_by_fuse disk.new ≡ true }
 {
-    if bytes[0] > 1 {
-        clear(disk, bytes)?;
-        let records = Vec::new(alloc);
-        return Ok(Found { records, end: 0 });
+    if is_torn(bytes) {
+        return open_torn(alloc, disk, bytes);
     }
     let found = parse(alloc, bytes)?;
     shut_chain(disk, bytes, found.end)?;
     Ok(found)
+}
+
+/// Whether the first gate is torn.
+fn is_torn(bytes: &[u8]) -> bool
+    requires { 2 ≤ length bytes.now }
+    ensures { result ≡ nat_lt 1 (get_or bytes.now 0 0) }
+{
+    bytes[0] > 1
+}
+
+/// Opens a chain with a torn first gate, which holds no record.
+fn open_torn<D: Disk>(alloc: Global, disk: &mut D, bytes: &[u8]) -> Result<Found, DiskError>
+    requires some { 2 ≤ length bytes.now }
+    requires torn { 1 < get_or bytes.now 0 0 }
+    requires chain { is_areas bytes.now ≡ false }
+    requires bytes { D.is_told ≡ true → bytes.now ≡ D.seen disk.old }
+    requires durable { D.is_told ≡ true → Only (D.seen disk.old) (D.may_leave disk.old) }
+    ensures records { D.is_told ≡ true → IfOk result (λ found. found.records.items ≡ list_of (D.seen disk.old)) }
+    ensures same { D.is_told ≡ true → OnOk result (list_of (D.seen disk.new) ≡ list_of (D.seen disk.old)) }
+    ensures held { D.is_told ≡ true → IfOk result (λ found. HoldsChain (D.seen disk.new) (D.may_leave disk.new) found.end) }
+    ensures any_moment { D.is_told ≡ true → LeavesOnly D.moment D.left_since disk.old disk.new (λ image. list_of image ≡ list_of (D.seen disk.old)) }
+    ensures few { IfOk result (λ found. length found.records.items ≤ found.end) }
+    ensures room { IfOk result (λ found. found.end < 2 ^ 63) }
+    ensures cause { result ≡ Err DiskError.Failed → Rose (D.faults disk.old) (D.faults disk.new) }
+    ensures later { D.faults disk.old ≤ D.faults disk.new }
+    ensures lowers { OnOk result (LowersBy 0 (D.fuse_left disk.old) (D.fuse_left disk.new)) }
+    ensures may_burn { MayBurn (D.fuse_left disk.old) (D.fuse_left disk.new) }
+    ensures burns { D.fails_by_fuse disk.old ≡ true → result ≡ Err DiskError.Failed → Burns (D.fuse_left disk.old) (D.fuse_left disk.new) }
+    ensures by_fuse { D.fails_by_fuse disk.old ≡ true → D.fails_by_fuse disk.new ≡ true }
+{
+    clear(disk, bytes)?;
+    let records = Vec::new(alloc);
+    Ok(Found { records, end: 0 })
 }
 
 /// Cuts a file with a torn first gate to its first two bytes, and closes that gate.

@@ -10,11 +10,11 @@ ghost use Rattle.mega_checkpoint.specs.Held.{HoldsAreas, HoldsAs, IsHeld, limit_
 use crate::area::{Area, Areas, Form, length_of_pages};
 use crate::chain::open_chain;
 use crate::making::{begin, make};
-use crate::reading::{counts, generation_of, is_areas, is_open, is_shut, pages_in, space};
+use crate::reading::{counts, generation_of, is_areas, is_open, pages_in, read_area};
 use crate::writing::set_byte;
 use mega_base::Bytes;
 use mega_disk::{Disk, DiskError};
-use mega_journal::{parse, read_all, settle};
+use mega_journal::{read_all, settle};
 use std::alloc::Global;
 
 /// The records of a file, its form, and the place of the closed gate behind the records.
@@ -202,10 +202,7 @@ fn open_area<D: Disk>(
         pages,
         other_open: is_open(bytes, area.other()),
     };
-    let joined = space(alloc, bytes, area)?;
-    let chain = &joined.as_slice()[9..];
-    let found = parse(alloc, chain)?;
-    let closed = is_shut(chain, found.end);
+    let (found, closed) = read_area(alloc, bytes, area)?;
     shut_area(disk, areas, found.end as u64, closed, bytes)?;
     Ok(Opened {
         records: found.records,

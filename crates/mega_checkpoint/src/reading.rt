@@ -1,10 +1,13 @@
 //! Reads a file of areas: its mark, which area counts, and the bytes of an area.
 ghost use Rattle.std.specs.Prelude.{◌≡◌, ◌==◌, not, get_or, ◌+◌, ◌*◌, ◌<◌, ◌≤◌, ◌^◌, Some, None, true, length, IfOk, IfSome, IfNone};
-ghost use Rattle.mega_checkpoint.specs.Format.{counts, generation_of, is_areas, is_open, length_of_pages, offset, pages_in, space};
+ghost use Rattle.mega_journal.specs.Chain.{records_of};
+ghost use Rattle.mega_journal.specs.Rest.{IsRead};
+ghost use Rattle.mega_checkpoint.specs.Format.{chain_in, counts, generation_of, is_areas, is_open, length_of_pages, offset, pages_in, space};
 
 use crate::area::{Area, PAGE};
 use byteorder::{BigEndian, ByteOrder};
 use mega_base::NoMemory;
+use mega_journal::{Found, parse};
 use std::alloc::Global;
 
 /// Whether the bytes are those of a file of areas.
@@ -86,4 +89,20 @@ pub(crate) fn space(alloc: Global, bytes: &[u8], area: Area) -> Result<Vec<u8>, 
         page += 1;
     }
     Ok(joined)
+}
+
+/// The records of an area, and whether the gate behind them is closed.
+pub(crate) fn read_area(alloc: Global, bytes: &[u8], area: Area) -> Result<(Found, bool), NoMemory>
+    requires { 12288 ≤ length bytes.now }
+    ensures records { IfOk result (λ read. read.0.records.items ≡ records_of (chain_in area bytes.now)) }
+    ensures read { IfOk result (λ read. IsRead (chain_in area bytes.now) read.0.end) }
+    ensures inside { IfOk result (λ read. read.0.end + 9 < 4096 * pages_in (length bytes.now)) }
+    ensures closed { IfOk result (λ read. read.1 ≡ not (get_or (chain_in area bytes.now) read.0.end 1 == 1)) }
+    ensures few { IfOk result (λ read. length read.0.records.items ≤ read.0.end) }
+{
+    let joined = space(alloc, bytes, area)?;
+    let chain = &joined.as_slice()[9..];
+    let found = parse(alloc, chain)?;
+    let closed = is_shut(chain, found.end);
+    Ok((found, closed))
 }
