@@ -180,6 +180,7 @@ fn open_area<D: Disk>(
     requires areas { is_areas bytes.now ≡ true }
     requires size { length bytes.now ≡ length_of_pages pages }
     requires counts { counts area bytes.now ≡ true }
+    requires small { pages < 2 ^ 50 }
     requires bytes { D.is_told ≡ true → bytes.now ≡ D.seen disk.old }
     requires durable { D.is_told ≡ true → Only (D.seen disk.old) (D.may_leave disk.old) }
     ensures records { D.is_told ≡ true → IfOk result (λ opened. opened.records.items ≡ list_of (D.seen disk.old)) }
@@ -202,12 +203,12 @@ fn open_area<D: Disk>(
         pages,
         other_open: is_open(bytes, area.other()),
     };
-    let (found, closed) = read_area(alloc, bytes, area)?;
-    shut_area(disk, areas, found.end as u64, closed, bytes)?;
+    let read = read_area(alloc, bytes, area)?;
+    shut_area(disk, areas, read.end as u64, read.closed, bytes)?;
     Ok(Opened {
-        records: found.records,
+        records: read.records,
         form: Form::InAreas(areas),
-        end: found.end as u64,
+        end: read.end as u64,
     })
 }
 

@@ -6,8 +6,8 @@ ghost use Rattle.mega_checkpoint.specs.Format.{chain_in, counts, generation_of, 
 
 use crate::area::{Area, PAGE};
 use byteorder::{BigEndian, ByteOrder};
-use mega_base::NoMemory;
-use mega_journal::{Found, parse};
+use mega_base::{Bytes, NoMemory};
+use mega_journal::parse;
 use std::alloc::Global;
 
 /// Whether the bytes are those of a file of areas.
@@ -27,6 +27,7 @@ pub(crate) fn pages_in(bytes: &[u8]) -> u64
     ensures pages { result ≡ pages_in (length bytes.now) }
     ensures within { length_of_pages result ≤ length bytes.now }
     ensures some { 1 ≤ result }
+    ensures small { result < 2 ^ 50 }
 {
     (bytes.len() as u64 - PAGE) / (2 * PAGE)
 }
@@ -91,18 +92,30 @@ pub(crate) fn space(alloc: Global, bytes: &[u8], area: Area) -> Result<Vec<u8>, 
     Ok(joined)
 }
 
-/// The records of an area, and whether the gate behind them is closed.
-pub(crate) fn read_area(alloc: Global, bytes: &[u8], area: Area) -> Result<(Found, bool), NoMemory>
+/// The records of an area, the place of the gate behind them, and whether it is closed.
+#[derive(Drop)]
+pub(crate) struct AreaRecords {
+    pub records: Vec<Bytes>,
+    pub end: usize,
+    pub closed: bool,
+}
+
+/// Reads the records of an area.
+pub(crate) fn read_area(alloc: Global, bytes: &[u8], area: Area) -> Result<AreaRecords, NoMemory>
     requires { 12288 ≤ length bytes.now }
-    ensures records { IfOk result (λ read. read.0.records.items ≡ records_of (chain_in area bytes.now)) }
-    ensures read { IfOk result (λ read. IsRead (chain_in area bytes.now) read.0.end) }
-    ensures inside { IfOk result (λ read. read.0.end + 9 < 4096 * pages_in (length bytes.now)) }
-    ensures closed { IfOk result (λ read. read.1 ≡ not (get_or (chain_in area bytes.now) read.0.end 1 == 1)) }
-    ensures few { IfOk result (λ read. length read.0.records.items ≤ read.0.end) }
+    ensures records { IfOk result (λ read. read.records.items ≡ records_of (chain_in area bytes.now)) }
+    ensures read { IfOk result (λ read. IsRead (chain_in area bytes.now) read.end) }
+    ensures inside { IfOk result (λ read. read.end + 9 < 4096 * pages_in (length bytes.now)) }
+    ensures closed { IfOk result (λ read. read.closed ≡ not (get_or (chain_in area bytes.now) read.end 1 == 1)) }
+    ensures few { IfOk result (λ read. length read.records.items ≤ read.end) }
 {
     let joined = space(alloc, bytes, area)?;
     let chain = &joined.as_slice()[9..];
     let found = parse(alloc, chain)?;
     let closed = is_shut(chain, found.end);
-    Ok((found, closed))
+    Ok(AreaRecords {
+        records: found.records,
+        end: found.end,
+        closed,
+    })
 }
