@@ -147,6 +147,12 @@ set_chain area at byte old new set some room =
               ap (λ (k : ℕ). get_or new (offset area (9 + k)) 0) is ∙ set.there ∙ sym (over_there at (byte ∷ []) (chain_in area old) le 0 (omega arith))
               ∙ ap (λ (k : ℕ). get_or (overwritten at (byte ∷ []) (chain_in area old)) k 0) (let e : at + 0 ≡ i = omega (arith, is) in e)) (cases_lt at i)
 
+pub length-behind : (body : List ℕ) → length (behind_gate body) ≡ 5 + length body
+length-behind body = omega (arith, length-append (to_be_bytes w32 (length body)) (body ++ 0 ∷ []), length-append body (0 ∷ []), four)
+  where
+    four : length (to_be_bytes w32 (length body)) ≡ 4
+    four = refl
+
 -- a record behind the gate of the area that counts, in a file with so many pages
 module _ (area : Area) (end : ℕ) (body old mid : List ℕ) (form : is_areas old ≡ true) (counting : counts area old ≡ true) (rests : IsAtRest (chain_in area old) end) (small : length body < 2 ^ 32) (pages : ℕ) (size : length mid ≡ length_of_pages pages)
     (fits : end + 15 + length body ≤ 4096 * pages) (put : Puts area (end + 10) (behind_gate body) old mid) where
@@ -166,13 +172,7 @@ module _ (area : Area) (end : ℕ) (body old mid : List ℕ) (form : is_areas ol
   mid_pages = ap pages_in size ∙ pages_whole pages
 
   room : 9 + (end + 1) + length (behind_gate body) ≤ 4096 * pages_in (length mid)
-  room = let five = length-behind in omega (arith, fits, mid_pages, five)
-    where
-      four : length (to_be_bytes w32 (length body)) ≡ 4
-      four = refl
-
-      length-behind : length (behind_gate body) ≡ 5 + length body
-      length-behind = omega (arith, length-append (to_be_bytes w32 (length body)) (body ++ 0 ∷ []), length-append body (0 ∷ []), four)
+  room = let five = length-behind body in omega (arith, fits, mid_pages, five)
 
   same_there : staged (chain_in area mid) end mid_rests body small ≡ chain_in area mid
   same_there = put_chain area (end + 1) (behind_gate body) mid (subst (λ (place : ℕ). Puts area place (behind_gate body) old mid) (let e : end + 10 ≡ 9 + (end + 1) = omega arith in e) put).there room

@@ -5,7 +5,7 @@ ghost use Rattle.mega_disk.specs.Images.{Only, LeavesOnly};
 ghost use Rattle.mega_disk.specs.Fuse.{LowersBy, MayBurn, Burns};
 ghost use Rattle.mega_disk.specs.RecordLists.{IsBeforeOrAfter};
 ghost use Rattle.mega_checkpoint.specs.Format.{list_of, length_of_pages, pages_for};
-ghost use Rattle.mega_checkpoint.specs.Held.{HoldsAreas, IsHeld, limit_of, pages_of, pages_with};
+ghost use Rattle.mega_checkpoint.specs.Held.{HoldsAreas, IsHeld, length_with, limit_of, pages_of, pages_with};
 
 use crate::area::{Areas, Form, pages_for};
 use crate::chain::{add_to_chain, behind_gate, spells_mark};
@@ -24,6 +24,7 @@ pub(crate) fn add_to_area<D: Disk>(
     requires held { D.is_told ≡ true → HoldsAreas (D.seen disk.old) (D.may_leave disk.old) areas end }
     requires short { length body.now < 2 ^ 32 }
     requires room { end < 4096 * areas.pages }
+    requires limit { length_of_pages (max areas.pages (pages_for (end + 15 + length body.now))) ≤ 2 ^ 40 }
     requires small { areas.pages < 2 ^ 50 }
     ensures added { D.is_told ≡ true → OnOk result (list_of (D.seen disk.new) ≡ list_of (D.seen disk.old) ++ body.now ∷ []) }
     ensures held { D.is_told ≡ true → IfOk result (λ areas. HoldsAreas (D.seen disk.new) (D.may_leave disk.new) areas (end + 5 + length body.now)) }
@@ -55,6 +56,7 @@ pub(crate) fn add<D: Disk>(
     requires held { D.is_told ≡ true → IsHeld (D.seen disk.old) (D.may_leave disk.old) form end }
     requires short { length body.now < 2 ^ 32 }
     requires room { end < limit_of form }
+    requires limit { length_with form end (length body.now) ≤ 2 ^ 40 }
     requires small { pages_of form < 2 ^ 50 }
     ensures added { D.is_told ≡ true → OnOk result (list_of (D.seen disk.new) ≡ list_of (D.seen disk.old) ++ body.now ∷ []) }
     ensures held { D.is_told ≡ true → IfOk result (λ form. IsHeld (D.seen disk.new) (D.may_leave disk.new) form (end + 5 + length body.now)) }

@@ -22,6 +22,7 @@ pub(crate) fn is_areas(bytes: &[u8]) -> bool
 }
 
 /// Of how many pages each area has a whole one.
+#[tactic(auto, using(crate::proofs::Fronts::pages_parted))]
 pub(crate) fn pages_in(bytes: &[u8]) -> u64
     requires { 12288 ≤ length bytes.now }
     ensures pages { result ≡ pages_in (length bytes.now) }

@@ -4,7 +4,7 @@ ghost use Rattle.mega_base.specs.Causes.{Rose};
 ghost use Rattle.mega_disk.specs.Images.{Only, LeavesOnly};
 ghost use Rattle.mega_disk.specs.Fuse.{LowersBy, MayBurn, Burns};
 ghost use Rattle.mega_disk.specs.RecordLists.{IsOldOrReplaced};
-ghost use Rattle.mega_checkpoint.specs.Format.{is_open, list_of, other_of, pages_for, replacing};
+ghost use Rattle.mega_checkpoint.specs.Format.{is_open, length_of_pages, list_of, other_of, pages_for, replacing};
 ghost use Rattle.mega_checkpoint.specs.Held.{HoldsAreas, shut};
 
 use crate::area::{Areas, pages_for};
@@ -23,6 +23,7 @@ pub(crate) fn replace_area<D: Disk>(
 ) -> Result<Areas, DiskError>
     requires held { D.is_told ≡ true → HoldsAreas (D.seen disk.old) (D.may_leave disk.old) areas end }
     requires short { length body.now < 2 ^ 32 }
+    requires limit { length_of_pages (max areas.pages (pages_for (15 + length body.now))) ≤ 2 ^ 40 }
     requires next { areas.generation < 2 ^ 64 - 1 }
     requires small { areas.pages < 2 ^ 50 }
     ensures replaced { D.is_told ≡ true → OnOk result (list_of (D.seen disk.new) ≡ body.now ∷ []) }

@@ -5,8 +5,17 @@ use Rattle.mega_checkpoint.specs.Format.{list_of, offset}
 use Rattle.mega_checkpoint.specs.Places.{Puts}
 use Rattle.mega_checkpoint.proofs.Offsets.{inside}
 use Rattle.mega_checkpoint.proofs.Rooms.{most_fit}
-use Rattle.mega_checkpoint.proofs.Adding.{list_stays, before_or_after, added, added_rests, added_stays}
+use Rattle.mega_checkpoint.proofs.Adding.{length-behind, list_stays, before_or_after, added, added_rests, added_stays}
 use Rattle.mega_checkpoint.proofs.appending.add_to_area.Goals as goal
+
+pub stage-requires-clause-more : goal.stage-requires-clause-more
+stage-requires-clause-more g c = (most_fit c.args.areas.pages (c.args.end + 15 + length c.args.body.now) _ _ c.pages_for.ensures c.max-pages.ensures).1
+
+pub stage-requires-clause-room : goal.stage-requires-clause-room
+stage-requires-clause-room g c =
+    let fits = (most_fit c.args.areas.pages (c.args.end + 15 + length c.args.body.now) _ _ c.pages_for.ensures c.max-pages.ensures).0 in
+    let size : length c.as_slice.result.now ≡ 5 + length c.args.body.now = ap length (c.as_slice.ensures.value ∙ c.in_ok-record.ensures) ∙ length-behind c.args.body.now in
+    omega (arith, fits, size)
 
 pub set_byte-requires-clause-inside : goal.set_byte-requires-clause-inside
 set_byte-requires-clause-inside g c told =
