@@ -64,6 +64,18 @@ pub beyond_gate : (area : Area) (byte : ℕ) (old new : List ℕ) → 12288 ≤ 
 beyond_gate area byte old new long set place some less =
     set.same (offset area place) (in_pages area 0 old new (set_keeps area 0 0 byte old new (omega arith) set) long area place less) (λ same. let up = ascends area 0 place some in absurd (omega (arith, up, same)))
 
+eight : (generation : ℕ) → length (big_bytes 8 generation) ≡ 8
+eight generation = refl
+
+length-tail : (body : List ℕ) → length (1 ∷ (to_be_bytes w32 (length body) ++ (body ++ 0 ∷ []))) ≡ 6 + length body
+length-tail body = omega (arith, length-append (to_be_bytes w32 (length body)) (body ++ 0 ∷ []), length-append body (0 ∷ []), four)
+  where
+    four : length (to_be_bytes w32 (length body)) ≡ 4
+    four = refl
+
+pub length-replacing : (generation : ℕ) (body : List ℕ) → length (replacing generation body) ≡ 14 + length body
+length-replacing generation body = omega (arith, length-append (big_bytes 8 generation) (1 ∷ (to_be_bytes w32 (length body) ++ (body ++ 0 ∷ []))), eight generation, length-tail body)
+
 -- the next generation behind its closed gate, in a file with so many pages
 module _ (area : Area) (end : ℕ) (body old mid : List ℕ) (form : is_areas old ≡ true) (counting : counts area old ≡ true) (rests : IsAtRest (chain_in area old) end) (small : length body < 2 ^ 32) (generation : ℕ) (next : generation < 2 ^ 64)
     (later : generation_of area old < generation) (pages : ℕ) (size : length mid ≡ length_of_pages pages) (fits : 15 + length body ≤ 4096 * pages) (put : Puts (other_of area) 1 (replacing generation body) old mid) (gate_shut : is_open (other_of area) old ≡ false) where
@@ -82,29 +94,17 @@ module _ (area : Area) (end : ℕ) (body old mid : List ℕ) (form : is_areas ol
   pub mid_list : list_of mid ≡ list_of old
   mid_list = list_beside area end old mid mid_beside mid_shut
 
-  eight : length (big_bytes 8 generation) ≡ 8
-  eight = refl
-
-  length-tail : length tail ≡ 6 + length body
-  length-tail = omega (arith, length-append (to_be_bytes w32 (length body)) (body ++ 0 ∷ []), length-append body (0 ∷ []), four)
-    where
-      four : length (to_be_bytes w32 (length body)) ≡ 4
-      four = refl
-
-  long : length (replacing generation body) ≡ 14 + length body
-  long = omega (arith, length-append (big_bytes 8 generation) tail, eight, length-tail)
-
   mid_pages : pages_in (length mid) ≡ pages
   mid_pages = ap pages_in size ∙ pages_whole pages
 
   mid_number : generation_of (other_of area) mid ≡ generation
-  mid_number = generation_put (other_of area) mid generation tail next (λ j less. put.there j (omega (arith, less, long)))
+  mid_number = generation_put (other_of area) mid generation tail next (λ j less. put.there j (omega (arith, less, length-replacing generation body)))
 
   there : (j : ℕ) → j < length tail → get_or mid (offset (other_of area) (9 + 0 + j)) 0 ≡ get_or tail j 0
   there j less =
       ap (λ (p : ℕ). get_or mid (offset (other_of area) p) 0) (let e : 9 + 0 + j ≡ 1 + (8 + j) = omega arith in e)
-      ∙ put.there (8 + j) (omega (arith, less, length-tail, long))
-      ∙ get_or-append_right (big_bytes 8 generation) tail 8 (8 + j) 0 eight (omega arith)
+      ∙ put.there (8 + j) (omega (arith, less, length-tail body, length-replacing generation body))
+      ∙ get_or-append_right (big_bytes 8 generation) tail 8 (8 + j) 0 (eight generation) (omega arith)
       ∙ ap (λ (k : ℕ). get_or tail k 0) (let e : 8 + j - 8 ≡ j = omega arith in e)
 
   abbrev rest : List ℕ
@@ -112,7 +112,7 @@ module _ (area : Area) (end : ℕ) (body old mid : List ℕ) (form : is_areas ol
 
   mid_chain : chain_in (other_of area) mid ≡ chain_of (body ∷ []) ++ 0 ∷ rest
   mid_chain =
-      sym (put_chain (other_of area) 0 tail mid there (omega (arith, mid_pages, length-tail, fits)))
+      sym (put_chain (other_of area) 0 tail mid there (omega (arith, mid_pages, length-tail body, fits)))
       ∙ ap (λ (l : List ℕ). 1 ∷ l) (append_assoc (to_be_bytes w32 (length body)) (body ++ 0 ∷ []) rest ∙ ap (λ (l : List ℕ). to_be_bytes w32 (length body) ++ l) (append_assoc body (0 ∷ []) rest) ∙ sym (append_assoc (to_be_bytes w32 (length body)) body (0 ∷ rest)))
       ∙ ap (λ (l : List ℕ). l ++ 0 ∷ rest) (sym (append-nil (record_of body)))
 

@@ -9,8 +9,17 @@ use Rattle.mega_checkpoint.specs.Places.{Keeps, Puts, Sets}
 use Rattle.mega_checkpoint.proofs.Offsets.{inside}
 use Rattle.mega_checkpoint.proofs.Rooms.{most_fit}
 use Rattle.mega_checkpoint.proofs.Fronts.{other_other}
-use Rattle.mega_checkpoint.proofs.Swapped.{beside, list_beside, gate_stays, old_or_replaced, replaced, opened, new_beside, new_number, new_rests}
+use Rattle.mega_checkpoint.proofs.Swapped.{length-replacing, beside, list_beside, gate_stays, old_or_replaced, replaced, opened, new_beside, new_number, new_rests}
 use Rattle.mega_checkpoint.proofs.replacing.replace_area.Goals as goal
+
+pub stage-requires-clause-more : goal.stage-requires-clause-more
+stage-requires-clause-more g c = (most_fit c.args.areas.pages (15 + length c.args.body.now) _ _ c.pages_for.ensures c.max-pages.ensures).1
+
+pub stage-requires-clause-room : goal.stage-requires-clause-room
+stage-requires-clause-room g c =
+    let fits = (most_fit c.args.areas.pages (15 + length c.args.body.now) _ _ c.pages_for.ensures c.max-pages.ensures).0 in
+    let size : length c.as_slice.result.now ≡ 14 + length c.args.body.now = ap length (c.as_slice.ensures.value ∙ c.in_ok-bytes.ensures) ∙ length-replacing (c.args.areas.generation + 1) c.args.body.now in
+    omega (arith, fits, size)
 
 pub set_byte-requires-clause-inside : goal.set_byte-requires-clause-inside
 set_byte-requires-clause-inside g c told =
