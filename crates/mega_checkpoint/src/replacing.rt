@@ -29,6 +29,8 @@ pub(crate) fn replace_area<D: Disk>(
     ensures replaced { D.is_told ≡ true → OnOk result (list_of (D.seen disk.new) ≡ body.now ∷ []) }
     ensures held { D.is_told ≡ true → IfOk result (λ areas. HoldsAreas (D.seen disk.new) (D.may_leave disk.new) areas (5 + length body.now)) }
     ensures pages { IfOk result (λ grown. grown.pages ≡ max areas.pages (pages_for (15 + length body.now))) }
+    ensures room { IfOk result (λ grown. 5 + length body.now < 4096 * grown.pages) }
+    ensures small { IfOk result (λ grown. grown.pages < 2 ^ 50) }
     ensures any_moment { D.is_told ≡ true → LeavesOnly D.moment D.left_since disk.old disk.new (λ image. IsOldOrReplaced (list_of (D.seen disk.old)) body.now (list_of image)) }
     ensures cause { result ≡ Err DiskError.Failed → Rose (D.faults disk.old) (D.faults disk.new) }
     ensures later { D.faults disk.old ≤ D.faults disk.new }

@@ -81,3 +81,6 @@ returns-clause-held g c told =
       at_rest = added_rests c.args.areas.active c.args.end c.args.body.now file mid h.form h.counting h.at_rest c.requires.short c.max-pages.result (c.in_ok-stage.ensures.size told) fits put new set;
       durable = c.in_ok-set_byte.ensures.durable told;
     }
+
+pub returns-clause-room : goal.returns-clause-room
+returns-clause-room g c = let fits = (most_fit c.args.areas.pages (c.args.end + 15 + length c.args.body.now) _ _ c.pages_for.ensures c.max-pages.ensures).0 in omega (arith, fits)

@@ -143,3 +143,6 @@ returns-clause-held g c told =
       at_rest = (new_rests area c.args.end c.args.body.now first mid h.form h.counting h.at_rest c.requires.short (c.args.areas.generation + 1) next later c.max-pages.result size fits put h.other 1 new set).0;
       durable = c.in_ok-set_byte.ensures.durable told;
     })
+
+pub returns-clause-room : goal.returns-clause-room
+returns-clause-room g c = let fits = (most_fit c.args.areas.pages (15 + length c.args.body.now) _ _ c.pages_for.ensures c.max-pages.ensures).0 in omega (arith, fits)
