@@ -16,7 +16,7 @@ use Rattle.mega_checkpoint.specs.Format.{first_page, other_of, offset, pages_in,
 use Rattle.mega_checkpoint.specs.Places.{Keeps, Puts, Sets}
 use Rattle.mega_checkpoint.proofs.Bytes.{over_before, over_there, over_after, length-over}
 use Rattle.mega_checkpoint.proofs.Offsets.{ascends, apart, behind_head, inside}
-use Rattle.mega_checkpoint.proofs.Fronts.{SameFront, same_chain, same_gate, same_generation, same_mark, areas_parts, areas_whole, list_counts, length-chain, get_or-chain, pages_parted, pages_more}
+use Rattle.mega_checkpoint.proofs.Fronts.{SameFront, same_chain, same_gate, same_generation, same_mark, areas_parts, areas_whole, list_counts, length-chain, get_or-chain, pages_parted, pages_more, pages_whole}
 
 -- a chain with the same bytes through its closed gate
 pub closed : (file c : List ℕ) (end : ℕ) → IsAtRest file end → take (end + 1) c ≡ take (end + 1) file → IsAtRest c end × (records_of c ≡ records_of file)
@@ -148,7 +148,7 @@ set_chain area at byte old new set some room =
               ∙ ap (λ (k : ℕ). get_or (overwritten at (byte ∷ []) (chain_in area old)) k 0) (let e : at + 0 ≡ i = omega (arith, is) in e)) (cases_lt at i)
 
 pub length-behind : (body : List ℕ) → length (behind_gate body) ≡ 5 + length body
-length-behind body = omega (arith, length-append (to_be_bytes w32 (length body)) (body ++ 0 ∷ []), length-append body (0 ∷ []), four)
+length-behind body = omega (arith, length-append (to_be_bytes w32 (length body) ++ body) (0 ∷ []), length-append (to_be_bytes w32 (length body)) body, four)
   where
     four : length (to_be_bytes w32 (length body)) ≡ 4
     four = refl
@@ -171,11 +171,11 @@ module _ (area : Area) (end : ℕ) (body old mid : List ℕ) (form : is_areas ol
   mid_pages : pages_in (length mid) ≡ pages
   mid_pages = ap pages_in size ∙ pages_whole pages
 
-  room : 9 + (end + 1) + length (behind_gate body) ≤ 4096 * pages_in (length mid)
-  room = let five = length-behind body in omega (arith, fits, mid_pages, five)
+  body_room : 9 + (end + 1) + length (behind_gate body) ≤ 4096 * pages_in (length mid)
+  body_room = let five = length-behind body in omega (arith, fits, mid_pages, five)
 
   same_there : staged (chain_in area mid) end mid_rests body small ≡ chain_in area mid
-  same_there = put_chain area (end + 1) (behind_gate body) mid (subst (λ (place : ℕ). Puts area place (behind_gate body) old mid) (let e : end + 10 ≡ 9 + (end + 1) = omega arith in e) put).there room
+  same_there = put_chain area (end + 1) (behind_gate body) mid (subst (λ (place : ℕ). Puts area place (behind_gate body) old mid) (let e : end + 10 ≡ 9 + (end + 1) = omega arith in e) put).there body_room
 
   module _ (byte : ℕ) (new : List ℕ) (set : Sets area (end + 9) byte mid new) where
     new_keeps : Keeps area (end + 9) mid new
@@ -186,7 +186,7 @@ module _ (area : Area) (end : ℕ) (body old mid : List ℕ) (form : is_areas ol
 
     new_chain : chain_in area new ≡ overwritten end (byte ∷ []) (chain_in area mid)
     new_chain =
-        set_chain area end byte mid new (subst (λ (place : ℕ). Sets area place byte mid new) (let e : end + 9 ≡ 9 + end = omega arith in e) set) (areas_parts mid mid_stays.form).0 (omega (arith, room))
+        set_chain area end byte mid new (subst (λ (place : ℕ). Sets area place byte mid new) (let e : end + 9 ≡ 9 + end = omega arith in e) set) (areas_parts mid mid_stays.form).0 (omega (arith, body_room))
 
     new_list : list_of new ≡ records_of (chain_in area new)
     new_list = list_counts area new new_stays.form new_stays.counting

@@ -21,21 +21,21 @@ module _ (at : ℕ) (bytes old : List ℕ) (le : at ≤ length old) where
   front_long = length-overwritten_front at bytes old le
 
   pub length-over : length (overwritten at bytes old) ≡ max (length old) (at + length bytes)
-  length-over = omega (arith, front_long, length-append (take at old ++ bytes) (drop (at + length bytes) old), length-drop (at + length bytes) old, ap length (append_assoc (take at old) bytes (drop (at + length bytes) old)))
+  length-over = omega (arith, front_long, length-append (take at old ++ bytes) (drop (at + length bytes) old), length-drop (at + length bytes) old)
 
   pub over_before : (i : ℕ) → i < at → get_or (overwritten at bytes old) i 0 ≡ get_or old i 0
   over_before i less =
-      get_or_append_left (take at old) (bytes ++ drop (at + length bytes) old) 0 i (omega (arith, length-take-le at old le, less)) ∙ get_or-take at old i 0 less
+      get_or_append_left (take at old ++ bytes) (drop (at + length bytes) old) 0 i (omega (arith, front_long, less))
+      ∙ get_or_append_left (take at old) bytes 0 i (omega (arith, length-take-le at old le, less)) ∙ get_or-take at old i 0 less
 
   pub over_there : (j : ℕ) → j < length bytes → get_or (overwritten at bytes old) (at + j) 0 ≡ get_or bytes j 0
   over_there j less =
-      get_or-append_right (take at old) (bytes ++ drop (at + length bytes) old) at (at + j) 0 (length-take-le at old le) (omega arith)
-      ∙ ap (λ (k : ℕ). get_or (bytes ++ drop (at + length bytes) old) k 0) (let e : at + j - at ≡ j = omega arith in e)
-      ∙ get_or_append_left bytes (drop (at + length bytes) old) 0 j less
+      get_or_append_left (take at old ++ bytes) (drop (at + length bytes) old) 0 (at + j) (omega (arith, front_long, less))
+      ∙ get_or-append_right (take at old) bytes at (at + j) 0 (length-take-le at old le) (omega arith)
+      ∙ ap (λ (k : ℕ). get_or bytes k 0) (let e : at + j - at ≡ j = omega arith in e)
 
   pub over_after : (i : ℕ) → at + length bytes ≤ i → get_or (overwritten at bytes old) i 0 ≡ get_or old i 0
   over_after i past =
-      ap (λ (l : List ℕ). get_or l i 0) (sym (append_assoc (take at old) bytes (drop (at + length bytes) old)))
-      ∙ get_or-append_right (take at old ++ bytes) (drop (at + length bytes) old) (at + length bytes) i 0 front_long past
+      get_or-append_right (take at old ++ bytes) (drop (at + length bytes) old) (at + length bytes) i 0 front_long past
       ∙ get_or-drop (at + length bytes) old (i - (at + length bytes)) 0
       ∙ ap (λ (k : ℕ). get_or old k 0) (let e : at + length bytes + (i - (at + length bytes)) ≡ i = omega (arith, past) in e)

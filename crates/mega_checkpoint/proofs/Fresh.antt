@@ -145,7 +145,7 @@ eight_zeros bytes = ap (λ (l : List ℕ). bytes ++ l) (drop_all 8 (zero_bytes 8
 -- what is written at the end
 pub over_end : (at : ℕ) (bytes old : List ℕ) → at ≡ length old → overwritten at bytes old ≡ old ++ bytes
 over_end at bytes old is =
-    (λ i. take_all at old (omega (arith, is)) i ++ (bytes ++ drop_all (at + length bytes) old (omega (arith, is)) i)) ∙ ap (λ (l : List ℕ). old ++ l) (append-nil bytes)
+    (λ i. (take_all at old (omega (arith, is)) i ++ bytes) ++ drop_all (at + length bytes) old (omega (arith, is)) i) ∙ append-nil (old ++ bytes)
 
 pub over_few : (old : List ℕ) → length old ≤ 1 → overwritten 0 (0 ∷ []) old ≡ 0 ∷ []
 over_few old few = ap (λ (l : List ℕ). 0 ∷ l) (drop_all 1 old few)

@@ -110,11 +110,11 @@ no_areas_by_length file short = let e : nat_le 12288 (length file) ≡ false = g
 -- the list, by the area that counts
 pub list_none : (file : List ℕ) → is_areas file ≡ false → list_of file ≡ records_of file
 unfolding list_of
-list_none file no = ap (λ (b : Bool). if b then area_records file else records_of file) no
+list_none file plain = ap (λ (b : Bool). if b then area_records file else records_of file) plain
 
 pub list_areas : (file : List ℕ) → is_areas file ≡ true → list_of file ≡ area_records file
 unfolding list_of
-list_areas file yes = ap (λ (b : Bool). if b then area_records file else records_of file) yes
+list_areas file form = ap (λ (b : Bool). if b then area_records file else records_of file) form
 
 alone : (a b : Bool) (g h : ℕ) → b && (not a || nat_lt g h) ≡ true → a && (not b || nat_le h g) ≡ false
 alone false b g h is = refl
@@ -132,15 +132,15 @@ pub neither : (file : List ℕ) → counts Odd file ≡ false → counts Even fi
 neither file odd even = neither_open (is_open Odd file) (is_open Even file) (generation_of Odd file) (generation_of Even file) odd even
 
 pub list_counts : (area : Area) (file : List ℕ) → is_areas file ≡ true → counts area file ≡ true → list_of file ≡ records_of (chain_in area file)
-list_counts Odd file yes is = list_areas file yes ∙ ap (λ (b : Bool). if b then records_of (chain_in Odd file) else (if counts Even file then records_of (chain_in Even file) else [])) is
-list_counts Even file yes is =
-    list_areas file yes
+list_counts Odd file form is = list_areas file form ∙ ap (λ (b : Bool). if b then records_of (chain_in Odd file) else (if counts Even file then records_of (chain_in Even file) else [])) is
+list_counts Even file form is =
+    list_areas file form
     ∙ ap (λ (b : Bool). if b then records_of (chain_in Odd file) else (if counts Even file then records_of (chain_in Even file) else [])) (alone (is_open Odd file) (is_open Even file) (generation_of Odd file) (generation_of Even file) is)
     ∙ ap (λ (b : Bool). if b then records_of (chain_in Even file) else []) is
 
 pub list_idle : (file : List ℕ) → is_areas file ≡ true → is_open Odd file ≡ false → is_open Even file ≡ false → list_of file ≡ []
-list_idle file yes odd even =
-    list_areas file yes
+list_idle file form odd even =
+    list_areas file form
     ∙ ap (λ (b : Bool). if b && (not (is_open Even file) || outranks Odd (generation_of Odd file) (generation_of Even file)) then records_of (chain_in Odd file) else (if counts Even file then records_of (chain_in Even file) else [])) odd
     ∙ ap (λ (b : Bool). if b && (not (is_open Odd file) || outranks Even (generation_of Even file) (generation_of Odd file)) then records_of (chain_in Even file) else []) even
 

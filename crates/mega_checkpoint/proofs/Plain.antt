@@ -16,6 +16,7 @@ use Rattle.mega_journal.proofs.Written.{torn_behind, torn_gate, at_rest_after, i
 use Rattle.mega_journal.proofs.Repaired.{torn_end, closed_end, shut_end, open_end}
 use Rattle.mega_checkpoint.specs.Format.{is_marked, is_areas, list_of, spells_mark}
 use Rattle.mega_checkpoint.specs.Held.{HoldsChain}
+use Rattle.mega_checkpoint.proofs.Adding.{length-behind}
 use Rattle.mega_checkpoint.proofs.Bytes.{torn_before, torn_after, over_before, over_there, length-over}
 use Rattle.mega_checkpoint.proofs.Fronts.{same_mark, areas_whole, no_areas_by_mark, no_areas_by_length, list_none}
 
@@ -67,10 +68,7 @@ module _ (file : List ℕ) (end : ℕ) (unmarked : is_marked file ≡ false) (fi
         byte j less =
             torn_after end 1 staged_file c (1 + j) torn (omega (arith, start))
             ∙ ap (λ (i : ℕ). get_or staged_file i 0) (let e : 1 + j ≡ end + 1 + j = omega (arith, start) in e)
-            ∙ over_there (end + 1) (behind_gate body) file room j (omega (arith, less, length-append (to_be_bytes w32 (length body)) (body ++ 0 ∷ []), four))
-          where
-            four : length (to_be_bytes w32 (length body)) ≡ 4
-            four = refl
+            ∙ over_there (end + 1) (behind_gate body) file room j (omega (arith, less, length-behind body))
 
         rest : (get_or c 1 0 == 71) && ((get_or c 2 0 == 65) && (get_or c 3 0 == 50)) ≡ false
         rest = (λ i. (byte 0 (omega arith) i == 71) && ((byte 1 (omega arith) i == 65) && (byte 2 (omega arith) i == 50))) ∙ plain start
@@ -114,7 +112,7 @@ from_four (a ∷ b ∷ c ∷ d ∷ e ∷ more) four first = absurd (omega arith)
 
 -- and which counts at most one byte for its first gate
 pub unmarked_chain : (file : List ℕ) (end : ℕ) → IsRead file end → is_areas file ≡ false → 0 < end → is_marked file ≡ false
-unmarked_chain file end read no some = go (records_of file) refl
+unmarked_chain file end read chain_form some = go (records_of file) refl
   where
     go : (bodies : List (List ℕ)) → records_of file ≡ bodies → is_marked file ≡ false
     go [] none = let p = read.place in absurd (omega (arith, some, p, ap (λ (l : List (List ℕ)). length (chain_of l)) none))
@@ -124,14 +122,14 @@ unmarked_chain file end read no some = go (records_of file) refl
         spelled = read.spelled ∙ ap (λ (l : List (List ℕ)). chain_of l ++ drop end file) is ∙ append_assoc (record_of body) (chain_of bodies) (drop end file)
 
         long : 12288 ≤ length file → is_marked file ≡ false
-        long le = false_of (is_marked file) (λ mark. true_false (sym (areas_whole file le mark) ∙ no))
+        long le = false_of (is_marked file) (λ mark. true_false (sym (areas_whole file le mark) ∙ chain_form))
           where
             true_false : true ≡ false → ⊥
             true_false is = absurd (cc)
 
             false_of : (b : Bool) → (b ≡ true → ⊥) → b ≡ false
-            false_of true no = absurd (no refl)
-            false_of false no = refl
+            false_of true chain_form = absurd (chain_form refl)
+            false_of false chain_form = refl
 
         short : length file < 12288 → is_marked file ≡ false
         short less = not_mark (cases_eq (get_or file 1 0) 71)
@@ -160,9 +158,9 @@ unmarked_chain file end read no some = go (records_of file) refl
                 let e : (get_or file 1 0 == 71) ≡ false = grind (arith, nat_tests) in
                 (λ i. not (get_or file 0 0 == 0) && (e i && ((get_or file 2 0 == 65) && (get_or file 3 0 == 50)))) ∙ last (not (get_or file 0 0 == 0))
 
-module _ (file : List ℕ) (end : ℕ) (read : IsRead file end) (no : is_areas file ≡ false) (inside : end < length file) where
+module _ (file : List ℕ) (end : ℕ) (read : IsRead file end) (chain_form : is_areas file ≡ false) (inside : end < length file) where
   read_list : list_of file ≡ records_of file
-  read_list = list_none file no
+  read_list = list_none file chain_form
 
   module _ (torn_no : get_or file 0 0 ≤ 1) (shut : get_or file end 1 ≢ 1) where
     first_shut : end ≡ 0 → get_or file 0 0 ≡ 0
@@ -172,7 +170,7 @@ module _ (file : List ℕ) (end : ℕ) (read : IsRead file end) (no : is_areas f
         default = get_or_default file 0 1 0 (omega (arith, inside))
 
     shut_unmarked : is_marked file ≡ false
-    shut_unmarked = ⊎_elim (unmarked_chain file end read no) (λ none. no_first file (first_shut (omega (arith, none)))) (cases_lt 0 end)
+    shut_unmarked = ⊎_elim (unmarked_chain file end read chain_form) (λ none. no_first file (first_shut (omega (arith, none)))) (cases_lt 0 end)
 
     pub shut_held : (may_leave : List ℕ → Type 0) → Only file may_leave → HoldsChain file may_leave end
     shut_held may_leave durable = record {
@@ -192,7 +190,7 @@ module _ (file : List ℕ) (end : ℕ) (read : IsRead file end) (no : is_areas f
         behind some =
             let five = long_chain (records_of file) (let p = read.place in omega (arith, some, p)) in
             let p = read.place in
-            no_areas_by_mark c (same_mark file c (λ i less. torn_before end 1 file c i torn (omega (arith, less, five, p))) ∙ unmarked_chain file end read no some)
+            no_areas_by_mark c (same_mark file c (λ i less. torn_before end 1 file c i torn (omega (arith, less, five, p))) ∙ unmarked_chain file end read chain_form some)
 
         front : end ≤ 0 → is_areas c ≡ false
         front none = ⊎_elim (λ few. no_areas_by_length c few) (λ many. no_areas_by_mark c (other many)) (cases_lt (length c) 12288)
@@ -207,14 +205,14 @@ module _ (file : List ℕ) (end : ℕ) (read : IsRead file end) (no : is_areas f
             rest = (get_or file 1 0 == 71) && ((get_or file 2 0 == 65) && (get_or file 3 0 == 50))
 
             without : 12288 ≤ length c → (get_or file 1 0 == 71) && ((get_or file 2 0 == 65) && (get_or file 3 0 == 50)) ≡ false
-            without many = false_of _ (λ mark. true_false (sym (areas_whole file (omega (arith, many, same_size)) ((λ i. not (gate i == 0) && mark i))) ∙ no))
+            without many = false_of _ (λ mark. true_false (sym (areas_whole file (omega (arith, many, same_size)) ((λ i. not (gate i == 0) && mark i))) ∙ chain_form))
               where
                 true_false : true ≡ false → ⊥
                 true_false is = absurd (cc)
 
                 false_of : (b : Bool) → (b ≡ true → ⊥) → b ≡ false
-                false_of true no = absurd (no refl)
-                false_of false no = refl
+                false_of true chain_form = absurd (chain_form refl)
+                false_of false chain_form = refl
 
             other : 12288 ≤ length c → is_marked c ≡ false
             other many = (λ i. not (get_or c 0 0 == 0) && ((byte 1 (omega arith) i == 71) && ((byte 2 (omega arith) i == 65) && (byte 3 (omega arith) i == 50)))) ∙ (λ i. not (get_or c 0 0 == 0) && without many i) ∙ last (not (get_or c 0 0 == 0))
@@ -242,7 +240,7 @@ module _ (file : List ℕ) (end : ℕ) (read : IsRead file end) (no : is_areas f
       behind some =
           let five = long_chain (records_of file) (let p = read.place in omega (arith, some, p)) in
           let p = read.place in
-          same_mark file c (λ i less. ap (λ (l : List ℕ). get_or l i 0) is ∙ over_before end (0 ∷ []) file (omega (arith, inside)) i (omega (arith, less, five, p))) ∙ unmarked_chain file end read no some
+          same_mark file c (λ i less. ap (λ (l : List ℕ). get_or l i 0) is ∙ over_before end (0 ∷ []) file (omega (arith, inside)) i (omega (arith, less, five, p))) ∙ unmarked_chain file end read chain_form some
 
 -- by the test of the gate
 pub shut_by : (gate : ℕ) → not (gate == 1) ≡ true → gate ≢ 1
@@ -252,7 +250,7 @@ pub open_by : (gate : ℕ) → not (gate == 1) ≡ false → gate ≡ 1
 open_by gate test = grind (arith, nat_tests)
 
 -- a chain with a torn first gate holds none, and cut to any length from two bytes on neither
-module _ (file : List ℕ) (torn_first : 1 < get_or file 0 0) (no : is_areas file ≡ false) (c : List ℕ) (cut : Cut 2 file c) where
+module _ (file : List ℕ) (torn_first : 1 < get_or file 0 0) (chain_form : is_areas file ≡ false) (c : List ℕ) (cut : Cut 2 file c) where
   first_same : get_or c 0 0 ≡ get_or file 0 0
   first_same = sym (get_or-take 2 c 0 0 (omega arith)) ∙ ap (λ (l : List ℕ). get_or l 0 0) cut.no_shorter ∙ get_or-take 2 file 0 0 (omega arith)
 
@@ -273,7 +271,7 @@ module _ (file : List ℕ) (torn_first : 1 < get_or file 0 0) (no : is_areas fil
       longer = let e = ap length cut.front in let f = length-take (length c) file in omega (arith, e, f)
 
       long : 12288 ≤ length c → is_areas c ≡ false
-      long many = no_areas_by_mark c (same_mark file c (byte many) ∙ false_of (is_marked file) (λ mark. true_false (sym (areas_whole file (omega (arith, many, longer)) mark) ∙ no)))
+      long many = no_areas_by_mark c (same_mark file c (byte many) ∙ false_of (is_marked file) (λ mark. true_false (sym (areas_whole file (omega (arith, many, longer)) mark) ∙ chain_form)))
 
   pub cut_none : list_of c ≡ []
   cut_none = list_none c cut_no ∙ none_closed c (λ one. absurd (omega (arith, one, first_same, torn_first)))

@@ -169,7 +169,7 @@ some_room file pages size form = let long = (areas_parts file form).0 in omega (
 
 -- the other's gate, which is open, is set to any byte
 pub set_list : (area : Area) (end : ℕ) (old : List ℕ) → is_areas old ≡ true → counts area old ≡ true → IsAtRest (chain_in area old) end → is_open (other_of area) old ≡ true → (byte : ℕ) (new : List ℕ) → Sets (other_of area) 0 byte old new → list_of new ≡ list_of old
-set_list area end old form counting rests open byte new set = elim (cases_eq byte 1) [
+set_list area end old form counting rests was byte new set = elim (cases_eq byte 1) [
     | inl one ↦ list_counts area new b.form (still one) ∙ b.records
     | inr other ↦ list_beside area end old new b (gate_set (other_of area) byte old new set ∙ (let e : (byte == 1) ≡ false = grind (arith, nat_tests) in e))
   ]
@@ -187,7 +187,7 @@ set_list area end old form counting rests open byte new set = elim (cases_eq byt
         gate = b.mine ∙ sym (counts_open area old counting)
 
         others : is_open (other_of area) new ≡ is_open (other_of area) old
-        others = gate_set (other_of area) byte old new set ∙ (let e : (byte == 1) ≡ true = ap (λ (n : ℕ). n == 1) one in e) ∙ sym open
+        others = gate_set (other_of area) byte old new set ∙ (let e : (byte == 1) ≡ true = ap (λ (n : ℕ). n == 1) one in e) ∙ sym was
 
         number : generation_of (other_of area) new ≡ generation_of (other_of area) old
         number = same_generation (other_of area) old new (λ j less. beyond_gate (other_of area) byte old new long set (1 + j) (omega arith) (omega (arith, less, some_pages (other_of area) 0 old new kept long)))

@@ -15,11 +15,11 @@ returns-in_err-cut-clause-any_moment g c told =
     let file = g.D.Disk.seen disk in
     let is = c.requires.bytes told in
     let first = subst (λ (f : List ℕ). 1 < get_or f 0 0) is c.requires.torn in
-    let no = subst (λ (f : List ℕ). is_areas f ≡ false) is c.requires.chain in
+    let chain_form = subst (λ (f : List ℕ). is_areas f ≡ false) is c.requires.chain in
     let P : List ℕ → Type 0 = λ image. list_of image ≡ [] in
-    let begun = started g.D.Disk.moment g.D.Disk.left_since disk P (λ image since. ap list_of (c.requires.durable told image (g.met.D.Disk.only_now disk image since)) ∙ cut_none file first no file (cut_same 2 file)) in
+    let begun = started g.D.Disk.moment g.D.Disk.left_since disk P (λ image since. ap list_of (c.requires.durable told image (g.met.D.Disk.only_now disk image since)) ∙ cut_none file first chain_form file (cut_same 2 file)) in
     goes_on g.D.Disk.moment g.D.Disk.left_since disk disk c.cut.new.self P _ begun c.cut.ensures.time
-    (λ image now. let from = c.cut.ensures.crash image now in cut_none file first no image (subst (λ (old : List ℕ). Cut 2 old image) (c.requires.durable told from.0 from.1) from.2))
+    (λ image now. let from = c.cut.ensures.crash image now in cut_none file first chain_form image (subst (λ (old : List ℕ). Cut 2 old image) (c.requires.durable told from.0 from.1) from.2))
 
 pub returns-in_err-sync-clause-any_moment : goal.returns-in_err-sync-clause-any_moment
 returns-in_err-sync-clause-any_moment g c told =
@@ -27,11 +27,11 @@ returns-in_err-sync-clause-any_moment g c told =
     let file = g.D.Disk.seen disk in
     let is = c.requires.bytes told in
     let first = subst (λ (f : List ℕ). 1 < get_or f 0 0) is c.requires.torn in
-    let no = subst (λ (f : List ℕ). is_areas f ≡ false) is c.requires.chain in
+    let chain_form = subst (λ (f : List ℕ). is_areas f ≡ false) is c.requires.chain in
     let P : List ℕ → Type 0 = λ image. list_of image ≡ [] in
-    let begun = started g.D.Disk.moment g.D.Disk.left_since disk P (λ image since. ap list_of (c.requires.durable told image (g.met.D.Disk.only_now disk image since)) ∙ cut_none file first no file (cut_same 2 file)) in
+    let begun = started g.D.Disk.moment g.D.Disk.left_since disk P (λ image since. ap list_of (c.requires.durable told image (g.met.D.Disk.only_now disk image since)) ∙ cut_none file first chain_form file (cut_same 2 file)) in
     let after : (image : List ℕ) → g.D.Disk.may_leave c.cut.new.self image → P image = λ image now.
-    let from = c.cut.ensures.crash image now in cut_none file first no image (subst (λ (old : List ℕ). Cut 2 old image) (c.requires.durable told from.0 from.1) from.2) in
+    let from = c.cut.ensures.crash image now in cut_none file first chain_form image (subst (λ (old : List ℕ). Cut 2 old image) (c.requires.durable told from.0 from.1) from.2) in
     let cut = goes_on g.D.Disk.moment g.D.Disk.left_since disk disk c.cut.new.self P _ begun c.cut.ensures.time after in
     goes_on g.D.Disk.moment g.D.Disk.left_since disk c.cut.new.self c.sync.new.self P _ cut c.sync.ensures.time (λ image now. after image (c.sync.ensures.crash image now))
 
@@ -41,11 +41,11 @@ returns-clause-any_moment g c told =
     let file = g.D.Disk.seen disk in
     let is = c.requires.bytes told in
     let first = subst (λ (f : List ℕ). 1 < get_or f 0 0) is c.requires.torn in
-    let no = subst (λ (f : List ℕ). is_areas f ≡ false) is c.requires.chain in
+    let chain_form = subst (λ (f : List ℕ). is_areas f ≡ false) is c.requires.chain in
     let P : List ℕ → Type 0 = λ image. list_of image ≡ [] in
-    let begun = started g.D.Disk.moment g.D.Disk.left_since disk P (λ image since. ap list_of (c.requires.durable told image (g.met.D.Disk.only_now disk image since)) ∙ cut_none file first no file (cut_same 2 file)) in
+    let begun = started g.D.Disk.moment g.D.Disk.left_since disk P (λ image since. ap list_of (c.requires.durable told image (g.met.D.Disk.only_now disk image since)) ∙ cut_none file first chain_form file (cut_same 2 file)) in
     let after : (image : List ℕ) → g.D.Disk.may_leave c.cut.new.self image → P image = λ image now.
-    let from = c.cut.ensures.crash image now in cut_none file first no image (subst (λ (old : List ℕ). Cut 2 old image) (c.requires.durable told from.0 from.1) from.2) in
+    let from = c.cut.ensures.crash image now in cut_none file first chain_form image (subst (λ (old : List ℕ). Cut 2 old image) (c.requires.durable told from.0 from.1) from.2) in
     let cut = goes_on g.D.Disk.moment g.D.Disk.left_since disk disk c.cut.new.self P _ begun c.cut.ensures.time after in
     let synced = goes_on g.D.Disk.moment g.D.Disk.left_since disk c.cut.new.self c.sync.new.self P _ cut c.sync.ensures.time (λ image now. after image (c.sync.ensures.crash image now)) in
     let seen = c.in_ok-sync.ensures.seen ∙ c.in_ok-cut.ensures.cut told in

@@ -19,3 +19,14 @@ loop-at-preserved g c =
       lowers = search rules;
       by_fuse = search rules;
     }
+
+pub returns-in_err-add_page-clause-kept : goal.returns-in_err-add_page-clause-kept
+returns-in_err-add_page-clause-kept g c area from file few all =
+    let i = c.loop-at.invariant in
+    c.add_page.ensures.kept area from file (let up = i.from_pages in omega (arith, few, up)) (i.kept area from file few all)
+
+pub returns-in_err-add_page-clause-any_moment : goal.returns-in_err-add_page-clause-any_moment
+returns-in_err-add_page-clause-any_moment g c area from file few all =
+    let i = c.loop-at.invariant in
+    then_leaves g.D.Disk.moment g.D.Disk.left_since c.args.disk.now c.loop-at.disk c.add_page.new.disk (Keeps area from file) (Keeps area from file) (Keeps area from file)
+    (i.moments area from file few all) (c.add_page.ensures.any_moment area from file (let up = i.from_pages in omega (arith, few, up)) (i.kept area from file few all)) (λ image p. p) (λ image p. p)

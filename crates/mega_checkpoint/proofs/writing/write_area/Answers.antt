@@ -22,3 +22,9 @@ loop-done-preserved g c =
       lowers = lowers_on _ _ _ (min c.loop-done.done 1) 1 (min (c.loop-done.done + count) 1) (omega arith) i.lowers c.in_ok-write_piece.ensures.lowers;
       by_fuse = search rules;
     }
+
+pub returns-in_err-write_piece-clause-any_moment : goal.returns-in_err-write_piece-clause-any_moment
+returns-in_err-write_piece-clause-any_moment g c from file le all =
+    let i = c.loop-done.invariant in
+    then_leaves g.D.Disk.moment g.D.Disk.left_since c.args.disk.now c.loop-done.disk c.write_piece.new.disk (Keeps c.args.area from file) (Keeps c.args.area from file) (Keeps c.args.area from file)
+    (i.moments from file le all) (c.write_piece.ensures.any_moment from file (omega (arith, le)) (i.kept from file le all)) (λ image p. p) (λ image p. p)
