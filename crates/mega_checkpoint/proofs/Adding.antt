@@ -103,9 +103,9 @@ put_chain area at bytes new put room =
     let size = length-over at bytes chain (omega (arith, long, room)) in
     let same : length (overwritten at bytes chain) ≡ length chain = omega (arith, size, long, room) in
     ext_get_or 0 (overwritten at bytes chain) chain same (λ i less.
-      ⊎_elim (λ before. over_before at bytes chain (omega (arith, long, room)) i before)
-      (λ le. ⊎_elim (λ lt. there i le lt) (λ past. over_after at bytes chain (omega (arith, long, room)) i past) (cases_lt i (at + length bytes)))
-      (cases_lt i at))
+    ⊎_elim (λ before. over_before at bytes chain (omega (arith, long, room)) i before)
+    (λ le. ⊎_elim (λ lt. there i le lt) (λ past. over_after at bytes chain (omega (arith, long, room)) i past) (cases_lt i (at + length bytes)))
+    (cases_lt i at))
   where
     there : (i : ℕ) → at ≤ i → i < at + length bytes → get_or (overwritten at bytes (chain_in area new)) i 0 ≡ get_or (chain_in area new) i 0
     there i le lt =
@@ -125,8 +125,8 @@ set_chain area at byte old new set some room =
     let size = length-over at (byte ∷ []) (chain_in area old) (omega (arith, long, room)) in
     let same : length (chain_in area new) ≡ length (overwritten at (byte ∷ []) (chain_in area old)) = omega (arith, size, long, length-chain area new, pages, room) in
     ext_get_or 0 (chain_in area new) (overwritten at (byte ∷ []) (chain_in area old)) same (λ i less.
-      let lt : 9 + i < 4096 * pages_in (length new) = omega (arith, less, length-chain area new) in
-      get_or-chain area new i lt ∙ there i (omega (arith, lt, pages)))
+    let lt : 9 + i < 4096 * pages_in (length new) = omega (arith, less, length-chain area new) in
+    get_or-chain area new i lt ∙ there i (omega (arith, lt, pages)))
   where
     there : (i : ℕ) → 9 + i < 4096 * pages_in (length old) → get_or new (offset area (9 + i)) 0 ≡ get_or (overwritten at (byte ∷ []) (chain_in area old)) i 0
     there i lt = ⊎_elim (λ less. miss (λ same. let up = ascends area (9 + i) (9 + at) (omega (arith, less)) in absurd (omega (arith, up, same))) (over_before at (byte ∷ []) (chain_in area old) le i less)) behind (cases_lt i at)
@@ -144,8 +144,8 @@ set_chain area at byte old new set some room =
         behind ge =
             ⊎_elim (λ more. miss (λ same. let up = ascends area (9 + at) (9 + i) (omega (arith, more)) in absurd (omega (arith, up, same))) (over_after at (byte ∷ []) (chain_in area old) le i (omega (arith, more))))
             (λ few. let is : i ≡ at = omega (arith, few, ge) in
-              ap (λ (k : ℕ). get_or new (offset area (9 + k)) 0) is ∙ set.there ∙ sym (over_there at (byte ∷ []) (chain_in area old) le 0 (omega arith))
-              ∙ ap (λ (k : ℕ). get_or (overwritten at (byte ∷ []) (chain_in area old)) k 0) (let e : at + 0 ≡ i = omega (arith, is) in e)) (cases_lt at i)
+            ap (λ (k : ℕ). get_or new (offset area (9 + k)) 0) is ∙ set.there ∙ sym (over_there at (byte ∷ []) (chain_in area old) le 0 (omega arith))
+            ∙ ap (λ (k : ℕ). get_or (overwritten at (byte ∷ []) (chain_in area old)) k 0) (let e : at + 0 ≡ i = omega (arith, is) in e)) (cases_lt at i)
 
 pub length-behind : (body : List ℕ) → length (behind_gate body) ≡ 5 + length body
 length-behind body = omega (arith, length-append (to_be_bytes w32 (length body) ++ body) (0 ∷ []), length-append (to_be_bytes w32 (length body)) body, four)

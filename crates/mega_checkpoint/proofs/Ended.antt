@@ -52,7 +52,7 @@ module _ (file : List ℕ) (areas : Areas) (end : ℕ) (is : IsAreaRead file are
     ended_list =
         list_counts areas.active new ended_stays.form ended_stays.counting
         ∙ torn_end (chain_in areas.active file) end is.read (open_end (chain_in areas.active file) end is.read within one) (chain_in areas.active new)
-          (subst (Torn end 1 (chain_in areas.active file)) (sym new_chain) (torn_written end (byte ∷ []) (chain_in areas.active file) (omega (arith, within))))
+        (subst (Torn end 1 (chain_in areas.active file)) (sym new_chain) (torn_written end (byte ∷ []) (chain_in areas.active file) (omega (arith, within))))
         ∙ sym (list_counts areas.active file is.form is.counting)
 
   pub held_closed : get_or (chain_in areas.active file) end 1 ≡ 1 → (new : List ℕ) (may_leave : List ℕ → Type 0) → Sets areas.active (end + 9) 0 file new → Only new may_leave → HoldsAreas new may_leave areas end

@@ -51,9 +51,9 @@ same_chain area n old new same room some longer =
     let long : length (take n (chain_in area new)) ≡ n = length-take-le n (chain_in area new) (omega (arith, length-chain area new, more, room)) in
     let size : length (take n (chain_in area old)) ≡ n = length-take-le n (chain_in area old) (omega (arith, length-chain area old, room)) in
     ext_get_or 0 (take n (chain_in area new)) (take n (chain_in area old)) (long ∙ sym size) (λ i less.
-      let lt : i < n = omega (arith, less, long) in
-      get_or-take n (chain_in area new) i 0 lt ∙ get_or-chain area new i (omega (arith, lt, room, more))
-      ∙ same (9 + i) (omega (arith, lt)) ∙ sym (get_or-chain area old i (omega (arith, lt, room))) ∙ sym (get_or-take n (chain_in area old) i 0 lt))
+    let lt : i < n = omega (arith, less, long) in
+    get_or-take n (chain_in area new) i 0 lt ∙ get_or-chain area new i (omega (arith, lt, room, more))
+    ∙ same (9 + i) (omega (arith, lt)) ∙ sym (get_or-chain area old i (omega (arith, lt, room))) ∙ sym (get_or-take n (chain_in area old) i 0 lt))
 
 pub first_offset : (area : Area) → offset area 0 ≡ 4096 * first_page area
 first_offset Odd = refl
@@ -79,9 +79,9 @@ pub same_generation : (area : Area) (old new : List ℕ) → ((j : ℕ) → j < 
 unfolding generation_of
 same_generation area old new same =
     same_from 0 8 (drop (behind_gate_at area) new) (drop (behind_gate_at area) old) (λ j le less.
-      let lt : j < 8 = omega (arith, less) in
-      get_or-drop (behind_gate_at area) new j 0 ∙ ap (λ (i : ℕ). get_or new i 0) (number_at area j lt) ∙ same j lt
-      ∙ ap (λ (i : ℕ). get_or old i 0) (sym (number_at area j lt)) ∙ sym (get_or-drop (behind_gate_at area) old j 0))
+    let lt : j < 8 = omega (arith, less) in
+    get_or-drop (behind_gate_at area) new j 0 ∙ ap (λ (i : ℕ). get_or new i 0) (number_at area j lt) ∙ same j lt
+    ∙ ap (λ (i : ℕ). get_or old i 0) (sym (number_at area j lt)) ∙ sym (get_or-drop (behind_gate_at area) old j 0))
 
 -- the first four bytes tell the mark
 pub same_mark : (old new : List ℕ) → ((i : ℕ) → i < 4 → get_or new i 0 ≡ get_or old i 0) → is_marked new ≡ is_marked old
@@ -149,8 +149,8 @@ pub generation_put : (area : Area) (file : List ℕ) (generation : ℕ) (rest : 
 unfolding generation_of
 generation_put area file generation rest fits there =
     same_from 0 8 (drop (behind_gate_at area) file) (big_bytes 8 generation ++ rest) (λ j le less.
-      let lt : j < 8 = omega (arith, less) in
-      get_or-drop (behind_gate_at area) file j 0 ∙ ap (λ (i : ℕ). get_or file i 0) (number_at area j lt) ∙ there j lt)
+    let lt : j < 8 = omega (arith, less) in
+    get_or-drop (behind_gate_at area) file j 0 ∙ ap (λ (i : ℕ). get_or file i 0) (number_at area j lt) ∙ there j lt)
     ∙ big_number-reads_back 8 generation rest fits
 
 pub counts_open : (area : Area) (file : List ℕ) → counts area file ≡ true → is_open area file ≡ true
@@ -180,6 +180,6 @@ other_other Even = refl
 pub equal_chain : (area : Area) (old new : List ℕ) → pages_in (length new) ≡ pages_in (length old) → ((i : ℕ) → 9 + i < 4096 * pages_in (length old) → get_or new (offset area (9 + i)) 0 ≡ get_or old (offset area (9 + i)) 0) → chain_in area new ≡ chain_in area old
 equal_chain area old new pages same =
     ext_get_or 0 (chain_in area new) (chain_in area old) (omega (arith, length-chain area old, length-chain area new, pages)) (λ i less.
-      let lt : 9 + i < 4096 * pages_in (length new) = omega (arith, less, length-chain area new) in
-      let fits : 9 + i < 4096 * pages_in (length old) = omega (arith, lt, pages) in
-      get_or-chain area new i lt ∙ same i fits ∙ sym (get_or-chain area old i fits))
+    let lt : 9 + i < 4096 * pages_in (length new) = omega (arith, less, length-chain area new) in
+    let fits : 9 + i < 4096 * pages_in (length old) = omega (arith, lt, pages) in
+    get_or-chain area new i lt ∙ same i fits ∙ sym (get_or-chain area old i fits))

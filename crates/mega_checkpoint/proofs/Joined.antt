@@ -26,11 +26,11 @@ joined_more area file page at start room =
     let whole : length (front_of area file (page + 1)) ≡ 4096 * (page + 1) = length-map-range_with_len f 0 (4096 * (page + 1)) in
     let part : length piece ≡ 4096 = let a = length-take (at + 4096 - at) (drop at file) in let b = length-drop at file in omega (arith, a, b, room) in
     ext_get_or 0 (old ++ piece) (front_of area file (page + 1)) (omega (arith, length-append old piece, size, part, whole)) (λ i less.
-      let lt : i < 4096 * (page + 1) = omega (arith, less, length-append old piece, size, part) in
-      (⊎_elim
-        (λ early. get_or_append_left old piece 0 i (omega (arith, early, size)) ∙ get_or-map-range_with_len f 0 (4096 * page) i i 0 early (omega arith))
-        (λ le.
-          get_or-append_right old piece (4096 * page) i 0 size le ∙ get_or-take (at + 4096 - at) (drop at file) (i - 4096 * page) 0 (omega (arith, le, lt)) ∙ get_or-drop at file (i - 4096 * page) 0
-          ∙ ap (λ (k : ℕ). get_or file k 0) (ap (λ (k : ℕ). k + (i - 4096 * page)) start ∙ sym (page_offset area page i le (omega (arith, lt)))))
-        (cases_lt i (4096 * page)))
-      ∙ sym (get_or-map-range_with_len f 0 (4096 * (page + 1)) i i 0 lt (omega arith)))
+    let lt : i < 4096 * (page + 1) = omega (arith, less, length-append old piece, size, part) in
+    (⊎_elim
+    (λ early. get_or_append_left old piece 0 i (omega (arith, early, size)) ∙ get_or-map-range_with_len f 0 (4096 * page) i i 0 early (omega arith))
+    (λ le.
+    get_or-append_right old piece (4096 * page) i 0 size le ∙ get_or-take (at + 4096 - at) (drop at file) (i - 4096 * page) 0 (omega (arith, le, lt)) ∙ get_or-drop at file (i - 4096 * page) 0
+    ∙ ap (λ (k : ℕ). get_or file k 0) (ap (λ (k : ℕ). k + (i - 4096 * page)) start ∙ sym (page_offset area page i le (omega (arith, lt)))))
+    (cases_lt i (4096 * page)))
+    ∙ sym (get_or-map-range_with_len f 0 (4096 * (page + 1)) i i 0 lt (omega arith)))

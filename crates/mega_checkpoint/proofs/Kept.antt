@@ -40,12 +40,14 @@ pub piece_put : (area : Area) (place : ℕ) (bytes old : List ℕ) → place % 4
 piece_put area place bytes old page room =
     let at = offset area place in
     let le : at ≤ length old = omega (arith, room) in
-    let size : length (overwritten at bytes old) ≡ length old = omega (arith, length-over at bytes old le, room) in
-    (record {
-      longer = omega (arith, size);
-      there = λ j lt. ap (λ (i : ℕ). get_or (overwritten at bytes old) i 0) (within_page area place j (omega (arith, lt, page))) ∙ over_there at bytes old le j lt;
-      same = λ i less free. ⊎_elim (over_before at bytes old le i) (over_after at bytes old le i) (beyond area place (length bytes) i page free);
-    }, size)
+    let size : length (overwritten at bytes old) ≡ length old = omega (arith, length-over at bytes old le, room) in (
+      record {
+        longer = omega (arith, size);
+        there = λ j lt. ap (λ (i : ℕ). get_or (overwritten at bytes old) i 0) (within_page area place j (omega (arith, lt, page))) ∙ over_there at bytes old le j lt;
+        same = λ i less free. ⊎_elim (over_before at bytes old le i) (over_after at bytes old le i) (beyond area place (length bytes) i page free);
+      },
+      size,
+    )
 
 -- nothing is put yet, and a further piece joins what was put
 pub put_none : (area : Area) (place : ℕ) (old : List ℕ) → Puts area place [] old old
@@ -141,7 +143,7 @@ put_read area place n k bytes old mid new room size first second =
     let long : length piece ≡ k = omega (arith, length-take (n + k - n) (drop n bytes), length-drop n bytes, count, room) in
     subst (λ (m : ℕ). Puts area place (take (n + m) bytes) old new) long
     (put_more area place n bytes piece old mid new (omega (arith, long, room))
-      (λ j less. get_or-take (n + k - n) (drop n bytes) j 0 (omega (arith, less, long, count)) ∙ get_or-drop n bytes j 0) size first second)
+    (λ j less. get_or-take (n + k - n) (drop n bytes) j 0 (omega (arith, less, long, count)) ∙ get_or-drop n bytes j 0) size first second)
 
 -- calls of a device one after another
 pub lowers_on : (a b c : Fuse) (n m k : ℕ) → k ≤ n + m → LowersBy n a b → LowersBy m b c → LowersBy k a c

@@ -170,9 +170,9 @@ some_room file pages size form = let long = (areas_parts file form).0 in omega (
 -- the other's gate, which is open, is set to any byte
 pub set_list : (area : Area) (end : ℕ) (old : List ℕ) → is_areas old ≡ true → counts area old ≡ true → IsAtRest (chain_in area old) end → is_open (other_of area) old ≡ true → (byte : ℕ) (new : List ℕ) → Sets (other_of area) 0 byte old new → list_of new ≡ list_of old
 set_list area end old form counting rests was byte new set = elim (cases_eq byte 1) [
-    | inl one ↦ list_counts area new b.form (still one) ∙ b.records
-    | inr other ↦ list_beside area end old new b (gate_set (other_of area) byte old new set ∙ (let e : (byte == 1) ≡ false = grind (arith, nat_tests) in e))
-  ]
+  | inl one ↦ list_counts area new b.form (still one) ∙ b.records
+  | inr other ↦ list_beside area end old new b (gate_set (other_of area) byte old new set ∙ (let e : (byte == 1) ≡ false = grind (arith, nat_tests) in e))
+]
   where
     kept : Keeps (other_of area) 0 old new
     kept = set_keeps (other_of area) 0 0 byte old new (omega arith) set

@@ -41,7 +41,15 @@ pub(crate) fn add_to_area<D: Disk>(
 {
     let record = behind_gate(alloc, body)?;
     let pages = areas.pages.max(pages_for(end + 15 + body.len() as u64));
-    stage(alloc, disk, areas.active, end + 10, record.as_slice(), areas.pages, pages)?;
+    stage(
+        alloc,
+        disk,
+        areas.active,
+        end + 10,
+        record.as_slice(),
+        areas.pages,
+        pages,
+    )?;
     set_byte(disk, areas.active, end + 9, 1)?;
     Ok(Areas { pages, ..areas })
 }

@@ -46,11 +46,7 @@ fn behind_first(alloc: Global) -> Result<Vec<u8>, NoMemory>
 }
 
 /// Begins the first generation, with no record, in a file of areas with no open gate.
-pub(crate) fn begin<D: Disk>(
-    alloc: Global,
-    disk: &mut D,
-    pages: u64,
-) -> Result<Areas, DiskError>
+pub(crate) fn begin<D: Disk>(alloc: Global, disk: &mut D, pages: u64) -> Result<Areas, DiskError>
     requires idle { D.is_told ≡ true → IsIdle (D.seen disk.old) (D.may_leave disk.old) pages }
     requires some { 1 ≤ pages }
     requires small { pages < 2 ^ 50 }

@@ -213,7 +213,13 @@ fn open_area<D: Disk>(
 }
 
 /// Closes the gate behind the records of the area that counts.
-fn shut_area<D: Disk>(disk: &mut D, areas: Areas, end: u64, closed: bool, bytes: &[u8]) -> Result<(), DiskError>
+fn shut_area<D: Disk>(
+    disk: &mut D,
+    areas: Areas,
+    end: u64,
+    closed: bool,
+    bytes: &[u8],
+) -> Result<(), DiskError>
     requires form { is_areas bytes.now ≡ true }
     requires size { length bytes.now ≡ length_of_pages areas.pages }
     requires counts { counts areas.active bytes.now ≡ true }

@@ -35,7 +35,13 @@ fn write_piece<D: Disk>(disk: &mut D, area: Area, place: u64, bytes: &[u8]) -> R
 }
 
 /// Writes bytes into an area from a place on, cut at the ends of pages.
-fn write_area<D: Disk>(disk: &mut D, area: Area, place: u64, bytes: &[u8], pages: u64) -> Result<(), DiskError>
+fn write_area<D: Disk>(
+    disk: &mut D,
+    area: Area,
+    place: u64,
+    bytes: &[u8],
+    pages: u64,
+) -> Result<(), DiskError>
     requires some { 1 ≤ length bytes.now }
     requires room { place + length bytes.now ≤ 4096 * pages }
     requires small { pages < 2 ^ 50 }
@@ -158,7 +164,12 @@ pub(crate) fn stage<D: Disk>(
 }
 
 /// Writes a gate or another byte of an area, and syncs.
-pub(crate) fn set_byte<D: Disk>(disk: &mut D, area: Area, place: u64, byte: u8) -> Result<(), DiskError>
+pub(crate) fn set_byte<D: Disk>(
+    disk: &mut D,
+    area: Area,
+    place: u64,
+    byte: u8,
+) -> Result<(), DiskError>
     requires small { place < 2 ^ 62 }
     requires inside { D.is_told ≡ true → offset area place < length (D.seen disk.old) }
     requires durable { D.is_told ≡ true → Only (D.seen disk.old) (D.may_leave disk.old) }

@@ -22,10 +22,7 @@ pub fn bytes_on(alloc: Global, disk: &mut MemDisk) -> Result<Vec<u8>, Fail> {
 }
 
 /// The records that an opening finds.
-pub fn records_on<D: Disk + Drop>(
-    alloc: Global,
-    disk: &mut D,
-) -> Result<Vec<Bytes>, RecordError> {
+pub fn records_on<D: Disk + Drop>(alloc: Global, disk: &mut D) -> Result<Vec<Bytes>, RecordError> {
     match Checkpoint::open(alloc, disk) {
         Ok(mut store) => Ok(store.take_opened()),
         Err((error, _)) => Err(error),
@@ -33,7 +30,11 @@ pub fn records_on<D: Disk + Drop>(
 }
 
 /// Appends so many records of one byte; the number of those that were acknowledged.
-pub fn append_many<D: Disk + Drop>(alloc: Global, disk: &mut D, count: u64) -> Result<u64, RecordError> {
+pub fn append_many<D: Disk + Drop>(
+    alloc: Global,
+    disk: &mut D,
+    count: u64,
+) -> Result<u64, RecordError> {
     let mut store = match Checkpoint::open(alloc, disk) {
         Ok(store) => store,
         Err((error, _)) => return Err(error),

@@ -77,7 +77,9 @@ fn replace_list(alloc: Global, disk: &mut MemDisk, calls: u64, image: u8) -> Res
 }
 
 #[test]
-fn a_replacement_that_stops_leaves_the_old_list_or_the_new_one(rt: HostRuntime) -> Result<(), Fail> {
+fn a_replacement_that_stops_leaves_the_old_list_or_the_new_one(
+    rt: HostRuntime,
+) -> Result<(), Fail> {
     let alloc = rt.alloc();
     let mut full = MemDisk::new(alloc);
     assert_eq!(rt; append_many(alloc, &mut full, 4096)?, 4096);

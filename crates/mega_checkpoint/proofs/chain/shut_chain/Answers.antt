@@ -15,7 +15,7 @@ returns-then-is_shut-clause-held g c told =
     let left = g.D.Disk.may_leave c.args.disk.now in
     subst (λ (f : List ℕ). HoldsChain f left c.args.end) is
     (shut_held c.args.bytes.now c.args.end c.requires.read c.requires.chain c.requires.inside c.requires.gate (shut_by (get_or c.args.bytes.now c.args.end 1) (sym c.is_shut.ensures ∙ c.if-is_shut.true)) left
-      (subst (λ (f : List ℕ). Only f left) (sym is) (c.requires.durable told)))
+    (subst (λ (f : List ℕ). Only f left) (sym is) (c.requires.durable told)))
 
 pub returns-clause-same : goal.returns-clause-same
 returns-clause-same g c told =

@@ -49,5 +49,5 @@ returns-clause-idle g c told =
     let second : g.D.Disk.seen c.write_through-2.new.disk ≡ 0 ∷ 71 ∷ 65 ∷ 50 ∷ zeros = c.in_ok-write_through-2.ensures.written told ∙ (λ i. overwritten 1 (rest i) (gate i)) ∙ over_end 1 (71 ∷ 65 ∷ 50 ∷ zeros) (0 ∷ []) refl in
     both_ok c.write_through-3.result
     (λ written durable. let is : g.D.Disk.seen c.write_through-3.new.disk ≡ made zeros (length-zeros 12284) (zeros_at 12284) 1 = written ∙ ap (overwritten 0 (1 ∷ [])) second in
-      subst (λ (l : List ℕ). IsIdle l (g.D.Disk.may_leave c.write_through-3.new.disk) 1) (sym is) (made_idle zeros (length-zeros 12284) (zeros_at 12284) _ (subst (λ (l : List ℕ). Only l (g.D.Disk.may_leave c.write_through-3.new.disk)) is durable)))
+    subst (λ (l : List ℕ). IsIdle l (g.D.Disk.may_leave c.write_through-3.new.disk) 1) (sym is) (made_idle zeros (length-zeros 12284) (zeros_at 12284) _ (subst (λ (l : List ℕ). Only l (g.D.Disk.may_leave c.write_through-3.new.disk)) is durable)))
     (c.write_through-3.ensures.written told) (c.write_through-3.ensures.durable told)

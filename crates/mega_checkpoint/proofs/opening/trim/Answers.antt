@@ -15,7 +15,7 @@ returns-in_err-cut-clause-any_moment g c told =
     let begun = started g.D.Disk.moment g.D.Disk.left_since disk P (λ image since. ap list_of (c.requires.durable told image (g.met.D.Disk.only_now disk image since))) in
     goes_on g.D.Disk.moment g.D.Disk.left_since disk disk c.cut.new.self P _ begun c.cut.ensures.time
     (λ image now. let from = c.cut.ensures.crash image now in
-      cut_list file image form (subst (λ (n : ℕ). Cut n file image) whole (subst (λ (old : List ℕ). Cut c.length_of_pages.result old image) (c.requires.durable told from.0 from.1) from.2)))
+    cut_list file image form (subst (λ (n : ℕ). Cut n file image) whole (subst (λ (old : List ℕ). Cut c.length_of_pages.result old image) (c.requires.durable told from.0 from.1) from.2)))
 
 pub returns-clause-any_moment : goal.returns-clause-any_moment
 returns-clause-any_moment g c told =

@@ -65,7 +65,7 @@ returns-in_err-set_byte-clause-any_moment g c told =
     let both = then_leaves g.D.Disk.moment g.D.Disk.left_since c.args.disk.now c.shut_other.new.disk c.stage.new.disk _ _ P (c.shut_other.ensures.any_moment told) (c.stage.ensures.any_moment told) (λ image is. inl is) staged in
     then_leaves g.D.Disk.moment g.D.Disk.left_since c.args.disk.now c.stage.new.disk c.set_byte.new.disk P _ P both (c.set_byte.ensures.any_moment told) (λ image p. p)
     (λ image set. subst (λ (l : List (List ℕ)). IsOldOrReplaced l c.args.body.now (list_of image)) same
-      (old_or_replaced area c.args.end c.args.body.now first mid h.form h.counting h.at_rest c.requires.short (c.args.areas.generation + 1) next later c.max-pages.result size fits put h.other set.0 image (subst (λ (a : Area). Sets a 0 set.0 mid image) is_beside set.1)))
+    (old_or_replaced area c.args.end c.args.body.now first mid h.form h.counting h.at_rest c.requires.short (c.args.areas.generation + 1) next later c.max-pages.result size fits put h.other set.0 image (subst (λ (a : Area). Sets a 0 set.0 mid image) is_beside set.1)))
 
 pub returns-clause-any_moment : goal.returns-clause-any_moment
 returns-clause-any_moment g c told =
@@ -88,7 +88,7 @@ returns-clause-any_moment g c told =
     let both = then_leaves g.D.Disk.moment g.D.Disk.left_since c.args.disk.now c.shut_other.new.disk c.stage.new.disk _ _ P (c.shut_other.ensures.any_moment told) (c.stage.ensures.any_moment told) (λ image is. inl is) staged in
     then_leaves g.D.Disk.moment g.D.Disk.left_since c.args.disk.now c.stage.new.disk c.set_byte.new.disk P _ P both (c.set_byte.ensures.any_moment told) (λ image p. p)
     (λ image set. subst (λ (l : List (List ℕ)). IsOldOrReplaced l c.args.body.now (list_of image)) same
-      (old_or_replaced area c.args.end c.args.body.now first mid h.form h.counting h.at_rest c.requires.short (c.args.areas.generation + 1) next later c.max-pages.result size fits put h.other set.0 image (subst (λ (a : Area). Sets a 0 set.0 mid image) is_beside set.1)))
+    (old_or_replaced area c.args.end c.args.body.now first mid h.form h.counting h.at_rest c.requires.short (c.args.areas.generation + 1) next later c.max-pages.result size fits put h.other set.0 image (subst (λ (a : Area). Sets a 0 set.0 mid image) is_beside set.1)))
 
 pub returns-clause-replaced : goal.returns-clause-replaced
 returns-clause-replaced g c told =

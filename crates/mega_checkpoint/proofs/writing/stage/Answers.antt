@@ -11,7 +11,7 @@ returns-clause-put g c told =
     let old = g.D.Disk.seen c.args.disk.now in
     on_ok_weaker c.sync.result
     (λ same. subst (Puts c.args.area c.args.place c.args.bytes.now old) (sym same)
-      (put_grown c.args.area c.args.place c.args.bytes.now old (g.D.Disk.seen c.grow.new.disk) (g.D.Disk.seen c.write_area.new.disk) (c.in_ok-grow.ensures.put c.args.area c.args.place told) (c.in_ok-write_area.ensures.put told)))
+    (put_grown c.args.area c.args.place c.args.bytes.now old (g.D.Disk.seen c.grow.new.disk) (g.D.Disk.seen c.write_area.new.disk) (c.in_ok-grow.ensures.put c.args.area c.args.place told) (c.in_ok-write_area.ensures.put told)))
     c.sync.ensures.seen
 
 pub returns-in_err-grow-clause-any_moment : goal.returns-in_err-grow-clause-any_moment

@@ -11,7 +11,7 @@ returns-clause-put g c told =
     let old = g.D.Disk.seen c.args.disk.now in
     on_ok_weaker c.write.result
     (λ written. subst (Puts c.args.area c.args.place c.args.bytes.now old) (sym (written ∙ ap (λ (at : ℕ). overwritten at c.args.bytes.now old) c.offset.ensures))
-      (piece_put c.args.area c.args.place c.args.bytes.now old c.requires.page (c.requires.inside told)).0) (c.write.ensures.written told)
+    (piece_put c.args.area c.args.place c.args.bytes.now old c.requires.page (c.requires.inside told)).0) (c.write.ensures.written told)
 
 pub returns-clause-kept : goal.returns-clause-kept
 returns-clause-kept g c from file le all image left =
