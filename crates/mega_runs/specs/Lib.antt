@@ -1,0 +1,5 @@
+pub mod Bodies
+pub mod BodyLaws
+pub mod Chain
+pub mod Examples
+pub mod Reads

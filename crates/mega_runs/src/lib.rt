@@ -1,0 +1,7 @@
+//! Versions of rows that need not fit in memory: the newest in memory, the others on a device, in runs that are sorted.
+#![tactic(auto)]
+
+mod body;
+mod examples;
+
+pub use body::{Mark, Run, Version};
