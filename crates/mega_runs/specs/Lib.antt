@@ -3,3 +3,4 @@ pub mod BodyLaws
 pub mod Chain
 pub mod Examples
 pub mod Reads
+pub mod Rest

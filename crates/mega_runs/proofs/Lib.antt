@@ -1,0 +1,5 @@
+mod Outcomes
+mod Reading
+mod Records
+mod Torn
+mod Written
