@@ -148,6 +148,33 @@ bytes_below (a ∷ b ∷ c ∷ d ∷ e ∷ f ∷ []) eight fits = absurd (omega 
 bytes_below (a ∷ b ∷ c ∷ d ∷ e ∷ f ∷ g ∷ []) eight fits = absurd (omega arith)
 bytes_below (a ∷ b ∷ c ∷ d ∷ e ∷ f ∷ g ∷ h ∷ i ∷ more) eight fits = absurd (omega arith)
 
+-- the same where only the bytes of the length are known to be bytes
+pub record SpelledIn (file body rest : List ℕ) : Type 0 where
+  pub spelled : file ≡ record_of body ++ rest
+  pub short : length body < 2 ^ 64
+  pub behind : 0 < length rest
+
+pub spelled_in : (gate : ℕ) (tail body rest : List ℕ) → IsBytes (take 8 tail) → first_record (gate ∷ tail) ≡ Some (body, rest) → SpelledIn (gate ∷ tail) body rest
+spelled_in gate tail body rest head_fits is =
+    let b = begins gate tail body rest is in
+    let head = take 8 tail in
+    let size = from_be_bytes w64 head in
+    let enough = b.fits in
+    let eight : length head ≡ 8 = length-take-le 8 tail (omega arith) in
+    let below : size < 2 ^ 64 = bytes_below head eight head_fits in
+    let count : length body ≡ size = ap length (sym b.body_is) ∙ length-take-le size (drop 8 tail) (omega (arith, length-drop 8 tail)) in
+    let head_is : to_be_bytes w64 (length body) ≡ head = be_bytes_8 head (length body) eight head_fits count in
+    let tail_is : tail ≡ head ++ body ++ rest =
+    sym (take-append-drop 8 tail) ∙ ap (λ (l : List ℕ). head ++ l) (sym (take-append-drop size (drop 8 tail)))
+    ∙ ap (λ (l : List ℕ). head ++ (l ++ drop size (drop 8 tail))) b.body_is
+    ∙ ap (λ (l : List ℕ). head ++ (body ++ l)) (drop-drop size 8 tail ∙ b.rest_is)
+    ∙ sym (append_assoc head body rest) in
+    record {
+      spelled = ap (λ (n : ℕ). n ∷ tail) b.is_open ∙ ap (λ (l : List ℕ). 1 ∷ l) tail_is ∙ ap (λ (l : List ℕ). 1 ∷ (l ++ body ++ rest)) (sym head_is);
+      short = omega (arith, count, below);
+      behind = omega (arith, ap length b.rest_is, length-drop (8 + size) tail);
+    }
+
 pub spelled_by : (file body rest : List ℕ) → IsBytes file → first_record file ≡ Some (body, rest) → Spelled file body rest
 spelled_by [] body rest fits is = absurd (cc)
 spelled_by (gate ∷ tail) body rest fits is =

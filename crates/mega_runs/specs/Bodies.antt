@@ -1,7 +1,8 @@
 -- The format of a run's body: what it does with the runs before it, marks, and versions of rows in order.
-use Rattle.std.specs.Prelude.{ℕ, ◌≤◌, ◌==◌, ◌&&◌, ◌||◌, nat_lt, nat_eq, if◌then◌else◌, Bool, true, false, List, [], ◌∷◌, ◌++◌, length, Option, Some, None, Result, Ok, Err}
-use Rattle.std.specs.Ordering.{nat_cmp, is_lt}
-use Rattle.std.specs.Cmp.Lexicographic.{slice_cmp, pointwise}
+use Rattle.std.specs.Prelude.{ℕ, ◌≤◌, ◌==◌, ◌&&◌, if◌then◌else◌, Bool, true, false, List, [], ◌∷◌, ◌++◌, length, Option, Some, None, Result, Ok, Err}
+use Rattle.std.specs.Ordering.{nat_cmp, is_lt, ordering_then}
+use Rattle.std.specs.declared.cmp.Ordering.{Ordering}
+use Rattle.std.specs.Cmp.Lexicographic.{slice_cmp}
 use Rattle.mega_base.specs.Reading.{Place, Read, ◌>>=◌, byte_in, list_in, option_at, whole_of}
 use Rattle.mega_base.specs.Codec.{one_byte, IsList, list_text, option_text, IsOption, bytes_text}
 use Rattle.mega_base.specs.Names.{position_at, position_text, IsPosition, string_at, IsString, group_at, group_text, IsGroup}
@@ -60,14 +61,24 @@ run_text run = one_byte (kind_of run.is_base) ++ (list_text mark_text run.marks 
 abbrev pub IsRun : Run → Type 0
 IsRun run = IsList 0 most_items IsMark run.marks × IsList 0 most_items IsVersion run.versions
 
--- a key and a position stand before others, by key and then by position
-abbrev pub is_before : List ℕ → ℕ → List ℕ → ℕ → Bool
-is_before key p other q = is_lt (slice_cmp nat_cmp key other) || (pointwise nat_eq key other && nat_lt p q)
+-- a key and a position
+abbrev pub Spot : Type 0
+Spot = List ℕ × ℕ
+
+-- by key, and then by position
+abbrev pub spot_cmp : Spot → Spot → Ordering
+spot_cmp spot other = ordering_then (slice_cmp nat_cmp spot.0 other.0) (nat_cmp spot.1 other.1)
+
+abbrev pub is_before : Spot → Spot → Bool
+is_before spot other = is_lt (spot_cmp spot other)
+
+abbrev pub spot_of : Version → Spot
+spot_of version = (version.key, version.at.0)
 
 -- each version stands before the next
 abbrev pub ascends_from : Version → List Version → Bool
 ascends_from version [] = true
-ascends_from version (next ∷ versions) = is_before version.key version.at.0 next.key next.at.0 && ascends_from next versions
+ascends_from version (next ∷ versions) = is_before (spot_of version) (spot_of next) && ascends_from next versions
 
 abbrev pub ascends : List Version → Bool
 ascends [] = true

@@ -55,7 +55,7 @@ mark_codec =
 some_mark : (mark : Mark) × IsMark mark
 some_mark = (record { group = record { key = [] }; at = first }, ((omega arith, omega arith), first_fits))
 
-some_version : (version : Version) × IsVersion version
+pub some_version : (version : Version) × IsVersion version
 some_version = (record { key = []; at = first; row = None }, ((omega arith, omega arith), first_fits, tt))
 
 no_items : {A : Type 0} (F : A → Type 0) → IsList 0 most_items F []

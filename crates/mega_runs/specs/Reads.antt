@@ -1,6 +1,7 @@
 -- What runs hold: of two versions with one key and position that of the later run counts.
 use Rattle.std.specs.Prelude.{ℕ, ◌==◌, ◌&&◌, nat_eq, if◌then◌else◌, Bool, List, [], ◌∷◌, Option, Some, None, map}
 use Rattle.std.specs.Cmp.Lexicographic.{pointwise}
+
 use Rattle.mega_base.specs.declared.values.Row.{Row}
 use Rattle.mega_base.specs.declared.names.GroupId.{GroupId}
 use Rattle.mega_base.specs.declared.names.Position.{Position}
@@ -20,31 +21,40 @@ abbrev pub versions_in : List Version → Versions
 versions_in [] key p = None
 versions_in (version ∷ versions) key p = if is_version key p version then Some version.row else versions_in versions key p
 
--- the newer version counts, where there is one
-abbrev pub over : Versions → Versions → Versions
-over newer older key p = or_else (newer key p) (older key p)
+-- those of the newest list that has one
+abbrev pub layered : List (List Version) → Versions
+layered [] key p = None
+layered (versions ∷ lists) key p = or_else (versions_in versions key p) (layered lists key p)
+
+-- the marks of the last run, and the versions of the runs since the last base, those of the newest first
+pub record Held : Type 0 where
+  pub marks : Marks
+  pub lists : List (List Version)
 
 abbrev pub mark_in : Mark → GroupId × Position
 mark_in mark = (mark.group, mark.at)
 
--- the marks of the last run; its versions before those of the earlier runs, or alone where it is a base
-abbrev pub with_run : Run → Stored → Stored
-with_run run earlier = record { marks = map mark_in run.marks; version = if run.is_base then versions_in run.versions else over (versions_in run.versions) earlier.version }
+-- one run more
+abbrev pub with_run : Run → Held → Held
+with_run run earlier = record { marks = map mark_in run.marks; lists = run.versions ∷ (if run.is_base then [] else earlier.lists) }
 
--- bytes that are none of the format hold nothing
-abbrev pub with_found : Option Run → Stored → Stored
+-- bytes that are none of the format add nothing
+abbrev pub with_found : Option Run → Held → Held
 with_found None earlier = earlier
 with_found (Some run) earlier = with_run run earlier
 
--- what the bodies hold, the oldest first, behind what was held before them
-abbrev pub held_by : List (List ℕ) → Stored → Stored
+-- what bodies hold, the oldest first, after what was held before them
+abbrev pub held_by : List (List ℕ) → Held → Held
 held_by [] earlier = earlier
 held_by (body ∷ bodies) earlier = held_by bodies (with_found (body_of body) earlier)
 
--- no marks and no versions
-abbrev pub nothing : Stored
-nothing = record { marks = []; version = λ key p. None }
+abbrev pub nothing : Held
+nothing = record { marks = []; lists = [] }
 
 -- what a file of runs holds
-unfoldable pub stored_in : List ℕ → Stored
-stored_in file = held_by (records_of file) nothing
+unfoldable pub held_in : List ℕ → Held
+held_in file = held_by (records_of file) nothing
+
+-- what a store on it opens to
+abbrev pub stored_of : Held → Stored
+stored_of held = record { marks = held.marks; version = layered held.lists }

@@ -143,3 +143,37 @@ fn kind_of(is_base: bool) -> u8
 {
     if is_base { 2 } else { 1 }
 }
+
+/// A list of versions.
+#[derive(Drop)]
+pub(crate) struct VersionList {
+    pub versions: Items<Version>,
+}
+
+impl Field for VersionList {
+    ghost use Rattle.mega_base.specs.Codec.{IsText};
+    ghost use Rattle.mega_base.specs.NameLaws.{own_text};
+    ghost use Rattle.mega_runs.specs.VersionLists.{versions_at, versions_list_text, AreVersions, versions_codec};
+
+    ghost reads = { versions_at };
+
+    ghost spells = { versions_list_text };
+
+    ghost opens = { IsText versions_list_text AreVersions };
+
+    ghost fits = { AreVersions };
+
+    #[tactic(auto, unfolding(crate::specs::VersionLists::versions_at))]
+    fn take(alloc: Global, cursor: &mut Cursor<'_>) -> Result<VersionList, FieldFault> {
+        let versions = take_list(alloc, cursor, 0, u32::MAX)?;
+        Ok(VersionList { versions })
+    }
+
+    fn put(&self, out: &mut Bytes) -> Result<(), NoMemory> {
+        put_list(&self.versions, out)
+    }
+
+    ghost codec = { versions_codec };
+
+    ghost opens_own = { own_text versions_list_text AreVersions };
+}

@@ -3,7 +3,16 @@
 
 mod append;
 mod body;
+mod coding;
 mod device;
 mod examples;
+mod index;
+mod laws;
+mod lookup;
+mod opening;
+mod reading;
+mod search;
 
+pub use append::add_run;
 pub use body::{Mark, Run, Version};
+pub use coding::{read_body, write_body};
