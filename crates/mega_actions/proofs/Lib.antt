@@ -7,6 +7,7 @@ mod Shown
 mod Asked
 mod Onward
 mod Within
+mod Idling
 mod InTurn
 mod Begun
 mod Serving

@@ -15,3 +15,4 @@ pub mod Asked
 pub mod Acted
 pub mod Later
 pub mod Indexing
+pub mod Idle

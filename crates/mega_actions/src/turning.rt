@@ -3,12 +3,15 @@ ghost use Rattle.std.specs.Prelude.{◌≡◌, OnOk, Err, false, true, List, All
 ghost use Rattle.mega_handler.specs.Named.{Meanings};
 ghost use Rattle.mega_meanings.specs.Means.{Means};
 ghost use Rattle.mega_node_laws.specs.About.{IsAbout};
+ghost use Rattle.mega_rules.specs.Met.{Met};
 ghost use Rattle.mega_rules.specs.Operations.{Now};
 ghost use Rattle.mega_rules.specs.Steps.{acts_in_turn, all_act, ticked};
 ghost use Rattle.mega_replica.specs.Faring.{Fares};
+ghost use Rattle.mega_voter.specs.Telling.{Tells};
 ghost use Rattle.mega_actions.specs.declared.fault.ActFault.TheVariants.{Unserved};
 ghost use Rattle.mega_actions.specs.Servable.{is_open};
 ghost use Rattle.mega_actions.specs.Faults.{failed_by};
+ghost use Rattle.mega_actions.specs.Idle.{is_idle};
 ghost use Rattle.mega_actions.specs.IsAt.{IsAt, setting_of};
 ghost use Rattle.mega_actions.specs.Turns.{IsServable, IsServableHeard, IsHeardAbout};
 ghost use Rattle.mega_actions.specs.Working.{work_of};
@@ -17,11 +20,24 @@ use crate::deed::{Deed, End};
 use crate::fault::ActFault;
 use crate::replica::Replica;
 use crate::work::Work;
-use mega_base::Items;
+use mega_base::{Items, Position};
 use mega_disk::{Records, Versions};
 use mega_meanings::QueueHandlers;
-use mega_operations::{Heard, Operation};
+use mega_operations::{Heard, Operation, Phase};
+use mega_voter::Voter;
 use std::alloc::Global;
+
+/// Whether an operation does nothing where it acts: it has no position to read through, or its own is not decided.
+fn is_idle<R: Records>(voter: &Voter<R>, operation: &Operation) -> bool
+    ensures { (met : List Met) → Tells voter.now.logs.kept met → result ≡ is_idle met operation.now }
+{
+    match &operation.phase {
+        Phase::Reads { reading, .. } => reading.through_of().is_none(),
+        Phase::Proposes {
+            group, position, ..
+        } => voter.decided(group, Position(*position)).is_none(),
+    }
+}
 
 impl<R: Records, V: Versions> Replica<R, V> {
     /// An operation acts that comes to something: what it sends for that goes out first.
@@ -48,6 +64,10 @@ impl<R: Records, V: Versions> Replica<R, V> {
         ensures indexed { self.new.indexed ≡ self.old.indexed }
         ensures unserved { result ≡ Err Unserved → is_open heard.operation.request ≡ false }
     {
+        if is_idle(&self.voter, &heard.operation) {
+            work.keeps(heard)?;
+            return Ok(());
+        }
         let Heard { operation, sends } = heard;
         match work.says(Some(sends)) {
             Ok(()) => {

@@ -1,5 +1,6 @@
 //! What a step has come to: operations, groups that became valid, answers and messages.
 ghost use Rattle.std.specs.Prelude.{◌≡◌, ◌++◌, [], ◌∷◌, OnOk, if◌then◌else◌};
+ghost use Rattle.mega_rules.specs.Acting.{keeps, sends_more};
 ghost use Rattle.mega_rules.specs.Operations.{Now};
 ghost use Rattle.mega_actions.specs.Completed.{completed};
 ghost use Rattle.mega_actions.specs.Deeds.{does, ended_by, said};
@@ -7,7 +8,7 @@ ghost use Rattle.mega_actions.specs.Working.{work_of};
 
 use crate::deed::{Deed, End};
 use mega_base::{Copied, GroupId, Items, NoMemory, OpId};
-use mega_operations::Operation;
+use mega_operations::{Heard, Operation};
 use mega_outcome::Answer;
 use mega_wire::Message;
 use std::alloc::Global;
@@ -85,6 +86,23 @@ impl Work {
                 Ok(())
             }
             None => Ok(()),
+        }
+    }
+
+    /// Adds an operation that stays open as it is, and what it sends.
+    pub(crate) fn keeps(&mut self, heard: Heard) -> Result<(), NoMemory>
+        ensures { OnOk result ((now : Now) → self.old ≡ work_of now → self.new ≡ work_of (keeps (sends_more now heard.sends) heard.operation)) }
+    {
+        let Heard { operation, sends } = heard;
+        match extend(&mut self.sends, sends) {
+            Ok(()) => {
+                self.kept.push(operation)?;
+                Ok(())
+            }
+            Err(refused) => {
+                drop(operation);
+                Err(refused)
+            }
         }
     }
 

@@ -1,5 +1,5 @@
 //! The open operations hear a message: only one that the message is for is changed by it.
-ghost use Rattle.std.specs.Prelude.{◌≡◌, map, IfOk};
+ghost use Rattle.std.specs.Prelude.{◌≡◌, ◌++◌, ◌∷◌, [], map, IfOk, OnOk};
 ghost use Rattle.mega_rules.specs.Operations.{Setting};
 ghost use Rattle.mega_rules.specs.Steps.{hears_message};
 ghost use Rattle.mega_core.specs.Hearing.{is_for, op_in};
@@ -38,24 +38,28 @@ fn is_for(op: OpId, body: &Body) -> bool
     }
 }
 
-/// What an open operation comes to when its node takes a message, at a clock: nothing else where the message is not for it.
+/// Adds what an open operation comes to when its node takes a message, at a clock: nothing else where the message is not for it.
 #[tactic(auto, using(crate::proofs::Unheard::not_for))]
-fn hears(
+fn add_heard(
     alloc: Global,
     members: &Members,
     clock: u64,
     message: &Message,
+    heard: &mut Items<Heard>,
     operation: Operation,
-) -> Result<Heard, NoMemory>
-    ensures { (s : Setting) → s.cluster ≡ members.now → IfOk result (λ heard. heard ≡ hears_message s clock message.now operation) }
+) -> Result<(), NoMemory>
+    ensures { (s : Setting) → s.cluster ≡ members.now → OnOk result (heard.new ≡ heard.old ++ hears_message s clock message.now operation ∷ []) }
 {
     if !is_for(operation.id, &message.body) {
-        return Ok(Heard {
+        heard.push(Heard {
             operation,
             sends: Items::new(alloc),
-        });
+        })?;
+        return Ok(());
     }
-    operation.hears(alloc, members, clock, message)
+    let one = operation.hears(alloc, members, clock, message)?;
+    heard.push(one)?;
+    Ok(())
 }
 
 /// What the open operations come to when their node takes a message, at a clock.
@@ -70,8 +74,7 @@ pub(crate) fn all_hear(
 {
     let mut heard = Items::new(alloc);
     for operation in operations.into_vec() {
-        let one = hears(alloc, members, clock, message, operation)?;
-        heard.push(one)?;
+        add_heard(alloc, members, clock, message, &mut heard, operation)?;
     }
     Ok(heard)
 }

@@ -1,11 +1,13 @@
-use Rattle.std.proofs.Common.{◌≡◌, subst}
+use Rattle.std.proofs.Common.{◌≡◌, ◌∙◌, ap, subst, sym}
 use Rattle.mega_rules.specs.Acting.{sends_more}
+use Rattle.mega_rules.specs.Operations.{Now}
 use Rattle.mega_rules.specs.Steps.{Heard, acts_in_turn}
 use Rattle.mega_replica.specs.Following.{progress_at}
 use Rattle.mega_actions.specs.IsAt.{IsAt}
 use Rattle.mega_actions.specs.Stands.{Stands, setting}
 use Rattle.mega_actions.specs.Turns.{IsHeardAbout}
 use Rattle.mega_actions.specs.Working.{work_of}
+use Rattle.mega_actions.proofs.Idling.{idles}
 use Rattle.mega_actions.proofs.replica.Replica.acts_in_turn.Goals as goal
 
 pub returns-in_ok-acts-in-Ok-clause-state : goal.returns-in_ok-acts-in-Ok-clause-state
@@ -23,3 +25,19 @@ returns-in_ok-acts-in-Ok-clause-work g c h now told means =
     subst (λ (t : Heard). IsHeardAbout t → Stands s self.voter.logs.kept self.leases (g.V.Versions.version self.rows.rows) (progress_at self.rows.progress) now.met now.stored
     → c.args.work.now ≡ work_of now → c.acts.new.work ≡ work_of (acts_in_turn s now t))
     c.heard.view_is (λ about stands same. c.in_ok-acts-in-Ok.ensures.work h (sends_more now c.heard.inside.sends) told means about stands (c.in-Ok.ensures now same))
+
+pub returns-in_ok-keeps-then-is_idle-clause-state : goal.returns-in_ok-keeps-then-is_idle-clause-state
+returns-in_ok-keeps-then-is_idle-clause-state g c h now told means about at =
+    let self = c.args.self.now in
+    let s = setting self.members self.me h in
+    let heard = c.args.heard in
+    let is = idles s (sends_more now heard.sends) heard.operation (sym (c.is_idle.ensures now.met at.tells) ∙ c.if-is_idle.true) in
+    subst (λ (then : Now). IsAt g.V.Versions.version h self then.met then.stored) (sym is) at
+
+pub returns-in_ok-keeps-then-is_idle-clause-work : goal.returns-in_ok-keeps-then-is_idle-clause-work
+returns-in_ok-keeps-then-is_idle-clause-work g c h now told means about at same =
+    let self = c.args.self.now in
+    let s = setting self.members self.me h in
+    let heard = c.args.heard in
+    let is = idles s (sends_more now heard.sends) heard.operation (sym (c.is_idle.ensures now.met at.tells) ∙ c.if-is_idle.true) in
+    c.in_ok-keeps.ensures now same ∙ ap work_of (sym is)
