@@ -20,6 +20,9 @@ use mega_schema::Schema;
 use mega_wire::{Body, Message};
 use std::alloc::Global;
 
+/// How many bytes few messages and entries exceed.
+const USUAL_BYTES: usize = 128;
+
 /// Appends the line of an item, with the names of the schema, and its line feed. Cells of rows that
 /// do not fit the schema are left out. A refusal leaves `out`.
 pub fn text(alloc: Global, schema: &Schema, item: &Item, out: &mut Bytes) -> Result<(), NoMemory>
@@ -255,7 +258,7 @@ fn put_entry(alloc: Global, out: &mut Bytes, entry: &Entry) -> Result<(), NoMemo
     ensures ok { OnOk result (out.new ≡ out.old ++ 32 ∷ encode_lower (entry_text entry.now)) }
     ensures err { OnErr result (take (length out.old) out.new ≡ out.old) }
 {
-    let mut bytes = Bytes::new(alloc);
+    let mut bytes = Bytes::from_vec(Vec::with_capacity(alloc, USUAL_BYTES)?);
     mega_entry::encode(entry, &mut bytes)?;
     put_hex(alloc, out, bytes.as_slice())
 }
@@ -267,7 +270,7 @@ fn put_message(alloc: Global, out: &mut Bytes, message: &Message) -> Result<(), 
     ensures ok { OnOk result (out.new ≡ out.old ++ spaced (message_words message.now)) }
     ensures err { OnErr result (take (length out.old) out.new ≡ out.old) }
 {
-    let mut bytes = Bytes::new(alloc);
+    let mut bytes = Bytes::from_vec(Vec::with_capacity(alloc, USUAL_BYTES)?);
     mega_wire::encode(message, &mut bytes)?;
     put_word(out, kind_name(&message.body))?;
     put_hex(alloc, out, bytes.as_slice())?;
