@@ -1,5 +1,5 @@
 //! What a step has come to: operations, groups that became valid, answers and messages.
-ghost use Rattle.std.specs.Prelude.{◌≡◌, ◌++◌, [], ◌∷◌, OnOk, if◌then◌else◌};
+ghost use Rattle.std.specs.Prelude.{◌≡◌, ◌++◌, [], ◌∷◌, IfOk, OnOk, if◌then◌else◌};
 ghost use Rattle.mega_rules.specs.Acting.{keeps, sends_more};
 ghost use Rattle.mega_rules.specs.Operations.{Now};
 ghost use Rattle.mega_actions.specs.Completed.{completed};
@@ -74,6 +74,19 @@ impl Work {
             answers: Items::new(alloc),
             sends: Items::new(alloc),
         }
+    }
+
+    /// A step that has come to nothing yet, with room for so many operations that stay open.
+    pub fn with_room(alloc: Global, operations: usize) -> Result<Work, NoMemory>
+        ensures { IfOk result (λ made. made ≡ record { kept = []; valid = []; answers = []; sends = [] }) }
+    {
+        let kept = Vec::with_capacity(alloc, operations)?;
+        Ok(Work {
+            kept: Items::from_vec(kept),
+            valid: Items::new(alloc),
+            answers: Items::new(alloc),
+            sends: Items::new(alloc),
+        })
     }
 
     /// Adds messages, where there are any.

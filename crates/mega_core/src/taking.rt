@@ -241,6 +241,7 @@ pub(crate) fn takes<R: Records, V: Versions>(
 }
 
 /// The operations act on what they heard.
+#[tactic(auto, using(mega_replica::proofs::Fared::fares_here))]
 pub(crate) fn acts<R: Records, V: Versions, H: QueueHandlers>(
     alloc: Global,
     handlers: &mut H,
@@ -262,7 +263,15 @@ pub(crate) fn acts<R: Records, V: Versions, H: QueueHandlers>(
     ensures unserved { result ≡ Err act.Unserved → All IsServableHeard heard → ⊥ }
     ensures fares { Fares V.Versions (failed_to_act result) replica.old.rows.rows replica.new.rows.rows }
 {
-    let mut work = Work::new(alloc);
-    replica.all_act(alloc, handlers, &mut work, heard)?;
-    Ok(work)
+    match Work::with_room(alloc, heard.len()) {
+        Ok(work) => {
+            let mut work = work;
+            replica.all_act(alloc, handlers, &mut work, heard)?;
+            Ok(work)
+        }
+        Err(_) => {
+            drop(heard);
+            Err(ActFault::NoMemory)
+        }
+    }
 }
