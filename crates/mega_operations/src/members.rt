@@ -159,6 +159,7 @@ impl Members {
             cells: self.cluster.cells,
         })
     }
+
     /// An operation that proposes at a position of a group among these members.
     pub fn site(
         &self,
@@ -170,7 +171,18 @@ impl Members {
     ) -> Result<Site, NoMemory>
         ensures { IfOk result (λ made. made ≡ record { op = op; group = group.now; position = position; voters = voters self.now; full = full_nodes self.now; cells = self.now.cells; asked = asked.now }) }
     {
-        let who = self.reader(alloc, op, group)?;
-        who.site(alloc, asked, position)
+        let group = group.copy(alloc)?;
+        let voters = self.voters.copy(alloc)?;
+        let full = self.full.copy(alloc)?;
+        let asked = asked.copy(alloc)?;
+        Ok(Site {
+            op,
+            group,
+            position,
+            voters,
+            full,
+            cells: self.cluster.cells,
+            asked,
+        })
     }
 }
