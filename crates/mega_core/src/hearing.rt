@@ -62,6 +62,13 @@ fn add_heard(
     Ok(())
 }
 
+/// An empty list with room for so many.
+fn with_room(alloc: Global, most: usize) -> Result<Items<Heard>, NoMemory>
+    ensures { IfOk result (λ made. made ≡ []) }
+{
+    Ok(Items::from_vec(Vec::with_capacity(alloc, most)?))
+}
+
 /// What the open operations come to when their node takes a message, at a clock.
 pub(crate) fn all_hear(
     alloc: Global,
@@ -72,7 +79,7 @@ pub(crate) fn all_hear(
 ) -> Result<Items<Heard>, NoMemory>
     ensures { IfOk result (λ heard. (s : Setting) → s.cluster ≡ members.now → heard ≡ map (hears_message s clock message.now) operations) }
 {
-    let mut heard = Items::new(alloc);
+    let mut heard = with_room(alloc, operations.len())?;
     for operation in operations.into_vec() {
         add_heard(alloc, members, clock, message, &mut heard, operation)?;
     }
