@@ -2,7 +2,7 @@ pub mod Small
 mod Headers
 mod Members
 mod Found
-mod Begun
+mod Starts
 mod Refusing
 mod Turned
 mod Over

@@ -128,14 +128,14 @@ due_later StartsFull before now x y z le is = absurd is
 due_later (BadRecord number) before now x y z le is = absurd is
 
 -- the device of a node whose rows are in memory is handed back
-pub due_back : {X : Type 0} (faults : X → ℕ) (before mid : ℕ) (stop : Stop) (log : X) (x y : ℕ) → before ≤ mid → mid ≤ faults log → IsDue stop (mid, 0) (faults log, 0) x y → HandsBack faults before stop (Some log)
-due_back faults before mid stop log x y from le is = record {
-  device = λ same. (log, refl, failed (subst (λ (s : Stop). IsDue s (mid, 0) (faults log, 0) x y) same is));
-  full = λ n same. subst (λ (s : Stop). IsDue s (mid, 0) (faults log, 0) x y) same is;
+pub due_back : {X : Type 0} (faults : X → ℕ) (before mid : ℕ) (stop : Stop) (kept : X) (x y : ℕ) → before ≤ mid → mid ≤ faults kept → IsDue stop (mid, 0) (faults kept, 0) x y → HandsBack faults before stop (Some kept)
+due_back faults before mid stop kept x y from le is = record {
+  device = λ same. (kept, refl, failed (subst (λ (s : Stop). IsDue s (mid, 0) (faults kept, 0) x y) same is));
+  full = λ n same. subst (λ (s : Stop). IsDue s (mid, 0) (faults kept, 0) x y) same is;
   lost = λ same. absurd (cc);
-  later = λ now same. let one : log ≡ now = cc in subst (λ (d : _). before ≤ faults d) one (omega (arith, from, le));
+  later = λ now same. let one : kept ≡ now = cc in subst (λ (d : _). before ≤ faults d) one (omega (arith, from, le));
 }
   where
-    failed : IsDue Device (mid, 0) (faults log, 0) x y → Rose before (faults log)
+    failed : IsDue Device (mid, 0) (faults kept, 0) x y → Rose before (faults kept)
     failed (inl rose) = omega (arith, from, rose)
     failed (inr rose) = absurd (omega (arith, rose))

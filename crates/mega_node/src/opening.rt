@@ -1,5 +1,5 @@
 //! The logs that a log device holds.
-ghost use Rattle.std.specs.Prelude.{◌≡◌, ◌≤◌, ◌⊎◌, ℕ, [], Some, Err, true, IfErr, IfOk};
+ghost use Rattle.std.specs.Prelude.{◌≡◌, ◌≤◌, ◌⊎◌, ℕ, List, [], Some, true, IfErr, IfOk};
 ghost use Rattle.mega_base.specs.Causes.{Rose};
 ghost use Rattle.mega_journal.specs.Chain.{records_of};
 ghost use Rattle.mega_wal.specs.Records.{first_bad};
@@ -40,7 +40,7 @@ pub(crate) fn open_logs<D: Disk + Drop>(
     alloc: Global,
     log: D,
 ) -> Result<Voter<Journal<D>>, (Stop, D)>
-    ensures opened { IfOk result (λ voter. AreOpened D.Disk ⟦<Journal<D> as Records>⟧ log voter.logs.kept voter.logs.records) }
+    ensures opened { IfOk result (λ voter. (found : List (List ℕ)) × AreOpened D.Disk ⟦<Journal<D> as Records>⟧ log voter.logs.kept voter.logs.records found) }
     ensures staged { IfOk result (λ voter. voter.logs.staged.items ≡ []) }
     ensures device { IfErr result (λ refused. refused.0 ≡ Stop.Device → Rose (D.faults log) (D.faults refused.1)) }
     ensures bad { IfErr result (λ refused. (n : ℕ) → refused.0 ≡ Stop.BadRecord n → D.is_told ≡ true → first_bad (records_of (D.seen log)) ≡ Some n) }

@@ -1,5 +1,5 @@
 //! A node starts over what its log holds, and stands ready to be served.
-ghost use Rattle.std.specs.Prelude.{◌≡◌, ℕ, [], List, Option, true, option_map, IfErr, IfOk};
+ghost use Rattle.std.specs.Prelude.{◌≡◌, ◌≤◌, ℕ, [], List, true, option_map, IfErr, IfOk};
 ghost use Rattle.mega_core.specs.Served.{IsServed};
 ghost use Rattle.mega_disk.specs.Images.{LeavesOnly};
 ghost use Rattle.mega_journal.specs.Journals.{disk_of};
