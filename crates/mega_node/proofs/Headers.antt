@@ -1,10 +1,11 @@
 -- The cluster of an input's header, in which each node has an address.
-use Rattle.std.proofs.Common.{◌≡◌, ℕ, Bool, true, false, List, Option, Some, None, Result, Ok, Err, refl, ap, ◌∙◌}
+use Rattle.std.proofs.Common.{◌≡◌, ℕ, Bool, true, false, List, Option, Some, None, Result, Ok, Err, IfOk, refl, sym, ap, subst, ◌∙◌}
 use Rattle.mega_cluster.specs.declared.cluster.Cluster.{Cluster}
 use Rattle.mega_cluster.specs.Header.{◌>>=◌, read_of}
 use Rattle.mega_io.specs.TextLines.{lines_of}
 use Rattle.mega_heading.specs.Known.{Breaks, HasHeader, HasNoMark, Told}
 use Rattle.mega_heading.specs.Parts.{cluster_in, header_before}
+use Rattle.mega_node.specs.declared.stop.Stop.{Stop}
 use Rattle.mega_node.specs.Headers.{IsBroken, IsHeaded, IsRead, addressed}
 
 -- the cluster of what was read is told of the input, and was read from some text
@@ -24,8 +25,8 @@ unmarked least (Some first) text c reads none = ap (λ behind. read_of least (he
 pub found : (least : ℕ) (first left : Option (List ℕ)) (c : Cluster) (m : Bool)
     → (m ≡ true → (text : List ℕ) × (read_of least text ≡ Ok c) × HasHeader first left text)
     → (m ≡ false → (text : List ℕ) × (read_of least text ≡ Ok c) × HasNoMark first text) → IsFound least first c
-found least first left c true yes no = let r = yes refl in record { told = marked least first left r.0 c r.1 r.2; read = (r.0, r.1) }
-found least first left c false yes no = let r = no refl in record { told = unmarked least first r.0 c r.1 r.2; read = (r.0, r.1) }
+found least first left c true marks none = let r = marks refl in record { told = marked least first left r.0 c r.1 r.2; read = (r.0, r.1) }
+found least first left c false marks none = let r = none refl in record { told = unmarked least first r.0 c r.1 r.2; read = (r.0, r.1) }
 
 pub headed : (least : ℕ) (first : Option (List ℕ)) (c : Cluster) → Told first (λ bytes. cluster_in least bytes ≡ Ok c) → addressed c ≡ Ok c → IsHeaded least first c
 headed least None c told fits = tt
@@ -38,3 +39,7 @@ unaddressed least (Some first) c told breaks = ap (λ r. r >>= addressed) told �
 pub broken : (least : ℕ) (first : Option (List ℕ)) (rule : ℕ) → Breaks least first rule → IsBroken least first rule
 broken least None rule breaks = tt
 broken least (Some first) rule breaks = ap (λ r. r >>= addressed) breaks
+
+pub ok_headed : (least : ℕ) (first : Option (List ℕ)) (c : Cluster) (made : Result Cluster Stop) → IsFound least first c → IfOk made (λ one. (one ≡ c) × (addressed c ≡ Ok c)) → IfOk made (IsHeaded least first)
+ok_headed least first c (Ok one) is fits = subst (IsHeaded least first) (sym fits.0) (headed least first c is.told fits.1)
+ok_headed least first c (Err stop) is fits = tt

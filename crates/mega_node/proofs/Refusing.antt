@@ -1,5 +1,6 @@
 -- Why a node did not start, or is served no longer, and what it leaves then.
 use Rattle.std.proofs.Common.{◌≡◌, ◌≢◌, ℕ, ◌+◌, ◌<◌, ◌≤◌, ◌^◌, ◌-◌, inl, inr, min, List, Option, Some, None, refl, sym, ap, subst, ◌∙◌, arith}
+use Rattle.std.specs.Prelude.{option_map}
 use Rattle.mega_base.specs.Causes.{Rose}
 use Rattle.mega_disk.specs.declared.records.Records.{Ghosts}
 use Rattle.mega_durable.specs.declared.starting.NotStarted.{NotStarted}
@@ -71,6 +72,22 @@ handed store voter refused.NoMemory is = record {
   lost = λ same. refl;
   later = λ now same. absurd (cc);
 }
+
+-- the same of the devices below records
+pub mapped : {R D : Type 0} (below : R → D) (faults : D → ℕ) (before : ℕ) (stop : Stop) (left : Option R) → HandsBack (λ (records : R). faults (below records)) before stop left → HandsBack faults before stop (option_map below left)
+mapped below faults before stop None back = record { device = λ same. absurd (none (back.device same)); full = back.full; lost = λ same. back.lost refl; later = λ now same. absurd (cc) }
+  where
+    none : (now : _) × (None ≡ Some now) × Rose before (faults (below now)) → ⊥
+    none is = let same = is.1 in cc
+mapped below faults before stop (Some records) back = record {
+  device = λ same. (below records, refl, raised (back.device same));
+  full = back.full;
+  lost = λ same. absurd (cc);
+  later = λ now same. let one : below records ≡ now = cc in subst (λ (device : _). before ≤ faults device) one (back.later records refl);
+}
+  where
+    raised : (now : _) × (Some records ≡ Some now) × Rose before (faults (below now)) → Rose before (faults (below records))
+    raised is = let one : is.0 ≡ records = (let same = is.1 in cc) in subst (λ (r : _). Rose before (faults (below r))) one is.2
 
 -- it started too often
 pub often : {R : Type 0} (store : Ghosts R) (voter : Voter R) (one : NotStarted R) → IsRefused store voter one → start_stop one ≡ StartsFull → voter.logs.kept.starts ≡ 4294967295

@@ -7,6 +7,7 @@ use Rattle.mega_handler.specs.Named.{Meaning, Meanings}
 use Rattle.mega_io.specs.Pieces.{AppendsFront}
 use Rattle.mega_link.specs.Datagrams.{Datagram}
 use Rattle.mega_meanings.specs.Means.{Means}
+use Rattle.mega_promises.specs.Items.{number}
 use Rattle.mega_promises.specs.Runs.{setting}
 use Rattle.mega_promises.specs.Served.{Line, Noted, Served, put_in}
 use Rattle.mega_rules.specs.Operations.{Setting}
@@ -18,7 +19,9 @@ use Rattle.mega_serve.specs.Pages.{ArePut, GoesOn, Stops}
 use Rattle.mega_serve.specs.Turns.{Ended, EndsIn, HasBegun, HasTurned, IsServing, MayServe, Runs, Went, schema_of, served_by, setting_of, turns_of}
 use Rattle.mega_serve.proofs.Ending.{ended_further, none_begun}
 use Rattle.mega_serve.proofs.Going.{all_nothing, went_further}
+use Rattle.mega_server.specs.Forming.{notes_shown}
 use Rattle.mega_transcript.specs.declared.item.Item.{Item}
+use Rattle.mega_transcript.specs.declared.item.Item.TheVariants.{Start}
 use Rattle.mega_node.specs.Calls.{served_over, started_over}
 use Rattle.mega_node.specs.Outside.{Outside}
 use Rattle.mega_node.specs.Serving.{HasTurnedOff, HasTurnedOn}
@@ -47,7 +50,7 @@ begins steps makes c me found one start notes held more_held sent started writte
       goes_on = record {
         text = subst (λ (all : List Line). Appends held more_held (record_text (schema_of steps one) all)) (sym lines) written;
         sends = [];
-        are_put = subst (λ (all : List Line). ArePut all []) (sym lines) (quiet _);
+        are_put = subst (λ (all : List Line). ArePut all []) (sym lines) (quiet (Start (number (steps.me one)) start ∷ notes_shown (steps.me one) notes));
         sent_are = all_nothing sent;
       };
     }
