@@ -28,6 +28,9 @@ pub noted_text : (schema : Schema) (items : List Item) → record_text schema (m
 noted_text schema [] = refl
 noted_text schema (item ∷ items) = ap (λ (text : List ℕ). line schema item ++ text) (noted_text schema items)
 
+pub started_text : (schema : Schema) (item : Item) (items : List Item) → line schema item ++ lines schema items ≡ record_text schema (map Noted (item ∷ items))
+started_text schema item items = ap (λ (text : List ℕ). line schema item ++ text) (sym (noted_text schema items))
+
 -- what was added is a front of itself
 pub all_front : (held more : Option (List ℕ)) (text : List ℕ) → Appends held more text → AppendsFront held more text
 all_front held more text added = (length text, subst (Appends held more) (sym (take_all (length text) text (omega arith))) added)

@@ -1,5 +1,5 @@
 -- The record of a start, and of the turns behind it.
-use Rattle.std.proofs.Common.{◌≡◌, ◌⊎◌, ℕ, List, [], ◌∷◌, ◌++◌, Option, None, filter_map, map, refl, sym, subst, ◌∙◌}
+use Rattle.std.proofs.Common.{◌≡◌, ◌⊎◌, ℕ, List, [], ◌∷◌, ◌++◌, Option, None, Result, Ok, Err, OnOk, OnErr, filter_map, map, refl, sym, subst, ◌∙◌}
 use Rattle.std.specs.Io.KnownBytes.{Appends}
 use Rattle.mega_cluster.specs.declared.cluster.Cluster.{Cluster}
 use Rattle.mega_core.specs.declared.note.Note.{Note}
@@ -142,3 +142,13 @@ unrecorded steps one start notes before after written same = record {
   where
     ap_sent : after ≡ record before { held = after.held } → after.sent ≡ before.sent
     ap_sent is = λ i. (is i).sent
+
+-- ---- what is said of a call's end
+
+pub ok_then : {T E A B : Type 0} (made : Result T E) → (A → B) → OnOk made A → OnOk made B
+ok_then (Ok one) so a = so a
+ok_then (Err stop) so a = tt
+
+pub err_then : {T E A B : Type 0} (made : Result T E) → (A → B) → OnErr made A → OnErr made B
+err_then (Ok one) so a = tt
+err_then (Err stop) so a = so a

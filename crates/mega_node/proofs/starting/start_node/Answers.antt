@@ -16,7 +16,7 @@ returns-in-Ok-clause-started g c = λ log found opened.
     let before = history_of found in
     let me = c.get.result in
     let count : one.start ≡ starts_of before + 1 = c.in-Ok.ensures.number ∙ ap (λ voter. voter.logs.kept.starts + 1) c.new-down.ensures.voter ∙ ap (λ (n : ℕ). n + 1) opened.keeps.starts in
-    let few : starts_of before < 4294967295 = ? in
+    let few : starts_of before < 4294967295 = (let range = c.start.type_inv in ?) in
     let may = may_start _ _ c.args.cluster me c.new-down.result c.args.voter found c.new-down.ensures.voter opened.are_found.good few opened.keeps opened.list opened.ready (λ met. c.new-down.ensures.rows c.args.cluster me met c.new.ensures.empty) in
     at_number _ _ _ found _ one.start one.notes me _ c.get.ensures.number (record {
       members = c.in-Ok.ensures.members;
