@@ -7,3 +7,4 @@ mod Starts
 mod Refusing
 mod Turned
 mod Over
+mod Called

@@ -1,7 +1,6 @@
 //! A node starts over what its log holds, and stands ready to be served.
-ghost use Rattle.std.specs.Prelude.{◌≡◌, ◌≤◌, ℕ, [], List, true, option_map, IfErr, IfOk};
+ghost use Rattle.std.specs.Prelude.{◌≡◌, ◌≤◌, ◌<◌, ◌^◌, ℕ, [], List, true, option_map, IfErr, IfOk};
 ghost use Rattle.mega_core.specs.Served.{IsServed};
-ghost use Rattle.mega_disk.specs.Images.{LeavesOnly};
 ghost use Rattle.mega_journal.specs.Journals.{disk_of};
 ghost use Rattle.mega_rules.specs.Members.{is_node};
 ghost use Rattle.mega_node.specs.Logs.{AreOpened};
@@ -55,6 +54,14 @@ fn handed_back<D: Disk + Drop>(refused: NotStarted<Journal<D>>) -> (Stop, Option
     }
 }
 
+/// The number of a start.
+fn counted(start: u32) -> u32
+    ensures same { result ≡ start }
+    ensures most { result < 2 ^ 32 }
+{
+    start
+}
+
 /// The node of this number starts over logs of which nothing is staged. A refusal hands the log device back.
 pub(crate) fn start_node<D: Disk + Drop, H: QueueHandlers + Drop>(
     alloc: Global,
@@ -84,7 +91,7 @@ pub(crate) fn start_node<D: Disk + Drop, H: QueueHandlers + Drop>(
                     handlers,
                     number,
                 },
-                start,
+                start: counted(start),
                 notes,
             })
         }

@@ -15,17 +15,17 @@ returns-in-Ok-clause-started g c = λ log found opened.
     let one = c.in-Ok.started in
     let before = history_of found in
     let me = c.get.result in
-    let count : one.start ≡ starts_of before + 1 = c.in-Ok.ensures.number ∙ ap (λ voter. voter.logs.kept.starts + 1) c.new-down.ensures.voter ∙ ap (λ (n : ℕ). n + 1) opened.keeps.starts in
-    let few : starts_of before < 4294967295 = (let range = c.start.type_inv in ?) in
+    let count : c.counted.result ≡ starts_of before + 1 = c.counted.ensures.same ∙ c.in-Ok.ensures.number ∙ ap (λ voter. voter.logs.kept.starts + 1) c.new-down.ensures.voter ∙ ap (λ (n : ℕ). n + 1) opened.keeps.starts in
+    let few : starts_of before < 4294967295 = omega (arith, count, c.counted.ensures.most) in
     let may = may_start _ _ c.args.cluster me c.new-down.result c.args.voter found c.new-down.ensures.voter opened.are_found.good few opened.keeps opened.list opened.ready (λ met. c.new-down.ensures.rows c.args.cluster me met c.new.ensures.empty) in
-    at_number _ _ _ found _ one.start one.notes me _ c.get.ensures.number (record {
+    at_number _ _ _ found _ c.counted.result one.notes me _ c.get.ensures.number (record {
       members = c.in-Ok.ensures.members;
       own = sym c.get.ensures.number;
       serving = λ h means. record {
         at = record { up = c.in-Ok.ensures.state h (starts_of before) (met_of me before) [] may; means = means; told = refl; numbered = c.in-Ok.ensures.me ∙ c.get.ensures.number };
         waits = refl;
       };
-      lines = λ h. start_shown (setting c.args.cluster h me) before one.start one.notes count (c.in-Ok.ensures.notes h (starts_of before) (met_of me before) [] may);
+      lines = λ h. start_shown (setting c.args.cluster h me) before c.counted.result one.notes count (c.in-Ok.ensures.notes h (starts_of before) (met_of me before) [] may);
     })
 
 pub returns-in-Err-clause-back : goal.returns-in-Err-clause-back
