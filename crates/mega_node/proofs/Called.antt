@@ -31,7 +31,7 @@ pub has_run : {D S : Type 0} (disks : DiskGhosts D) (steps : StepsGhosts S) (mak
 has_run disks steps makes m number turns input log before bound after c devices left runs ended same unread own headed =
     ok_then ended
     (λ found. paired (λ one. HasRun disks steps makes number turns input log one before after) devices left runs same
-        (found.0, found.1, (c, subst (λ (n : ℕ). IsHeaded n input c) own headed, subst (λ (first : Outside). Ran disks steps makes c number turns log found.0 first after) unread found.2)))
+    (found.0, found.1, (c, subst (λ (n : ℕ). IsHeaded n input c) own headed, subst (λ (first : Outside). Ran disks steps makes c number turns log found.0 first after) unread found.2)))
 
 pub is_cut : {D S : Type 0} (disks : DiskGhosts D) (steps : StepsGhosts S) (makes : List ℕ → Option Meaning) (m number : ℕ) (input : Option (List ℕ)) (log : D) (before bound after : Outside) (c : Cluster) (ended : Result (Unit {0}) Stop)
     → bound ≡ before → m ≡ number → IsHeaded m input c → OnErr ended ((after ≡ bound) ⊎ Halted disks steps makes c number log bound after) → IfErr ended (λ stop. IsNoRule stop → IsCut disks steps makes number input log before after)

@@ -21,7 +21,7 @@ pub next_line : (schema : Schema) (items : List Item) (i : ℕ) (item : Item) �
 next_line schema items i item within is before out next were told =
     let front : take (i + 1) items ≡ take i items ++ item ∷ [] = rw add-one (take-suc items i item within) ∙ ap (λ one. take i items ++ one ∷ []) (sym is) in
     told ∙ ap (λ (text : List ℕ). text ++ line schema item) were ∙ append_assoc before (lines schema (take i items)) (line schema item)
-        ∙ ap (λ (text : List ℕ). before ++ text) (sym (one_on schema (take i items) item) ∙ ap (lines schema) (sym front))
+    ∙ ap (λ (text : List ℕ). before ++ text) (sym (one_on schema (take i items) item) ∙ ap (lines schema) (sym front))
 
 -- what is noted is told as on a tape
 pub noted_text : (schema : Schema) (items : List Item) → record_text schema (map Noted items) ≡ lines schema items

@@ -25,7 +25,7 @@ pub returns-clause-ran : goal.returns-clause-ran
 returns-clause-ran g c =
     let runs = c.args.devices.runs in
     let same : c.match-left.devices ≡ option_map (λ log. record { log = log; runs = runs }) c.run_over-ended.result.1 =
-    elim c.match-left.branch [ in-Some w ↦ cc | in-None w ↦ cc ] in
+    elim c.match-left.branch [ in-Some w ↦ w.devices-is ∙ ap (option_map (λ log. record { log = log; runs = runs })) (sym w.in-Some.is) | in-None w ↦ w.devices-is ∙ ap (option_map (λ log. record { log = log; runs = runs })) (sym w.in-None.is) ] in
     has_run g.D.Disk _ (g.H.QueueHandlers.meant c.args.handlers) c.get.result c.args.number.of c.args.turns (g.I.Source.left c.args.input.now) c.args.devices.log
     (told_by g.L.Link g.C.Clock g.O.Sink c.args.link.now c.args.clock.now c.args.out.now) (told_by g.L.Link g.C.Clock g.O.Sink c.bind.new.self c.args.clock.now c.args.out.now) _ c.in-Ok.cluster
     c.match-left.devices c.run_over-ended.result.1 runs c.run_over-ended.result.0 same
@@ -43,5 +43,5 @@ pub returns-clause-device : goal.returns-clause-device
 returns-clause-device g c is =
     let runs = c.args.devices.runs in
     let same : c.match-left.devices ≡ option_map (λ log. record { log = log; runs = runs }) c.run_over-ended.result.1 =
-    elim c.match-left.branch [ in-Some w ↦ cc | in-None w ↦ cc ] in
+    elim c.match-left.branch [ in-Some w ↦ w.devices-is ∙ ap (option_map (λ log. record { log = log; runs = runs })) (sym w.in-Some.is) | in-None w ↦ w.devices-is ∙ ap (option_map (λ log. record { log = log; runs = runs })) (sym w.in-None.is) ] in
     device_back g.D.Disk.faults (g.D.Disk.faults c.args.devices.log) c.match-left.devices c.run_over-ended.result.1 runs c.run_over-ended.result.0 same c.run_over-ended.ensures.back is
