@@ -2,12 +2,11 @@
 use Rattle.std.proofs.Common.{◌≡◌, ℕ, ◌≤◌, ◌&&◌, Bool, true, false, cond, List, length, Option, Some, None, Result, Ok, Err, refl, subst, arith}
 use Rattle.std.specs.Prelude.{codes, nat_le, nat_lt, not}
 use Rattle.std.specs.List.{list_any}
-use Rattle.std.proofs.lemmas.Bool.{and_parts}
 use Rattle.std.proofs.lemmas.Bool.Decides.{nat_tests}
 use Rattle.toml.specs.Data.{Data, Members, get_member}
 use Rattle.mega_base.specs.declared.values.NodeKind.{NodeKind}
 use Rattle.mega_cluster.specs.declared.cluster.Cluster.{Cluster}
-use Rattle.mega_cluster.specs.Header.{◌>>=◌, addresses_of, cells_of, counted, default_cells, document_of, has_unknown_key, header_of, is_full, needed, nodes_of, nodes_of_data, number_of, read_of, ruled_out, schema_of}
+use Rattle.mega_cluster.specs.Header.{◌>>=◌, cells_of, counted, document_of, has_unknown_key, header_of, is_full, needed, nodes_of, nodes_of_data, number_of, read_of, ruled_out, schema_of}
 use Rattle.mega_core.specs.Served.{IsServed}
 use Rattle.mega_rules.specs.Members.{is_node}
 use Rattle.mega_line_laws.proofs.Starting.{can_start}

@@ -1,16 +1,13 @@
 -- A node over its log device, from what the opening found to what it leaves.
-use Rattle.std.proofs.Common.{◌≡◌, ℕ, true, List, Option, sym, subst}
+use Rattle.std.proofs.Common.{ℕ, List, Option}
 use Rattle.mega_cluster.specs.declared.cluster.Cluster.{Cluster}
 use Rattle.mega_core.specs.declared.note.Note.{Note}
 use Rattle.mega_disk.specs.declared.disk.Disk.{Ghosts as DiskGhosts}
 use Rattle.mega_handler.specs.Named.{Meaning, Meanings}
-use Rattle.mega_journal.specs.Chain.{records_of}
-use Rattle.mega_rules.specs.Clock.{start_of}
 use Rattle.mega_serve.specs.declared.steps.Steps.{Ghosts as StepsGhosts}
 use Rattle.mega_serve.specs.declared.waiting.Waiting.{Waiting}
 use Rattle.mega_serve.specs.Turns.{IsServing}
 use Rattle.mega_promises.specs.Served.{Served}
-use Rattle.mega_voter.specs.Holding.{HoldsMet}
 use Rattle.mega_node.specs.Calls.{Halted, KeepsMet, Ran}
 use Rattle.mega_node.specs.Logs.{AreFound}
 use Rattle.mega_node.specs.Outside.{Outside}

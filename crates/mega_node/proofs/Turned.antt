@@ -1,5 +1,5 @@
 -- The record of a start, and of the turns behind it.
-use Rattle.std.proofs.Common.{◌≡◌, ◌⊎◌, ℕ, List, [], ◌∷◌, ◌++◌, Option, None, Result, Ok, Err, OnOk, OnErr, filter_map, map, refl, sym, subst, ◌∙◌}
+use Rattle.std.proofs.Common.{◌≡◌, ℕ, List, [], ◌∷◌, Option, Result, Ok, Err, OnOk, OnErr, map, refl, sym, subst, ◌∙◌}
 use Rattle.std.specs.Io.KnownBytes.{Appends}
 use Rattle.mega_cluster.specs.declared.cluster.Cluster.{Cluster}
 use Rattle.mega_core.specs.declared.note.Note.{Note}
@@ -9,14 +9,14 @@ use Rattle.mega_link.specs.Datagrams.{Datagram}
 use Rattle.mega_meanings.specs.Means.{Means}
 use Rattle.mega_promises.specs.Items.{number}
 use Rattle.mega_promises.specs.Runs.{setting}
-use Rattle.mega_promises.specs.Served.{Line, Noted, Served, put_in}
+use Rattle.mega_promises.specs.Served.{Line, Noted, Served}
 use Rattle.mega_rules.specs.Operations.{Setting}
 use Rattle.mega_schema.specs.declared.schema.Schema.{Schema}
 use Rattle.mega_serve.specs.declared.steps.Steps.{Ghosts as StepsGhosts}
 use Rattle.mega_serve.specs.declared.waiting.Waiting.{Waiting as Waits}
 use Rattle.mega_serve.specs.Lines.{record_text}
 use Rattle.mega_serve.specs.Pages.{ArePut, GoesOn, Stops}
-use Rattle.mega_serve.specs.Turns.{Ended, EndsIn, HasBegun, HasTurned, IsServing, MayServe, Runs, Went, schema_of, served_by, setting_of, turns_of}
+use Rattle.mega_serve.specs.Turns.{Ended, EndsIn, HasBegun, HasTurned, MayServe, Runs, Went, schema_of, served_by, setting_of, turns_of}
 use Rattle.mega_serve.proofs.Ending.{ended_further, none_begun}
 use Rattle.mega_serve.proofs.Going.{all_nothing, went_further}
 use Rattle.mega_server.specs.Forming.{notes_shown}

@@ -1,5 +1,5 @@
 -- The turns of a node that started, and why it is served no longer.
-use Rattle.std.specs.Prelude.{◌≡◌, ℕ, ◌<◌, ◌^◌, List, Option}
+use Rattle.std.specs.Prelude.{ℕ, ◌<◌, ◌^◌, List, Option}
 use Rattle.mega_base.specs.Causes.{Rose}
 use Rattle.mega_cluster.specs.declared.cluster.Cluster.{Cluster}
 use Rattle.mega_core.specs.declared.note.Note.{Note}

@@ -1,4 +1,4 @@
-use Rattle.std.proofs.Common.{◌≡◌, Err, Option, ap, refl, subst, sym, true, ◌∙◌}
+use Rattle.std.proofs.Common.{◌≡◌, Err, ap, refl, subst, sym, true, ◌∙◌}
 use Rattle.std.specs.Prelude.{option_map}
 use Rattle.mega_rules.specs.Members.{is_node}
 use Rattle.mega_node.specs.declared.stop.Stop.TheVariants.{Header}
