@@ -1,7 +1,7 @@
 //! A call of a node over what is in memory, and what it came to.
 ghost use Rattle.std.specs.Prelude.{◌≤◌};
 
-use mega_base::{Bytes, NodeId};
+use mega_base::{Bytes, Copied, NodeId};
 use mega_disk::{MemDisk, Pair};
 use mega_io::{MemSink, MemSource};
 use mega_link::{MemClock, MemLink, Peer};
@@ -11,12 +11,12 @@ use mega_server::Number;
 use std::alloc::Global;
 use std::test::Fail;
 
-/// What a call came to: its status, what it wrote, how many datagrams it sent, and its devices.
+/// What a call came to: its status, what it wrote, its link, and its devices.
 #[derive(Drop)]
 pub struct Called {
     pub status: u8,
     pub text: Bytes,
-    pub sent: usize,
+    pub link: MemLink,
     pub devices: Option<Pair<MemDisk>>,
 }
 
@@ -47,13 +47,37 @@ pub fn datagrams(alloc: Global, text: &str) -> Result<Vec<Option<(Peer, Bytes)>>
     Ok(all)
 }
 
+/// What was sent to a node, as it comes to it from another.
+pub fn passed_on(
+    alloc: Global,
+    sent: &[(Peer, Bytes)],
+    from: u8,
+    to: u8,
+) -> Result<Vec<Option<(Peer, Bytes)>>, Fail> {
+    let mut all = Vec::new(alloc);
+    for one in sent {
+        if is_node(one.0, to) {
+            all.push(Some((Peer::Node(NodeId(from)), one.1.copy(alloc)?)))?;
+        }
+    }
+    Ok(all)
+}
+
+/// Whether this is a node of this number.
+fn is_node(peer: Peer, number: u8) -> bool {
+    match peer {
+        Peer::Node(node) => node.0 == number,
+        Peer::Client(_) => false,
+    }
+}
+
 /// Calls the node of this number, to which these datagrams come.
 pub fn call(
     alloc: Global,
     number: u8,
     turns: u64,
     header: &str,
-    coming: &str,
+    coming: Vec<Option<(Peer, Bytes)>>,
     clock: MemClock,
     devices: Pair<MemDisk>,
 ) -> Result<Called, Fail>
@@ -63,7 +87,7 @@ pub fn call(
     let header = Bytes::from_slice(alloc, header.as_bytes())?;
     let mut input = MemSource::new(header.into_vec(), Vec::new(alloc));
     let mut out = MemSink::new(alloc, Vec::new(alloc));
-    let mut link = MemLink::new(alloc, datagrams(alloc, coming)?);
+    let mut link = MemLink::new(alloc, coming);
     let mut clock = clock;
     let outcome = run_node(
         alloc,
@@ -79,7 +103,7 @@ pub fn call(
     Ok(Called {
         status: outcome.status(),
         text: Bytes::from_slice(alloc, out.bytes())?,
-        sent: link.sent().len(),
+        link,
         devices: outcome.devices,
     })
 }

@@ -2,9 +2,14 @@
 
 use crate::called::{call, empty};
 use crate::samples;
+use crate::unbound::Unbound;
 use mega_base::Bytes;
 use mega_disk::{Disk, MemDisk, Pair};
+use mega_io::{MemSink, MemSource};
 use mega_link::MemClock;
+use mega_meanings::BuiltIn;
+use mega_node::run_node;
+use mega_server::Number;
 use std::alloc::Global;
 use std::process::Abort;
 use std::test::Fail;
@@ -19,7 +24,7 @@ fn check(
     text: &str,
 ) -> Result<(), Fail> {
     let clock = MemClock::new(Vec::new(alloc));
-    let made = call(alloc, 2, 0, header, "", clock, devices)?;
+    let made = call(alloc, 2, 0, header, Vec::new(alloc), clock, devices)?;
     assert_eq!(rt; made.status, status);
     assert_eq!(rt; made.text.as_slice(), text.as_bytes());
     Ok(())
@@ -34,7 +39,14 @@ fn a_header_without_the_node_breaks_rule_3(rt: HostRuntime) -> Result<(), Fail> 
 #[test]
 fn a_header_without_an_address_for_each_node_breaks_rule_8(rt: HostRuntime) -> Result<(), Fail> {
     let alloc = rt.alloc();
-    check(&rt, alloc, samples::UNADDRESSED, empty(alloc), 3, "header 8\n")
+    check(
+        &rt,
+        alloc,
+        samples::UNADDRESSED,
+        empty(alloc),
+        3,
+        "header 8\n",
+    )
 }
 
 #[test]
@@ -55,4 +67,23 @@ fn a_record_of_no_format_ends_the_call(rt: HostRuntime) -> Result<(), Fail> {
         Err(_) => return Err(Fail::from("not written")),
     }
     check(&rt, alloc, samples::THREE, devices, 16, "")
+}
+
+#[test]
+fn a_link_that_is_not_bound_ends_the_call(rt: HostRuntime) -> Result<(), Fail> {
+    let alloc = rt.alloc();
+    let header = Bytes::from_slice(alloc, samples::ONE.as_bytes())?;
+    let outcome = run_node(
+        alloc,
+        Number::new(1),
+        1,
+        &mut MemSource::new(header.into_vec(), Vec::new(alloc)),
+        &mut MemSink::new(alloc, Vec::new(alloc)),
+        empty(alloc),
+        &mut Unbound::new(),
+        &mut MemClock::new(Vec::new(alloc)),
+        BuiltIn::new(),
+    );
+    assert_eq!(rt; outcome.status(), 9);
+    Ok(())
 }

@@ -9,3 +9,5 @@ mod ends_tests;
 mod record_tests;
 #[cfg(test)]
 mod samples;
+#[cfg(test)]
+mod unbound;
