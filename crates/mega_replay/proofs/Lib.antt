@@ -1,3 +1,4 @@
+pub mod Backups
 pub mod Headings
 pub mod Holding
 pub mod Inputs

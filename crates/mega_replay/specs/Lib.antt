@@ -1,3 +1,4 @@
+pub mod Backups
 pub mod Headings
 pub mod Meanings
 pub mod Texts

@@ -1,7 +1,8 @@
 -- The statuses with which the program ends.
 use Rattle.std.specs.Prelude.{◌≡◌, ◌⊎◌, ℕ, Option, Some, None}
 use Rattle.mega_words.specs.declared.command.Command.{Command}
-use Rattle.mega_words.specs.declared.command.Command.TheVariants.{Gen, Node, Replay}
+use Rattle.mega_words.specs.declared.command.Command.TheVariants.{Backup, Gen, Node, Replay, Restore}
+use Rattle.mega_backup_words.specs.Stops.{IsBackupStatus, IsRestoreStatus}
 use Rattle.mega_replay.specs.declared.status.Stop.{Stop}
 use Rattle.mega_replay.specs.declared.status.Stop.TheVariants.{Header, Schedule, Refused, Limit, Source, Sink, NoMemory}
 
@@ -37,8 +38,16 @@ IsStatusOf None status = (status ≡ 2) ⊎ (status ≡ 8)
 IsStatusOf (Some (Replay report)) status = IsReplayStatus status
 IsStatusOf (Some (Gen seed count nodes)) status = IsDrawn status
 IsStatusOf (Some (Node number turns)) status = IsNodeStatus status
+IsStatusOf (Some (Backup number group at)) status = IsBackupStatus status
+IsStatusOf (Some (Restore at)) status = IsRestoreStatus status
 
 -- the words ask for no node
 abbrev pub IsOffline : Option Command → Type 0
 IsOffline (Some (Node number turns)) = ⊥
 IsOffline _ = Unit {0}
+
+-- nor for a node's log
+abbrev pub UsesNoDevice : Option Command → Type 0
+UsesNoDevice (Some (Node number turns)) = ⊥
+UsesNoDevice (Some (Backup number group at)) = ⊥
+UsesNoDevice _ = Unit {0}

@@ -1,4 +1,4 @@
-//! The call that the program makes: the replay of a schedule by the nodes of its cluster, a drawn schedule, or a node over its socket.
+//! The call that the program makes: the replay of a schedule by the nodes of its cluster, a drawn schedule, a node over its socket, a backup, or its rows.
 #![tactic(auto)]
 
 mod calling;
@@ -8,6 +8,7 @@ mod heading;
 mod input;
 mod opening;
 mod replay;
+mod saving;
 mod serving;
 mod status;
 mod writing;

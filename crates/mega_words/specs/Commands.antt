@@ -1,20 +1,27 @@
 -- The words of the program, and what they ask for.
 use Rattle.std.specs.Prelude.{ℕ, ◌≤◌, nat_eq, if◌then◌else◌, codes, List, [], ◌∷◌, Option, Some, None}
 use Rattle.std.specs.Cmp.Lexicographic.{pointwise}
+use Rattle.mega_base.specs.declared.names.GroupId.{GroupId}
 use Rattle.mega_words.specs.declared.command.Command.{Command}
-use Rattle.mega_words.specs.declared.command.Command.TheVariants.{Replay, Gen, Node}
+use Rattle.mega_words.specs.declared.command.Command.TheVariants.{Replay, Gen, Node, Backup, Restore}
 use Rattle.mega_words.specs.declared.command.Report.TheVariants.{Transcript, Summary}
 use Rattle.mega_words.specs.declared.option.Name.{Name}
-use Rattle.mega_words.specs.declared.option.Name.TheVariants.{Seed, Count, Nodes, Number, Turns}
+use Rattle.mega_words.specs.declared.option.Name.TheVariants.{Seed, Count, Nodes, Number, Turns, Group, At}
 use Rattle.mega_words.specs.declared.option.Options.{Options}
 use Rattle.mega_words.specs.Options.{none_yet, read_on}
 
--- the options of `gen`, and of `node`
+-- the options of `gen`, of `node`, of `backup` and of `restore`
 abbrev pub gen_names : List Name
 gen_names = Seed ∷ Count ∷ Nodes ∷ []
 
 abbrev pub node_names : List Name
 node_names = Number ∷ Turns ∷ []
+
+abbrev pub backup_names : List Name
+backup_names = Number ∷ Group ∷ At ∷ []
+
+abbrev pub restore_names : List Name
+restore_names = At ∷ []
 
 -- all options of `gen` came
 abbrev pub drawn_with : Option ℕ → Option ℕ → Option ℕ → Option Command
@@ -34,6 +41,24 @@ abbrev pub node_with : Option Options → Option Command
 node_with None = None
 node_with (Some found) = turned_with found.number found.turns
 
+-- all options of `backup` came
+abbrev pub saved_with : Option ℕ → Option GroupId → Option ℕ → Option Command
+saved_with (Some number) (Some group) (Some at) = Some (Backup number group at)
+saved_with _ _ _ = None
+
+abbrev pub backup_with : Option Options → Option Command
+backup_with None = None
+backup_with (Some found) = saved_with found.number found.group found.at
+
+-- the option of `restore` came
+abbrev pub restored_with : Option ℕ → Option Command
+restored_with (Some at) = Some (Restore at)
+restored_with None = None
+
+abbrev pub restore_with : Option Options → Option Command
+restore_with None = None
+restore_with (Some found) = restored_with found.at
+
 -- behind `replay` stands nothing, or `--summary` once
 abbrev pub replay_with : List (List ℕ) → Option Command
 replay_with [] = Some (Replay Transcript)
@@ -47,10 +72,23 @@ command_of (word ∷ words) =
     if pointwise nat_eq word (codes "replay") then replay_with words
     else if pointwise nat_eq word (codes "gen") then gen_with (read_on gen_names None none_yet words)
     else if pointwise nat_eq word (codes "node") then node_with (read_on node_names None none_yet words)
+    else if pointwise nat_eq word (codes "backup") then backup_with (read_on backup_names None none_yet words)
+    else if pointwise nat_eq word (codes "restore") then restore_with (read_on restore_names None none_yet words)
     else None
 
--- a cluster may have as many nodes as are asked for, and a node of that number
-abbrev pub FitsCluster : Option Command → Type 0
-FitsCluster (Some (Gen seed count nodes)) = (1 ≤ nodes) × (nodes ≤ 9)
-FitsCluster (Some (Node number turns)) = (1 ≤ number) × (number ≤ 9)
-FitsCluster _ = Unit {0}
+-- a cluster may have as many nodes as are asked for, and a node of that number; a log may have the position
+abbrev pub FitsWords : Option Command → Type 0
+FitsWords (Some (Gen seed count nodes)) = (1 ≤ nodes) × (nodes ≤ 9)
+FitsWords (Some (Node number turns)) = (1 ≤ number) × (number ≤ 9)
+FitsWords (Some (Backup number group at)) = (1 ≤ number) × (number ≤ 9) × (at ≤ 1000000)
+FitsWords (Some (Restore at)) = at ≤ 1000000
+FitsWords _ = Unit {0}
+
+-- memory may be wanting where words begin as those of a backup
+abbrev pub MayWant : Option Command → Type 0
+MayWant None = Unit {0}
+MayWant (Some (Backup number group at)) = Unit {0}
+MayWant (Some (Replay report)) = ⊥
+MayWant (Some (Gen seed count nodes)) = ⊥
+MayWant (Some (Node number turns)) = ⊥
+MayWant (Some (Restore at)) = ⊥

@@ -1,21 +1,27 @@
 -- The options of commands, as words.
-use Rattle.std.specs.Prelude.{ℕ, ◌≤◌, IfSome, ◌==◌, ◌||◌, Bool, nat_eq, if◌then◌else◌, codes, List, [], ◌∷◌, Option, Some, None, is_some, option_map, option_and_then}
+use Rattle.std.specs.Prelude.{ℕ, ◌≤◌, IfSome, ◌==◌, ◌||◌, Bool, true, false, nat_eq, if◌then◌else◌, codes, List, [], ◌∷◌, Option, Some, None, is_some, option_map, option_and_then}
 use Rattle.std.specs.Cmp.Lexicographic.{pointwise}
+use Rattle.mega_base.specs.declared.names.GroupId.{GroupId}
 use Rattle.mega_words.specs.declared.option.Name.{Name}
-use Rattle.mega_words.specs.declared.option.Name.TheVariants.{Seed, Count, Nodes, Number, Turns}
+use Rattle.mega_words.specs.declared.option.Name.TheVariants.{Seed, Count, Nodes, Number, Turns, Group, At}
 use Rattle.mega_words.specs.declared.option.Options.{Options}
 use Rattle.mega_words.specs.Numbers.{number_in}
+use Rattle.mega_words.specs.Groups.{group_in}
 
 -- no option yet
 abbrev pub none_yet : Options
-none_yet = record { seed = None; count = None; nodes = None; number = None; turns = None }
+none_yet = record { seed = None; count = None; nodes = None; number = None; turns = None; group = None; at = None }
 
 -- a number of nodes that a cluster may have, or of a node in one
 abbrev pub IsOfCluster : Option ℕ → Type 0
 IsOfCluster number = IfSome number (λ n. (1 ≤ n) × (n ≤ 9))
 
-abbrev pub FitCluster : Options → Type 0
-FitCluster found = IsOfCluster found.nodes × IsOfCluster found.number
+-- a position
+abbrev pub FitPosition : Option ℕ → Type 0
+FitPosition at = IfSome at (λ n. n ≤ 1000000)
+
+abbrev pub FitWords : Options → Type 0
+FitWords found = IsOfCluster found.nodes × IsOfCluster found.number × FitPosition found.at
 
 -- how an option is written
 abbrev pub text_of : Name → List ℕ
@@ -24,6 +30,8 @@ text_of Count = codes "--count"
 text_of Nodes = codes "--nodes"
 text_of Number = codes "--number"
 text_of Turns = codes "--turns"
+text_of Group = codes "--group"
+text_of At = codes "--at"
 
 -- what stands in a word behind a name and `=`
 abbrev pub behind : List ℕ → List ℕ → Option (List ℕ)
@@ -45,6 +53,24 @@ abbrev pub first_time : Option ℕ → Option ℕ → Option ℕ
 first_time (Some before) number = None
 first_time None number = number
 
+-- the options with a group that comes for the first time
+abbrev pub with_first : Options → Option GroupId → Option GroupId → Option Options
+with_first found (Some before) group = None
+with_first found None group = option_map (λ group. record found { group = Some group }) group
+
+abbrev pub with_group : Options → List ℕ → Option Options
+with_group found value = with_first found found.group (group_in value)
+
+-- the option is that of a group
+abbrev pub is_group : Name → Bool
+is_group Group = true
+is_group Seed = false
+is_group Count = false
+is_group Nodes = false
+is_group Number = false
+is_group Turns = false
+is_group At = false
+
 -- the options with one more, where it comes for the first time and its value is in its range
 abbrev pub with_value : Options → Name → List ℕ → Option Options
 with_value found Seed value = option_map (λ seed. record found { seed = Some seed }) (first_time found.seed (number_in 0 18446744073709551615 value))
@@ -52,6 +78,8 @@ with_value found Count value = option_map (λ count. record found { count = Some
 with_value found Nodes value = option_map (λ nodes. record found { nodes = Some nodes }) (first_time found.nodes (number_in 1 9 value))
 with_value found Number value = option_map (λ number. record found { number = Some number }) (first_time found.number (number_in 1 9 value))
 with_value found Turns value = option_map (λ turns. record found { turns = Some turns }) (first_time found.turns (number_in 0 1000000000 value))
+with_value found Group value = with_group found value
+with_value found At value = option_map (λ at. record found { at = Some at }) (first_time found.at (number_in 0 1000000 value))
 
 -- a value behind `=` is taken at once, else the option waits for the next word
 abbrev pub valued : Option (List ℕ) → (List ℕ → Option Options) → Option Options → Option Options

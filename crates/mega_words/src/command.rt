@@ -1,11 +1,12 @@
 //! Which command the words of the program are.
-ghost use Rattle.std.specs.Prelude.{◌≡◌, IfSome, nat_eq};
+ghost use Rattle.std.specs.Prelude.{◌≡◌, IfOk, IfSome, OnErr, nat_eq};
 ghost use Rattle.std.specs.Cmp.Lexicographic.{pointwise};
-ghost use Rattle.mega_words.specs.Commands.{FitsCluster, command_of, gen_with, node_with, replay_with};
-ghost use Rattle.mega_words.specs.Options.{FitCluster};
+ghost use Rattle.mega_words.specs.Commands.{FitsWords, MayWant, backup_with, command_of, gen_with, node_with, replay_with, restore_with};
+ghost use Rattle.mega_words.specs.Options.{FitWords};
 
 use crate::option::{Name, Options, options_of};
-use mega_base::Text;
+use mega_base::{GroupId, NoMemory, Text};
+use std::alloc::Global;
 
 /// What a replay writes.
 #[derive(Clone, Copy, PartialEq, Debug, Drop)]
@@ -17,7 +18,7 @@ pub enum Report {
 }
 
 /// What the program is asked for.
-#[derive(Clone, Copy, PartialEq, Debug, Drop)]
+#[derive(Drop)]
 pub enum Command {
     /// The replay of a header and a schedule.
     Replay { report: Report },
@@ -25,6 +26,10 @@ pub enum Command {
     Gen { seed: u64, count: u64, nodes: u8 },
     /// The node of this number, over its socket, for so many turns.
     Node { number: u8, turns: u64 },
+    /// A backup of a group through a position, from the log of the node of this number.
+    Backup { number: u8, group: GroupId, at: u64 },
+    /// The rows of a backup, at a position.
+    Restore { at: u64 },
 }
 
 /// Whether a word is this one.
@@ -36,9 +41,9 @@ fn is(word: &Text, name: &str) -> bool
 
 /// The command `gen` with all of its options.
 fn gen_with(found: Option<Options>) -> Option<Command>
-    requires { IfSome found FitCluster }
+    requires { IfSome found FitWords }
     ensures value { result ≡ gen_with found }
-    ensures range { FitsCluster result }
+    ensures range { FitsWords result }
 {
     match found {
         Some(
@@ -55,9 +60,9 @@ fn gen_with(found: Option<Options>) -> Option<Command>
 
 /// The command `node` with both of its options.
 fn node_with(found: Option<Options>) -> Option<Command>
-    requires { IfSome found FitCluster }
+    requires { IfSome found FitWords }
     ensures value { result ≡ node_with found }
-    ensures range { FitsCluster result }
+    ensures range { FitsWords result }
 {
     match found {
         Some(
@@ -71,10 +76,44 @@ fn node_with(found: Option<Options>) -> Option<Command>
     }
 }
 
+/// The command `backup` with all of its options.
+fn backup_with(found: Option<Options>) -> Option<Command>
+    requires { IfSome found FitWords }
+    ensures value { result ≡ backup_with found }
+    ensures range { FitsWords result }
+{
+    match found {
+        Some(
+            Options {
+                number,
+                group,
+                at,
+                ..
+            },
+        ) => match (number, group, at) {
+            (Some(number), Some(group), Some(at)) => Some(Command::Backup { number, group, at }),
+            _ => None,
+        },
+        None => None,
+    }
+}
+
+/// The command `restore` with its option.
+fn restore_with(found: Option<Options>) -> Option<Command>
+    requires { IfSome found FitWords }
+    ensures value { result ≡ restore_with found }
+    ensures range { FitsWords result }
+{
+    match found {
+        Some(Options { at: Some(at), .. }) => Some(Command::Restore { at }),
+        _ => None,
+    }
+}
+
 /// The replay with what stands behind its word: nothing, or `--summary` once.
 fn replay_with(words: &[Text]) -> Option<Command>
     ensures value { result ≡ replay_with words.now }
-    ensures range { FitsCluster result }
+    ensures range { FitsWords result }
 {
     match words {
         [] => Some(Command::Replay {
@@ -93,22 +132,31 @@ fn replay_with(words: &[Text]) -> Option<Command>
     }
 }
 
-/// The command that words are a form of: `replay`, maybe with `--summary`, or `gen` or `node` with each of its options once.
-pub fn command_of(words: &[Text]) -> Option<Command>
-    ensures value { result ≡ command_of words.now }
-    ensures range { FitsCluster result }
+/// The command that words are a form of: `replay`, maybe with `--summary`, or `gen`, `node`, `backup` or `restore` with each of its
+/// options once. Only a backup wants memory, for its group.
+pub fn command_of(alloc: Global, words: &[Text]) -> Result<Option<Command>, NoMemory>
+    ensures value { IfOk result (λ command. command ≡ command_of words.now) }
+    ensures range { IfOk result FitsWords }
+    ensures wanting { OnErr result (MayWant (command_of words.now)) }
 {
     match words {
-        [] => None,
+        [] => Ok(None),
         [word, words @ ..] => {
             if is(word, "replay") {
-                replay_with(words)
+                Ok(replay_with(words))
             } else if is(word, "gen") {
-                gen_with(options_of(&[Name::Seed, Name::Count, Name::Nodes], words))
+                let names = [Name::Seed, Name::Count, Name::Nodes];
+                Ok(gen_with(options_of(alloc, &names, words)?))
             } else if is(word, "node") {
-                node_with(options_of(&[Name::Number, Name::Turns], words))
+                let names = [Name::Number, Name::Turns];
+                Ok(node_with(options_of(alloc, &names, words)?))
+            } else if is(word, "backup") {
+                let names = [Name::Number, Name::Group, Name::At];
+                Ok(backup_with(options_of(alloc, &names, words)?))
+            } else if is(word, "restore") {
+                Ok(restore_with(options_of(alloc, &[Name::At], words)?))
             } else {
-                None
+                Ok(None)
             }
         }
     }

@@ -2,6 +2,7 @@
 #![tactic(auto)]
 
 mod command;
+mod group;
 mod number;
 mod option;
 pub mod worked;

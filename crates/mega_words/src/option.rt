@@ -1,10 +1,14 @@
 //! The options of a command: each comes once, in any order, as `--x v` or `--x=v`.
-ghost use Rattle.std.specs.Prelude.{◌≡◌, Some, None, IfSome, is_some, option_map};
+ghost use Rattle.std.specs.Prelude.{◌≡◌, ◌≢◌, Some, None, IfOk, IfSome, IsOk, false, is_some, option_map};
+ghost use Rattle.std.specs.List.{list_any};
 ghost use Rattle.mega_words.specs.Numbers.{number_in};
-ghost use Rattle.mega_words.specs.Options.{FitCluster, IsOfCluster, behind, first_time, is_named, name_of, none_yet, read_on, text_of, with_value};
+ghost use Rattle.mega_words.specs.Groups.{group_in};
+ghost use Rattle.mega_words.specs.Options.{FitPosition, FitWords, IsOfCluster, behind, first_time, is_group, is_named, name_of, none_yet, read_on, text_of, with_group, with_value};
 
+use crate::group::group_in;
 use crate::number::number_in;
-use mega_base::Text;
+use mega_base::{GroupId, NoMemory, Text};
+use std::alloc::Global;
 
 /// An option of some command.
 #[derive(Clone, Copy, PartialEq, Debug, Drop)]
@@ -14,16 +18,20 @@ pub enum Name {
     Nodes,
     Number,
     Turns,
+    Group,
+    At,
 }
 
 /// The options that came so far.
-#[derive(Clone, Copy, PartialEq, Debug, Drop)]
+#[derive(Drop)]
 pub struct Options {
     pub seed: Option<u64>,
     pub count: Option<u64>,
     pub nodes: Option<u8>,
     pub number: Option<u8>,
     pub turns: Option<u64>,
+    pub group: Option<GroupId>,
+    pub at: Option<u64>,
 }
 
 /// How an option is written.
@@ -36,6 +44,8 @@ fn text_of(name: Name) -> &'static [u8]
         Name::Nodes => b"--nodes",
         Name::Number => b"--number",
         Name::Turns => b"--turns",
+        Name::Group => b"--group",
+        Name::At => b"--at",
     }
 }
 
@@ -68,7 +78,8 @@ fn is_named(name: &[u8], word: &[u8]) -> bool
 
 /// The option that a word names, of these.
 fn name_of(names: &[Name], word: &[u8]) -> Option<Name>
-    ensures { result ≡ name_of names.now word.now }
+    ensures value { result ≡ name_of names.now word.now }
+    ensures listed { list_any is_group names.now ≡ false → result ≢ Some Name.Group }
 {
     match names {
         [] => None,
@@ -106,11 +117,22 @@ fn first_of_cluster(before: Option<u8>, value: &[u8]) -> Option<u8>
     }
 }
 
-/// The options with one more, where it comes for the first time and its value is in its range.
-fn with_value(found: Options, name: Name, value: &[u8]) -> Option<Options>
-    requires { FitCluster found }
-    ensures value { result ≡ with_value found name value.now }
-    ensures range { IfSome result FitCluster }
+/// A position that comes for the first time.
+fn first_position(before: Option<u64>, value: &[u8]) -> Option<u64>
+    ensures value { result ≡ first_time before (number_in 0 1000000 value.now) }
+    ensures range { FitPosition result }
+{
+    match before {
+        Some(_) => None,
+        None => number_in(0, 1_000_000, value),
+    }
+}
+
+/// The options with one number more, where it comes for the first time and is in its range.
+fn with_number(found: Options, name: Name, value: &[u8]) -> Option<Options>
+    requires { FitWords found }
+    ensures value { name ≢ Name.Group → result ≡ with_value found name value.now }
+    ensures range { IfSome result FitWords }
 {
     let mut found = found;
     match name {
@@ -121,45 +143,96 @@ fn with_value(found: Options, name: Name, value: &[u8]) -> Option<Options>
         Name::Turns => {
             found.turns = Some(first_time(found.turns, number_in(0, 1_000_000_000, value))?)
         }
+        Name::At => found.at = Some(first_position(found.at, value)?),
+        Name::Group => return None,
     }
     Some(found)
 }
 
+/// The options with a group, where it comes for the first time and its name is one.
+fn with_group(alloc: Global, found: Options, value: &[u8]) -> Result<Option<Options>, NoMemory>
+    requires { FitWords found }
+    ensures value { IfOk result (λ more. more ≡ with_group found value.now) }
+    ensures range { IfOk result (λ more. IfSome more FitWords) }
+{
+    if found.group.is_some() {
+        return Ok(None);
+    }
+    match group_in(alloc, value)? {
+        Some(group) => {
+            let mut found = found;
+            found.group = Some(group);
+            Ok(Some(found))
+        }
+        None => Ok(None),
+    }
+}
+
+/// The options with one more, where it comes for the first time and its value is in its range. Only a group wants memory.
+fn with_value(
+    alloc: Global,
+    found: Options,
+    name: Name,
+    value: &[u8],
+) -> Result<Option<Options>, NoMemory>
+    requires { FitWords found }
+    ensures value { IfOk result (λ more. more ≡ with_value found name value.now) }
+    ensures range { IfOk result (λ more. IfSome more FitWords) }
+    ensures wanting { name ≢ Name.Group → IsOk result }
+{
+    match name {
+        Name::Group => with_group(alloc, found, value),
+        name => Ok(with_number(found, name, value)),
+    }
+}
+
 /// The options after more words, where these are options of this list with their values; the first one is the value of an option that
 /// waits.
-fn read_on(names: &[Name], waits: Option<Name>, found: Options, words: &[Text]) -> Option<Options>
-    requires { FitCluster found }
-    ensures value { result ≡ read_on names.now waits found words.now }
-    ensures range { IfSome result FitCluster }
+fn read_on(
+    alloc: Global,
+    names: &[Name],
+    waits: Option<Name>,
+    found: Options,
+    words: &[Text],
+) -> Result<Option<Options>, NoMemory>
+    requires { FitWords found }
+    ensures value { IfOk result (λ more. more ≡ read_on names.now waits found words.now) }
+    ensures range { IfOk result (λ more. IfSome more FitWords) }
+    ensures wanting { list_any is_group names.now ≡ false → waits ≢ Some Name.Group → IsOk result }
 {
     match words {
         [] => match waits {
-            Some(_) => None,
-            None => Some(found),
+            Some(_) => Ok(None),
+            None => Ok(Some(found)),
         },
         [word, words @ ..] => match waits {
-            Some(name) => match with_value(found, name, word.as_bytes()) {
-                Some(found) => read_on(names, None, found, words),
-                None => None,
+            Some(name) => match with_value(alloc, found, name, word.as_bytes())? {
+                Some(found) => read_on(alloc, names, None, found, words),
+                None => Ok(None),
             },
             None => match name_of(names, word.as_bytes()) {
                 Some(name) => match behind(text_of(name), word.as_bytes()) {
-                    Some(value) => match with_value(found, name, value) {
-                        Some(found) => read_on(names, None, found, words),
-                        None => None,
+                    Some(value) => match with_value(alloc, found, name, value)? {
+                        Some(found) => read_on(alloc, names, None, found, words),
+                        None => Ok(None),
                     },
-                    None => read_on(names, Some(name), found, words),
+                    None => read_on(alloc, names, Some(name), found, words),
                 },
-                None => None,
+                None => Ok(None),
             },
         },
     }
 }
 
-/// The options that words are, each of this list and at most once, where they are nothing else.
-pub fn options_of(names: &[Name], words: &[Text]) -> Option<Options>
-    ensures value { result ≡ read_on names.now None none_yet words.now }
-    ensures range { IfSome result FitCluster }
+/// The options that words are, each of this list and at most once, where they are nothing else. Only a group wants memory.
+pub fn options_of(
+    alloc: Global,
+    names: &[Name],
+    words: &[Text],
+) -> Result<Option<Options>, NoMemory>
+    ensures value { IfOk result (λ found. found ≡ read_on names.now None none_yet words.now) }
+    ensures range { IfOk result (λ found. IfSome found FitWords) }
+    ensures wanting { list_any is_group names.now ≡ false → IsOk result }
 {
     let none = Options {
         seed: None,
@@ -167,6 +240,8 @@ pub fn options_of(names: &[Name], words: &[Text]) -> Option<Options>
         nodes: None,
         number: None,
         turns: None,
+        group: None,
+        at: None,
     };
-    read_on(names, None, none, words)
+    read_on(alloc, names, None, none, words)
 }
