@@ -10,4 +10,8 @@ mod record_tests;
 #[cfg(test)]
 mod samples;
 #[cfg(test)]
+mod talk;
+#[cfg(test)]
+mod talk_samples;
+#[cfg(test)]
 mod unbound;

@@ -1,7 +1,8 @@
 //! The records of nodes: worked, of strange datagrams, and over devices that were used before.
 
 use crate::called::{Called, call, datagrams, empty, passed_on};
-use crate::samples;
+use crate::talk::Talk;
+use crate::{samples, talk_samples};
 use mega_link::MemClock;
 use std::alloc::Global;
 use std::process::Abort;
@@ -153,5 +154,14 @@ fn a_witness_invalidates_nothing(rt: HostRuntime) -> Result<(), Fail> {
     )?;
     assert_eq!(rt; made.text.as_slice(), samples::INVALIDATE_RECORD.as_bytes());
     assert_eq!(rt; made.link.sent().len(), 0);
+    Ok(())
+}
+
+#[test]
+fn three_nodes_commit_a_put_and_their_records_stand(rt: HostRuntime) -> Result<(), Fail> {
+    let alloc = rt.alloc();
+    let talk = Talk::begun(alloc, datagrams(alloc, samples::PUT_ASKED)?);
+    let records = talk.records(alloc, 12)?;
+    assert_eq!(rt; records.as_slice(), talk_samples::RECORDS.as_bytes());
     Ok(())
 }

@@ -1,0 +1,97 @@
+//! Three nodes that talk over links in memory, one called after the other.
+ghost use Rattle.std.specs.Prelude.{◌≤◌};
+
+use crate::called::{Called, call, empty};
+use crate::samples;
+use mega_base::{Bytes, Copied, NodeId};
+use mega_link::{MemClock, Peer};
+use std::alloc::Global;
+use std::test::Fail;
+
+type Mail = Vec<Option<(Peer, Bytes)>>;
+
+/// What came to each node so far, in order.
+#[derive(Drop)]
+pub struct Talk {
+    one: Mail,
+    two: Mail,
+    three: Mail,
+}
+
+/// A copy of what came.
+fn copied(alloc: Global, mail: &[Option<(Peer, Bytes)>]) -> Result<Mail, Fail> {
+    let mut all = Vec::new(alloc);
+    for item in mail {
+        if let Some((peer, bytes)) = item {
+            all.push(Some((*peer, bytes.copy(alloc)?)))?;
+        }
+    }
+    Ok(all)
+}
+
+/// Calls a node over devices that hold nothing, with a clock that shows 0, for as many turns as datagrams come to it.
+fn called(alloc: Global, number: u8, mail: &[Option<(Peer, Bytes)>]) -> Result<Called, Fail>
+    requires least { 1 ≤ number }
+    requires most { number ≤ 9 }
+{
+    let coming = copied(alloc, mail)?;
+    let turns = coming.len() as u64;
+    let clock = MemClock::new(Vec::new(alloc));
+    call(
+        alloc,
+        number,
+        turns,
+        samples::FULL,
+        coming,
+        clock,
+        empty(alloc),
+    )
+}
+
+impl Talk {
+    /// What these datagrams begin, which come to node 1.
+    pub fn begun(alloc: Global, first: Mail) -> Talk {
+        Talk {
+            one: first,
+            two: Vec::new(alloc),
+            three: Vec::new(alloc),
+        }
+    }
+
+    /// Hands on what a node sent behind so many datagrams, and tells how many it sent.
+    fn pass(&mut self, alloc: Global, made: &Called, from: u8, seen: usize) -> Result<usize, Fail> {
+        let sent = made.link.sent();
+        for one in sent.iter().skip(seen) {
+            let item = Some((Peer::Node(NodeId(from)), one.1.copy(alloc)?));
+            match one.0 {
+                Peer::Node(NodeId(1)) => self.one.push(item)?,
+                Peer::Node(NodeId(2)) => self.two.push(item)?,
+                Peer::Node(_) => self.three.push(item)?,
+                Peer::Client(_) => {}
+            }
+        }
+        Ok(sent.len())
+    }
+
+    /// The records of the three nodes, once each was called so often with all that came to it before: what it did before it does again, and goes on.
+    pub fn records(self, alloc: Global, rounds: u64) -> Result<Bytes, Fail> {
+        let mut talk = self;
+        let mut seen = (0, 0, 0);
+        for _ in 0..rounds {
+            let one = called(alloc, 1, &talk.one)?;
+            let two = called(alloc, 2, &talk.two)?;
+            let three = called(alloc, 3, &talk.three)?;
+            seen.0 = talk.pass(alloc, &one, 1, seen.0)?;
+            seen.1 = talk.pass(alloc, &two, 2, seen.1)?;
+            seen.2 = talk.pass(alloc, &three, 3, seen.2)?;
+        }
+        let mut records = Bytes::new(alloc);
+        records.extend_from_slice(b"record 1\n")?;
+        records.extend_from_slice(called(alloc, 1, &talk.one)?.text.as_slice())?;
+        records.extend_from_slice(b"record 2\n")?;
+        records.extend_from_slice(called(alloc, 2, &talk.two)?.text.as_slice())?;
+        records.extend_from_slice(b"record 3\n")?;
+        records.extend_from_slice(called(alloc, 3, &talk.three)?.text.as_slice())?;
+        Ok(records)
+    }
+}
