@@ -64,7 +64,7 @@ pub fn passed_on(
 }
 
 /// Whether this is a node of this number.
-fn is_node(peer: Peer, number: u8) -> bool {
+pub fn is_node(peer: Peer, number: u8) -> bool {
     match peer {
         Peer::Node(node) => node.0 == number,
         Peer::Client(_) => false,

@@ -1,7 +1,7 @@
 //! The records of nodes: worked, of strange datagrams, and over devices that were used before.
 
 use crate::called::{Called, call, datagrams, empty, passed_on};
-use crate::talk::Talk;
+use crate::talk::{Talk, alone};
 use crate::{samples, talk_samples};
 use mega_link::MemClock;
 use std::alloc::Global;
@@ -163,5 +163,17 @@ fn three_nodes_commit_a_put_and_their_records_stand(rt: HostRuntime) -> Result<(
     let talk = Talk::begun(alloc, datagrams(alloc, samples::PUT_ASKED)?);
     let records = talk.records(alloc, 12)?;
     assert_eq!(rt; records.as_slice(), talk_samples::RECORDS.as_bytes());
+    Ok(())
+}
+
+#[test]
+fn a_schema_that_grew_shows_what_was_there(rt: HostRuntime) -> Result<(), Fail> {
+    let alloc = rt.alloc();
+    let asked = datagrams(alloc, samples::PUT_ASKED)?;
+    let first = alone(alloc, samples::ONE, asked, 8)?;
+    let devices = first.devices.ok_or("no devices")?;
+    let asked = datagrams(alloc, samples::READ_ASKED)?;
+    let grown = call(alloc, 1, 1, samples::GROWN, asked, still(alloc), devices)?;
+    assert_eq!(rt; grown.text.as_slice(), samples::GROWN_RECORD.as_bytes());
     Ok(())
 }

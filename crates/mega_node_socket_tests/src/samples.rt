@@ -53,3 +53,15 @@ pub const FULL: &str =
 /// A client asks node 1 for a put of user 101.
 pub const PUT_ASKED: &str =
     "c1 4d53011400010000000000000007000000837b22646f223a2274786e222c2267726f7570223a5b2255736572222c5b3130315d5d2c22636865636b73223a5b5d2c227265616473223a5b5d2c22777269746573223a5b7b22707574223a2255736572222c22726f77223a7b22757365725f6964223a3130312c226e616d65223a224a6f686e227d7d5d2c2273656e6473223a5b5d7d\n";
+
+/// One full node, under a schema with a table more.
+pub const GROWN: &str =
+    "nodes = [\"full\"]\nschema = \"CREATE SCHEMA S; CREATE TABLE User { required int64 user_id; required string name; } PRIMARY KEY(user_id), ENTITY GROUP ROOT; CREATE TABLE Photo { required int64 user_id; required int64 photo_id; } PRIMARY KEY(user_id, photo_id), IN TABLE User, ENTITY GROUP KEY(user_id) REFERENCES User;\"\naddresses = [\"127.0.0.1:7001\"]\n";
+
+/// A client asks node 1 for a snapshot of user 101.
+pub const READ_ASKED: &str =
+    "c1 4d53011400010000000000000008000000407b22646f223a2272656164222c226d6f6465223a22736e617073686f74222c2267726f7570223a5b2255736572222c5b3130315d5d2c22726f7773223a5b5d7d\n";
+
+/// What it records at its next start over the devices of one that has the put.
+pub const GROWN_RECORD: &str =
+    "start 1 2\napply 1 018000000000000065 1\ntick 1 0\nput 1 4d53011101010100000002000000000000000000000000\ngot client 1 4d53011400010000000000000008000000407b22646f223a2272656164222c226d6f6465223a22736e617073686f74222c2267726f7570223a5b2255736572222c5b3130315d5d2c22726f7773223a5b5d7d\nbegin 1.2.1 {\"do\":\"read\",\"group\":[\"User\",[101]],\"mode\":\"snapshot\",\"node\":1,\"rows\":[]}\nanswer 1.2.1 read 1 [[\"User\",{\"name\":\"John\",\"user_id\":101}]]\nput client 1 4d530115010000000000000000080000002f726561642031205b5b2255736572222c7b226e616d65223a224a6f686e222c22757365725f6964223a3130317d5d5d\n";

@@ -1,7 +1,7 @@
 //! Three nodes that talk over links in memory, one called after the other.
 ghost use Rattle.std.specs.Prelude.{◌≤◌};
 
-use crate::called::{Called, call, empty};
+use crate::called::{Called, call, empty, is_node};
 use crate::samples;
 use mega_base::{Bytes, Copied, NodeId};
 use mega_link::{MemClock, Peer};
@@ -30,22 +30,36 @@ fn copied(alloc: Global, mail: &[Option<(Peer, Bytes)>]) -> Result<Mail, Fail> {
 }
 
 /// Calls a node over devices that hold nothing, with a clock that shows 0, for as many turns as datagrams come to it.
-fn called(alloc: Global, number: u8, mail: &[Option<(Peer, Bytes)>]) -> Result<Called, Fail>
+fn called(
+    alloc: Global,
+    number: u8,
+    header: &str,
+    mail: &[Option<(Peer, Bytes)>],
+) -> Result<Called, Fail>
     requires least { 1 ≤ number }
     requires most { number ≤ 9 }
 {
     let coming = copied(alloc, mail)?;
     let turns = coming.len() as u64;
     let clock = MemClock::new(Vec::new(alloc));
-    call(
-        alloc,
-        number,
-        turns,
-        samples::FULL,
-        coming,
-        clock,
-        empty(alloc),
-    )
+    call(alloc, number, turns, header, coming, clock, empty(alloc))
+}
+
+/// A node that talks to itself: it is called so often with all that came to it before.
+pub fn alone(alloc: Global, header: &str, first: Mail, rounds: u64) -> Result<Called, Fail> {
+    let mut mail = first;
+    let mut seen = 0;
+    for _ in 0..rounds {
+        let made = called(alloc, 1, header, &mail)?;
+        let sent = made.link.sent();
+        for one in sent.iter().skip(seen) {
+            if is_node(one.0, 1) {
+                mail.push(Some((Peer::Node(NodeId(1)), one.1.copy(alloc)?)))?;
+            }
+        }
+        seen = sent.len();
+    }
+    called(alloc, 1, header, &mail)
 }
 
 impl Talk {
@@ -78,20 +92,24 @@ impl Talk {
         let mut talk = self;
         let mut seen = (0, 0, 0);
         for _ in 0..rounds {
-            let one = called(alloc, 1, &talk.one)?;
-            let two = called(alloc, 2, &talk.two)?;
-            let three = called(alloc, 3, &talk.three)?;
+            let one = called(alloc, 1, samples::FULL, &talk.one)?;
+            let two = called(alloc, 2, samples::FULL, &talk.two)?;
+            let three = called(alloc, 3, samples::FULL, &talk.three)?;
             seen.0 = talk.pass(alloc, &one, 1, seen.0)?;
             seen.1 = talk.pass(alloc, &two, 2, seen.1)?;
             seen.2 = talk.pass(alloc, &three, 3, seen.2)?;
         }
         let mut records = Bytes::new(alloc);
         records.extend_from_slice(b"record 1\n")?;
-        records.extend_from_slice(called(alloc, 1, &talk.one)?.text.as_slice())?;
+        records.extend_from_slice(called(alloc, 1, samples::FULL, &talk.one)?.text.as_slice())?;
         records.extend_from_slice(b"record 2\n")?;
-        records.extend_from_slice(called(alloc, 2, &talk.two)?.text.as_slice())?;
+        records.extend_from_slice(called(alloc, 2, samples::FULL, &talk.two)?.text.as_slice())?;
         records.extend_from_slice(b"record 3\n")?;
-        records.extend_from_slice(called(alloc, 3, &talk.three)?.text.as_slice())?;
+        records.extend_from_slice(
+            called(alloc, 3, samples::FULL, &talk.three)?
+                .text
+                .as_slice(),
+        )?;
         Ok(records)
     }
 }
