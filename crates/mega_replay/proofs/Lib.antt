@@ -7,7 +7,6 @@ pub mod NodeStops
 pub mod Progress
 pub mod Running
 pub mod Said
-pub mod Small
 pub mod Starts
 pub mod Steps
 pub mod Stopped

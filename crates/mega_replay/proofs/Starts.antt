@@ -6,7 +6,7 @@ use Rattle.mega_line_laws.specs.Clusters.{CanStart}
 use Rattle.mega_line_laws.proofs.Starting.{can_start}
 use Rattle.mega_view.specs.Small.{IsSmall}
 use Rattle.mega_replay.specs.Known.{IsRead}
-use Rattle.mega_replay.proofs.Small.{parsed_small}
+use Rattle.mega_node.proofs.Small.{parsed_small}
 
 pub starts : (c : Cluster) → IsRead c → CanStart c
 starts c read = can_start 1 read.0 c read.1
