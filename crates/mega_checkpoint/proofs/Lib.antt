@@ -1,0 +1,12 @@
+mod Adding
+mod Bytes
+mod Ended
+mod Fresh
+mod Fronts
+mod Joined
+mod Kept
+mod Offsets
+mod Plain
+mod Rooms
+mod Swapped
+mod Trimmed
