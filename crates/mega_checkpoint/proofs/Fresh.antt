@@ -137,7 +137,7 @@ length-zeros n = length-replicate n 0
 
 pub zeros_at : (n i : ℕ) → get_or (zero_bytes n) i 0 ≡ 0
 unfolding zero_bytes
-zeros_at n i = ⊎_elim (get_or-replicate n i 0 0) (λ past. get_or_past (replicate n 0) i 0 (let l = length-replicate n 0 in omega (arith, past, l))) (cases_lt i n)
+zeros_at n i = ⊎_elim (get_or-replicate n i 0 0) (λ past. get_or_past (replicate n 0) i 0 (let l = length-replicate {A = ℕ} n 0 in omega (arith, past, l))) (cases_lt i n)
 
 pub eight_zeros : (bytes : List ℕ) → bytes ++ drop 8 (zero_bytes 8) ≡ bytes
 eight_zeros bytes = ap (λ (l : List ℕ). bytes ++ l) (drop_all 8 (zero_bytes 8) (let l = length-zeros 8 in omega (arith, l))) ∙ append-nil bytes
@@ -163,7 +163,7 @@ module _ (zeros : List ℕ) (many : length zeros ≡ 12284) (all : (i : ℕ) →
   made_shut gate Even = ap (λ (b : ℕ). b == 1) (made_at gate 8192 (omega arith))
 
   pub made_form : (gate : ℕ) → gate ≢ 0 → is_areas (made gate) ≡ true
-  made_form gate some = areas_whole (made gate) (omega (arith, many)) (let e : (gate == 0) ≡ false = grind (arith, nat_tests) in λ i. not (e i))
+  made_form first other = areas_whole (made first) (omega (arith, many)) (let e : (first == 0) ≡ false = grind (arith, nat_tests) in λ i. not (e i) && true)
 
   pub made_list : (gate : ℕ) → list_of (made gate) ≡ []
   made_list gate = elim (cases_eq gate 0) [

@@ -42,6 +42,7 @@ pub(crate) fn is_open(bytes: &[u8], area: Area) -> bool
 }
 
 /// The generation of the area.
+#[tactic(auto, unfolding(crate::specs::Format::generation_of))]
 pub(crate) fn generation_of(bytes: &[u8], area: Area) -> u64
     requires { 12288 ≤ length bytes.now }
     ensures { result ≡ generation_of area bytes.now }

@@ -88,7 +88,8 @@ fn add_page<D: Disk>(disk: &mut D, zeros: &[u8], pages: u64) -> Result<(), DiskE
 /// So many zero bytes.
 #[tactic(auto, unfolding(crate::specs::Format::zero_bytes))]
 pub(crate) fn zeros(alloc: Global, size: usize) -> Result<Vec<u8>, NoMemory>
-    ensures { IfOk result (λ bytes. bytes.items ≡ zero_bytes size) }
+    ensures value { IfOk result (λ bytes. bytes.items ≡ zero_bytes size) }
+    ensures size { IfOk result (λ bytes. length bytes.items ≡ size) }
 {
     Ok(vec![in alloc; 0; size]?)
 }

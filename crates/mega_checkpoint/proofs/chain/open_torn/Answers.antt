@@ -1,4 +1,4 @@
-use Rattle.std.proofs.Common.{◌≡◌, ◌<◌, List, [], ℕ, false, get_or, sym, ◌∙◌, subst}
+use Rattle.std.proofs.Common.{rules, ◌≡◌, ◌<◌, List, [], ℕ, false, get_or, sym, ◌∙◌, subst}
 use Rattle.mega_disk.proofs.Leaves.{weaker_leaves}
 use Rattle.mega_disk.proofs.Steps.{cut_same}
 use Rattle.mega_checkpoint.specs.Format.{is_areas, list_of}
@@ -29,4 +29,5 @@ pub returns-clause-records : goal.returns-clause-records
 returns-clause-records g c told =
     let file = g.D.Disk.seen c.args.disk.now in
     let is = c.requires.bytes told in
-    sym (cut_none file (subst (λ (f : List ℕ). 1 < get_or f 0 0) is c.requires.torn) (subst (λ (f : List ℕ). is_areas f ≡ false) is c.requires.chain) file (cut_same 2 file))
+    let none : c.new-records.result.items ≡ [] = search rules in
+    none ∙ sym (cut_none file (subst (λ (f : List ℕ). 1 < get_or f 0 0) is c.requires.torn) (subst (λ (f : List ℕ). is_areas f ≡ false) is c.requires.chain) file (cut_same 2 file))

@@ -1,16 +1,24 @@
 use Rattle.std.proofs.Common.{◌≡◌, ℕ, ◌*◌, ◌<◌, ◌++◌, List, [], ◌∷◌, length, refl, sym, ◌∙◌, ap, subst, arith}
 use Rattle.byteorder.specs.Endian.{big_bytes}
-use Rattle.mega_disk.proofs.Leaves.{weaker_leaves, then_leaves}
+use Rattle.mega_disk.proofs.Leaves.{started, weaker_leaves, then_leaves}
 use Rattle.mega_checkpoint.specs.declared.area.Area.TheVariants.{Odd, Even}
 use Rattle.mega_checkpoint.specs.Format.{offset, list_of}
 use Rattle.mega_checkpoint.specs.Places.{Puts}
 use Rattle.mega_checkpoint.proofs.Offsets.{inside}
+use Rattle.mega_checkpoint.proofs.Fronts.{list_idle}
 use Rattle.mega_checkpoint.proofs.Fresh.{idle_list, first_list, first_form, first_counts, first_number, first_other, first_rests}
 use Rattle.mega_checkpoint.proofs.making.begin.Goals as goal
 
 pub set_byte-requires-clause-inside : goal.set_byte-requires-clause-inside
 set_byte-requires-clause-inside g c told =
     subst (λ (n : ℕ). offset Odd 0 < n) (sym (c.in_ok-stage.ensures.size told)) (inside Odd 0 c.args.pages (let some = c.requires.some in omega (arith, some)))
+
+pub returns-in_err-front-clause-any_moment : goal.returns-in_err-front-clause-any_moment
+returns-in_err-front-clause-any_moment g c told =
+    let disk = c.args.disk.now in
+    let h = c.requires.idle told in
+    started g.D.Disk.moment g.D.Disk.left_since disk _
+    (λ image since. ap list_of (h.durable image (g.met.D.Disk.only_now disk image since)) ∙ list_idle (g.D.Disk.seen disk) h.form h.odd_shut h.even_shut)
 
 pub returns-in_err-stage-clause-any_moment : goal.returns-in_err-stage-clause-any_moment
 returns-in_err-stage-clause-any_moment g c told =

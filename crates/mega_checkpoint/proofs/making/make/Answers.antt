@@ -1,12 +1,19 @@
 use Rattle.std.proofs.Common.{◌≡◌, ◌≤◌, ℕ, List, [], ◌∷◌, ◌++◌, length, get_or, refl, sym, ◌∙◌, ap, subst, arith}
 use Rattle.mega_disk.specs.Images.{overwritten, Torn, Only}
-use Rattle.mega_disk.proofs.Leaves.{weaker_leaves, then_leaves}
+use Rattle.mega_disk.proofs.Leaves.{started, weaker_leaves, then_leaves}
 use Rattle.mega_journal.proofs.Outcomes.{both_ok}
 use Rattle.mega_checkpoint.specs.Format.{list_of, zero_bytes}
 use Rattle.mega_checkpoint.specs.Held.{IsIdle}
 use Rattle.mega_checkpoint.proofs.Bytes.{torn_before}
 use Rattle.mega_checkpoint.proofs.Fresh.{list_few, list_shut, length-zeros, zeros_at, over_end, over_few, made, made_torn, made_idle}
 use Rattle.mega_checkpoint.proofs.making.make.Goals as goal
+
+pub returns-in_err-rest-clause-any_moment : goal.returns-in_err-rest-clause-any_moment
+returns-in_err-rest-clause-any_moment g c told =
+    let disk = c.args.disk.now in
+    let few = subst (λ (n : ℕ). n ≤ 1) (c.requires.size told) c.requires.few in
+    started g.D.Disk.moment g.D.Disk.left_since disk _
+    (λ image since. ap list_of (c.requires.durable told image (g.met.D.Disk.only_now disk image since)) ∙ list_few (g.D.Disk.seen disk) (omega (arith, few)))
 
 pub returns-in_err-write_through-clause-any_moment : goal.returns-in_err-write_through-clause-any_moment
 returns-in_err-write_through-clause-any_moment g c told =

@@ -1,4 +1,4 @@
-use Rattle.std.proofs.Common.{◌≡◌, ◌≤◌, List, [], ℕ, length, sym, ◌∙◌, ap, subst, arith}
+use Rattle.std.proofs.Common.{rules, ◌≡◌, ◌≤◌, List, [], ℕ, length, sym, ◌∙◌, ap, subst, arith}
 use Rattle.mega_disk.proofs.Leaves.{weaker_leaves, then_leaves}
 use Rattle.mega_checkpoint.specs.Format.{list_of}
 use Rattle.mega_checkpoint.proofs.Fresh.{list_few}
@@ -32,4 +32,5 @@ returns-clause-same g c told =
 pub returns-clause-records : goal.returns-clause-records
 returns-clause-records g c told =
     let file = g.D.Disk.seen c.args.disk.now in
-    sym (list_few file (let few = subst (λ (f : List ℕ). length f ≤ 1) (c.requires.bytes told) c.requires.few in omega (arith, few)))
+    let none : c.new-records.result.items ≡ [] = search rules in
+    none ∙ sym (list_few file (let few = subst (λ (f : List ℕ). length f ≤ 1) (c.requires.bytes told) c.requires.few in omega (arith, few)))
