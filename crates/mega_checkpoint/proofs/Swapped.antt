@@ -163,6 +163,10 @@ module _ (area : Area) (end : ℕ) (body old mid : List ℕ) (form : is_areas ol
       | inr other ↦ inl (list_beside area end mid new new_beside (gate_set (other_of area) byte mid new set ∙ (let e : (byte == 1) ≡ false = grind (arith, nat_tests) in e)) ∙ mid_list)
     ]
 
+pub was_open : (b : Bool) → not b ≡ false → b ≡ true
+was_open true none = refl
+was_open false none = absurd (cc)
+
 -- a file of areas has a page of each
 pub some_room : (file : List ℕ) (pages : ℕ) → length file ≡ length_of_pages pages → is_areas file ≡ true → 1 ≤ pages
 some_room file pages size form = let long = (areas_parts file form).0 in omega (arith, size, long)

@@ -7,7 +7,7 @@ use Rattle.mega_checkpoint.specs.Format.{other_of, offset, is_open, list_of}
 use Rattle.mega_checkpoint.specs.Held.{HoldsAreas, shut}
 use Rattle.mega_checkpoint.specs.Places.{Sets}
 use Rattle.mega_checkpoint.proofs.Offsets.{inside}
-use Rattle.mega_checkpoint.proofs.Swapped.{set_list, set_shut, some_room}
+use Rattle.mega_checkpoint.proofs.Swapped.{set_list, set_shut, some_room, was_open}
 use Rattle.mega_checkpoint.proofs.replacing.shut_other.Goals as goal
 
 pub set_byte-requires-clause-inside : goal.set_byte-requires-clause-inside
@@ -21,7 +21,7 @@ returns-clause-same g c told =
     let file = g.D.Disk.seen c.args.disk.now in
     let h = c.requires.held told in
     on_ok_weaker c.set_byte.result
-    (λ set. (set_list c.args.areas.active c.args.end file h.form h.counting h.at_rest (h.other ∙ c.if-not-areas.false) 0 (g.D.Disk.seen c.set_byte.new.disk) (subst (λ (a : Area). Sets a 0 0 file (g.D.Disk.seen c.set_byte.new.disk)) c.other.ensures set)))
+    (λ set. (set_list c.args.areas.active c.args.end file h.form h.counting h.at_rest (h.other ∙ was_open c.args.areas.other_open c.if-not-areas.false) 0 (g.D.Disk.seen c.set_byte.new.disk) (subst (λ (a : Area). Sets a 0 0 file (g.D.Disk.seen c.set_byte.new.disk)) c.other.ensures set)))
     (c.set_byte.ensures.set told)
 
 pub returns-clause-held : goal.returns-clause-held
@@ -37,4 +37,4 @@ returns-clause-any_moment g c told =
     let file = g.D.Disk.seen c.args.disk.now in
     let h = c.requires.held told in
     weaker_leaves g.D.Disk.moment g.D.Disk.left_since c.args.disk.now c.set_byte.new.disk _ _ (c.set_byte.ensures.any_moment told)
-    (λ image set. set_list c.args.areas.active c.args.end file h.form h.counting h.at_rest (h.other ∙ c.if-not-areas.false) set.0 image (subst (λ (a : Area). Sets a 0 set.0 file image) c.other.ensures set.1))
+    (λ image set. set_list c.args.areas.active c.args.end file h.form h.counting h.at_rest (h.other ∙ was_open c.args.areas.other_open c.if-not-areas.false) set.0 image (subst (λ (a : Area). Sets a 0 set.0 file image) c.other.ensures set.1))
