@@ -6,6 +6,9 @@ ghost use Rattle.mega_checkpoint.specs.Held.{is_due, length_replaced, length_wit
 /// The bytes of a page.
 pub(crate) const PAGE: u64 = 4096;
 
+/// The length in bytes that no file passes.
+pub(crate) const MAX_LENGTH: u64 = 1 << 40;
+
 /// So many records behind the last replacement make the list due for the next.
 const MANY: u64 = 4096;
 

@@ -6,15 +6,12 @@ ghost use Rattle.mega_checkpoint.specs.Format.{list_of};
 ghost use Rattle.mega_checkpoint.specs.Held.{IsHeld, IsHeld-prop, limit_of, pages_of};
 
 use crate::appending::add;
-use crate::area::Form;
+use crate::area::{Form, MAX_LENGTH};
 use crate::opening::open_file;
 use crate::replacing::replace_area;
 use mega_base::Bytes;
 use mega_disk::{Disk, DiskError, RecordError, Records};
 use std::alloc::Global;
-
-/// The length in bytes that no file passes.
-const MAX_LENGTH: u64 = 1 << 40;
 
 /// A list of records on one device, in two areas: one counts, and the other takes the list that is put in its place.
 #[derive(Drop)]

@@ -9,6 +9,7 @@ mod checkpoint;
 mod making;
 mod opening;
 mod reading;
+mod reopening;
 mod replacing;
 mod writing;
 

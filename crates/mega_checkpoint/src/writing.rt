@@ -67,7 +67,7 @@ fn write_area<D: Disk>(
 }
 
 /// Writes a page of zero bytes for each area behind the end of the file.
-fn add_page<D: Disk>(disk: &mut D, zeros: &[u8], pages: u64) -> Result<(), DiskError>
+pub(crate) fn add_page<D: Disk>(disk: &mut D, zeros: &[u8], pages: u64) -> Result<(), DiskError>
     requires zeros { length zeros.now ≡ 8192 }
     requires small { pages < 2 ^ 50 }
     requires size { D.is_told ≡ true → length (D.seen disk.old) ≡ length_of_pages pages }

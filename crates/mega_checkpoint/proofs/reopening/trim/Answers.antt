@@ -3,7 +3,7 @@ use Rattle.mega_disk.specs.Images.{Cut}
 use Rattle.mega_disk.proofs.Leaves.{started, goes_on}
 use Rattle.mega_checkpoint.specs.Format.{is_areas, length_of_pages, list_of, pages_in}
 use Rattle.mega_checkpoint.proofs.Trimmed.{cut_list}
-use Rattle.mega_checkpoint.proofs.opening.trim.Goals as goal
+use Rattle.mega_checkpoint.proofs.reopening.trim.Goals as goal
 
 pub returns-in_err-cut-clause-any_moment : goal.returns-in_err-cut-clause-any_moment
 returns-in_err-cut-clause-any_moment g c told =

@@ -9,7 +9,7 @@ use Rattle.mega_checkpoint.specs.Places.{Sets}
 use Rattle.mega_checkpoint.proofs.Offsets.{inside}
 use Rattle.mega_checkpoint.proofs.Plain.{shut_by, open_by}
 use Rattle.mega_checkpoint.proofs.Ended.{area_read, held_shut, held_closed, ended_list}
-use Rattle.mega_checkpoint.proofs.opening.shut_area.Goals as goal
+use Rattle.mega_checkpoint.proofs.reopening.shut_area.Goals as goal
 
 pub set_byte-requires-clause-inside : goal.set_byte-requires-clause-inside
 set_byte-requires-clause-inside g c told =

@@ -1,7 +1,7 @@
 use Rattle.std.proofs.Common.{List, ℕ, ◌*◌, ◌<◌, sym, ◌∙◌, ap, subst, arith}
 use Rattle.mega_checkpoint.specs.Format.{list_of, pages_in}
 use Rattle.mega_checkpoint.proofs.Fronts.{list_counts, pages_whole}
-use Rattle.mega_checkpoint.proofs.opening.open_area.Goals as goal
+use Rattle.mega_checkpoint.proofs.reopening.open_area.Goals as goal
 
 pub returns-clause-records : goal.returns-clause-records
 returns-clause-records g c told = c.in_ok-read.ensures.records ∙ sym (list_counts c.args.area c.args.bytes.now c.requires.areas c.requires.counts) ∙ ap list_of (c.requires.bytes told)
