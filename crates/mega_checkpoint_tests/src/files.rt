@@ -1,4 +1,4 @@
-//! A store over files that were changed, cut short, or are chains.
+//! A store over files whose growth was cut, or that are chains.
 use crate::device::{append_many, bytes_on, device, records_on};
 use mega_checkpoint::Checkpoint;
 use mega_disk::{Disk, MemDisk, Records};
@@ -7,20 +7,16 @@ use std::alloc::Global;
 use std::test::Fail;
 
 #[test]
-fn a_file_that_is_cut_or_changed_opens(rt: HostRuntime) -> Result<(), Fail> {
+fn a_growth_that_was_cut_is_made_whole(rt: HostRuntime) -> Result<(), Fail> {
     let alloc = rt.alloc();
-    let mut whole = MemDisk::new(alloc);
-    assert_eq!(rt; append_many(alloc, &mut whole, 20)?, 20);
-    let bytes = bytes_on(alloc, &mut whole)?;
-    for place in 0..200u64 {
-        let mut disk = device(alloc, bytes.as_slice())?;
-        disk.write(4096 + place, b"\xa5")?;
-        let found = records_on(alloc, &mut disk)?;
-        assert!(rt; found.len() <= 20);
-        disk.cut(4096 + place)?;
-        let found = records_on(alloc, &mut disk)?;
-        assert!(rt; found.len() <= 20);
-    }
+    let mut disk = MemDisk::new(alloc);
+    assert_eq!(rt; append_many(alloc, &mut disk, 20)?, 20);
+    let size = disk.len()?;
+    disk.write(size, &[0xa5; 100])?;
+    let found = records_on(alloc, &mut disk)?;
+    assert_eq!(rt; found.len(), 20);
+    assert_eq!(rt; disk.len()?, size + 8192);
+    assert_eq!(rt; append_many(alloc, &mut disk, 1)?, 21);
     Ok(())
 }
 

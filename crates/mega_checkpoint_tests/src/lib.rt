@@ -2,8 +2,16 @@
 #![tactic(auto)]
 
 #[cfg(test)]
+mod changed;
+#[cfg(test)]
+mod compacted;
+#[cfg(test)]
 mod device;
 #[cfg(test)]
+mod draws;
+#[cfg(test)]
 mod files;
+#[cfg(test)]
+mod plain;
 #[cfg(test)]
 mod stops;
