@@ -1,22 +1,21 @@
 -- A record that is written to the area that counts: what each write leaves, whole or torn.
-use Rattle.std.proofs.Common.{◌≡◌, ◌≢◌, ◌⊎◌, inl, inr, ⊎_elim, ℕ, ◌+◌, ◌-◌, ◌*◌, ◌<◌, ◌≤◌, ◌^◌, max, Bool, true, false, List, [], ◌∷◌, ◌++◌, length, get_or, take, drop, refl, sym, ◌∙◌, ap, subst, arith, append_assoc, length-append, take-append-drop}
-use Rattle.std.specs.Prelude.{◌==◌, ◌&&◌, ◌||◌, not}
+use Rattle.std.proofs.Common.{◌≡◌, ◌≢◌, ⊎_elim, ℕ, ◌+◌, ◌-◌, ◌*◌, ◌<◌, ◌≤◌, ◌^◌, true, List, [], ◌∷◌, ◌++◌, length, get_or, take, drop, refl, sym, ◌∙◌, ap, subst, arith, append_assoc, length-append, take-append-drop}
+use Rattle.std.specs.Prelude.{◌&&◌, ◌||◌, not}
 use Rattle.std.specs.Int.{to_be_bytes, w32}
-use Rattle.std.proofs.lemmas.Bool.{cases_lt, cases_eq}
-use Rattle.std.proofs.lemmas.List.{take_more, ext_get_or, get_or-take}
+use Rattle.std.proofs.lemmas.Bool.{cases_lt}
+use Rattle.std.proofs.lemmas.List.{ext_get_or}
 use Rattle.mega_disk.specs.Images.{overwritten, Torn}
 use Rattle.mega_disk.specs.RecordLists.{IsBeforeOrAfter}
 use Rattle.mega_disk.proofs.Steps.{torn_written}
-use Rattle.mega_journal.specs.Chain.{chain_of, records_of, behind_gate, AreShort}
+use Rattle.mega_journal.specs.Chain.{chain_of, records_of, behind_gate}
 use Rattle.mega_journal.specs.Rest.{IsAtRest}
 use Rattle.mega_journal.proofs.Written.{at_rest, front_and_gate, inside as gate_inside, torn_gate, at_rest_after, staged}
 use Rattle.mega_checkpoint.specs.declared.area.Area.{Area}
-use Rattle.mega_checkpoint.specs.declared.area.Area.TheVariants.{Odd, Even}
-use Rattle.mega_checkpoint.specs.Format.{first_page, other_of, offset, pages_in, length_of_pages, space, is_open, generation_of, chain_in, outranks, counts, is_marked, is_areas, list_of}
+use Rattle.mega_checkpoint.specs.Format.{other_of, offset, pages_in, length_of_pages, is_open, generation_of, chain_in, outranks, counts, is_marked, is_areas, list_of}
 use Rattle.mega_checkpoint.specs.Places.{Keeps, Puts, Sets}
 use Rattle.mega_checkpoint.proofs.Bytes.{over_before, over_there, over_after, length-over}
 use Rattle.mega_checkpoint.proofs.Offsets.{ascends, apart, behind_head, inside}
-use Rattle.mega_checkpoint.proofs.Fronts.{SameFront, same_chain, same_gate, same_generation, same_mark, areas_parts, areas_whole, list_counts, length-chain, get_or-chain, pages_parted, pages_more, pages_whole}
+use Rattle.mega_checkpoint.proofs.Fronts.{SameFront, same_chain, same_gate, same_generation, same_mark, areas_parts, areas_whole, list_counts, length-chain, get_or-chain, pages_parted, pages_whole}
 
 -- a chain with the same bytes through its closed gate
 pub closed : (file c : List ℕ) (end : ℕ) → IsAtRest file end → take (end + 1) c ≡ take (end + 1) file → IsAtRest c end × (records_of c ≡ records_of file)

@@ -1,5 +1,5 @@
 -- A file of at most one byte that becomes one of areas, and its first generation.
-use Rattle.std.proofs.Common.{◌≡◌, ◌≢◌, ◌⊎◌, inl, inr, ⊎_elim, ℕ, ◌+◌, ◌-◌, ◌*◌, ◌<◌, ◌≤◌, ◌^◌, Bool, true, false, List, [], ◌∷◌, ◌++◌, length, get_or, take, drop, replicate, refl, sym, ◌∙◌, ap, subst, arith}
+use Rattle.std.proofs.Common.{◌≡◌, ◌≢◌, inl, inr, ⊎_elim, ℕ, ◌+◌, ◌-◌, ◌*◌, ◌<◌, ◌≤◌, true, false, List, [], ◌∷◌, ◌++◌, length, get_or, drop, replicate, refl, ◌∙◌, ap, arith}
 use Rattle.std.specs.Prelude.{◌==◌, ◌&&◌, not}
 use Rattle.std.proofs.lemmas.Bool.{cases_eq, cases_lt}
 use Rattle.std.proofs.lemmas.Bool.Decides.{nat_tests}
@@ -13,13 +13,13 @@ use Rattle.mega_journal.proofs.Records.{records_none, first_closed, first_torn}
 use Rattle.mega_journal.proofs.Written.{at_rest}
 use Rattle.mega_checkpoint.specs.declared.area.Area.{Area}
 use Rattle.mega_checkpoint.specs.declared.area.Area.TheVariants.{Odd, Even}
-use Rattle.mega_checkpoint.specs.Format.{offset, pages_in, length_of_pages, is_open, generation_of, chain_in, counts, is_marked, is_areas, list_of, zero_bytes}
+use Rattle.mega_checkpoint.specs.Format.{offset, pages_in, is_open, generation_of, chain_in, counts, is_areas, list_of, zero_bytes}
 use Rattle.mega_checkpoint.specs.Held.{HoldsChain, IsIdle}
 use Rattle.mega_checkpoint.specs.Places.{Keeps, Puts, Sets}
-use Rattle.mega_checkpoint.proofs.Bytes.{torn_before, torn_after, length-over}
+use Rattle.mega_checkpoint.proofs.Bytes.{length-over}
 use Rattle.mega_checkpoint.proofs.Offsets.{ascends}
-use Rattle.mega_checkpoint.proofs.Fronts.{no_areas_by_mark, no_areas_by_length, areas_parts, areas_whole, list_none, list_idle, list_counts, same_generation, generation_put, counts_alone, length-chain, get_or-chain, pages_whole}
-use Rattle.mega_checkpoint.proofs.Adding.{areas_stay, front_stays, other_stays, some_pages, in_pages, put_keeps, set_keeps}
+use Rattle.mega_checkpoint.proofs.Fronts.{no_areas_by_mark, no_areas_by_length, areas_parts, areas_whole, list_none, list_idle, list_counts, same_generation, generation_put, counts_alone, length-chain, get_or-chain}
+use Rattle.mega_checkpoint.proofs.Adding.{areas_stay, other_stays, some_pages, in_pages, put_keeps, set_keeps}
 use Rattle.mega_checkpoint.proofs.Swapped.{gate_stays, gate_set}
 use Rattle.mega_checkpoint.proofs.Plain.{no_first, none_closed}
 

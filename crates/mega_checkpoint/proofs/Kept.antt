@@ -1,10 +1,10 @@
 -- How pieces that are written to an area, whole or torn, leave a file.
-use Rattle.std.proofs.Common.{◌≡◌, ◌≢◌, ◌⊎◌, inl, inr, ⊎_elim, ℕ, ◌+◌, ◌-◌, ◌*◌, ◌<◌, ◌≤◌, max, List, [], ◌∷◌, ◌++◌, length, get_or, take, drop, refl, sym, ◌∙◌, ap, subst, arith, length-take-le, length-take, length-drop}
-use Rattle.std.specs.Prelude.{◌/◌, ◌%◌}
-use Rattle.std.proofs.lemmas.Bool.{cases_lt, cases_eq}
+use Rattle.std.proofs.Common.{◌≡◌, ◌≢◌, ◌⊎◌, inl, inr, ⊎_elim, ℕ, ◌+◌, ◌-◌, ◌<◌, ◌≤◌, List, [], ◌∷◌, length, get_or, take, drop, refl, sym, ◌∙◌, ap, subst, arith, length-take-le, length-take, length-drop}
+use Rattle.std.specs.Prelude.{◌%◌}
+use Rattle.std.proofs.lemmas.Bool.{cases_lt}
 use Rattle.mega_disk.specs.Images.{overwritten, Torn}
 use Rattle.mega_checkpoint.specs.declared.area.Area.{Area}
-use Rattle.mega_checkpoint.specs.Format.{offset, other_of}
+use Rattle.mega_checkpoint.specs.Format.{offset}
 use Rattle.mega_checkpoint.specs.Places.{Keeps, Puts, Sets, SetsAny}
 use Rattle.mega_checkpoint.proofs.Bytes.{torn_before, torn_after, over_before, over_there, over_after, length-over}
 use Rattle.std.specs.Prelude.{slice_range}

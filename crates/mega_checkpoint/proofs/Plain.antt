@@ -1,6 +1,6 @@
 -- A chain that does not begin as a file of areas does: it stays so, whatever a write leaves of it.
-use Rattle.std.proofs.Common.{◌≡◌, ◌≢◌, ◌⊎◌, inl, inr, ⊎_elim, ℕ, ◌+◌, ◌*◌, ◌<◌, ◌≤◌, ◌^◌, Bool, true, false, List, [], ◌∷◌, ◌++◌, length, get_or, take, drop, refl, sym, ◌∙◌, ap, subst, arith, append_assoc, length-append, length-take}
-use Rattle.std.specs.Prelude.{◌==◌, ◌&&◌, not, nat_le}
+use Rattle.std.proofs.Common.{◌≡◌, ◌≢◌, ◌⊎◌, inl, inr, ⊎_elim, ℕ, ◌+◌, ◌<◌, ◌≤◌, ◌^◌, Bool, true, false, List, [], ◌∷◌, ◌++◌, length, get_or, drop, refl, sym, ◌∙◌, ap, subst, arith, append_assoc, length-append, length-take}
+use Rattle.std.specs.Prelude.{◌==◌, ◌&&◌, not}
 use Rattle.std.specs.Int.{from_be_bytes, to_be_bytes, w32}
 use Rattle.std.proofs.lemmas.Bool.{cases_lt, cases_eq}
 use Rattle.std.proofs.lemmas.Bool.Decides.{nat_tests}
@@ -9,8 +9,8 @@ use Rattle.std.proofs.lemmas.Nat.{from_be_bytes-to_be_bytes_4}
 use Rattle.mega_disk.specs.Images.{overwritten, Torn, Cut, Only}
 use Rattle.mega_disk.specs.RecordLists.{IsBeforeOrAfter}
 use Rattle.mega_disk.proofs.Steps.{torn_written}
-use Rattle.mega_journal.specs.Chain.{record_of, chain_of, records_of, behind_gate, AreShort}
-use Rattle.mega_journal.specs.Rest.{IsAtRest, IsRead, IsSettled}
+use Rattle.mega_journal.specs.Chain.{record_of, chain_of, records_of, behind_gate}
+use Rattle.mega_journal.specs.Rest.{IsAtRest, IsRead}
 use Rattle.mega_journal.proofs.Records.{records_none, first_closed}
 use Rattle.mega_journal.proofs.Written.{torn_behind, torn_gate, at_rest_after, inside as gate_inside}
 use Rattle.mega_journal.proofs.Repaired.{torn_end, closed_end, shut_end, open_end}

@@ -1,10 +1,10 @@
 -- A record that is written to the other area in place of all: what each write leaves, whole or torn.
-use Rattle.std.proofs.Common.{◌≡◌, ◌≢◌, ◌⊎◌, inl, inr, ⊎_elim, ℕ, ◌+◌, ◌-◌, ◌*◌, ◌<◌, ◌≤◌, ◌^◌, Bool, true, false, List, [], ◌∷◌, ◌++◌, length, get_or, take, drop, refl, sym, ◌∙◌, ap, subst, arith, append_assoc, length-append}
+use Rattle.std.proofs.Common.{◌≡◌, inl, inr, ℕ, ◌+◌, ◌-◌, ◌*◌, ◌<◌, ◌≤◌, ◌^◌, Bool, true, false, List, [], ◌∷◌, ◌++◌, length, get_or, drop, refl, sym, ◌∙◌, ap, subst, arith, append_assoc, length-append}
 use Rattle.std.specs.Prelude.{◌==◌, ◌&&◌, ◌||◌, not}
 use Rattle.std.specs.Int.{to_be_bytes, w32}
 use Rattle.std.proofs.lemmas.Bool.{cases_eq}
 use Rattle.std.proofs.lemmas.Bool.Decides.{nat_tests}
-use Rattle.std.proofs.lemmas.List.{append-nil, get_or_append_left, get_or-append_right}
+use Rattle.std.proofs.lemmas.List.{append-nil, get_or-append_right}
 use Rattle.byteorder.specs.Endian.{big_bytes}
 use Rattle.mega_disk.specs.RecordLists.{IsOldOrReplaced}
 use Rattle.mega_journal.specs.Chain.{record_of, chain_of, records_of}
@@ -14,10 +14,10 @@ use Rattle.mega_disk.specs.Images.{Only}
 use Rattle.mega_checkpoint.specs.declared.area.Area.{Area}
 use Rattle.mega_checkpoint.specs.declared.area.Areas.{Areas}
 use Rattle.mega_checkpoint.specs.Held.{HoldsAreas, shut}
-use Rattle.mega_checkpoint.specs.Format.{first_page, other_of, offset, pages_in, length_of_pages, is_open, generation_of, chain_in, counts, outranks, is_marked, is_areas, list_of, replacing}
+use Rattle.mega_checkpoint.specs.Format.{other_of, offset, pages_in, length_of_pages, is_open, generation_of, chain_in, counts, outranks, is_areas, list_of, replacing}
 use Rattle.mega_checkpoint.specs.Places.{Keeps, Puts, Sets}
-use Rattle.mega_checkpoint.proofs.Offsets.{inside, ascends}
-use Rattle.mega_checkpoint.proofs.Fronts.{SameFront, same_chain, same_gate, same_generation, areas_parts, areas_whole, list_counts, length-chain, pages_parted, pages_whole, counts_open, counts_alone, counts_later, other_other, equal_chain, generation_put, first_offset}
+use Rattle.mega_checkpoint.proofs.Offsets.{ascends}
+use Rattle.mega_checkpoint.proofs.Fronts.{SameFront, same_chain, same_gate, same_generation, areas_parts, areas_whole, list_counts, length-chain, pages_whole, counts_open, counts_alone, counts_later, other_other, equal_chain, generation_put, first_offset}
 use Rattle.mega_checkpoint.proofs.Adding.{areas_stay, front_stays, other_stays, some_pages, in_pages, closed, put_chain, put_keeps, set_keeps}
 
 -- the area that counts is as it was beside the other

@@ -1,12 +1,12 @@
 -- A file of areas that is cut to its whole pages, or to any length from there on.
-use Rattle.std.proofs.Common.{◌≡◌, ◌≢◌, ℕ, ◌+◌, ◌*◌, ◌<◌, ◌≤◌, Bool, true, false, List, [], ◌∷◌, length, get_or, take, refl, sym, ◌∙◌, ap, subst, arith, length-take-le, length-take}
+use Rattle.std.proofs.Common.{◌≡◌, ℕ, ◌+◌, ◌*◌, ◌<◌, ◌≤◌, true, List, [], length, get_or, take, sym, ◌∙◌, ap, arith, length-take-le, length-take}
 use Rattle.std.specs.Prelude.{◌&&◌, ◌||◌, not, if◌then◌else◌}
-use Rattle.std.proofs.lemmas.List.{get_or-take, take-take, take_all}
+use Rattle.std.proofs.lemmas.List.{get_or-take, take-take}
 use Rattle.mega_disk.specs.Images.{Cut}
 use Rattle.mega_journal.specs.Chain.{records_of}
 use Rattle.mega_checkpoint.specs.declared.area.Area.{Area}
 use Rattle.mega_checkpoint.specs.declared.area.Area.TheVariants.{Odd, Even}
-use Rattle.mega_checkpoint.specs.Format.{other_of, offset, pages_in, length_of_pages, is_open, generation_of, chain_in, outranks, counts, is_marked, is_areas, area_records, list_of}
+use Rattle.mega_checkpoint.specs.Format.{other_of, offset, pages_in, length_of_pages, is_open, generation_of, chain_in, outranks, counts, is_areas, list_of}
 use Rattle.mega_checkpoint.proofs.Offsets.{inside}
 use Rattle.mega_checkpoint.proofs.Fronts.{same_mark, same_gate, same_generation, areas_parts, areas_whole, list_areas, pages_parted, pages_more, pages_whole, equal_chain}
 

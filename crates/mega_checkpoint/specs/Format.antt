@@ -3,7 +3,7 @@ use Rattle.std.specs.Prelude.{ℕ, ◌+◌, ◌-◌, ◌*◌, ◌/◌, ◌%◌, 
 use Rattle.std.specs.Int.{to_be_bytes, w32}
 use Rattle.std.specs.List.{range_with_len}
 use Rattle.byteorder.specs.Endian.{big_number, big_bytes}
-use Rattle.mega_journal.specs.Chain.{record_of, records_of}
+use Rattle.mega_journal.specs.Chain.{records_of}
 use Rattle.mega_checkpoint.specs.declared.area.Area.{Area}
 use Rattle.mega_checkpoint.specs.declared.area.Area.TheVariants.{Odd, Even}
 

@@ -1,10 +1,9 @@
 -- A file of records between two calls.
-use Rattle.std.specs.Prelude.{◌≡◌, ℕ, ◌+◌, ◌-◌, ◌*◌, ◌≤◌, ◌<◌, ◌^◌, max, Bool, true, false, ◌&&◌, nat_le, nat_lt, if◌then◌else◌, List, length, get_or}
+use Rattle.std.specs.Prelude.{◌≡◌, ℕ, ◌+◌, ◌-◌, ◌*◌, ◌^◌, max, Bool, true, false, ◌&&◌, nat_le, nat_lt, if◌then◌else◌, List, length, get_or}
 use denote.Struct.Props as logic
 use Rattle.std.specs.List.{AllByRecursion-prop}
 use Rattle.mega_disk.specs.Images.{Only}
 use Rattle.mega_journal.specs.Rest.{IsAtRest, IsSettled}
-use Rattle.mega_checkpoint.specs.declared.area.Area.{Area}
 use Rattle.mega_checkpoint.specs.declared.area.Area.TheVariants.{Odd, Even}
 use Rattle.mega_checkpoint.specs.declared.area.Areas.{Areas}
 use Rattle.mega_checkpoint.specs.declared.area.Form.{Form}

@@ -1,5 +1,5 @@
 -- What writes to an area leave of a file.
-use Rattle.std.specs.Prelude.{◌≡◌, ◌≢◌, ℕ, ◌+◌, ◌<◌, ◌≤◌, List, [], ◌∷◌, length, get_or}
+use Rattle.std.specs.Prelude.{◌≡◌, ◌≢◌, ℕ, ◌+◌, ◌<◌, ◌≤◌, List, length, get_or}
 use Rattle.mega_checkpoint.specs.declared.area.Area.{Area}
 use Rattle.mega_checkpoint.specs.Format.{offset}
 

@@ -104,7 +104,7 @@ fn changed_files_of_areas_open_as_their_bytes_say(rt: HostRuntime) -> Result<(),
     append_drawn(alloc, &mut store)?;
     let file = bytes_on(alloc, &mut store.close())?;
     assert_eq!(rt; file.len(), 20480);
-    assert_all_open(&rt, alloc, file.as_slice(), 4000)
+    assert_all_open(&rt, alloc, file.as_slice(), 40)
 }
 
 #[test]
@@ -116,7 +116,7 @@ fn changed_chains_open_as_their_bytes_say(rt: HostRuntime) -> Result<(), Fail> {
     };
     append_drawn(alloc, &mut journal)?;
     let file = bytes_on(alloc, &mut journal.close())?;
-    assert_all_open(&rt, alloc, file.as_slice(), 3000)
+    assert_all_open(&rt, alloc, file.as_slice(), 30)
 }
 
 #[test]
@@ -131,5 +131,5 @@ fn changed_files_with_a_replacement_open_as_their_bytes_say(rt: HostRuntime) -> 
     store.replace(alloc, b"all")?;
     append_drawn(alloc, &mut store)?;
     let file = bytes_on(alloc, &mut store.close())?;
-    assert_all_open(&rt, alloc, file.as_slice(), 3000)
+    assert_all_open(&rt, alloc, file.as_slice(), 30)
 }

@@ -1,4 +1,4 @@
-use Rattle.std.proofs.Common.{◌≡◌, ℕ, ◌+◌, ◌*◌, ◌<◌, List, [], ◌∷◌, length, inl, inr, sym, ◌∙◌, ap, subst, arith}
+use Rattle.std.proofs.Common.{◌≡◌, ℕ, ◌+◌, ◌<◌, List, length, inl, sym, ◌∙◌, ap, subst, arith}
 use Rattle.mega_disk.specs.RecordLists.{IsBeforeOrAfter}
 use Rattle.mega_disk.proofs.Leaves.{weaker_leaves, then_leaves}
 use Rattle.mega_checkpoint.specs.Format.{list_of, offset}

@@ -1,6 +1,6 @@
-use Rattle.std.proofs.Common.{◌≡◌, ◌<◌, ◌≤◌, length-take-le, ℕ, List, [], ◌∷◌, false, length, get_or, take, drop, refl, sym, ◌∙◌, ap, subst, arith}
+use Rattle.std.proofs.Common.{◌≡◌, ◌<◌, ◌≤◌, length-take-le, ℕ, List, [], false, length, get_or, sym, ◌∙◌, ap, subst}
 use Rattle.std.proofs.lemmas.Result.{on_ok_weaker}
-use Rattle.mega_disk.specs.Images.{overwritten, Torn, Cut, Only}
+use Rattle.mega_disk.specs.Images.{Cut, Only}
 use Rattle.mega_disk.proofs.Leaves.{started, goes_on, then_leaves}
 use Rattle.mega_disk.proofs.Steps.{cut_same}
 use Rattle.mega_journal.proofs.Outcomes.{both_ok}

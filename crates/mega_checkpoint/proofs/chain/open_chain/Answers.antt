@@ -1,5 +1,4 @@
-use Rattle.std.proofs.Common.{List, ℕ, sym, ◌∙◌, ap}
-use Rattle.mega_disk.proofs.Leaves.{started}
+use Rattle.std.proofs.Common.{sym, ◌∙◌, ap}
 use Rattle.mega_checkpoint.specs.Format.{list_of}
 use Rattle.mega_checkpoint.proofs.Fronts.{list_none}
 use Rattle.mega_checkpoint.proofs.chain.open_chain.Goals as goal

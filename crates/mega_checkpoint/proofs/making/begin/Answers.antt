@@ -1,7 +1,6 @@
-use Rattle.std.proofs.Common.{◌≡◌, ℕ, ◌*◌, ◌<◌, ◌++◌, List, [], ◌∷◌, length, refl, sym, ◌∙◌, ap, subst, arith}
-use Rattle.byteorder.specs.Endian.{big_bytes}
+use Rattle.std.proofs.Common.{◌≡◌, ℕ, ◌<◌, List, [], refl, sym, ◌∙◌, ap, subst, arith}
 use Rattle.mega_disk.proofs.Leaves.{started, weaker_leaves, then_leaves}
-use Rattle.mega_checkpoint.specs.declared.area.Area.TheVariants.{Odd, Even}
+use Rattle.mega_checkpoint.specs.declared.area.Area.TheVariants.{Odd}
 use Rattle.mega_checkpoint.specs.Format.{offset, list_of}
 use Rattle.mega_checkpoint.specs.Places.{Puts}
 use Rattle.mega_checkpoint.proofs.Offsets.{inside}

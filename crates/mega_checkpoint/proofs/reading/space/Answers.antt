@@ -1,4 +1,4 @@
-use Rattle.std.proofs.Common.{rules, ◌≡◌, ℕ, ◌+◌, ◌*◌, List, ◌++◌, sym, ◌∙◌, ap, arith}
+use Rattle.std.proofs.Common.{rules, ◌≡◌, ℕ, ◌+◌, ◌*◌, List, ◌++◌, ◌∙◌, ap}
 use Rattle.std.specs.Prelude.{slice_range}
 use Rattle.mega_checkpoint.specs.Format.{space}
 use Rattle.mega_checkpoint.proofs.Joined.{joined_more}

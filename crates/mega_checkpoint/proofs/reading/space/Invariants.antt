@@ -1,4 +1,4 @@
-use Rattle.std.proofs.Common.{◌≡◌, ◌-◌, ◌*◌, ◌≤◌, ℕ, map, get_or}
+use Rattle.std.proofs.Common.{◌≡◌, ◌-◌, ◌*◌, ◌≤◌, map, get_or}
 use Rattle.std.specs.List.{range_with_len}
 use Rattle.mega_checkpoint.specs.Format.{offset}
 use Rattle.mega_checkpoint.proofs.reading.space.Given as goal

@@ -1,4 +1,4 @@
-use Rattle.std.proofs.Common.{◌≡◌, ℕ, ◌+◌, ◌*◌, ◌≤◌, List, length, refl, sym, ◌∙◌, ap, subst, arith}
+use Rattle.std.proofs.Common.{◌≡◌, ℕ, ◌+◌, ◌≤◌, List, length, sym, ◌∙◌, ap, subst, arith}
 use Rattle.mega_disk.proofs.Leaves.{started, weaker_leaves, goes_on}
 use Rattle.mega_checkpoint.specs.declared.area.Areas.{Areas}
 use Rattle.mega_checkpoint.specs.Format.{length_of_pages, list_of}

@@ -1,4 +1,4 @@
-use Rattle.std.proofs.Common.{List, ℕ, ◌*◌, ◌<◌, sym, ◌∙◌, ap, subst, arith}
+use Rattle.std.proofs.Common.{sym, ◌∙◌, ap, arith}
 use Rattle.mega_checkpoint.specs.Format.{list_of, pages_in}
 use Rattle.mega_checkpoint.proofs.Fronts.{list_counts, pages_whole}
 use Rattle.mega_checkpoint.proofs.reopening.open_area.Goals as goal

@@ -1,4 +1,4 @@
-use Rattle.std.proofs.Common.{rules, ◌≡◌, List, ℕ, true, length, take, refl, sym, ◌∙◌, ap, subst}
+use Rattle.std.proofs.Common.{◌≡◌, List, ℕ, true, length, take, ◌∙◌, ap, subst}
 use Rattle.mega_disk.proofs.Leaves.{then_leaves}
 use Rattle.mega_checkpoint.specs.Format.{is_areas, length_of_pages, list_of, pages_in}
 use Rattle.mega_checkpoint.proofs.Trimmed.{whole_list}

@@ -1,9 +1,9 @@
-use Rattle.std.proofs.Common.{◌≡◌, ℕ, ◌+◌, ◌<◌, List, length, get_or, sym, ◌∙◌, ap, subst, arith}
+use Rattle.std.proofs.Common.{ℕ, ◌+◌, ◌<◌, List, length, get_or, sym, ◌∙◌, ap, subst}
 use Rattle.std.proofs.lemmas.Result.{on_ok_weaker}
 use Rattle.mega_disk.specs.Images.{Only}
 use Rattle.mega_disk.proofs.Leaves.{weaker_leaves}
 use Rattle.mega_journal.proofs.Outcomes.{both_ok}
-use Rattle.mega_checkpoint.specs.Format.{chain_in, list_of, offset, length_of_pages}
+use Rattle.mega_checkpoint.specs.Format.{chain_in, list_of, offset}
 use Rattle.mega_checkpoint.specs.Held.{HoldsAreas}
 use Rattle.mega_checkpoint.specs.Places.{Sets}
 use Rattle.mega_checkpoint.proofs.Offsets.{inside}

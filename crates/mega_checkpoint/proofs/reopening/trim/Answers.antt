@@ -1,4 +1,4 @@
-use Rattle.std.proofs.Common.{◌≡◌, ℕ, List, true, length, sym, ◌∙◌, ap, subst}
+use Rattle.std.proofs.Common.{◌≡◌, ℕ, List, true, length, ◌∙◌, ap, subst}
 use Rattle.mega_disk.specs.Images.{Cut}
 use Rattle.mega_disk.proofs.Leaves.{started, goes_on}
 use Rattle.mega_checkpoint.specs.Format.{is_areas, length_of_pages, list_of, pages_in}

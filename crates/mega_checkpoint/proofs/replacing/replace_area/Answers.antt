@@ -1,8 +1,7 @@
-use Rattle.std.proofs.Common.{◌≡◌, ℕ, ◌+◌, ◌*◌, ◌<◌, ◌^◌, List, [], ◌∷◌, ◌++◌, length, true, inl, inr, refl, sym, ◌∙◌, ap, subst, arith}
+use Rattle.std.proofs.Common.{◌≡◌, ℕ, ◌+◌, ◌<◌, ◌^◌, List, length, true, inl, refl, sym, ◌∙◌, ap, subst, arith}
 use Rattle.mega_disk.specs.RecordLists.{IsOldOrReplaced}
 use Rattle.mega_disk.proofs.Leaves.{weaker_leaves, then_leaves}
 use Rattle.mega_checkpoint.specs.declared.area.Area.{Area}
-use Rattle.mega_checkpoint.specs.declared.area.Areas.{Areas}
 use Rattle.mega_checkpoint.specs.Format.{other_of, offset, is_open, generation_of, list_of, replacing}
 use Rattle.mega_checkpoint.specs.Held.{HoldsAreas}
 use Rattle.mega_checkpoint.specs.Places.{Keeps, Puts, Sets}

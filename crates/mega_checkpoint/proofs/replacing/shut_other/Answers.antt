@@ -1,10 +1,9 @@
-use Rattle.std.proofs.Common.{◌≡◌, ℕ, ◌+◌, ◌*◌, ◌<◌, List, length, true, false, refl, sym, ◌∙◌, ap, subst, arith}
+use Rattle.std.proofs.Common.{ℕ, ◌<◌, sym, ◌∙◌, subst, arith}
 use Rattle.std.proofs.lemmas.Result.{on_ok_weaker}
 use Rattle.mega_disk.proofs.Leaves.{weaker_leaves}
 use Rattle.mega_journal.proofs.Outcomes.{both_ok}
 use Rattle.mega_checkpoint.specs.declared.area.Area.{Area}
-use Rattle.mega_checkpoint.specs.Format.{other_of, offset, is_open, list_of}
-use Rattle.mega_checkpoint.specs.Held.{HoldsAreas, shut}
+use Rattle.mega_checkpoint.specs.Format.{offset}
 use Rattle.mega_checkpoint.specs.Places.{Sets}
 use Rattle.mega_checkpoint.proofs.Offsets.{inside}
 use Rattle.mega_checkpoint.proofs.Swapped.{set_list, set_shut, some_room, was_open}

@@ -1,6 +1,5 @@
-use Rattle.std.proofs.Common.{ℕ, List, [], length, ◌≤◌, sym, ◌∙◌, ap, subst, arith}
+use Rattle.std.proofs.Common.{ℕ, List, [], length, ◌≤◌, sym, ◌∙◌, subst}
 use Rattle.std.proofs.lemmas.Result.{on_ok_weaker}
-use Rattle.mega_disk.specs.Images.{overwritten, Torn}
 use Rattle.mega_disk.proofs.Leaves.{started, goes_on}
 use Rattle.mega_checkpoint.specs.Places.{Keeps, Puts}
 use Rattle.mega_checkpoint.proofs.Kept.{put_behind, behind_kept}

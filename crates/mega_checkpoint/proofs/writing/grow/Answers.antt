@@ -1,7 +1,7 @@
-use Rattle.std.proofs.Common.{rules, ℕ, List, ◌≤◌, sym, ◌∙◌, subst, arith}
+use Rattle.std.proofs.Common.{rules, arith}
 use Rattle.mega_disk.proofs.Leaves.{then_leaves}
 use Rattle.mega_checkpoint.specs.Places.{Keeps}
-use Rattle.mega_checkpoint.proofs.Kept.{put_none, put_both}
+use Rattle.mega_checkpoint.proofs.Kept.{put_both}
 use Rattle.mega_checkpoint.proofs.writing.grow.Goals as goal
 
 pub loop-at-preserved : goal.loop-at-preserved

@@ -1,8 +1,6 @@
-use Rattle.std.proofs.Common.{rules, ℕ, ◌+◌, ◌-◌, ◌≤◌, min, List, length, get_or, take, drop, refl, sym, ◌∙◌, ap, subst, arith, length-take, length-drop}
-use Rattle.std.specs.Prelude.{slice_range}
-use Rattle.std.proofs.lemmas.List.{get_or-take, get_or-drop, take_all}
+use Rattle.std.proofs.Common.{rules, ◌+◌, min, ◌∙◌, arith}
 use Rattle.mega_disk.proofs.Leaves.{then_leaves}
-use Rattle.mega_checkpoint.specs.Places.{Keeps, Puts}
+use Rattle.mega_checkpoint.specs.Places.{Keeps}
 use Rattle.mega_checkpoint.proofs.Kept.{put_read, lowers_on}
 use Rattle.mega_checkpoint.proofs.writing.write_area.Goals as goal
 
