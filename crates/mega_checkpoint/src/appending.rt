@@ -1,7 +1,7 @@
 //! Appends a record to the area that counts.
-ghost use Rattle.std.specs.Prelude.{◌≡◌, ◌+◌, ◌*◌, ◌<◌, ◌≤◌, ◌^◌, ◌++◌, [], ◌∷◌, true, false, max, length, IfOk, OnOk};
+ghost use Rattle.std.specs.Prelude.{◌≡◌, ◌+◌, ◌*◌, ◌<◌, ◌≤◌, ◌^◌, ◌++◌, [], ◌∷◌, true, max, length, IfOk, OnOk};
 ghost use Rattle.mega_base.specs.Causes.{Rose};
-ghost use Rattle.mega_disk.specs.Images.{Only, LeavesOnly};
+ghost use Rattle.mega_disk.specs.Images.{LeavesOnly};
 ghost use Rattle.mega_disk.specs.Fuse.{LowersBy, MayBurn, Burns};
 ghost use Rattle.mega_disk.specs.RecordLists.{IsBeforeOrAfter};
 ghost use Rattle.mega_checkpoint.specs.Format.{list_of, length_of_pages, pages_for};

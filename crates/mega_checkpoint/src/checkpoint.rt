@@ -30,7 +30,7 @@ pub struct Checkpoint<D: Disk> {
 }
 
 impl<D: Disk> Checkpoint<D> {
-    ghost use Rattle.std.specs.Prelude.{IfOk, IfErr, Err, ◌≢◌};
+    ghost use Rattle.std.specs.Prelude.{IfOk, IfErr, Err};
     ghost use Rattle.mega_base.specs.Causes.{Rose};
     ghost use Rattle.mega_disk.specs.Images.{LeavesOnly};
     ghost use Rattle.mega_disk.specs.Fuse.{LowersBy, MayBurn, Burns};

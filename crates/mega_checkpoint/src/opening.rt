@@ -1,11 +1,10 @@
 //! Opens a file that a crash may have left: a new one, one of areas, or one that is a chain.
-ghost use Rattle.std.specs.Prelude.{◌≡◌, ◌==◌, not, ◌+◌, ◌*◌, ◌<◌, ◌≤◌, ◌^◌, ◌++◌, [], ◌∷◌, true, false, length, get_or, take, IfOk, OnOk};
+ghost use Rattle.std.specs.Prelude.{◌≡◌, ◌<◌, ◌≤◌, ◌^◌, true, length, IfOk, OnOk};
 ghost use Rattle.mega_base.specs.Causes.{Rose};
 ghost use Rattle.mega_disk.specs.Images.{Only, LeavesOnly};
 ghost use Rattle.mega_disk.specs.Fuse.{LowersBy, MayBurn, Burns};
-ghost use Rattle.mega_journal.specs.Rest.{IsRead};
-ghost use Rattle.mega_checkpoint.specs.Format.{chain_in, counts, generation_of, is_areas, is_open, length_of_pages, list_of, other_of, pages_in};
-ghost use Rattle.mega_checkpoint.specs.Held.{HoldsAreas, HoldsAs, IsHeld, limit_of, pages_of};
+ghost use Rattle.mega_checkpoint.specs.Format.{is_areas, list_of};
+ghost use Rattle.mega_checkpoint.specs.Held.{HoldsAs, IsHeld, limit_of, pages_of};
 
 use crate::area::Form;
 use crate::chain::open_chain;

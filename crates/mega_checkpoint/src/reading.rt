@@ -1,8 +1,8 @@
 //! Reads a file of areas: its mark, which area counts, and the bytes of an area.
-ghost use Rattle.std.specs.Prelude.{◌≡◌, ◌==◌, not, get_or, ◌+◌, ◌*◌, ◌<◌, ◌≤◌, ◌^◌, Some, None, true, length, IfOk, IfSome, IfNone};
+ghost use Rattle.std.specs.Prelude.{◌≡◌, ◌==◌, not, get_or, ◌+◌, ◌*◌, ◌<◌, ◌≤◌, ◌^◌, true, length, IfOk};
 ghost use Rattle.mega_journal.specs.Chain.{records_of};
 ghost use Rattle.mega_journal.specs.Rest.{IsRead};
-ghost use Rattle.mega_checkpoint.specs.Format.{chain_in, counts, generation_of, is_areas, is_open, length_of_pages, offset, pages_in, space};
+ghost use Rattle.mega_checkpoint.specs.Format.{chain_in, counts, generation_of, is_areas, is_open, length_of_pages, pages_in, space};
 
 use crate::area::{Area, PAGE};
 use byteorder::{BigEndian, ByteOrder};

@@ -1,10 +1,10 @@
 //! Puts one record in place of all, in the area that does not count, which counts from then on.
-ghost use Rattle.std.specs.Prelude.{◌≡◌, ◌+◌, ◌-◌, ◌*◌, ◌<◌, ◌≤◌, ◌^◌, ◌++◌, [], ◌∷◌, true, false, max, length, IfOk, OnOk};
+ghost use Rattle.std.specs.Prelude.{◌≡◌, ◌+◌, ◌-◌, ◌*◌, ◌<◌, ◌≤◌, ◌^◌, [], ◌∷◌, true, max, length, IfOk, OnOk};
 ghost use Rattle.mega_base.specs.Causes.{Rose};
-ghost use Rattle.mega_disk.specs.Images.{Only, LeavesOnly};
+ghost use Rattle.mega_disk.specs.Images.{LeavesOnly};
 ghost use Rattle.mega_disk.specs.Fuse.{LowersBy, MayBurn, Burns};
 ghost use Rattle.mega_disk.specs.RecordLists.{IsOldOrReplaced};
-ghost use Rattle.mega_checkpoint.specs.Format.{is_open, length_of_pages, list_of, other_of, pages_for, replacing};
+ghost use Rattle.mega_checkpoint.specs.Format.{length_of_pages, list_of, pages_for, replacing};
 ghost use Rattle.mega_checkpoint.specs.Held.{HoldsAreas, shut};
 
 use crate::area::{Areas, pages_for};
