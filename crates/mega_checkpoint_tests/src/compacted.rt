@@ -17,10 +17,7 @@ fn fresh(alloc: Global) -> Result<Checkpoint<MemDisk>, RecordError> {
 }
 
 /// Logs over a store.
-fn opened(
-    alloc: Global,
-    store: Checkpoint<MemDisk>,
-) -> Result<Logs<Checkpoint<MemDisk>>, LogFault>
+fn opened(alloc: Global, store: Checkpoint<MemDisk>) -> Result<Logs<Checkpoint<MemDisk>>, LogFault>
     ensures staged { IfOk result (λ logs. logs.staged.items ≡ []) }
     ensures format { IfOk result (λ logs. IsOfFormat logs.kept) }
 {
