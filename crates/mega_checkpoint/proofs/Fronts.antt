@@ -115,7 +115,7 @@ pub list_areas : (file : List ℕ) → is_areas file ≡ true → list_of file �
 unfolding list_of
 list_areas file form = ap (λ (b : Bool). if b then area_records file else records_of file) form
 
-alone : (a b : Bool) (g h : ℕ) → b && (not a || nat_lt g h) ≡ true → a && (not b || nat_le h g) ≡ false
+pub alone : (a b : Bool) (g h : ℕ) → b && (not a || nat_lt g h) ≡ true → a && (not b || nat_le h g) ≡ false
 alone false b g h is = refl
 alone true false g h is = absurd (cc)
 alone true true g h is = let e : nat_lt g h ≡ true = is in grind (arith, nat_tests)

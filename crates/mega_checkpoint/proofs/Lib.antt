@@ -1,5 +1,6 @@
 mod Adding
 mod Bytes
+mod Due
 mod Ended
 mod Fresh
 mod Fronts

@@ -67,6 +67,14 @@ abbrev pub is_due : Form → ℕ → Bool
 is_due Chain count = false
 is_due (InAreas areas) count = nat_lt areas.generation (2 ^ 64 - 1) && nat_le 4096 (behind_replacement areas.generation count)
 
+-- the generation of the area that counts
+abbrev pub generation_in : List ℕ → ℕ
+generation_in file = if counts Odd file then generation_of Odd file else generation_of Even file
+
+-- the same of a file: of areas, with so many records, and a next generation
+abbrev pub due_of : List ℕ → Bool
+due_of file = is_areas file && (nat_lt (generation_in file) (2 ^ 64 - 1) && nat_le 4096 (behind_replacement (generation_in file) (length (list_of file))))
+
 -- with the gate of the other area closed
 abbrev pub shut : Areas → Areas
 shut areas = record { active = areas.active; generation = areas.generation; pages = areas.pages; other_open = false }

@@ -6,6 +6,7 @@ mod appending;
 mod area;
 mod chain;
 mod checkpoint;
+pub mod laws;
 mod making;
 mod opening;
 mod reading;
