@@ -1,5 +1,5 @@
 pub mod Asked
 pub mod Behind
+pub mod Data
 pub mod Sound
-pub mod Texts
 pub mod Within

@@ -29,10 +29,13 @@ unfoldable pub transaction_text : List ℕ → List ℕ → List ℕ → List �
 transaction_text checks group writes =
     codes "{\"checks\":" ++ (checks ++ (codes ",\"do\":\"txn\",\"group\":" ++ (group ++ (codes ",\"reads\":[],\"sends\":[],\"writes\":" ++ (writes ++ codes "}")))))
 
--- a current read of one row
-unfoldable pub look_text : List ℕ → List ℕ → List ℕ → List ℕ
-look_text group key table =
-    codes "{\"do\":\"read\",\"group\":" ++ (group ++ (codes ",\"mode\":\"current\",\"rows\":[{\"key\":" ++ (key ++ (codes ",\"row\":" ++ (quoted table ++ codes "}]}")))))
+-- a current read of one row, of a table whose name is quoted
+unfoldable pub row_look : List ℕ → List ℕ → List ℕ → List ℕ
+row_look group key name =
+    codes "{\"do\":\"read\",\"group\":" ++ (group ++ (codes ",\"mode\":\"current\",\"rows\":[{\"key\":" ++ (key ++ (codes ",\"row\":" ++ (name ++ codes "}]}")))))
+
+abbrev pub look_text : List ℕ → List ℕ → List ℕ → List ℕ
+look_text group key table = row_look group key (quoted table)
 
 -- ---- the plan
 

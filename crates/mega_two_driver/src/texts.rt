@@ -1,6 +1,6 @@
 //! The JSON of transactions and looks, and of the plan.
 ghost use Rattle.std.specs.Prelude.{◌≡◌, IfOk};
-ghost use Rattle.mega_two_driver.specs.Texts.{deciding_text, look_text, no_plan_check, plan_group, plan_look, plan_put, planning_text, state_digit, transaction_text, undecided_check};
+ghost use Rattle.mega_two_driver.specs.Texts.{deciding_text, look_text, no_plan_check, plan_group, plan_look, plan_put, planning_text, row_look, state_digit, transaction_text, undecided_check};
 
 use crate::joins::{joined3, joined7, listed, quoted};
 use mega_base::{Bytes, NoMemory};
@@ -28,8 +28,24 @@ pub(crate) fn transaction_text(
     )
 }
 
+/// A current read of one row, of a table whose name is quoted.
+#[tactic(auto, unfolding(crate::specs::Texts::row_look))]
+fn row_look(alloc: Global, group: &[u8], key: &[u8], name: &[u8]) -> Result<Bytes, NoMemory>
+    ensures { IfOk result (λ text. text ≡ row_look group.now key.now name.now) }
+{
+    joined7(
+        alloc,
+        br#"{"do":"read","group":"#,
+        group,
+        br#","mode":"current","rows":[{"key":"#,
+        key,
+        br#","row":"#,
+        name,
+        b"}]}",
+    )
+}
+
 /// A current read of one row.
-#[tactic(auto, unfolding(crate::specs::Texts::look_text))]
 pub(crate) fn look_text(
     alloc: Global,
     group: &[u8],
@@ -38,17 +54,8 @@ pub(crate) fn look_text(
 ) -> Result<Bytes, NoMemory>
     ensures { IfOk result (λ text. text ≡ look_text group.now key.now table.now) }
 {
-    let table = quoted(alloc, table)?;
-    joined7(
-        alloc,
-        br#"{"do":"read","group":"#,
-        group,
-        br#","mode":"current","rows":[{"key":"#,
-        key,
-        br#","row":"#,
-        table.as_slice(),
-        b"}]}",
-    )
+    let name = quoted(alloc, table)?;
+    row_look(alloc, group, key, name.as_slice())
 }
 
 fn plan_group(alloc: Global, name: &[u8]) -> Result<Bytes, NoMemory>

@@ -1,6 +1,6 @@
 use Rattle.std.proofs.Common.{sym, ◌∙◌, true≢false}
 use Rattle.serde_json.specs.View.{view}
-use Rattle.mega_two_driver.proofs.Texts.{is_data, no_data}
+use Rattle.mega_two_driver.proofs.Data.{is_data, no_data}
 use Rattle.mega_two_driver.proofs.rows.data_in.Goals as goal
 
 pub returns-in-Ok : goal.returns-in-Ok
