@@ -1,5 +1,6 @@
 pub mod Asked
 pub mod Behind
 pub mod Data
+pub mod Members
 pub mod Sound
 pub mod Within

@@ -170,10 +170,13 @@ unfoldable pub prepare_text : Schema → List ℕ → Data → List ℕ
 prepare_text schema name part =
     transaction_text (prepare_checks name part) (field_text (get (codes "group") part)) (lock_put schema name part)
 
-unfoldable pub held_check : List ℕ → Data → List ℕ
-held_check name part =
-    codes "[{\"is\":" ++ (quoted_locks part ++ (codes ",\"key\":" ++ (lock_key part
-    ++ (codes ",\"property\":\"gid\",\"values\":" ++ (bracketed (quoted name) ++ codes "}]")))))
+-- a check that the row of this table and key has this value of its name
+unfoldable pub holder_check : List ℕ → List ℕ → List ℕ → List ℕ
+holder_check table key names =
+    codes "[{\"is\":" ++ (table ++ (codes ",\"key\":" ++ (key ++ (codes ",\"property\":\"gid\",\"values\":" ++ (names ++ codes "}]")))))
+
+abbrev pub held_check : List ℕ → Data → List ℕ
+held_check name part = holder_check (quoted_locks part) (lock_key part) (bracketed (quoted name))
 
 abbrev pub truth_text : Bool → List ℕ
 truth_text true = codes "true"

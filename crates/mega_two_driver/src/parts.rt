@@ -1,7 +1,7 @@
 //! The requests of a part: to prepare it, to finish it, and to look at its lock.
 ghost use Rattle.std.specs.Prelude.{◌≡◌, ◌++◌, IfOk, OnOk};
 ghost use Rattle.serde_json.specs.View.{view};
-ghost use Rattle.mega_two_driver.specs.Texts.{end_put, finish_text, finish_writes, free_checks, held_check, lock_delete, lock_look, lock_put, own_text, own_writes, part_requests, prepare_checks, prepare_text, quoted_ends, quoted_locks, truth_text};
+ghost use Rattle.mega_two_driver.specs.Texts.{end_put, finish_text, finish_writes, free_checks, held_check, lock_delete, lock_look, lock_put, holder_check, own_text, own_writes, part_requests, prepare_checks, prepare_text, quoted_ends, quoted_locks, truth_text};
 
 use crate::joins::{bracketed, joined5, joined7, joined9, listed, quoted};
 use crate::json::{list_in, root_name};
@@ -100,23 +100,30 @@ fn prepare_text(alloc: Global, schema: &Schema, name: &[u8], part: &Json) -> Res
     )
 }
 
-#[tactic(auto, unfolding(crate::specs::Texts::held_check))]
+/// A check that the row of this table and key has this value of its name.
+#[tactic(auto, unfolding(crate::specs::Texts::holder_check))]
+fn holder_check(alloc: Global, table: &[u8], key: &[u8], names: &[u8]) -> Result<Bytes, NoMemory>
+    ensures { IfOk result (λ text. text ≡ holder_check table.now key.now names.now) }
+{
+    joined7(
+        alloc,
+        br#"[{"is":"#,
+        table,
+        br#","key":"#,
+        key,
+        br#","property":"gid","values":"#,
+        names,
+        b"}]",
+    )
+}
+
 fn held_check(alloc: Global, name: &[u8], part: &Json) -> Result<Bytes, NoMemory>
     ensures { IfOk result (λ text. text ≡ held_check name.now (view part.now)) }
 {
     let locks = quoted_locks(alloc, part)?;
     let lock = lock_key(alloc, part)?;
     let names = listed(alloc, name)?;
-    joined7(
-        alloc,
-        br#"[{"is":"#,
-        locks.as_slice(),
-        br#","key":"#,
-        lock.as_slice(),
-        br#","property":"gid","values":"#,
-        names.as_slice(),
-        b"}]",
-    )
+    holder_check(alloc, locks.as_slice(), lock.as_slice(), names.as_slice())
 }
 
 fn truth_text(truth: bool) -> &'static [u8]
