@@ -99,7 +99,7 @@ fn writes_length(writes: &[Write]) -> Result<u64, NoMemory>
 }
 
 /// The length of the entry that has these writes and nothing else.
-#[tactic(auto, using(mega_outcome::proofs::Sizes::entry_length))]
+#[tactic(auto, using(crate::proofs::Alone::writes_alone))]
 pub(crate) fn entry_length(writes: &[Write]) -> Result<u64, NoMemory>
     ensures { IfOk result (λ n. n ≡ entry_length writes.now [] []) }
 {
