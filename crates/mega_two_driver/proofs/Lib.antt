@@ -4,4 +4,5 @@ pub mod Behind
 pub mod Data
 pub mod Members
 pub mod Sound
+pub mod Unpaired
 pub mod Within
