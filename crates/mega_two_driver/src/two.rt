@@ -157,6 +157,13 @@ impl Two {
         })
     }
 
+    /// The name of the change.
+    pub fn name(&self) -> &str
+        ensures { result.now ≡ self.now.plan.name }
+    {
+        self.plan.name.as_str()
+    }
+
     /// The present request, none where it ended.
     pub fn ask(&self) -> Option<&[u8]>
         ensures { option_map (λ s. s.now) result ≡ asks self.now }
