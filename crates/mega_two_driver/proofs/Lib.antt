@@ -3,6 +3,7 @@ pub mod Asked
 pub mod Behind
 pub mod Data
 pub mod Members
+pub mod Named
 pub mod Sound
 pub mod Unpaired
 pub mod Within

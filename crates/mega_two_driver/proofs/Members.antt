@@ -8,7 +8,7 @@ use Rattle.mega_two_driver.specs.Texts.{members_text}
 
 -- no values are left
 pub none_left : (out whole : List ℕ) (properties : List Property) (ns : List ℕ) (left : List Value) → length left < 1
-  → out ++ members_text properties ns (items_view left) ≡ whole → out ≡ whole
+    → out ++ members_text properties ns (items_view left) ≡ whole → out ≡ whole
 none_left out whole properties [] [] below met = sym (append-nil out) ∙ met
 none_left out whole properties (n ∷ ns) [] below met = sym (append-nil out) ∙ met
 none_left out whole properties ns (value ∷ left) below met = absurd (omega arith)

@@ -17,3 +17,9 @@ pub fn changes_stay_at_their_parts()
 pub fn changes_ask_until_they_end()
     ensures { (plan : Plan) (phase : Phase) → is_within (length plan.parts) phase ≡ true → is_none (asked_in plan phase) ≡ is_some (ended_in phase) }
 {}
+
+/// And keeps its name.
+pub fn changes_keep_their_names()
+    ensures taken { (two : Two) (reply : List ℕ) → (taken two reply).plan.name ≡ two.plan.name }
+    ensures lost { (two : Two) → (lost two).plan.name ≡ two.plan.name }
+{}

@@ -1,6 +1,6 @@
 -- Turns are joined.
-use Rattle.std.proofs.Common.{◌≡◌, ℕ, List, [], ◌∷◌, ◌++◌, None, Option, Some, true, ap, append-nil, append_assoc, refl, subst, sym, ◌∙◌}
-use Rattle.std.specs.Prelude.{is_none, option_map}
+use Rattle.std.proofs.Common.{◌≡◌, ℕ, List, [], ◌∷◌, ◌++◌, None, Option, Some, Result, Ok, Err, true, ap, append-nil, append_assoc, refl, subst, sym, ◌∙◌}
+use Rattle.std.specs.Prelude.{OnOk, is_none, option_map}
 use Rattle.mega_link.specs.Datagrams.{Datagram, Gains}
 use Rattle.mega_two_turns.specs.declared.driving.Driving.{Driving}
 use Rattle.mega_two_turns.specs.Turns.{AreOpen, Drives, GainsAll, all_sent, came_in, driven, ending, sends, turned, went_out}
@@ -41,14 +41,14 @@ no_turns node patience first read taken sent = record {
   open_so_far = tt;
 }
 
-pub one_turn : (node patience : ℕ) (first mid last : Driving) (read more_read : Option (List ℕ)) (taken more_taken : Option (List (Option Datagram))) (sent mid_sent more_sent : Option (List Datagram)) (now : ℕ) (got : Option Datagram)
-    → is_none (ending first.two) ≡ true → Gains read more_read now → Gains taken more_taken got → mid_sent ≡ option_map (λ all. all ++ sends node first) sent → more_sent ≡ mid_sent
+pub one_turn : (node patience : ℕ) (first mid last : Driving) (read more_read : Option (List ℕ)) (taken mid_taken more_taken : Option (List (Option Datagram))) (sent mid_sent more_sent : Option (List Datagram)) (now : ℕ) (got : Option Datagram)
+    → is_none (ending first.two) ≡ true → Gains read more_read now → mid_taken ≡ taken → Gains mid_taken more_taken got → mid_sent ≡ option_map (λ all. all ++ sends node first) sent → more_sent ≡ mid_sent
     → mid ≡ went_out patience first now → last ≡ came_in node mid got → Drives node patience first last read more_read taken more_taken sent more_sent ((now, got) ∷ [])
-one_turn node patience first mid last read more_read taken more_taken sent mid_sent more_sent now got still reads receives sends same out in_ = record {
+one_turn node patience first mid last read more_read taken mid_taken more_taken sent mid_sent more_sent now got still reads kept receives sends same out come = record {
   readings = gains_one read more_read now reads;
-  received = gains_one taken more_taken got receives;
+  received = gains_one taken more_taken got (subst (λ (told : Option (List (Option Datagram))). Gains told more_taken got) kept receives);
   sends = same ∙ sends;
-  leads = in_ ∙ ap (λ (d : Driving). came_in node d got) out;
+  leads = come ∙ ap (λ (d : Driving). came_in node d got) out;
   open_so_far = (still, tt);
 }
 
@@ -61,3 +61,9 @@ turns_on node patience first mid last a b c x y z s t u given one before now = r
   leads = now.leads ∙ ap (λ (d : Driving). turned node patience d one) before.leads;
   open_so_far = (subst (λ (d : Driving). is_none (ending d.two) ≡ true) before.leads now.open_so_far.0, before.open_so_far);
 }
+
+-- ---- what a last call answers
+
+pub on_ok_then : {X E P Q : Type 0} (r : Result X E) → (P → Q) → OnOk r P → OnOk r Q
+on_ok_then (Ok x) more held = more held
+on_ok_then (Err e) more held = tt

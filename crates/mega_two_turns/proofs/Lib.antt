@@ -1,3 +1,1 @@
-pub mod Due
-pub mod Formed
 pub mod Joining

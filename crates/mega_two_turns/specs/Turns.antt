@@ -1,5 +1,5 @@
 -- The turns of a change that is driven over a link: what it sends and takes in each.
-use Rattle.std.specs.Prelude.{◌≡◌, ℕ, ◌+◌, ◌*◌, ◌≤◌, nat_le, if◌then◌else◌, Bool, List, [], ◌∷◌, ◌++◌, length, Option, Some, None, is_none, option_map}
+use Rattle.std.specs.Prelude.{◌≡◌, ℕ, ◌+◌, ◌*◌, ◌≤◌, nat_le, if◌then◌else◌, Bool, true, List, [], ◌∷◌, ◌++◌, length, Option, Some, None, is_none, option_map}
 use Rattle.mega_link.specs.declared.peer.Peer.TheVariants.{Node}
 use Rattle.mega_link.specs.Datagrams.{Datagram}
 use Rattle.mega_two_driver.specs.declared.phase.Ended.{Ended}

@@ -19,7 +19,6 @@ pub struct Driving {
 }
 
 /// Whether a request that was sent then is lost now.
-#[tactic(auto, using(crate::proofs::Due::is_past, crate::proofs::Due::is_not_past))]
 fn is_due(patience: u64, since: u64, now: u64) -> bool
     ensures { result ≡ is_due patience since now }
 {

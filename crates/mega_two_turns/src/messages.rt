@@ -22,7 +22,6 @@ fn request_of(node: u8, token: u64, json: Bytes) -> Message
 }
 
 /// The text of a message. One that is none of the format, as one to no node, has none.
-#[tactic(auto, using(crate::proofs::Formed::is_formed))]
 fn message_text(alloc: Global, message: &Message) -> Result<Bytes, NoMemory>
     ensures { IfOk result (λ text. text ≡ message_text message.now) }
 {
@@ -52,13 +51,7 @@ fn text_under(token: u64, body: &Body) -> Option<&Bytes>
     ensures { option_map (λ text. text.now) result ≡ text_under token body.now }
 {
     match body {
-        Body::Reply { token: other, text } => {
-            if *other == token {
-                Some(text)
-            } else {
-                None
-            }
-        }
+        Body::Reply { token: other, text } => { if *other == token { Some(text) } else { None } }
         _ => None,
     }
 }
@@ -83,12 +76,7 @@ fn copied(alloc: Global, text: Option<&Bytes>) -> Result<Option<Bytes>, NoMemory
     }
 }
 
-fn reply_read(
-    alloc: Global,
-    node: u8,
-    token: u64,
-    bytes: &[u8],
-) -> Result<Option<Bytes>, NoMemory>
+fn reply_read(alloc: Global, node: u8, token: u64, bytes: &[u8]) -> Result<Option<Bytes>, NoMemory>
     ensures { IfOk result (λ text. text ≡ reply_read node token (whole_of message_at bytes.now)) }
 {
     match decode(alloc, bytes) {
