@@ -73,7 +73,7 @@ fn turn<L: Link, C: Clock>(
 ) -> Result<(), NoMemory>
     requires { 65507 ≤ length room.old }
     ensures room { length room.new ≡ length room.old }
-    ensures driven { is_none (ending driving.old.two) ≡ true → OnOk result ((one : ℕ × Option Datagram) × Drives node patience driving.old driving.new (C.readings clock.old) (C.readings clock.new) (L.taken link.old) (L.taken link.new) (L.sent link.old) (L.sent link.new) (one ∷ [])) }
+    ensures driven { OnOk result (is_none (ending driving.old.two) ≡ true → (one : ℕ × Option Datagram) × Drives node patience driving.old driving.new (C.readings clock.old) (C.readings clock.new) (L.taken link.old) (L.taken link.new) (L.sent link.old) (L.sent link.new) (one ∷ [])) }
     ensures faults { L.faults link.new ≡ L.faults link.old }
 {
     let now = clock.now();
