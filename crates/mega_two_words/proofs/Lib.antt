@@ -1,5 +1,0 @@
-pub mod Fronts
-pub mod Lines
-pub mod Results
-pub mod Starts
-pub mod Statuses
