@@ -1,0 +1,4 @@
+pub mod Alike
+pub mod Logs
+pub mod Walk
+pub mod Steps
