@@ -238,7 +238,7 @@ module _ (s : Setting) where
       (applies_alike s x.met y.met x.stored y.stored _ _ _ _ (n.met).kept n.stored (now.met).kept now.stored) now.sends now
     where
       now : NowAlike s.cluster s.me (begin_now x own o refused) (begin_now y own o refused)
-      now = begun_alike s _ _ o refused (record {
+      now = begun_alike s (at_open (at_first (own ∷ x.met) x.stored) x.open_operations) (at_open (at_first (own ∷ y.met) y.stored) y.open_operations) o refused (record {
         met = alike_more s.cluster s.me own x.met y.met n.met;
         stored = n.stored;
         kept = n.open_operations;
