@@ -20,18 +20,9 @@ use Rattle.mega_rules.specs.Locks.{asked_in, cell_calls, if_opening, last_grant,
 use Rattle.mega_rules.specs.Logs.{accepted_at, decided, first_of, groups_of, newest_of, top_of, with_group}
 use Rattle.mega_rules.specs.Steps.{onto}
 use Rattle.mega_rules.specs.Voting.{act_in, acts}
+use Rattle.mega_served_laws.specs.Alike.{KeptAlike}
 
 -- ---- what both tell
-
--- of all starts
-pub record KeptAlike (a b : List Met) : Type 0 where
-  pub decides : (group : GroupId) (n : ℕ) → decided a group n ≡ decided b group n
-  pub groups : groups_of a ≡ groups_of b
-  pub newest : (group : GroupId) → newest_of a group ≡ newest_of b group
-  pub tops : (group : GroupId) → top_of a group ≡ top_of b group
-  pub shows : (group : GroupId) (n : ℕ) → shown (acts a group n) ≡ shown (acts b group n)
-  pub bests : (group : GroupId) (n : ℕ) → best (acts a group n) ≡ best (acts b group n)
-  pub grants : (node : ℕ) → last_grant a node ≡ last_grant b node
 
 -- two lists of calls leave a cell the same
 pub record CellAlike (xs ys : List Call) : Type 0 where

@@ -2,3 +2,8 @@ pub mod Alike
 pub mod Logs
 pub mod Walk
 pub mod Steps
+pub mod Notes
+pub mod Keeping
+pub mod Journals
+pub mod Starting
+pub mod Serving

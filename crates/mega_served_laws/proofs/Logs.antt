@@ -10,7 +10,7 @@ use Rattle.mega_rules.specs.Logs.{decided, decided_from, log_of, newest_of, pref
 use Rattle.mega_voter.specs.Journal.{journal_of}
 use Rattle.mega_voter.proofs.Folds.{decided_is, newest_is}
 use Rattle.mega_voter.proofs.Prefixes.{prefix_is}
-use Rattle.mega_served_laws.proofs.Alike.{KeptAlike}
+use Rattle.mega_served_laws.specs.Alike.{KeptAlike}
 
 whole : (met : List Met) (group : GroupId) (most n : ℕ) → decided_from met group (length (decided_from met group most n)) n ≡ decided_from met group most n
 whole met group zero n = refl

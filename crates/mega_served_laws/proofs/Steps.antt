@@ -35,7 +35,8 @@ use Rattle.mega_rules.specs.Operations.{Node, Now, Operation, Setting}
 use Rattle.mega_rules.specs.Replies.{answer_to, fetched, reply_message, reply_to, where_served}
 use Rattle.mega_rules.specs.Steps.{Begin, Decision, Event, Heard, Step, Take, Tick, all_act, apply_notes, at_first, at_open, background, begin_step, decision_note, fetch_to, fetches_for, first_settled, hears_message, if_new, lapse_notes, lease_notes, missing_kind, new_operation, news, onto, op_of, portion_of, refusal, start, start_items, start_note, start_notes, step, step_of, stored_after, take_step, take_with, taken, tick_step, ticked, told_decision, told_notes, unless_missing, unless_refused}
 use Rattle.mega_rules.specs.Voting.{acts, promise_body, vote_body}
-use Rattle.mega_served_laws.proofs.Alike.{Alike, KeptAlike, alike_more, alike_onto}
+use Rattle.mega_served_laws.proofs.Alike.{Alike, alike_more, alike_onto}
+use Rattle.mega_served_laws.specs.Alike.{KeptAlike}
 use Rattle.mega_served_laws.proofs.Logs.{log_alike, prefix_alike}
 use Rattle.mega_served_laws.proofs.Walk.{NowAlike, all_act_alike, all_ticked_alike, begun_alike}
 
@@ -220,7 +221,7 @@ module _ (s : Setting) where
           (all_ticked_alike s now x.open_operations _ _ (first_alike (met_of x) (met_of y) _ _ met (portion_alike s x.met y.met x.stored y.stored (n.met).kept n.stored)))
 
   -- a request begins
-  op_same : (a b : List Met) → Alike s.cluster s.me a b → op_of s a ≡ op_of s b
+  pub op_same : (a b : List Met) → Alike s.cluster s.me a b → op_of s a ≡ op_of s b
   op_same a b h = λ i. record { node = record { 0 = s.me }; start = h.start i; number = min (h.begun i + 1) last_number }
 
   refusal_same : (x y : Node) → NodeAlike s.cluster s.me x y → (request : Request) → refusal s x request ≡ refusal s y request
