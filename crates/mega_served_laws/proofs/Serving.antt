@@ -31,12 +31,12 @@ use Rattle.mega_served_laws.proofs.Alike.{kept_self, kept_then}
 use Rattle.mega_served_laws.proofs.Journals.{say_append, say_kept, say_kept_same, say_more, say_self, say_then}
 use Rattle.mega_served_laws.proofs.Keeping.{step_kept}
 use Rattle.mega_served_laws.proofs.Starting.{items_alike, start_alike, start_kept}
-use Rattle.mega_served_laws.proofs.Steps.{NodeAlike, StepAlike, op_same, step_alike}
+use Rattle.mega_served_laws.proofs.Steps.{NodeAlike, StepAlike, anywhere, event_anywhere, op_same, step_alike}
 
 -- x goes on, and y was started in its last call; the second's journal tells what it met
 pub record ServedAlike (c : Cluster) (me : ℕ) (base : List Line) (x y : Served) : Type 0 where
   pub lines : x.lines ≡ base ++ y.lines
-  pub node : NodeAlike c me x.node y.node
+  pub node : NodeAlike anywhere c me x.node y.node
   pub journal : SaySame x.journal y.journal
   pub waiting : x.waiting ≡ y.waiting
   pub kept : KeptAlike (y.node).met (met_of me y.journal)
@@ -78,8 +78,8 @@ module _ (c : Cluster) (me : ℕ) (base : List Line) where
       made' : Step
       made' = step s y.node event
 
-      alike : StepAlike c me made made'
-      alike = step_alike s x.node y.node h.node event
+      alike : StepAlike anywhere c me made made'
+      alike = step_alike anywhere s x.node y.node h.node event (event_anywhere event)
 
       kept_is : kept_of made ≡ kept_of made'
       kept_is = λ i. filter_map kept_of_note (alike.notes i) ++ filter_map (λ (m : Message). kept_of_body m.body) (alike.sends i)
@@ -93,7 +93,7 @@ module _ (c : Cluster) (me : ℕ) (base : List Line) where
       (recorded_alike handlers x y _ _ _ _ (Begin request text) (λ i. got ++ noted me (Begins (op i) text ∷ [])) (λ i. h.waiting i ++ (record { op = op i; client = client; token = token }) ∷ []) h)
     where
       op : op_of (setting c handlers me) (x.node).met ≡ op_of (setting c handlers me) (y.node).met
-      op = op_same (setting c handlers me) (x.node).met (y.node).met (h.node).met
+      op = op_same anywhere (setting c handlers me) (x.node).met (y.node).met (h.node).met
 
   -- what a client's message comes to
   abbrev by_body : (List ℕ → Wish) → Meanings → Served → List Line → ℕ → Body → Served
@@ -134,7 +134,7 @@ pub record Stands (me : ℕ) (x : Served) (before : List JournalItem) : Type 0 w
 started : (c : Cluster) (me : ℕ) (first : Meanings) (x : Served) (before : List JournalItem) → Stands me x before → ServedAlike c me x.lines (starts_again c me first x) (served_start c me first before)
 started c me first x before h = record {
   lines = λ i. x.lines ++ noted me (items i);
-  node = subst (λ n. NodeAlike c me (start s n [] (x.node).met) (start s (starts_of before + 1) [] (met_of me before))) (sym number) (start_alike s (starts_of before + 1) (x.node).met (met_of me before) h.kept);
+  node = subst (λ n. NodeAlike anywhere c me (start s n [] (x.node).met) (start s (starts_of before + 1) [] (met_of me before))) (sym number) (start_alike s anywhere (starts_of before + 1) (x.node).met (met_of me before) h.kept);
   journal = say_more Started x.journal before h.journal;
   waiting = refl;
   kept = start_kept s (starts_of before + 1) (met_of me before);

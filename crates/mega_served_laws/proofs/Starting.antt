@@ -10,7 +10,7 @@ use Rattle.mega_rules.specs.Members.{has_rows}
 use Rattle.mega_rules.specs.Operations.{Node, Setting}
 use Rattle.mega_rules.specs.Steps.{onto, start, start_items, start_note, start_notes}
 use Rattle.mega_served_laws.specs.Alike.{KeptAlike}
-use Rattle.mega_served_laws.proofs.Alike.{Alike, alike_onto, starts_alike}
+use Rattle.mega_served_laws.proofs.Alike.{Alike, Scope, alike_onto, kept_more, starts_alike}
 use Rattle.mega_served_laws.proofs.Keeping.{all_unkept, is_kept}
 use Rattle.mega_served_laws.proofs.Logs.{log_alike, prefix_alike}
 use Rattle.mega_served_laws.proofs.Steps.{NodeAlike}
@@ -46,15 +46,15 @@ module _ (s : Setting) where
       (flat_map (λ (group : GroupId). cond (nat_lt 0 (prefix_alike a b h group i)) (Applies group (prefix_alike a b h group i) ∷ []) []) (h.groups i)) []
 
   pub items_alike : (number : ℕ) (a b : List Met) → KeptAlike a b → start_items s number [] a ≡ start_items s number [] b
-  items_alike number a b h = ap (λ notes. Starts number ∷ notes) (start_notes_alike (Starts number ∷ a) (Starts number ∷ b) (starts_alike s.cluster s.me number a b h).kept)
+  items_alike number a b h = ap (λ notes. Starts number ∷ notes) (start_notes_alike (Starts number ∷ a) (Starts number ∷ b) (kept_more (Starts number) a b h))
 
-  pub start_alike : (number : ℕ) (a b : List Met) → KeptAlike a b → NodeAlike s.cluster s.me (start s number [] a) (start s number [] b)
-  start_alike number a b h = record {
-    met = subst (λ notes. Alike s.cluster s.me (onto (start_notes s (Starts number ∷ a)) (Starts number ∷ a)) (onto notes (Starts number ∷ b))) (start_notes_alike (Starts number ∷ a) (Starts number ∷ b) first.kept)
-        (alike_onto s.cluster s.me (start_notes s (Starts number ∷ a)) (Starts number ∷ a) (Starts number ∷ b) first);
+  pub start_alike : (w : Scope) (number : ℕ) (a b : List Met) → KeptAlike a b → NodeAlike w s.cluster s.me (start s number [] a) (start s number [] b)
+  start_alike w number a b h = record {
+    met = subst (λ notes. Alike w s.cluster s.me (onto (start_notes s (Starts number ∷ a)) (Starts number ∷ a)) (onto notes (Starts number ∷ b))) (start_notes_alike (Starts number ∷ a) (Starts number ∷ b) first.kept)
+        (alike_onto w s.cluster s.me (start_notes s (Starts number ∷ a)) (Starts number ∷ a) (Starts number ∷ b) first);
     open_operations = refl;
     stored = λ i group. cond (has_rows s.cluster s.me) (length (writes_of (log_alike a b h group i))) 0;
   }
     where
-      first : Alike s.cluster s.me (Starts number ∷ a) (Starts number ∷ b)
-      first = starts_alike s.cluster s.me number a b h
+      first : Alike w s.cluster s.me (Starts number ∷ a) (Starts number ∷ b)
+      first = starts_alike w s.cluster s.me number a b h

@@ -44,22 +44,22 @@ use Rattle.mega_rules.specs.Queues.{Log, Posted, enter_entry, is_named, names_en
 use Rattle.mega_rules.specs.Operations.{Now, Operation, Phase, Promised, Proposes, Reads, Replies, Results, Setting}
 use Rattle.mega_rules.specs.Acting.{acts, acts_within, applied_logs, applied_marks, batch_sealed, begins_read, completes_read, ends, enters, finishes, goes_on, handles, handles_message, handling, has_nothing, in_phase, is_taken, is_visited, keeps, leader_after, listed_at, mark_of, named_leader, picks_group, picks_message, picks_to_enter, picks_to_handle, proposes, proposes_by, proposes_there, read_answer, read_begun, reader_of, reads_group, reads_on, rows_at, sealed, seeks_on, sends_more, stored_with, table_rows, unless_decided, unless_full, validated_by, validates, verdict, visiting}
 use Rattle.mega_rules.specs.Steps.{Heard, acts_in_turn, all_act, applied_position, begins, does_due, find_begins, is_out, last_answer, local_find_begins, read_begins, snapshot_listed, snapshot_rows, stored_listed, stored_rows, ticked, unless_refused}
-use Rattle.mega_served_laws.proofs.Alike.{Alike, alike_more}
+use Rattle.mega_served_laws.proofs.Alike.{Alike, Scope, alike_more}
 use Rattle.mega_served_laws.specs.Alike.{KeptAlike}
 use Rattle.mega_served_laws.proofs.Logs.{log_alike, prefix_alike}
 
 -- a node within a step, by what two histories tell
-pub record NowAlike (c : Cluster) (me : ℕ) (a b : Now) : Type 0 where
-  pub met : Alike c me a.met b.met
+pub record NowAlike (w : Scope) (c : Cluster) (me : ℕ) (a b : Now) : Type 0 where
+  pub met : Alike w c me a.met b.met
   pub stored : a.stored ≡ b.stored
   pub kept : a.kept ≡ b.kept
   pub valid : a.valid ≡ b.valid
   pub answers : a.answers ≡ b.answers
   pub sends : a.sends ≡ b.sends
 
-module _ (s : Setting) where
+module _ (w : Scope) (s : Setting) where
   abbrev R : Now → Now → Type 0
-  R a b = NowAlike s.cluster s.me a b
+  R a b = NowAlike w s.cluster s.me a b
 
   abbrev Serves : (Now → Operation → Now) → Type 0
   Serves again = (a b : Now) (o : Operation) → R a b → R (again a o) (again b o)
@@ -150,7 +150,7 @@ module _ (s : Setting) where
   validated_by_alike : (a b : Now) (group : GroupId) (p : ℕ) (refusal : Option NotValid) → R a b → R (validated_by a group p refusal) (validated_by b group p refusal)
   validated_by_alike a b group p (Some refusal) h = h
   validated_by_alike a b group p None h = record {
-    met = alike_more s.cluster s.me (Validates group p) a.met b.met h.met;
+    met = alike_more w s.cluster s.me (Validates group p) a.met b.met h.met;
     stored = h.stored;
     kept = h.kept;
     valid = λ i. h.valid i ++ Validates group p ∷ [];
