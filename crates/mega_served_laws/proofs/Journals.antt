@@ -244,7 +244,7 @@ if_best : (t : Bool) (one other : Act) (xs ys : List Act) → best xs ≡ best y
 if_best true one other xs ys h k = k
 if_best false one other xs ys h k = h
 
-say_more : (item : JournalItem) (a b : List JournalItem) → SaySame a b → SaySame (item ∷ a) (item ∷ b)
+pub say_more : (item : JournalItem) (a b : List JournalItem) → SaySame a b → SaySame (item ∷ a) (item ∷ b)
 say_more Started a b h = record {
   decides = h.decides; newest = h.newest; tops = h.tops; shows = h.shows; bests = h.bests; grants = h.grants;
   starts = ap (λ n. starts_at_most (n + 1)) h.starts;

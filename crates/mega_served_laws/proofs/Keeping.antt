@@ -115,14 +115,16 @@ told_by me m body a js is h = quiet body refl
 pub sends_kept : (me : ℕ) (ms : List Message) (a : List Met) (js : List JournalItem) → KeptAlike a (met_of me js)
     → KeptAlike (onto (map Sends ms) a) (met_of me (reverse (filter_map (λ (m : Message). kept_of_body m.body) ms) ++ js))
 sends_kept me [] a js h = h
-sends_kept me (m ∷ ms) a js h = go (kept_of_body m.body) (told_by me m m.body a js refl h)
+sends_kept me (m ∷ ms) a js h = go (kept_of_body m.body) (told_by me m m.body a js refl h) (λ more k. sends_kept me ms (Sends m ∷ a) more k)
   where
     items : List JournalItem
     items = filter_map (λ (m : Message). kept_of_body m.body) ms
 
-    go : (o : Option JournalItem) → KeptAlike (Sends m ∷ a) (met_of me (cons_option o js)) → KeptAlike (onto (map Sends ms) (Sends m ∷ a)) (met_of me (reverse (cons_option o items) ++ js))
-    go None k = sends_kept me ms (Sends m ∷ a) js k
-    go (Some item) k = subst (λ more. KeptAlike (onto (map Sends ms) (Sends m ∷ a)) (met_of me more)) (rev_cons item items js) (sends_kept me ms (Sends m ∷ a) (item ∷ js) k)
+    go : (o : Option JournalItem) → KeptAlike (Sends m ∷ a) (met_of me (cons_option o js))
+        → ((more : List JournalItem) → KeptAlike (Sends m ∷ a) (met_of me more) → KeptAlike (onto (map Sends ms) (Sends m ∷ a)) (met_of me (reverse items ++ more)))
+        → KeptAlike (onto (map Sends ms) (Sends m ∷ a)) (met_of me (reverse (cons_option o items) ++ js))
+    go None k rest = rest js k
+    go (Some item) k rest = subst (λ more. KeptAlike (onto (map Sends ms) (Sends m ∷ a)) (met_of me more)) (rev_cons item items js) (rest (item ∷ js) k)
 
 -- ---- notes
 
@@ -148,14 +150,16 @@ note_kept me (Takes m) a js is h = absurd (cc)
 
 pub notes_kept : (me : ℕ) (notes a : List Met) (js : List JournalItem) → All IsNote notes → KeptAlike a (met_of me js) → KeptAlike (onto notes a) (met_of me (reverse (filter_map kept_of_note notes) ++ js))
 notes_kept me [] a js are h = h
-notes_kept me (x ∷ notes) a js are h = go (kept_of_note x) (note_kept me x a js (All-head IsNote x notes are) h)
+notes_kept me (x ∷ notes) a js are h = go (kept_of_note x) (note_kept me x a js (All-head IsNote x notes are) h) (λ more k. notes_kept me notes (x ∷ a) more (All-tail IsNote x notes are) k)
   where
     items : List JournalItem
     items = filter_map kept_of_note notes
 
-    go : (o : Option JournalItem) → KeptAlike (x ∷ a) (met_of me (cons_option o js)) → KeptAlike (onto notes (x ∷ a)) (met_of me (reverse (cons_option o items) ++ js))
-    go None k = notes_kept me notes (x ∷ a) js (All-tail IsNote x notes are) k
-    go (Some item) k = subst (λ more. KeptAlike (onto notes (x ∷ a)) (met_of me more)) (rev_cons item items js) (notes_kept me notes (x ∷ a) (item ∷ js) (All-tail IsNote x notes are) k)
+    go : (o : Option JournalItem) → KeptAlike (x ∷ a) (met_of me (cons_option o js))
+        → ((more : List JournalItem) → KeptAlike (x ∷ a) (met_of me more) → KeptAlike (onto notes (x ∷ a)) (met_of me (reverse items ++ more)))
+        → KeptAlike (onto notes (x ∷ a)) (met_of me (reverse (cons_option o items) ++ js))
+    go None k rest = rest js k
+    go (Some item) k rest = subst (λ more. KeptAlike (onto notes (x ∷ a)) (met_of me more)) (rev_cons item items js) (rest (item ∷ js) k)
 
 -- ---- a step and a start
 

@@ -7,3 +7,4 @@ pub mod Keeping
 pub mod Journals
 pub mod Starting
 pub mod Serving
+pub mod Telling

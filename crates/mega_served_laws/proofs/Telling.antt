@@ -5,7 +5,7 @@ use Rattle.std.proofs.lemmas.List.Elements.{All-head, All-tail}
 use Rattle.mega_cluster.specs.declared.cluster.Cluster.{Cluster}
 use Rattle.mega_wire.specs.declared.message.Message.{Message}
 use Rattle.mega_transcript.specs.declared.item.Item.{Item}
-use Rattle.mega_transcript.specs.declared.item.Item.TheVariants.{Sent, Unsafe}
+use Rattle.mega_transcript.specs.declared.item.Item.TheVariants.{Answer, Apply, Counts as CountsItem, Crash, Decide, Forgets as ForgetsItem, Grant, Invalid, Lapse, Lost, Sent, Serving, Start, Tick, Unsafe, Unsent, Valid}
 use Rattle.mega_promises.specs.Items.{number, numbered, shown}
 use Rattle.mega_promises.specs.Messages.{is_unsafe}
 use Rattle.mega_promises.specs.Runs.{breaks, with_item, with_items}
@@ -57,24 +57,24 @@ abbrev pub IsShown : Met → Type 0
 IsShown one = is_shown one ≡ true
 
 pub one_tells : (c : Cluster) (nodes : ℕ → Node) (v me : ℕ) (tape : List Item) (one : Met) → IsShown one → actor tape ≡ me → Tells v me tape (with_items c nodes tape (shown me one)) (λ met. one ∷ met)
-one_tells c nodes v me tape (Starts start) is a = with_tells c nodes v me tape _ (Starts start) refl refl
-one_tells c nodes v me tape Crashes is a = with_tells c nodes v me tape _ Crashes refl refl
-one_tells c nodes v me tape (Ticks now) is a = with_tells c nodes v me tape _ (Ticks now) refl refl
+one_tells c nodes v me tape (Starts start) is a = with_tells c nodes v me tape (Start (number me) start) (Starts start) refl refl
+one_tells c nodes v me tape Crashes is a = with_tells c nodes v me tape (Crash (number me)) Crashes refl refl
+one_tells c nodes v me tape (Ticks now) is a = with_tells c nodes v me tape (Tick (number me) now) (Ticks now) refl refl
 one_tells c nodes v me tape (Begins op text) is a = absurd (cc)
 one_tells c nodes v me tape (Takes message) is a = absurd (cc)
 one_tells c nodes v me tape (Sends message) is a = absurd (cc)
-one_tells c nodes v me tape (Unsends message) is a = with_tells c nodes v me tape _ (Unsends message) a refl
-one_tells c nodes v me tape (Grants node epoch) is a = with_tells c nodes v me tape _ (Grants node epoch) a refl
-one_tells c nodes v me tape (Lapses node epoch) is a = with_tells c nodes v me tape _ (Lapses node epoch) a refl
-one_tells c nodes v me tape (Counts cell epoch) is a = with_tells c nodes v me tape _ (Counts cell epoch) a refl
-one_tells c nodes v me tape (Forgets cell epoch) is a = with_tells c nodes v me tape _ (Forgets cell epoch) a refl
-one_tells c nodes v me tape (Serves epoch) is a = with_tells c nodes v me tape _ (Serves epoch) a refl
-one_tells c nodes v me tape (Loses epoch) is a = with_tells c nodes v me tape _ (Loses epoch) a refl
-one_tells c nodes v me tape (Validates group position) is a = with_tells c nodes v me tape _ (Validates group position) a refl
-one_tells c nodes v me tape (Invalidates group position) is a = with_tells c nodes v me tape _ (Invalidates group position) a refl
-one_tells c nodes v me tape (Decides group position entry) is a = with_tells c nodes v me tape _ (Decides group position entry) a refl
-one_tells c nodes v me tape (Applies group position) is a = with_tells c nodes v me tape _ (Applies group position) a refl
-one_tells c nodes v me tape (Answers op answer) is a = with_tells c nodes v me tape _ (Answers op answer) a refl
+one_tells c nodes v me tape (Unsends message) is a = with_tells c nodes v me tape (Unsent (number me) message) (Unsends message) a refl
+one_tells c nodes v me tape (Grants node epoch) is a = with_tells c nodes v me tape (Grant me (number node) epoch) (Grants node epoch) a refl
+one_tells c nodes v me tape (Lapses node epoch) is a = with_tells c nodes v me tape (Lapse me (number node) epoch) (Lapses node epoch) a refl
+one_tells c nodes v me tape (Counts cell epoch) is a = with_tells c nodes v me tape (CountsItem (number me) cell epoch) (Counts cell epoch) a refl
+one_tells c nodes v me tape (Forgets cell epoch) is a = with_tells c nodes v me tape (ForgetsItem (number me) cell epoch) (Forgets cell epoch) a refl
+one_tells c nodes v me tape (Serves epoch) is a = with_tells c nodes v me tape (Serving (number me) epoch) (Serves epoch) a refl
+one_tells c nodes v me tape (Loses epoch) is a = with_tells c nodes v me tape (Lost (number me) epoch) (Loses epoch) a refl
+one_tells c nodes v me tape (Validates group position) is a = with_tells c nodes v me tape (Valid (number me) group (record { 0 = position })) (Validates group position) a refl
+one_tells c nodes v me tape (Invalidates group position) is a = with_tells c nodes v me tape (Invalid (number me) group (record { 0 = position })) (Invalidates group position) a refl
+one_tells c nodes v me tape (Decides group position entry) is a = with_tells c nodes v me tape (Decide (number me) group (record { 0 = position }) entry) (Decides group position entry) a refl
+one_tells c nodes v me tape (Applies group position) is a = with_tells c nodes v me tape (Apply (number me) group (record { 0 = position })) (Applies group position) a refl
+one_tells c nodes v me tape (Answers op answer) is a = with_tells c nodes v me tape (Answer op answer) (Answers op answer) a refl
 
 pub with_append : (c : Cluster) (nodes : ℕ → Node) (xs ys tape : List Item) → with_items c nodes tape (xs ++ ys) ≡ with_items c nodes (with_items c nodes tape xs) ys
 with_append c nodes [] ys tape = refl
