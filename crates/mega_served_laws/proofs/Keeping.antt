@@ -12,7 +12,7 @@ use Rattle.mega_wal.specs.Acceptor.{Act, Promised, Vote, best, greater_ballot, s
 use Rattle.mega_wal.specs.History.{acts_of, starts_of}
 use Rattle.mega_wal.specs.Same.{same_group}
 use Rattle.mega_wal.specs.declared.item.JournalItem.{JournalItem}
-use Rattle.mega_wal.specs.declared.item.JournalItem.TheVariants.{Start as Started, Promise as Promises, Accept as Accepts, Decide as Decided, Grant as Granted, Lapse as Lapsed}
+use Rattle.mega_wal.specs.declared.item.JournalItem.TheVariants.{Start as Started, Promise as Promises, Accept as Accepts, Decide as Decided, Grant as Granted, Lapse as Lapsed, Starts as Starting}
 use Rattle.mega_rules.specs.Met.{Met, Answers, Applies, Begins, Counts, Crashes, Decides, Forgets, Grants, Invalidates, Lapses, Loses, Sends, Serves, Starts, Takes, Ticks, Unsends, Validates}
 use Rattle.mega_rules.specs.Clock.{clock_of}
 use Rattle.mega_rules.specs.Logs.{accepted_at, top_of}
@@ -183,3 +183,47 @@ pub all_unkept : (notes a : List Met) → All (λ x. is_kept x ≡ false) notes 
 all_unkept [] a are = kept_self a
 all_unkept (x ∷ notes) a are = kept_then (onto notes (x ∷ a)) (x ∷ a) a
     (all_unkept notes (x ∷ a) (All-tail (λ x. is_kept x ≡ false) x notes are)) (unkept x a (All-head (λ x. is_kept x ≡ false) x notes are))
+
+-- ---- no start is kept of a step
+
+body_starts : (o : Option JournalItem) (body : Body) (js : List JournalItem) → kept_of_body body ≡ o → starts_of (cons_option o js) ≡ starts_of js
+body_starts None body js is = refl
+body_starts (Some (Promises g n ballot)) body js is = refl
+body_starts (Some (Accepts g n ballot entry)) body js is = refl
+body_starts (Some (Decided g n entry)) body js is = refl
+body_starts (Some (Granted node epoch)) body js is = refl
+body_starts (Some (Lapsed node epoch)) body js is = refl
+body_starts (Some Started) body js is = absurd (by body is)
+  where
+    by : (body : Body) → kept_of_body body ≡ Some Started → ⊥
+    by (Promise op g n ballot vote) is = cc
+    by (Accepted op g n ballot entry) is = cc
+    by _ is = cc
+body_starts (Some (Starting number)) body js is = absurd (by body is)
+  where
+    by : (body : Body) → kept_of_body body ≡ Some (Starting number) → ⊥
+    by (Promise op g n ballot vote) is = cc
+    by (Accepted op g n ballot entry) is = cc
+    by _ is = cc
+
+note_starts : (x : Met) (js : List JournalItem) → starts_of (cons_option (kept_of_note x) js) ≡ starts_of js
+note_starts (Decides g n entry) js = refl
+note_starts (Grants node epoch) js = refl
+note_starts (Lapses node epoch) js = refl
+note_starts _ js = refl
+
+all_starts : {X : Type 0} (f : X → Option JournalItem) → ((x : X) (js : List JournalItem) → starts_of (cons_option (f x) js) ≡ starts_of js) → (xs : List X) (js : List JournalItem)
+    → starts_of (reverse (filter_map f xs) ++ js) ≡ starts_of js
+all_starts f h [] js = refl
+all_starts f h (x ∷ xs) js = by (f x) (h x js) (all_starts f h xs)
+  where
+    by : (o : Option JournalItem) → starts_of (cons_option o js) ≡ starts_of js → ((more : List JournalItem) → starts_of (reverse (filter_map f xs) ++ more) ≡ starts_of more)
+        → starts_of (reverse (cons_option o (filter_map f xs)) ++ js) ≡ starts_of js
+    by None same rest = rest js
+    by (Some item) same rest = ap starts_of (sym (rev_cons item (filter_map f xs) js)) ∙ rest (item ∷ js) ∙ same
+
+pub starts_kept : (made : Step) (js : List JournalItem) → starts_of (reverse (kept_of made) ++ js) ≡ starts_of js
+starts_kept made js =
+    ap starts_of (sym (rev_both (filter_map kept_of_note made.notes) (filter_map (λ (m : Message). kept_of_body m.body) made.sends) js))
+    ∙ all_starts (λ (m : Message). kept_of_body m.body) (λ m js. body_starts (kept_of_body m.body) m.body js refl) made.sends (reverse (filter_map kept_of_note made.notes) ++ js)
+    ∙ all_starts kept_of_note note_starts made.notes js

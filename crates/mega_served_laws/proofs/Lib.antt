@@ -8,3 +8,4 @@ pub mod Journals
 pub mod Starting
 pub mod Serving
 pub mod Telling
+pub mod Lived
