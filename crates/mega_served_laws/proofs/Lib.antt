@@ -9,3 +9,4 @@ pub mod Starting
 pub mod Serving
 pub mod Telling
 pub mod Lived
+pub mod Since

@@ -149,10 +149,13 @@ started c me first x before h = record {
     items : start_items s (starts_of x.journal + 1) [] (x.node).met ≡ start_items s (starts_of before + 1) [] (met_of me before)
     items = ap (λ n. start_items s n [] (x.node).met) number ∙ items_alike s (starts_of before + 1) (x.node).met (met_of me before) h.kept
 
+pub compacted_says : (journal after : List JournalItem) → IsCompacted journal after → SaySame journal after
+compacted_says journal after k = coe 1 0 (i. SaySame (k.all_are i) (k.after_are i))
+    (say_append k.since k.before (reverse (compacted k.kept)) (say_kept_same k.kept k.before (reverse (compacted k.kept)) k.says k.says_same))
+
 left_says : (journal after : List JournalItem) → (after ≡ journal) ⊎ IsCompacted journal after → SaySame journal after
 left_says journal after (inl is) = subst (λ js. SaySame journal js) (sym is) (say_self journal)
-left_says journal after (inr k) = coe 1 0 (i. SaySame (k.all_are i) (k.after_are i))
-    (say_append k.since k.before (reverse (compacted k.kept)) (say_kept_same k.kept k.before (reverse (compacted k.kept)) k.says k.says_same))
+left_says journal after (inr k) = compacted_says journal after k
 
 -- what one call leads to
 pub record Called (me : ℕ) (x : Served) (call : NodeCall) : Type 0 where
@@ -196,6 +199,12 @@ calls_go me (call ∷ calls) x before h run =
 
 pub all_go : (me : ℕ) (before : List JournalItem) (calls : List NodeCall) → AreNodeCalls me before calls → AllCalled me (found me before) before calls
 all_go me before calls run = calls_go me calls (found me before) before (record { journal = say_self before; kept = kept_self (met_of me before) }) run
+
+pub calls_record : (me : ℕ) (before : List JournalItem) (calls : List NodeCall) → AreNodeCalls me before calls → (all_called me (found me before) calls).lines ≡ lines_of calls
+calls_record me before calls run = (all_go me before calls run).lines
+
+pub calls_journal : (me : ℕ) (before : List JournalItem) (calls : List NodeCall) → AreNodeCalls me before calls → SaySame (all_called me (found me before) calls).journal (left_by before calls)
+calls_journal me before calls run = (all_go me before calls run).stands.journal
 
 put_append : (xs ys : List Line) → filter_map put_in (xs ++ ys) ≡ filter_map put_in xs ++ filter_map put_in ys
 put_append [] ys = refl

@@ -1,3 +1,4 @@
 pub mod Alike
+pub mod Pasts
 pub mod Calls
 pub mod Lives
