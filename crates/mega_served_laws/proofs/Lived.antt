@@ -125,7 +125,7 @@ note_shown (Sends message) is = absurd (cc)
 note_shown (Begins op text) is = absurd (cc)
 note_shown _ is = refl
 
-own_same : (s : Setting) (a b : Node) (event : Event) → NodeAlike anywhere s.cluster s.me a b → met_in s a.met event ≡ met_in s b.met event
+pub own_same : (s : Setting) (a b : Node) (event : Event) → NodeAlike anywhere s.cluster s.me a b → met_in s a.met event ≡ met_in s b.met event
 own_same s a b (Tick now) h = refl
 own_same s a b (Take m) h = refl
 own_same s a b (Begin request text) h = ap (λ op. Begins op text) (op_same anywhere s a.met b.met h.met)

@@ -6,7 +6,7 @@ use Rattle.mega_wal.specs.History.{starts_of}
 use Rattle.mega_rules.specs.Met.{Met, Sends}
 use Rattle.mega_rules.specs.Operations.{Node, Setting}
 use Rattle.mega_rules.specs.Steps.{Begin, Event, Step, Take, Tick, onto, start, start_items, step}
-use Rattle.mega_promises.specs.NodeRuns.{Input, met_of}
+use Rattle.mega_promises.specs.NodeRuns.{Input, met_of, node_run}
 use Rattle.mega_promises.specs.Runs.{met_in, setting}
 use Rattle.mega_node_laws.specs.Acted.{own_item}
 use Rattle.mega_node_laws.proofs.Ending.{step_met}
@@ -103,5 +103,5 @@ start_is_run c me before first inputs = record { node = run.is; since = run.sinc
     items : List Met
     items = start_items (setting c first me) (starts_of (lived c me before).journal + 1) [] past
 
-    run : Since c me past (lived c me before).told (with_start before first inputs) _
+    run : Since c me past (lived c me before).told (with_start before first inputs) (node_run c me first (lived c me before).journal inputs)
     run = inputs_since c me past (lived c me before).told inputs (StartsUp first ∷ before) (onto items []) (onto_over items [] past) (onto_over items [] (lived c me before).told)

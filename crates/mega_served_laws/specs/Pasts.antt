@@ -1,5 +1,5 @@
 -- A node after a start and some inputs, over what it met before, and when two such runs are the same.
-use Rattle.std.specs.Prelude.{◌≡◌, ℕ, List, ◌++◌, fold}
+use Rattle.std.specs.Prelude.{◌≡◌, ℕ, List, [], ◌++◌, fold}
 use Rattle.mega_cluster.specs.declared.cluster.Cluster.{Cluster}
 use Rattle.mega_handler.specs.Named.{Meanings}
 use Rattle.mega_rules.specs.Met.{Met}

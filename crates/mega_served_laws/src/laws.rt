@@ -21,7 +21,6 @@ ghost use Rattle.mega_served_laws.specs.Pasts.{SameSince, run_over};
 
 /// Of what a node met before a start, what it does behind it rests on what is kept alone: two pasts that agree in that lead by the same inputs to
 /// the same notes, messages and answers, and to the same open operations.
-#[tactic(auto, using(crate::proofs::Since::pasts_same))]
 pub fn what_is_kept_is_enough()
     ensures { (c : Cluster) (me number : ℕ) (first : Meanings) (past other : List Met) (inputs : List Input) → KeptAlike past other →
         SameSince (run_over c me first number past inputs) past (run_over c me first number other inputs) other }
@@ -29,7 +28,6 @@ pub fn what_is_kept_is_enough()
 
 /// A journal that tells what is kept of what a node met goes on telling it, with the items of each step behind it; and journals that say the same
 /// tell the same, as a journal does that was compacted.
-#[tactic(auto, using(crate::proofs::Keeping::step_kept, crate::proofs::Journals::say_kept, crate::proofs::Serving::compacted_says))]
 pub fn a_journal_tells_what_is_kept()
     ensures steps { (s : Setting) (node : Node) (event : Event) (journal : List JournalItem) → KeptAlike node.met (met_of s.me journal) →
         KeptAlike (step s node event).node.met (met_of s.me (reverse (kept_of (step s node event)) ++ journal)) }
@@ -40,7 +38,6 @@ pub fn a_journal_tells_what_is_kept()
 /// A list of calls of a node on the same devices is one run of that node over all its starts, each under the cluster of its own header: it goes on
 /// from all that it met, and not from a journal. Their records are its record, what they put out is what it puts out, and the journal that the last
 /// one left says what its own says, however often logs were compacted between.
-#[tactic(auto, using(crate::proofs::Serving::calls_record, crate::proofs::Serving::sends_go, crate::proofs::Serving::calls_journal))]
 pub fn calls_are_one_run()
     ensures record_is { (me : ℕ) (before : List JournalItem) (calls : List NodeCall) → AreNodeCalls me before calls →
         (all_called me (found me before) calls).lines ≡ lines_of calls }
@@ -53,14 +50,12 @@ pub fn calls_are_one_run()
 /// What concerns a node on the tape of a run is its life: each of its starts makes it anew from its journal alone, and what it is given then leads
 /// to what the tape tells of it, line by line. It holds where the fuses of logs lose the writes that are pending, and there are fewer nodes and events
 /// than 2^32.
-#[tactic(auto, using(crate::proofs::Lived::run_lives))]
 pub fn a_tape_tells_the_life_of_each_node()
     ensures { (c : Cluster) (first : Meanings) (events : List Happening) (tape : List Item) → IsRun c first events tape →
         All (λ one. is_losing one ≡ true) events → length (nodes c) + length events ≤ 4294967295 → (me : ℕ) → IsLife c me tape }
 {}
 
 /// In a life, a start and what is given behind it is a node run from the journal that was left before.
-#[tactic(auto, using(crate::proofs::Since::start_is_run))]
 pub fn each_start_is_a_node_run()
     ensures { (c : Cluster) (me : ℕ) (before : List Befalls) (first : Meanings) (inputs : List Input) → IsOfNodeRun c me before first inputs }
 {}
