@@ -10,3 +10,4 @@ pub mod Serving
 pub mod Telling
 pub mod Lived
 pub mod Since
+pub mod Called

@@ -2,3 +2,4 @@ pub mod Alike
 pub mod Pasts
 pub mod Calls
 pub mod Lives
+pub mod Examples
