@@ -1,8 +1,7 @@
--- Two calls of a witness: it votes in the first, and in the second, under a header whose schema extends the first one's, it tells of its vote.
+-- Two calls of a witness: it promises in the first, and in the second, under a header whose schema extends the first one's, it keeps its promise.
 use Rattle.std.specs.Prelude.{ℕ, List, [], ◌∷◌, ◌++◌, Option, Some, None, codes, filter_map}
 use Rattle.mega_base.specs.declared.values.Kind.TheVariants.{Str}
 use Rattle.mega_base.specs.declared.values.NodeKind.TheVariants.{Full, Witness}
-use Rattle.mega_ballot.specs.Order.{zero_ballot}
 use Rattle.mega_ballot.specs.declared.ballot.Ballot.{Ballot}
 use Rattle.mega_cluster.specs.declared.cluster.Cluster.{Cluster}
 use Rattle.mega_schema.specs.declared.schema.Schema.{Schema}
@@ -10,9 +9,9 @@ use Rattle.mega_schema.specs.declared.schema.Table.{Table}
 use Rattle.mega_syntax.specs.declared.need.Need.TheVariants.{Optional}
 use Rattle.mega_wal.specs.declared.item.JournalItem.{JournalItem}
 use Rattle.mega_wire.specs.Messages.{message_text}
-use Rattle.mega_wire.specs.declared.message.Body.TheVariants.{Accepted, Prepare, Promise}
+use Rattle.mega_wire.specs.declared.message.Body.TheVariants.{Prepare, Promise, Refused}
 use Rattle.mega_wire.specs.declared.message.Message.{Message}
-use Rattle.mega_rules.specs.Examples.{accept_for, accepted_from, entry_of, from_to, group, no_op_of, op_of, schema, users}
+use Rattle.mega_rules.specs.Examples.{from_to, group, op_of, schema, users}
 use Rattle.mega_promises.specs.Records.{NodeCall}
 use Rattle.mega_promises.specs.Served.{OfNode, Peer, Refuses, Turn, put_in, served}
 
@@ -54,23 +53,26 @@ call_of c before turns = record {
   after = (served c 1 (λ json. Refuses 1) [] before turns).journal;
 }
 
--- an entry of node 2 is accepted at ballot zero
+-- node 3 asks for a promise
+abbrev pub ballot_of : ℕ → Ballot
+ballot_of node = record { round = 1; op = op_of node }
+
+abbrev pub asks_promise : ℕ → Message
+asks_promise node = from_to node 1 (Prepare (op_of node) group (record { 0 = 1 }) (ballot_of node))
+
 abbrev pub first_call : NodeCall
-first_call = call_of (cluster_of schema) [] (brings 5 (accept_for 2 1 1 zero_ballot (no_op_of 2)) ∷ [])
+first_call = call_of (cluster_of schema) [] (brings 5 (asks_promise 3) ∷ [])
 
--- and node 3 asks for a promise
-abbrev pub ballot : Ballot
-ballot = record { round = 1; op = op_of 3 }
-
+-- and then node 2 asks for one of a lower ballot
 abbrev pub second_call : NodeCall
-second_call = call_of (cluster_of more_schema) first_call.after (brings 7 (from_to 3 1 (Prepare (op_of 3) group (record { 0 = 1 }) ballot)) ∷ [])
+second_call = call_of (cluster_of more_schema) first_call.after (brings 7 (asks_promise 2) ∷ [])
 
 abbrev pub two_calls : List NodeCall
 two_calls = first_call ∷ second_call ∷ []
 
--- what it puts out: its vote, and a promise that tells of it
-abbrev pub vote_and_promise : List (Peer × List ℕ)
-vote_and_promise =
-    (OfNode 2, message_text (accepted_from 2 1 1 zero_ballot (no_op_of 2)))
-    ∷ (OfNode 3, message_text (from_to 1 3 (Promise (op_of 3) group (record { 0 = 1 }) ballot (Some (zero_ballot, no_op_of 2)))))
+-- what it puts out: its promise, and a refusal that tells of it
+abbrev pub promise_and_refusal : List (Peer × List ℕ)
+promise_and_refusal =
+    (OfNode 3, message_text (from_to 1 3 (Promise (op_of 3) group (record { 0 = 1 }) (ballot_of 3) None)))
+    ∷ (OfNode 2, message_text (from_to 1 2 (Refused (op_of 2) group (record { 0 = 1 }) (ballot_of 2) (ballot_of 3) None)))
     ∷ []
