@@ -25,5 +25,5 @@ pub two_of_schemas : AreOfSchemas schema two_calls
 two_of_schemas = (inl refl, (inr extends, tt))
 
 pub two_send : sends_of two_calls ≡ promise_and_refusal
-unfolding (number_text, whole_of, message_at, mark_at, byte_in, kinded_at, addressed_at, pair_at, body_of, op_at, digits_in, group_at, bytes_in, bytes_of_len, position_in, ballot_at)
+unfolding number_text whole_of message_at mark_at byte_in kinded_at addressed_at pair_at body_of op_at digits_in group_at bytes_in bytes_of_len position_in ballot_at
 two_send = refl
