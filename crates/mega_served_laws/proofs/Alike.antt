@@ -1,12 +1,10 @@
 -- Two histories that tell a node the same: what it made, decided, granted and let lapse in all its starts, and what it met in the present one.
-use Rattle.std.proofs.Common.{◌≡◌, ℕ, zero, suc, ◌+◌, ◌==◌, ◌&&◌, Bool, true, false, cond, max, List, [], ◌∷◌, ◌++◌, length, flat_map, Option, Some, None, refl, sym, ap, subst, ◌∙◌}
+use Rattle.std.proofs.Common.{◌≡◌, ℕ, ◌+◌, ◌==◌, ◌&&◌, Bool, true, false, cond, max, List, [], ◌∷◌, ◌++◌, flat_map, Option, Some, None, refl, sym, ap, subst, ◌∙◌}
 use Rattle.std.specs.Prelude.{option_map, unwrap_or}
 use Rattle.std.specs.List.{cons_option, list_any}
-use Rattle.mega_base.specs.declared.names.Epoch.{Epoch}
-use Rattle.mega_base.specs.declared.names.GroupId.{GroupId}
 use Rattle.mega_cluster.specs.declared.cluster.Cluster.{Cluster}
 use Rattle.mega_coordinator.specs.History.{Ticks as Told, serving}
-use Rattle.mega_locks.specs.History.{Call, Asks, Reopens, Ticks as CellTicks, first_term, first_tick, lock_of, nodes as lock_nodes, renewal, term}
+use Rattle.mega_locks.specs.History.{Call, Asks, Reopens, Ticks as CellTicks, first_tick, lock_of, nodes as lock_nodes, term}
 use Rattle.mega_locks.specs.Rule.{asked, reopened, ticked}
 use Rattle.mega_wal.specs.Acceptor.{Act, Promised, Voted, best, greater_ballot, greater_vote, shown}
 use Rattle.mega_wal.specs.History.{after_grant, after_lapse}
@@ -17,7 +15,7 @@ use Rattle.mega_rules.specs.Clock.{begun_of, clock_of, is_opening, last_tick, st
 use Rattle.mega_rules.specs.Coordinators.{coordinator_calls, told_by, validated}
 use Rattle.mega_rules.specs.Finding.{marks_shown, refreshed_marks}
 use Rattle.mega_rules.specs.Locks.{asked_in, cell_calls, if_opening, last_grant, reopening, reopenings}
-use Rattle.mega_rules.specs.Logs.{accepted_at, decided, first_of, groups_of, newest_of, top_of, with_group}
+use Rattle.mega_rules.specs.Logs.{accepted_at, first_of, with_group}
 use Rattle.mega_rules.specs.Steps.{onto}
 use Rattle.mega_rules.specs.Voting.{act_in, acts}
 use Rattle.mega_served_laws.specs.Alike.{KeptAlike}
@@ -166,43 +164,83 @@ reopenings_alike a b h (node ∷ ns) = λ i. reopening node (h.grants node i) ++
 
 pub alike_more : (w : Scope) (c : Cluster) (me : ℕ) (x : Met) (a b : List Met) → Alike w c me a b → Alike w c me (x ∷ a) (x ∷ b)
 alike_more w c me (Starts start) a b h = record {
-  kept = kept_more (Starts start) a b h.kept; start = refl; ticks = refl; begun = refl; opening = refl; calls = refl;
+  kept = kept_more (Starts start) a b h.kept;
+  start = refl;
+  ticks = refl;
+  begun = refl;
+  opening = refl;
+  calls = refl;
   cell = subst (λ calls. CellAlike w (reopenings a) calls) (reopenings_alike a b h.kept lock_nodes) (cell_self w (reopenings a));
   marks = refl;
 }
 alike_more w c me (Ticks now) a b h = record {
-  kept = kept_more (Ticks now) a b h.kept; start = h.start; ticks = ap (λ ts. now ∷ ts) h.ticks; begun = h.begun; opening = refl;
+  kept = kept_more (Ticks now) a b h.kept;
+  start = h.start;
+  ticks = ap (λ ts. now ∷ ts) h.ticks;
+  begun = h.begun;
+  opening = refl;
   calls = λ i. Told now ∷ h.calls i;
   cell = cell_more w (CellTicks now (keep_of c)) (cell_calls c me a) (cell_calls c me b) h.cell;
   marks = h.marks;
 }
 alike_more w c me (Begins op text) a b h = record {
-  kept = kept_more (Begins op text) a b h.kept; start = h.start; ticks = h.ticks; begun = ap (λ n. n + 1) h.begun; opening = refl; calls = h.calls; cell = h.cell; marks = h.marks;
+  kept = kept_more (Begins op text) a b h.kept;
+  start = h.start;
+  ticks = h.ticks;
+  begun = ap (λ n. n + 1) h.begun;
+  opening = refl;
+  calls = h.calls;
+  cell = h.cell;
+  marks = h.marks;
 }
 alike_more w c me (Takes m) a b h = record {
-  kept = kept_more (Takes m) a b h.kept; start = h.start; ticks = h.ticks; begun = h.begun; opening = refl;
+  kept = kept_more (Takes m) a b h.kept;
+  start = h.start;
+  ticks = h.ticks;
+  begun = h.begun;
+  opening = refl;
   calls = λ i. told_by c (clock_alike a b h.ticks i) m.body ++ h.calls i;
   cell = along w (cell_calls c me a) (cell_calls c me b) (asked_in c me (clock_of a) m) (asked_in c me (clock_of b) m) (λ i. asked_in c me (clock_alike a b h.ticks i) m) h.cell;
   marks = h.marks;
 }
 alike_more w c me (Grants node epoch) a b h = record {
-  kept = kept_more (Grants node epoch) a b h.kept; start = h.start; ticks = h.ticks; begun = h.begun; opening = h.opening; calls = h.calls;
+  kept = kept_more (Grants node epoch) a b h.kept;
+  start = h.start;
+  ticks = h.ticks;
+  begun = h.begun;
+  opening = h.opening;
+  calls = h.calls;
   cell = along w (cell_calls c me a) (cell_calls c me b) (if_opening a (Reopens node epoch true)) (if_opening b (Reopens node epoch true)) (λ i. cond (h.opening i) (Reopens node epoch true ∷ []) []) h.cell;
   marks = h.marks;
 }
 alike_more w c me (Lapses node epoch) a b h = record {
-  kept = kept_more (Lapses node epoch) a b h.kept; start = h.start; ticks = h.ticks; begun = h.begun; opening = h.opening; calls = h.calls;
+  kept = kept_more (Lapses node epoch) a b h.kept;
+  start = h.start;
+  ticks = h.ticks;
+  begun = h.begun;
+  opening = h.opening;
+  calls = h.calls;
   cell = along w (cell_calls c me a) (cell_calls c me b) (if_opening a (Reopens node epoch false)) (if_opening b (Reopens node epoch false)) (λ i. cond (h.opening i) (Reopens node epoch false ∷ []) []) h.cell;
   marks = h.marks;
 }
 alike_more w c me (Validates group position) a b h = record {
-  kept = kept_more (Validates group position) a b h.kept; start = h.start; ticks = h.ticks; begun = h.begun; opening = h.opening;
+  kept = kept_more (Validates group position) a b h.kept;
+  start = h.start;
+  ticks = h.ticks;
+  begun = h.begun;
+  opening = h.opening;
   calls = λ i. validated group position (serving (h.start i) c.cells (h.calls i)) ++ h.calls i;
   cell = h.cell;
   marks = h.marks;
 }
 alike_more w c me (Answers op answer) a b h = record {
-  kept = kept_more (Answers op answer) a b h.kept; start = h.start; ticks = h.ticks; begun = h.begun; opening = h.opening; calls = h.calls; cell = h.cell;
+  kept = kept_more (Answers op answer) a b h.kept;
+  start = h.start;
+  ticks = h.ticks;
+  begun = h.begun;
+  opening = h.opening;
+  calls = h.calls;
+  cell = h.cell;
   marks = ap (λ marks. marks_shown answer marks) h.marks;
 }
 alike_more w c me Crashes a b h = record { kept = kept_more Crashes a b h.kept; start = h.start; ticks = h.ticks; begun = h.begun; opening = h.opening; calls = h.calls; cell = h.cell; marks = h.marks }
@@ -223,7 +261,12 @@ alike_onto w c me (x ∷ items) a b h = alike_onto w c me items (x ∷ a) (x ∷
 -- a start forgets all but what is kept
 pub starts_alike : (w : Scope) (c : Cluster) (me : ℕ) (start : ℕ) (a b : List Met) → KeptAlike a b → Alike w c me (Starts start ∷ a) (Starts start ∷ b)
 starts_alike w c me start a b h = record {
-  kept = kept_more (Starts start) a b h; start = refl; ticks = refl; begun = refl; opening = refl; calls = refl;
+  kept = kept_more (Starts start) a b h;
+  start = refl;
+  ticks = refl;
+  begun = refl;
+  opening = refl;
+  calls = refl;
   cell = subst (λ calls. CellAlike w (reopenings a) calls) (reopenings_alike a b h lock_nodes) (cell_self w (reopenings a));
   marks = refl;
 }

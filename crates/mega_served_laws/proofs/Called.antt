@@ -1,5 +1,5 @@
 -- The two calls are calls of one node on the same devices, the second under a schema that extends that of the first.
-use Rattle.std.proofs.Common.{◌≡◌, ◌⊎◌, inl, inr, ℕ, List, [], ◌∷◌, ◌++◌, refl}
+use Rattle.std.proofs.Common.{◌≡◌, inl, inr, [], refl}
 use Rattle.mega_outcome.specs.Extends.{Extends}
 use Rattle.mega_rules.specs.Examples.{schema}
 use Rattle.mega_promises.specs.Records.{AreNodeCalls, AreOfSchemas}

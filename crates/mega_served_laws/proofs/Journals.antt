@@ -1,5 +1,5 @@
 -- Journals that say the same tell the same, also with the same items behind them, and so does a journal that was compacted.
-use Rattle.std.proofs.Common.{◌≡◌, ℕ, ◌+◌, ◌==◌, ◌&&◌, ◌||◌, max, min, Bool, true, false, cond, List, [], ◌∷◌, ◌++◌, Option, Some, None, refl, sym, ap, subst, ◌∙◌, arith}
+use Rattle.std.proofs.Common.{◌≡◌, ℕ, ◌+◌, ◌==◌, ◌&&◌, ◌||◌, max, Bool, true, false, cond, List, [], ◌∷◌, ◌++◌, Option, Some, None, refl, sym, ap, ◌∙◌, arith}
 use Rattle.std.specs.Prelude.{is_some}
 use Rattle.std.specs.List.{cons_option, list_any}
 use Rattle.std.proofs.lemmas.Bool.Decides.{nat_tests}
@@ -7,7 +7,7 @@ use Rattle.mega_base.specs.declared.names.GroupId.{GroupId}
 use Rattle.mega_ballot.specs.declared.ballot.Ballot.{Ballot}
 use Rattle.mega_entry.specs.declared.content.Content.{Content}
 use Rattle.mega_wal.specs.Acceptor.{Act, Promised, Vote, Voted, best, greater_ballot, greater_vote, shown}
-use Rattle.mega_wal.specs.History.{acts_of, after_grant, after_lapse, decided_of, first_of as first_in, granted_of, is_place, newest_of as newest_in, starts_at_most, starts_of, top_of as top_in}
+use Rattle.mega_wal.specs.History.{acts_of, after_grant, after_lapse, decided_of, first_of as first_in, granted_of, is_place, newest_of as newest_in, starts_at_most, top_of as top_in}
 use Rattle.mega_wal.specs.Kept.{Represents, marks_of, slot_of}
 use Rattle.mega_wal.specs.Same.{same_group}
 use Rattle.mega_wal.specs.declared.kept.Kept.{Kept}
@@ -15,7 +15,7 @@ use Rattle.mega_wal.specs.declared.slot.Slot.{Slot}
 use Rattle.mega_wal.specs.declared.groups.Marks.{Marks}
 use Rattle.mega_wal.specs.declared.item.JournalItem.{JournalItem}
 use Rattle.mega_wal.specs.declared.item.JournalItem.TheVariants.{Start as Started, Promise as Promises, Accept as Accepts, Decide as Decided, Grant as Granted, Lapse as Lapsed, Starts as Starting}
-use Rattle.mega_wal.proofs.Sames.{same_group_equal, same_group_self}
+use Rattle.mega_wal.proofs.Sames.{same_group_equal}
 use Rattle.mega_rules.specs.Met.{Met, Decides}
 use Rattle.mega_rules.specs.Locks.{last_grant}
 use Rattle.mega_rules.specs.Logs.{decided, first_of, groups_of, is_group_before, newest_of, top_of, with_group}
@@ -246,39 +246,65 @@ if_best false one other xs ys h k = h
 
 pub say_more : (item : JournalItem) (a b : List JournalItem) → SaySame a b → SaySame (item ∷ a) (item ∷ b)
 say_more Started a b h = record {
-  decides = h.decides; newest = h.newest; tops = h.tops; shows = h.shows; bests = h.bests; grants = h.grants;
+  decides = h.decides;
+  newest = h.newest;
+  tops = h.tops;
+  shows = h.shows;
+  bests = h.bests;
+  grants = h.grants;
   starts = ap (λ n. starts_at_most (n + 1)) h.starts;
 }
 say_more (Starting number) a b h = record {
-  decides = h.decides; newest = h.newest; tops = h.tops; shows = h.shows; bests = h.bests; grants = h.grants;
+  decides = h.decides;
+  newest = h.newest;
+  tops = h.tops;
+  shows = h.shows;
+  bests = h.bests;
+  grants = h.grants;
   starts = ap (λ n. starts_at_most (n + number)) h.starts;
 }
 say_more (Promises g p ballot) a b h = record {
-  decides = h.decides; newest = h.newest; tops = h.tops;
+  decides = h.decides;
+  newest = h.newest;
+  tops = h.tops;
   shows = λ group n. if_shown (is_place g p group n) (Promised ballot (best (acts_of a group n))) (Promised ballot (best (acts_of b group n))) (acts_of a group n) (acts_of b group n) (h.shows group n) (ap (λ s. greater_ballot s ballot) (h.shows group n));
   bests = λ group n. if_best (is_place g p group n) (Promised ballot (best (acts_of a group n))) (Promised ballot (best (acts_of b group n))) (acts_of a group n) (acts_of b group n) (h.bests group n) (h.bests group n);
-  grants = h.grants; starts = h.starts;
+  grants = h.grants;
+  starts = h.starts;
 }
 say_more (Accepts g p ballot entry) a b h = record {
-  decides = h.decides; newest = h.newest;
+  decides = h.decides;
+  newest = h.newest;
   tops = λ group. ap (λ n. cond (same_group g group) (max n p.0) n) (h.tops group);
   shows = λ group n. if_shown (is_place g p group n) (Voted ballot entry) (Voted ballot entry) (acts_of a group n) (acts_of b group n) (h.shows group n) (ap (λ s. greater_ballot s ballot) (h.shows group n));
   bests = λ group n. if_best (is_place g p group n) (Voted ballot entry) (Voted ballot entry) (acts_of a group n) (acts_of b group n) (h.bests group n) (ap (λ v. greater_vote v ballot entry) (h.bests group n));
-  grants = h.grants; starts = h.starts;
+  grants = h.grants;
+  starts = h.starts;
 }
 say_more (Decided g p entry) a b h = record {
   decides = λ group n. ap (λ d. cond (is_place g p group n) (first_in d entry) d) (h.decides group n);
   newest = λ group. ap (λ n. cond (same_group g group) (max n p.0) n) (h.newest group);
   tops = λ group. ap (λ n. cond (same_group g group) (max n p.0) n) (h.tops group);
-  shows = h.shows; bests = h.bests; grants = h.grants; starts = h.starts;
+  shows = h.shows;
+  bests = h.bests;
+  grants = h.grants;
+  starts = h.starts;
 }
 say_more (Granted other epoch) a b h = record {
-  decides = h.decides; newest = h.newest; tops = h.tops; shows = h.shows; bests = h.bests;
+  decides = h.decides;
+  newest = h.newest;
+  tops = h.tops;
+  shows = h.shows;
+  bests = h.bests;
   grants = λ node. ap (λ g. cond (other.0 == node) (after_grant g epoch) g) (h.grants node);
   starts = h.starts;
 }
 say_more (Lapsed other epoch) a b h = record {
-  decides = h.decides; newest = h.newest; tops = h.tops; shows = h.shows; bests = h.bests;
+  decides = h.decides;
+  newest = h.newest;
+  tops = h.tops;
+  shows = h.shows;
+  bests = h.bests;
   grants = λ node. ap (λ g. cond (other.0 == node) (after_lapse g epoch) g) (h.grants node);
   starts = h.starts;
 }

@@ -1,5 +1,5 @@
 -- What a node's journal tells goes on telling what the node met, with each step's items behind it.
-use Rattle.std.proofs.Common.{◌≡◌, ℕ, ◌+◌, ◌==◌, ◌&&◌, max, Bool, true, false, cond, List, [], ◌∷◌, ◌++◌, map, filter_map, reverse, Option, Some, None, refl, sym, ap, subst, ◌∙◌, arith}
+use Rattle.std.proofs.Common.{◌≡◌, ℕ, ◌==◌, ◌&&◌, max, Bool, true, false, cond, List, [], ◌∷◌, ◌++◌, map, filter_map, reverse, Option, Some, None, refl, sym, ap, subst, ◌∙◌, arith}
 use Rattle.std.specs.List.{All, cons_option}
 use Rattle.std.proofs.lemmas.List.{append_assoc, reverse-append}
 use Rattle.std.proofs.lemmas.List.Elements.{All-head, All-tail}
@@ -14,16 +14,15 @@ use Rattle.mega_wal.specs.Same.{same_group}
 use Rattle.mega_wal.specs.declared.item.JournalItem.{JournalItem}
 use Rattle.mega_wal.specs.declared.item.JournalItem.TheVariants.{Start as Started, Promise as Promises, Accept as Accepts, Decide as Decided, Grant as Granted, Lapse as Lapsed, Starts as Starting}
 use Rattle.mega_rules.specs.Met.{Met, Answers, Applies, Begins, Counts, Crashes, Decides, Forgets, Grants, Invalidates, Lapses, Loses, Sends, Serves, Starts, Takes, Ticks, Unsends, Validates}
-use Rattle.mega_rules.specs.Clock.{clock_of}
 use Rattle.mega_rules.specs.Logs.{accepted_at, top_of}
 use Rattle.mega_rules.specs.Operations.{Node, Setting}
-use Rattle.mega_rules.specs.Steps.{Begin, Event, Step, Take, Tick, onto, start, start_notes, step}
+use Rattle.mega_rules.specs.Steps.{Begin, Event, Step, Take, Tick, onto, start, step}
 use Rattle.mega_rules.specs.Voting.{act_if, act_in, acts}
-use Rattle.mega_promises.specs.NodeRuns.{met_of, was_made}
+use Rattle.mega_promises.specs.NodeRuns.{met_of}
 use Rattle.mega_promises.specs.Served.{kept_of, kept_of_body, kept_of_note}
 use Rattle.mega_node_laws.specs.Acted.{own_item}
 use Rattle.mega_node_laws.proofs.Ending.{step_met}
-use Rattle.mega_served_laws.proofs.Alike.{best_with, kept_more, kept_onto, kept_self, kept_then, shown_with}
+use Rattle.mega_served_laws.proofs.Alike.{best_with, kept_more, kept_self, kept_then, shown_with}
 use Rattle.mega_served_laws.specs.Alike.{KeptAlike}
 use Rattle.mega_served_laws.proofs.Notes.{IsNote, step_fair}
 

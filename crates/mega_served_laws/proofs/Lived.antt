@@ -1,21 +1,19 @@
 -- Every run tells of each node what its life tells, in which each start makes it anew from its journal.
-use Rattle.std.proofs.Common.{◌≡◌, ℕ, zero, suc, ◌+◌, ◌==◌, ◌&&◌, ◌≤◌, min, Bool, true, false, not, cond, List, [], ◌∷◌, ◌++◌, filter, filter_map, flat_map, find, fold, length, map, reverse, Option, Some, None, refl, sym, ap, subst, ◌∙◌, if◌then◌else◌, arith}
+use Rattle.std.proofs.Common.{◌≡◌, ℕ, zero, suc, ◌+◌, ◌==◌, ◌&&◌, ◌≤◌, min, Bool, true, false, not, cond, List, [], ◌∷◌, ◌++◌, filter_map, flat_map, find, fold, length, map, reverse, Option, Some, None, refl, sym, ap, subst, ◌∙◌, if◌then◌else◌, arith}
 use Rattle.std.specs.Prelude.{option_map}
-use Rattle.std.specs.List.{All, cons_option}
+use Rattle.std.specs.List.{All}
 use Rattle.std.proofs.lemmas.Bool.Decides.{nat_tests}
-use Rattle.std.proofs.lemmas.List.Elements.{All-head, All-nil, All-tail, All-weaker}
+use Rattle.std.proofs.lemmas.List.Elements.{All-head, All-tail, All-weaker}
 use Rattle.mega_cluster.specs.declared.cluster.Cluster.{Cluster}
 use Rattle.mega_disk.specs.declared.pair.Device.TheVariants.{Data, Log}
 use Rattle.mega_handler.specs.Named.{Meanings}
 use Rattle.mega_wire.specs.declared.message.Message.{Message}
-use Rattle.mega_outcome.specs.declared.request.Request.{Request}
 use Rattle.mega_schedule.specs.declared.world_event.WorldEvent.{WorldEvent}
 use Rattle.mega_schedule.specs.declared.world_event.WorldEvent.TheVariants.{Begin as BeginEvent, Crash as CrashEvent, Deliver, Drain, Drop, Fuse as FuseEvent, Start as StartEvent, Tick as TickEvent}
 use Rattle.mega_transcript.specs.declared.item.Item.{Item}
 use Rattle.mega_transcript.specs.declared.item.Item.TheVariants.{Begin as BeginItem, Crash, Cut as CutItem, Dropped, Start as StartItem, Taken, Tick as TickItem}
 use Rattle.mega_transcript.specs.Tape.{is_sent, is_taken, sent_count}
 use Rattle.mega_wal.specs.History.{starts_of}
-use Rattle.mega_wal.specs.declared.item.JournalItem.{JournalItem}
 use Rattle.mega_wal.specs.declared.item.JournalItem.TheVariants.{Start as Started}
 use Rattle.mega_rules.specs.Met.{Met, Begins, Crashes, Sends, Starts, Takes, Ticks}
 use Rattle.mega_rules.specs.Clock.{is_up}
@@ -24,8 +22,8 @@ use Rattle.mega_rules.specs.Operations.{Node, Setting}
 use Rattle.mega_rules.specs.Steps.{Begin, Event, Step, Take, Tick, crashed, onto, op_of, start, start_items, start_notes, step}
 use Rattle.mega_promises.specs.Items.{number, numbered, shown}
 use Rattle.mega_promises.specs.Messages.{is_deliverable, is_dropped, message_of, next_delivery, receiver_up}
-use Rattle.mega_promises.specs.NodeRuns.{Input, met_of}
-use Rattle.mega_promises.specs.Runs.{AsItWas, after_append, log_fuse_after, Calls, Compacted, CutByData, CutByLog, Cuts, Fate, Fuse, Happening, IsRun, Left, Recorded, Standing, Whole, after_event, appends, at_node, because, calls_of, crashes, cut_start, cut_step, delivered, drained, fate_by, fate_of, fated, fated_start, goes_on, handed, is_burning, is_kept, marked, may_become, met_in, new_fuse, nothing_yet, opening, owes, receiver_down, refusal, replies_in, set_at, setting, start_calls, unless_none, unless_refused, up, whole_start, whole_step, with_items}
+use Rattle.mega_promises.specs.NodeRuns.{met_of}
+use Rattle.mega_promises.specs.Runs.{AsItWas, after_append, log_fuse_after, Calls, Compacted, CutByData, CutByLog, Cuts, Fate, Fuse, Happening, IsRun, Recorded, Standing, Whole, after_event, appends, at_node, because, calls_of, crashes, delivered, drained, fate_by, fated, fated_start, goes_on, handed, is_burning, is_kept, marked, may_become, met_in, new_fuse, nothing_yet, opening, owes, receiver_down, refusal, replies_in, set_at, setting, start_calls, unless_none, unless_refused, up, whole_start, whole_step, with_items}
 use Rattle.mega_promises.specs.Served.{kept_of, kept_of_body, kept_of_note}
 use Rattle.mega_served_laws.specs.Alike.{KeptAlike}
 use Rattle.mega_served_laws.specs.Lives.{receiver, Befalls, Does, FailsToStart, Falls, FallsIn, IsLife, Life, StartsUp, actor, is_losing, lived, told_by, told_of}

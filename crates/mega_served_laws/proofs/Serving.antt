@@ -1,30 +1,26 @@
 -- A served node that goes on from all that it met, beside one that was started from its journal.
-use Rattle.std.proofs.Common.{◌≡◌, ◌⊎◌, inl, inr, ℕ, ◌+◌, ◌==◌, ◌&&◌, min, Bool, true, false, cond, List, [], ◌∷◌, ◌++◌, codes, decimal, filter, filter_map, flat_map, fold, map, reverse, Option, Some, None, Result, Ok, Err, refl, sym, ap, subst, ◌∙◌}
+use Rattle.std.proofs.Common.{◌≡◌, ◌⊎◌, inl, inr, ℕ, ◌+◌, ◌==◌, ◌&&◌, Bool, true, false, cond, List, [], ◌∷◌, ◌++◌, filter, filter_map, flat_map, fold, reverse, Option, Some, None, Result, Ok, Err, refl, sym, ap, subst, ◌∙◌}
 use Rattle.std.specs.List.{cons_option, list_any}
 use Rattle.std.proofs.lemmas.List.{append_assoc, append-nil}
 use Rattle.mega_base.specs.Reading.{whole_of}
-use Rattle.mega_base.specs.declared.names.OpId.{OpId}
 use Rattle.mega_cluster.specs.declared.cluster.Cluster.{Cluster}
 use Rattle.mega_handler.specs.Named.{Meanings}
 use Rattle.mega_wire.specs.Messages.{message_at}
 use Rattle.mega_wire.specs.declared.message.Message.{Message}
 use Rattle.mega_wire.specs.declared.message.Body.{Body}
 use Rattle.mega_wire.specs.declared.message.Body.TheVariants.{Request as Requests}
-use Rattle.mega_outcome.specs.declared.request.Request.{Request}
 use Rattle.mega_wal.specs.Same.{same_op}
 use Rattle.mega_wal.specs.History.{starts_of}
-use Rattle.mega_wal.specs.Kept.{Represents}
 use Rattle.mega_wal.specs.Compaction.{compacted}
 use Rattle.mega_wal.specs.declared.item.JournalItem.{JournalItem}
 use Rattle.mega_wal.specs.declared.item.JournalItem.TheVariants.{Start as Started}
-use Rattle.mega_rules.specs.Met.{Met, Begins, Starts, Ticks}
-use Rattle.mega_rules.specs.Clock.{last_number}
-use Rattle.mega_rules.specs.Operations.{Node, Operation, Setting}
-use Rattle.mega_rules.specs.Steps.{Begin, Event, Step, Take, Tick, onto, op_of, start, start_items, start_notes, step}
+use Rattle.mega_rules.specs.Met.{Begins, Ticks}
+use Rattle.mega_rules.specs.Operations.{Operation, Setting}
+use Rattle.mega_rules.specs.Steps.{Begin, Event, Step, Take, Tick, op_of, start, start_items, step}
 use Rattle.mega_promises.specs.NodeRuns.{met_of}
 use Rattle.mega_promises.specs.Records.{AreNodeCalls, NodeCall}
 use Rattle.mega_promises.specs.Runs.{names_nothing, setting}
-use Rattle.mega_promises.specs.Served.{Asks, Got, IsCompacted, IsNodeRun, Line, OfClient, OfNode, Peer, Refuses, Served, Turn, Waiting, Wish, answer_line, given, is_from, kept_of, kept_of_body, kept_of_note, noted, put_in, put_out, received, recorded, refused_by, served, served_start, still_waiting, takes_message, ticked, turned, wished, with_lines}
+use Rattle.mega_promises.specs.Served.{Asks, Got, IsCompacted, IsNodeRun, Line, OfClient, OfNode, Peer, Refuses, Served, Turn, Waiting, Wish, answer_line, given, is_from, kept_of, kept_of_body, kept_of_note, noted, put_in, put_out, received, recorded, served, served_start, takes_message, ticked, turned, wished, with_lines}
 use Rattle.mega_served_laws.specs.Alike.{KeptAlike, SaySame}
 use Rattle.mega_served_laws.specs.Calls.{all_called, called, found, left_by, lines_of, sends_of, starts_again}
 use Rattle.mega_served_laws.proofs.Alike.{kept_self, kept_then}

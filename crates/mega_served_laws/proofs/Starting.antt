@@ -1,5 +1,5 @@
 -- Two nodes start alike where what was met tells the same of all starts.
-use Rattle.std.proofs.Common.{◌≡◌, ℕ, nat_lt, Bool, true, false, cond, List, [], ◌∷◌, ◌++◌, length, flat_map, refl, sym, ap, subst, ◌∙◌}
+use Rattle.std.proofs.Common.{◌≡◌, ℕ, nat_lt, Bool, true, false, cond, List, [], ◌∷◌, length, flat_map, refl, ap, subst}
 use Rattle.std.specs.List.{All}
 use Rattle.std.proofs.lemmas.List.Elements.{All-append, All-cons, All-nil}
 use Rattle.mega_base.specs.declared.names.GroupId.{GroupId}
@@ -7,7 +7,7 @@ use Rattle.mega_replica.specs.Applying.{writes_of}
 use Rattle.mega_rules.specs.Met.{Met, Applies, Starts}
 use Rattle.mega_rules.specs.Logs.{groups_of, prefix_of}
 use Rattle.mega_rules.specs.Members.{has_rows}
-use Rattle.mega_rules.specs.Operations.{Node, Setting}
+use Rattle.mega_rules.specs.Operations.{Setting}
 use Rattle.mega_rules.specs.Steps.{onto, start, start_items, start_note, start_notes}
 use Rattle.mega_served_laws.specs.Alike.{KeptAlike}
 use Rattle.mega_served_laws.proofs.Alike.{Alike, Scope, alike_onto, kept_more, starts_alike}

@@ -1,41 +1,36 @@
 -- A step is the same at two nodes that what they met tells the same.
-use Rattle.std.proofs.Common.{◌≡◌, ℕ, ◌+◌, ◌-◌, ◌==◌, ◌&&◌, min, nat_le, nat_lt, Bool, true, false, cond, List, [], ◌∷◌, ◌++◌, length, filter, fold, map, flat_map, Option, Some, None, refl, sym, ap, subst, ◌∙◌}
+use Rattle.std.proofs.Common.{◌≡◌, ℕ, ◌+◌, ◌-◌, ◌==◌, ◌&&◌, min, nat_le, nat_lt, true, cond, List, [], ◌∷◌, ◌++◌, filter, fold, map, flat_map, Option, Some, None, refl, ap}
 use Rattle.std.specs.Prelude.{is_none, is_some}
 use Rattle.std.specs.List.{list_any}
-use Rattle.mega_base.specs.declared.names.Epoch.{Epoch}
 use Rattle.mega_base.specs.declared.names.GroupId.{GroupId}
-use Rattle.mega_base.specs.declared.names.OpId.{OpId}
 use Rattle.mega_cluster.specs.declared.cluster.Cluster.{Cluster}
 use Rattle.mega_ballot.specs.Order.{zero_ballot}
 use Rattle.mega_coordinator.specs.History.{Call as Told, Ticks as ToldTicks, epoch_after, lease_of, ticked as told_ticked}
 use Rattle.mega_coordinator.specs.Lease.{counted_by, granted_answer}
-use Rattle.mega_locks.specs.History.{held_for, lapse_for, lock_of, nodes as lock_nodes, term}
+use Rattle.mega_locks.specs.History.{lapse_for, lock_of, nodes as lock_nodes, term}
 use Rattle.mega_locks.specs.Rule.{answer, held_epoch, lapse}
 use Rattle.std.specs.Prelude.{unwrap_or}
-use Rattle.mega_wal.specs.Acceptor.{answer_beside, best, is_ballot_below, is_same_ballot, shown}
-use Rattle.mega_wal.specs.declared.answers.Promised.{Promised as PromiseAnswer}
+use Rattle.mega_wal.specs.Acceptor.{answer_beside, is_ballot_below, is_same_ballot}
 use Rattle.mega_wal.specs.declared.answers.Promised.TheVariants as promise
-use Rattle.mega_wal.specs.declared.answers.Voted.{Voted as AcceptAnswer}
 use Rattle.mega_wal.specs.declared.answers.Voted.TheVariants as vote
 use Rattle.mega_wal.specs.Same.{same_group}
 use Rattle.mega_wire.specs.declared.message.Message.{Message}
 use Rattle.mega_wire.specs.declared.message.Body.{Body}
-use Rattle.mega_wire.specs.declared.message.Body.TheVariants.{Where, Top, Accept, Prepare, Invalidate, Dead, Fetch, Acquire, Granted}
+use Rattle.mega_wire.specs.declared.message.Body.TheVariants.{Where, Top, Accept, Prepare, Dead, Fetch, Acquire, Granted}
 use Rattle.mega_outcome.specs.declared.answer.Answer.{Answer}
 use Rattle.mega_outcome.specs.declared.answer.Answer.TheVariants.{Worn}
 use Rattle.mega_outcome.specs.declared.request.Request.{Request}
 use Rattle.mega_propose.specs.Members.{others}
 use Rattle.mega_replica.specs.Applying.{after_portion, applied}
 use Rattle.mega_rules.specs.Met.{Met, Applies, Begins, Sends, Takes, Ticks}
-use Rattle.mega_rules.specs.Clock.{begun_of, clock_of, does_again, last_number, last_tick, start_of, ticks_of}
-use Rattle.mega_rules.specs.Coordinators.{acquires, acquires_at, counts_notes, coordinator_calls, forget_notes, grant_notes, is_cell_in, lost_note, tick_notes}
-use Rattle.mega_rules.specs.Locks.{asked_for, cell_calls, grant_note, held_answer, held_at, lapse_note, lapses_at, lock_answer}
-use Rattle.mega_rules.specs.Logs.{decided, groups_of, log_of, newest_of, prefix_of}
+use Rattle.mega_rules.specs.Clock.{clock_of, does_again, last_number, last_tick}
+use Rattle.mega_rules.specs.Coordinators.{acquires, acquires_at, counts_notes, forget_notes, is_cell_in, lost_note}
+use Rattle.mega_rules.specs.Locks.{cell_calls, grant_note, held_answer, lapse_note, lock_answer}
 use Rattle.mega_rules.specs.Members.{cells, has_rows, is_cell, is_full, is_voter, keep_of, kind_of, voters}
 use Rattle.mega_rules.specs.Operations.{Node, Now, Operation, Setting}
 use Rattle.mega_rules.specs.Replies.{answer_to, fetched, reply_message, reply_to, where_served}
-use Rattle.mega_rules.specs.Steps.{Begin, Decision, Event, Heard, Step, Take, Tick, all_act, apply_notes, at_first, at_open, background, begin_step, decision_note, fetch_to, fetches_for, first_settled, hears_message, if_new, lapse_notes, lease_notes, missing_kind, new_operation, news, onto, op_of, portion_of, refusal, start, start_items, start_note, start_notes, step, step_of, stored_after, take_step, take_with, taken, tick_step, ticked, told_decision, told_notes, unless_missing, unless_refused}
-use Rattle.mega_rules.specs.Voting.{acts, promise_body, vote_body}
+use Rattle.mega_rules.specs.Steps.{Begin, Decision, Event, Heard, Step, Take, Tick, all_act, apply_notes, at_first, at_open, background, begin_step, decision_note, fetches_for, first_settled, hears_message, if_new, lapse_notes, lease_notes, missing_kind, new_operation, news, onto, op_of, portion_of, refusal, start, step, step_of, stored_after, take_step, taken, tick_step, ticked, told_decision, told_notes, unless_missing, unless_refused}
+use Rattle.mega_rules.specs.Voting.{promise_body, vote_body}
 use Rattle.mega_served_laws.proofs.Alike.{Alike, Scope, alike_more, alike_onto}
 use Rattle.mega_served_laws.specs.Alike.{KeptAlike}
 use Rattle.mega_served_laws.proofs.Logs.{log_alike, prefix_alike}
@@ -190,12 +185,12 @@ module _ (w : Scope) (s : Setting) where
   take_by_alike : (x y : Node) → NodeAlike w s.cluster s.me x y → (m : Message) → IsNear w m.from m.body → (ts : List Heard) (d : Option Decision) → StepAlike w s.cluster s.me (take_by x m ts d) (take_by y m ts d)
   take_by_alike x y n m near ts (Some d) =
       coe 0 1 (i. StepAlike w s.cluster s.me (take_by x m ts (Some d))
-          (taken s y m (told_alike w s x.met y.met m.from n.met m.body near i) ts (new_same x.met y.met (n.met).kept (Some d) i) (reply_alike w s.cluster s.me x.met y.met m n.met near i) []))
+      (taken s y m (told_alike w s x.met y.met m.from n.met m.body near i) ts (new_same x.met y.met (n.met).kept (Some d) i) (reply_alike w s.cluster s.me x.met y.met m n.met near i) []))
       (taken_alike x y n m (told_notes s x.met m.from m.body) ts (if_new x.met (Some d)) (reply_to s.cluster s.me x.met m) [])
   take_by_alike x y n m near ts None =
       coe 0 1 (i. StepAlike w s.cluster s.me (take_by x m ts None)
-          (taken s y m (told_alike w s x.met y.met m.from n.met m.body near i) ts (new_same x.met y.met (n.met).kept (first_settled ts) i) (reply_alike w s.cluster s.me x.met y.met m n.met near i)
-          (news s (new_same x.met y.met (n.met).kept (first_settled ts) i))))
+      (taken s y m (told_alike w s x.met y.met m.from n.met m.body near i) ts (new_same x.met y.met (n.met).kept (first_settled ts) i) (reply_alike w s.cluster s.me x.met y.met m n.met near i)
+      (news s (new_same x.met y.met (n.met).kept (first_settled ts) i))))
       (taken_alike x y n m (told_notes s x.met m.from m.body) ts (if_new x.met (first_settled ts)) (reply_to s.cluster s.me x.met m) (news s (if_new x.met (first_settled ts))))
 
   take_alike : (x y : Node) → NodeAlike w s.cluster s.me x y → (m : Message) → IsNear w m.from m.body → StepAlike w s.cluster s.me (take_step s x m) (take_step s y m)
@@ -267,7 +262,7 @@ module _ (w : Scope) (s : Setting) where
   begin_alike : (x y : Node) → NodeAlike w s.cluster s.me x y → (request : Request) (text : List ℕ) → StepAlike w s.cluster s.me (begin_step s x request text) (begin_step s y request text)
   begin_alike x y n request text =
       coe 0 1 (i. StepAlike w s.cluster s.me (begin_by x (Begins (op_of s x.met) text) (new_operation (op_of s x.met) request (clock_of x.met)) (refusal s x request))
-          (begin_by y (Begins (op_same x.met y.met n.met i) text) (new_operation (op_same x.met y.met n.met i) request (last_tick ((n.met).ticks i))) (refusal_same x y n request i)))
+      (begin_by y (Begins (op_same x.met y.met n.met i) text) (new_operation (op_same x.met y.met n.met i) request (last_tick ((n.met).ticks i))) (refusal_same x y n request i)))
       (begin_by_alike x y n (Begins (op_of s x.met) text) (new_operation (op_of s x.met) request (clock_of x.met)) (refusal s x request))
 
   pub step_alike : (x y : Node) → NodeAlike w s.cluster s.me x y → (event : Event) → IsNearEvent w event → StepAlike w s.cluster s.me (step s x event) (step s y event)

@@ -1,5 +1,5 @@
 -- What operations do within a step is the same wherever what was met tells the node the same.
-use Rattle.std.proofs.Common.{◌≡◌, ℕ, zero, suc, ◌+◌, nat_le, Bool, true, false, cond, List, [], ◌∷◌, ◌++◌, take, length, fold, map, flat_map, filter_map, Option, Some, None, Result, Ok, Err, refl, sym, ap, subst, ◌∙◌}
+use Rattle.std.proofs.Common.{◌≡◌, ℕ, zero, suc, ◌+◌, nat_le, Bool, true, false, cond, List, [], ◌∷◌, ◌++◌, take, length, fold, map, flat_map, filter_map, Option, Some, None, Result, Ok, Err, refl, ap, subst}
 use Rattle.std.specs.List.{list_any}
 use Rattle.mega_base.specs.declared.names.Epoch.{Epoch}
 use Rattle.mega_base.specs.declared.names.GroupId.{GroupId}
@@ -34,18 +34,17 @@ use Rattle.mega_read.specs.declared.reading.Stage.TheVariants.{Polling, Catching
 use Rattle.mega_read.specs.declared.reading.Move.{Move as ReadMove}
 use Rattle.mega_read.specs.Catching.{asked_by, local_read, polled_read, site, seeks}
 use Rattle.mega_replica.specs.Applying.{after_read, applied, applied_log, stored_writes}
-use Rattle.mega_rules.specs.Met.{Met, Answers, Validates}
+use Rattle.mega_rules.specs.Met.{Answers, Validates}
 use Rattle.mega_rules.specs.Clock.{clock_of, last_tick}
-use Rattle.mega_rules.specs.Finding.{find_by, global_found, local_found, refreshed_marks, rows_through}
-use Rattle.mega_rules.specs.Logs.{decided, groups_of, log_of, prefix_of, top_of}
+use Rattle.mega_rules.specs.Finding.{find_by, global_found, local_found}
+use Rattle.mega_rules.specs.Logs.{decided, groups_of, log_of, prefix_of}
 use Rattle.mega_rules.specs.Members.{voters}
-use Rattle.mega_rules.specs.Coordinators.{refused_at, serves_at, valid_at}
-use Rattle.mega_rules.specs.Queues.{Log, Posted, enter_entry, is_named, names_entered, next_to_enter, next_to_handle, oldest_unhandled}
+use Rattle.mega_rules.specs.Coordinators.{refused_at}
+use Rattle.mega_rules.specs.Queues.{Posted, enter_entry, is_named, names_entered, next_to_enter, next_to_handle, oldest_unhandled}
 use Rattle.mega_rules.specs.Operations.{Now, Operation, Phase, Promised, Proposes, Reads, Replies, Results, Setting}
 use Rattle.mega_rules.specs.Acting.{acts, acts_within, applied_logs, applied_marks, batch_sealed, begins_read, completes_read, ends, enters, finishes, goes_on, handles, handles_message, handling, has_nothing, in_phase, is_taken, is_visited, keeps, leader_after, listed_at, mark_of, named_leader, picks_group, picks_message, picks_to_enter, picks_to_handle, proposes, proposes_by, proposes_there, read_answer, read_begun, reader_of, reads_group, reads_on, rows_at, sealed, seeks_on, sends_more, stored_with, table_rows, unless_decided, unless_full, validated_by, validates, verdict, visiting}
 use Rattle.mega_rules.specs.Steps.{Heard, acts_in_turn, all_act, applied_position, begins, does_due, find_begins, is_out, last_answer, local_find_begins, read_begins, snapshot_listed, snapshot_rows, stored_listed, stored_rows, ticked, unless_refused}
 use Rattle.mega_served_laws.proofs.Alike.{Alike, Scope, alike_more}
-use Rattle.mega_served_laws.specs.Alike.{KeptAlike}
 use Rattle.mega_served_laws.proofs.Logs.{log_alike, prefix_alike}
 
 -- a node within a step, by what two histories tell
@@ -137,7 +136,7 @@ module _ (w : Scope) (s : Setting) where
   proposes_by_alike a b o group r p own promised None h = keeps_alike a b o o refl h
   proposes_by_alike a b o group r p own promised (Some leader) h =
       subst (λ k. R (proposes_there s a o group (p + 1) (asked_by r) promised (asks (site (reader_of s o.id group) (asked_by r) (p + 1)) leader own (clock_of a.met)))
-          (proposes_there s b o group (p + 1) (asked_by r) promised (asks (site (reader_of s o.id group) (asked_by r) (p + 1)) leader own k))) (clock_same a b h)
+      (proposes_there s b o group (p + 1) (asked_by r) promised (asks (site (reader_of s o.id group) (asked_by r) (p + 1)) leader own k))) (clock_same a b h)
       (there_alike a b o group (p + 1) (asked_by r) promised (asks (site (reader_of s o.id group) (asked_by r) (p + 1)) leader own (clock_of a.met)) h)
 
   proposes_alike : (a b : Now) (o : Operation) (group : GroupId) (r : Reading) (p : ℕ) (own : Content) (promised : Promised) → R a b

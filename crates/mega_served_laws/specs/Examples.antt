@@ -1,5 +1,5 @@
 -- Two calls of a witness: it promises in the first, and in the second, under a header whose schema extends the first one's, it keeps its promise.
-use Rattle.std.specs.Prelude.{ℕ, List, [], ◌∷◌, ◌++◌, Option, Some, None, codes, filter_map}
+use Rattle.std.specs.Prelude.{ℕ, List, [], ◌∷◌, ◌++◌, Some, None, codes, filter_map}
 use Rattle.mega_base.specs.declared.values.Kind.TheVariants.{Str}
 use Rattle.mega_base.specs.declared.values.NodeKind.TheVariants.{Full, Witness}
 use Rattle.mega_ballot.specs.declared.ballot.Ballot.{Ballot}
