@@ -1,0 +1,13 @@
+pub mod Alike
+pub mod Logs
+pub mod Walk
+pub mod Steps
+pub mod Notes
+pub mod Keeping
+pub mod Journals
+pub mod Starting
+pub mod Serving
+pub mod Telling
+pub mod Lived
+pub mod Since
+pub mod Called
