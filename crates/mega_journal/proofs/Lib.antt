@@ -1,6 +1,6 @@
-mod Outcomes
+pub mod Outcomes
 mod Pieces
-mod Reading
-mod Records
-mod Repaired
-mod Written
+pub mod Reading
+pub mod Records
+pub mod Repaired
+pub mod Written

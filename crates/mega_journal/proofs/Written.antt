@@ -35,7 +35,7 @@ module _ (file : List ℕ) (end : ℕ) (rests : IsAtRest file end) where
   pub inside : end < length file
   inside = ⊎_elim (λ lt. lt) (λ le. absurd (rests.gate (get_or_past file end 1 le))) (cases_lt end (length file))
 
-  front_and_gate : take (end + 1) file ≡ chain_of bodies ++ gate ∷ []
+  pub front_and_gate : take (end + 1) file ≡ chain_of bodies ++ gate ∷ []
   front_and_gate = take_more file end 1 inside ∙ ap (λ (l : List ℕ). l ++ gate ∷ []) rests.front
 
   -- a torn write behind the gate leaves the records

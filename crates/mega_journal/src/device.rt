@@ -12,7 +12,7 @@ use std::alloc::Global;
 const PIECE: usize = 1 << 20;
 
 /// Begins an opening: after it nothing is pending.
-pub(crate) fn settle<D: Disk>(disk: &mut D) -> Result<(), DiskError>
+pub fn settle<D: Disk>(disk: &mut D) -> Result<(), DiskError>
     ensures durable { D.is_told ≡ true → OnOk result (Only (D.seen disk.old) (D.may_leave disk.new)) }
     ensures seen { OnOk result (D.seen disk.new ≡ D.seen disk.old) }
     ensures within { Within (D.may_leave disk.old) (D.may_leave disk.new) }
@@ -29,7 +29,7 @@ pub(crate) fn settle<D: Disk>(disk: &mut D) -> Result<(), DiskError>
 }
 
 /// Writes bytes and syncs. At Ok they are on the disk.
-pub(crate) fn write_through<D: Disk>(disk: &mut D, at: u64, bytes: &[u8]) -> Result<(), DiskError>
+pub fn write_through<D: Disk>(disk: &mut D, at: u64, bytes: &[u8]) -> Result<(), DiskError>
     requires { D.is_told ≡ true → at ≤ length (D.seen disk.old) }
     ensures written { D.is_told ≡ true → OnOk result (D.seen disk.new ≡ overwritten at bytes.now (D.seen disk.old)) }
     ensures durable { D.is_told ≡ true → OnOk result (Only (D.seen disk.new) (D.may_leave disk.new)) }
@@ -46,7 +46,7 @@ pub(crate) fn write_through<D: Disk>(disk: &mut D, at: u64, bytes: &[u8]) -> Res
 }
 
 /// All bytes of the device, each read once.
-pub(crate) fn read_all<D: Disk>(alloc: Global, disk: &mut D) -> Result<Vec<u8>, DiskError>
+pub fn read_all<D: Disk>(alloc: Global, disk: &mut D) -> Result<Vec<u8>, DiskError>
     ensures bytes { D.is_told ≡ true → IfOk result (λ bytes. bytes.items ≡ D.seen disk.old) }
     ensures seen { OnOk result (D.seen disk.new ≡ D.seen disk.old) }
     ensures within { Within (D.may_leave disk.old) (D.may_leave disk.new) }

@@ -5,6 +5,8 @@ mod append;
 mod device;
 mod journal;
 mod opening;
-mod parse;
+mod parsing;
 
+pub use device::{read_all, settle, write_through};
 pub use journal::Journal;
+pub use parsing::{Found, parse};

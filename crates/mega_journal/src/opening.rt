@@ -7,7 +7,7 @@ ghost use Rattle.mega_journal.specs.Chain.{records_of};
 ghost use Rattle.mega_journal.specs.Rest.{IsSettled, HoldsAs, IsRead, is_shut};
 
 use crate::device::{read_all, settle, write_through};
-use crate::parse::{Found, parse};
+use crate::parsing::{Found, parse};
 use mega_disk::{Disk, DiskError};
 use std::alloc::Global;
 

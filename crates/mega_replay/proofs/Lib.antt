@@ -1,3 +1,4 @@
+pub mod Asked
 pub mod Backups
 pub mod Headings
 pub mod Holding

@@ -20,8 +20,8 @@ ghost use Rattle.mega_words.specs.declared.command.Report.{Report};
 ghost use Rattle.mega_replay.specs.Stops.{IsTold, IsWriteStop};
 
 use crate::ended::Ended;
-use crate::saving::back_up;
 use crate::replay::replay;
+use crate::saving::back_up;
 use crate::serving::serve_node;
 use crate::status::Stop;
 use crate::writing::write_on;

@@ -1,78 +1,70 @@
 use Rattle.std.proofs.Common.{◌≡◌, Option, Some, subst, sym}
-use Rattle.mega_words.specs.declared.command.Command.{Command}
 use Rattle.std.proofs.KnownBytes.{Appends-nil}
-use Rattle.mega_replay.specs.Statuses.{IsOffline, IsStatusOf, UsesNoDevice}
-use Rattle.mega_replay.proofs.Backups.{may_end, nothing_done, rows_come_back}
+use Rattle.mega_words.specs.declared.command.Command.{Command}
 use Rattle.mega_words.specs.Commands.{MayWant}
+use Rattle.mega_replay.specs.Statuses.{IsOffline, IsStatusOf, UsesNoDevice}
+use Rattle.mega_replay.proofs.Asked.{same_backup, same_node, same_report, same_restore, so_asked, so_read}
+use Rattle.mega_replay.proofs.Backups.{may_end, nothing_done, rows_come_back}
 use Rattle.mega_replay.proofs.calling.run.Goals as goal
 
 pub returns-in-Ok-Some-Replay-clause-refused : goal.returns-in-Ok-Some-Replay-clause-refused
 returns-in-Ok-Some-Replay-clause-refused g c report is stops =
-    let same : c.in-Ok-Some-Replay.report ≡ report = cc in
+    let same = same_report c.in-Ok-Some-Replay.ensures.value c.in-Ok-Some-Replay.field-0-is c.in-Ok-Some-Replay.field-0-0-is is in
     rw (← same) (c.replay_all.ensures.refused stops)
 
 pub returns-in-Ok-Some-Replay-clause-limit : goal.returns-in-Ok-Some-Replay-clause-limit
 returns-in-Ok-Some-Replay-clause-limit g c report is stops =
-    let same : c.in-Ok-Some-Replay.report ≡ report = cc in
+    let same = same_report c.in-Ok-Some-Replay.ensures.value c.in-Ok-Some-Replay.field-0-is c.in-Ok-Some-Replay.field-0-0-is is in
     rw (← same) (c.replay_all.ensures.limit stops)
 
 pub returns-in-Ok-Some-Node-clause-node : goal.returns-in-Ok-Some-Node-clause-node
 returns-in-Ok-Some-Node-clause-node g c number turns is =
-    let same : c.in-Ok-Some-Node.number ≡ number = cc in
-    let often : c.in-Ok-Some-Node.turns ≡ turns = cc in
-    rw (← same, ← often, ← c.new-number.ensures) c.serve_node.ensures.node
+    let same = same_node c.in-Ok-Some-Node.ensures.value c.in-Ok-Some-Node.field-0-is c.in-Ok-Some-Node.field-0-0-is is in
+    rw (← same.0, ← same.1, ← c.new-number.ensures) c.serve_node.ensures.node
 
 pub returns-in-Ok-Some-Node-clause-offline : goal.returns-in-Ok-Some-Node-clause-offline
-returns-in-Ok-Some-Node-clause-offline g c is =
-    absurd (subst (λ (command : Command). IsOffline (Some command)) c.in-Ok-Some-Node.field-0-is (subst IsOffline (sym c.in-Ok-Some-Node.ensures.value) is))
+returns-in-Ok-Some-Node-clause-offline g c is = absurd (so_read IsOffline c.in-Ok-Some-Node.ensures.value c.in-Ok-Some-Node.field-0-is c.in-Ok-Some-Node.field-0-0-is is)
 
-pub returns-in-Ok-None-clause-only : goal.returns-in-Ok-None-clause-only
-returns-in-Ok-None-clause-only g c = subst (λ (command : Option Command). IsStatusOf command c.tell_usage.result) c.in-Ok-None.ensures.value c.tell_usage.ensures.status
+pub returns-in-Ok-Some-Node-clause-untouched : goal.returns-in-Ok-Some-Node-clause-untouched
+returns-in-Ok-Some-Node-clause-untouched g c is = absurd (so_read UsesNoDevice c.in-Ok-Some-Node.ensures.value c.in-Ok-Some-Node.field-0-is c.in-Ok-Some-Node.field-0-0-is is)
 
-pub returns-in-Ok-Some-Gen-clause-only : goal.returns-in-Ok-Some-Gen-clause-only
-returns-in-Ok-Some-Gen-clause-only g c =
-    subst (λ (command : Option Command). IsStatusOf command c.draw.result) c.in-Ok-Some-Gen.ensures.value
-    (subst (λ (command : Command). IsStatusOf (Some command) c.draw.result) (sym c.in-Ok-Some-Gen.field-0-is) c.draw.ensures.only)
-
-pub returns-in-Ok-Some-Replay-clause-only : goal.returns-in-Ok-Some-Replay-clause-only
-returns-in-Ok-Some-Replay-clause-only g c =
-    subst (λ (command : Option Command). IsStatusOf command c.replay_all.result) c.in-Ok-Some-Replay.ensures.value
-    (subst (λ (command : Command). IsStatusOf (Some command) c.replay_all.result) (sym c.in-Ok-Some-Replay.field-0-is) c.replay_all.ensures.only)
-
-pub returns-in-Ok-Some-Node-clause-only : goal.returns-in-Ok-Some-Node-clause-only
-returns-in-Ok-Some-Node-clause-only g c =
-    subst (λ (command : Option Command). IsStatusOf command c.serve_node.result.status) c.in-Ok-Some-Node.ensures.value
-    (subst (λ (command : Command). IsStatusOf (Some command) c.serve_node.result.status) (sym c.in-Ok-Some-Node.field-0-is) c.serve_node.ensures.only)
+pub returns-in-Ok-Some-Backup-clause-untouched : goal.returns-in-Ok-Some-Backup-clause-untouched
+returns-in-Ok-Some-Backup-clause-untouched g c is = absurd (so_read UsesNoDevice c.in-Ok-Some-Backup.ensures.value c.in-Ok-Some-Backup.field-0-is c.in-Ok-Some-Backup.field-0-0-is is)
 
 pub returns-in-Ok-Some-Backup-clause-backup : goal.returns-in-Ok-Some-Backup-clause-backup
 returns-in-Ok-Some-Backup-clause-backup g c number at group is =
-    let same : c.in-Ok-Some-Backup.number ≡ number = cc in
-    let there : c.in-Ok-Some-Backup.at ≡ at = cc in
-    let one : c.in-Ok-Some-Backup.group ≡ group = cc in
-    rw (← same, ← there, ← one) c.back_up.ensures.backup
+    let same = same_backup c.in-Ok-Some-Backup.ensures.value c.in-Ok-Some-Backup.field-0-is c.in-Ok-Some-Backup.field-0-0-is is in
+    rw (← same.0, ← same.1, ← same.2) c.back_up.ensures.backup
 
 pub returns-in-Ok-Some-Restore-clause-restore : goal.returns-in-Ok-Some-Restore-clause-restore
 returns-in-Ok-Some-Restore-clause-restore g c at is =
-    let there : c.in-Ok-Some-Restore.at ≡ at = cc in
-    rw (← there) (record { whole = c.run_restore.ensures.whole; front = c.run_restore.ensures.front; rows = rows_come_back c.in-Ok-Some-Restore.at (g.I.Source.left c.args.input.now) })
+    let same = same_restore c.in-Ok-Some-Restore.ensures.value c.in-Ok-Some-Restore.field-0-is c.in-Ok-Some-Restore.field-0-0-is is in
+    rw (← same) (record { whole = c.run_restore.ensures.whole; front = c.run_restore.ensures.front; rows = rows_come_back c.in-Ok-Some-Restore.at (g.I.Source.left c.args.input.now) })
 
-pub returns-in-Ok-Some-Backup-clause-untouched : goal.returns-in-Ok-Some-Backup-clause-untouched
-returns-in-Ok-Some-Backup-clause-untouched g c is =
-    absurd (subst (λ (command : Command). UsesNoDevice (Some command)) c.in-Ok-Some-Backup.field-0-is (subst UsesNoDevice (sym c.in-Ok-Some-Backup.ensures.value) is))
+pub returns-in-Ok-None-clause-only : goal.returns-in-Ok-None-clause-only
+returns-in-Ok-None-clause-only g c =
+    subst (λ (command : Option Command). IsStatusOf command c.tell_usage.result) c.in-Ok-None.ensures.value
+    (subst (λ (command : Option Command). IsStatusOf command c.tell_usage.result) (sym c.in-Ok-None.field-0-is) c.tell_usage.ensures.status)
 
-pub returns-in-Ok-Some-Node-clause-untouched : goal.returns-in-Ok-Some-Node-clause-untouched
-returns-in-Ok-Some-Node-clause-untouched g c is =
-    absurd (subst (λ (command : Command). UsesNoDevice (Some command)) c.in-Ok-Some-Node.field-0-is (subst UsesNoDevice (sym c.in-Ok-Some-Node.ensures.value) is))
+pub returns-in-Ok-Some-Gen-clause-only : goal.returns-in-Ok-Some-Gen-clause-only
+returns-in-Ok-Some-Gen-clause-only g c =
+    so_asked (λ (command : Option Command). IsStatusOf command c.draw.result) c.in-Ok-Some-Gen.ensures.value c.in-Ok-Some-Gen.field-0-is c.in-Ok-Some-Gen.field-0-0-is c.draw.ensures.only
+
+pub returns-in-Ok-Some-Replay-clause-only : goal.returns-in-Ok-Some-Replay-clause-only
+returns-in-Ok-Some-Replay-clause-only g c =
+    so_asked (λ (command : Option Command). IsStatusOf command c.replay_all.result) c.in-Ok-Some-Replay.ensures.value c.in-Ok-Some-Replay.field-0-is c.in-Ok-Some-Replay.field-0-0-is c.replay_all.ensures.only
+
+pub returns-in-Ok-Some-Node-clause-only : goal.returns-in-Ok-Some-Node-clause-only
+returns-in-Ok-Some-Node-clause-only g c =
+    so_asked (λ (command : Option Command). IsStatusOf command c.serve_node.result.status) c.in-Ok-Some-Node.ensures.value c.in-Ok-Some-Node.field-0-is c.in-Ok-Some-Node.field-0-0-is c.serve_node.ensures.only
 
 pub returns-in-Ok-Some-Backup-clause-only : goal.returns-in-Ok-Some-Backup-clause-only
 returns-in-Ok-Some-Backup-clause-only g c =
-    subst (λ (command : Option Command). IsStatusOf command c.back_up.result.status) c.in-Ok-Some-Backup.ensures.value
-    (subst (λ (command : Command). IsStatusOf (Some command) c.back_up.result.status) (sym c.in-Ok-Some-Backup.field-0-is) c.back_up.ensures.only)
+    so_asked (λ (command : Option Command). IsStatusOf command c.back_up.result.status) c.in-Ok-Some-Backup.ensures.value c.in-Ok-Some-Backup.field-0-is c.in-Ok-Some-Backup.field-0-0-is c.back_up.ensures.only
 
 pub returns-in-Ok-Some-Restore-clause-only : goal.returns-in-Ok-Some-Restore-clause-only
 returns-in-Ok-Some-Restore-clause-only g c =
-    subst (λ (command : Option Command). IsStatusOf command c.run_restore.result) c.in-Ok-Some-Restore.ensures.value
-    (subst (λ (command : Command). IsStatusOf (Some command) c.run_restore.result) (sym c.in-Ok-Some-Restore.field-0-is) c.run_restore.ensures.only)
+    so_asked (λ (command : Option Command). IsStatusOf command c.run_restore.result) c.in-Ok-Some-Restore.ensures.value c.in-Ok-Some-Restore.field-0-is c.in-Ok-Some-Restore.field-0-0-is c.run_restore.ensures.only
 
 pub returns-in-Err-clause-usage : goal.returns-in-Err-clause-usage
 returns-in-Err-clause-usage g c is = (0, Appends-nil (g.O.Sink.held c.args.out.now))

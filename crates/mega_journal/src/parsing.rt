@@ -8,14 +8,14 @@ use std::alloc::Global;
 
 /// The records of a file's bytes, and the place of the first gate that is not that of a record.
 #[derive(Drop)]
-pub(crate) struct Found {
+pub struct Found {
     pub records: Vec<Bytes>,
     pub end: usize,
 }
 
 /// Reads the records before the first closed gate; one that does not lie whole within the bytes, with
 /// the gate behind it, counts as closed.
-pub(crate) fn parse(alloc: Global, bytes: &[u8]) -> Result<Found, NoMemory>
+pub fn parse(alloc: Global, bytes: &[u8]) -> Result<Found, NoMemory>
     ensures records { IfOk result (λ found. found.records.items ≡ records_of bytes.now) }
     ensures end { IfOk result (λ found. found.end ≡ length (chain_of (records_of bytes.now))) }
     ensures spelled { IfOk result (λ found. bytes.now ≡ chain_of (records_of bytes.now) ++ drop found.end bytes.now) }

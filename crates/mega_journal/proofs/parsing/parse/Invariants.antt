@@ -1,6 +1,6 @@
 use Rattle.std.proofs.Common.{length}
 use Rattle.mega_journal.proofs.Reading.{Reading}
-use Rattle.mega_journal.proofs.parse.parse.Given as goal
+use Rattle.mega_journal.proofs.parsing.parse.Given as goal
 
 abbrev pub invariant-loop-body : goal.invariant-loop-body
 invariant-loop-body l = Reading l.bytes l.records.items l.rest

@@ -1,6 +1,6 @@
 use Rattle.std.proofs.Common.{ℕ, List, [], ◌∷◌, ◌++◌, ◌∙◌, ap, arith}
 use Rattle.mega_journal.proofs.Reading.{reads_on, rest_bytes, ends, few_records}
-use Rattle.mega_journal.proofs.parse.parse.Goals as goal
+use Rattle.mega_journal.proofs.parsing.parse.Goals as goal
 
 pub loop-body-preserved : goal.loop-body-preserved
 loop-body-preserved c =

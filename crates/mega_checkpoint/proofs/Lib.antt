@@ -1,0 +1,13 @@
+mod Adding
+mod Bytes
+mod Due
+mod Ended
+mod Fresh
+mod Fronts
+mod Joined
+mod Kept
+mod Offsets
+mod Plain
+mod Rooms
+mod Swapped
+mod Trimmed

@@ -1,0 +1,98 @@
+-- A file of records between two calls.
+use Rattle.std.specs.Prelude.{◌≡◌, ℕ, ◌+◌, ◌-◌, ◌*◌, ◌^◌, max, Bool, true, false, ◌&&◌, nat_le, nat_lt, if◌then◌else◌, List, length, get_or}
+use denote.Struct.Props as logic
+use Rattle.std.specs.List.{AllByRecursion-prop}
+use Rattle.mega_disk.specs.Images.{Only}
+use Rattle.mega_journal.specs.Rest.{IsAtRest, IsSettled}
+use Rattle.mega_checkpoint.specs.declared.area.Area.TheVariants.{Odd, Even}
+use Rattle.mega_checkpoint.specs.declared.area.Areas.{Areas}
+use Rattle.mega_checkpoint.specs.declared.area.Form.{Form}
+use Rattle.mega_checkpoint.specs.declared.area.Form.TheVariants.{Chain, InAreas}
+use Rattle.mega_checkpoint.specs.Format.{other_of, length_of_pages, pages_for, is_open, generation_of, chain_in, counts, is_marked, is_areas, list_of}
+
+-- a chain, settled, that does not begin as a file of areas does
+pub record HoldsChain (file : List ℕ) (may_leave : List ℕ → Type 0) (end : ℕ) : Type 0 where
+  pub unmarked : is_marked file ≡ false
+  pub first : end ≡ 0 → get_or file 0 0 ≡ 0
+  pub settled : IsSettled file may_leave end
+
+-- whole pages, of which the area that counts holds a chain at rest; all of it is on the disk
+pub record HoldsAreas (file : List ℕ) (may_leave : List ℕ → Type 0) (areas : Areas) (end : ℕ) : Type 0 where
+  pub size : length file ≡ length_of_pages areas.pages
+  pub form : is_areas file ≡ true
+  pub counting : counts areas.active file ≡ true
+  pub number : generation_of areas.active file ≡ areas.generation
+  pub other : is_open (other_of areas.active) file ≡ areas.other_open
+  pub at_rest : IsAtRest (chain_in areas.active file) end
+  pub durable : Only file may_leave
+
+-- whole pages with no open gate
+pub record IsIdle (file : List ℕ) (may_leave : List ℕ → Type 0) (pages : ℕ) : Type 0 where
+  pub size : length file ≡ length_of_pages pages
+  pub form : is_areas file ≡ true
+  pub odd_shut : is_open Odd file ≡ false
+  pub even_shut : is_open Even file ≡ false
+  pub durable : Only file may_leave
+
+-- the file holds the list of one of these images
+abbrev pub HoldsAs : (List ℕ → Type 0) → List ℕ → Type 0
+HoldsAs images file = (image : List ℕ) × images image × (list_of file ≡ list_of image)
+
+-- the pages that each area has
+abbrev pub pages_of : Form → ℕ
+pages_of Chain = 0
+pages_of (InAreas areas) = areas.pages
+
+-- what the end of the records stays below
+abbrev pub limit_of : Form → ℕ
+limit_of Chain = 2 ^ 63
+limit_of (InAreas areas) = 4096 * areas.pages
+
+-- the length of the file with a body of so many bytes behind the end
+abbrev pub length_with : Form → ℕ → ℕ → ℕ
+length_with Chain end size = end + 6 + size
+length_with (InAreas areas) end size = length_of_pages (max areas.pages (pages_for (end + 15 + size)))
+
+-- the length of the file with such a body in place of all
+abbrev pub length_replaced : Form → ℕ → ℕ
+length_replaced Chain size = 0
+length_replaced (InAreas areas) size = length_of_pages (max areas.pages (pages_for (15 + size)))
+
+-- the records behind the one that the last replacement left; the first generation had none
+abbrev pub behind_replacement : ℕ → ℕ → ℕ
+behind_replacement generation count = if nat_le generation 1 then count else count - 1
+
+-- 4,096 records follow the last replacement, and there is a next generation
+abbrev pub is_due : Form → ℕ → Bool
+is_due Chain count = false
+is_due (InAreas areas) count = nat_lt areas.generation (2 ^ 64 - 1) && nat_le 4096 (behind_replacement areas.generation count)
+
+-- the generation of the area that counts
+abbrev pub generation_in : List ℕ → ℕ
+generation_in file = if counts Odd file then generation_of Odd file else generation_of Even file
+
+-- the same of a file: of areas, with so many records, and a next generation
+abbrev pub due_of : List ℕ → Bool
+due_of file = is_areas file && (nat_lt (generation_in file) (2 ^ 64 - 1) && nat_le 4096 (behind_replacement (generation_in file) (length (list_of file))))
+
+-- with the gate of the other area closed
+abbrev pub shut : Areas → Areas
+shut areas = record { active = areas.active; generation = areas.generation; pages = areas.pages; other_open = false }
+
+-- the file is held in that form
+abbrev pub IsHeld : List ℕ → (List ℕ → Type 0) → Form → ℕ → Type 0
+IsHeld file may_leave Chain end = HoldsChain file may_leave end
+IsHeld file may_leave (InAreas areas) end = HoldsAreas file may_leave areas end
+
+pub IsHeld-prop : (file : List ℕ) (may_leave : List ℕ → Type 0) (form : Form) (end : ℕ) → IsProp (IsHeld file may_leave form end)
+IsHeld-prop file may_leave Chain end = Prim.hlevel (logic.props, AllByRecursion-prop)
+IsHeld-prop file may_leave (InAreas areas) end = Prim.hlevel (logic.props, AllByRecursion-prop)
+
+pub durable_of : (file : List ℕ) (may_leave : List ℕ → Type 0) (form : Form) (end : ℕ) → IsHeld file may_leave form end → Only file may_leave
+durable_of file may_leave Chain end held = held.settled.durable
+durable_of file may_leave (InAreas areas) end held = held.durable
+
+-- the pages that each area has with a body of so many bytes behind the end
+abbrev pub pages_with : Form → ℕ → ℕ → ℕ
+pages_with Chain end size = 0
+pages_with (InAreas areas) end size = max areas.pages (pages_for (end + 15 + size))
