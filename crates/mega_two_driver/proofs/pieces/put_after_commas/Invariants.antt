@@ -1,0 +1,7 @@
+use Rattle.std.proofs.Common.{◌≡◌, ◌++◌, drop}
+use Rattle.serde_json.specs.View.{items_view}
+use Rattle.mega_two_driver.specs.Texts.{after_commas}
+use Rattle.mega_two_driver.proofs.pieces.put_after_commas.Given as goal
+
+abbrev pub invariant-loop-value : goal.invariant-loop-value
+invariant-loop-value l = l.out ++ after_commas (items_view (drop l.value-index l.values)) ≡ l.initial.out ++ after_commas (items_view l.values)

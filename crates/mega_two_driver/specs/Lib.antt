@@ -1,0 +1,10 @@
+pub mod Moves
+pub mod Words
+pub mod Rows
+pub mod Texts
+pub mod Lines
+pub mod Tables
+pub mod Fits
+pub mod Begins
+pub mod Answers
+pub mod Driver

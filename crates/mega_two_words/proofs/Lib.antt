@@ -1,0 +1,5 @@
+pub mod Fronts
+pub mod Lines
+pub mod Results
+pub mod Starts
+pub mod Statuses
