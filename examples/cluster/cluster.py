@@ -77,8 +77,9 @@ def read_reply(datagram):
 class Cluster:
     """So many nodes, each with a folder of its own for its devices and its records. They make at most so many turns."""
 
-    def __init__(self, folder, program, kinds=("full", "full", "full"), turns=20_000_000, slower=1, values=""):
+    def __init__(self, folder, program, kinds=("full", "full", "full"), turns=20_000_000, slower=1, values="", schema=SCHEMA):
         self.folder = pathlib.Path(folder)
+        self.schema = schema
         self.program = program
         self.turns = turns
         self.slower = slower
@@ -91,7 +92,7 @@ class Cluster:
     def header_text(self, kinds, values):
         places = [f"127.0.0.1:{port}" for port in self.ports]
         times = "".join(f"{name} = {time * self.slower}\n" for name, time in TIMES.items() if name not in values)
-        return f"nodes = {json.dumps(kinds)}\naddresses = {json.dumps(places)}\n{times}{values}schema = {json.dumps(SCHEMA)}\n---\n"
+        return f"nodes = {json.dumps(kinds)}\naddresses = {json.dumps(places)}\n{times}{values}schema = {json.dumps(self.schema)}\n---\n"
 
     def numbers(self):
         return range(1, len(self.ports) + 1)

@@ -1,8 +1,8 @@
 -- What the words ask for, by the command that was read of them.
-use Rattle.std.proofs.Common.{◌≡◌, ℕ, Option, Some, sym, subst}
+use Rattle.std.proofs.Common.{◌≡◌, ℕ, List, Option, Some, sym, subst}
 use Rattle.mega_base.specs.declared.names.GroupId.{GroupId}
 use Rattle.mega_words.specs.declared.command.Command.{Command}
-use Rattle.mega_words.specs.declared.command.Command.TheVariants.{Backup, Node, Replay, Restore}
+use Rattle.mega_words.specs.declared.command.Command.TheVariants.{Backup, Node, Replay, Restore, Two}
 use Rattle.mega_words.specs.declared.command.Report.{Report}
 
 -- this is so of what the words ask for, as it is of the command that was read
@@ -24,3 +24,7 @@ same_backup value some is asks = (cc, cc, cc)
 
 pub same_restore : {found asked : Option Command} {inner : Command} {at p : ℕ} → found ≡ asked → found ≡ Some inner → inner ≡ Restore at → asked ≡ Some (Restore p) → at ≡ p
 same_restore value some is asks = cc
+
+pub same_change : {found asked : Option Command} {inner : Command} {node turns n t : ℕ} {recover name : Option (List ℕ)} → found ≡ asked → found ≡ Some inner → inner ≡ Two node turns recover → asked ≡ Some (Two n t name)
+    → (node ≡ n) × (turns ≡ t) × (recover ≡ name)
+same_change value some is asks = (cc, cc, cc)

@@ -13,7 +13,7 @@ use Rattle.mega_backup_laws.proofs.Agreeing.{read_back}
 use Rattle.mega_backup_words.specs.Backing.{BacksUp}
 use Rattle.mega_backup_words.proofs.Endings.{unwritten}
 use Rattle.mega_words.specs.declared.command.Command.{Command}
-use Rattle.mega_words.specs.declared.command.Command.TheVariants.{Backup, Gen, Node, Replay, Restore}
+use Rattle.mega_words.specs.declared.command.Command.TheVariants.{Backup, Gen, Node, Replay, Restore, Two}
 use Rattle.mega_words.specs.Commands.{MayWant}
 use Rattle.mega_replay.specs.Backups.{BringsBack, HasBackedUp}
 use Rattle.mega_replay.specs.Statuses.{IsStatusOf}
@@ -44,6 +44,7 @@ nothing_done disks number group at input devices held = record {
 pub may_end : (command : Option Command) → MayWant command → IsStatusOf command 8
 may_end None may = inr refl
 may_end (Some (Backup number group at)) may = inr (inr (inr (inr (inr (inl refl)))))
+may_end (Some (Two number turns recover)) may = inr (inr (inr (inr (inr (inl refl)))))
 may_end (Some (Replay report)) may = absurd may
 may_end (Some (Gen seed count nodes)) may = absurd may
 may_end (Some (Node number turns)) may = absurd may

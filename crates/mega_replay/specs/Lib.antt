@@ -1,4 +1,5 @@
 pub mod Backups
+pub mod Changes
 pub mod Headings
 pub mod Meanings
 pub mod Texts

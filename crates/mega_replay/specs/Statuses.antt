@@ -1,8 +1,9 @@
 -- The statuses with which the program ends.
 use Rattle.std.specs.Prelude.{◌≡◌, ◌⊎◌, ℕ, Option, Some, None}
 use Rattle.mega_words.specs.declared.command.Command.{Command}
-use Rattle.mega_words.specs.declared.command.Command.TheVariants.{Backup, Gen, Node, Replay, Restore}
+use Rattle.mega_words.specs.declared.command.Command.TheVariants.{Backup, Gen, Node, Replay, Restore, Two}
 use Rattle.mega_backup_words.specs.Stops.{IsBackupStatus, IsRestoreStatus}
+use Rattle.mega_two_words.specs.Endings.{IsStatus as IsTwoStatus}
 use Rattle.mega_replay.specs.declared.status.Stop.{Stop}
 use Rattle.mega_replay.specs.declared.status.Stop.TheVariants.{Header, Schedule, Refused, Limit, Source, Sink, NoMemory}
 
@@ -40,13 +41,15 @@ IsStatusOf (Some (Gen seed count nodes)) status = IsDrawn status
 IsStatusOf (Some (Node number turns)) status = IsNodeStatus status
 IsStatusOf (Some (Backup number group at)) status = IsBackupStatus status
 IsStatusOf (Some (Restore at)) status = IsRestoreStatus status
+IsStatusOf (Some (Two number turns recover)) status = IsTwoStatus status
 
--- the words ask for no node
+-- the words ask for no node and no change
 abbrev pub IsOffline : Option Command → Type 0
 IsOffline (Some (Node number turns)) = ⊥
+IsOffline (Some (Two number turns recover)) = ⊥
 IsOffline _ = Unit {0}
 
--- nor for a node's log
+-- the words ask for no node, and not for its log
 abbrev pub UsesNoDevice : Option Command → Type 0
 UsesNoDevice (Some (Node number turns)) = ⊥
 UsesNoDevice (Some (Backup number group at)) = ⊥

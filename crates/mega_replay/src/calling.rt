@@ -1,5 +1,5 @@
 //! The top call: its words, what it writes, and its status.
-ghost use Rattle.std.specs.Prelude.{◌≡◌, ◌≤◌, ◌⊎◌, ◌++◌, ℕ, List, Some, None, Ok, Err, OnOk, OnErr};
+ghost use Rattle.std.specs.Prelude.{◌≡◌, ◌≤◌, ◌⊎◌, ◌++◌, ℕ, List, Option, Some, None, Ok, Err, OnOk, OnErr};
 ghost use Rattle.mega_node.specs.Outside.{told_by};
 ghost use Rattle.mega_replay.specs.Nodes.{HasRunNode};
 ghost use Rattle.std.specs.Io.KnownBytes.{Appends, IsAtEnd};
@@ -12,9 +12,10 @@ ghost use Rattle.mega_replay.specs.LastLines.{header_line, schedule_line, refuse
 ghost use Rattle.mega_replay.specs.Known.{InputDone, InputFailed, InputBroken, InputNoEvent, InputRefused, InputPastLast, InputCut};
 ghost use Rattle.mega_replay.specs.Statuses.{IsCutStatus, IsDrawn, IsOffline, IsReplayStatus, IsStatusOf, UsesNoDevice};
 ghost use Rattle.mega_replay.specs.Backups.{HasBackedUp, HasRestored};
+ghost use Rattle.mega_replay.specs.Changes.{HasDriven};
 ghost use Rattle.mega_gen.specs.Generated.{generated};
 ghost use Rattle.mega_words.specs.Commands.{command_of};
-ghost use Rattle.mega_words.specs.declared.command.Command.TheVariants.{Backup, Gen, Node, Replay, Restore};
+ghost use Rattle.mega_words.specs.declared.command.Command.TheVariants.{Backup, Gen, Node, Replay, Restore, Two};
 ghost use Rattle.mega_base.specs.declared.names.GroupId.{GroupId as Group};
 ghost use Rattle.mega_words.specs.declared.command.Report.{Report};
 ghost use Rattle.mega_replay.specs.Stops.{IsTold, IsWriteStop};
@@ -36,16 +37,17 @@ use mega_meanings::{BuiltIn, QueueHandlers};
 use mega_rows::VersionedRows;
 use mega_serve::Steps;
 use mega_server::{Number, Server};
+use mega_two_words::run_two;
 use mega_words::{Command, Report, command_of};
 use std::alloc::Global;
 
 /// What the program says where its words are no form.
 const USAGE: &str =
-    "usage: megastore replay [--summary] | gen --seed S --count N --nodes K | node --number K --turns T | backup --number K --group HEX --at P | restore --at Q\n";
+    "usage: megastore replay [--summary] | gen --seed S --count N --nodes K | node --number K --turns T | two --node K --turns T | two --node K --turns T --recover GID | backup --number K --group HEX --at P | restore --at Q\n";
 
 /// Runs the program on its words, with the handlers that the store brings, and gives the status with which it ends: 0 where the input was read
-/// to its end and every line was an event that happened, where all lines were drawn, where a node made all its turns, or where a backup or the
-/// lines of its rows were written; 2 where the words are no form; 3 where the header breaks a rule; 4 where a line is no event, or its event is
+/// to its end and every line was an event that happened, where all lines were drawn, where a node made all its turns, where a change was driven, or where a
+/// backup or the lines of its rows were written; 2 where the words are no form; 3 where the header breaks a rule; 4 where a line is no event or no change, or its event is
 /// refused; 5 and 6 where the source or the sink failed; 7 where a node's device failed; 8 for want of memory; 9 where its link was not bound;
 /// 10 where a line, or the call of a node, starts one that started 4,294,967,295 times, or a node's log would pass 2^40 bytes; 12 where a line is
 /// none of a backup; 13 where a log or a backup has too few entries; 14 where the put of a row would be too large; and 16 where a record of a
@@ -53,7 +55,7 @@ const USAGE: &str =
 /// A transcript grows with the lines that are done, a summary comes behind the last one. With 0 all of the report was written; with
 /// 3, 4 and 10 what there was of it before, and then the last line, which 10 has not; with 5 what there is of it after exactly the lines that
 /// the bytes before the fault spell, where the sink took it; with 6 and 8 a front of such a text. Of the record of a node a front is written at
-/// every end but 0, where it is whole, and 3, where the last line alone is. Only a node uses link and clock, and only it and a backup its devices.
+/// every end but 0, where it is whole, and 3, where the last line alone is. Only a node and a change use link and clock, and only a node and a backup its devices.
 pub fn run<I: Source, O: Sink, D: Disk + Drop, L: Link, C: Clock>(
     alloc: Global,
     words: &[Text],
@@ -82,6 +84,7 @@ pub fn run<I: Source, O: Sink, D: Disk + Drop, L: Link, C: Clock>(
     ensures node { (number turns : ℕ) → command_of words.now ≡ Some (Node number turns) → HasRunNode D.Disk ⟦<Server<Journal<D>, VersionedRows, BuiltIn> as Steps>⟧ (meaning built_in) number turns (I.left input.old) (I.left input.new) devices result.devices (told_by L.Link C.Clock O.Sink link.old clock.old out.old) (told_by L.Link C.Clock O.Sink link.new clock.new out.new) result.status }
     ensures backup { (number at : ℕ) (group : Group) → command_of words.now ≡ Some (Backup number group at) → HasBackedUp D.Disk number group at (I.left input.old) devices result.devices (O.held out.old) (O.held out.new) result.status }
     ensures restore { (at : ℕ) → command_of words.now ≡ Some (Restore at) → HasRestored at (I.left input.old) (O.held out.old) (O.held out.new) result.status }
+    ensures two { (number turns : ℕ) (recover : Option (List ℕ)) → command_of words.now ≡ Some (Two number turns recover) → HasDriven number turns recover (I.left input.old) (told_by L.Link C.Clock O.Sink link.old clock.old out.old) (told_by L.Link C.Clock O.Sink link.new clock.new out.new) result.status }
     ensures link { result.status ≡ 9 → Rose (L.faults link.old) (L.faults link.new) }
     ensures offline { IsOffline (command_of words.now) → (link.new ≡ link.old) × (clock.new ≡ clock.old) }
     ensures untouched { UsesNoDevice (command_of words.now) → result.devices ≡ Some devices }
@@ -113,6 +116,23 @@ pub fn run<I: Source, O: Sink, D: Disk + Drop, L: Link, C: Clock>(
         Ok(Some(Command::Backup { number, group, at })) => {
             back_up(alloc, number, &group, Position(at), input, out, devices)
         }
+        Ok(Some(Command::Two {
+            node,
+            turns,
+            recover,
+        })) => Ended {
+            status: run_two(
+                alloc,
+                node,
+                turns,
+                recover.as_ref(),
+                input,
+                out,
+                link,
+                clock,
+            ),
+            devices: Some(devices),
+        },
         Ok(Some(Command::Restore { at })) => Ended {
             status: run_restore(alloc, Position(at), input, out),
             devices: Some(devices),

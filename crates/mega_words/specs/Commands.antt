@@ -3,14 +3,14 @@ use Rattle.std.specs.Prelude.{ℕ, ◌≤◌, nat_eq, if◌then◌else◌, codes
 use Rattle.std.specs.Cmp.Lexicographic.{pointwise}
 use Rattle.mega_base.specs.declared.names.GroupId.{GroupId}
 use Rattle.mega_words.specs.declared.command.Command.{Command}
-use Rattle.mega_words.specs.declared.command.Command.TheVariants.{Replay, Gen, Node, Backup, Restore}
+use Rattle.mega_words.specs.declared.command.Command.TheVariants.{Replay, Gen, Node, Backup, Restore, Two}
 use Rattle.mega_words.specs.declared.command.Report.TheVariants.{Transcript, Summary}
 use Rattle.mega_words.specs.declared.option.Name.{Name}
-use Rattle.mega_words.specs.declared.option.Name.TheVariants.{Seed, Count, Nodes, Number, Turns, Group, At}
+use Rattle.mega_words.specs.declared.option.Name.TheVariants.{Seed, Count, Nodes, Number, Turns, Group, At, Node as OfNode, Recover}
 use Rattle.mega_words.specs.declared.option.Options.{Options}
 use Rattle.mega_words.specs.Options.{none_yet, read_on}
 
--- the options of `gen`, of `node`, of `backup` and of `restore`
+-- the options of `gen`, of `node`, of `backup`, of `restore` and of `two`
 abbrev pub gen_names : List Name
 gen_names = Seed ∷ Count ∷ Nodes ∷ []
 
@@ -22,6 +22,9 @@ backup_names = Number ∷ Group ∷ At ∷ []
 
 abbrev pub restore_names : List Name
 restore_names = At ∷ []
+
+abbrev pub two_names : List Name
+two_names = OfNode ∷ Turns ∷ Recover ∷ []
 
 -- all options of `gen` came
 abbrev pub drawn_with : Option ℕ → Option ℕ → Option ℕ → Option Command
@@ -59,6 +62,15 @@ abbrev pub restore_with : Option Options → Option Command
 restore_with None = None
 restore_with (Some found) = restored_with found.at
 
+-- both options of `two` came; a change may be named besides
+abbrev pub driven_with : Option ℕ → Option ℕ → Option (List ℕ) → Option Command
+driven_with (Some node) (Some turns) recover = Some (Two node turns recover)
+driven_with _ _ _ = None
+
+abbrev pub two_with : Option Options → Option Command
+two_with None = None
+two_with (Some found) = driven_with found.node found.turns found.recover
+
 -- behind `replay` stands nothing, or `--summary` once
 abbrev pub replay_with : List (List ℕ) → Option Command
 replay_with [] = Some (Replay Transcript)
@@ -74,6 +86,7 @@ command_of (word ∷ words) =
     else if pointwise nat_eq word (codes "node") then node_with (read_on node_names None none_yet words)
     else if pointwise nat_eq word (codes "backup") then backup_with (read_on backup_names None none_yet words)
     else if pointwise nat_eq word (codes "restore") then restore_with (read_on restore_names None none_yet words)
+    else if pointwise nat_eq word (codes "two") then two_with (read_on two_names None none_yet words)
     else None
 
 -- a cluster may have as many nodes as are asked for, and a node of that number; a log may have the position
@@ -82,12 +95,14 @@ FitsWords (Some (Gen seed count nodes)) = (1 ≤ nodes) × (nodes ≤ 9)
 FitsWords (Some (Node number turns)) = (1 ≤ number) × (number ≤ 9)
 FitsWords (Some (Backup number group at)) = (1 ≤ number) × (number ≤ 9) × (at ≤ 1000000)
 FitsWords (Some (Restore at)) = at ≤ 1000000
+FitsWords (Some (Two node turns recover)) = (1 ≤ node) × (node ≤ 9)
 FitsWords _ = Unit {0}
 
--- memory may be wanting where words begin as those of a backup
+-- memory may be wanting where words begin as those of a backup, or of a change
 abbrev pub MayWant : Option Command → Type 0
 MayWant None = Unit {0}
 MayWant (Some (Backup number group at)) = Unit {0}
+MayWant (Some (Two node turns recover)) = Unit {0}
 MayWant (Some (Replay report)) = ⊥
 MayWant (Some (Gen seed count nodes)) = ⊥
 MayWant (Some (Node number turns)) = ⊥

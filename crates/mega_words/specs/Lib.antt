@@ -1,4 +1,5 @@
 pub mod Numbers
+pub mod Changes
 pub mod Groups
 pub mod Options
 pub mod Commands

@@ -3,14 +3,15 @@ use Rattle.std.specs.Prelude.{ℕ, ◌≤◌, IfSome, ◌==◌, ◌||◌, Bool, 
 use Rattle.std.specs.Cmp.Lexicographic.{pointwise}
 use Rattle.mega_base.specs.declared.names.GroupId.{GroupId}
 use Rattle.mega_words.specs.declared.option.Name.{Name}
-use Rattle.mega_words.specs.declared.option.Name.TheVariants.{Seed, Count, Nodes, Number, Turns, Group, At}
+use Rattle.mega_words.specs.declared.option.Name.TheVariants.{Seed, Count, Nodes, Number, Turns, Group, At, Node, Recover}
 use Rattle.mega_words.specs.declared.option.Options.{Options}
 use Rattle.mega_words.specs.Numbers.{number_in}
 use Rattle.mega_words.specs.Groups.{group_in}
+use Rattle.mega_words.specs.Changes.{change_in}
 
 -- no option yet
 abbrev pub none_yet : Options
-none_yet = record { seed = None; count = None; nodes = None; number = None; turns = None; group = None; at = None }
+none_yet = record { seed = None; count = None; nodes = None; number = None; turns = None; group = None; at = None; node = None; recover = None }
 
 -- a number of nodes that a cluster may have, or of a node in one
 abbrev pub IsOfCluster : Option ℕ → Type 0
@@ -21,7 +22,7 @@ abbrev pub FitPosition : Option ℕ → Type 0
 FitPosition at = IfSome at (λ n. n ≤ 1000000)
 
 abbrev pub FitWords : Options → Type 0
-FitWords found = IsOfCluster found.nodes × IsOfCluster found.number × FitPosition found.at
+FitWords found = IsOfCluster found.nodes × IsOfCluster found.number × IsOfCluster found.node × FitPosition found.at
 
 -- how an option is written
 abbrev pub text_of : Name → List ℕ
@@ -32,6 +33,8 @@ text_of Number = codes "--number"
 text_of Turns = codes "--turns"
 text_of Group = codes "--group"
 text_of At = codes "--at"
+text_of Node = codes "--node"
+text_of Recover = codes "--recover"
 
 -- what stands in a word behind a name and `=`
 abbrev pub behind : List ℕ → List ℕ → Option (List ℕ)
@@ -61,15 +64,25 @@ with_first found None group = option_map (λ group. record found { group = Some 
 abbrev pub with_group : Options → List ℕ → Option Options
 with_group found value = with_first found found.group (group_in value)
 
--- the option is that of a group
-abbrev pub is_group : Name → Bool
-is_group Group = true
-is_group Seed = false
-is_group Count = false
-is_group Nodes = false
-is_group Number = false
-is_group Turns = false
-is_group At = false
+-- the options with the name of a change that comes for the first time
+abbrev pub with_named : Options → Option (List ℕ) → Option (List ℕ) → Option Options
+with_named found (Some before) change = None
+with_named found None change = option_map (λ change. record found { recover = Some change }) change
+
+abbrev pub with_change : Options → List ℕ → Option Options
+with_change found value = with_named found found.recover (change_in value)
+
+-- the option is that of a group or of a change, whose name is kept
+abbrev pub wants : Name → Bool
+wants Group = true
+wants Recover = true
+wants Seed = false
+wants Count = false
+wants Nodes = false
+wants Number = false
+wants Turns = false
+wants At = false
+wants Node = false
 
 -- the options with one more, where it comes for the first time and its value is in its range
 abbrev pub with_value : Options → Name → List ℕ → Option Options
@@ -79,6 +92,8 @@ with_value found Nodes value = option_map (λ nodes. record found { nodes = Some
 with_value found Number value = option_map (λ number. record found { number = Some number }) (first_time found.number (number_in 1 9 value))
 with_value found Turns value = option_map (λ turns. record found { turns = Some turns }) (first_time found.turns (number_in 0 1000000000 value))
 with_value found Group value = with_group found value
+with_value found Recover value = with_change found value
+with_value found Node value = option_map (λ node. record found { node = Some node }) (first_time found.node (number_in 1 9 value))
 with_value found At value = option_map (λ at. record found { at = Some at }) (first_time found.at (number_in 0 1000000 value))
 
 -- a value behind `=` is taken at once, else the option waits for the next word

@@ -1,7 +1,7 @@
 //! Which command the words of the program are.
 ghost use Rattle.std.specs.Prelude.{◌≡◌, IfOk, IfSome, OnErr, nat_eq};
 ghost use Rattle.std.specs.Cmp.Lexicographic.{pointwise};
-ghost use Rattle.mega_words.specs.Commands.{FitsWords, MayWant, backup_with, command_of, gen_with, node_with, replay_with, restore_with};
+ghost use Rattle.mega_words.specs.Commands.{FitsWords, MayWant, backup_with, command_of, gen_with, node_with, replay_with, restore_with, two_with};
 ghost use Rattle.mega_words.specs.Options.{FitWords};
 
 use crate::option::{Name, Options, options_of};
@@ -21,15 +21,37 @@ pub enum Report {
 #[derive(Drop)]
 pub enum Command {
     /// The replay of a header and a schedule.
-    Replay { report: Report },
+    Replay {
+        report: Report,
+    },
     /// A header of so many full nodes, and so many lines drawn from the seed.
-    Gen { seed: u64, count: u64, nodes: u8 },
+    Gen {
+        seed: u64,
+        count: u64,
+        nodes: u8,
+    },
     /// The node of this number, over its socket, for so many turns.
-    Node { number: u8, turns: u64 },
+    Node {
+        number: u8,
+        turns: u64,
+    },
     /// A backup of a group through a position, from the log of the node of this number.
-    Backup { number: u8, group: GroupId, at: u64 },
+    Backup {
+        number: u8,
+        group: GroupId,
+        at: u64,
+    },
     /// The rows of a backup, at a position.
-    Restore { at: u64 },
+    Restore {
+        at: u64,
+    },
+    /// A change of several groups, driven by requests to the node of this number for so many turns at most: that of the input, or one that
+    /// was begun under this name.
+    Two {
+        node: u8,
+        turns: u64,
+        recover: Option<Text>,
+    },
 }
 
 /// Whether a word is this one.
@@ -110,6 +132,32 @@ fn restore_with(found: Option<Options>) -> Option<Command>
     }
 }
 
+/// The command `two` with both of its options, and maybe with the name of a change.
+fn two_with(found: Option<Options>) -> Option<Command>
+    requires { IfSome found FitWords }
+    ensures value { result ≡ two_with found }
+    ensures range { FitsWords result }
+{
+    match found {
+        Some(
+            Options {
+                node,
+                turns,
+                recover,
+                ..
+            },
+        ) => match (node, turns) {
+            (Some(node), Some(turns)) => Some(Command::Two {
+                node,
+                turns,
+                recover,
+            }),
+            _ => None,
+        },
+        None => None,
+    }
+}
+
 /// The replay with what stands behind its word: nothing, or `--summary` once.
 fn replay_with(words: &[Text]) -> Option<Command>
     ensures value { result ≡ replay_with words.now }
@@ -132,8 +180,8 @@ fn replay_with(words: &[Text]) -> Option<Command>
     }
 }
 
-/// The command that words are a form of: `replay`, maybe with `--summary`, or `gen`, `node`, `backup` or `restore` with each of its
-/// options once. Only a backup wants memory, for its group.
+/// The command that words are a form of: `replay`, maybe with `--summary`, or `gen`, `node`, `backup`, `restore` or `two` with
+/// each of its options once. Only the names of a group and of a change want memory.
 pub fn command_of(alloc: Global, words: &[Text]) -> Result<Option<Command>, NoMemory>
     ensures value { IfOk result (λ command. command ≡ command_of words.now) }
     ensures range { IfOk result FitsWords }
@@ -155,6 +203,9 @@ pub fn command_of(alloc: Global, words: &[Text]) -> Result<Option<Command>, NoMe
                 Ok(backup_with(options_of(alloc, &names, words)?))
             } else if is(word, "restore") {
                 Ok(restore_with(options_of(alloc, &[Name::At], words)?))
+            } else if is(word, "two") {
+                let names = [Name::Node, Name::Turns, Name::Recover];
+                Ok(two_with(options_of(alloc, &names, words)?))
             } else {
                 Ok(None)
             }

@@ -1,6 +1,7 @@
 //! The words of the program: a command, and then each of its options once.
 #![tactic(auto)]
 
+mod change;
 mod command;
 mod group;
 mod number;

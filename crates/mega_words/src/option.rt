@@ -1,10 +1,11 @@
 //! The options of a command: each comes once, in any order, as `--x v` or `--x=v`.
-ghost use Rattle.std.specs.Prelude.{◌≡◌, ◌≢◌, Some, None, IfOk, IfSome, IsOk, false, is_some, option_map};
+ghost use Rattle.std.specs.Prelude.{◌≡◌, Some, None, IfOk, IfSome, IsOk, false, is_some, option_map};
 ghost use Rattle.std.specs.List.{list_any};
 ghost use Rattle.mega_words.specs.Numbers.{number_in};
 ghost use Rattle.mega_words.specs.Groups.{group_in};
-ghost use Rattle.mega_words.specs.Options.{FitPosition, FitWords, IsOfCluster, behind, first_time, is_group, is_named, name_of, none_yet, read_on, text_of, with_group, with_value};
+ghost use Rattle.mega_words.specs.Options.{FitPosition, FitWords, IsOfCluster, behind, first_time, is_named, name_of, none_yet, read_on, text_of, wants, with_change, with_group, with_value};
 
+use crate::change::change_in;
 use crate::group::group_in;
 use crate::number::number_in;
 use mega_base::{GroupId, NoMemory, Text};
@@ -20,6 +21,8 @@ pub enum Name {
     Turns,
     Group,
     At,
+    Node,
+    Recover,
 }
 
 /// The options that came so far.
@@ -32,6 +35,8 @@ pub struct Options {
     pub turns: Option<u64>,
     pub group: Option<GroupId>,
     pub at: Option<u64>,
+    pub node: Option<u8>,
+    pub recover: Option<Text>,
 }
 
 /// How an option is written.
@@ -46,6 +51,8 @@ fn text_of(name: Name) -> &'static [u8]
         Name::Turns => b"--turns",
         Name::Group => b"--group",
         Name::At => b"--at",
+        Name::Node => b"--node",
+        Name::Recover => b"--recover",
     }
 }
 
@@ -79,7 +86,7 @@ fn is_named(name: &[u8], word: &[u8]) -> bool
 /// The option that a word names, of these.
 fn name_of(names: &[Name], word: &[u8]) -> Option<Name>
     ensures value { result ≡ name_of names.now word.now }
-    ensures listed { list_any is_group names.now ≡ false → result ≢ Some Name.Group }
+    ensures listed { list_any wants names.now ≡ false → IfSome result (λ name. wants name ≡ false) }
 {
     match names {
         [] => None,
@@ -131,7 +138,7 @@ fn first_position(before: Option<u64>, value: &[u8]) -> Option<u64>
 /// The options with one number more, where it comes for the first time and is in its range.
 fn with_number(found: Options, name: Name, value: &[u8]) -> Option<Options>
     requires { FitWords found }
-    ensures value { name ≢ Name.Group → result ≡ with_value found name value.now }
+    ensures value { wants name ≡ false → result ≡ with_value found name value.now }
     ensures range { IfSome result FitWords }
 {
     let mut found = found;
@@ -144,7 +151,8 @@ fn with_number(found: Options, name: Name, value: &[u8]) -> Option<Options>
             found.turns = Some(first_time(found.turns, number_in(0, 1_000_000_000, value))?)
         }
         Name::At => found.at = Some(first_position(found.at, value)?),
-        Name::Group => return None,
+        Name::Node => found.node = Some(first_of_cluster(found.node, value)?),
+        Name::Group | Name::Recover => return None,
     }
     Some(found)
 }
@@ -168,7 +176,26 @@ fn with_group(alloc: Global, found: Options, value: &[u8]) -> Result<Option<Opti
     }
 }
 
-/// The options with one more, where it comes for the first time and its value is in its range. Only a group wants memory.
+/// The options with the name of a change, where it comes for the first time and is one.
+fn with_change(alloc: Global, found: Options, value: &[u8]) -> Result<Option<Options>, NoMemory>
+    requires { FitWords found }
+    ensures value { IfOk result (λ more. more ≡ with_change found value.now) }
+    ensures range { IfOk result (λ more. IfSome more FitWords) }
+{
+    if found.recover.is_some() {
+        return Ok(None);
+    }
+    match change_in(alloc, value)? {
+        Some(change) => {
+            let mut found = found;
+            found.recover = Some(change);
+            Ok(Some(found))
+        }
+        None => Ok(None),
+    }
+}
+
+/// The options with one more, where it comes for the first time and its value is in its range. Only a group and a change want memory.
 fn with_value(
     alloc: Global,
     found: Options,
@@ -178,10 +205,11 @@ fn with_value(
     requires { FitWords found }
     ensures value { IfOk result (λ more. more ≡ with_value found name value.now) }
     ensures range { IfOk result (λ more. IfSome more FitWords) }
-    ensures wanting { name ≢ Name.Group → IsOk result }
+    ensures wanting { wants name ≡ false → IsOk result }
 {
     match name {
         Name::Group => with_group(alloc, found, value),
+        Name::Recover => with_change(alloc, found, value),
         name => Ok(with_number(found, name, value)),
     }
 }
@@ -198,7 +226,7 @@ fn read_on(
     requires { FitWords found }
     ensures value { IfOk result (λ more. more ≡ read_on names.now waits found words.now) }
     ensures range { IfOk result (λ more. IfSome more FitWords) }
-    ensures wanting { list_any is_group names.now ≡ false → waits ≢ Some Name.Group → IsOk result }
+    ensures wanting { list_any wants names.now ≡ false → IfSome waits (λ name. wants name ≡ false) → IsOk result }
 {
     match words {
         [] => match waits {
@@ -224,7 +252,7 @@ fn read_on(
     }
 }
 
-/// The options that words are, each of this list and at most once, where they are nothing else. Only a group wants memory.
+/// The options that words are, each of this list and at most once, where they are nothing else. Only a group and a change want memory.
 pub fn options_of(
     alloc: Global,
     names: &[Name],
@@ -232,7 +260,7 @@ pub fn options_of(
 ) -> Result<Option<Options>, NoMemory>
     ensures value { IfOk result (λ found. found ≡ read_on names.now None none_yet words.now) }
     ensures range { IfOk result (λ found. IfSome found FitWords) }
-    ensures wanting { list_any is_group names.now ≡ false → IsOk result }
+    ensures wanting { list_any wants names.now ≡ false → IsOk result }
 {
     let none = Options {
         seed: None,
@@ -242,6 +270,8 @@ pub fn options_of(
         turns: None,
         group: None,
         at: None,
+        node: None,
+        recover: None,
     };
     read_on(alloc, names, None, none, words)
 }

@@ -1,7 +1,7 @@
 //! Worked forms of words, computed by the checker.
 ghost use Rattle.std.specs.Prelude.{◌≡◌, codes, [], ◌∷◌, Some, None};
 ghost use Rattle.mega_words.specs.Commands.{command_of};
-ghost use Rattle.mega_words.specs.declared.command.Command.TheVariants.{Backup, Gen, Node, Replay, Restore};
+ghost use Rattle.mega_words.specs.declared.command.Command.TheVariants.{Backup, Gen, Node, Replay, Restore, Two};
 ghost use Rattle.mega_words.specs.declared.command.Report.TheVariants.{Summary, Transcript};
 
 /// Options come in any order, with their values behind `=` or as the next word; each comes once, and is in its range.
@@ -15,6 +15,9 @@ pub fn words_are_read()
     ensures restored { command_of (codes "restore" ∷ codes "--at" ∷ codes "1000000" ∷ []) ≡ Some (Restore 1000000) }
     ensures halves_of_bytes { command_of (codes "backup" ∷ codes "--at=7" ∷ codes "--group=018" ∷ codes "--number=1" ∷ []) ≡ None }
     ensures capitals { command_of (codes "backup" ∷ codes "--at=7" ∷ codes "--group=0A" ∷ codes "--number=1" ∷ []) ≡ None }
+    ensures driven { command_of (codes "two" ∷ codes "--turns=100" ∷ codes "--node=2" ∷ []) ≡ Some (Two 2 100 None) }
+    ensures recovered { command_of (codes "two" ∷ codes "--node=2" ∷ codes "--recover" ∷ codes "T1a" ∷ codes "--turns=100" ∷ []) ≡ Some (Two 2 100 (Some (codes "T1a"))) }
+    ensures unnamed { command_of (codes "two" ∷ codes "--node=2" ∷ codes "--recover=T-1" ∷ codes "--turns=100" ∷ []) ≡ None }
     ensures far { command_of (codes "restore" ∷ codes "--at=1000001" ∷ []) ≡ None }
     ensures strange { command_of (codes "node" ∷ codes "--turns=5" ∷ codes "--number=1" ∷ codes "--seed=7" ∷ []) ≡ None }
     ensures halves { command_of (codes "node" ∷ codes "--number=1" ∷ []) ≡ None }

@@ -1,0 +1,20 @@
+-- What the call of a change of several groups came to.
+use Rattle.std.specs.Prelude.{◌≡◌, ◌⊎◌, ℕ, false, List, Option}
+use Rattle.std.specs.Io.KnownBytes.{Appends}
+use Rattle.mega_io.specs.Pieces.{AppendsFront}
+use Rattle.mega_node.specs.Outside.{Outside}
+use Rattle.mega_two_words.specs.declared.last.Last.{Last}
+use Rattle.mega_two_words.specs.Endings.{is_cut, last_line, status_of}
+use Rattle.mega_two_words.specs.Runs.{RunsTo}
+
+-- this is said of how a change of this name, or of the input's line where there is none, was driven by requests to a node
+abbrev pub Drove : ℕ → ℕ → Option (List ℕ) → Option (List ℕ) → Outside → Outside → (Last → Type 0) → Type 0
+Drove number turns recover input before after Says = RunsTo number turns recover input before.readings after.readings before.taken after.taken before.sent after.sent Says
+
+-- a change was to be driven for so many turns, and what was asked for ended with this status: unless a call failed or memory was wanting, its last line was
+-- written, and nothing else; of one that the sink did not take a front
+pub record HasDriven (number turns : ℕ) (recover input : Option (List ℕ)) (before after : Outside) (status : ℕ) : Type 0 where
+  pub whole : is_cut status ≡ false → Drove number turns recover input before after (λ last. (status ≡ status_of last) × Appends before.held after.held (last_line last))
+  pub front : status ≡ 6 → Drove number turns recover input before after (λ last. AppendsFront before.held after.held (last_line last))
+  pub none : (status ≡ 5) ⊎ (status ≡ 9) → after.held ≡ before.held
+  pub memory : status ≡ 8 → (last : Last) × AppendsFront before.held after.held (last_line last)
