@@ -116,11 +116,15 @@ pub fn run<I: Source, O: Sink, D: Disk + Drop, L: Link, C: Clock>(
         Ok(Some(Command::Backup { number, group, at })) => {
             back_up(alloc, number, &group, Position(at), input, out, devices)
         }
-        Ok(Some(Command::Two {
-            node,
-            turns,
-            recover,
-        })) => Ended {
+        Ok(
+            Some(
+                Command::Two {
+                    node,
+                    turns,
+                    recover,
+                },
+            ),
+        ) => Ended {
             status: run_two(
                 alloc,
                 node,
