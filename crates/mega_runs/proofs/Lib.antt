@@ -1,0 +1,12 @@
+mod Blocks
+mod Chains
+mod Found
+mod Growing
+mod Nexts
+mod Order
+mod Outcomes
+mod Records
+mod Repaired
+mod Spilled
+mod Torn
+mod Written

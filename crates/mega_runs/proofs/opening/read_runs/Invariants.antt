@@ -1,0 +1,18 @@
+use Rattle.std.proofs.Common.{◌≡◌, ◌-◌, ◌≤◌, true}
+use Rattle.mega_disk.specs.Images.{Within, LeavesOnly}
+use Rattle.mega_runs.proofs.Growing.{GoesOn}
+use Rattle.mega_runs.proofs.opening.read_runs.Given as goal
+
+abbrev pub invariant-loop-body : goal.invariant-loop-body
+invariant-loop-body g l = record {
+  goes_on : g.D.Disk.is_told ≡ true → GoesOn (g.D.Disk.seen l.fn.disk) l.opened;
+  few : l.opened.count ≤ l.opened.end;
+  within_size : l.opened.end ≤ l.size;
+  same : g.D.Disk.seen l.disk ≡ g.D.Disk.seen l.fn.disk;
+  within : Within (g.D.Disk.may_leave l.fn.disk) (g.D.Disk.may_leave l.disk);
+  moments : LeavesOnly g.D.Disk.moment g.D.Disk.left_since l.fn.disk l.disk (g.D.Disk.may_leave l.fn.disk);
+  later : g.D.Disk.faults l.fn.disk ≤ g.D.Disk.faults l.disk;
+}
+
+abbrev pub decreases-loop-body : goal.decreases-loop-body
+decreases-loop-body g l = l.size - l.opened.end

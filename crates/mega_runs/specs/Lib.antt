@@ -1,0 +1,11 @@
+pub mod Bodies
+pub mod BodyLaws
+pub mod Chain
+pub mod Examples
+pub mod Finding
+pub mod Index
+pub mod Opening
+pub mod Reads
+pub mod Rest
+pub mod Spilling
+pub mod VersionLists

@@ -1,0 +1,18 @@
+//! Versions of rows that need not fit in memory: the newest in memory, the others on a device, in runs that are sorted.
+#![tactic(auto)]
+
+mod append;
+mod body;
+mod coding;
+mod device;
+mod examples;
+mod index;
+mod laws;
+mod lookup;
+mod opening;
+mod reading;
+mod search;
+
+pub use append::add_run;
+pub use body::{Mark, Run, Version};
+pub use coding::{read_body, write_body};

@@ -1,0 +1,153 @@
+//! Reads the runs of a file, one after another, and keeps their indexes.
+ghost use Rattle.std.specs.Prelude.{◌≡◌, ◌+◌, ◌<◌, ◌≤◌, ◌^◌, ℕ, [], true, length, All, Some, None, Err, IfOk, IfSome, OnOk};
+ghost use Rattle.std.specs.Option.{option_map};
+ghost use Rattle.mega_base.specs.Causes.{Rose};
+ghost use Rattle.mega_disk.specs.Images.{Within, LeavesOnly};
+ghost use Rattle.mega_runs.specs.declared.body.Run.{Run as SomeRun};
+ghost use Rattle.mega_runs.specs.Bodies.{IsVersion, body_of};
+ghost use Rattle.mega_runs.specs.Chain.{records_of};
+ghost use Rattle.mega_runs.specs.Opening.{IsNext, first_bad};
+ghost use Rattle.mega_runs.specs.Index.{Indices, IsGrown, IsReadTo, versions_text};
+
+use crate::body::{Mark, Run};
+use crate::coding::read_body;
+use crate::index::{Indexed, blocks_of, size_of};
+use crate::lookup::refusal;
+use crate::reading::next_body;
+use mega_base::{Items, NoMemory};
+use mega_disk::{Disk, StoreError};
+use std::alloc::Global;
+
+/// What is kept in memory of a file of runs: the place behind the last one, their count, the marks of the last, and the indexes
+/// of those since the last base, that of the newest first.
+#[derive(Drop)]
+pub(crate) struct Opened {
+    pub end: u64,
+    pub count: u64,
+    pub marks: Items<Mark>,
+    pub runs: Vec<Indexed>,
+}
+
+/// The index of a run whose body ends at a place.
+fn index_of(alloc: Global, run: &Run, number: u64, end: u64) -> Result<Indexed, NoMemory>
+    requires fits { All IsVersion run.now.versions }
+    requires room { length (versions_text run.now.versions) ≤ end }
+    requires small { end < 2 ^ 64 }
+    ensures { IfOk result (Indices run.now number end) }
+{
+    let size = size_of(alloc, run.versions.as_slice())?;
+    let start = end - size;
+    let blocks = blocks_of(alloc, run.versions.as_slice(), start)?;
+    Ok(Indexed {
+        number,
+        start,
+        blocks,
+    })
+}
+
+/// One run more, whose body has so many bytes.
+fn add_index(
+    alloc: Global,
+    opened: &mut Opened,
+    run: Run,
+    size: usize,
+) -> Result<(), NoMemory>
+    requires fits { All IsVersion run.versions }
+    requires room { length (versions_text run.versions) ≤ size }
+    requires small { opened.old.end + 9 + size < 2 ^ 64 }
+    requires few { opened.old.count ≤ opened.old.end }
+    ensures { OnOk result (IsGrown opened.old run size opened.new) }
+{
+    let end = opened.end + 9 + size as u64;
+    let count = opened.count + 1;
+    let index = index_of(alloc, &run, count, end)?;
+    if run.is_base {
+        opened.runs.clear();
+    }
+    opened.runs.insert(0, index)?;
+    opened.marks = run.marks;
+    opened.end = end;
+    opened.count = count;
+    Ok(())
+}
+
+/// One body more, where it is a run.
+fn add_body(alloc: Global, opened: &mut Opened, body: &[u8]) -> Result<(), StoreError>
+    requires small { opened.old.end + 9 + length body.now < 2 ^ 64 }
+    requires few { opened.old.count ≤ opened.old.end }
+    ensures grown { OnOk result ((run : SomeRun) × (body_of body.now ≡ Some run) × IsGrown opened.old run (length body.now) opened.new) }
+    ensures bad { (n : ℕ) → result ≡ Err (StoreError.BadRecord n) → (n ≡ opened.old.count + 1) × (body_of body.now ≡ None) }
+    ensures no_fault { result ≡ Err StoreError.DiskFault → ⊥ }
+    ensures never_full { (n : ℕ) → result ≡ Err (StoreError.Full n) → ⊥ }
+{
+    match read_body(alloc, body) {
+        Ok(Some(run)) => match add_index(alloc, opened, run, body.len()) {
+            Ok(()) => Ok(()),
+            Err(NoMemory) => Err(StoreError::NoMemory),
+        },
+        Ok(None) => Err(StoreError::BadRecord {
+            number: opened.count + 1,
+        }),
+        Err(NoMemory) => Err(StoreError::NoMemory),
+    }
+}
+
+/// The body of the run whose gate stands at a place of a file of this length.
+fn next_of<D: Disk>(
+    alloc: Global,
+    disk: &mut D,
+    at: u64,
+    size: u64,
+) -> Result<Option<Vec<u8>>, StoreError>
+    requires size { D.is_told ≡ true → size ≡ length (D.seen disk.old) }
+    requires within { at ≤ size }
+    ensures next { D.is_told ≡ true → IfOk result (λ found. IsNext (D.seen disk.old) at (option_map (λ body. body.items) found)) }
+    ensures fits { IfOk result (λ found. IfSome found (λ body. at + 9 + length body.items < size)) }
+    ensures no_bad { (n : ℕ) → result ≡ Err (StoreError.BadRecord n) → ⊥ }
+    ensures never_full { (n : ℕ) → result ≡ Err (StoreError.Full n) → ⊥ }
+    ensures seen { OnOk result (D.seen disk.new ≡ D.seen disk.old) }
+    ensures within { Within (D.may_leave disk.old) (D.may_leave disk.new) }
+    ensures any_moment { LeavesOnly D.moment D.left_since disk.old disk.new (D.may_leave disk.old) }
+    ensures cause { result ≡ Err StoreError.DiskFault → Rose (D.faults disk.old) (D.faults disk.new) }
+    ensures later { D.faults disk.old ≤ D.faults disk.new }
+{
+    match next_body(alloc, disk, at, size) {
+        Ok(found) => Ok(found),
+        Err(error) => Err(refusal(error)),
+    }
+}
+
+/// Reads the runs of a file of this length, up to its first closed gate.
+pub(crate) fn read_runs<D: Disk>(
+    alloc: Global,
+    disk: &mut D,
+    size: u64,
+) -> Result<Opened, StoreError>
+    requires size { D.is_told ≡ true → size ≡ length (D.seen disk.old) }
+    ensures read { D.is_told ≡ true → IfOk result (IsReadTo (D.seen disk.old)) }
+    ensures bad { D.is_told ≡ true → (n : ℕ) → result ≡ Err (StoreError.BadRecord n) → first_bad 1 (records_of (D.seen disk.old)) ≡ Some n }
+    ensures never_full { (n : ℕ) → result ≡ Err (StoreError.Full n) → ⊥ }
+    ensures seen { OnOk result (D.seen disk.new ≡ D.seen disk.old) }
+    ensures within { Within (D.may_leave disk.old) (D.may_leave disk.new) }
+    ensures any_moment { LeavesOnly D.moment D.left_since disk.old disk.new (D.may_leave disk.old) }
+    ensures cause { result ≡ Err StoreError.DiskFault → Rose (D.faults disk.old) (D.faults disk.new) }
+    ensures later { D.faults disk.old ≤ D.faults disk.new }
+{
+    let mut opened = none_opened(alloc);
+    while let Some(body) = next_of(alloc, disk, opened.end, size)? {
+        add_body(alloc, &mut opened, body.as_slice())?;
+    }
+    Ok(opened)
+}
+
+/// Nothing was read yet.
+fn none_opened(alloc: Global) -> Opened
+    ensures { (result.end ≡ 0) × (result.count ≡ 0) × (result.marks ≡ []) × (result.runs.items ≡ []) }
+{
+    Opened {
+        end: 0,
+        count: 0,
+        marks: Items::new(alloc),
+        runs: Vec::new(alloc),
+    }
+}
