@@ -1,5 +1,5 @@
 -- Blocks of versions.
-use Rattle.std.proofs.Common.{◌≡◌, ℕ, zero, suc, ◌+◌, ◌<◌, ◌≤◌, List, [], ◌∷◌, ◌++◌, length, take, drop, refl, sym, ◌∙◌, ap, subst, arith, append_assoc, length-append, take-append-drop, length-take-le}
+use Rattle.std.proofs.Common.{◌≡◌, ℕ, zero, suc, ◌+◌, ◌-◌, ◌<◌, ◌≤◌, List, [], ◌∷◌, ◌++◌, length, take, drop, refl, sym, ◌∙◌, ap, subst, arith, append_assoc, length-append, take-append-drop, length-take-le}
 use Rattle.std.specs.Prelude.{Option, Some, None, option_map, min, Bool, true, false, ◌&&◌, slice_range, All}
 use Rattle.std.specs.List.{slice_get, flat_map}
 use Rattle.std.proofs.lemmas.List.{append-nil, drop-drop, take_at, drop_at}
@@ -9,7 +9,8 @@ use Rattle.mega_runs.specs.declared.body.Version.{Version}
 use Rattle.mega_runs.specs.declared.index.Block.{Block}
 use Rattle.mega_runs.specs.Bodies.{Spot, is_before, spot_of, version_text, IsVersion, ascends, ascends_from}
 use Rattle.mega_runs.specs.Finding.{is_behind, behind_at, IsPlace, found_in}
-use Rattle.mega_runs.specs.Index.{versions_text, spot_of_block, IsBlock, AreBlocks, Stands}
+use Rattle.mega_runs.specs.declared.index.Indexed.{Indexed}
+use Rattle.mega_runs.specs.Index.{versions_text, spot_of_block, IsBlock, AreBlocks, Stands, IsIndexed, HasBlock}
 use Rattle.mega_runs.proofs.Order.{both, ascends_behind}
 use Rattle.mega_runs.proofs.Found.{none_behind, found_front, found_back}
 
@@ -29,10 +30,10 @@ take_few l n is = go l 16 n is
         none : (m : ℕ) → min 0 m ≡ 0
         none m = omega arith
 
-        nil_take : (m : ℕ) → take m [] ≡ []
+        nil_take : (m : ℕ) → take {A = Version} m [] ≡ []
         nil_take zero = refl
         nil_take (suc m) = refl
-    go (x ∷ l) zero n is = ap (λ (k : ℕ). take k (x ∷ l)) (is ∙ omega arith)
+    go (x ∷ l) zero n is = (let z : n ≡ 0 = omega (arith, is) in ap (λ (k : ℕ). take k (x ∷ l)) z)
     go (x ∷ l) (suc m) zero is = absurd (omega (arith, is))
     go (x ∷ l) (suc m) (suc n) is = ap (λ r. x ∷ r) (go l m n (omega (arith, is)))
 
@@ -42,10 +43,10 @@ drop_few l n is = go l 16 n is
     go : (l : List Version) (m n : ℕ) → n ≡ min (length l) m → drop n l ≡ drop m l
     go [] m n is = nil_drop n ∙ sym (nil_drop m)
       where
-        nil_drop : (m : ℕ) → drop m [] ≡ []
+        nil_drop : (m : ℕ) → drop {A = Version} m [] ≡ []
         nil_drop zero = refl
         nil_drop (suc m) = refl
-    go (x ∷ l) zero n is = ap (λ (k : ℕ). drop k (x ∷ l)) (is ∙ omega arith)
+    go (x ∷ l) zero n is = (let z : n ≡ 0 = omega (arith, is) in ap (λ (k : ℕ). drop k (x ∷ l)) z)
     go (x ∷ l) (suc m) zero is = absurd (omega (arith, is))
     go (x ∷ l) (suc m) (suc n) is = go l m n (omega (arith, is))
 
@@ -142,7 +143,8 @@ found_in_mine start versions blocks j block key p c asc there place = ap (found_
     by_first [] is = absurd (let none : Some (spot_of_block block) ≡ None = c.is_block.first_is ∙ ap (λ (l : List Version). option_map spot_of (slice_get l 0)) is in cc)
     by_first (v ∷ rest) is =
         let first : Some (spot_of_block block) ≡ Some (spot_of v) = c.is_block.first_is ∙ ap (λ (l : List Version). option_map spot_of (slice_get l 0)) is in
-        let not_behind : is_before (key, p) (spot_of v) ≡ false = ap (is_behind (key, p)) (sym first) ∙ sym (ap (λ (o : Option Block). is_behind (key, p) (option_map spot_of_block o)) there) ∙ place.before (omega arith) in
+        let at_j : suc j - 1 ≡ j = omega arith in
+        let not_behind : is_before (key, p) (spot_of v) ≡ false = ap (is_behind (key, p)) (sym first) ∙ sym (ap (λ (o : Option Block). is_behind (key, p) (option_map spot_of_block o)) there) ∙ ap (behind_at spot_of_block (key, p) blocks) (sym at_j) ∙ place.before (omega arith) in
         ap (λ (l : List Version). found_in key p (c.pre ++ (l ++ c.post))) is
         ∙ found_back key p c.pre v (rest ++ c.post) (ap (λ (l : List Version). ascends (c.pre ++ (l ++ c.post))) (sym is) ∙ parts_ascend) not_behind
         ∙ ap (λ (l : List Version). found_in key p (l ++ c.post)) (sym is)
@@ -199,3 +201,33 @@ mine_stands file start versions blocks j block c stands =
 
     text : versions_text versions ≡ a ++ (m ++ z)
     text = ap versions_text c.parts ∙ flat_map-append version_text c.pre (c.mine ++ c.post) ∙ ap (λ (l : List ℕ). a ++ l) (flat_map-append version_text c.mine c.post)
+
+-- ---- the block that a place tells
+nonzero : (k : ℕ) → (k ≡ 0 → ⊥) → k ≡ suc (k - 1)
+nonzero zero some = absurd (some refl)
+nonzero (suc k) some = omega arith
+
+place_is : (key : List ℕ) (p : ℕ) (blocks : List Block) (k : ℕ) → (k ≡ 0 → ⊥) → IsPlace spot_of_block (key, p) blocks k → IsPlace spot_of_block (key, p) blocks (suc (k - 1))
+place_is key p blocks k some place = subst (IsPlace spot_of_block (key, p) blocks) (nonzero k some) place
+
+pub block_within : (file : List ℕ) (versions : List Version) (run : Indexed) (j : ℕ) (block : Block) → IsIndexed file versions run → slice_get run.blocks.items j ≡ Some block → block.start + block.size ≤ length file
+block_within file versions run j block is there = (mine_stands file run.start versions run.blocks.items j block (chosen run.start versions run.blocks.items j block is.blocks there) is.stands).0
+
+pub record BlockOf (file : List ℕ) (versions : List Version) (key : List ℕ) (p : ℕ) (block : Block) : Type 0 where
+  pub mine : List Version
+  pub has : HasBlock file mine block
+  pub same : found_in key p versions ≡ found_in key p mine
+
+pub block_of : (file : List ℕ) (versions : List Version) (run : Indexed) (key : List ℕ) (p k : ℕ) (block : Block) → IsIndexed file versions run → slice_get run.blocks.items (k - 1) ≡ Some block → (k ≡ 0 → ⊥) → IsPlace spot_of_block (key, p) run.blocks.items k → BlockOf file versions key p block
+block_of file versions run key p k block is there some place =
+    let c = chosen run.start versions run.blocks.items (k - 1) block is.blocks there in
+    record {
+      mine = c.mine;
+      has = record {
+        count_is = c.is_block.count_is;
+        text_is = (mine_stands file run.start versions run.blocks.items (k - 1) block c is.stands).1;
+        fits = mine_fits run.start versions run.blocks.items (k - 1) block c is.fits;
+        in_order = mine_ascends run.start versions run.blocks.items (k - 1) block c is.in_order;
+      };
+      same = found_in_mine run.start versions run.blocks.items (k - 1) block key p c is.in_order there (place_is key p run.blocks.items k some place);
+    }

@@ -1,5 +1,5 @@
 -- What is found among versions is what a read of them sees.
-use Rattle.std.proofs.Common.{◌≡◌, ℕ, zero, suc, ◌+◌, ◌<◌, ◌≤◌, List, [], ◌∷◌, ◌++◌, ◌-◌, length, take, drop, take-append-drop, Bool, true, false, cond, refl, sym, ◌∙◌, ap, arith}
+use Rattle.std.proofs.Common.{◌≡◌, get_or, ℕ, zero, suc, ◌+◌, ◌<◌, ◌≤◌, List, [], ◌∷◌, ◌++◌, ◌-◌, length, take, drop, take-append-drop, Bool, true, false, cond, refl, sym, ◌∙◌, ap, arith}
 use Rattle.std.specs.Prelude.{◌&&◌, nat_eq, nat_lt, nat_le, ◌==◌, Option, Some, None, option_map, if◌then◌else◌}
 use Rattle.std.proofs.lemmas.Bool.Decides.{nat_tests}
 use Rattle.std.specs.Cmp.Lexicographic.{pointwise}
@@ -14,11 +14,11 @@ use Rattle.mega_runs.specs.Finding.{is_behind, behind_at, IsPlace, Found, later_
 use Rattle.mega_runs.proofs.Order.{both, same_key, key_self, before_trans, before_not_behind, position_before, position_not_before, between_key, ascends_behind, before_later}
 
 -- ---- by position
-abbrev latest_or : ℕ → Option (Option Row) → Found → Found
+abbrev pub latest_or : ℕ → Option (Option Row) → Found → Found
 latest_or p None rest = rest
 latest_or p (Some row) rest = Some (p, row)
 
-latest : (ℕ → Option (Option Row)) → ℕ → Found
+abbrev pub latest : (ℕ → Option (Option Row)) → ℕ → Found
 latest f zero = latest_or 0 (f zero) None
 latest f (suc p) = latest_or (suc p) (f (suc p)) (latest f p)
 
@@ -132,9 +132,9 @@ row_among key p lists = seen_latest (layered lists key) p ∙ ap row_found (list
 
 -- ---- among versions in order
 not_found : (b c : Bool) (found : ℕ × Option Row) → (b ≡ true → c ≡ true → ⊥) → cond (b && c) (Some found) None ≡ None
-not_found true true found no = absurd (no refl refl)
-not_found true false found no = refl
-not_found false c found no = refl
+not_found true true found never = absurd (never refl refl)
+not_found true false found never = refl
+not_found false c found never = refl
 
 one_behind : (key : List ℕ) (p : ℕ) (v : Version) → is_before (key, p) (spot_of v) ≡ true → one_found key p v ≡ None
 one_behind key p v e = not_found (pointwise nat_eq v.key key) (nat_le v.at.0 p) (v.at.0, v.row) no
@@ -204,6 +204,11 @@ found_back key p (u ∷ pre) v rest asc e =
     ∙ dominated key p u v rest (before_later u pre v rest asc) e
 
 -- ---- by place
+pub slice_at : {A : Type 0} (xs : List A) (k : ℕ) (x : A) → k < length xs → x ≡ get_or xs k x → slice_get xs k ≡ Some x
+slice_at [] k x lt e = absurd (omega arith)
+slice_at (y ∷ xs) zero x lt e = ap Some (sym e)
+slice_at (y ∷ xs) (suc k) x lt e = slice_at xs k x (omega arith) e
+
 -- an item in its list
 pub parts_at : {A : Type 0} (xs : List A) (k : ℕ) (x : A) → slice_get xs k ≡ Some x → xs ≡ take k xs ++ x ∷ drop (suc k) xs
 parts_at [] k x e = absurd (cc)
@@ -230,7 +235,8 @@ none_from key p vs k asc e = go (drop k vs) refl
 pub found_before : (key : List ℕ) (p : ℕ) (vs : List Version) (k : ℕ) (v : Version) → ascends vs ≡ true → IsPlace spot_of (key, p) vs (suc k) → slice_get vs k ≡ Some v → found_in key p vs ≡ one_found key p v
 found_before key p vs k v asc is there =
     let parts = parts_at vs k v there in
-    let not_behind : is_before (key, p) (spot_of v) ≡ false = sym (ap (λ (o : Option Version). is_behind (key, p) (option_map spot_of o)) there) ∙ is.before (omega arith) in
+    let at_k : suc k - 1 ≡ k = omega arith in
+    let not_behind : is_before (key, p) (spot_of v) ≡ false = sym (ap (λ (o : Option Version). is_behind (key, p) (option_map spot_of o)) there) ∙ ap (behind_at spot_of (key, p) vs) (sym at_k) ∙ is.before (omega arith) in
     ap (found_in key p) parts
     ∙ found_back key p (take k vs) v (drop (suc k) vs) (ap ascends (sym parts) ∙ asc) not_behind
     ∙ found_front key p (v ∷ []) (drop (suc k) vs) (none_from key p vs (suc k) asc is.behind)
@@ -244,12 +250,12 @@ found_before key p vs k v asc is there =
 pub one_of_key : (key : List ℕ) (p : ℕ) (v : Version) → is_before (key, p) (spot_of v) ≡ false → one_found key p v ≡ option_map (λ (w : Version). (w.at.0, w.row)) (if pointwise nat_eq v.key key then Some v else None)
 one_of_key key p v e = go (pointwise nat_eq v.key key) refl
   where
-    go : (b : Bool) → pointwise nat_eq v.key key ≡ b → cond (b && nat_le v.at.0 p) (Some (v.at.0, v.row)) None ≡ option_map (λ (w : Version). (w.at.0, w.row)) (cond b (Some v) None)
+    go : (b : Bool) → pointwise nat_eq v.key key ≡ b → cond {A = Found} (b && nat_le v.at.0 p) (Some (v.at.0, v.row)) None ≡ option_map (λ (w : Version). (w.at.0, w.row)) (cond b (Some v) None)
     go false same = refl
     go true same =
         let le : v.at.0 ≤ p = position_not_before key p v.at.0 (ap (λ (l : List ℕ). is_before (key, p) (l, v.at.0)) (sym (same_key v.key key same)) ∙ e) in
         let test : nat_le v.at.0 p ≡ true = grind (arith, nat_tests) in
-        ap (λ (b : Bool). cond b (Some (v.at.0, v.row)) None) test
+        ap (λ (b : Bool). cond {A = Found} b (Some (v.at.0, v.row)) None) test
 
 pub none_at_zero : (key : List ℕ) (p : ℕ) (vs : List Version) (k : ℕ) → ascends vs ≡ true → IsPlace spot_of (key, p) vs k → k ≡ 0 → found_in key p vs ≡ None
 none_at_zero key p vs k asc is zero_is = none_from key p vs 0 asc (ap (behind_at spot_of (key, p) vs) (sym zero_is) ∙ is.behind)
@@ -259,3 +265,13 @@ behind_end place spot items n is = ap (λ o. is_behind spot (option_map place o)
 
 pub before_next : {A : Type 0} (place : A → Spot) (spot : Spot) (items : List A) (n : ℕ) → behind_at place spot items n ≡ false → behind_at place spot items (n + 1 - 1) ≡ false
 before_next place spot items n e = ap (behind_at place spot items) (let s : n + 1 - 1 ≡ n = omega arith in s) ∙ e
+
+-- what the place tells
+pub found_at : (key : List ℕ) (p : ℕ) (vs : List Version) (k : ℕ) (v : Version) → ascends vs ≡ true → IsPlace spot_of (key, p) vs k → 0 < k → slice_get vs (k - 1) ≡ Some v
+    → found_in key p vs ≡ option_map (λ (w : Version). (w.at.0, w.row)) (if pointwise nat_eq v.key key then Some v else None)
+found_at key p vs zero v asc is some there = absurd (omega (arith, some))
+found_at key p vs (suc k) v asc is some there =
+    let at_k : suc k - 1 ≡ k = omega arith in
+    let here : slice_get vs k ≡ Some v = ap (slice_get vs) (sym at_k) ∙ there in
+    let not_behind : is_before (key, p) (spot_of v) ≡ false = sym (ap (λ (o : Option Version). is_behind (key, p) (option_map spot_of o)) there) ∙ is.before (omega arith) in
+    found_before key p vs k v asc is here ∙ one_of_key key p v not_behind

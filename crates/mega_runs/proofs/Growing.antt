@@ -42,6 +42,15 @@ is_body body run is = go (whole_of run_at body) refl is
             let found = whole_found run_at run_text (IsText run_text IsRun) IsRun run_codec body other e in
             subst (IsBodyOf body) same (record { spelled = found.1; fits = found.0; in_order = a })
 
+-- the bytes of the versions are no more than those of the body
+pub versions_within : (body : List ℕ) (run : Run) → IsBodyOf body run → length (versions_text run.versions) ≤ length body
+versions_within body run is =
+    let text = versions_text run.versions in
+    let marks = list_text mark_text run.marks in
+    let kind = one_byte (kind_of run.is_base) in
+    let count = number_text 4 (length run.versions) in
+    omega (arith, ap length is.spelled, length-append kind (marks ++ (count ++ text)), length-append marks (count ++ text), length-append count text)
+
 -- the versions stand at the end of the body
 pub stands_in : (file : List ℕ) (at : ℕ) (body : List ℕ) (run : Run) (start : ℕ) → IsNextBody file at body → body ≡ run_text run → start + length (versions_text run.versions) ≡ at + 9 + length body → Stands file start (versions_text run.versions)
 stands_in file at body run start next is place = record {

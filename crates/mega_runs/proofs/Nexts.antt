@@ -49,15 +49,15 @@ by_head (gate ∷ rest) head left found is long e = go (gate == 1) (nat_lt size 
     same_test : nat_lt (8 + size) (length rest) ≡ nat_lt size left
     same_test = grind (arith, nat_tests)
 
+    either : (t : Bool) → cond t (Some (take size (drop 8 rest), drop (8 + size) rest)) None ≡ front_of (gate ∷ rest) (cond t (Some size) None)
+    either true = refl
+    either false = refl
+
     go : (a b : Bool) → (gate == 1) ≡ a → nat_lt size left ≡ b → first_record (gate ∷ rest) ≡ front_of (gate ∷ rest) found
     go a b ea eb =
         ap (λ (t : Bool). cond ((gate == 1) && t) (Some (take size (drop 8 rest), drop (8 + size) rest)) None) same_test
         ∙ either ((gate == 1) && nat_lt size left)
         ∙ ap (front_of (gate ∷ rest)) (sym found_is)
-
-    either : (t : Bool) → cond t (Some (take size (drop 8 rest), drop (8 + size) rest)) None ≡ front_of (gate ∷ rest) (cond t (Some size) None)
-    either true = refl
-    either false = refl
 
 front_none : (l : List ℕ) → front_of l None ≡ None
 front_none [] = refl
@@ -65,7 +65,8 @@ front_none (gate ∷ rest) = refl
 
 pub next_none : (file head : List ℕ) (at left : ℕ) → head ≡ slice_range file at (at + 9) → length file ≡ at + 9 + left → size_in head left ≡ None → IsNext file at None
 next_none file head at left is long e =
-    by_head (drop at file) head left None (is ∙ ap (λ (n : ℕ). take n (drop at file)) (omega arith)) (omega (arith, length-drop at file, long)) e ∙ front_none (drop at file)
+    let nine : at + 9 - at ≡ 9 = omega arith in
+    by_head (drop at file) head left None (is ∙ ap (λ (n : ℕ). take n (drop at file)) nine) (omega (arith, length-drop at file, long)) e ∙ front_none (drop at file)
 
 next_in : (l head : List ℕ) (left n : ℕ) → head ≡ take 9 l → length l ≡ left + 9 → IsBytes head → size_in head left ≡ Some n → (first_record l ≡ Some (take n (drop 9 l), drop (9 + n) l)) × SpelledIn l (take n (drop 9 l)) (drop (9 + n) l)
 next_in [] head left n is long fits e = absurd (omega arith)
@@ -81,8 +82,11 @@ next_in (gate ∷ rest) head left n is long fits e =
 
 pub next_found : (file head body : List ℕ) (at left n : ℕ) → head ≡ slice_range file at (at + 9) → length file ≡ at + 9 + left → IsBytes head → size_in head left ≡ Some n → n < left → body ≡ slice_range file (at + 9) (at + 9 + n) → IsNextBody file at body
 next_found file head body at left n is long fits e room read =
-    let found = next_in (drop at file) head left n (is ∙ ap (λ (m : ℕ). take m (drop at file)) (omega arith)) (omega (arith, length-drop at file, long)) fits e in
-    let body_is : take n (drop 9 (drop at file)) ≡ body = ap (take n) (drop-drop 9 at file) ∙ ap (λ (m : ℕ). take m (drop (at + 9) file)) (omega arith) ∙ sym read in
+    let nine : at + 9 - at ≡ 9 = omega arith in
+    let many : n ≡ at + 9 + n - (at + 9) = omega arith in
+    let left_is : length (drop at file) ≡ left + 9 = omega (arith, length-drop at file, long) in
+    let found : (first_record (drop at file) ≡ Some (take n (drop 9 (drop at file)), drop (9 + n) (drop at file))) × SpelledIn (drop at file) (take n (drop 9 (drop at file))) (drop (9 + n) (drop at file)) = next_in (drop at file) head left n (is ∙ ap (λ (m : ℕ). take m (drop at file)) nine) left_is fits e in
+    let body_is : take n (drop 9 (drop at file)) ≡ body = ap (take n) (drop-drop 9 at file) ∙ ap (λ (m : ℕ). take m (drop (at + 9) file)) many ∙ sym read in
     let size : length body ≡ n = ap length (sym body_is) ∙ length-take-le n (drop 9 (drop at file)) (omega (arith, length-drop 9 (drop at file), length-drop at file, long)) in
     let rest_is : drop (9 + n) (drop at file) ≡ drop (at + 9 + length body) file = drop-drop (9 + n) at file ∙ ap (λ (m : ℕ). drop m file) (omega (arith, size)) in
     record {

@@ -1,5 +1,5 @@
 //! Reads the runs of a file, one after another, and keeps their indexes.
-ghost use Rattle.std.specs.Prelude.{◌≡◌, ◌+◌, ◌<◌, ◌≤◌, ◌^◌, ℕ, [], true, length, All, Some, None, Err, IfOk, IfSome, OnOk};
+ghost use Rattle.std.specs.Prelude.{◌≡◌, if◌then◌else◌, ◌+◌, ◌<◌, ◌≤◌, ◌^◌, ℕ, [], true, length, All, Some, None, Err, IfOk, IfSome, OnOk};
 ghost use Rattle.std.specs.Option.{option_map};
 ghost use Rattle.mega_base.specs.Causes.{Rose};
 ghost use Rattle.mega_disk.specs.Images.{Within, LeavesOnly};
@@ -45,6 +45,15 @@ fn index_of(alloc: Global, run: &Run, number: u64, end: u64) -> Result<Indexed, 
     })
 }
 
+/// Lets go of the indexes of the runs that a base makes void.
+fn forget_void(runs: &mut Vec<Indexed>, is_base: bool)
+    ensures { runs.new.items ≡ (if is_base then [] else runs.old.items) }
+{
+    if is_base {
+        runs.clear();
+    }
+}
+
 /// One run more, whose body has so many bytes.
 fn add_index(
     alloc: Global,
@@ -61,9 +70,7 @@ fn add_index(
     let end = opened.end + 9 + size as u64;
     let count = opened.count + 1;
     let index = index_of(alloc, &run, count, end)?;
-    if run.is_base {
-        opened.runs.clear();
-    }
+    forget_void(&mut opened.runs, run.is_base);
     opened.runs.insert(0, index)?;
     opened.marks = run.marks;
     opened.end = end;

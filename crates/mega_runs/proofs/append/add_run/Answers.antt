@@ -13,3 +13,8 @@ pub returns-clause-any_moment : goal.returns-clause-any_moment
 returns-clause-any_moment g c told =
     weaker_leaves g.D.Disk.moment g.D.Disk.left_since c.args.disk.now c.put_record.new.disk _ _ (c.put_record.ensures.any_moment told)
     (λ image appends. old_or_new c.args.run.now c.args.at _ (g.D.Disk.seen c.args.disk.now) image c.requires.fits c.requires.ascends (c.as_slice.ensures ∙ c.in_ok-body.ensures) appends)
+
+pub returns-in_err-put_record-clause-any_moment : goal.returns-in_err-put_record-clause-any_moment
+returns-in_err-put_record-clause-any_moment g c told =
+    weaker_leaves g.D.Disk.moment g.D.Disk.left_since c.args.disk.now c.put_record.new.disk _ _ (c.put_record.ensures.any_moment told)
+    (λ image appends. old_or_new c.args.run.now c.args.at _ (g.D.Disk.seen c.args.disk.now) image c.requires.fits c.requires.ascends (c.as_slice.ensures ∙ c.in_ok-body.ensures) appends)

@@ -3,8 +3,8 @@ use Rattle.mega_disk.specs.Images.{Within, LeavesOnly}
 use Rattle.mega_runs.proofs.Growing.{GoesOn}
 use Rattle.mega_runs.proofs.opening.read_runs.Given as goal
 
-abbrev pub invariant-loop-body : goal.invariant-loop-body
-invariant-loop-body g l = record {
+abbrev pub invariant-loop-opened : goal.invariant-loop-opened
+invariant-loop-opened g l = record {
   goes_on : g.D.Disk.is_told ≡ true → GoesOn (g.D.Disk.seen l.fn.disk) l.opened;
   few : l.opened.count ≤ l.opened.end;
   within_size : l.opened.end ≤ l.size;
@@ -14,5 +14,5 @@ invariant-loop-body g l = record {
   later : g.D.Disk.faults l.fn.disk ≤ g.D.Disk.faults l.disk;
 }
 
-abbrev pub decreases-loop-body : goal.decreases-loop-body
-decreases-loop-body g l = l.size - l.opened.end
+abbrev pub decreases-loop-opened : goal.decreases-loop-opened
+decreases-loop-opened g l = l.size - l.opened.end
