@@ -1,5 +1,5 @@
 //! Reads from a device: some bytes, and the body of the next run.
-ghost use Rattle.std.specs.Prelude.{◌≡◌, ◌+◌, ◌<◌, ◌≤◌, ◌^◌, true, length, slice_range, IfOk, IfSome, OnOk};
+ghost use Rattle.std.specs.Prelude.{◌≡◌, ◌+◌, ◌<◌, ◌≤◌, ◌^◌, ℕ, true, get_or, length, slice_range, IfOk, IfSome, OnOk};
 ghost use Rattle.std.specs.Option.{option_map};
 ghost use Rattle.mega_base.specs.Causes.{Rose};
 ghost use Rattle.mega_disk.specs.Images.{Within, LeavesOnly};
@@ -81,6 +81,7 @@ fn size_behind(head: &[u8], left: u64) -> Option<usize>
     requires { length head.now ≡ 9 }
     ensures size { result ≡ size_in head.now left }
     ensures fits { IfSome result (λ count. count < left) }
+    ensures bytes { (i : ℕ) → get_or head.now i 0 < 256 }
 {
     let size = u64::from_be_bytes([
         head[1], head[2], head[3], head[4], head[5], head[6], head[7], head[8],

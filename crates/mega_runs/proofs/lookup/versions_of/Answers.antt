@@ -1,5 +1,8 @@
-use Rattle.std.proofs.Common.{◌≡◌, ℕ, ◌+◌, ◌++◌, ◌<◌, List, length, ap, sym, ◌∙◌, Bool, true, arith, Result, Ok, Err}
+use Rattle.std.proofs.Common.{◌≡◌, ℕ, ◌+◌, ◌++◌, ◌<◌, List, length, ap, sym, subst, ◌∙◌, Bool, true, arith, Result, Ok, Err}
 use Rattle.std.specs.Prelude.{Some, None, All, if◌then◌else◌}
+use Rattle.mega_base.specs.Faults.{Gives}
+use Rattle.mega_base.specs.declared.fault.FieldFault.{FieldFault}
+use Rattle.mega_base.specs.declared.fault.FieldFault.TheVariants.{Malformed}
 use Rattle.mega_base.specs.Codec.{number_text, IsList}
 use Rattle.mega_runs.specs.declared.body.Version.{Version}
 use Rattle.mega_runs.specs.declared.body.VersionList.{VersionList}
@@ -16,6 +19,9 @@ ok_is x y e = cc
 not_err : {X : Type 0} (x : VersionList) (at : ℕ) → ◌≡◌ {A = Result VersionList ℕ} (Ok x) (Err at) → X
 not_err x at e = absurd (cc)
 
+not_gives : {X : Type 0} (x : VersionList) (e : FieldFault) (at : ℕ) → e ≡ Malformed at → Gives {A = VersionList} (Err e) (Ok x) → X
+not_gives x e at is g = not_err x at (subst (λ (f : FieldFault). Gives {A = VersionList} (Err f) (Ok x)) is g)
+
 few : (versions : List Version) (count : ℕ) → All IsVersion versions → count < 4294967296 → count ≡ length versions → IsList 0 most_items IsVersion versions
 few versions count fits small is = record { each = fits; least = omega arith; most = omega (arith, small, is) }
 
@@ -30,5 +36,5 @@ returns-in-Ok-clause-value c versions fits asc count text =
 
 pub returns-in-Err-Malformed-clause-value : goal.returns-in-Err-Malformed-clause-value
 returns-in-Err-Malformed-clause-value c versions fits asc count text =
-    not_err (list_of versions) _ (c.in-Err-Malformed.ensures.only (list_of versions) (few versions c.args.count fits c.ranges.count.fits count)
+    not_gives (list_of versions) c.in-Err-Malformed.field-0 c.in-Err-Malformed.field-0-0 c.in-Err-Malformed.field-0-is (c.in-Err-Malformed.ensures.only (list_of versions) (few versions c.args.count fits c.ranges.count.fits count)
     (c.as_slice.ensures ∙ c.in_ok-text.ensures ∙ (λ i. number_text 4 (count i) ++ text i)))
