@@ -2,7 +2,7 @@
 use Rattle.std.proofs.Common.{◌≡◌, ℕ, zero, suc, ◌+◌, ◌-◌, ◌<◌, ◌≤◌, List, [], ◌∷◌, ◌++◌, length, take, drop, refl, sym, ◌∙◌, ap, subst, arith, append_assoc, length-append, take-append-drop, length-take-le}
 use Rattle.std.specs.Prelude.{Option, Some, None, option_map, min, Bool, true, false, ◌&&◌, slice_range, All}
 use Rattle.std.specs.List.{slice_get, flat_map}
-use Rattle.std.proofs.lemmas.List.{append-nil, drop-drop, take_at, drop_at}
+use Rattle.std.proofs.lemmas.List.{append-nil, nil_from_length, drop-drop, take_at, drop_at}
 use Rattle.std.proofs.lemmas.List.Elements.{All-take, All-drop}
 use Rattle.std.proofs.lemmas.Grind.{flat_map-append}
 use Rattle.mega_runs.specs.declared.body.Version.{Version}
@@ -60,7 +60,7 @@ indexing_more start versions blocks at rest n block others few so_far is pushed 
     ))
 
 pub indexing_ends : (start : ℕ) (versions : List Version) (blocks : List Block) (at : ℕ) (rest : List Version) → Indexing start versions blocks at rest → rest ≡ [] → AreBlocks start versions blocks
-indexing_ends start versions blocks at rest so_far none = subst (AreBlocks start versions) (append-nil blocks) (so_far [] none)
+indexing_ends start versions blocks at rest so_far none = subst (AreBlocks start versions) (append-nil blocks) (so_far [] (ap length none))
 
 pub text_parts : (n : ℕ) (versions : List Version) → length (versions_text (take n versions)) + length (versions_text (drop n versions)) ≡ length (versions_text versions)
 text_parts n versions =
@@ -81,7 +81,7 @@ head_taken [] = refl
 head_taken (v ∷ l) = refl
 
 heads : (start : ℕ) (versions : List Version) (blocks : List Block) → AreBlocks start versions blocks → option_map spot_of (slice_get versions 0) ≡ option_map spot_of_block (slice_get blocks 0)
-heads start versions [] are = ap (λ (l : List Version). option_map spot_of (slice_get l 0)) are
+heads start versions [] are = ap (λ (l : List Version). option_map spot_of (slice_get l 0)) (nil_from_length versions are)
 heads start versions (block ∷ blocks) are = ap (option_map spot_of) (sym (head_taken versions)) ∙ sym are.0.first_is
 
 pub chosen : (start : ℕ) (versions : List Version) (blocks : List Block) (j : ℕ) (block : Block) → AreBlocks start versions blocks → slice_get blocks j ≡ Some block → Chosen start versions blocks j block
@@ -210,24 +210,24 @@ nonzero (suc k) some = omega arith
 place_is : (key : List ℕ) (p : ℕ) (blocks : List Block) (k : ℕ) → (k ≡ 0 → ⊥) → IsPlace spot_of_block (key, p) blocks k → IsPlace spot_of_block (key, p) blocks (suc (k - 1))
 place_is key p blocks k some place = subst (IsPlace spot_of_block (key, p) blocks) (nonzero k some) place
 
-pub block_within : (file : List ℕ) (versions : List Version) (run : Indexed) (j : ℕ) (block : Block) → IsIndexed file versions run → slice_get run.blocks.items j ≡ Some block → block.start + block.size ≤ length file
-block_within file versions run j block is there = (mine_stands file run.start versions run.blocks.items j block (chosen run.start versions run.blocks.items j block is.blocks there) is.stands).0
+pub block_within : (file : List ℕ) (end : ℕ) (versions : List Version) (run : Indexed) (j : ℕ) (block : Block) → IsIndexed file end versions run → slice_get run.blocks.items j ≡ Some block → block.start + block.size ≤ length file
+block_within file end versions run j block is there = (mine_stands file run.start versions run.blocks.items j block (chosen run.start versions run.blocks.items j block is.placed.blocks there) is.placed.stands).0
 
 pub record BlockOf (file : List ℕ) (versions : List Version) (key : List ℕ) (p : ℕ) (block : Block) : Type 0 where
   pub mine : List Version
   pub has : HasBlock file mine block
   pub same : found_in key p versions ≡ found_in key p mine
 
-pub block_of : (file : List ℕ) (versions : List Version) (run : Indexed) (key : List ℕ) (p k : ℕ) (block : Block) → IsIndexed file versions run → slice_get run.blocks.items (k - 1) ≡ Some block → (k ≡ 0 → ⊥) → IsPlace spot_of_block (key, p) run.blocks.items k → BlockOf file versions key p block
-block_of file versions run key p k block is there some place =
-    let c = chosen run.start versions run.blocks.items (k - 1) block is.blocks there in
+pub block_of : (file : List ℕ) (end : ℕ) (versions : List Version) (run : Indexed) (key : List ℕ) (p k : ℕ) (block : Block) → IsIndexed file end versions run → slice_get run.blocks.items (k - 1) ≡ Some block → (k ≡ 0 → ⊥) → IsPlace spot_of_block (key, p) run.blocks.items k → BlockOf file versions key p block
+block_of file end versions run key p k block is there some place =
+    let c = chosen run.start versions run.blocks.items (k - 1) block is.placed.blocks there in
     record {
       mine = c.mine;
       has = record {
         count_is = c.is_block.count_is;
-        text_is = (mine_stands file run.start versions run.blocks.items (k - 1) block c is.stands).1;
-        fits = mine_fits run.start versions run.blocks.items (k - 1) block c is.fits;
-        in_order = mine_ascends run.start versions run.blocks.items (k - 1) block c is.in_order;
+        text_is = (mine_stands file run.start versions run.blocks.items (k - 1) block c is.placed.stands).1;
+        fits = mine_fits run.start versions run.blocks.items (k - 1) block c is.orderly.fits;
+        in_order = mine_ascends run.start versions run.blocks.items (k - 1) block c is.orderly.in_order;
       };
-      same = found_in_mine run.start versions run.blocks.items (k - 1) block key p c is.in_order there (place_is key p run.blocks.items k some place);
+      same = found_in_mine run.start versions run.blocks.items (k - 1) block key p c is.orderly.in_order there (place_is key p run.blocks.items k some place);
     }

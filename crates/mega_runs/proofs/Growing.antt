@@ -14,7 +14,7 @@ use Rattle.mega_runs.specs.Bodies.{kind_of, mark_text, version_text, run_at, run
 use Rattle.mega_runs.specs.BodyLaws.{run_codec}
 use Rattle.mega_runs.specs.Chain.{record_of, chain_of, first_record, records_of}
 use Rattle.mega_runs.specs.declared.opening.Opened.{Opened}
-use Rattle.mega_runs.specs.Index.{versions_text, Stands, IsIndexed, AreIndexed, Indices, Indexes, IsGrown, IsReadTo}
+use Rattle.mega_runs.specs.Index.{versions_text, Stands, IsPlaced, ArePlaced, Indices, Indexes, IsGrown, IsReadTo}
 use Rattle.mega_runs.specs.Opening.{IsNextBody, bad_or, first_bad}
 use Rattle.mega_runs.specs.Reads.{Held, with_run, with_found, held_by, nothing, held_in, mark_in}
 use Rattle.mega_runs.proofs.Chains.{Reading, begun, chain_push, short_push, ends}
@@ -91,27 +91,36 @@ stands_in file at body run start next is place = record {
     front_long : length front + length text ≡ 9 + length body
     front_long = omega (arith, ap length body_is, length-append before text, length-append (to_be_bytes w64 (length body)) before, eight)
 
+-- a place behind will do too
+pub placed_before : (file : List ℕ) (end later : ℕ) (runs : List Indexed) (lists : List (List Version)) → end ≤ later → ArePlaced file end runs lists → ArePlaced file later runs lists
+placed_before file end later [] [] le are = tt
+placed_before file end later [] (versions ∷ lists) le are = absurd are
+placed_before file end later (run ∷ runs) [] le are = absurd are
+placed_before file end later (run ∷ runs) (versions ∷ lists) le are =
+    (record { blocks = are.0.blocks; stands = are.0.stands; size_is = are.0.size_is; count_is = are.0.count_is; before = omega (arith, are.0.before, le) }, placed_before file end later runs lists le are.1)
+
 -- one run more
 pub indexed_more : (file : List ℕ) (at : ℕ) (body : List ℕ) (run : Run) (number : ℕ) (held : Held) (marks : List Mark) (runs others : List Indexed) (index : Indexed) → IsNextBody file at body → body_of body ≡ Some run
-    → Indices run number (at + 9 + length body) index → others ≡ index ∷ (if run.is_base then [] else runs) → Indexes file held marks runs → Indexes file (with_run run held) run.marks others
+    → Indices run number (at + 9 + length body) index → others ≡ index ∷ (if run.is_base then [] else runs) → Indexes file at held marks runs → Indexes file (at + 9 + length body) (with_run run held) run.marks others
 indexed_more file at body run number held marks runs others index next is indices pushed before =
     let b = is_body body run is in
-    let one : IsIndexed file run.versions index = record { blocks = indices.blocks; stands = stands_in file at body run index.start next b.spelled indices.start_is; fits = b.fits.1.each; in_order = b.in_order } in
+    let end = at + 9 + length body in
+    let one : IsPlaced file end run.versions index = record { blocks = indices.blocks; stands = stands_in file at body run index.start next b.spelled indices.start_is; size_is = indices.size_is; count_is = indices.count_is; before = omega (arith, indices.start_is, indices.size_is) } in
     record {
       marks_are = refl;
-      runs_are = subst (λ (l : List Indexed). AreIndexed file l (with_run run held).lists) (sym pushed) (one, others_are run.is_base);
+      runs_are = subst (λ (l : List Indexed). ArePlaced file end l (with_run run held).lists) (sym pushed) (one, others_are run.is_base);
     }
   where
-    others_are : (b : Bool) → AreIndexed file (cond b [] runs) (cond b [] held.lists)
-    others_are true = refl
-    others_are false = before.runs_are
+    others_are : (b : Bool) → ArePlaced file (at + 9 + length body) (cond b [] runs) (cond b [] held.lists)
+    others_are true = tt
+    others_are false = placed_before file at (at + 9 + length body) runs held.lists (omega arith) before.runs_are
 
 -- ---- the runs read so far
 pub record GoesOn (file : List ℕ) (opened : Opened) : Type 0 where
   pub bodies : List (List ℕ)
   pub reading : Reading file bodies (drop opened.end file)
   pub place : opened.end ≡ length (chain_of bodies)
-  pub held : Indexes file (held_by bodies nothing) opened.marks opened.runs.items
+  pub held : Indexes file opened.end (held_by bodies nothing) opened.marks opened.runs.items
   pub few : opened.count ≤ opened.end
   pub bad : first_bad 1 (records_of file) ≡ first_bad (opened.count + 1) (records_of (drop opened.end file))
 
@@ -120,7 +129,7 @@ goes_on_begun file opened end count marks runs = record {
   bodies = [];
   reading = subst (Reading file []) (ap (λ (n : ℕ). drop n file) (sym end)) (begun file);
   place = end;
-  held = record { marks_are = ap (map mark_in) marks; runs_are = subst (λ (l : List Indexed). AreIndexed file l []) (sym runs) refl };
+  held = record { marks_are = ap (map mark_in) marks; runs_are = subst (λ (l : List Indexed). ArePlaced file opened.end l []) (sym runs) tt };
   few = omega arith;
   bad = λ i. first_bad (sym count i + 1) (records_of (drop (sym end i) file));
 }
@@ -139,7 +148,7 @@ goes_on_more file old new body run so_far next is grown = record {
   reading = subst (Reading file (so_far.bodies ++ body ∷ [])) after_is (reading_more file so_far.bodies (drop old.end file) body after so_far.reading next.first next.spelled next.short (omega (arith, length-drop (old.end + 9 + length body) file, next.behind)));
   place = grown.end_is ∙ omega (arith, so_far.place, ap length (chain_push so_far.bodies body), length-append (chain_of so_far.bodies) (record_of body), length-append (to_be_bytes w64 (length body)) body, eight);
   held =
-      coe 0 1 (i. Indexes file (held_is i) (sym grown.marks_are i) new.runs.items)
+      coe 0 1 (i. Indexes file (sym grown.end_is i) (held_is i) (sym grown.marks_are i) new.runs.items)
       (indexed_more file old.end body run new.count (held_by so_far.bodies nothing) old.marks old.runs.items new.runs.items grown.index next is (subst (λ (n : ℕ). Indices run new.count n grown.index) grown.end_is grown.indices) grown.runs_are so_far.held);
   few = omega (arith, so_far.few, grown.count_is, grown.end_is);
   bad =
@@ -181,6 +190,6 @@ goes_on_ends file opened so_far none =
         short = e.short;
         behind = λ some. let more = so_far.reading.behind some in omega (arith, more, length-drop opened.end file);
       };
-      index = subst (λ (l : List (List ℕ)). Indexes file (held_by l nothing) opened.marks opened.runs.items) e.records_are so_far.held;
+      index = subst (λ (l : List (List ℕ)). Indexes file opened.end (held_by l nothing) opened.marks opened.runs.items) e.records_are so_far.held;
       good = so_far.bad ∙ ap (first_bad (opened.count + 1)) (records_none (drop opened.end file) none);
     }

@@ -29,7 +29,7 @@ pub record IsBlock (start : ℕ) (versions : List Version) (block : Block) : Typ
 
 -- blocks of sixteen versions, the last one of what is left
 abbrev pub AreBlocks : ℕ → List Version → List Block → Type 0
-AreBlocks start versions [] = versions ≡ []
+AreBlocks start versions [] = length versions ≡ 0
 AreBlocks start versions (block ∷ blocks) = IsBlock start (take 16 versions) block × AreBlocks (start + block.size) (drop 16 versions) blocks
 
 -- the bytes stand in the file from a place on
@@ -37,16 +37,26 @@ pub record Stands (file : List ℕ) (start : ℕ) (text : List ℕ) : Type 0 whe
   pub within : start + length text ≤ length file
   pub text_is : slice_range file start (start + length text) ≡ text
 
--- the index of these versions, in order, which stand in the file
-pub record IsIndexed (file : List ℕ) (versions : List Version) (run : Indexed) : Type 0 where
+-- the index of these versions, which stand in the file and end before a place
+pub record IsPlaced (file : List ℕ) (end : ℕ) (versions : List Version) (run : Indexed) : Type 0 where
   pub blocks : AreBlocks run.start versions run.blocks.items
   pub stands : Stands file run.start (versions_text versions)
+  pub size_is : run.size ≡ length (versions_text versions)
+  pub count_is : run.count ≡ length versions
+  pub before : run.start + run.size ≤ end
+
+-- versions that can be written, in order
+pub record IsOrderly (versions : List Version) : Type 0 where
   pub fits : All IsVersion versions
   pub in_order : ascends versions ≡ true
 
+pub record IsIndexed (file : List ℕ) (end : ℕ) (versions : List Version) (run : Indexed) : Type 0 where
+  pub placed : IsPlaced file end versions run
+  pub orderly : IsOrderly versions
+
 -- it is the index of some versions
-abbrev pub has_index : List ℕ → Indexed → Type 0
-has_index file run = (versions : List Version) × IsIndexed file versions run
+abbrev pub has_index : List ℕ → ℕ → Indexed → Type 0
+has_index file end run = (versions : List Version) × IsIndexed file end versions run
 
 -- the versions of a block stand in the file, in order
 pub record HasBlock (file : List ℕ) (versions : List Version) (block : Block) : Type 0 where
@@ -56,20 +66,23 @@ pub record HasBlock (file : List ℕ) (versions : List Version) (block : Block) 
   pub in_order : ascends versions ≡ true
 
 -- the indexes of these lists, one each
-abbrev pub AreIndexed : List ℕ → List Indexed → List (List Version) → Type 0
-AreIndexed file [] lists = lists ≡ []
-AreIndexed file (run ∷ runs) [] = ⊥
-AreIndexed file (run ∷ runs) (versions ∷ lists) = IsIndexed file versions run × AreIndexed file runs lists
+abbrev pub ArePlaced : List ℕ → ℕ → List Indexed → List (List Version) → Type 0
+ArePlaced file end [] [] = Unit {0}
+ArePlaced file end [] (versions ∷ lists) = ⊥
+ArePlaced file end (run ∷ runs) [] = ⊥
+ArePlaced file end (run ∷ runs) (versions ∷ lists) = IsPlaced file end versions run × ArePlaced file end runs lists
 
--- what is kept in memory of what a file holds
-pub record Indexes (file : List ℕ) (held : Held) (marks : List Mark) (runs : List Indexed) : Type 0 where
+-- what is kept in memory of what a file holds up to a place
+pub record Indexes (file : List ℕ) (end : ℕ) (held : Held) (marks : List Mark) (runs : List Indexed) : Type 0 where
   pub marks_are : map mark_in marks ≡ held.marks
-  pub runs_are : AreIndexed file runs held.lists
+  pub runs_are : ArePlaced file end runs held.lists
 
 -- the index of a run of this number, whose body ends at a place
 pub record Indices (run : Run) (number end : ℕ) (indexed : Indexed) : Type 0 where
   pub number_is : indexed.number ≡ number
   pub start_is : indexed.start + length (versions_text run.versions) ≡ end
+  pub size_is : indexed.size ≡ length (versions_text run.versions)
+  pub count_is : indexed.count ≡ length run.versions
   pub blocks : AreBlocks indexed.start run.versions indexed.blocks.items
 
 -- one run more, whose body has so many bytes
@@ -84,5 +97,5 @@ pub record IsGrown (old : Opened) (run : Run) (size : ℕ) (new : Opened) : Type
 -- a file was read up to its last gate, and each of its bodies is a run
 pub record IsReadTo (file : List ℕ) (opened : Opened) : Type 0 where
   pub read : IsRead file opened.end
-  pub index : Indexes file (held_in file) opened.marks opened.runs.items
+  pub index : Indexes file opened.end (held_in file) opened.marks opened.runs.items
   pub good : first_bad 1 (records_of file) ≡ None

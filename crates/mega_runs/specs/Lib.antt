@@ -5,6 +5,7 @@ pub mod Examples
 pub mod Finding
 pub mod Index
 pub mod Opening
+pub mod Placed
 pub mod Reads
 pub mod Rest
 pub mod Spilling

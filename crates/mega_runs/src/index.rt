@@ -30,11 +30,13 @@ impl Placed for Block {
     }
 }
 
-/// The index of a run: its number in the file, the place at which its versions begin, and its blocks.
+/// The index of a run: its number in the file, the place, size and count of its versions, and its blocks.
 #[derive(Drop)]
 pub(crate) struct Indexed {
     pub number: u64,
     pub start: u64,
+    pub size: u64,
+    pub count: u32,
     pub blocks: Vec<Block>,
 }
 

@@ -30,8 +30,8 @@ pub(crate) fn found_in_run<D: Disk>(
     key: &Bytes,
     at: Position,
 ) -> Result<Seen, StoreError>
-    requires indexed { D.is_told ≡ true → has_index (D.seen disk.old) run.now }
-    ensures value { D.is_told ≡ true → (versions : List SomeVersion) → IsIndexed (D.seen disk.old) versions run.now → IfOk result (λ seen. seen ≡ found_in key.now at.0 versions) }
+    requires indexed { D.is_told ≡ true → (end : ℕ) × has_index (D.seen disk.old) end run.now }
+    ensures value { D.is_told ≡ true → (end : ℕ) (versions : List SomeVersion) → IsIndexed (D.seen disk.old) end versions run.now → IfOk result (λ seen. seen ≡ found_in key.now at.0 versions) }
     ensures never_bad { D.is_told ≡ true → (n : ℕ) → result ≡ Err (StoreError.BadRecord n) → ⊥ }
     ensures never_full { (n : ℕ) → result ≡ Err (StoreError.Full n) → ⊥ }
     ensures seen { OnOk result (D.seen disk.new ≡ D.seen disk.old) }

@@ -3,6 +3,7 @@ ghost use Rattle.std.specs.Prelude.{◌≡◌, if◌then◌else◌, ◌+◌, ◌
 ghost use Rattle.std.specs.Option.{option_map};
 ghost use Rattle.mega_base.specs.Causes.{Rose};
 ghost use Rattle.mega_disk.specs.Images.{Within, LeavesOnly};
+ghost use Rattle.mega_disk.specs.Fuse.{LowersBy, MayBurn, Burns};
 ghost use Rattle.mega_runs.specs.declared.body.Run.{Run as SomeRun};
 ghost use Rattle.mega_runs.specs.Bodies.{IsVersion, body_of};
 ghost use Rattle.mega_runs.specs.Chain.{records_of};
@@ -31,6 +32,7 @@ pub(crate) struct Opened {
 /// The index of a run whose body ends at a place.
 fn index_of(alloc: Global, run: &Run, number: u64, end: u64) -> Result<Indexed, NoMemory>
     requires fits { All IsVersion run.now.versions }
+    requires few { length run.now.versions < 2 ^ 32 }
     requires room { length (versions_text run.now.versions) ≤ end }
     requires small { end < 2 ^ 64 }
     ensures { IfOk result (Indices run.now number end) }
@@ -41,6 +43,8 @@ fn index_of(alloc: Global, run: &Run, number: u64, end: u64) -> Result<Indexed, 
     Ok(Indexed {
         number,
         start,
+        size,
+        count: run.versions.len() as u32,
         blocks,
     })
 }
@@ -62,6 +66,7 @@ fn add_index(
     size: usize,
 ) -> Result<(), NoMemory>
     requires fits { All IsVersion run.versions }
+    requires short { length run.versions < 2 ^ 32 }
     requires room { length (versions_text run.versions) ≤ size }
     requires small { opened.old.end + 9 + size < 2 ^ 64 }
     requires few { opened.old.count ≤ opened.old.end }
@@ -117,6 +122,10 @@ fn next_of<D: Disk>(
     ensures any_moment { LeavesOnly D.moment D.left_since disk.old disk.new (D.may_leave disk.old) }
     ensures cause { result ≡ Err StoreError.DiskFault → Rose (D.faults disk.old) (D.faults disk.new) }
     ensures later { D.faults disk.old ≤ D.faults disk.new }
+    ensures lowers { OnOk result (LowersBy 0 (D.fuse_left disk.old) (D.fuse_left disk.new)) }
+    ensures may_burn { MayBurn (D.fuse_left disk.old) (D.fuse_left disk.new) }
+    ensures burns { D.fails_by_fuse disk.old ≡ true → result ≡ Err StoreError.DiskFault → Burns (D.fuse_left disk.old) (D.fuse_left disk.new) }
+    ensures by_fuse { D.fails_by_fuse disk.old ≡ true → D.fails_by_fuse disk.new ≡ true }
 {
     match next_body(alloc, disk, at, size) {
         Ok(found) => Ok(found),
@@ -139,6 +148,10 @@ pub(crate) fn read_runs<D: Disk>(
     ensures any_moment { LeavesOnly D.moment D.left_since disk.old disk.new (D.may_leave disk.old) }
     ensures cause { result ≡ Err StoreError.DiskFault → Rose (D.faults disk.old) (D.faults disk.new) }
     ensures later { D.faults disk.old ≤ D.faults disk.new }
+    ensures lowers { OnOk result (LowersBy 0 (D.fuse_left disk.old) (D.fuse_left disk.new)) }
+    ensures may_burn { MayBurn (D.fuse_left disk.old) (D.fuse_left disk.new) }
+    ensures burns { D.fails_by_fuse disk.old ≡ true → result ≡ Err StoreError.DiskFault → Burns (D.fuse_left disk.old) (D.fuse_left disk.new) }
+    ensures by_fuse { D.fails_by_fuse disk.old ≡ true → D.fails_by_fuse disk.new ≡ true }
 {
     let mut opened = none_opened(alloc);
     while let Some(body) = next_of(alloc, disk, opened.end, size)? {

@@ -1,4 +1,4 @@
-use Rattle.std.proofs.Common.{sym, ◌∙◌}
+use Rattle.std.proofs.Common.{sym, ◌∙◌, arith}
 use Rattle.mega_runs.proofs.Growing.{is_body, versions_within}
 use Rattle.mega_runs.proofs.opening.add_body.Goals as goal
 
@@ -7,3 +7,6 @@ add_index-requires-clause-fits c = (is_body c.args.body.now c.in-Ok-Some.run' (s
 
 pub add_index-requires-clause-room : goal.add_index-requires-clause-room
 add_index-requires-clause-room c = versions_within c.args.body.now c.in-Ok-Some.run' (is_body c.args.body.now c.in-Ok-Some.run' (sym c.in-Ok-Some.ensures ∙ c.in-Ok-Some.field-0-is))
+
+pub add_index-requires-clause-short : goal.add_index-requires-clause-short
+add_index-requires-clause-short c = omega (arith, (is_body c.args.body.now c.in-Ok-Some.run' (sym c.in-Ok-Some.ensures ∙ c.in-Ok-Some.field-0-is)).fits.1.most)

@@ -53,6 +53,8 @@ loop-opened-preserved g c =
       within = λ image left. i.within image (c.next_of.ensures.within image left);
       moments = then_leaves g.D.Disk.moment g.D.Disk.left_since c.args.disk.now c.loop-opened.disk c.next_of.new.disk _ _ (g.D.Disk.may_leave c.args.disk.now) i.moments c.next_of.ensures.any_moment (λ image left. left) (λ image left. i.within image left);
       later = omega (arith, i.later, c.next_of.ensures.later);
+      lowers = search rules;
+      by_fuse = search rules;
     }
 
 pub returns-clause-read : goal.returns-clause-read
