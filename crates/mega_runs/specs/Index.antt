@@ -1,6 +1,6 @@
 -- What is kept in memory of a run on the device: the key and position of one in sixteen of its versions.
 use Rattle.std.specs.Prelude.{◌≡◌, ◌≤◌, ◌+◌, ℕ, List, [], ◌∷◌, length, take, drop, slice_range, Option, Some, None, option_map, true, if◌then◌else◌, map, All}
-use Rattle.std.specs.List.{flat_map, slice_get}
+use Rattle.std.specs.List.{flat_map, slice_get, AllByRecursion}
 use Rattle.mega_runs.specs.declared.body.Version.{Version}
 use Rattle.mega_runs.specs.declared.index.Block.{Block}
 use Rattle.mega_runs.specs.declared.index.Indexed.{Indexed}
@@ -99,3 +99,12 @@ pub record IsReadTo (file : List ℕ) (opened : Opened) : Type 0 where
   pub read : IsRead file opened.end
   pub index : Indexes file opened.end (held_in file) opened.marks opened.runs.items
   pub good : first_bad 1 (records_of file) ≡ None
+
+-- the indexes of these lists, each of versions in order
+pub record AreIndexed (file : List ℕ) (end : ℕ) (runs : List Indexed) (lists : List (List Version)) : Type 0 where
+  pub placed : ArePlaced file end runs lists
+  pub orderly : AllByRecursion IsOrderly lists
+
+-- they are the indexes of some lists
+abbrev pub have_index : List ℕ → List Indexed → Type 0
+have_index file runs = (end : ℕ) × (lists : List (List Version)) × AreIndexed file end runs lists

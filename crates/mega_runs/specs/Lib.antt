@@ -4,6 +4,7 @@ pub mod Chain
 pub mod Examples
 pub mod Finding
 pub mod Index
+pub mod Merging
 pub mod Opening
 pub mod Placed
 pub mod Reads

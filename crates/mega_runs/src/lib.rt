@@ -1,6 +1,7 @@
 //! Versions of rows that need not fit in memory: the newest in memory, the others on a device, in runs that are sorted.
 #![tactic(auto)]
 
+mod among;
 mod append;
 mod body;
 mod coding;
@@ -9,6 +10,7 @@ mod examples;
 mod index;
 mod laws;
 mod lookup;
+mod merging;
 mod opening;
 mod reading;
 mod search;

@@ -39,6 +39,7 @@ pub(crate) fn found_in_run<D: Disk>(
     ensures any_moment { LeavesOnly D.moment D.left_since disk.old disk.new (D.may_leave disk.old) }
     ensures cause { result ≡ Err StoreError.DiskFault → Rose (D.faults disk.old) (D.faults disk.new) }
     ensures later { D.faults disk.old ≤ D.faults disk.new }
+    ensures lowers { OnOk result (LowersBy 0 (D.fuse_left disk.old) (D.fuse_left disk.new)) }
     ensures may_burn { MayBurn (D.fuse_left disk.old) (D.fuse_left disk.new) }
     ensures burns { D.fails_by_fuse disk.old ≡ true → result ≡ Err StoreError.DiskFault → Burns (D.fuse_left disk.old) (D.fuse_left disk.new) }
     ensures by_fuse { D.fails_by_fuse disk.old ≡ true → D.fails_by_fuse disk.new ≡ true }
@@ -72,6 +73,7 @@ fn found_in_block<D: Disk>(
     ensures any_moment { LeavesOnly D.moment D.left_since disk.old disk.new (D.may_leave disk.old) }
     ensures cause { result ≡ Err StoreError.DiskFault → Rose (D.faults disk.old) (D.faults disk.new) }
     ensures later { D.faults disk.old ≤ D.faults disk.new }
+    ensures lowers { OnOk result (LowersBy 0 (D.fuse_left disk.old) (D.fuse_left disk.new)) }
     ensures may_burn { MayBurn (D.fuse_left disk.old) (D.fuse_left disk.new) }
     ensures burns { D.fails_by_fuse disk.old ≡ true → result ≡ Err StoreError.DiskFault → Burns (D.fuse_left disk.old) (D.fuse_left disk.new) }
     ensures by_fuse { D.fails_by_fuse disk.old ≡ true → D.fails_by_fuse disk.new ≡ true }
@@ -83,6 +85,37 @@ fn found_in_block<D: Disk>(
     match versions_of(alloc, bytes.as_slice(), block.count) {
         Ok(Some(versions)) => copy_of(alloc, found(versions.as_slice(), key, at)),
         Ok(None) => Err(StoreError::BadRecord { number }),
+        Err(NoMemory) => Err(StoreError::NoMemory),
+    }
+}
+
+/// The versions of the run.
+pub(crate) fn versions_of_run<D: Disk>(
+    alloc: Global,
+    disk: &mut D,
+    run: &Indexed,
+) -> Result<Items<Version>, StoreError>
+    requires indexed { D.is_told ≡ true → (end : ℕ) × has_index (D.seen disk.old) end run.now }
+    ensures value { D.is_told ≡ true → (end : ℕ) (versions : List SomeVersion) → IsIndexed (D.seen disk.old) end versions run.now → IfOk result (λ found. found ≡ versions) }
+    ensures never_bad { D.is_told ≡ true → (n : ℕ) → result ≡ Err (StoreError.BadRecord n) → ⊥ }
+    ensures never_full { (n : ℕ) → result ≡ Err (StoreError.Full n) → ⊥ }
+    ensures seen { OnOk result (D.seen disk.new ≡ D.seen disk.old) }
+    ensures within { Within (D.may_leave disk.old) (D.may_leave disk.new) }
+    ensures any_moment { LeavesOnly D.moment D.left_since disk.old disk.new (D.may_leave disk.old) }
+    ensures cause { result ≡ Err StoreError.DiskFault → Rose (D.faults disk.old) (D.faults disk.new) }
+    ensures later { D.faults disk.old ≤ D.faults disk.new }
+    ensures lowers { OnOk result (LowersBy 0 (D.fuse_left disk.old) (D.fuse_left disk.new)) }
+    ensures may_burn { MayBurn (D.fuse_left disk.old) (D.fuse_left disk.new) }
+    ensures burns { D.fails_by_fuse disk.old ≡ true → result ≡ Err StoreError.DiskFault → Burns (D.fuse_left disk.old) (D.fuse_left disk.new) }
+    ensures by_fuse { D.fails_by_fuse disk.old ≡ true → D.fails_by_fuse disk.new ≡ true }
+{
+    let bytes = match read_bytes(alloc, disk, run.start, run.size as usize) {
+        Ok(bytes) => bytes,
+        Err(error) => return Err(refusal(error)),
+    };
+    match versions_of(alloc, bytes.as_slice(), run.count) {
+        Ok(Some(versions)) => Ok(versions),
+        Ok(None) => Err(StoreError::BadRecord { number: run.number }),
         Err(NoMemory) => Err(StoreError::NoMemory),
     }
 }
