@@ -2,6 +2,7 @@ mod Blocks
 mod Chains
 mod Found
 mod Growing
+mod Listed
 mod Mixing
 mod Nexts
 mod Order

@@ -7,8 +7,8 @@ use Rattle.mega_runs.specs.Merging.{all_merged}
 use Rattle.mega_runs.specs.Index.{AreIndexed}
 use Rattle.mega_runs.proofs.among.all_versions.Given as goal
 
-abbrev pub invariant-loop-all : goal.invariant-loop-all
-invariant-loop-all g l = record {
+abbrev pub invariant-loop-left : goal.invariant-loop-left
+invariant-loop-left g l = record {
   within_runs : l.left ≤ length l.runs;
   found : g.D.Disk.is_told ≡ true → (end : ℕ) (lists : List (List Version)) → AreIndexed (g.D.Disk.seen l.fn.disk) end l.runs lists → l.all.items ≡ all_merged (drop l.left lists);
   in_order : ascends l.all.items ≡ true;
@@ -20,5 +20,5 @@ invariant-loop-all g l = record {
   by_fuse : g.D.Disk.fails_by_fuse l.fn.disk ≡ true → g.D.Disk.fails_by_fuse l.disk ≡ true;
 }
 
-abbrev pub decreases-loop-all : goal.decreases-loop-all
-decreases-loop-all g l = l.left
+abbrev pub decreases-loop-left : goal.decreases-loop-left
+decreases-loop-left g l = l.left

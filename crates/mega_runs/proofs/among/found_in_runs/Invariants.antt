@@ -6,8 +6,8 @@ use Rattle.mega_runs.specs.Finding.{found_among}
 use Rattle.mega_runs.specs.Index.{AreIndexed}
 use Rattle.mega_runs.proofs.among.found_in_runs.Given as goal
 
-abbrev pub invariant-loop-seen : goal.invariant-loop-seen
-invariant-loop-seen g l = record {
+abbrev pub invariant-loop-left : goal.invariant-loop-left
+invariant-loop-left g l = record {
   within_runs : l.left ≤ length l.runs;
   found : g.D.Disk.is_told ≡ true → (end : ℕ) (lists : List (List Version)) → AreIndexed (g.D.Disk.seen l.fn.disk) end l.runs lists → l.seen ≡ found_among l.key l.at.0 (drop l.left lists);
   same : g.D.Disk.seen l.disk ≡ g.D.Disk.seen l.fn.disk;
@@ -18,5 +18,5 @@ invariant-loop-seen g l = record {
   by_fuse : g.D.Disk.fails_by_fuse l.fn.disk ≡ true → g.D.Disk.fails_by_fuse l.disk ≡ true;
 }
 
-abbrev pub decreases-loop-seen : goal.decreases-loop-seen
-decreases-loop-seen g l = l.left
+abbrev pub decreases-loop-left : goal.decreases-loop-left
+decreases-loop-left g l = l.left
