@@ -94,6 +94,13 @@ pub record IsGrown (old : Opened) (run : Run) (size : ℕ) (new : Opened) : Type
   pub indices : Indices run new.count new.end index
   pub runs_are : new.runs.items ≡ index ∷ (if run.is_base then [] else old.runs.items)
 
+-- nothing changed
+pub record IsAsBefore (old new : Opened) : Type 0 where
+  pub end_is : new.end ≡ old.end
+  pub count_is : new.count ≡ old.count
+  pub marks_are : new.marks ≡ old.marks
+  pub runs_are : new.runs.items ≡ old.runs.items
+
 -- a file was read up to its last gate, and each of its bodies is a run
 pub record IsReadTo (file : List ℕ) (opened : Opened) : Type 0 where
   pub read : IsRead file opened.end

@@ -6,6 +6,7 @@ mod append;
 mod body;
 mod coding;
 mod device;
+mod ending;
 mod examples;
 mod index;
 mod laws;

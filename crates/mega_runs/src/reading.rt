@@ -2,13 +2,32 @@
 ghost use Rattle.std.specs.Prelude.{◌≡◌, ◌+◌, ◌<◌, ◌≤◌, ◌^◌, ℕ, true, get_or, length, slice_range, IfOk, IfSome, OnOk};
 ghost use Rattle.std.specs.Option.{option_map};
 ghost use Rattle.mega_base.specs.Causes.{Rose};
-ghost use Rattle.mega_disk.specs.Images.{Within, LeavesOnly};
+ghost use Rattle.mega_disk.specs.Images.{Only, Within, LeavesOnly};
 ghost use Rattle.mega_disk.specs.Fuse.{LowersBy, MayBurn, Burns};
 ghost use Rattle.mega_runs.specs.Opening.{IsNext, size_in};
 
 use mega_base::NoMemory;
 use mega_disk::{Disk, DiskError};
 use std::alloc::Global;
+
+/// Syncs, and gives the length.
+pub(crate) fn synced_length<D: Disk>(disk: &mut D) -> Result<u64, DiskError>
+    ensures size { D.is_told ≡ true → IfOk result (λ size. size ≡ length (D.seen disk.new)) }
+    ensures durable { D.is_told ≡ true → OnOk result (Only (D.seen disk.new) (D.may_leave disk.new)) }
+    ensures seen { OnOk result (D.seen disk.new ≡ D.seen disk.old) }
+    ensures within { Within (D.may_leave disk.old) (D.may_leave disk.new) }
+    ensures any_moment { LeavesOnly D.moment D.left_since disk.old disk.new (D.may_leave disk.old) }
+    ensures cause { result ≡ Err DiskError.Failed → Rose (D.faults disk.old) (D.faults disk.new) }
+    ensures later { D.faults disk.old ≤ D.faults disk.new }
+    ensures lowers { OnOk result (LowersBy 0 (D.fuse_left disk.old) (D.fuse_left disk.new)) }
+    ensures may_burn { MayBurn (D.fuse_left disk.old) (D.fuse_left disk.new) }
+    ensures burns { D.fails_by_fuse disk.old ≡ true → result ≡ Err DiskError.Failed → Burns (D.fuse_left disk.old) (D.fuse_left disk.new) }
+    ensures by_fuse { D.fails_by_fuse disk.old ≡ true → D.fails_by_fuse disk.new ≡ true }
+{
+    disk.sync()?;
+    let size = disk.len()?;
+    Ok(size)
+}
 
 /// So many bytes from a place on.
 pub(crate) fn read_bytes<D: Disk>(
