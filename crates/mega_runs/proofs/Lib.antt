@@ -1,6 +1,7 @@
 mod Blocks
 mod Chains
 mod Found
+mod Fronting
 mod Growing
 mod Listed
 mod Mixing

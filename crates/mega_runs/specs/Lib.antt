@@ -2,7 +2,9 @@ pub mod Bodies
 pub mod BodyLaws
 pub mod Chain
 pub mod Examples
+pub mod Files
 pub mod Finding
+pub mod Fronts
 pub mod Index
 pub mod Merging
 pub mod Opening

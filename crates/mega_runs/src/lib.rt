@@ -8,6 +8,7 @@ mod coding;
 mod device;
 mod ending;
 mod examples;
+mod file;
 mod index;
 mod laws;
 mod lookup;
@@ -17,5 +18,6 @@ mod reading;
 mod search;
 
 pub use append::add_run;
+pub use file::RunFile;
 pub use body::{Mark, Run, Version};
 pub use coding::{read_body, write_body};
