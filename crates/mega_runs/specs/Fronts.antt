@@ -1,9 +1,10 @@
 -- The part of a file up to its last run, which every crash leaves.
-use Rattle.std.specs.Prelude.{◌≡◌, ℕ, List, [], ◌∷◌, ◌++◌, take, Bool, true, false}
+use Rattle.std.specs.Prelude.{◌≡◌, ◌⊎◌, ℕ, List, [], ◌∷◌, ◌++◌, take, Bool, true, false}
 use Rattle.mega_runs.specs.declared.body.Version.{Version}
 use Rattle.mega_runs.specs.declared.index.Indexed.{Indexed}
 use Rattle.mega_runs.specs.Index.{ArePlaced}
-use Rattle.mega_runs.specs.Reads.{held_in}
+use Rattle.mega_runs.specs.declared.body.Run.{Run}
+use Rattle.mega_runs.specs.Reads.{Held, with_run, held_in}
 
 -- the file up to a place, with a closed gate there
 abbrev pub front_of : List ℕ → ℕ → List ℕ
@@ -18,3 +19,11 @@ kept false file end = []
 pub record Standing (file : List ℕ) (images : List ℕ → Type 0) (end : ℕ) (runs : List Indexed) : Type 0 where
   pub front : (image : List ℕ) → images image → take end image ≡ take end file
   pub runs_are : ArePlaced file end runs (held_in (front_of file end)).lists
+
+-- what a file with these lists holds with one run more
+abbrev pub kept_with : Run → List (List Version) → Held
+kept_with run lists = with_run run (record { marks = []; lists = lists })
+
+-- the file holds what one of these images holds, or this
+abbrev pub HoldsOr : (List ℕ → Type 0) → Held → List ℕ → Type 0
+HoldsOr images held file = ((image : List ℕ) × images image × (held_in file ≡ held_in image)) ⊎ (held_in file ≡ held)

@@ -7,12 +7,17 @@ ghost use Rattle.mega_runs.specs.Placed.{ArePlaced-prop};
 ghost use Rattle.mega_runs.specs.Rest.{IsSettled};
 
 use crate::among::{all_versions, found_in_runs};
-use crate::body::Version;
+use crate::append::put_run;
+use crate::body::{Run, Version};
+use crate::coding::write_body;
 use crate::lookup::Seen;
 use crate::opening::{Opened, open_file};
-use mega_base::{Bytes, Position};
+use mega_base::{Bytes, NoMemory, Position};
 use mega_disk::{Disk, StoreError};
 use std::alloc::Global;
+
+/// The length in bytes that no file passes.
+const MAX_LENGTH: u64 = 1 << 40;
 
 /// A file of runs that is open. After a run that could not be written it is spent: it reads, and takes no further run.
 #[derive(Drop)]
@@ -27,15 +32,15 @@ pub struct RunFile<D: Disk> {
 }
 
 impl<D: Disk> RunFile<D> {
-    ghost use Rattle.std.specs.Prelude.{IfOk, IfErr, OnOk, Err, ◌⊎◌, None, Some, map};
+    ghost use Rattle.std.specs.Prelude.{IfOk, IfErr, OnOk, OnErr, Err, ◌⊎◌, None, Some, map};
     ghost use Rattle.mega_base.specs.Causes.{Rose};
     ghost use Rattle.mega_disk.specs.Images.{Within, LeavesOnly};
     ghost use Rattle.mega_disk.specs.Fuse.{LowersBy, MayBurn, Burns};
-    ghost use Rattle.mega_runs.specs.Bodies.{ascends};
+    ghost use Rattle.mega_runs.specs.Bodies.{IsRun, ascends, run_text};
     ghost use Rattle.mega_runs.specs.Chain.{records_of};
     ghost use Rattle.mega_runs.specs.Files.{disk_of, opened_of, is_spent};
     ghost use Rattle.mega_runs.specs.Finding.{found_among};
-    ghost use Rattle.mega_runs.specs.Fronts.{kept};
+    ghost use Rattle.mega_runs.specs.Fronts.{kept, kept_with, HoldsOr};
     ghost use Rattle.mega_runs.specs.Merging.{all_merged};
     ghost use Rattle.mega_runs.specs.Opening.{first_bad};
     ghost use Rattle.mega_runs.specs.Reads.{held_in, mark_in};
@@ -120,5 +125,44 @@ impl<D: Disk> RunFile<D> {
         ensures by_fuse { D.fails_by_fuse (disk_of self.old) ≡ true → D.fails_by_fuse (disk_of self.new) ≡ true }
     {
         all_versions(alloc, &mut self.disk, self.opened.runs.as_slice())
+    }
+
+    /// Writes a run behind the others. It is refused where the file would be longer than 2^40 bytes, and where a run before could not
+    /// be written. A crash at any moment leaves the runs from before, or these with the new one.
+    pub fn add(&mut self, alloc: Global, run: Run) -> Result<(), StoreError>
+        requires fits { IsRun run }
+        requires in_order { ascends run.versions ≡ true }
+        ensures kept { D.is_told ≡ true → OnOk result (kept D.is_told (D.seen (disk_of self.new)) (opened_of self.new).end ≡ (kept_with run (kept D.is_told (D.seen (disk_of self.old)) (opened_of self.old).end)).lists) }
+        ensures kept_err { OnErr result (kept D.is_told (D.seen (disk_of self.new)) (opened_of self.new).end ≡ kept D.is_told (D.seen (disk_of self.old)) (opened_of self.old).end) }
+        ensures marks { OnOk result ((opened_of self.new).marks ≡ run.marks) }
+        ensures marks_err { OnErr result ((opened_of self.new).marks ≡ (opened_of self.old).marks) }
+        ensures spent { OnOk result (is_spent self.new ≡ false) }
+        ensures holds { D.is_told ≡ true → OnOk result ((image : List ℕ) → D.may_leave (disk_of self.new) image → held_in image ≡ kept_with run (kept D.is_told (D.seen (disk_of self.old)) (opened_of self.old).end)) }
+        ensures any_moment { D.is_told ≡ true → LeavesOnly D.moment D.left_since (disk_of self.old) (disk_of self.new) (HoldsOr (D.may_leave (disk_of self.old)) (kept_with run (kept D.is_told (D.seen (disk_of self.old)) (opened_of self.old).end))) }
+        ensures never_bad { (n : ℕ) → result ≡ Err (StoreError.BadRecord n) → ⊥ }
+        ensures too_long { (n : ℕ) → result ≡ Err (StoreError.Full n) → (n ≡ (opened_of self.old).end + 10 + length (run_text run)) × (2 ^ 40 < n) }
+        ensures short { OnOk result ((opened_of self.old).end + 10 + length (run_text run) ≤ 2 ^ 40) }
+        ensures cause { result ≡ Err StoreError.DiskFault → Rose (D.faults (disk_of self.old)) (D.faults (disk_of self.new)) }
+        ensures later { D.faults (disk_of self.old) ≤ D.faults (disk_of self.new) }
+        ensures lowers { OnOk result (LowersBy 0 (D.fuse_left (disk_of self.old)) (D.fuse_left (disk_of self.new))) }
+        ensures may_burn { MayBurn (D.fuse_left (disk_of self.old)) (D.fuse_left (disk_of self.new)) }
+        ensures burns { D.fails_by_fuse (disk_of self.old) ≡ true → result ≡ Err StoreError.DiskFault → Burns (D.fuse_left (disk_of self.old)) (D.fuse_left (disk_of self.new)) }
+        ensures by_fuse { D.fails_by_fuse (disk_of self.old) ≡ true → D.fails_by_fuse (disk_of self.new) ≡ true }
+    {
+        if self.spent {
+            return Err(StoreError::NoMemory);
+        }
+        let body = match write_body(alloc, &run) {
+            Ok(body) => body,
+            Err(NoMemory) => return Err(StoreError::NoMemory),
+        };
+        let length = self.opened.end + 10 + body.len() as u64;
+        if length > MAX_LENGTH {
+            return Err(StoreError::Full { length });
+        }
+        self.spent = true;
+        put_run(alloc, &mut self.disk, &mut self.opened, run, body.as_slice())?;
+        self.spent = false;
+        Ok(())
     }
 }

@@ -17,7 +17,6 @@ mod opening;
 mod reading;
 mod search;
 
-pub use append::add_run;
 pub use file::RunFile;
 pub use body::{Mark, Run, Version};
 pub use coding::{read_body, write_body};
