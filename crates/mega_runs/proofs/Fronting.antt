@@ -16,7 +16,8 @@ use Rattle.mega_runs.specs.Rest.{IsAtRest, IsSettled}
 use Rattle.mega_runs.specs.Index.{versions_text, Stands, IsPlaced, ArePlaced, IsOrderly, AreIndexed, have_index, Indexes, Indices, IsGrown}
 use Rattle.mega_runs.specs.Opening.{IsNextBody}
 use Rattle.mega_runs.specs.Reads.{Held, with_run, with_found, held_by, nothing, held_in, mark_in}
-use Rattle.mega_runs.specs.Fronts.{front_of, kept, Standing}
+use Rattle.mega_runs.specs.Fronts.{front_of, kept, kept_with, HoldsOr, Standing}
+use Rattle.mega_runs.specs.Spilling.{HoldsOldOrNew}
 use Rattle.mega_runs.proofs.Chains.{chain_push}
 use Rattle.mega_runs.proofs.Growing.{is_body, indexed_more}
 use Rattle.mega_runs.proofs.Records.{records_closed, first_whole}
@@ -181,3 +182,15 @@ standing_grown file new images others run body old grown standing before settled
       (subst (λ (n : ℕ). Indices run grown.count n more.index) more.end_is more.indices) more.runs_are
       (record { marks_are = refl; runs_are = placed_same file new old.end old.runs.items (held_in (front_of file old.end)).lists front standing.runs_are })
     ).runs_are
+
+pub kept_with_is : (told : Bool) (run : Run) (file : List ℕ) (end : ℕ) → told ≡ true → with_run run (held_in (front_of file end)) ≡ kept_with run (kept told file end)
+kept_with_is true run file end is = refl
+kept_with_is false run file end is = absurd (cc)
+
+pub holds_or : (told : Bool) (run : Run) (file image : List ℕ) (images : List ℕ → Type 0) (end : ℕ) → told ≡ true → IsAtRest file end → images file → HoldsOldOrNew end run file image → HoldsOr images (kept_with run (kept told file end)) image
+holds_or told run file image images end is rests here is_either =
+    ⊎_elim (λ same. inl (file, here, same)) (λ more. inr (more ∙ ap (with_run run) (sym (held_front file end rests)) ∙ kept_with_is told run file end is)) is_either.holds
+
+pub holds_now : (told : Bool) (run : Run) (file new image : List ℕ) (images : List ℕ → Type 0) (end later : ℕ) → told ≡ true → IsSettled new images later → held_in (front_of new later) ≡ with_run run (held_in (front_of file end)) → images image → held_in image ≡ kept_with run (kept told file end)
+holds_now told run file new image images end later is settled held left =
+    ap held_in (settled.durable image left) ∙ sym (held_front new later settled.at_rest) ∙ held ∙ kept_with_is told run file end is
