@@ -182,13 +182,12 @@ part_range file a m z start within is =
 
 pub mine_stands : (file : List ℕ) (start : ℕ) (versions : List Version) (blocks : List Block) (j : ℕ) (block : Block) (c : Chosen start versions blocks j block) → Stands file start (versions_text versions)
     → (block.start + block.size ≤ length file) × (slice_range file block.start (block.start + block.size) ≡ versions_text c.mine)
-mine_stands file start versions blocks j block c stands =
-    (
-      omega (arith, c.is_block.start_is, c.is_block.size_is, stands.within, ap length text, length-append a (m ++ z), length-append m z),
-      ap (λ (n : ℕ). slice_range file block.start (block.start + n)) c.is_block.size_is
+mine_stands file start versions blocks j block c stands = (
+  omega (arith, c.is_block.start_is, c.is_block.size_is, stands.within, ap length text, length-append a (m ++ z), length-append m z),
+  ap (λ (n : ℕ). slice_range file block.start (block.start + n)) c.is_block.size_is
       ∙ ap (λ (n : ℕ). slice_range file n (n + length m)) c.is_block.start_is
       ∙ part_range file a m z start (omega (arith, stands.within, ap length text)) (ap (λ (l : List ℕ). slice_range file start (start + length l)) (sym text) ∙ stands.text_is ∙ text),
-    )
+)
   where
     a : List ℕ
     a = versions_text c.pre

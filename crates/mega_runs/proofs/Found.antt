@@ -126,6 +126,10 @@ lists_latest key p (versions ∷ lists) =
     ∙ ap (λ (f : Found). later_of f (latest (layered lists key) p)) (list_latest key p versions)
     ∙ ap (later_of (found_in key p versions)) (lists_latest key p lists)
 
+-- what a read sees of versions
+pub row_in : (key : List ℕ) (p : ℕ) (versions : List Version) → row_at (versions_in versions) key p ≡ row_found (found_in key p versions)
+row_in key p versions = seen_latest (versions_in versions key) p ∙ ap row_found (list_latest key p versions)
+
 -- what a read sees of lists of versions
 pub row_among : (key : List ℕ) (p : ℕ) (lists : List (List Version)) → row_at (layered lists) key p ≡ row_found (found_among key p lists)
 row_among key p lists = seen_latest (layered lists key) p ∙ ap row_found (lists_latest key p lists)
@@ -175,7 +179,7 @@ one_is true true found x y = refl
 one_is true false found x y = absurd (cc)
 one_is false c found x y = absurd (cc)
 
-dominated : (key : List ℕ) (p : ℕ) (u v : Version) (rest : List Version) → is_before (spot_of u) (spot_of v) ≡ true → is_before (key, p) (spot_of v) ≡ false
+pub dominated : (key : List ℕ) (p : ℕ) (u v : Version) (rest : List Version) → is_before (spot_of u) (spot_of v) ≡ true → is_before (key, p) (spot_of v) ≡ false
     → later_of (one_found key p u) (found_in key p (v ∷ rest)) ≡ found_in key p (v ∷ rest)
 dominated key p u v rest uv not_behind = go (pointwise nat_eq u.key key) (nat_le u.at.0 p) refl
   where

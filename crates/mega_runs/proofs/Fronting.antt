@@ -51,17 +51,16 @@ pub placed_same : (file image : List ℕ) (end : ℕ) (runs : List Indexed) (lis
 placed_same file image end [] [] front are = tt
 placed_same file image end [] (versions ∷ lists) front are = absurd are
 placed_same file image end (run ∷ runs) [] front are = absurd are
-placed_same file image end (run ∷ runs) (versions ∷ lists) front are =
-    (
-      record {
-        blocks = are.0.blocks;
-        stands = stands_same file image end run.start (versions_text versions) front (omega (arith, are.0.before, are.0.size_is)) are.0.stands;
-        size_is = are.0.size_is;
-        count_is = are.0.count_is;
-        before = are.0.before;
-      },
-      placed_same file image end runs lists front are.1,
-    )
+placed_same file image end (run ∷ runs) (versions ∷ lists) front are = (
+  record {
+    blocks = are.0.blocks;
+    stands = stands_same file image end run.start (versions_text versions) front (omega (arith, are.0.before, are.0.size_is)) are.0.stands;
+    size_is = are.0.size_is;
+    count_is = are.0.count_is;
+    before = are.0.before;
+  },
+  placed_same file image end runs lists front are.1,
+)
 
 pub held_front : (file : List ℕ) (end : ℕ) → IsAtRest file end → held_in (front_of file end) ≡ held_in file
 held_front file end rests =
@@ -146,9 +145,9 @@ next_added file new end body before after added short = record {
     spelled : drop end new ≡ record_of body ++ rest
     spelled =
         ap (drop end) (
-          sym (take-append-drop (end + 9 + length body) new)
-          ∙ ap (λ (l : List ℕ). l ++ rest) (after.front ∙ ap chain_of added ∙ chain_push (records_of file) body)
-          ∙ append_assoc (chain_of (records_of file)) (record_of body) rest
+        sym (take-append-drop (end + 9 + length body) new)
+        ∙ ap (λ (l : List ℕ). l ++ rest) (after.front ∙ ap chain_of added ∙ chain_push (records_of file) body)
+        ∙ append_assoc (chain_of (records_of file)) (record_of body) rest
         )
         ∙ drop_at (chain_of (records_of file)) (record_of body ++ rest) end (sym before.place)
 
@@ -177,11 +176,11 @@ standing_grown file new images others run body old grown standing before settled
 
     indexed : ArePlaced new (old.end + 9 + length body) grown.runs.items (with_run run (held_in (front_of file old.end))).lists
     indexed = (
-      indexed_more new old.end body run grown.count (record { marks = map mark_in old.marks; lists = (held_in (front_of file old.end)).lists }) old.marks old.runs.items grown.runs.items more.index
-      (next_added file new old.end body before settled.at_rest added short) is_run
-      (subst (λ (n : ℕ). Indices run grown.count n more.index) more.end_is more.indices) more.runs_are
-      (record { marks_are = refl; runs_are = placed_same file new old.end old.runs.items (held_in (front_of file old.end)).lists front standing.runs_are })
-    ).runs_are
+        indexed_more new old.end body run grown.count (record { marks = map mark_in old.marks; lists = (held_in (front_of file old.end)).lists }) old.marks old.runs.items grown.runs.items more.index
+        (next_added file new old.end body before settled.at_rest added short) is_run
+        (subst (λ (n : ℕ). Indices run grown.count n more.index) more.end_is more.indices) more.runs_are
+        (record { marks_are = refl; runs_are = placed_same file new old.end old.runs.items (held_in (front_of file old.end)).lists front standing.runs_are })
+        ).runs_are
 
 pub kept_with_is : (told : Bool) (run : Run) (file : List ℕ) (end : ℕ) → told ≡ true → with_run run (held_in (front_of file end)) ≡ kept_with run (kept told file end)
 kept_with_is true run file end is = refl

@@ -10,6 +10,7 @@ mod Order
 mod Outcomes
 mod Records
 mod Repaired
+mod Showing
 mod Spilled
 mod Torn
 mod Written

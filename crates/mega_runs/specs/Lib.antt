@@ -11,5 +11,6 @@ pub mod Opening
 pub mod Placed
 pub mod Reads
 pub mod Rest
+pub mod Scanning
 pub mod Spilling
 pub mod VersionLists

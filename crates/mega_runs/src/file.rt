@@ -12,7 +12,8 @@ use crate::body::{Run, Version};
 use crate::coding::write_body;
 use crate::lookup::Seen;
 use crate::opening::{Opened, open_file};
-use mega_base::{Bytes, NoMemory, Position};
+use crate::scan::rows_of;
+use mega_base::{Bytes, NoMemory, Position, Row};
 use mega_disk::{Disk, StoreError};
 use std::alloc::Global;
 
@@ -34,8 +35,9 @@ pub struct RunFile<D: Disk> {
 impl<D: Disk> RunFile<D> {
     ghost use Rattle.std.specs.Prelude.{IfOk, IfErr, OnOk, OnErr, Err, ◌⊎◌, None, Some, map};
     ghost use Rattle.mega_base.specs.Causes.{Rose};
-    ghost use Rattle.mega_disk.specs.Images.{Within, LeavesOnly};
-    ghost use Rattle.mega_disk.specs.Fuse.{LowersBy, MayBurn, Burns};
+    ghost use Rattle.mega_disk.specs.Images.{SameImages, Within, LeavesOnly};
+    ghost use Rattle.mega_disk.specs.Fuse.{LowersBy, MayBurn, Burns, set_to};
+    ghost use Rattle.mega_disk.specs.VersionMaps.{IsScan};
     ghost use Rattle.mega_runs.specs.Bodies.{IsRun, ascends, run_text};
     ghost use Rattle.mega_runs.specs.Chain.{records_of};
     ghost use Rattle.mega_runs.specs.Files.{disk_of, opened_of, is_spent};
@@ -43,7 +45,7 @@ impl<D: Disk> RunFile<D> {
     ghost use Rattle.mega_runs.specs.Fronts.{kept, kept_with, HoldsOr};
     ghost use Rattle.mega_runs.specs.Merging.{all_merged};
     ghost use Rattle.mega_runs.specs.Opening.{first_bad};
-    ghost use Rattle.mega_runs.specs.Reads.{held_in, mark_in};
+    ghost use Rattle.mega_runs.specs.Reads.{held_in, layered, mark_in};
     ghost use Rattle.mega_runs.specs.Rest.{HoldsAs};
 
     /// Opens a device that a crash may have left, reads its runs, and mends its end. A refusal hands the device back.
@@ -127,6 +129,49 @@ impl<D: Disk> RunFile<D> {
         all_versions(alloc, &mut self.disk, self.opened.runs.as_slice())
     }
 
+    /// The rows that a read at a position sees of the keys from `from` on and before `to`, in order of key.
+    pub fn scan(
+        &mut self,
+        alloc: Global,
+        from: &Bytes,
+        to: &Bytes,
+        at: Position,
+    ) -> Result<Vec<(Bytes, Row)>, StoreError>
+        ensures value { D.is_told ≡ true → IfOk result (λ rows. IsScan (layered (kept D.is_told (D.seen (disk_of self.old)) (opened_of self.old).end)) from.now to.now at.0 rows.items) }
+        ensures kept { kept D.is_told (D.seen (disk_of self.new)) (opened_of self.new).end ≡ kept D.is_told (D.seen (disk_of self.old)) (opened_of self.old).end }
+        ensures opened { opened_of self.new ≡ opened_of self.old }
+        ensures spent { is_spent self.new ≡ is_spent self.old }
+        ensures never_bad { D.is_told ≡ true → (n : ℕ) → result ≡ Err (StoreError.BadRecord n) → ⊥ }
+        ensures never_full { (n : ℕ) → result ≡ Err (StoreError.Full n) → ⊥ }
+        ensures within { Within (D.may_leave (disk_of self.old)) (D.may_leave (disk_of self.new)) }
+        ensures any_moment { LeavesOnly D.moment D.left_since (disk_of self.old) (disk_of self.new) (D.may_leave (disk_of self.old)) }
+        ensures cause { result ≡ Err StoreError.DiskFault → Rose (D.faults (disk_of self.old)) (D.faults (disk_of self.new)) }
+        ensures later { D.faults (disk_of self.old) ≤ D.faults (disk_of self.new) }
+        ensures lowers { OnOk result (LowersBy 0 (D.fuse_left (disk_of self.old)) (D.fuse_left (disk_of self.new))) }
+        ensures may_burn { MayBurn (D.fuse_left (disk_of self.old)) (D.fuse_left (disk_of self.new)) }
+        ensures burns { D.fails_by_fuse (disk_of self.old) ≡ true → result ≡ Err StoreError.DiskFault → Burns (D.fuse_left (disk_of self.old)) (D.fuse_left (disk_of self.new)) }
+        ensures by_fuse { D.fails_by_fuse (disk_of self.old) ≡ true → D.fails_by_fuse (disk_of self.new) ≡ true }
+    {
+        let versions = self.versions(alloc)?;
+        match rows_of(alloc, versions.as_slice(), from, to, at) {
+            Ok(rows) => Ok(rows),
+            Err(NoMemory) => Err(StoreError::NoMemory),
+        }
+    }
+
+    /// Sets a fuse on the device where there is one, as `Disk::fuse` does.
+    pub fn fuse(&mut self, calls: u64, image: u8)
+        ensures seen { D.seen (disk_of self.new) ≡ D.seen (disk_of self.old) }
+        ensures opened { opened_of self.new ≡ opened_of self.old }
+        ensures spent { is_spent self.new ≡ is_spent self.old }
+        ensures same { SameImages D.moment D.may_leave D.left_since (disk_of self.old) (disk_of self.new) }
+        ensures faults { D.faults (disk_of self.new) ≡ D.faults (disk_of self.old) }
+        ensures fuse { D.fuse_left (disk_of self.new) ≡ set_to calls (D.fuse_left (disk_of self.old)) }
+        ensures by_fuse { D.fails_by_fuse (disk_of self.new) ≡ D.fails_by_fuse (disk_of self.old) }
+    {
+        self.disk.fuse(calls, image);
+    }
+
     /// Writes a run behind the others. It is refused where the file would be longer than 2^40 bytes, and where a run before could not
     /// be written. A crash at any moment leaves the runs from before, or these with the new one.
     pub fn add(&mut self, alloc: Global, run: Run) -> Result<(), StoreError>
@@ -161,7 +206,13 @@ impl<D: Disk> RunFile<D> {
             return Err(StoreError::Full { length });
         }
         self.spent = true;
-        put_run(alloc, &mut self.disk, &mut self.opened, run, body.as_slice())?;
+        put_run(
+            alloc,
+            &mut self.disk,
+            &mut self.opened,
+            run,
+            body.as_slice(),
+        )?;
         self.spent = false;
         Ok(())
     }

@@ -15,8 +15,11 @@ mod lookup;
 mod merging;
 mod opening;
 mod reading;
+mod scan;
 mod search;
+mod writable;
 
-pub use file::RunFile;
 pub use body::{Mark, Run, Version};
 pub use coding::{read_body, write_body};
+pub use file::RunFile;
+pub use writable::can_write;

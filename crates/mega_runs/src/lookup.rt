@@ -160,7 +160,13 @@ fn copy_of(alloc: Global, version: Option<&Version>) -> Result<Seen, StoreError>
     ensures memory { OnErr result (result ≡ Err StoreError.NoMemory) }
 {
     match version {
-        Some(Version { at, row: Some(row), .. }) => Ok(Some((at.0, Some(row.copy(alloc)?)))),
+        Some(
+            Version {
+                at,
+                row: Some(row),
+                ..
+            },
+        ) => Ok(Some((at.0, Some(row.copy(alloc)?)))),
         Some(Version { at, row: None, .. }) => Ok(Some((at.0, None))),
         None => Ok(None),
     }

@@ -14,9 +14,9 @@ ghost use Rattle.mega_runs.specs.Rest.{IsSettled, HoldsAs};
 
 use crate::body::{Mark, Run};
 use crate::coding::read_body;
+use crate::ending::close_end;
 use crate::index::{Indexed, blocks_of, size_of};
 use crate::lookup::refusal;
-use crate::ending::close_end;
 use crate::reading::{next_body, synced_length};
 use mega_base::{Items, NoMemory};
 use mega_disk::{Disk, StoreError};

@@ -72,5 +72,9 @@ pub(crate) fn found<'a>(versions: &'a [Version], key: &Bytes, at: Position) -> O
 fn of_key<'a>(version: &'a Version, key: &Bytes) -> Option<&'a Version>
     ensures { option_map (λ version. version.now) result ≡ (if pointwise nat_eq version.now.key key.now then Some version.now else None) }
 {
-    if version.key == *key { Some(version) } else { None }
+    if version.key == *key {
+        Some(version)
+    } else {
+        None
+    }
 }

@@ -28,8 +28,8 @@ returns-in-Err-add_index-clause-standing g c told =
     let as_before = c.in-Err-add_index.ensures.left in
     coe 0 1 (i. Standing (g.D.Disk.seen new) (g.D.Disk.may_leave new) (sym as_before.end_is i) (sym as_before.runs_are i))
     (
-      standing_front (g.D.Disk.seen old) (g.D.Disk.seen new) (g.D.Disk.may_leave old) (g.D.Disk.may_leave new) c.args.opened.now.end c.args.opened.now.runs.items (c.requires.standing told)
-      (λ image left. (moments.each image (g.met.D.Disk.counts_now new (g.D.Disk.moment old) image moments.later left)).front) (g.met.D.Disk.seen_is_left new)
+    standing_front (g.D.Disk.seen old) (g.D.Disk.seen new) (g.D.Disk.may_leave old) (g.D.Disk.may_leave new) c.args.opened.now.end c.args.opened.now.runs.items (c.requires.standing told)
+    (λ image left. (moments.each image (g.met.D.Disk.counts_now new (g.D.Disk.moment old) image moments.later left)).front) (g.met.D.Disk.seen_is_left new)
     )
 
 pub returns-in-Err-add_index-clause-any_moment : goal.returns-in-Err-add_index-clause-any_moment

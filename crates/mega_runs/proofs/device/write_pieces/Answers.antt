@@ -23,10 +23,10 @@ loop-done-preserved g c =
       within_bytes = omega arith;
       written = λ told. piece_written c.args.at c.loop-done.done c.min-count.result c.args.bytes.now file (g.D.Disk.seen c.loop-done.disk) (g.D.Disk.seen c.write.new.self) (c.requires.within told) (omega arith) (i.written told) (c.in_ok-write.ensures.written told);
       torn = λ told only image now. let from = c.write.ensures.crash image now in
-      piece_torn c.args.at c.loop-done.done c.min-count.result c.args.bytes.now file from.0 image (omega arith) (i.torn told only from.0 from.1) from.2;
+          piece_torn c.args.at c.loop-done.done c.min-count.result c.args.bytes.now file from.0 image (omega arith) (i.torn told only from.0 from.1) from.2;
       moments = λ told only. goes_on g.D.Disk.moment g.D.Disk.left_since c.args.disk.now c.loop-done.disk c.write.new.self _ _ (i.moments told only) c.write.ensures.time
-      (λ image now. let from = c.write.ensures.crash image now in
-      piece_torn c.args.at c.loop-done.done c.min-count.result c.args.bytes.now file from.0 image (omega arith) (i.torn told only from.0 from.1) from.2);
+          (λ image now. let from = c.write.ensures.crash image now in
+          piece_torn c.args.at c.loop-done.done c.min-count.result c.args.bytes.now file from.0 image (omega arith) (i.torn told only from.0 from.1) from.2);
       later = search rules;
       lowers = search rules;
       by_fuse = search rules;

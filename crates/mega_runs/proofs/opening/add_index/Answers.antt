@@ -19,4 +19,3 @@ returns-clause-grown c = record {
       ∙ ap (λ (l : List Indexed). if c.args.run.is_base then take 1 l else l) c.in_ok-insert.ensures.items
       ∙ first_alone c.args.run.is_base c.in_ok-index.index c.args.opened.now.runs.items;
 }
-

@@ -14,9 +14,11 @@ pub found_in_runs-requires : goal.found_in_runs-requires
 found_in_runs-requires g c = record {
   indexed = λ told.
       let self = c.args.self.now in
-      let file = g.D.Disk.seen self.disk in
-      (self.opened.end, (held_in (front_of file self.opened.end)).lists,
-      subst (λ (l : List Indexed). AreIndexed file self.opened.end l (held_in (front_of file self.opened.end)).lists) (sym c.as_slice.ensures.value) (standing_indexed file (g.D.Disk.may_leave self.disk) self.opened.end self.opened.runs.items (self.standing told)));
+      let file = g.D.Disk.seen self.disk in (
+        self.opened.end,
+        (held_in (front_of file self.opened.end)).lists,
+        subst (λ (l : List Indexed). AreIndexed file self.opened.end l (held_in (front_of file self.opened.end)).lists) (sym c.as_slice.ensures.value) (standing_indexed file (g.D.Disk.may_leave self.disk) self.opened.end self.opened.runs.items (self.standing told)),
+      );
 }
 
 pub invariant_of-self : goal.invariant_of-self
