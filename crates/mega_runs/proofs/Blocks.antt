@@ -1,13 +1,13 @@
 -- Blocks of versions.
-use Rattle.std.proofs.Common.{◌≡◌, ℕ, zero, suc, ◌+◌, ◌-◌, ◌<◌, ◌≤◌, List, [], ◌∷◌, ◌++◌, length, take, drop, refl, sym, ◌∙◌, ap, subst, arith, append_assoc, length-append, take-append-drop, length-take-le}
+use Rattle.std.proofs.Common.{◌≡◌, ℕ, zero, suc, ◌+◌, ◌-◌, ◌≤◌, List, [], ◌∷◌, ◌++◌, length, take, drop, refl, sym, ◌∙◌, ap, subst, arith, append_assoc, length-append, take-append-drop}
 use Rattle.std.specs.Prelude.{Option, Some, None, option_map, min, Bool, true, false, ◌&&◌, slice_range, All}
-use Rattle.std.specs.List.{slice_get, flat_map}
+use Rattle.std.specs.List.{slice_get}
 use Rattle.std.proofs.lemmas.List.{append-nil, nil_from_length, drop-drop, take_at, drop_at}
 use Rattle.std.proofs.lemmas.List.Elements.{All-take, All-drop}
 use Rattle.std.proofs.lemmas.Grind.{flat_map-append}
 use Rattle.mega_runs.specs.declared.body.Version.{Version}
 use Rattle.mega_runs.specs.declared.index.Block.{Block}
-use Rattle.mega_runs.specs.Bodies.{Spot, is_before, spot_of, version_text, IsVersion, ascends, ascends_from}
+use Rattle.mega_runs.specs.Bodies.{is_before, spot_of, version_text, IsVersion, ascends, ascends_from}
 use Rattle.mega_runs.specs.Finding.{is_behind, behind_at, IsPlace, found_in}
 use Rattle.mega_runs.specs.declared.index.Indexed.{Indexed}
 use Rattle.mega_runs.specs.Index.{versions_text, spot_of_block, IsBlock, AreBlocks, Stands, IsIndexed, HasBlock}

@@ -4,14 +4,14 @@ use Rattle.std.specs.Prelude.{◌&&◌, nat_eq, nat_lt, nat_le, ◌==◌, Option
 use Rattle.std.proofs.lemmas.Bool.Decides.{nat_tests}
 use Rattle.std.specs.Cmp.Lexicographic.{pointwise}
 use Rattle.mega_base.specs.declared.values.Row.{Row}
-use Rattle.mega_disk.specs.VersionMaps.{Versions, or_else, version_at, row_of, row_at}
+use Rattle.mega_disk.specs.VersionMaps.{or_else, version_at, row_of, row_at}
 use Rattle.mega_runs.specs.declared.body.Version.{Version}
 use Rattle.std.proofs.lemmas.Option.{slice_get_past}
 use Rattle.mega_runs.specs.Bodies.{Spot, is_before, spot_of, ascends_from, ascends}
 use Rattle.mega_runs.specs.Reads.{is_version, versions_in, layered}
 use Rattle.std.specs.List.{slice_get}
 use Rattle.mega_runs.specs.Finding.{is_behind, behind_at, IsPlace, Found, later_of, one_found, found_in, found_among, row_found}
-use Rattle.mega_runs.proofs.Order.{both, same_key, key_self, before_trans, before_not_behind, position_before, position_not_before, between_key, ascends_behind, before_later}
+use Rattle.mega_runs.proofs.Order.{both, same_key, key_self, before_trans, position_before, position_not_before, between_key, ascends_behind, before_later}
 
 -- ---- by position
 abbrev pub latest_or : ℕ → Option (Option Row) → Found → Found

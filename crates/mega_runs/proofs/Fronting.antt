@@ -1,10 +1,9 @@
 -- What stays of the part of a file up to its last run.
-use Rattle.std.proofs.Common.{◌≡◌, ◌≢◌, ℕ, zero, suc, ◌+◌, ◌-◌, ◌<◌, ◌≤◌, ◌^◌, List, [], ◌∷◌, ◌++◌, length, get_or, take, drop, refl, sym, ◌∙◌, ap, subst, arith, append_assoc, length-append, take-append-drop, length-drop, Bool, true, false, inl, inr, ⊎_elim}
-use Rattle.std.specs.Prelude.{Option, Some, None, slice_range, if◌then◌else◌, All, map, min, cond}
+use Rattle.std.proofs.Common.{◌≡◌, ℕ, zero, suc, ◌+◌, ◌-◌, ◌<◌, ◌≤◌, ◌^◌, List, [], ◌∷◌, ◌++◌, length, take, drop, refl, sym, ◌∙◌, ap, subst, arith, append_assoc, take-append-drop, length-drop, Bool, true, false, inl, inr, ⊎_elim}
+use Rattle.std.specs.Prelude.{Option, Some, None, if◌then◌else◌, map}
 use Rattle.std.specs.List.{AllByRecursion}
-use Rattle.std.specs.Int.{to_be_bytes, w64}
-use Rattle.std.proofs.lemmas.List.{take_at, drop_at, take-take, length-take}
-use Rattle.mega_disk.specs.Images.{Only, Within}
+use Rattle.std.proofs.lemmas.List.{drop_at, take-take, length-take}
+use Rattle.mega_disk.specs.Images.{Within}
 use Rattle.mega_runs.specs.declared.body.Version.{Version}
 use Rattle.mega_runs.specs.declared.body.Mark.{Mark}
 use Rattle.mega_runs.specs.declared.body.Run.{Run}
@@ -13,7 +12,7 @@ use Rattle.mega_runs.specs.declared.opening.Opened.{Opened}
 use Rattle.mega_runs.specs.Bodies.{run_text, IsRun, ascends, body_of}
 use Rattle.mega_runs.specs.Chain.{record_of, chain_of, first_record, records_of}
 use Rattle.mega_runs.specs.Rest.{IsAtRest, IsSettled}
-use Rattle.mega_runs.specs.Index.{versions_text, Stands, IsPlaced, ArePlaced, IsOrderly, AreIndexed, have_index, Indexes, Indices, IsGrown}
+use Rattle.mega_runs.specs.Index.{versions_text, Stands, ArePlaced, IsOrderly, AreIndexed, Indexes, Indices, IsGrown}
 use Rattle.mega_runs.specs.Opening.{IsNextBody}
 use Rattle.mega_runs.specs.Reads.{Held, with_run, with_found, held_by, nothing, held_in, mark_in}
 use Rattle.mega_runs.specs.Fronts.{front_of, kept, kept_with, HoldsOr, Standing}

@@ -1,6 +1,6 @@
 -- The index of a run that was read.
-use Rattle.std.proofs.Common.{◌≡◌, ℕ, ◌+◌, ◌<◌, ◌≤◌, ◌^◌, List, [], ◌∷◌, ◌++◌, length, take, drop, Bool, true, false, cond, refl, sym, ◌∙◌, ap, subst, arith, append_assoc, length-append, take-append-drop, length-drop}
-use Rattle.std.specs.Prelude.{Option, Some, None, Result, Ok, Err, slice_range, if◌then◌else◌, All, map}
+use Rattle.std.proofs.Common.{◌≡◌, ℕ, ◌+◌, ◌<◌, ◌≤◌, ◌^◌, List, [], ◌∷◌, ◌++◌, length, take, drop, Bool, true, false, cond, refl, sym, ◌∙◌, ap, subst, arith, append_assoc, length-append, length-drop}
+use Rattle.std.specs.Prelude.{Option, Some, None, Result, Ok, Err, if◌then◌else◌, map}
 use Rattle.std.specs.Int.{to_be_bytes, w64}
 use Rattle.std.proofs.lemmas.List.{drop-drop, take_at, drop_at}
 use Rattle.mega_base.specs.Reading.{whole_of}
@@ -10,7 +10,7 @@ use Rattle.mega_runs.specs.declared.body.Mark.{Mark}
 use Rattle.mega_runs.specs.declared.body.Run.{Run}
 use Rattle.mega_runs.specs.declared.body.Version.{Version}
 use Rattle.mega_runs.specs.declared.index.Indexed.{Indexed}
-use Rattle.mega_runs.specs.Bodies.{kind_of, mark_text, version_text, run_at, run_text, IsRun, ascends, ordered, body_of}
+use Rattle.mega_runs.specs.Bodies.{kind_of, mark_text, run_at, run_text, IsRun, ascends, ordered, body_of}
 use Rattle.mega_runs.specs.BodyLaws.{run_codec}
 use Rattle.mega_runs.specs.Chain.{record_of, chain_of, first_record, records_of}
 use Rattle.mega_runs.specs.declared.opening.Opened.{Opened}

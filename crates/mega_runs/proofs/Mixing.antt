@@ -1,22 +1,22 @@
 -- Versions put among others: what stands there, and that they stay in order.
-use Rattle.std.proofs.Common.{◌≡◌, slice_set, ℕ, zero, suc, ◌+◌, ◌-◌, ◌<◌, ◌≤◌, List, [], ◌∷◌, ◌++◌, length, take, drop, take-append-drop, Bool, true, false, cond, refl, sym, ◌∙◌, ap, subst, arith, append_assoc}
+use Rattle.std.proofs.Common.{◌≡◌, slice_set, ℕ, zero, suc, ◌-◌, List, [], ◌∷◌, ◌++◌, take, drop, Bool, true, false, cond, refl, sym, ◌∙◌, ap, arith, append_assoc}
 use Rattle.std.specs.Prelude.{◌&&◌, nat_eq, nat_lt, ◌==◌, Option, Some, None, option_map, if◌then◌else◌}
 use Rattle.std.proofs.lemmas.Bool.Decides.{nat_tests}
 use Rattle.std.proofs.lemmas.Map.Lookups.{exact_bytes}
 use Rattle.std.specs.List.{slice_get}
-use Rattle.std.specs.Cmp.Lexicographic.{slice_cmp, pointwise, texts_ties}
-use Rattle.std.specs.Ordering.{nat_cmp, is_lt, is_eq, ordering_reverse, ordering_then}
+use Rattle.std.specs.Cmp.Lexicographic.{slice_cmp, pointwise}
+use Rattle.std.specs.Ordering.{nat_cmp, is_lt, ordering_reverse, ordering_then}
 use Rattle.std.specs.declared.cmp.Ordering.{Ordering}
 use Rattle.std.specs.declared.cmp.Ordering.TheVariants.{Less, Equal, Greater}
 use Rattle.mega_base.specs.declared.values.Row.{Row}
-use Rattle.mega_disk.specs.VersionMaps.{Versions, or_else}
+use Rattle.mega_disk.specs.VersionMaps.{or_else}
 use Rattle.mega_runs.specs.declared.body.Version.{Version}
 use Rattle.mega_runs.specs.Bodies.{Spot, spot_cmp, is_before, spot_of, ascends_from, ascends}
 use Rattle.mega_runs.specs.Reads.{is_version, versions_in, layered}
 use Rattle.mega_runs.specs.Merging.{put_by, with_version, merged, all_merged, is_same_spot, is_taken}
 use Rattle.mega_runs.specs.Finding.{is_behind, behind_at, IsPlace}
 use Rattle.mega_runs.proofs.Order.{spots, before_less, less_before, before_not_behind, both, same_key, key_self, same_key_cmp, ascends_behind, before_later}
-use Rattle.mega_runs.proofs.Found.{parts_at, head_at}
+use Rattle.mega_runs.proofs.Found.{parts_at}
 
 -- ---- spots
 parts_equal : (a b : Ordering) → ordering_then a b ≡ Equal → (a ≡ Equal) × (b ≡ Equal)

@@ -1,13 +1,12 @@
 -- The next record of a file, by its gate and its length.
-use Rattle.std.proofs.Common.{◌≡◌, ℕ, zero, suc, ◌+◌, ◌-◌, ◌<◌, ◌≤◌, ◌^◌, List, [], ◌∷◌, ◌++◌, length, get_or, take, drop, refl, sym, ◌∙◌, ap, subst, arith, append_assoc, length-append, length-take-le, length-drop, take-append-drop, Bool, true, false, cond}
+use Rattle.std.proofs.Common.{◌≡◌, ℕ, suc, ◌+◌, ◌-◌, ◌<◌, ◌^◌, List, [], ◌∷◌, ◌++◌, length, get_or, take, drop, refl, sym, ◌∙◌, ap, subst, arith, length-take-le, length-drop, Bool, true, false, cond}
 use Rattle.std.specs.Prelude.{Option, Some, None, ◌==◌, ◌&&◌, nat_lt, slice_range}
-use Rattle.std.specs.Int.{from_be_bytes, to_be_bytes, w64}
+use Rattle.std.specs.Int.{from_be_bytes, w64}
 use Rattle.std.proofs.lemmas.Bool.Decides.{nat_tests}
-use Rattle.std.proofs.lemmas.List.{drop-drop, take-take, take_all}
-use Rattle.std.proofs.lemmas.Option.{cond_some}
+use Rattle.std.proofs.lemmas.List.{drop-drop, take-take}
 use Rattle.mega_runs.specs.Chain.{record_of, first_record}
 use Rattle.mega_runs.specs.Opening.{size_in, IsNextBody, IsNext}
-use Rattle.mega_runs.proofs.Records.{IsBytes, both, SpelledIn, spelled_in}
+use Rattle.mega_runs.proofs.Records.{IsBytes, SpelledIn, spelled_in}
 
 short_tail : (l : List ℕ) → length l < 10 → first_record l ≡ None
 short_tail [] few = refl

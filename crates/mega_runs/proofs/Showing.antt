@@ -1,17 +1,17 @@
 -- The rows that are shown are those that reads see.
-use Rattle.std.proofs.Common.{◌≡◌, ◌≢◌, ◌⊎◌, inl, inr, ⊎_elim, ℕ, zero, suc, ◌<◌, ◌≤◌, List, [], ◌∷◌, ◌++◌, Bool, true, false, cond, refl, sym, ◌∙◌, ap, subst, arith}
-use Rattle.std.specs.Prelude.{◌&&◌, not, nat_eq, nat_lt, nat_le, Option, Some, None, option_map, if◌then◌else◌}
+use Rattle.std.proofs.Common.{◌≡◌, ◌≢◌, ◌⊎◌, inl, inr, ⊎_elim, ℕ, ◌<◌, ◌≤◌, List, [], ◌∷◌, ◌++◌, Bool, true, false, cond, refl, sym, ◌∙◌, ap, subst, arith}
+use Rattle.std.specs.Prelude.{◌&&◌, not, nat_eq, nat_lt, nat_le, Option, Some, None, if◌then◌else◌}
 use Rattle.std.proofs.lemmas.Bool.Decides.{nat_tests}
 use Rattle.std.proofs.lemmas.Map.Lookups.{exact_bytes}
 use Rattle.std.specs.List.{slice_get}
-use Rattle.std.specs.Cmp.Lexicographic.{slice_cmp, pointwise, texts_ties}
-use Rattle.std.specs.Ordering.{nat_cmp, is_lt, is_eq, ordering_reverse, ordering_then}
+use Rattle.std.specs.Cmp.Lexicographic.{slice_cmp, pointwise}
+use Rattle.std.specs.Ordering.{nat_cmp, is_lt, ordering_then}
 use Rattle.std.specs.declared.cmp.Ordering.{Ordering}
 use Rattle.std.specs.declared.cmp.Ordering.TheVariants.{Less, Equal, Greater}
 use Rattle.mega_base.specs.declared.values.Row.{Row}
-use Rattle.mega_disk.specs.VersionMaps.{row_at, IsWithin, HasRow, HasAscendingKeys, IsScan}
+use Rattle.mega_disk.specs.VersionMaps.{IsWithin, HasRow, HasAscendingKeys, IsScan}
 use Rattle.mega_runs.specs.declared.body.Version.{Version}
-use Rattle.mega_runs.specs.Bodies.{Spot, spot_cmp, is_before, spot_of, ascends_from, ascends}
+use Rattle.mega_runs.specs.Bodies.{is_before, spot_of, ascends_from, ascends}
 use Rattle.mega_runs.specs.Finding.{Found, later_of, one_found, found_in, row_found}
 use Rattle.mega_runs.specs.Reads.{versions_in}
 use Rattle.mega_runs.specs.Scanning.{is_within, is_hidden, is_shown, row_entry, shown_of, shown}

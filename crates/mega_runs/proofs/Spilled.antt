@@ -1,6 +1,6 @@
 -- What a file holds with one body more.
-use Rattle.std.proofs.Common.{◌≡◌, ⊎_elim, inl, inr, ℕ, List, [], ◌∷◌, ◌++◌, Bool, true, false, cond, refl, sym, ◌∙◌, ap}
-use Rattle.std.specs.Prelude.{Option, Some, None, Result, Ok, Err, if◌then◌else◌}
+use Rattle.std.proofs.Common.{◌≡◌, ⊎_elim, inl, inr, ℕ, List, [], ◌∷◌, ◌++◌, Bool, true, refl, ◌∙◌, ap}
+use Rattle.std.specs.Prelude.{Option, Some, None, if◌then◌else◌}
 use Rattle.mega_base.specs.Whole.{whole_only}
 use Rattle.mega_runs.specs.declared.body.Run.{Run}
 use Rattle.mega_runs.specs.Bodies.{run_at, run_text, IsRun, ascends, ordered, body_of}

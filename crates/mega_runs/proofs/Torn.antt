@@ -1,6 +1,6 @@
 -- Writes that follow one another.
-use Rattle.std.proofs.Common.{◌≡◌, ℕ, ◌+◌, ◌-◌, ◌≤◌, List, [], ◌++◌, length, take, drop, refl, sym, ◌∙◌, ap, arith, append_assoc, length-append, length-take-le, length-drop, take-append-drop}
-use Rattle.std.specs.Prelude.{max, slice_range}
+use Rattle.std.proofs.Common.{◌≡◌, ℕ, ◌+◌, ◌-◌, ◌≤◌, List, [], ◌++◌, length, take, drop, sym, ◌∙◌, ap, arith, append_assoc, length-append, length-take-le, length-drop, take-append-drop}
+use Rattle.std.specs.Prelude.{slice_range}
 use Rattle.std.proofs.lemmas.List.{take_at, drop_at, drop-drop, take-take, take_all, append-nil}
 use Rattle.std.proofs.Math.Seq.{take-add}
 use Rattle.mega_disk.specs.Images.{overwritten, Torn}

@@ -1,9 +1,9 @@
 -- The laws of these formats.
-use Rattle.std.proofs.Common.{◌≡◌, ℕ, ◌≤◌, Bool, true, false, List, [], ◌∷◌, ◌++◌, length, refl, sym, ◌∙◌, ap, arith}
-use Rattle.std.specs.Prelude.{◌==◌, ◌<◌, ◌^◌, None}
+use Rattle.std.proofs.Common.{◌≡◌, ℕ, ◌≤◌, Bool, true, false, [], refl, sym, ◌∙◌, ap, arith}
+use Rattle.std.specs.Prelude.{◌==◌, None}
 use Rattle.std.proofs.lemmas.Bool.Decides.{nat_tests}
 use Rattle.std.proofs.lemmas.List.Elements.{All-nil}
-use Rattle.mega_base.specs.Reading.{Place, Read, ◌>>=◌, byte_in, list_in, option_at}
+use Rattle.mega_base.specs.Reading.{byte_in, list_in, option_at}
 use Rattle.mega_base.specs.Codec.{Codec, IsText, IsBetween, one_byte, IsList, list_text, option_text, IsOption, bytes_text}
 use Rattle.mega_base.specs.Names.{position_at, position_text, IsPosition, string_at, IsString, group_at, group_text, IsGroup}
 use Rattle.mega_base.specs.Values.{row_at, row_text, IsRow}
@@ -11,7 +11,6 @@ use Rattle.mega_base.specs.Codecs.{byte_codec, then_codec, map_codec, fits_codec
 use Rattle.mega_base.specs.Lists.{list_codec, plain_option_codec}
 use Rattle.mega_base.specs.NameLaws.{string_codec, any_position_codec, group_codec}
 use Rattle.mega_base.specs.ValueLaws.{row_codec}
-use Rattle.mega_base.specs.declared.names.GroupId.{GroupId}
 use Rattle.mega_base.specs.declared.names.Position.{Position}
 use Rattle.mega_base.specs.declared.values.Row.{Row}
 use Rattle.mega_runs.specs.declared.body.Version.{Version}

@@ -1,5 +1,5 @@
 -- What is kept in memory of a run on the device: the key and position of one in sixteen of its versions.
-use Rattle.std.specs.Prelude.{◌≡◌, ◌≤◌, ◌+◌, ℕ, List, [], ◌∷◌, length, take, drop, slice_range, Option, Some, None, option_map, true, if◌then◌else◌, map, All}
+use Rattle.std.specs.Prelude.{◌≡◌, ◌≤◌, ◌+◌, ℕ, List, [], ◌∷◌, length, take, drop, slice_range, Some, None, option_map, true, if◌then◌else◌, map, All}
 use Rattle.std.specs.List.{flat_map, slice_get, AllByRecursion}
 use Rattle.mega_runs.specs.declared.body.Version.{Version}
 use Rattle.mega_runs.specs.declared.index.Block.{Block}

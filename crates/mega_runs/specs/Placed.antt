@@ -1,11 +1,11 @@
 -- An index stands in its file in one way.
-use Rattle.std.specs.Prelude.{ℕ, ◌+◌, List, [], ◌∷◌, take, drop}
+use Rattle.std.specs.Prelude.{ℕ, ◌+◌, List, [], ◌∷◌, drop}
 use Rattle.std.specs.Coded.{×_prop, Unit-prop}
 use Rattle.std.proofs.Props.{props}
 use Rattle.mega_runs.specs.declared.body.Version.{Version}
 use Rattle.mega_runs.specs.declared.index.Block.{Block}
 use Rattle.mega_runs.specs.declared.index.Indexed.{Indexed}
-use Rattle.mega_runs.specs.Index.{IsBlock, AreBlocks, IsPlaced, ArePlaced}
+use Rattle.mega_runs.specs.Index.{AreBlocks, ArePlaced}
 
 pub AreBlocks-prop : (start : ℕ) (versions : List Version) (blocks : List Block) → IsProp (AreBlocks start versions blocks)
 AreBlocks-prop start versions [] = Prim.hlevel props

@@ -1,7 +1,6 @@
 -- What runs hold: of two versions with one key and position that of the later run counts.
 use Rattle.std.specs.Prelude.{ℕ, ◌==◌, ◌&&◌, nat_eq, if◌then◌else◌, Bool, List, [], ◌∷◌, Option, Some, None, map}
 use Rattle.std.specs.Cmp.Lexicographic.{pointwise}
-use Rattle.mega_base.specs.declared.values.Row.{Row}
 use Rattle.mega_base.specs.declared.names.GroupId.{GroupId}
 use Rattle.mega_base.specs.declared.names.Position.{Position}
 use Rattle.mega_disk.specs.VersionMaps.{Versions, Stored, Marks, or_else}

@@ -1,10 +1,9 @@
 -- The format of a counted list of versions.
-use Rattle.std.proofs.Common.{◌≡◌, ◌∙◌, ap, refl, ℕ, List, arith, Ok}
+use Rattle.std.proofs.Common.{refl, ℕ, List, arith, Ok}
 use Rattle.mega_base.specs.Reading.{Place, Read, ◌>>=◌, list_in}
 use Rattle.mega_base.specs.Codec.{Codec, IsText, IsList, list_text}
 use Rattle.mega_base.specs.Codecs.{map_codec, fits_codec}
 use Rattle.mega_base.specs.Lists.{list_codec}
-use Rattle.mega_runs.specs.declared.body.Version.{Version}
 use Rattle.mega_runs.specs.declared.body.VersionList.{VersionList}
 use Rattle.mega_runs.specs.Bodies.{most_items, version_at, version_text, IsVersion}
 use Rattle.mega_runs.specs.BodyLaws.{version_codec, some_version}

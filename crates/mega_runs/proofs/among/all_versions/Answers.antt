@@ -1,11 +1,10 @@
-use Rattle.std.proofs.Common.{rules, ◌≡◌, ◌≤◌, ◌<◌, ◌-◌, ◌+◌, ℕ, List, ◌∷◌, true, length, drop, sym, ◌∙◌, ap, subst, arith}
-use Rattle.std.specs.Prelude.{Some, IfOk}
+use Rattle.std.proofs.Common.{rules, ◌≡◌, ◌<◌, ◌-◌, ℕ, List, length, sym, ◌∙◌, ap, subst, arith}
+use Rattle.std.specs.Prelude.{Some}
 use Rattle.std.specs.List.{slice_get}
 use Rattle.mega_disk.proofs.Leaves.{started, then_leaves}
-use Rattle.mega_runs.specs.declared.body.Version.{Version}
 use Rattle.mega_runs.specs.Bodies.{ascends}
 use Rattle.mega_runs.specs.Merging.{merged, all_merged}
-use Rattle.mega_runs.specs.Index.{AreIndexed, IsIndexed}
+use Rattle.mega_runs.specs.Index.{IsIndexed}
 use Rattle.mega_runs.proofs.Found.{slice_at}
 use Rattle.mega_runs.proofs.Mixing.{merged_ascends}
 use Rattle.mega_runs.proofs.Listed.{listed_at, same_count, none_left, last_left}

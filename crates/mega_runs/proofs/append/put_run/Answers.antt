@@ -1,4 +1,4 @@
-use Rattle.std.proofs.Common.{◌≡◌, ℕ, ◌+◌, List, [], ◌∷◌, ◌++◌, true, sym, ◌∙◌, ap, subst, arith}
+use Rattle.std.proofs.Common.{ℕ, List, [], ◌∷◌, ◌++◌, sym, ◌∙◌, ap, subst, arith}
 use Rattle.mega_disk.proofs.Leaves.{weaker_leaves}
 use Rattle.mega_runs.specs.Fronts.{Standing}
 use Rattle.mega_runs.specs.Rest.{IsAtRest}

@@ -1,5 +1,4 @@
-use Rattle.std.proofs.Common.{rules, arith, ℕ, List, ◌+◌, length}
-use Rattle.mega_disk.specs.Images.{Torn}
+use Rattle.std.proofs.Common.{rules, arith}
 use Rattle.mega_disk.proofs.Leaves.{goes_on}
 use Rattle.mega_runs.proofs.Torn.{piece_torn, piece_written}
 use Rattle.mega_runs.proofs.device.write_pieces.Goals as goal

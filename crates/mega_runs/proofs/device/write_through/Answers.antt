@@ -1,4 +1,4 @@
-use Rattle.std.proofs.Common.{ℕ, List, length}
+use Rattle.std.proofs.Common.{length}
 use Rattle.mega_disk.specs.Images.{Torn}
 use Rattle.mega_disk.proofs.Leaves.{goes_on}
 use Rattle.mega_runs.proofs.device.write_through.Goals as goal

@@ -1,5 +1,5 @@
-use Rattle.std.proofs.Common.{◌≡◌, ℕ, ◌+◌, List, [], take, drop, length, ap, sym, ◌∙◌, subst, arith}
-use Rattle.std.specs.Prelude.{All, min}
+use Rattle.std.proofs.Common.{◌≡◌, ◌+◌, List, take, drop, length, ap, sym, subst, arith}
+use Rattle.std.specs.Prelude.{All}
 use Rattle.std.proofs.lemmas.Bool.Decides.{nat_tests}
 use Rattle.std.proofs.lemmas.List.{nil_from_length}
 use Rattle.std.proofs.lemmas.List.Elements.{All-drop}

@@ -1,7 +1,7 @@
-use Rattle.std.proofs.Common.{◌≡◌, ℕ, ◌-◌, List, sym, ◌∙◌, ap, subst}
+use Rattle.std.proofs.Common.{◌≡◌, ◌-◌, List, sym, ◌∙◌, ap, subst}
 use Rattle.std.specs.Prelude.{IfOk, Some}
 use Rattle.std.specs.List.{slice_get}
-use Rattle.mega_runs.specs.Finding.{Found, found_in, IsPlace}
+use Rattle.mega_runs.specs.Finding.{Found, IsPlace}
 use Rattle.mega_runs.specs.declared.index.Block.{Block}
 use Rattle.mega_runs.specs.Index.{spot_of_block}
 use Rattle.mega_runs.proofs.Found.{slice_at}

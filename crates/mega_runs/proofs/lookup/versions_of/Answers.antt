@@ -1,4 +1,4 @@
-use Rattle.std.proofs.Common.{◌≡◌, ℕ, ◌+◌, ◌++◌, ◌<◌, List, length, ap, sym, subst, ◌∙◌, Bool, true, arith, Result, Ok, Err}
+use Rattle.std.proofs.Common.{◌≡◌, ℕ, ◌++◌, ◌<◌, List, length, ap, subst, ◌∙◌, Bool, arith, Result, Ok, Err}
 use Rattle.std.specs.Prelude.{Some, None, All, if◌then◌else◌}
 use Rattle.mega_base.specs.Faults.{Gives}
 use Rattle.mega_base.specs.declared.fault.FieldFault.{FieldFault}
@@ -7,7 +7,6 @@ use Rattle.mega_base.specs.Codec.{number_text, IsList}
 use Rattle.mega_runs.specs.declared.body.Version.{Version}
 use Rattle.mega_runs.specs.declared.body.VersionList.{VersionList}
 use Rattle.mega_runs.specs.Bodies.{most_items, IsVersion, ascends}
-use Rattle.mega_runs.specs.Index.{versions_text}
 use Rattle.mega_runs.proofs.lookup.versions_of.Goals as goal
 
 abbrev list_of : List Version → VersionList

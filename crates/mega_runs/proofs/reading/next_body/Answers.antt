@@ -1,7 +1,7 @@
-use Rattle.std.proofs.Common.{◌≡◌, ℕ, ◌+◌, ◌-◌, List, ap, sym, ◌∙◌, subst, get_or, ◌<◌, arith}
-use Rattle.std.specs.Prelude.{slice_range, Some}
+use Rattle.std.proofs.Common.{ℕ, ◌+◌, ◌-◌, List, ap, sym, ◌∙◌, subst, get_or, ◌<◌, arith}
+use Rattle.std.specs.Prelude.{slice_range}
 use Rattle.mega_runs.specs.Opening.{size_in}
-use Rattle.mega_runs.proofs.Nexts.{none_short, next_none, next_found}
+use Rattle.mega_runs.proofs.Nexts.{none_short, next_found}
 use Rattle.mega_runs.proofs.reading.next_body.Goals as goal
 
 pub returns-then-size-at-lt10-clause-next : goal.returns-then-size-at-lt10-clause-next

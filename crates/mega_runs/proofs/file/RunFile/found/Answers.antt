@@ -1,9 +1,8 @@
-use Rattle.std.proofs.Common.{◌≡◌, ℕ, List, true, sym, ◌∙◌, ap, subst}
+use Rattle.std.proofs.Common.{◌≡◌, List, sym, subst}
 use Rattle.std.specs.Prelude.{IfOk}
 use Rattle.mega_runs.specs.declared.body.Version.{Version}
 use Rattle.mega_runs.specs.declared.index.Indexed.{Indexed}
 use Rattle.mega_runs.specs.Finding.{found_among}
-use Rattle.mega_runs.specs.Merging.{all_merged}
 use Rattle.mega_runs.specs.Fronts.{front_of}
 use Rattle.mega_runs.specs.Index.{AreIndexed}
 use Rattle.mega_runs.specs.Reads.{held_in}

@@ -1,7 +1,5 @@
-use Rattle.std.proofs.Common.{◌≡◌, ℕ, List, true, sym, ◌∙◌, ap, subst}
-use Rattle.std.specs.Prelude.{IfOk}
+use Rattle.std.proofs.Common.{◌≡◌, ◌∙◌, ap, subst}
 use Rattle.mega_disk.specs.VersionMaps.{Versions, IsScan}
-use Rattle.mega_runs.specs.declared.body.Version.{Version}
 use Rattle.mega_runs.specs.Reads.{versions_in, layered}
 use Rattle.mega_runs.specs.Fronts.{kept}
 use Rattle.mega_runs.specs.Merging.{all_merged}
