@@ -1,0 +1,16 @@
+mod Blocks
+mod Chains
+mod Found
+mod Fronting
+mod Growing
+mod Listed
+mod Mixing
+mod Nexts
+mod Order
+mod Outcomes
+mod Records
+mod Repaired
+mod Showing
+mod Spilled
+mod Torn
+mod Written

@@ -1,0 +1,16 @@
+pub mod Bodies
+pub mod BodyLaws
+pub mod Chain
+pub mod Examples
+pub mod Files
+pub mod Finding
+pub mod Fronts
+pub mod Index
+pub mod Merging
+pub mod Opening
+pub mod Placed
+pub mod Reads
+pub mod Rest
+pub mod Scanning
+pub mod Spilling
+pub mod VersionLists
