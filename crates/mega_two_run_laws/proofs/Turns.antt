@@ -31,11 +31,11 @@ tells two now told before is = record {
   plain = stays_plain (length now.plan.parts) now.phase told is.plain;
 }
 
-takes_plainly : (now : Two) (reply : List ℕ) → is_recovering now.phase ≡ false → taken now reply ≡ stepped now (told_in now.plan.name now.phase reply)
+pub takes_plainly : (now : Two) (reply : List ℕ) → is_recovering now.phase ≡ false → taken now reply ≡ stepped now (told_in now.plan.name now.phase reply)
 unfolding taken
 takes_plainly now reply plain = ap (λ (b : Bool). if b then read_plan now reply (plan_told reply) else stepped now (told_in now.plan.name now.phase reply)) plain
 
-loses : (now : Two) → lost now ≡ stepped now Lost
+pub loses : (now : Two) → lost now ≡ stepped now Lost
 unfolding lost
 loses now = refl
 

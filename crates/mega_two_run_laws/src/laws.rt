@@ -15,10 +15,16 @@ pub fn changes_go_by_what_they_are_told()
         → (driven node patience (start two) given).two.phase ≡ run (length two.plan.parts) phases.Begins (tolds node patience (start two) given) }
 {}
 
-/// A change that is begun and ends as committed was told by a reply that its plan is made, and of each part that it is finished.
+/// A change that ends as committed was told by a reply that its plan is made, and of each part that it is finished; one that is recovered, of each
+/// part of the plan that it read.
 pub fn committed_runs_saw_it()
-    ensures { (node patience : ℕ) (two : Two) (given : List (ℕ × Option Datagram)) → two.phase ≡ phases.Begins
+    ensures begun { (node patience : ℕ) (two : Two) (given : List (ℕ × Option Datagram)) → two.phase ≡ phases.Begins
         → ending (driven node patience (start two) given).two ≡ Some endings.Committed
         → (was shows_made (length two.plan.parts) phases.Begins (tolds node patience (start two) given) ≡ true)
         × ((part : ℕ) → nat_lt part (length two.plan.parts) ≡ true → was (closes part) (length two.plan.parts) phases.Begins (tolds node patience (start two) given) ≡ true) }
+    ensures recovered { (node patience : ℕ) (two : Two) (given : List (ℕ × Option Datagram)) → two.phase ≡ phases.Recovers
+        → ending (driven node patience (start two) given).two ≡ Some endings.Committed
+        → (was shows_made (length (driven node patience (start two) given).two.plan.parts) phases.Recovers (tolds node patience (start two) given) ≡ true)
+        × ((part : ℕ) → nat_lt part (length (driven node patience (start two) given).two.plan.parts) ≡ true
+        → was (closes part) (length (driven node patience (start two) given).two.plan.parts) phases.Recovers (tolds node patience (start two) given) ≡ true) }
 {}
