@@ -28,3 +28,8 @@ pub fn committed_runs_saw_it()
         × ((part : ℕ) → nat_lt part (length (driven node patience (start two) given).two.plan.parts) ≡ true
         → was (closes part) (length (driven node patience (start two) given).two.plan.parts) phases.Recovers (tolds node patience (start two) given) ≡ true) }
 {}
+
+/// A change keeps its name in its turns.
+pub fn driven_changes_keep_their_names()
+    ensures { (node patience : ℕ) (two : Two) (given : List (ℕ × Option Datagram)) → (driven node patience (start two) given).two.plan.name ≡ two.plan.name }
+{}
