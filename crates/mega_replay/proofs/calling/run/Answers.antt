@@ -92,7 +92,7 @@ returns-in-Err-clause-only g c = may_end _ c.in-Err.ensures.wanting
 pub returns-in-Ok-Some-Two-clause-two : goal.returns-in-Ok-Some-Two-clause-two
 returns-in-Ok-Some-Two-clause-two g c number turns recover is =
     let same = same_change c.in-Ok-Some-Two.ensures.value c.in-Ok-Some-Two.field-0-is c.in-Ok-Some-Two.field-0-0-is is in
-    rw (← same.0, ← same.1, ← same.2) (record { whole = c.run_two.ensures.whole; front = c.run_two.ensures.front; none = c.run_two.ensures.none; memory = c.run_two.ensures.memory })
+    rw (← same.0, ← same.1, ← same.2, ← c.as_ref.ensures.value) (record { whole = c.run_two.ensures.whole; front = c.run_two.ensures.front; none = c.run_two.ensures.none; memory = c.run_two.ensures.memory })
 
 pub returns-in-Ok-Some-Two-clause-offline : goal.returns-in-Ok-Some-Two-clause-offline
 returns-in-Ok-Some-Two-clause-offline g c is = absurd (so_read IsOffline c.in-Ok-Some-Two.ensures.value c.in-Ok-Some-Two.field-0-is c.in-Ok-Some-Two.field-0-0-is is)
