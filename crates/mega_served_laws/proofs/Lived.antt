@@ -1,9 +1,9 @@
 -- Every run tells of each node what its life tells, in which each start makes it anew from its journal.
-use Rattle.std.proofs.Common.{◌≡◌, ℕ, zero, suc, ◌+◌, ◌==◌, ◌&&◌, ◌≤◌, min, Bool, true, false, not, cond, List, [], ◌∷◌, ◌++◌, filter_map, flat_map, find, fold, length, map, reverse, Option, Some, None, refl, sym, ap, subst, ◌∙◌, if◌then◌else◌, arith}
+use Rattle.std.proofs.Common.{◌≡◌, ℕ, zero, suc, ◌+◌, ◌==◌, ◌&&◌, ◌≤◌, min, Bool, true, false, not, cond, List, [], ◌∷◌, ◌++◌, filter, filter_map, flat_map, find, fold, length, map, reverse, Option, Some, None, refl, sym, ap, subst, ◌∙◌, if◌then◌else◌, arith}
 use Rattle.std.specs.Prelude.{option_map}
 use Rattle.std.specs.List.{All}
 use Rattle.std.proofs.lemmas.Bool.Decides.{nat_tests}
-use Rattle.std.proofs.lemmas.List.Elements.{All-head, All-tail, All-weaker}
+use Rattle.std.proofs.lemmas.List.Elements.{All-append, All-cons, All-head, All-nil, All-tail, All-weaker}
 use Rattle.mega_cluster.specs.declared.cluster.Cluster.{Cluster}
 use Rattle.mega_disk.specs.declared.pair.Device.TheVariants.{Data, Log}
 use Rattle.mega_handler.specs.Named.{Meanings}
@@ -412,9 +412,9 @@ unsends_shown : (ms : List Message) → All IsShown (map Unsends ms)
 unsends_shown [] = All-nil IsShown
 unsends_shown (m ∷ ms) = All-cons IsShown (Unsends m) (map Unsends ms) refl (unsends_shown ms)
 
-owes_shown : (t : Bool) (one : Step) (replies : List Message) → All IsNote one.notes → All IsShown (cond t (owes one replies) [])
-owes_shown true one replies are = All-append IsShown (filter is_durable one.notes) (map Unsends replies) (durable_shown one.notes are) (unsends_shown replies)
-owes_shown false one replies are = All-nil IsShown
+owes_shown : (t : Bool) (one : Step) (answers : List Message) → All IsNote one.notes → All IsShown (cond t (owes one answers) [])
+owes_shown true one answers are = All-append IsShown (filter is_durable one.notes) (map Unsends answers) (durable_shown one.notes are) (unsends_shown answers)
+owes_shown false one answers are = All-nil IsShown
 
 module _ (c : Cluster) (v : ℕ) (h : Meanings) (now : Standing) (m : Moment c v now) (u : ℕ) where
   step_goes : (item : Item) (event : Event) (fate : Fate) → (AreOfNine now.tape → IsNearEvent among_nine event) → is_up (now.node u).met ≡ true → Own now.tape u item (met_in (setting c h u) (now.node u).met event)
@@ -581,10 +581,10 @@ record Stays (c : Cluster) (v : ℕ) (now next : Standing) : Type 0 where
   moment : Moment c v next
   starts : next.starts v ≡ now.starts v
 
-fated_starts : (c : Cluster) (now : Standing) (u v : ℕ) (own : List Item) (met : Met) (one : Step) (replies : List Message) (fate : Fate) → (fated c now u own met one replies fate).starts v ≡ now.starts v
-fated_starts c now u v own met one replies Whole = refl
-fated_starts c now u v own met one replies (CutByLog left) = refl
-fated_starts c now u v own met one replies (CutByData left) = refl
+fated_starts : (c : Cluster) (now : Standing) (u v : ℕ) (own : List Item) (met : Met) (one : Step) (answers : List Message) (fate : Fate) → (fated c now u own met one answers fate).starts v ≡ now.starts v
+fated_starts c now u v own met one answers Whole = refl
+fated_starts c now u v own met one answers (CutByLog left) = refl
+fated_starts c now u v own met one answers (CutByData left) = refl
 
 stays_goes : (c : Cluster) (v : ℕ) (now next : Standing) → Stays c v now next → Goes c v now next
 stays_goes c v now next s = record { moment = s.moment; starts = let is = s.starts in omega (arith, is) }

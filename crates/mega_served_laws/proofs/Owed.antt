@@ -33,13 +33,10 @@ durable_kept me (x ∷ notes) a js are h = by x (All-head IsNote x notes are) (�
     items : List JournalItem
     items = filter_map kept_of_note notes
 
-    abbrev Rest : Type 0
-    Rest = (b : List Met) (more : List JournalItem) → KeptAlike b (met_of me more) → KeptAlike (onto (filter is_durable notes) b) (met_of me (reverse items ++ more))
-
-    one : (item : JournalItem) (b : List Met) → KeptAlike b (met_of me (item ∷ js)) → Rest → KeptAlike (onto (filter is_durable notes) b) (met_of me (reverse (item ∷ items) ++ js))
+    one : (item : JournalItem) (b : List Met) → KeptAlike b (met_of me (item ∷ js)) → ((b : List Met) (more : List JournalItem) → KeptAlike b (met_of me more) → KeptAlike (onto (filter is_durable notes) b) (met_of me (reverse (filter_map kept_of_note notes) ++ more))) → KeptAlike (onto (filter is_durable notes) b) (met_of me (reverse (item ∷ items) ++ js))
     one item b k rest = subst (λ more. KeptAlike (onto (filter is_durable notes) b) (met_of me more)) (rev_cons item items js) (rest b (item ∷ js) k)
 
-    by : (x : Met) → IsNote x → Rest → KeptAlike (onto (filter is_durable (x ∷ notes)) a) (met_of me (reverse (filter_map kept_of_note (x ∷ notes)) ++ js))
+    by : (x : Met) → IsNote x → ((b : List Met) (more : List JournalItem) → KeptAlike b (met_of me more) → KeptAlike (onto (filter is_durable notes) b) (met_of me (reverse (filter_map kept_of_note notes) ++ more))) → KeptAlike (onto (filter is_durable (x ∷ notes)) a) (met_of me (reverse (filter_map kept_of_note (x ∷ notes)) ++ js))
     by (Decides g n entry) is rest = one _ (Decides g n entry ∷ a) (kept_more (Decides g n entry) a (met_of me js) h) rest
     by (Grants node epoch) is rest = one _ (Grants node epoch ∷ a) (kept_more (Grants node epoch) a (met_of me js) h) rest
     by (Lapses node epoch) is rest = one _ (Lapses node epoch ∷ a) (kept_more (Lapses node epoch) a (met_of me js) h) rest
