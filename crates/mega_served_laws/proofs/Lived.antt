@@ -1,5 +1,5 @@
 -- Every run tells of each node what its life tells, in which each start makes it anew from its journal.
-use Rattle.std.proofs.Common.{◌≡◌, ℕ, zero, suc, ◌+◌, ◌==◌, ◌&&◌, ◌≤◌, min, Bool, true, false, not, cond, List, [], ◌∷◌, ◌++◌, filter, filter_map, flat_map, find, fold, length, map, reverse, Option, Some, None, refl, sym, ap, subst, ◌∙◌, if◌then◌else◌, arith}
+use Rattle.std.proofs.Common.{◌≡◌, ℕ, zero, suc, ◌+◌, ◌==◌, ◌&&◌, ◌≤◌, min, Bool, true, false, not, cond, List, [], ◌∷◌, ◌++◌, filter, filter_map, flat_map, find, fold, length, map, reverse, Option, Some, None, refl, sym, ap, subst, ◌∙◌, arith}
 use Rattle.std.specs.Prelude.{option_map}
 use Rattle.std.specs.List.{All}
 use Rattle.std.proofs.lemmas.Bool.Decides.{nat_tests}
@@ -23,11 +23,11 @@ use Rattle.mega_rules.specs.Steps.{Begin, Event, Step, Take, Tick, crashed, onto
 use Rattle.mega_promises.specs.Items.{number, numbered, shown}
 use Rattle.mega_promises.specs.Messages.{is_deliverable, is_dropped, message_of, next_delivery, receiver_up}
 use Rattle.mega_promises.specs.NodeRuns.{met_of}
-use Rattle.mega_promises.specs.Runs.{breaks, is_durable, with_item, AsItWas, after_append, log_fuse_after, Calls, Compacted, CutByData, CutByLog, Cuts, Fate, Fuse, Happening, IsRun, Recorded, Standing, Whole, after_event, appends, at_node, because, calls_of, crashes, delivered, drained, fate_by, fated, fated_start, goes_on, handed, is_burning, is_kept, marked, may_become, met_in, new_fuse, nothing_yet, opening, owes, receiver_down, refusal, replies_in, set_at, setting, start_calls, unless_none, unless_refused, up, whole_start, whole_step, with_items}
+use Rattle.mega_promises.specs.Runs.{breaks, is_durable, with_item, Calls, CutByData, CutByLog, Cuts, Fate, Happening, IsRun, Standing, Whole, after_event, at_node, because, calls_of, crashes, delivered, drained, fate_by, fated, fated_start, goes_on, handed, is_kept, marked, met_in, nothing_yet, opening, owes, receiver_down, refusal, replies_in, set_at, setting, start_calls, unless_none, unless_refused, up, whole_start, whole_step, with_items}
 use Rattle.mega_promises.specs.Served.{kept_of, kept_of_body, kept_of_note}
 use Rattle.mega_served_laws.specs.Alike.{KeptAlike}
 use Rattle.mega_served_laws.specs.Lives.{AreOfNine, is_of_nine, receiver, Befalls, Does, FailsToStart, Falls, FallsIn, IsLife, Life, StartsUp, actor, lived, told_by, told_of}
-use Rattle.mega_served_laws.proofs.Alike.{Scope, kept_onto, kept_back, kept_more, kept_self, kept_then}
+use Rattle.mega_served_laws.proofs.Alike.{Scope, kept_onto, kept_back, kept_self, kept_then}
 use Rattle.mega_served_laws.proofs.Keeping.{starts_kept, step_kept, unkept}
 use Rattle.mega_served_laws.proofs.Notes.{IsNote, start_noted, step_fair}
 use Rattle.mega_served_laws.proofs.Starting.{notes_unkept}
@@ -668,8 +668,16 @@ nothing_yet_goes : (c : Cluster) (v : ℕ) → 1 ≤ v → Moment c v nothing_ye
 nothing_yet_goes c v least = record {
   owes = λ u. All-nil IsShown;
   lives = λ nine. record {
-    least = least; befalls = []; told = refl; starts = refl; owed = refl; kept = kept_self []; owing = tt;
-    none = λ is. refl; grants = λ is. absurd (cc); node = λ is. absurd (cc);
+    least = least;
+    befalls = [];
+    told = refl;
+    starts = refl;
+    owed = refl;
+    kept = kept_self [];
+    owing = tt;
+    none = λ is. refl;
+    grants = λ is. absurd (cc);
+    node = λ is. absurd (cc);
   };
 }
 

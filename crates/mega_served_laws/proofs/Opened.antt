@@ -1,5 +1,5 @@
 -- A start that shows what it owes leaves a node as one does that finds it in its journal.
-use Rattle.std.proofs.Common.{◌≡◌, ℕ, ◌+◌, ◌==◌, ◌&&◌, ◌≤◌, nat_le, not, Bool, true, false, cond, List, [], ◌∷◌, ◌++◌, flat_map, length, Option, Some, None, refl, sym, ap, subst, ◌∙◌, arith}
+use Rattle.std.proofs.Common.{◌≡◌, ℕ, ◌==◌, ◌&&◌, ◌≤◌, not, Bool, true, false, cond, List, [], ◌∷◌, ◌++◌, flat_map, length, Option, Some, None, refl, sym, ap, ◌∙◌, arith}
 use Rattle.std.specs.List.{All, list_any}
 use Rattle.std.proofs.lemmas.Bool.Decides.{nat_tests}
 use Rattle.std.proofs.lemmas.List.Elements.{All-head, All-tail}
@@ -14,16 +14,16 @@ use Rattle.mega_rules.specs.Met.{Met, Decides, Grants, Lapses, Starts, Unsends}
 use Rattle.mega_rules.specs.Clock.{begun_of, is_opening, start_of, ticks_of}
 use Rattle.mega_rules.specs.Coordinators.{coordinator_calls}
 use Rattle.mega_rules.specs.Finding.{refreshed_marks}
-use Rattle.mega_rules.specs.Locks.{cell_calls, if_opening, last_grant, reopening, reopenings}
+use Rattle.mega_rules.specs.Locks.{cell_calls, if_opening, last_grant, reopening}
 use Rattle.mega_rules.specs.Members.{has_rows, is_cell}
-use Rattle.mega_rules.specs.Operations.{Node, Setting}
+use Rattle.mega_rules.specs.Operations.{Setting}
 use Rattle.mega_rules.specs.Steps.{onto, start, start_notes}
 use Rattle.mega_leases.specs.Opening.{AreOwed, is_owed}
 use Rattle.mega_durable.specs.Granted.{grant_in}
 use Rattle.mega_durable.proofs.Granting.{opening_keeps}
 use Rattle.mega_node_laws.proofs.Ending.{onto_append}
 use Rattle.mega_served_laws.specs.Alike.{KeptAlike}
-use Rattle.mega_served_laws.proofs.Alike.{Alike, CellAlike, Scope, alike_onto, kept_more, kept_onto, kept_then}
+use Rattle.mega_served_laws.proofs.Alike.{Alike, Scope, alike_onto, kept_onto, kept_then}
 use Rattle.mega_served_laws.proofs.Keeping.{unkept}
 use Rattle.mega_served_laws.proofs.Logs.{log_alike}
 use Rattle.mega_served_laws.proofs.Owed.{each_owed}
@@ -75,12 +75,22 @@ owed_start : (c : Cluster) (me start : ℕ) (x : Met) (met : List Met) → IsOwe
 owed_start c me start (Unsends m) met is h = record { number = h.number; ticks = h.ticks; begun = h.begun; opening = h.opening; calls = h.calls; marks = h.marks; cell = h.cell; any = h.any }
 owed_start c me start (Decides group n entry) met is h = record { number = h.number; ticks = h.ticks; begun = h.begun; opening = h.opening; calls = h.calls; marks = h.marks; cell = h.cell; any = h.any }
 owed_start c me start (Grants node epoch) met is h = record {
-  number = h.number; ticks = h.ticks; begun = h.begun; opening = h.opening; calls = h.calls; marks = h.marks;
+  number = h.number;
+  ticks = h.ticks;
+  begun = h.begun;
+  opening = h.opening;
+  calls = h.calls;
+  marks = h.marks;
   cell = reopen_with (is_opening met) node epoch true (cell_calls c me met) h.cell;
   any = λ d. ap (λ calls. if_opening met (Reopens node epoch true) ++ calls) (h.any d);
 }
 owed_start c me start (Lapses node epoch) met is h = record {
-  number = h.number; ticks = h.ticks; begun = h.begun; opening = h.opening; calls = h.calls; marks = h.marks;
+  number = h.number;
+  ticks = h.ticks;
+  begun = h.begun;
+  opening = h.opening;
+  calls = h.calls;
+  marks = h.marks;
   cell = reopen_with (is_opening met) node epoch false (cell_calls c me met) h.cell;
   any = λ d. ap (λ calls. if_opening met (Reopens node epoch false) ++ calls) (h.any d);
 }
@@ -157,7 +167,13 @@ module _ (s : Setting) (number : ℕ) (owed a b : List Met) (least : 1 ≤ s.me)
   pub opened_alike : Alike among_nine s.cluster s.me shown_start (Starts number ∷ b)
   opened_alike = record {
     kept = kept_then shown_start (onto owed a) (Starts number ∷ b) kept_start (kept_then (onto owed a) b (Starts number ∷ b) h (record {
-      decides = λ group n. refl; groups = refl; newest = λ group. refl; tops = λ group. refl; shows = λ group n. refl; bests = λ group n. refl; grants = λ node. refl;
+      decides = λ group n. refl;
+      groups = refl;
+      newest = λ group. refl;
+      tops = λ group. refl;
+      shows = λ group n. refl;
+      bests = λ group n. refl;
+      grants = λ node. refl;
     }));
     start = at_start.number;
     ticks = at_start.ticks;

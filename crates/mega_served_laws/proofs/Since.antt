@@ -5,10 +5,9 @@ use Rattle.mega_handler.specs.Named.{Meanings}
 use Rattle.mega_wal.specs.History.{starts_of}
 use Rattle.mega_rules.specs.Met.{Met, Sends, Starts}
 use Rattle.mega_rules.specs.Operations.{Node, Setting}
-use Rattle.mega_rules.specs.Steps.{Begin, Event, Step, Take, Tick, onto, start, start_items, start_notes, step}
+use Rattle.mega_rules.specs.Steps.{Event, Step, onto, start, start_items, start_notes, step}
 use Rattle.mega_promises.specs.NodeRuns.{Input, met_of, node_run}
 use Rattle.mega_promises.specs.Runs.{met_in, setting}
-use Rattle.mega_node_laws.specs.Acted.{own_item}
 use Rattle.mega_node_laws.proofs.Ending.{step_met}
 use Rattle.mega_served_laws.specs.Alike.{KeptAlike}
 use Rattle.mega_served_laws.specs.Lives.{Befalls, Does, IsOfNodeRun, Life, StartsUp, lived, with_start}
