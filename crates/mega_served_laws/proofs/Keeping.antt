@@ -28,10 +28,10 @@ use Rattle.mega_served_laws.proofs.Notes.{IsNote, step_fair}
 
 -- ---- lists
 
-rev_cons : {X : Type 0} (x : X) (xs ys : List X) → reverse xs ++ (x ∷ ys) ≡ reverse (x ∷ xs) ++ ys
+pub rev_cons : {X : Type 0} (x : X) (xs ys : List X) → reverse xs ++ (x ∷ ys) ≡ reverse (x ∷ xs) ++ ys
 rev_cons x xs ys = sym (append_assoc (reverse xs) (x ∷ []) ys) ∙ ap (λ zs. zs ++ ys) (sym (reverse-append (x ∷ []) xs))
 
-rev_both : {X : Type 0} (xs ys zs : List X) → reverse ys ++ (reverse xs ++ zs) ≡ reverse (xs ++ ys) ++ zs
+pub rev_both : {X : Type 0} (xs ys zs : List X) → reverse ys ++ (reverse xs ++ zs) ≡ reverse (xs ++ ys) ++ zs
 rev_both xs ys zs = sym (append_assoc (reverse ys) (reverse xs) zs) ∙ ap (λ ws. ws ++ zs) (sym (reverse-append xs ys))
 
 -- ---- what is not kept

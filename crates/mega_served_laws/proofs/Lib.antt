@@ -11,3 +11,5 @@ pub mod Telling
 pub mod Lived
 pub mod Since
 pub mod Called
+pub mod Owed
+pub mod Opened

@@ -3,28 +3,22 @@ use Rattle.std.proofs.Common.{◌≡◌, ℕ, ◌+◌, List, [], ◌∷◌, ◌+
 use Rattle.mega_cluster.specs.declared.cluster.Cluster.{Cluster}
 use Rattle.mega_handler.specs.Named.{Meanings}
 use Rattle.mega_wal.specs.History.{starts_of}
-use Rattle.mega_rules.specs.Met.{Met, Sends}
+use Rattle.mega_rules.specs.Met.{Met, Sends, Starts}
 use Rattle.mega_rules.specs.Operations.{Node, Setting}
-use Rattle.mega_rules.specs.Steps.{Begin, Event, Step, Take, Tick, onto, start, start_items, step}
+use Rattle.mega_rules.specs.Steps.{Event, Step, onto, start, start_items, start_notes, step}
 use Rattle.mega_promises.specs.NodeRuns.{Input, met_of, node_run}
 use Rattle.mega_promises.specs.Runs.{met_in, setting}
-use Rattle.mega_node_laws.specs.Acted.{own_item}
 use Rattle.mega_node_laws.proofs.Ending.{step_met}
 use Rattle.mega_served_laws.specs.Alike.{KeptAlike}
-use Rattle.mega_served_laws.specs.Lives.{Befalls, Does, IsOfNodeRun, StartsUp, lived, with_start}
+use Rattle.mega_served_laws.specs.Lives.{Befalls, Does, IsOfNodeRun, Life, StartsUp, lived, with_start}
 use Rattle.mega_served_laws.specs.Pasts.{SameSince, run_over}
-use Rattle.mega_served_laws.proofs.Lived.{own_same}
+use Rattle.mega_served_laws.proofs.Lived.{own_is, own_same}
 use Rattle.mega_served_laws.proofs.Starting.{items_alike, start_alike}
 use Rattle.mega_served_laws.proofs.Steps.{NodeAlike, StepAlike, anywhere, event_anywhere, step_alike}
 
 onto_over : (xs since past : List Met) → onto xs (since ++ past) ≡ onto xs since ++ past
 onto_over [] since past = refl
 onto_over (x ∷ xs) since past = onto_over xs (x ∷ since) past
-
-own_is : (s : Setting) (node : Node) (event : Event) → own_item s node event ≡ met_in s node.met event
-own_is s node (Tick now) = refl
-own_is s node (Take m) = refl
-own_is s node (Begin request text) = refl
 
 pub step_is : (s : Setting) (node : Node) (event : Event) → (step s node event).node.met ≡ onto (map Sends (step s node event).sends) (onto (step s node event).notes (met_in s node.met event ∷ node.met))
 step_is s node event = step_met s node event ∙ ap (λ own. onto (map Sends (step s node event).sends) (onto (step s node event).notes (own ∷ node.met))) (own_is s node event)
@@ -52,7 +46,7 @@ module _ (c : Cluster) (me : ℕ) (past other : List Met) where
   inputs_same (one ∷ inputs) x y since alike met also =
       inputs_same inputs (step s x one.event).node (step s y one.event).node (with_step (step s x one.event) (met_in s x.met one.event) since) made.node
       (step_over s x one.event since past met)
-      (step_over s y one.event since other also ∙ (λ i. onto (map Sends (sym made.sends i)) (onto (sym made.notes i) (sym (own_same s x y one.event alike) i ∷ since)) ++ other))
+      (step_over s y one.event since other also ∙ (λ i. onto (map Sends (sym made.sends i)) (onto (sym made.notes i) (sym (own_same anywhere s x y one.event alike) i ∷ since)) ++ other))
     where
       s : Setting
       s = setting c one.handlers me
@@ -97,11 +91,20 @@ module _ (c : Cluster) (me : ℕ) (past before : List Met) where
 pub start_is_run : (c : Cluster) (me : ℕ) (before : List Befalls) (first : Meanings) (inputs : List Input) → IsOfNodeRun c me before first inputs
 start_is_run c me before first inputs = record { node = run.is; since = run.since; met = run.met; told = run.told }
   where
+    life : Life
+    life = lived c me before
+
+    number : ℕ
+    number = starts_of life.journal + 1
+
     past : List Met
-    past = met_of me (lived c me before).journal
+    past = Starts number ∷ met_of me life.journal
 
-    items : List Met
-    items = start_items (setting c first me) (starts_of (lived c me before).journal + 1) [] past
+    shown : List Met
+    shown = onto life.owed (Starts number ∷ life.told)
 
-    run : Since c me past (lived c me before).told (with_start before first inputs) (node_run c me first (lived c me before).journal inputs)
-    run = inputs_since c me past (lived c me before).told inputs (StartsUp first ∷ before) (onto items []) (onto_over items [] past) (onto_over items [] (lived c me before).told)
+    notes : List Met
+    notes = start_notes (setting c first me) past
+
+    run : Since c me past shown (with_start before first inputs) (node_run c me first life.journal inputs)
+    run = inputs_since c me past shown inputs (StartsUp first ∷ before) (onto notes []) (onto_over notes [] past) (onto_over notes [] shown)

@@ -36,6 +36,9 @@ start_unkept s met = if_rows (has_rows s.cluster s.me)
     if_rows true = each (groups_of met)
     if_rows false = All-nil Unkept
 
+pub notes_unkept : (s : Setting) (met : List Met) → KeptAlike (onto (start_notes s met) met) met
+notes_unkept s met = all_unkept (start_notes s met) met (start_unkept s met)
+
 module _ (s : Setting) where
   -- what a start notes is kept as its count
   pub start_kept : (number : ℕ) (a : List Met) → KeptAlike (start s number [] a).met (Starts number ∷ a)

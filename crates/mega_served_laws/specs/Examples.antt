@@ -1,4 +1,4 @@
--- Two calls of a witness: it promises in the first, and in the second, under a header whose schema extends the first one's, it keeps its promise.
+-- Three nodes of which one ticks. And two calls of a witness: it promises in the first, and in the second, under a header whose schema extends the first one's, it keeps its promise.
 use Rattle.std.specs.Prelude.{ℕ, List, [], ◌∷◌, ◌++◌, Some, None, codes, filter_map}
 use Rattle.mega_base.specs.declared.values.Kind.TheVariants.{Str}
 use Rattle.mega_base.specs.declared.values.NodeKind.TheVariants.{Full, Witness}
@@ -11,7 +11,10 @@ use Rattle.mega_wal.specs.declared.item.JournalItem.{JournalItem}
 use Rattle.mega_wire.specs.Messages.{message_text}
 use Rattle.mega_wire.specs.declared.message.Body.TheVariants.{Prepare, Promise, Refused}
 use Rattle.mega_wire.specs.declared.message.Message.{Message}
-use Rattle.mega_rules.specs.Examples.{from_to, group, op_of, schema, users}
+use Rattle.mega_transcript.specs.declared.item.Item.{Item}
+use Rattle.mega_promises.specs.Runs.{Happening, by_fuse, goes_on, opening}
+use Rattle.mega_promises.specs.Worked.{happens, tick}
+use Rattle.mega_rules.specs.Examples.{cluster, from_to, group, op_of, schema, users}
 use Rattle.mega_promises.specs.Records.{NodeCall}
 use Rattle.mega_promises.specs.Served.{OfNode, Peer, Refuses, Turn, put_in, served}
 
@@ -76,3 +79,10 @@ promise_and_refusal =
     (OfNode 3, message_text (from_to 1 3 (Promise (op_of 3) group (record { 0 = 1 }) (ballot_of 3) None)))
     ∷ (OfNode 2, message_text (from_to 1 2 (Refused (op_of 2) group (record { 0 = 1 }) (ballot_of 2) (ballot_of 3) None)))
     ∷ []
+
+-- three nodes start, and the first one's clock ticks
+abbrev pub one_tick : List Happening
+one_tick = happens (tick 1 5) ∷ []
+
+abbrev pub ticked_tape : List Item
+ticked_tape = (goes_on cluster by_fuse (opening cluster []) one_tick).tape

@@ -1,7 +1,6 @@
 //! Laws of a node by itself, as contracts of functions that do nothing.
 
-ghost use Rattle.std.specs.Prelude.{◌≡◌, ◌+◌, ◌++◌, ◌≤◌, [], ℕ, true, length, filter_map, reverse, List};
-ghost use Rattle.std.specs.List.{All};
+ghost use Rattle.std.specs.Prelude.{◌≡◌, ◌+◌, ◌++◌, ◌≤◌, ℕ, length, filter_map, reverse, List};
 ghost use Rattle.mega_cluster.specs.declared.cluster.Cluster.{Cluster};
 ghost use Rattle.mega_handler.specs.Named.{Meanings};
 ghost use Rattle.mega_transcript.specs.declared.item.Item.{Item};
@@ -16,7 +15,7 @@ ghost use Rattle.mega_promises.specs.Runs.{Happening, IsRun};
 ghost use Rattle.mega_promises.specs.Served.{IsCompacted, kept_of, put_in};
 ghost use Rattle.mega_served_laws.specs.Alike.{KeptAlike, SaySame};
 ghost use Rattle.mega_served_laws.specs.Calls.{all_called, found, left_by, lines_of, sends_of};
-ghost use Rattle.mega_served_laws.specs.Lives.{Befalls, IsLife, IsOfNodeRun, is_losing};
+ghost use Rattle.mega_served_laws.specs.Lives.{AreOfNine, Befalls, IsLife, IsOfNodeRun};
 ghost use Rattle.mega_served_laws.specs.Pasts.{SameSince, run_over};
 
 /// Of what a node met before a start, what it does behind it rests on what is kept alone: two pasts that agree in that lead by the same inputs to
@@ -48,11 +47,11 @@ pub fn calls_are_one_run()
 {}
 
 /// What concerns a node on the tape of a run is its life: each of its starts makes it anew from its journal alone, and what it is given then leads
-/// to what the tape tells of it, line by line. It holds where the fuses of logs lose the writes that are pending, and there are fewer nodes and events
-/// than 2^32.
+/// to what the tape tells of it, line by line, whatever fuses cut. It holds where what is asked of cells comes from, and is about, the nine nodes
+/// that a cluster can have, and there are fewer nodes and events than 2^32.
 pub fn a_tape_tells_the_life_of_each_node()
     ensures { (c : Cluster) (first : Meanings) (events : List Happening) (tape : List Item) → IsRun c first events tape →
-        All (λ one. is_losing one ≡ true) events → length (nodes c) + length events ≤ 4294967295 → (me : ℕ) → IsLife c me tape }
+        AreOfNine tape → length (nodes c) + length events ≤ 4294967295 → (me : ℕ) → 1 ≤ me → IsLife c me tape }
 {}
 
 /// In a life, a start and what is given behind it is a node run from the journal that was left before.
