@@ -1,8 +1,16 @@
 -- What the call of a change of several groups came to.
-use Rattle.std.specs.Prelude.{◌≡◌, ◌⊎◌, ℕ, false, List, Option}
+use Rattle.std.specs.Prelude.{◌≡◌, ◌⊎◌, ℕ, false, true, length, nat_lt, List, Option, Some}
 use Rattle.std.specs.Io.KnownBytes.{Appends}
 use Rattle.mega_io.specs.Pieces.{AppendsFront}
+use Rattle.mega_link.specs.Datagrams.{Datagram}
 use Rattle.mega_node.specs.Outside.{Outside}
+use Rattle.mega_two_driver.specs.declared.phase.Ended.TheVariants.{Committed}
+use Rattle.mega_two_driver.specs.declared.phase.Phase.{Phase}
+use Rattle.mega_two_driver.specs.declared.phase.Phase.TheVariants.{Begins, Recovers}
+use Rattle.mega_two_driver.specs.declared.two.Two.{Two}
+use Rattle.mega_two_driver_laws.specs.Runs.{closes, shows_made, was}
+use Rattle.mega_two_turns.specs.Turns.{driven, ending, start}
+use Rattle.mega_two_run_laws.specs.Tolds.{tolds}
 use Rattle.mega_two_words.specs.declared.last.Last.{Last}
 use Rattle.mega_two_words.specs.Endings.{is_cut, last_line, status_of}
 use Rattle.mega_two_words.specs.Runs.{RunsTo}
@@ -11,6 +19,19 @@ use Rattle.mega_two_words.specs.Runs.{RunsTo}
 abbrev pub Drove : ℕ → ℕ → Option (List ℕ) → Option (List ℕ) → Outside → Outside → (Last → Type 0) → Type 0
 Drove number turns recover input before after Says = RunsTo number turns recover input before.readings after.readings before.taken after.taken before.sent after.sent Says
 
+-- in these turns a change of so many parts was told that its plan is made, and of each part that it is finished
+abbrev pub SawItMade : ℕ → ℕ → ℕ → Phase → Two → List (ℕ × Option Datagram) → Type 0
+SawItMade number patience count from two given =
+    (was shows_made count from (tolds number patience (start two) given) ≡ true)
+    × ((part : ℕ) → nat_lt part count ≡ true → was (closes part) count from (tolds number patience (start two) given) ≡ true)
+
+-- so it was where a change ended as committed: of the parts with which it began, or of those of the plan that it read
+pub record SeesBefore (number : ℕ) : Type 0 where
+  pub begun : (patience : ℕ) (two : Two) (given : List (ℕ × Option Datagram)) → two.phase ≡ Begins → ending (driven number patience (start two) given).two ≡ Some Committed
+      → SawItMade number patience (length two.plan.parts) Begins two given
+  pub recovered : (patience : ℕ) (two : Two) (given : List (ℕ × Option Datagram)) → two.phase ≡ Recovers → ending (driven number patience (start two) given).two ≡ Some Committed
+      → SawItMade number patience (length (driven number patience (start two) given).two.plan.parts) Recovers two given
+
 -- a change was to be driven for so many turns, and what was asked for ended with this status: unless a call failed or memory was wanting, its last line was
 -- written, and nothing else; of one that the sink did not take a front
 pub record HasDriven (number turns : ℕ) (recover input : Option (List ℕ)) (before after : Outside) (status : ℕ) : Type 0 where
@@ -18,3 +39,4 @@ pub record HasDriven (number turns : ℕ) (recover input : Option (List ℕ)) (b
   pub front : status ≡ 6 → Drove number turns recover input before after (λ last. AppendsFront before.held after.held (last_line last))
   pub none : (status ≡ 5) ⊎ (status ≡ 9) → after.held ≡ before.held
   pub memory : status ≡ 8 → (last : Last) × AppendsFront before.held after.held (last_line last)
+  pub sees : SeesBefore number

@@ -4,7 +4,7 @@ use Rattle.mega_words.specs.declared.command.Command.{Command}
 use Rattle.mega_words.specs.Commands.{MayWant}
 use Rattle.mega_replay.specs.Statuses.{IsOffline, IsStatusOf, UsesNoDevice}
 use Rattle.mega_replay.proofs.Asked.{same_backup, same_change, same_node, same_report, same_restore, so_asked, so_read}
-use Rattle.mega_replay.proofs.Changes.{none_driven}
+use Rattle.mega_replay.proofs.Changes.{none_driven, sees_before}
 use Rattle.mega_replay.proofs.Backups.{may_end, nothing_done, rows_come_back}
 use Rattle.mega_replay.proofs.calling.run.Goals as goal
 
@@ -92,7 +92,7 @@ returns-in-Err-clause-only g c = may_end _ c.in-Err.ensures.wanting
 pub returns-in-Ok-Some-Two-clause-two : goal.returns-in-Ok-Some-Two-clause-two
 returns-in-Ok-Some-Two-clause-two g c number turns recover is =
     let same = same_change c.in-Ok-Some-Two.ensures.value c.in-Ok-Some-Two.field-0-is c.in-Ok-Some-Two.field-0-0-is is in
-    rw (← same.0, ← same.1, ← same.2, ← c.as_ref.ensures.value) (record { whole = c.run_two.ensures.whole; front = c.run_two.ensures.front; none = c.run_two.ensures.none; memory = c.run_two.ensures.memory })
+    rw (← same.0, ← same.1, ← same.2, ← c.as_ref.ensures.value) (record { whole = c.run_two.ensures.whole; front = c.run_two.ensures.front; none = c.run_two.ensures.none; memory = c.run_two.ensures.memory; sees = sees_before c.in-Ok-Some-Two.node })
 
 pub returns-in-Ok-Some-Two-clause-offline : goal.returns-in-Ok-Some-Two-clause-offline
 returns-in-Ok-Some-Two-clause-offline g c is = absurd (so_read IsOffline c.in-Ok-Some-Two.ensures.value c.in-Ok-Some-Two.field-0-is c.in-Ok-Some-Two.field-0-0-is is)

@@ -1,19 +1,22 @@
 #!/usr/bin/env python3
-"""A transfer between two groups that happens whole or not at all, however often its driver is killed.
+"""A transfer between two groups that happens whole or not at all, wherever its driver is killed.
 
-    examples/cluster/transfer.py [--program PATH]
+    examples/transfer/run.py [--program PATH]
 
-Three nodes have two accounts, each a group of its own. A driver (`megastore two`) is given few turns, more each time, until it stops with both
-groups locked and nothing decided; another one recovers its change by name, and no money has moved. A driver with turns enough makes the transfer.
+Three nodes have two accounts, each a group of its own. A driver (`megastore two`) of a transfer is held still again and again, and is killed once both
+groups are locked and nothing is decided; another one recovers the change by its name, and no money has moved. A driver that is left alone makes the transfer.
 """
 import argparse
 import json
 import pathlib
+import signal
 import subprocess
 import sys
 import tempfile
+import time
 
-from cluster import Client, Cluster, end_within, find_program
+sys.path.insert(0, str(pathlib.Path(__file__).resolve().parents[1] / "cluster"))
+from cluster import Client, Cluster, end_within, find_program  # noqa: E402
 
 SCHEMA = (
     "CREATE SCHEMA Bank; "
@@ -25,6 +28,7 @@ SCHEMA = (
 )
 START = {1: 100, 2: 0}
 AMOUNT = 30
+TURNS = 100_000
 
 
 def put(account, balance):
@@ -55,12 +59,20 @@ class Bank:
             wish = {"do": "txn", "group": ["Account", [account]], "checks": [], "reads": [], "writes": [put(account, balance)], "sends": []}
             print(f"  account {account} has {balance}: {self.client.ask(1, wish)}")
 
-    def drive(self, turns, gid, recovers=False):
-        """The last line of a driver that makes so many turns at node 2 at most."""
-        words = [str(self.cluster.program), "two", "--node", "2", "--turns", str(turns), *(["--recover", gid] if recovers else [])]
-        given = self.cluster.header.read_text() + ("" if recovers else transfer(gid) + "\n")
-        ended = subprocess.run(words, input=given.encode(), capture_output=True, check=False, cwd=self.cluster.folder)
-        return ended.stdout.decode().strip()
+    def driver(self, gid, recovers=False):
+        """A process that drives a change by requests to node 2."""
+        words = [str(self.cluster.program), "two", "--node", "2", "--turns", str(TURNS), *(["--recover", gid] if recovers else [])]
+        process = subprocess.Popen(words, stdin=subprocess.PIPE, stdout=subprocess.PIPE, cwd=self.cluster.folder)
+        process.stdin.write((self.cluster.header.read_text() + ("" if recovers else transfer(gid) + "\n")).encode())
+        process.stdin.close()
+        return process
+
+    def drive(self, gid, recovers=False):
+        """The last line of a driver that is left alone."""
+        process = self.driver(gid, recovers)
+        told = process.stdout.read().decode().strip()
+        process.wait()
+        return told
 
     def rows(self, group, table):
         """The rows of a table in a group, as a current read at node 3 shows them."""
@@ -78,30 +90,47 @@ class Bank:
         return [row["state"] for row in self.rows(["TwoPlan", [gid]], "TwoPlan")]
 
 
-def stop_between(bank):
-    """The name of a change whose driver stopped with both groups locked and nothing decided. Others on the way are recovered."""
-    for turns in range(1, 2_000):
-        gid = f"t{turns}"
-        ended = bank.drive(turns, gid)
-        if bank.state(gid) == [0] and bank.locks() == [1, 2]:
-            print(f"  a driver with {turns} turns: {ended}; accounts {bank.locks()} are locked, the plan is undecided")
+def is_between(bank, gid):
+    """Both groups are locked for the change, and its plan is undecided."""
+    return bank.state(gid) == [0] and bank.locks() == [1, 2]
+
+
+def killed_between(bank, gid):
+    """Whether a driver of the change was killed between preparing its parts and deciding. It is held still while the accounts are looked at."""
+    process = bank.driver(gid)
+    while process.poll() is None:
+        process.send_signal(signal.SIGSTOP)
+        time.sleep(0.02)
+        if is_between(bank, gid):
+            process.kill()
+            process.wait()
+            return True
+        process.send_signal(signal.SIGCONT)
+        time.sleep(0.0003)
+    return False
+
+
+def kill_between(bank):
+    """The name of a change whose driver was killed so. One that slipped through is made, and the accounts are set back."""
+    for number in range(1, 100):
+        gid = f"t{number}"
+        if killed_between(bank, gid):
+            print(f"  a driver of {gid} is killed: accounts {bank.locks()} are locked, the plan is undecided")
             return gid
-        bank.drive(100_000, gid, recovers=True)
-        if bank.balances() != START:
-            raise SystemExit("a change was made before it was stopped between")
-    raise SystemExit("no driver stopped between")
+        bank.open_accounts()
+    raise SystemExit("no driver was killed between")
 
 
 def show(bank):
     bank.open_accounts()
-    gid = stop_between(bank)
-    print(f"  recovered: {bank.drive(100_000, gid, recovers=True)}")
+    gid = kill_between(bank)
+    print(f"  recovered: {bank.drive(gid, recovers=True)}")
     print(f"  balances {bank.balances()}, locked {bank.locks()}")
-    whole = bank.balances() == START and not bank.locks()
-    print(f"  a driver with turns enough: {bank.drive(100_000, 'last')}")
+    kept = bank.balances() == START and not bank.locks()
+    print(f"  a driver that is left alone: {bank.drive('last')}")
     print(f"  balances {bank.balances()}, locked {bank.locks()}")
     moved = {1: START[1] - AMOUNT, 2: START[2] + AMOUNT}
-    return 0 if whole and bank.balances() == moved and not bank.locks() else 1
+    return 0 if kept and bank.balances() == moved and not bank.locks() else 1
 
 
 def main():

@@ -1,7 +1,7 @@
 #!/usr/bin/env python3
 """A group backed up, wiped and restored: what a backup has of a node's log comes back in a cluster that has nothing.
 
-    examples/cluster/backup.py [--program PATH]
+    examples/transfer/backup.py [--program PATH]
 
 Three nodes take puts of a user's notes and are killed. The user's group is backed up from the log of node 1. Three other nodes, with nothing on
 their devices, are asked the lines that `restore` makes of the backup, and then show the notes; so does a restore at an earlier position.
@@ -13,7 +13,8 @@ import subprocess
 import sys
 import tempfile
 
-from cluster import Client, Cluster, end_within, find_program, put_note, read_notes
+sys.path.insert(0, str(pathlib.Path(__file__).resolve().parents[1] / "cluster"))
+from cluster import Client, Cluster, end_within, find_program, put_note, read_notes  # noqa: E402
 
 USER = 1
 GROUP = "018000000000000001"
