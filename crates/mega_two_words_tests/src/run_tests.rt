@@ -2,6 +2,7 @@
 
 use crate::samples;
 use mega_base::{Bytes, NodeId, Text};
+use mega_formed::is_message;
 use mega_io::{MemSink, MemSource};
 use mega_link::{MemClock, MemLink, Peer};
 use mega_two_words::run_two;
@@ -27,6 +28,9 @@ fn reply(alloc: Global, text: &str) -> Result<Bytes, Fail> {
         to: 0,
         body: Body::Reply { token: 1, text },
     };
+    if !is_message(&message) {
+        return Err(Fail::from("no message"));
+    }
     let mut bytes = Bytes::new(alloc);
     encode(&message, &mut bytes)?;
     Ok(bytes)
