@@ -3,6 +3,7 @@ mod Chains
 mod Found
 mod Fronting
 mod Growing
+mod Keepings
 mod Listed
 mod Mixing
 mod Nexts

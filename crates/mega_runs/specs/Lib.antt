@@ -13,4 +13,5 @@ pub mod Reads
 pub mod Rest
 pub mod Scanning
 pub mod Spilling
+pub mod Stores
 pub mod VersionLists

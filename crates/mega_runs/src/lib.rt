@@ -11,6 +11,7 @@ mod examples;
 mod file;
 mod index;
 mod laws;
+mod keeping;
 mod lookup;
 mod merging;
 mod opening;

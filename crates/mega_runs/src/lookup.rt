@@ -155,7 +155,7 @@ fn counted(alloc: Global, bytes: &[u8], count: u32) -> Result<Bytes, NoMemory>
 }
 
 /// A copy of the position and the row of a version.
-fn copy_of(alloc: Global, version: Option<&Version>) -> Result<Seen, StoreError>
+pub(crate) fn copy_of(alloc: Global, version: Option<&Version>) -> Result<Seen, StoreError>
     ensures value { IfOk result (λ seen. seen ≡ option_map (λ v. (v.now.at.0, v.now.row)) version.entry) }
     ensures memory { OnErr result (result ≡ Err StoreError.NoMemory) }
 {

@@ -1,11 +1,12 @@
 //! Puts versions among others in order.
-ghost use Rattle.std.specs.Prelude.{◌≡◌, true, OnOk, OnErr};
+ghost use Rattle.std.specs.Prelude.{◌≡◌, true, IfOk, OnOk, OnErr};
 ghost use Rattle.mega_runs.specs.Bodies.{ascends};
 ghost use Rattle.mega_runs.specs.Merging.{is_taken as is_taken_at, merged, with_version};
 
 use crate::body::Version;
 use crate::search::place_of;
-use mega_base::NoMemory;
+use mega_base::{Copied, NoMemory, Row};
+use std::alloc::Global;
 
 /// Puts a version in its place, or in place of the one of its key and position.
 pub(crate) fn put(versions: &mut Vec<Version>, version: Version) -> Result<(), NoMemory>
@@ -45,4 +46,36 @@ pub(crate) fn merge(newer: Vec<Version>, older: &mut Vec<Version>) -> Result<(),
         put(older, version)?;
     }
     Ok(())
+}
+
+/// Copies of versions.
+pub(crate) fn copies(alloc: Global, versions: &[Version]) -> Result<Vec<Version>, NoMemory>
+    ensures { IfOk result (λ made. made.items ≡ versions.now) }
+{
+    let mut made = Vec::with_capacity(alloc, versions.len())?;
+    for version in versions {
+        made.push(copy_of(alloc, version)?)?;
+    }
+    Ok(made)
+}
+
+fn copy_of(alloc: Global, version: &Version) -> Result<Version, NoMemory>
+    ensures { IfOk result (λ made. made ≡ version.now) }
+{
+    let key = version.key.copy(alloc)?;
+    let row = row_copy(alloc, &version.row)?;
+    Ok(Version {
+        key,
+        at: version.at,
+        row,
+    })
+}
+
+fn row_copy(alloc: Global, row: &Option<Row>) -> Result<Option<Row>, NoMemory>
+    ensures { IfOk result (λ made. made ≡ row.now) }
+{
+    match row {
+        Some(row) => Ok(Some(row.copy(alloc)?)),
+        None => Ok(None),
+    }
 }

@@ -64,7 +64,7 @@ fn are_versions(versions: &[Version]) -> bool
 }
 
 /// Whether the version can be written: its key has at most 65,536 bytes, and its row is none or can be written.
-fn is_version(version: &Version) -> bool
+pub(crate) fn is_version(version: &Version) -> bool
     ensures { result ≡ true → IsVersion version.now }
 {
     let _at = version.at.0;

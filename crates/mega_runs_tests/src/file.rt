@@ -100,7 +100,7 @@ fn the_first_run_has_these_bytes(rt: HostRuntime) -> Result<(), Fail> {
     add(alloc, &mut file, run)?;
     let mut disk = file.close();
     let bytes = bytes_of(alloc, &mut disk)?;
-    assert_eq!(rt; bytes.as_slice(), &FIRST);
+    assert_eq!(rt; bytes.as_slice(), FIRST.as_slice());
     Ok(())
 }
 
