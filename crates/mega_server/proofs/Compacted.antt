@@ -1,5 +1,5 @@
 -- A step behind a compaction of the node's log is the step, and its devices only went on.
-use Rattle.std.proofs.Common.{◌≡◌, ◌⊎◌, inl, inr, ℕ, ◌+◌, ◌-◌, ◌^◌, ◌≤◌, min, List, Option, Err, refl, sym, subst, arith}
+use Rattle.std.proofs.Common.{◌≡◌, ◌⊎◌, inl, inr, ℕ, ◌+◌, ◌-◌, ◌^◌, ◌≤◌, min, Bool, true, false, cond, List, Option, Err, refl, sym, subst, arith}
 use Rattle.mega_base.specs.Causes.{Rose}
 use Rattle.mega_cluster.specs.declared.cluster.Cluster.{Cluster}
 use Rattle.mega_disk.specs.declared.records.Records.{Ghosts}
@@ -34,6 +34,11 @@ pub at_compacted : {R V : Type 0} (store : Ghosts R) (version : V → Versions) 
     → AtEach store version makes mid event Is → AtEach store version makes old event Is
 at_compacted store version makes old mid event Is stays members me each = λ h ruled is may.
     coe 0 1 (i. Is h (setting (members i) (me i) h) ruled) (each h ruled (stays h ruled is) (coe 0 1 (i. MayHappen makes (setting (sym members i) (sym me i) h) ruled event) may))
+
+-- one record of all before, and that of the step where it appends one
+pub at_most_two : (mid new : ℕ) (appends : Bool) → mid ≡ 1 → new ≡ mid + cond {A = ℕ} appends 1 0 → new ≤ 2
+at_most_two mid new true one is = omega arith
+at_most_two mid new false one is = omega arith
 
 -- ---- the devices
 longer : (a b : ℕ) → a ≡ b → b ≤ a
