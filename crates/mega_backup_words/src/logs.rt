@@ -66,7 +66,10 @@ fn open<D: Disk>(alloc: Global, log: D) -> Result<Logs<Checkpoint<D>>, (Stop, D)
 }
 
 /// Opens the log that a store of records tells. A refusal hands the device back.
-fn open_records<D: Disk>(alloc: Global, store: Checkpoint<D>) -> Result<Logs<Checkpoint<D>>, (Stop, D)>
+fn open_records<D: Disk>(
+    alloc: Global,
+    store: Checkpoint<D>,
+) -> Result<Logs<Checkpoint<D>>, (Stop, D)>
     ensures opened { IfOk result (λ logs. (first_bad (⟦<Checkpoint<D> as Records>⟧.opened store) ≡ None) × Represents logs.kept (history_of (⟦<Checkpoint<D> as Records>⟧.opened store))) }
     ensures format { IfOk result (λ logs. IsOfFormat logs.kept) }
     ensures list { IfOk result (λ logs. ⟦<Checkpoint<D> as Records>⟧.list logs.records ≡ ⟦<Checkpoint<D> as Records>⟧.list store) }

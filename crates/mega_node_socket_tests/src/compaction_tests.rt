@@ -32,15 +32,7 @@ fn worn(alloc: Global, starts: u32) -> Result<Pair<MemDisk>, Fail> {
 /// The node of a cluster of one starts once more over these devices, and makes one turn.
 fn started(alloc: Global, devices: Pair<MemDisk>) -> Result<(Bytes, Pair<MemDisk>), Fail> {
     let clock = MemClock::new(Vec::new(alloc));
-    let made = call(
-        alloc,
-        1,
-        1,
-        samples::ONE,
-        Vec::new(alloc),
-        clock,
-        devices,
-    )?;
+    let made = call(alloc, 1, 1, samples::ONE, Vec::new(alloc), clock, devices)?;
     let devices = made.devices.ok_or("no devices")?;
     Ok((made.text, devices))
 }

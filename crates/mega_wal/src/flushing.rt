@@ -72,7 +72,11 @@ fn append<R: Records>(alloc: Global, records: &mut R, body: &[u8]) -> Result<(),
 }
 
 /// Puts a record in place of all.
-pub(crate) fn replace<R: Records>(alloc: Global, records: &mut R, body: &[u8]) -> Result<(), LogFault>
+pub(crate) fn replace<R: Records>(
+    alloc: Global,
+    records: &mut R,
+    body: &[u8],
+) -> Result<(), LogFault>
     requires short { length body.now < 2 ^ 32 }
     requires due { R.is_due records.old ≡ true }
     ensures replaced { R.is_told ≡ true → OnOk result (R.list records.new ≡ body.now ∷ []) }
