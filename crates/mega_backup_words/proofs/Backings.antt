@@ -8,7 +8,7 @@ use Rattle.mega_base.specs.declared.names.GroupId.{GroupId}
 use Rattle.mega_base.specs.declared.names.Position.{Position}
 use Rattle.mega_cluster.specs.declared.cluster.Cluster.{Cluster}
 use Rattle.mega_io.specs.Pieces.{AppendsFront}
-use Rattle.mega_journal.specs.Chain.{records_of}
+use Rattle.mega_checkpoint.specs.Format.{list_of}
 use Rattle.mega_heading.specs.Parts.{cluster_in}
 use Rattle.mega_heading.specs.Known.{Breaks, Told}
 use Rattle.mega_wal.specs.declared.item.JournalItem.{JournalItem}
@@ -77,8 +77,8 @@ opened_ends group p told seen old new r records held good ends =
 
 pub unopened_ends : (group : GroupId) (p : ℕ) (told : Bool) (seen : List ℕ) (old : Option (List ℕ)) (stop : Stop) → IsOpeningStop stop
     → (stop ≡ BadRecord → (records : List (List ℕ)) × AreHeld told seen records × ((n : ℕ) × (first_bad records ≡ Some n))) → LogEnds group p told seen old old (Err stop)
-unopened_ends group p told seen old Device only bad = (records_of seen, (λ _. refl), unwritten old (records_ending group p (first_bad (records_of seen)) (history_of (records_of seen))).text)
-unopened_ends group p told seen old NoMemory only bad = (records_of seen, (λ _. refl), unwritten old (records_ending group p (first_bad (records_of seen)) (history_of (records_of seen))).text)
+unopened_ends group p told seen old Device only bad = (list_of seen, (λ _. refl), unwritten old (records_ending group p (first_bad (list_of seen)) (history_of (list_of seen))).text)
+unopened_ends group p told seen old NoMemory only bad = (list_of seen, (λ _. refl), unwritten old (records_ending group p (first_bad (list_of seen)) (history_of (list_of seen))).text)
 unopened_ends group p told seen old BadRecord only bad =
     let found = bad refl in (found.0, found.1, (ap (λ (o : Option ℕ). records_ending group p o (history_of found.0)) found.2.1, Keeps-refl old))
 unopened_ends group p told seen old (Header rule) only bad = absurd only
@@ -103,13 +103,13 @@ any_header least (Some input) = (cluster_in least input, refl)
 pub unread_backs : (group : GroupId) (p least : ℕ) (known : Option (List ℕ)) (told : Bool) (seen : List ℕ) (old : Option (List ℕ)) (stop : Stop) → IsHeaderStop stop
     → ((rule : ℕ) → stop ≡ Header rule → Breaks least known rule) → BacksUp group p least known told seen (λ ending. Ends ending old old (Err stop))
 unread_backs group p least known told seen old (Header rule) only breaks =
-    record { header = Err rule; headed = breaks rule refl; records = records_of seen; held = λ _. refl; said = (refl, Keeps-refl old) }
+    record { header = Err rule; headed = breaks rule refl; records = list_of seen; held = λ _. refl; said = (refl, Keeps-refl old) }
 unread_backs group p least known told seen old Source only breaks =
     let any = any_header least known in
-    record { header = any.0; headed = any.1; records = records_of seen; held = λ _. refl; said = unwritten old (backup_of group p any.0 (records_of seen)).text }
+    record { header = any.0; headed = any.1; records = list_of seen; held = λ _. refl; said = unwritten old (backup_of group p any.0 (list_of seen)).text }
 unread_backs group p least known told seen old NoMemory only breaks =
     let any = any_header least known in
-    record { header = any.0; headed = any.1; records = records_of seen; held = λ _. refl; said = unwritten old (backup_of group p any.0 (records_of seen)).text }
+    record { header = any.0; headed = any.1; records = list_of seen; held = λ _. refl; said = unwritten old (backup_of group p any.0 (list_of seen)).text }
 unread_backs group p least known told seen old Sink only breaks = absurd only
 unread_backs group p least known told seen old Device only breaks = absurd only
 unread_backs group p least known told seen old (Malformed line) only breaks = absurd only

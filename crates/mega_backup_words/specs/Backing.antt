@@ -4,7 +4,7 @@ use Rattle.mega_base.specs.declared.names.GroupId.{GroupId}
 use Rattle.mega_cluster.specs.declared.cluster.Cluster.{Cluster}
 use Rattle.mega_heading.specs.Parts.{cluster_in}
 use Rattle.mega_heading.specs.Known.{Told}
-use Rattle.mega_journal.specs.Chain.{records_of}
+use Rattle.mega_checkpoint.specs.Format.{list_of}
 use Rattle.mega_wal.specs.declared.item.JournalItem.{JournalItem}
 use Rattle.mega_wal.specs.History.{prefix_of}
 use Rattle.mega_wal.specs.Records.{first_bad, history_of}
@@ -31,7 +31,7 @@ backup_of group p (Ok cluster) records = records_ending group p (first_bad recor
 
 -- the records that a device holds, where that is told
 abbrev pub AreHeld : Bool → List ℕ → List (List ℕ) → Type 0
-AreHeld told seen records = told ≡ true → records ≡ records_of seen
+AreHeld told seen records = told ≡ true → records ≡ list_of seen
 
 -- this is said of what a backup comes to, by the header of an input, for at least so many nodes, and by the records of a log
 pub record BacksUp (group : GroupId) (p : ℕ) (least : ℕ) (known : Option (List ℕ)) (told : Bool) (seen : List ℕ) (Says : Ending → Type 0) : Type 0 where

@@ -3,7 +3,7 @@ ghost use Rattle.std.specs.Prelude.{◌≡◌, ◌≤◌, Err, IfErr, true, fals
 ghost use Rattle.std.specs.Io.KnownBytes.{Appends};
 ghost use Rattle.mega_base.specs.Causes.{Rose};
 ghost use Rattle.mega_io.specs.Pieces.{AppendsFront};
-ghost use Rattle.mega_journal.specs.Chain.{records_of};
+ghost use Rattle.mega_checkpoint.specs.Format.{list_of};
 ghost use Rattle.mega_backup_words.specs.Backing.{BacksUp};
 ghost use Rattle.mega_backup_words.specs.Endings.{Ends, end_status, is_cut};
 ghost use Rattle.mega_backup_words.specs.Stops.{IsBackupStatus, IsBackupStop};
@@ -39,7 +39,7 @@ pub fn run_backup<I: Source, O: Sink, D: Disk>(
 ) -> Outcome<D>
     ensures whole { is_cut result.status ≡ false → BacksUp group.now through.0 number (I.left input.old) D.is_told (D.seen log) (λ ending. (result.status ≡ ending.status) × Appends (O.held out.old) (O.held out.new) ending.text) }
     ensures front { BacksUp group.now through.0 number (I.left input.old) D.is_told (D.seen log) (λ ending. AppendsFront (O.held out.old) (O.held out.new) ending.text) }
-    ensures kept { D.is_told ≡ true → is_cut result.status ≡ false → records_of (D.seen result.log) ≡ records_of (D.seen log) }
+    ensures kept { D.is_told ≡ true → is_cut result.status ≡ false → list_of (D.seen result.log) ≡ list_of (D.seen log) }
     ensures source { result.status ≡ 5 → Rose (I.faults input.old) (I.faults input.new) }
     ensures sink { result.status ≡ 6 → Rose (O.faults out.old) (O.faults out.new) }
     ensures device { result.status ≡ 7 → Rose (D.faults log) (D.faults result.log) }
@@ -64,7 +64,7 @@ fn back_up_behind<I: Source, O: Sink, D: Disk>(
     log: D,
 ) -> (Result<(), Stop>, D)
     ensures ends { BacksUp group.now through.0 number (I.left input.old) D.is_told (D.seen log) (λ ending. Ends ending (O.held out.old) (O.held out.new) result.0) }
-    ensures kept { D.is_told ≡ true → is_cut (end_status result.0) ≡ false → records_of (D.seen result.1) ≡ records_of (D.seen log) }
+    ensures kept { D.is_told ≡ true → is_cut (end_status result.0) ≡ false → list_of (D.seen result.1) ≡ list_of (D.seen log) }
     ensures source { result.0 ≡ Err Stop.Source → Rose (I.faults input.old) (I.faults input.new) }
     ensures sink { result.0 ≡ Err Stop.Sink → Rose (O.faults out.old) (O.faults out.new) }
     ensures device { result.0 ≡ Err Stop.Device → Rose (D.faults log) (D.faults result.1) }

@@ -11,3 +11,4 @@ pub mod Stepping
 pub mod Burning
 pub mod Refusing
 pub mod Named
+pub mod Summing

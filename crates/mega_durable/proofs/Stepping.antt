@@ -120,7 +120,7 @@ owed_from s node event made count (Log fault) notes sends is may apart = apart
 owed_from s node event made count Unformed notes sends is may taken = tt
 
 -- ---- a log that nothing was done to
-burns_not : (fuse : Fuse) → MayBurn fuse fuse
+pub burns_not : (fuse : Fuse) → MayBurn fuse fuse
 burns_not Untold = refl
 burns_not Unset = refl
 burns_not (Left n) = inr (n, refl, omega arith)

@@ -4,3 +4,4 @@ pub mod Replying
 pub mod Cut
 pub mod Stepped
 pub mod Starting
+pub mod Compacting

@@ -1,6 +1,7 @@
 //! A node over its records: nothing that it promises is sent before its record is kept (Lamport 2001; CIDR 2011).
 #![tactic(auto)]
 
+mod compacting;
 mod cut;
 mod down;
 mod fault;

@@ -4,7 +4,7 @@ use Rattle.mega_cluster.specs.declared.cluster.Cluster.{Cluster}
 use Rattle.mega_disk.specs.declared.disk.Disk.{Ghosts as DiskGhosts}
 use Rattle.mega_handler.specs.Named.{Meaning, Meanings}
 use Rattle.mega_io.specs.Pieces.{AppendsFront}
-use Rattle.mega_journal.specs.Chain.{records_of}
+use Rattle.mega_checkpoint.specs.Format.{list_of}
 use Rattle.mega_link.specs.Datagrams.{Datagram}
 use Rattle.mega_meanings.specs.Means.{Means}
 use Rattle.mega_promises.specs.Runs.{setting}
@@ -35,7 +35,7 @@ AtEachRun steps makes c number found given Is =
 
 -- the log holds what the node met
 abbrev pub KeepsMet : {D : Type 0} → DiskGhosts D → D → Served → Type 0
-KeepsMet disks log now = disks.is_told ≡ true → HoldsMet (records_of (disks.seen log)) (start_of now.node.met) now.node.met
+KeepsMet disks log now = disks.is_told ≡ true → HoldsMet (list_of (disks.seen log)) (start_of now.node.met) now.node.met
 
 -- the node of this number started over what its log held and made so many turns, those that clock and link tell: its record is held, what stands
 -- there was sent, and its log holds what it met

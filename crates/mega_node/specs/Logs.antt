@@ -2,14 +2,14 @@
 use Rattle.std.specs.Prelude.{◌≡◌, ℕ, ◌≤◌, false, true, List, None}
 use Rattle.mega_disk.specs.declared.disk.Disk.{Ghosts as DiskGhosts}
 use Rattle.mega_disk.specs.declared.records.Records.{Ghosts as RecordsGhosts}
-use Rattle.mega_journal.specs.Chain.{records_of}
+use Rattle.mega_checkpoint.specs.Format.{list_of}
 use Rattle.mega_wal.specs.declared.kept.Kept.{Kept}
 use Rattle.mega_wal.specs.Kept.{Represents}
 use Rattle.mega_wal.specs.Records.{first_bad, history_of}
 
 -- these records stand on it, where that is told, each of the format
 pub record AreFound {D : Type 0} (disks : DiskGhosts D) (log : D) (found : List (List ℕ)) : Type 0 where
-  pub are_those : disks.is_told ≡ true → found ≡ records_of (disks.seen log)
+  pub are_those : disks.is_told ≡ true → found ≡ list_of (disks.seen log)
   pub good : first_bad found ≡ None
 
 -- logs were opened over these records: they keep their history, and more records may be appended

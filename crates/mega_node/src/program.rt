@@ -6,7 +6,7 @@ ghost use Rattle.mega_cluster.specs.declared.cluster.Cluster.{Cluster as Members
 ghost use Rattle.mega_disk.specs.declared.pair.Pair.{Pair as Devices};
 ghost use Rattle.mega_heading.specs.Known.{HeaderFails};
 ghost use Rattle.mega_io.specs.Pieces.{AppendsFront};
-ghost use Rattle.mega_journal.specs.Chain.{records_of};
+ghost use Rattle.mega_checkpoint.specs.Format.{list_of};
 ghost use Rattle.mega_wal.specs.History.{starts_of};
 ghost use Rattle.mega_wal.specs.Records.{first_bad, history_of};
 ghost use Rattle.mega_node.specs.Calls.{HasRun, IsCut};
@@ -18,10 +18,10 @@ use crate::heading::read_members;
 use crate::running::run_over;
 use crate::stop::{Stop, put_rule};
 use mega_base::{Bytes, NodeId};
+use mega_checkpoint::Checkpoint;
 use mega_cluster::Cluster;
 use mega_disk::{Disk, Pair};
 use mega_io::{Sink, SinkError, Source, put};
-use mega_journal::Journal;
 use mega_link::{Clock, Link};
 use mega_meanings::QueueHandlers;
 use mega_rows::VersionedRows;
@@ -103,14 +103,14 @@ pub fn run_node<I: Source, O: Sink, D: Disk + Drop, L: Link, C: Clock, H: QueueH
     handlers: H,
 ) -> Outcome<D>
     // With all turns made the sink holds the whole record, the link sent what stands in it, and the log holds what the node met.
-    ensures ran { OnOk result.ended ((left : Devices D) × (result.devices ≡ Some left) × HasRun D.Disk ⟦<Server<Journal<D>, VersionedRows, H> as Steps>⟧ (H.meant handlers) number.of turns (I.left input.old) devices.log left.log (told_by L.Link C.Clock O.Sink link.old clock.old out.old) (told_by L.Link C.Clock O.Sink link.new clock.new out.new)) }
+    ensures ran { OnOk result.ended ((left : Devices D) × (result.devices ≡ Some left) × HasRun D.Disk ⟦<Server<Checkpoint<D>, VersionedRows, H> as Steps>⟧ (H.meant handlers) number.of turns (I.left input.old) devices.log left.log (told_by L.Link C.Clock O.Sink link.old clock.old out.old) (told_by L.Link C.Clock O.Sink link.new clock.new out.new)) }
 
     // A header that breaks a rule is told of in the last line, and nothing else is done.
     ensures header { (rule : ℕ) → result.ended ≡ Err (Stop.Header rule) → IsBroken number.of (I.left input.old) rule × OnlyWrites (told_by L.Link C.Clock O.Sink link.old clock.old out.old) (told_by L.Link C.Clock O.Sink link.new clock.new out.new) (λ held more_held. Appends held more_held (header_line rule)) }
     ensures headed { IfErr result.ended (λ stop. IsBehindHeader stop → (c : Members) × IsHeaded number.of (I.left input.old) c) }
 
     // At any other end a front of what there was to write is held.
-    ensures cut { IfErr result.ended (λ stop. IsNoRule stop → IsCut D.Disk ⟦<Server<Journal<D>, VersionedRows, H> as Steps>⟧ (H.meant handlers) number.of (I.left input.old) devices.log (told_by L.Link C.Clock O.Sink link.old clock.old out.old) (told_by L.Link C.Clock O.Sink link.new clock.new out.new)) }
+    ensures cut { IfErr result.ended (λ stop. IsNoRule stop → IsCut D.Disk ⟦<Server<Checkpoint<D>, VersionedRows, H> as Steps>⟧ (H.meant handlers) number.of (I.left input.old) devices.log (told_by L.Link C.Clock O.Sink link.old clock.old out.old) (told_by L.Link C.Clock O.Sink link.new clock.new out.new)) }
 
     // Why it ends.
     ensures source { result.ended ≡ Err Stop.Source → Rose (I.faults input.old) (I.faults input.new) × HeaderFails (I.left input.old) (I.left input.new) }
@@ -118,8 +118,8 @@ pub fn run_node<I: Source, O: Sink, D: Disk + Drop, L: Link, C: Clock, H: QueueH
     ensures device { result.ended ≡ Err Stop.Device → (left : Devices D) × (result.devices ≡ Some left) × Rose (D.faults devices.log) (D.faults left.log) }
     ensures link { result.ended ≡ Err Stop.Link → Rose (L.faults link.old) (L.faults link.new) }
     ensures full { (length : ℕ) → result.ended ≡ Err (Stop.Full length) → 2 ^ 40 < length }
-    ensures starts { result.ended ≡ Err Stop.StartsFull → D.is_told ≡ true → starts_of (history_of (records_of (D.seen devices.log))) ≡ 4294967295 }
-    ensures bad { (n : ℕ) → result.ended ≡ Err (Stop.BadRecord n) → D.is_told ≡ true → first_bad (records_of (D.seen devices.log)) ≡ Some n }
+    ensures starts { result.ended ≡ Err Stop.StartsFull → D.is_told ≡ true → starts_of (history_of (list_of (D.seen devices.log))) ≡ 4294967295 }
+    ensures bad { (n : ℕ) → result.ended ≡ Err (Stop.BadRecord n) → D.is_told ≡ true → first_bad (list_of (D.seen devices.log)) ≡ Some n }
 
     // What it leaves.
     ensures lost { result.devices ≡ None → result.ended ≡ Err Stop.NoMemory }

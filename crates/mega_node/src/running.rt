@@ -2,8 +2,8 @@
 ghost use Rattle.std.specs.Prelude.{◌≡◌, ◌≤◌, ◌⊎◌, ℕ, List, None, Some, Option, Err, true, IfErr, OnErr, OnOk};
 ghost use Rattle.mega_base.specs.Causes.{Rose};
 ghost use Rattle.mega_core.specs.Served.{IsServed};
-ghost use Rattle.mega_journal.specs.Chain.{records_of};
-ghost use Rattle.mega_journal.specs.Journals.{disk_of};
+ghost use Rattle.mega_checkpoint.specs.Format.{list_of};
+ghost use Rattle.mega_checkpoint.specs.Opened.{disk_of};
 ghost use Rattle.mega_rules.specs.Members.{is_node};
 ghost use Rattle.mega_wal.specs.History.{starts_of};
 ghost use Rattle.mega_wal.specs.Records.{first_bad, history_of};
@@ -23,11 +23,11 @@ use crate::serving::make_turns;
 use crate::starting::{Begun, start_node};
 use crate::stop::Stop;
 use mega_base::Items;
+use mega_checkpoint::Checkpoint;
 use mega_cluster::Cluster;
 use mega_core::Note;
 use mega_disk::Disk;
 use mega_io::Sink;
-use mega_journal::Journal;
 use mega_link::{Clock, Link};
 use mega_meanings::QueueHandlers;
 use mega_rows::VersionedRows;
@@ -61,7 +61,7 @@ fn record_and_turn<S: Steps, L: Link, C: Clock, O: Sink>(
 
 /// The log device of a node, as it left it.
 fn log_of<D: Disk + Drop, H: QueueHandlers + Drop>(
-    server: Server<Journal<D>, VersionedRows, H>,
+    server: Server<Checkpoint<D>, VersionedRows, H>,
 ) -> D
     ensures { result ≡ disk_of server.up.node.replica.voter.logs.records }
 {
@@ -80,11 +80,11 @@ fn serve_begun<O: Sink, D: Disk + Drop, L: Link, C: Clock, H: QueueHandlers + Dr
     out: &mut O,
 ) -> (Result<(), Stop>, D)
     ensures ran { OnOk result.0 ((makes : List ℕ → Option Meaning) (c : Members) (me : ℕ) (log : D) (found : List (List ℕ)) → AreFound D.Disk log found →
-        HasStarted ⟦<Server<Journal<D>, VersionedRows, H> as Steps>⟧ makes c me found begun.server begun.start begun.notes →
-        Ran D.Disk ⟦<Server<Journal<D>, VersionedRows, H> as Steps>⟧ makes c me turns log result.1 (told_by L.Link C.Clock O.Sink link.old clock.old out.old) (told_by L.Link C.Clock O.Sink link.new clock.new out.new)) }
+        HasStarted ⟦<Server<Checkpoint<D>, VersionedRows, H> as Steps>⟧ makes c me found begun.server begun.start begun.notes →
+        Ran D.Disk ⟦<Server<Checkpoint<D>, VersionedRows, H> as Steps>⟧ makes c me turns log result.1 (told_by L.Link C.Clock O.Sink link.old clock.old out.old) (told_by L.Link C.Clock O.Sink link.new clock.new out.new)) }
     ensures halted { OnErr result.0 ((makes : List ℕ → Option Meaning) (c : Members) (me : ℕ) (log : D) (found : List (List ℕ)) → AreFound D.Disk log found →
-        HasStarted ⟦<Server<Journal<D>, VersionedRows, H> as Steps>⟧ makes c me found begun.server begun.start begun.notes →
-        Halted D.Disk ⟦<Server<Journal<D>, VersionedRows, H> as Steps>⟧ makes c me log (told_by L.Link C.Clock O.Sink link.old clock.old out.old) (told_by L.Link C.Clock O.Sink link.new clock.new out.new)) }
+        HasStarted ⟦<Server<Checkpoint<D>, VersionedRows, H> as Steps>⟧ makes c me found begun.server begun.start begun.notes →
+        Halted D.Disk ⟦<Server<Checkpoint<D>, VersionedRows, H> as Steps>⟧ makes c me log (told_by L.Link C.Clock O.Sink link.old clock.old out.old) (told_by L.Link C.Clock O.Sink link.new clock.new out.new)) }
     ensures cause { IfErr result.0 (λ stop. IsDue stop (D.faults (disk_of begun.server.up.node.replica.voter.logs.records), 0) (D.faults result.1, 0) (O.faults out.old) (O.faults out.new)) }
     ensures later { D.faults (disk_of begun.server.up.node.replica.voter.logs.records) ≤ D.faults result.1 }
     ensures count { O.faults out.old ≤ O.faults out.new }
@@ -113,14 +113,14 @@ pub(crate) fn run_over<O: Sink, D: Disk + Drop, L: Link, C: Clock, H: QueueHandl
 ) -> (Result<(), Stop>, Option<D>)
     requires served { IsServed cluster }
     requires member { is_node cluster number.of ≡ true }
-    ensures ran { OnOk result.0 ((left : D) × (result.1 ≡ Some left) × Ran D.Disk ⟦<Server<Journal<D>, VersionedRows, H> as Steps>⟧ (H.meant handlers) cluster number.of turns log left (told_by L.Link C.Clock O.Sink link.old clock.old out.old) (told_by L.Link C.Clock O.Sink link.new clock.new out.new)) }
+    ensures ran { OnOk result.0 ((left : D) × (result.1 ≡ Some left) × Ran D.Disk ⟦<Server<Checkpoint<D>, VersionedRows, H> as Steps>⟧ (H.meant handlers) cluster number.of turns log left (told_by L.Link C.Clock O.Sink link.old clock.old out.old) (told_by L.Link C.Clock O.Sink link.new clock.new out.new)) }
     ensures cut { OnErr result.0 ((told_by L.Link C.Clock O.Sink link.new clock.new out.new ≡ told_by L.Link C.Clock O.Sink link.old clock.old out.old)
-        ⊎ Halted D.Disk ⟦<Server<Journal<D>, VersionedRows, H> as Steps>⟧ (H.meant handlers) cluster number.of log (told_by L.Link C.Clock O.Sink link.old clock.old out.old) (told_by L.Link C.Clock O.Sink link.new clock.new out.new)) }
+        ⊎ Halted D.Disk ⟦<Server<Checkpoint<D>, VersionedRows, H> as Steps>⟧ (H.meant handlers) cluster number.of log (told_by L.Link C.Clock O.Sink link.old clock.old out.old) (told_by L.Link C.Clock O.Sink link.new clock.new out.new)) }
     ensures back { IfErr result.0 (λ stop. HandsBack D.faults (D.faults log) stop result.1) }
     ensures later { (left : D) → result.1 ≡ Some left → D.faults log ≤ D.faults left }
     ensures sink { result.0 ≡ Err Stop.Sink → Rose (O.faults out.old) (O.faults out.new) }
-    ensures starts { result.0 ≡ Err Stop.StartsFull → D.is_told ≡ true → starts_of (history_of (records_of (D.seen log))) ≡ 4294967295 }
-    ensures bad { (n : ℕ) → result.0 ≡ Err (Stop.BadRecord n) → D.is_told ≡ true → first_bad (records_of (D.seen log)) ≡ Some n }
+    ensures starts { result.0 ≡ Err Stop.StartsFull → D.is_told ≡ true → starts_of (history_of (list_of (D.seen log))) ≡ 4294967295 }
+    ensures bad { (n : ℕ) → result.0 ≡ Err (Stop.BadRecord n) → D.is_told ≡ true → first_bad (list_of (D.seen log)) ≡ Some n }
     ensures only { IfErr result.0 IsOverStop }
     ensures count { O.faults out.old ≤ O.faults out.new }
 {

@@ -1,7 +1,7 @@
 //! A node starts over what its log holds, and stands ready to be served.
 ghost use Rattle.std.specs.Prelude.{◌≡◌, ◌≤◌, ◌<◌, ◌^◌, ℕ, [], List, true, option_map, IfErr, IfOk};
 ghost use Rattle.mega_core.specs.Served.{IsServed};
-ghost use Rattle.mega_journal.specs.Journals.{disk_of};
+ghost use Rattle.mega_checkpoint.specs.Opened.{disk_of};
 ghost use Rattle.mega_rules.specs.Members.{is_node};
 ghost use Rattle.mega_node.specs.Logs.{AreOpened};
 ghost use Rattle.mega_node.specs.Starting.{HandsBack, HasStarted, fault_stop, left_of, start_stop};
@@ -9,11 +9,11 @@ ghost use Rattle.mega_node.specs.Stops.{IsStartStop};
 
 use crate::stop::Stop;
 use mega_base::Items;
+use mega_checkpoint::Checkpoint;
 use mega_cluster::Cluster;
 use mega_core::Note;
 use mega_disk::{Disk, Records};
 use mega_durable::{Down, NotStarted, Started, Up};
-use mega_journal::Journal;
 use mega_meanings::QueueHandlers;
 use mega_rows::VersionedRows;
 use mega_serve::Steps;
@@ -25,7 +25,7 @@ use std::alloc::Global;
 /// A node that started over its log and is served: the number of the start, and what the start shows.
 #[derive(Drop)]
 pub(crate) struct Begun<D: Disk + Drop, H: QueueHandlers + Drop> {
-    pub(crate) server: Server<Journal<D>, VersionedRows, H>,
+    pub(crate) server: Server<Checkpoint<D>, VersionedRows, H>,
     pub(crate) start: u32,
     pub(crate) notes: Items<Note>,
 }
@@ -42,7 +42,7 @@ fn fault_stop(fault: LogFault) -> Stop
 }
 
 /// Why a node did not start, and its log device, where that is not lost.
-fn handed_back<D: Disk + Drop>(refused: NotStarted<Journal<D>>) -> (Stop, Option<D>)
+fn handed_back<D: Disk + Drop>(refused: NotStarted<Checkpoint<D>>) -> (Stop, Option<D>)
     ensures stop { result.0 ≡ start_stop refused }
     ensures device { result.1 ≡ option_map disk_of (left_of refused) }
 {
@@ -67,14 +67,14 @@ pub(crate) fn start_node<D: Disk + Drop, H: QueueHandlers + Drop>(
     alloc: Global,
     cluster: Cluster,
     number: Number,
-    voter: Voter<Journal<D>>,
+    voter: Voter<Checkpoint<D>>,
     handlers: H,
 ) -> Result<Begun<D, H>, (Stop, Option<D>)>
     requires served { IsServed cluster }
     requires member { is_node cluster number.of ≡ true }
     requires flushed { voter.logs.staged.items ≡ [] }
-    ensures started { IfOk result (λ begun. (log : D) (found : List (List ℕ)) → AreOpened D.Disk ⟦<Journal<D> as Records>⟧ log voter.logs.kept voter.logs.records found →
-        HasStarted ⟦<Server<Journal<D>, VersionedRows, H> as Steps>⟧ (H.meant handlers) cluster number.of found begun.server begun.start begun.notes) }
+    ensures started { IfOk result (λ begun. (log : D) (found : List (List ℕ)) → AreOpened D.Disk ⟦<Checkpoint<D> as Records>⟧ log voter.logs.kept voter.logs.records found →
+        HasStarted ⟦<Server<Checkpoint<D>, VersionedRows, H> as Steps>⟧ (H.meant handlers) cluster number.of found begun.server begun.start begun.notes) }
     ensures handlers { IfOk result (λ begun. H.meant begun.server.handlers ≡ H.meant handlers) }
     ensures later { IfOk result (λ begun. D.faults (disk_of voter.logs.records) ≤ D.faults (disk_of begun.server.up.node.replica.voter.logs.records)) }
     ensures back { IfErr result (λ refused. HandsBack D.faults (D.faults (disk_of voter.logs.records)) refused.0 refused.1) }

@@ -4,6 +4,8 @@
 #[cfg(test)]
 mod called;
 #[cfg(test)]
+mod compaction_tests;
+#[cfg(test)]
 mod ends_tests;
 #[cfg(test)]
 mod record_tests;

@@ -7,7 +7,7 @@ use Rattle.mega_disk.specs.declared.pair.Pair.{Pair}
 use Rattle.mega_heading.specs.Known.{Told}
 use Rattle.mega_heading.specs.Parts.{cluster_in, header_text}
 use Rattle.mega_io.specs.Pieces.{AppendsFront}
-use Rattle.mega_journal.specs.Chain.{records_of}
+use Rattle.mega_checkpoint.specs.Format.{list_of}
 use Rattle.mega_tape_laws.proofs.DeclaredClusters.{cluster_declared}
 use Rattle.mega_backup_laws.proofs.Agreeing.{read_back}
 use Rattle.mega_backup_words.specs.Backing.{BacksUp}
@@ -29,7 +29,7 @@ nothing_done disks number group at input devices held = record {
   front = record {
     header = (reads number input).0;
     headed = (reads number input).1;
-    records = records_of (disks.seen devices.log);
+    records = list_of (disks.seen devices.log);
     held = λ told. refl;
     said = unwritten held _;
   };

@@ -1,5 +1,6 @@
 pub mod Asked
 pub mod Backups
+pub mod Caused
 pub mod Changes
 pub mod Headings
 pub mod Holding

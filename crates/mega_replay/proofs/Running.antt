@@ -31,7 +31,6 @@ use Rattle.mega_run_laws.proofs.Indexing.{asks_values}
 use Rattle.mega_run_laws.proofs.Runs.{run_answered, run_lawful, run_written}
 use Rattle.mega_row_laws.proofs.Draining.{next_allowed}
 use Rattle.mega_row_laws.proofs.Steps.{begin_owns, take_owns, tick_owns}
-use Rattle.mega_cause_laws.proofs.Told.{run_causes}
 use Rattle.mega_line_laws.proofs.Asking.{clock_asked, request_asked}
 use Rattle.mega_line_laws.proofs.Again.{means}
 use Rattle.mega_line_laws.specs.Clusters.{CanStart}
@@ -40,6 +39,7 @@ use Rattle.mega_leased_laws.proofs.Tops.{run_fresh}
 use Rattle.mega_line_laws.specs.Meanings.{meaning_in}
 use Rattle.mega_replay.specs.Meanings.{usage}
 use Rattle.mega_replay.specs.Running.{AllHappen, AllReadAll, Happens, ReadsAll, Replayed, Went, in_turn, stood}
+use Rattle.mega_replay.proofs.Caused.{run_caused}
 use Rattle.mega_replay.proofs.Holding.{means_values}
 use Rattle.mega_replay.proofs.Starts.{declared_of}
 
@@ -101,7 +101,7 @@ replayed c lines events can happen =
       agree = agreement c (stood c events).tape (run_lawful c built_in (in_turn events []) (stood c events).tape run);
       serial = serial c (usage c.schema) (stood c events).tape (run_answered c (usage c.schema) built_in (in_turn events []) (stood c events).tape run fits);
       messages = messages c (usage c.schema) tape built_in (λ moment. refl) writes;
-      causes = run_causes c (usage c.schema) built_in (in_turn events []) tape run fits built_in;
+      causes = run_caused c (in_turn events []) tape run fits;
       indexed = indexed c (usage c.schema) tape writes declared values;
       rows = rows_fit c (usage c.schema) tape writes declared values;
       local = all_read_all c events can;

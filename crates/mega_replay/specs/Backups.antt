@@ -10,7 +10,7 @@ use Rattle.mega_heading.specs.Known.{Told}
 use Rattle.mega_heading.specs.Parts.{cluster_in, lines_behind}
 use Rattle.mega_index.specs.Rows.{after, no_rows}
 use Rattle.mega_io.specs.Pieces.{AppendsFront}
-use Rattle.mega_journal.specs.Chain.{records_of}
+use Rattle.mega_checkpoint.specs.Format.{list_of}
 use Rattle.mega_outcome.specs.declared.transaction.Transaction.{Transaction}
 use Rattle.mega_backup.specs.declared.reading.Backup.{Backup}
 use Rattle.mega_backup.specs.Lines.{backup_in}
@@ -29,7 +29,7 @@ pub record HasBackedUp {D : Type 0} (disks : DiskGhosts D) (number : ℕ) (group
   pub left : Pair D
   pub back : handed ≡ Some left
   pub runs : left.runs ≡ devices.runs
-  pub kept : disks.is_told ≡ true → is_cut status ≡ false → records_of (disks.seen left.log) ≡ records_of (disks.seen devices.log)
+  pub kept : disks.is_told ≡ true → is_cut status ≡ false → list_of (disks.seen left.log) ≡ list_of (disks.seen devices.log)
   pub device : status ≡ 7 → Rose (disks.faults devices.log) (disks.faults left.log)
   pub later : disks.faults devices.log ≤ disks.faults left.log
 

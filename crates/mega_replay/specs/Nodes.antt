@@ -7,7 +7,7 @@ use Rattle.mega_disk.specs.declared.disk.Disk.{Ghosts as DiskGhosts}
 use Rattle.mega_disk.specs.declared.pair.Pair.{Pair}
 use Rattle.mega_handler.specs.Named.{Meaning}
 use Rattle.mega_heading.specs.Known.{HeaderFails}
-use Rattle.mega_journal.specs.Chain.{records_of}
+use Rattle.mega_checkpoint.specs.Format.{list_of}
 use Rattle.mega_serve.specs.declared.steps.Steps.{Ghosts as StepsGhosts}
 use Rattle.mega_wal.specs.Records.{first_bad}
 use Rattle.mega_node.specs.Calls.{HasRun, IsCut}
@@ -32,7 +32,7 @@ pub record HasRunNode {D S : Type 0} (disks : DiskGhosts D) (steps : StepsGhosts
   pub cut : status ≢ 0 → status ≢ 3 → IsCut disks steps makes number input devices.log before after
   pub source : status ≡ 5 → HeaderFails input rest
   pub device : status ≡ 7 → (left : Pair D) × (handed ≡ Some left) × Rose (disks.faults devices.log) (disks.faults left.log)
-  pub bad : status ≡ 16 → disks.is_told ≡ true → (n : ℕ) × (first_bad (records_of (disks.seen devices.log)) ≡ Some n)
+  pub bad : status ≡ 16 → disks.is_told ≡ true → (n : ℕ) × (first_bad (list_of (disks.seen devices.log)) ≡ Some n)
   pub unopened : IsBeforeOpening status → handed ≡ Some devices
   pub runs : (left : Pair D) → handed ≡ Some left → left.runs ≡ devices.runs
   pub later : (left : Pair D) → handed ≡ Some left → disks.faults devices.log ≤ disks.faults left.log

@@ -1,5 +1,5 @@
 -- The run of a cluster over the events that lines spell. Lines and events stand newest first.
-use Rattle.std.specs.Prelude.{◌≡◌, ◌≤◌, ℕ, ◌+◌, true, false, List, [], ◌∷◌, length, take, Some, None, Ok}
+use Rattle.std.specs.Prelude.{◌≡◌, ◌≤◌, ℕ, ◌+◌, true, false, List, [], ◌∷◌, length, take, None, Ok}
 use Rattle.mega_base.specs.declared.names.GroupId.{GroupId}
 use Rattle.mega_base.specs.declared.names.NodeId.{NodeId}
 use Rattle.mega_base.specs.declared.names.OpId.{OpId}
@@ -10,7 +10,6 @@ use Rattle.mega_entry.specs.declared.content.Content.{Content}
 use Rattle.mega_index.specs.Rows.{list_after}
 use Rattle.mega_schedule.specs.Events.{event_of}
 use Rattle.mega_outcome.specs.declared.answer.Answer.{Answer}
-use Rattle.mega_outcome.specs.declared.request.Request.{Request}
 use Rattle.mega_transcript.specs.declared.item.Item.{Item}
 use Rattle.mega_transcript.specs.declared.item.Item.TheVariants.{Answer as Answered, Decide}
 use Rattle.mega_transcript.specs.Tape.{onto}
@@ -22,10 +21,9 @@ use Rattle.mega_rules.specs.Members.{is_full}
 use Rattle.mega_promises.specs.Fresh.{IsFresh}
 use Rattle.mega_promises.specs.Messages.{is_unsafe}
 use Rattle.mega_promises.specs.Moments.{StoodOn}
-use Rattle.mega_promises.specs.Promises.{Agree, AreMessages, IsSerial, Stands, asked_for, log_of}
+use Rattle.mega_promises.specs.Promises.{Agree, AreMessages, IsSerial, Stands, log_of}
 use Rattle.mega_promises.specs.Runs.{Happening, IsRun, Standing, after_event, by_fuse, goes_on, opening, refusal, unless_refused}
 use Rattle.mega_tape_laws.specs.Indexed.{AreRows, IsIndexed}
-use Rattle.mega_cause_laws.specs.Told.{is_told}
 use Rattle.mega_settled_laws.specs.Covering.{AreSettled}
 use Rattle.mega_valid_laws.specs.Leases.{AreLeased}
 use Rattle.mega_world.specs.declared.world.World.{World}
@@ -57,11 +55,10 @@ abbrev pub in_turn : List Happening → List Happening → List Happening
 in_turn [] rest = rest
 in_turn (one ∷ earlier) rest = in_turn earlier (one ∷ rest)
 
--- where the text of an operation means a request, an answer to it that the log of its group tells has its cause on the tape before it
+-- each answer has its cause on the tape before it, under the handlers that the store brings
 abbrev pub HaveCauses : Cluster → List Item → Type 0
 HaveCauses c tape =
-    (op : OpId) (request : Request) (answer : Answer) (before : List Item) → StoodOn (Answered op answer) before tape → asked_for (meaning_in c.schema) before op ≡ Some request
-    → is_told request answer ≡ true → HasCause c (meaning_in c.schema) built_in before op answer
+    (op : OpId) (answer : Answer) (before : List Item) → StoodOn (Answered op answer) before tape → HasCause c (meaning_in c.schema) built_in before op answer
 
 -- as long as leases are safe, where a group is valid at a full node that is up, the position through which a local read reads there is no lower than
 -- any that is decided anywhere
@@ -77,7 +74,7 @@ AllReadAll c (one ∷ earlier) = AllReadAll c earlier × ReadsAll c (stood c (on
 
 -- the lines' events happen, and the tape is a run of the cluster over them, in order, in which a fuse on a log cuts the append that it names: so what nodes decided at one position is one entry; an
 -- entry with the id of an operation is what that came to over the entries below, and answers are as of one thread; messages between groups
--- are entered and handled once, in order; answers that a log tells have their causes; what stands in a log under keys that are no row keys is what the local indexes have over the
+-- are entered and handled once, in order; each answer has its cause on the tape before it; what stands in a log under keys that are no row keys is what the local indexes have over the
 -- tables' rows, each of which fits and stands under its own key; behind each line local reads read through all that is decided, while leases are
 -- safe; as long as leases are safe by its end, what a current read, a find, a transaction or a batch comes to holds all that was decided before it began, and what
 -- an operation proposes that polled stands above all that was decided before it asked, whether leases are safe or not; what is decided, committed or answered of a

@@ -3,11 +3,14 @@ mod Chains
 mod Found
 mod Fronting
 mod Growing
+mod Joining
+mod Keepings
 mod Listed
 mod Mixing
 mod Nexts
 mod Order
 mod Outcomes
+mod Readable
 mod Records
 mod Repaired
 mod Showing

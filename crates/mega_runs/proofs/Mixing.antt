@@ -53,7 +53,7 @@ spot_self s = same_key_cmp s.0 s.1 s.1 ∙ nat_self s.1
 abbrev at_spot : List ℕ → ℕ → Spot → Bool
 at_spot key p s = pointwise nat_eq s.0 key && (s.1 == p)
 
-spot_there : (key : List ℕ) (p : ℕ) (s : Spot) → at_spot key p s ≡ true → s ≡ (key, p)
+pub spot_there : (key : List ℕ) (p : ℕ) (s : Spot) → at_spot key p s ≡ true → s ≡ (key, p)
 spot_there key p s e =
     let tests = both (pointwise nat_eq s.0 key) (s.1 == p) e in
     let keys = same_key s.0 key tests.0 in
@@ -156,7 +156,7 @@ merged_last [] v older = refl
 merged_last (u ∷ front) v older = ap (with_version u) (merged_last front v older)
 
 -- ---- by place
-spot_here : (key : List ℕ) (p : ℕ) → at_spot key p (key, p) ≡ true
+pub spot_here : (key : List ℕ) (p : ℕ) → at_spot key p (key, p) ≡ true
 spot_here key p = and_true (pointwise nat_eq key key) (p == p) (key_self key) (grind (arith, nat_tests))
 
 behind_front : (pre : List Version) (v : Version) (w : Version) (rest : List Version) → ascends (pre ++ w ∷ rest) ≡ true → is_before (spot_of v) (spot_of w) ≡ false → with_version v (pre ++ w ∷ rest) ≡ pre ++ with_version v (w ∷ rest)

@@ -42,12 +42,12 @@ of_false : (b : Bool) → b ≡ false → not b ≡ true
 of_false true e = absurd (cc)
 of_false false e = refl
 
-and_true : (a b : Bool) → a ≡ true → b ≡ true → a && b ≡ true
+pub and_true : (a b : Bool) → a ≡ true → b ≡ true → a && b ≡ true
 and_true true true x y = refl
 and_true true false x y = absurd (cc)
 and_true false b x y = absurd (cc)
 
-within_is : (from to key : List ℕ) → is_within from to key ≡ true → IsWithin from to key
+pub within_is : (from to key : List ℕ) → is_within from to key ≡ true → IsWithin from to key
 within_is from to key e =
     let t = both (not (is_lt (slice_cmp nat_cmp key from))) (is_lt (slice_cmp nat_cmp key to)) e in
     (not_less (slice_cmp nat_cmp key from) (not_true (is_lt (slice_cmp nat_cmp key from)) t.0), lt_less (slice_cmp nat_cmp key to) t.1)
@@ -58,7 +58,7 @@ is_within_of from to key w =
 
 -- ---- one version before others
 -- another key's version adds nothing
-other_key : (key : List ℕ) (p : ℕ) (v : Version) (vs : List Version) → pointwise nat_eq v.key key ≡ false → found_in key p (v ∷ vs) ≡ found_in key p vs
+pub other_key : (key : List ℕ) (p : ℕ) (v : Version) (vs : List Version) → pointwise nat_eq v.key key ≡ false → found_in key p (v ∷ vs) ≡ found_in key p vs
 other_key key p v vs e = ap (λ (b : Bool). later_of (cond {A = Found} (b && nat_le v.at.0 p) (Some (v.at.0, v.row)) None) (found_in key p vs)) e
 
 same_position : (key : List ℕ) (p q : ℕ) → q ≤ p → is_before (key, p) (key, q) ≡ false
@@ -69,7 +69,7 @@ same_position key p q le = go (is_before (key, p) (key, q)) refl
     go true e = absurd (let lt : p < q = position_before key p q e in omega arith)
 
 -- a hidden one adds nothing
-hidden_adds : (key : List ℕ) (p : ℕ) (v : Version) (vs : List Version) → ascends_from v vs ≡ true → is_hidden p v (slice_get vs 0) ≡ true → found_in key p (v ∷ vs) ≡ found_in key p vs
+pub hidden_adds : (key : List ℕ) (p : ℕ) (v : Version) (vs : List Version) → ascends_from v vs ≡ true → is_hidden p v (slice_get vs 0) ≡ true → found_in key p (v ∷ vs) ≡ found_in key p vs
 hidden_adds key p v [] asc e = absurd (cc)
 hidden_adds key p v (w ∷ ws) asc e = go (pointwise nat_eq v.key key) refl
   where

@@ -80,6 +80,7 @@ pub record Indexes (file : List ℕ) (end : ℕ) (held : Held) (marks : List Mar
 -- the index of a run of this number, whose body ends at a place
 pub record Indices (run : Run) (number end : ℕ) (indexed : Indexed) : Type 0 where
   pub number_is : indexed.number ≡ number
+  pub base_is : indexed.is_base ≡ run.is_base
   pub start_is : indexed.start + length (versions_text run.versions) ≡ end
   pub size_is : indexed.size ≡ length (versions_text run.versions)
   pub count_is : indexed.count ≡ length run.versions

@@ -1,6 +1,8 @@
 pub mod Bodies
 pub mod BodyLaws
 pub mod Chain
+pub mod Devices
+pub mod Durable
 pub mod Examples
 pub mod Files
 pub mod Finding
@@ -12,5 +14,7 @@ pub mod Placed
 pub mod Reads
 pub mod Rest
 pub mod Scanning
+pub mod Sides
 pub mod Spilling
+pub mod Stores
 pub mod VersionLists

@@ -93,18 +93,23 @@ pub(crate) fn all_versions<D: Disk>(
     while left > 0 {
         left -= 1;
         let newer = versions_of_run(alloc, disk, &runs[left])?;
-        put_among(newer, &mut all)?;
+        put_among(alloc, newer, &mut all)?;
     }
     Ok(all)
 }
 
 /// Puts newer versions among older ones.
-fn put_among(newer: Items<Version>, older: &mut Vec<Version>) -> Result<(), StoreError>
-    requires { ascends older.old.items ≡ true }
+fn put_among(
+    alloc: Global,
+    newer: Items<Version>,
+    older: &mut Vec<Version>,
+) -> Result<(), StoreError>
+    requires newer { ascends newer ≡ true }
+    requires older { ascends older.old.items ≡ true }
     ensures put { OnOk result (older.new.items ≡ merged newer older.old.items) }
     ensures memory { OnErr result (result ≡ Err StoreError.NoMemory) }
 {
-    match merge(newer.into_vec(), older) {
+    match merge(alloc, newer.into_vec(), older) {
         Ok(()) => Ok(()),
         Err(NoMemory) => Err(StoreError::NoMemory),
     }

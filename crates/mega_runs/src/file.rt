@@ -10,15 +10,17 @@ use crate::among::{all_versions, found_in_runs};
 use crate::append::put_run;
 use crate::body::{Run, Version};
 use crate::coding::write_body;
+use crate::index::added_among;
 use crate::lookup::Seen;
+use crate::marking::mark_of_group;
 use crate::opening::{Opened, open_file};
 use crate::scan::rows_of;
-use mega_base::{Bytes, NoMemory, Position, Row};
+use mega_base::{Bytes, GroupId, NoMemory, Position, Row};
 use mega_disk::{Disk, StoreError};
 use std::alloc::Global;
 
 /// The length in bytes that no file passes.
-const MAX_LENGTH: u64 = 1 << 40;
+pub(crate) const MAX_LENGTH: u64 = 1 << 40;
 
 /// A file of runs that is open. After a run that could not be written it is spent: it reads, and takes no further run.
 #[derive(Drop)]
@@ -37,7 +39,7 @@ impl<D: Disk> RunFile<D> {
     ghost use Rattle.mega_base.specs.Causes.{Rose};
     ghost use Rattle.mega_disk.specs.Images.{SameImages, Within, LeavesOnly};
     ghost use Rattle.mega_disk.specs.Fuse.{LowersBy, MayBurn, Burns, set_to};
-    ghost use Rattle.mega_disk.specs.VersionMaps.{IsScan};
+    ghost use Rattle.mega_disk.specs.VersionMaps.{IsScan, mark_of};
     ghost use Rattle.mega_runs.specs.Bodies.{IsRun, ascends, run_text};
     ghost use Rattle.mega_runs.specs.Chain.{records_of};
     ghost use Rattle.mega_runs.specs.Files.{disk_of, opened_of, is_spent};
@@ -47,6 +49,7 @@ impl<D: Disk> RunFile<D> {
     ghost use Rattle.mega_runs.specs.Opening.{first_bad};
     ghost use Rattle.mega_runs.specs.Reads.{held_in, layered, mark_in};
     ghost use Rattle.mega_runs.specs.Rest.{HoldsAs};
+    ghost use Rattle.mega_runs.specs.Stores.{count_added, length_with};
 
     /// Opens a device that a crash may have left, reads its runs, and mends its end. A refusal hands the device back.
     pub fn open(alloc: Global, disk: D) -> Result<RunFile<D>, (StoreError, D)>
@@ -157,6 +160,29 @@ impl<D: Disk> RunFile<D> {
             Ok(rows) => Ok(rows),
             Err(NoMemory) => Err(StoreError::NoMemory),
         }
+    }
+
+    /// The mark of the group in the last run, 0 where it has none.
+    pub fn mark(&self, group: &GroupId) -> Position
+        ensures { result.0 ≡ mark_of group.now (map mark_in (opened_of self.now).marks) }
+    {
+        mark_of_group(self.opened.marks.as_slice(), group)
+    }
+
+    /// How many runs were added since the last base.
+    pub(crate) fn added_count(&self) -> usize
+        ensures { result ≡ count_added (opened_of self.now).runs.items }
+    {
+        added_among(self.opened.runs.as_slice())
+    }
+
+    /// The length that the file would have with this run.
+    pub(crate) fn length_after(&self, alloc: Global, run: &Run) -> Result<u64, NoMemory>
+        requires { IsRun run.now }
+        ensures { IfOk result (λ n. n ≡ length_with (opened_of self.now).end run.now) }
+    {
+        let body = write_body(alloc, run)?;
+        Ok(self.opened.end + 10 + body.len() as u64)
     }
 
     /// Sets a fuse on the device where there is one, as `Disk::fuse` does.

@@ -2,6 +2,7 @@
 ghost use Rattle.std.specs.Prelude.{◌≡◌, ◌+◌, ◌<◌, ◌^◌, ◌++◌, take, length, All, IfOk, OnOk, OnErr};
 ghost use Rattle.mega_runs.specs.Bodies.{Spot, IsVersion, is_before};
 ghost use Rattle.mega_runs.specs.Index.{AreBlocks, IsBlock, spot_of_block, versions_text};
+ghost use Rattle.mega_runs.specs.Stores.{count_added};
 
 use crate::body::Version;
 use crate::search::Placed;
@@ -30,10 +31,11 @@ impl Placed for Block {
     }
 }
 
-/// The index of a run: its number in the file, the place, size and count of its versions, and its blocks.
+/// The index of a run: its number in the file, whether it is a base, the place, size and count of its versions, and its blocks.
 #[derive(Drop)]
 pub(crate) struct Indexed {
     pub number: u64,
+    pub is_base: bool,
     pub start: u64,
     pub size: u64,
     pub count: u32,
@@ -101,4 +103,19 @@ fn put_versions(versions: &[Version], out: &mut Bytes) -> Result<(), NoMemory>
         version.put(out)?;
     }
     Ok(())
+}
+
+/// How many of the runs are no bases.
+pub(crate) fn added_among(runs: &[Indexed]) -> usize
+    ensures { result ≡ count_added runs.now }
+{
+    let mut count = 0;
+    let mut rest = runs;
+    while let Some((run, behind)) = rest.split_first() {
+        if !run.is_base {
+            count += 1;
+        }
+        rest = behind;
+    }
+    count
 }

@@ -4,22 +4,27 @@
 mod among;
 mod append;
 mod body;
+mod cleaning;
 mod coding;
 mod device;
 mod ending;
 mod examples;
 mod file;
 mod index;
+mod keeping;
 mod laws;
 mod lookup;
+mod marking;
 mod merging;
 mod opening;
 mod reading;
 mod scan;
 mod search;
+mod store;
 mod writable;
 
 pub use body::{Mark, Run, Version};
 pub use coding::{read_body, write_body};
 pub use file::RunFile;
+pub use store::Runs;
 pub use writable::can_write;

@@ -97,6 +97,7 @@ pub(crate) fn versions_of_run<D: Disk>(
 ) -> Result<Items<Version>, StoreError>
     requires indexed { D.is_told ≡ true → (end : ℕ) × has_index (D.seen disk.old) end run.now }
     ensures value { D.is_told ≡ true → (end : ℕ) (versions : List SomeVersion) → IsIndexed (D.seen disk.old) end versions run.now → IfOk result (λ found. found ≡ versions) }
+    ensures in_order { IfOk result (λ versions. ascends versions ≡ true) }
     ensures never_bad { D.is_told ≡ true → (n : ℕ) → result ≡ Err (StoreError.BadRecord n) → ⊥ }
     ensures never_full { (n : ℕ) → result ≡ Err (StoreError.Full n) → ⊥ }
     ensures seen { OnOk result (D.seen disk.new ≡ D.seen disk.old) }
@@ -155,7 +156,7 @@ fn counted(alloc: Global, bytes: &[u8], count: u32) -> Result<Bytes, NoMemory>
 }
 
 /// A copy of the position and the row of a version.
-fn copy_of(alloc: Global, version: Option<&Version>) -> Result<Seen, StoreError>
+pub(crate) fn copy_of(alloc: Global, version: Option<&Version>) -> Result<Seen, StoreError>
     ensures value { IfOk result (λ seen. seen ≡ option_map (λ v. (v.now.at.0, v.now.row)) version.entry) }
     ensures memory { OnErr result (result ≡ Err StoreError.NoMemory) }
 {

@@ -48,6 +48,7 @@ fn index_of(alloc: Global, run: &Run, number: u64, end: u64) -> Result<Indexed, 
     let blocks = blocks_of(alloc, run.versions.as_slice(), start)?;
     Ok(Indexed {
         number,
+        is_base: run.is_base,
         start,
         size,
         count: run.versions.len() as u32,

@@ -4,7 +4,7 @@ ghost use Rattle.std.specs.List.{slice_get};
 ghost use Rattle.mega_disk.specs.VersionMaps.{IsScan};
 ghost use Rattle.mega_runs.specs.Bodies.{ascends};
 ghost use Rattle.mega_runs.specs.Reads.{versions_in};
-ghost use Rattle.mega_runs.specs.Scanning.{is_hidden as is_hidden_by, is_shown as is_shown_by, row_entry, shown, shown_of};
+ghost use Rattle.mega_runs.specs.Scanning.{is_hidden as is_hidden_by, is_shown as is_shown_by, is_within as is_within_by, row_entry, shown, shown_of};
 
 use crate::body::Version;
 use mega_base::{Bytes, Copied, NoMemory, Position, Row};
@@ -70,14 +70,20 @@ fn push_row(
 fn is_shown(version: &Version, others: &[Version], from: &Bytes, to: &Bytes, at: Position) -> bool
     ensures { result ≡ is_shown_by from.now to.now at.0 version.now (slice_get others.now 0) }
 {
-    !version.key.cmp(from).is_lt()
-        && version.key.cmp(to).is_lt()
+    is_within(&version.key, from, to)
         && version.at.0 <= at.0
         && !is_hidden(version, others.first(), at)
 }
 
+/// Whether the key is at or after the one and before the other.
+pub(crate) fn is_within(key: &Bytes, from: &Bytes, to: &Bytes) -> bool
+    ensures { result ≡ is_within_by from.now to.now key.now }
+{
+    !key.cmp(from).is_lt() && key.cmp(to).is_lt()
+}
+
 /// Whether the next version is one of the same key, at or below the position.
-fn is_hidden(version: &Version, next: Option<&Version>, at: Position) -> bool
+pub(crate) fn is_hidden(version: &Version, next: Option<&Version>, at: Position) -> bool
     ensures { result ≡ is_hidden_by at.0 version.now (option_map (λ next. next.now) next.entry) }
 {
     match next {

@@ -21,6 +21,7 @@ const MOST_ITEMS: usize = 4_294_967_295;
 pub fn can_write(run: &Run) -> bool
     ensures fits { result ≡ true → IsRun run.now }
     ensures in_order { result ≡ true → ascends run.now.versions ≡ true }
+    ensures takes { IsRun run.now → ascends run.now.versions ≡ true → result ≡ true }
 {
     let marks = run.marks.as_slice();
     let versions = run.versions.as_slice();
@@ -33,7 +34,8 @@ pub fn can_write(run: &Run) -> bool
 
 /// Whether all of the marks can be written.
 fn are_marks(marks: &[Mark]) -> bool
-    ensures { result ≡ true → All IsMark marks.now }
+    ensures fits { result ≡ true → All IsMark marks.now }
+    ensures takes { All IsMark marks.now → result ≡ true }
 {
     for mark in marks {
         if !is_mark(mark) {
@@ -45,7 +47,8 @@ fn are_marks(marks: &[Mark]) -> bool
 
 /// Whether the key of the mark's group has at most 65,536 bytes.
 fn is_mark(mark: &Mark) -> bool
-    ensures { result ≡ true → IsMark mark.now }
+    ensures fits { result ≡ true → IsMark mark.now }
+    ensures takes { IsMark mark.now → result ≡ true }
 {
     let _at = mark.at.0;
     mark.group.key.len() <= MOST_BYTES
@@ -53,7 +56,8 @@ fn is_mark(mark: &Mark) -> bool
 
 /// Whether all of the versions can be written.
 fn are_versions(versions: &[Version]) -> bool
-    ensures { result ≡ true → All IsVersion versions.now }
+    ensures fits { result ≡ true → All IsVersion versions.now }
+    ensures takes { All IsVersion versions.now → result ≡ true }
 {
     for version in versions {
         if !is_version(version) {
@@ -64,8 +68,9 @@ fn are_versions(versions: &[Version]) -> bool
 }
 
 /// Whether the version can be written: its key has at most 65,536 bytes, and its row is none or can be written.
-fn is_version(version: &Version) -> bool
-    ensures { result ≡ true → IsVersion version.now }
+pub(crate) fn is_version(version: &Version) -> bool
+    ensures fits { result ≡ true → IsVersion version.now }
+    ensures takes { IsVersion version.now → result ≡ true }
 {
     let _at = version.at.0;
     if version.key.len() > MOST_BYTES {
@@ -79,7 +84,8 @@ fn is_version(version: &Version) -> bool
 
 /// Whether the row has at most 255 properties, in ascending order, each with values that can be written.
 fn is_row(row: &Row) -> bool
-    ensures { result ≡ true → IsRow row.now }
+    ensures fits { result ≡ true → IsRow row.now }
+    ensures takes { IsRow row.now → result ≡ true }
 {
     if row.cells.len() > MOST_CELLS {
         return false;
@@ -89,7 +95,8 @@ fn is_row(row: &Row) -> bool
 
 /// Whether the numbers of properties rise, and their values can be written.
 fn are_rising(cells: &[Cell]) -> bool
-    ensures { result ≡ true → Ascends 0 cells.now }
+    ensures fits { result ≡ true → Ascends 0 cells.now }
+    ensures takes { Ascends 0 cells.now → result ≡ true }
 {
     let mut low = 0;
     let mut rest = cells;
@@ -105,7 +112,8 @@ fn are_rising(cells: &[Cell]) -> bool
 
 /// Whether the number of a property is no lower than this, and it has values, all of which can be written.
 fn is_cell(cell: &Cell, low: u32) -> bool
-    ensures { result ≡ true → IsCellIn low 255 cell.now }
+    ensures fits { result ≡ true → IsCellIn low 255 cell.now }
+    ensures takes { IsCellIn low 255 cell.now → result ≡ true }
 {
     if u32::from(cell.property) < low {
         return false;
@@ -119,7 +127,8 @@ fn is_cell(cell: &Cell, low: u32) -> bool
 
 /// Whether all of the values can be written.
 fn are_values(values: &[Value]) -> bool
-    ensures { result ≡ true → All IsValue values.now }
+    ensures fits { result ≡ true → All IsValue values.now }
+    ensures takes { All IsValue values.now → result ≡ true }
 {
     for value in values {
         if !is_value(value) {
@@ -131,7 +140,8 @@ fn are_values(values: &[Value]) -> bool
 
 /// Whether the value is short enough.
 fn is_value(value: &Value) -> bool
-    ensures { result ≡ true → IsValue value.now }
+    ensures fits { result ≡ true → IsValue value.now }
+    ensures takes { IsValue value.now → result ≡ true }
 {
     match value {
         Value::Int32(n) => is_own(i64::from(*n)),

@@ -1,5 +1,5 @@
 //! A node over its devices, with the handlers of its queues, as one that is served.
-ghost use Rattle.std.specs.Prelude.{◌≡◌, ◌≤◌, ℕ, List, map, true, IfOk, OnOk};
+ghost use Rattle.std.specs.Prelude.{◌≡◌, ◌≤◌, ◌+◌, if◌then◌else◌, ℕ, List, map, true, IfErr, IfOk, OnOk};
 ghost use Rattle.std.specs.List.{list_any};
 ghost use Rattle.mega_base.specs.declared.names.OpId.{OpId as Op};
 ghost use Rattle.mega_handler.specs.Named.{Meanings};
@@ -9,10 +9,14 @@ ghost use Rattle.mega_rules.specs.Steps.{step};
 ghost use Rattle.mega_replica.specs.Faring.{Fares};
 ghost use Rattle.mega_wal.specs.Same.{same_op};
 ghost use Rattle.mega_core.specs.Notes.{met_of};
+ghost use Rattle.mega_promises.specs.Runs.{appends};
+ghost use Rattle.mega_durable.specs.Compacting.{IsToCompact};
 ghost use Rattle.mega_durable.specs.Cut.{LogWent, failed_by, log_failed_by};
 ghost use Rattle.mega_durable.specs.Standing.{IsUp, records_in};
 ghost use Rattle.mega_durable.specs.Stepped.{AtEach};
-ghost use Rattle.mega_serve.specs.Stepping.{event_of};
+ghost use Rattle.mega_serve.specs.Stepping.{HaveGone, IsDueTo, event_of};
+ghost use Rattle.mega_server.specs.Causes.{fault_of};
+ghost use Rattle.mega_server.specs.Serving.{devices_of};
 
 use crate::faults::fault_of;
 use crate::forming::formed;
@@ -44,11 +48,12 @@ fn opens(operations: &[Operation], op: OpId) -> bool
 }
 
 impl<R: Records, V: Versions, H: QueueHandlers> Server<R, V, H> {
-    /// The node makes the step of an event.
-    fn steps(&mut self, alloc: Global, event: Event) -> Result<Step, UpFault>
+    /// The node makes the step of an event, over its log as it is.
+    fn acts(&mut self, alloc: Global, event: Event) -> Result<Step, UpFault>
         ensures notes { V.is_told ≡ true → IfOk result (λ made. AtEach R.Records V.version (H.meant self.old.handlers) self.old.up.node (event_of event) (λ h s node. map met_of made.notes ≡ (step s node (event_of event)).notes)) }
         ensures sends { V.is_told ≡ true → IfOk result (λ made. AtEach R.Records V.version (H.meant self.old.handlers) self.old.up.node (event_of event) (λ h s node. made.sends ≡ (step s node (event_of event)).sends)) }
         ensures state { V.is_told ≡ true → OnOk result (AtEach R.Records V.version (H.meant self.old.handlers) self.old.up.node (event_of event) (λ h s node. IsUp R.Records V.version h self.new.up.node (step s node (event_of event)).node)) }
+        ensures appended { V.is_told ≡ true → OnOk result (AtEach R.Records V.version (H.meant self.old.handlers) self.old.up.node (event_of event) (λ h s node. R.count_of (records_in self.new.up.node) ≡ R.count_of (records_in self.old.up.node) + (if appends (step s node (event_of event)) then 1 else 0))) }
         ensures handlers { H.meant self.new.handlers ≡ H.meant self.old.handlers }
         ensures went { LogWent R.Records (log_failed_by result) (records_in self.old.up.node) (records_in self.new.up.node) }
         ensures fares { Fares V.Versions (failed_by result) self.old.up.node.replica.rows.rows self.new.up.node.replica.rows.rows }
@@ -64,11 +69,40 @@ impl<R: Records, V: Versions, H: QueueHandlers> Server<R, V, H> {
             }
         }
     }
+
+    /// The node makes the step of an event, behind one record in place of all of its log where they are due for it.
+    fn steps(&mut self, alloc: Global, event: Event) -> Result<Step, UpFault>
+        ensures notes { V.is_told ≡ true → IfOk result (λ made. AtEach R.Records V.version (H.meant self.old.handlers) self.old.up.node (event_of event) (λ h s node. map met_of made.notes ≡ (step s node (event_of event)).notes)) }
+        ensures sends { V.is_told ≡ true → IfOk result (λ made. AtEach R.Records V.version (H.meant self.old.handlers) self.old.up.node (event_of event) (λ h s node. made.sends ≡ (step s node (event_of event)).sends)) }
+        ensures state { V.is_told ≡ true → OnOk result (AtEach R.Records V.version (H.meant self.old.handlers) self.old.up.node (event_of event) (λ h s node. IsUp R.Records V.version h self.new.up.node (step s node (event_of event)).node)) }
+
+        // Records that were due are then at most two: one of all before the step, and that of the step.
+        ensures few { V.is_told ≡ true → OnOk result (IsToCompact R.Records self.old.up.node.replica.voter.logs → AtEach R.Records V.version (H.meant self.old.handlers) self.old.up.node (event_of event) (λ h s node. R.count_of (records_in self.new.up.node) ≤ 2)) }
+
+        ensures handlers { H.meant self.new.handlers ≡ H.meant self.old.handlers }
+        ensures cause { IfErr result (λ fault. IsDueTo (fault_of fault) (devices_of R.Records V.Versions self.old.up.node) (devices_of R.Records V.Versions self.new.up.node)) }
+        ensures later { HaveGone (devices_of R.Records V.Versions self.old.up.node) (devices_of R.Records V.Versions self.new.up.node) }
+        ensures members { self.new.up.node.replica.members ≡ self.old.up.node.replica.members }
+        ensures number { self.new.number ≡ self.old.number }
+        ensures me { self.new.up.node.replica.me ≡ self.old.up.node.replica.me }
+    {
+        match self.up.compact(alloc) {
+            Ok(()) => {}
+            Err(fault) => {
+                drop(event);
+                return Err(fault);
+            }
+        }
+        match self.acts(alloc, event) {
+            Ok(step) => Ok(step),
+            Err(fault) => Err(fault),
+        }
+    }
 }
 
 impl<R: Records, V: Versions, H: QueueHandlers> Steps for Server<R, V, H> {
     ghost use Rattle.std.proofs.Common.{ap, sym};
-    ghost use Rattle.mega_server.specs.Serving.{IsServed, MayStep, devices_of, opens_at};
+    ghost use Rattle.mega_server.specs.Serving.{IsServed, MayStep, opens_at};
 
     ghost is_at = { λ s h node journal. IsServed R.Records V.Versions (H.meant s.handlers) h s.up.node s.number.of node };
 

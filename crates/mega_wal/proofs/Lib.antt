@@ -12,3 +12,4 @@ pub mod Fitting
 pub mod Compacted
 pub mod Decided
 pub mod Formats
+pub mod Summed

@@ -19,10 +19,10 @@ use mega_disk::{RecordError, Records};
 use std::alloc::Global;
 
 /// The length in bytes that no record reaches.
-const RECORD_LIMIT: u64 = 1 << 32;
+pub(crate) const RECORD_LIMIT: u64 = 1 << 32;
 
 /// The text of a record of these items.
-fn text(alloc: Global, items: &Items<JournalItem>) -> Result<Bytes, NoMemory>
+pub(crate) fn text(alloc: Global, items: &Items<JournalItem>) -> Result<Bytes, NoMemory>
     requires each { All IsItem items.now }
     requires few { length items.now < 2 ^ 32 }
     ensures { IfOk result (λ text. text ≡ record_text items.now) }
@@ -72,7 +72,11 @@ fn append<R: Records>(alloc: Global, records: &mut R, body: &[u8]) -> Result<(),
 }
 
 /// Puts a record in place of all.
-fn replace<R: Records>(alloc: Global, records: &mut R, body: &[u8]) -> Result<(), LogFault>
+pub(crate) fn replace<R: Records>(
+    alloc: Global,
+    records: &mut R,
+    body: &[u8],
+) -> Result<(), LogFault>
     requires short { length body.now < 2 ^ 32 }
     requires due { R.is_due records.old ≡ true }
     ensures replaced { R.is_told ≡ true → OnOk result (R.list records.new ≡ body.now ∷ []) }

@@ -13,6 +13,7 @@ pub mod laws;
 mod logs;
 mod opening;
 mod slot;
+mod summing;
 
 pub use answers::{LogFault, Promised, Voted};
 pub use item::JournalItem;

@@ -1,7 +1,7 @@
 use Rattle.std.proofs.Common.{◌≡◌, Result, ap, subst, ◌∙◌}
 use Rattle.std.specs.Prelude.{IfErr}
-use Rattle.mega_journal.specs.Chain.{records_of}
-use Rattle.mega_journal.specs.Journals.{disk_of}
+use Rattle.mega_checkpoint.specs.Format.{list_of}
+use Rattle.mega_checkpoint.specs.Opened.{disk_of}
 use Rattle.mega_backup_words.specs.declared.stop.Stop.{Stop}
 use Rattle.mega_backup_words.specs.declared.stop.Stop.TheVariants.{Sink}
 use Rattle.mega_backup_words.specs.Stops.{IsOpeningStop, IsWriteStop}
@@ -16,7 +16,7 @@ returns-in-Ok-clause-ends g c =
     (c.write_log-ended.ensures.ends _ found.3)
 
 pub returns-in-Ok-clause-kept : goal.returns-in-Ok-clause-kept
-returns-in-Ok-clause-kept g c told plain = ap (λ d. records_of (g.D.Disk.seen d)) (c.close.ensures ∙ ap disk_of c.close-journal.ensures) ∙ c.in-Ok.ensures.list told
+returns-in-Ok-clause-kept g c told plain = ap (λ d. list_of (g.D.Disk.seen d)) (c.close.ensures ∙ ap disk_of c.close-store.ensures) ∙ c.in-Ok.ensures.list told
 
 pub returns-in-Ok-clause-device : goal.returns-in-Ok-clause-device
 returns-in-Ok-clause-device g c is = absurd (subst (λ (r : Result (Unit {0}) Stop). IfErr r IsWriteStop) is c.write_log-ended.ensures.only)

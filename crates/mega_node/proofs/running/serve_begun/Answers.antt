@@ -1,5 +1,5 @@
 use Rattle.std.proofs.Common.{subst, sym}
-use Rattle.mega_journal.specs.Chain.{records_of}
+use Rattle.mega_checkpoint.specs.Format.{list_of}
 use Rattle.mega_rules.specs.Clock.{start_of}
 use Rattle.mega_voter.specs.Holding.{HoldsMet}
 use Rattle.mega_node.proofs.Over.{halted, ran}
@@ -12,7 +12,7 @@ returns-clause-ran g c =
     (λ turned makes members me log found are started.
     ran g.D.Disk _ makes members me c.args.turns log c.log_of.result _ _ found c.args.begun.server c.record_and_turn-ended.new.node c.args.begun.start c.args.begun.notes are started turned
     (λ h waiting now serving told.
-    subst (λ device. HoldsMet (records_of (g.D.Disk.seen device)) (start_of now.node.met) now.node.met) (sym c.log_of.ensures) (serving.at.up.holds told)))
+    subst (λ device. HoldsMet (list_of (g.D.Disk.seen device)) (start_of now.node.met) now.node.met) (sym c.log_of.ensures) (serving.at.up.holds told)))
     c.record_and_turn-ended.ensures.on
 
 pub returns-clause-halted : goal.returns-clause-halted

@@ -1,6 +1,6 @@
 use Rattle.std.proofs.Common.{◌≡◌, ◌+◌, ℕ, ◌<◌, [], ap, refl, sym, subst, ◌∙◌, arith}
 use Rattle.mega_durable.specs.Starting.{IsRefused}
-use Rattle.mega_journal.specs.Journals.{disk_of}
+use Rattle.mega_checkpoint.specs.Opened.{disk_of}
 use Rattle.mega_promises.specs.NodeRuns.{met_of}
 use Rattle.mega_promises.specs.Runs.{setting}
 use Rattle.mega_wal.specs.History.{starts_of}

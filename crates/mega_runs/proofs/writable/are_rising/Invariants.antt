@@ -5,6 +5,7 @@ use Rattle.mega_runs.proofs.writable.are_rising.Given as goal
 abbrev pub invariant-loop-cell : goal.invariant-loop-cell
 invariant-loop-cell l = record {
   rising : Ascends l.low l.rest → Ascends 0 l.cells;
+  back : Ascends 0 l.cells → Ascends l.low l.rest;
   small : l.low ≤ 256;
 }
 

@@ -6,7 +6,7 @@ use Rattle.mega_base.specs.Values.{IsValue}
 use Rattle.mega_runs.proofs.writable.are_values.Goals as goal
 
 pub loop-value-preserved : goal.loop-value-preserved
-loop-value-preserved c = All-more IsValue c.args.values.now c.loop-value.value-index c.value-item.result c.loop-value-test.true c.loop-value.invariant (subst IsValue c.value-item.is (c.is_value.ensures c.if-not-is_value.false))
+loop-value-preserved c = All-more IsValue c.args.values.now c.loop-value.value-index c.value-item.result c.loop-value-test.true c.loop-value.invariant (subst IsValue c.value-item.is (c.is_value.ensures.fits c.if-not-is_value.false))
 
-pub returns : goal.returns
-returns c passed = subst (All IsValue) (take_all c.loop-value.value-index c.args.values.now (let done = c.loop-value-test.false in omega arith)) c.loop-value.invariant
+pub returns-clause-fits : goal.returns-clause-fits
+returns-clause-fits c passed = subst (All IsValue) (take_all c.loop-value.value-index c.args.values.now (let done = c.loop-value-test.false in omega arith)) c.loop-value.invariant

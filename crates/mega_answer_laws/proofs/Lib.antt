@@ -1,0 +1,17 @@
+pub mod Reasons
+pub mod Nothing
+pub mod Walk
+pub mod Views
+pub mod Applied
+pub mod Ops
+pub mod Since
+pub mod Notes
+pub mod Causes
+pub mod Acts
+pub mod Once
+pub mod Placing
+pub mod Told
+pub mod Steps
+pub mod Events
+pub mod Starts
+pub mod Runs

@@ -1,0 +1,92 @@
+-- A step behind a compaction of the node's log is the step, and its devices only went on.
+use Rattle.std.proofs.Common.{◌≡◌, ◌⊎◌, inl, inr, ℕ, ◌+◌, ◌-◌, ◌^◌, ◌≤◌, min, Bool, true, false, cond, List, Option, Err, refl, sym, subst, arith}
+use Rattle.mega_base.specs.Causes.{Rose}
+use Rattle.mega_cluster.specs.declared.cluster.Cluster.{Cluster}
+use Rattle.mega_disk.specs.declared.records.Records.{Ghosts}
+use Rattle.mega_disk.specs.declared.versions.Versions.{Ghosts as VersionGhosts}
+use Rattle.mega_disk.specs.VersionMaps.{Versions}
+use Rattle.mega_handler.specs.Named.{Meaning, Meanings}
+use Rattle.mega_wal.specs.declared.answers.LogFault.{LogFault}
+use Rattle.mega_wal.specs.declared.answers.LogFault.TheVariants as log
+use Rattle.mega_rules.specs.Operations.{Node as RuleNode, Setting}
+use Rattle.mega_rules.specs.Steps.{Event}
+use Rattle.mega_replica.specs.Faring.{Fares}
+use Rattle.mega_actions.specs.Stands.{setting}
+use Rattle.mega_core.specs.declared.fault.StepFault.{StepFault}
+use Rattle.mega_core.specs.declared.fault.StepFault.TheVariants as step
+use Rattle.mega_core.specs.declared.node.Node.{Node}
+use Rattle.mega_core.specs.declared.step.Step.{Step}
+use Rattle.mega_durable.specs.declared.fault.UpFault.{UpFault}
+use Rattle.mega_durable.specs.declared.fault.UpFault.TheVariants as up
+use Rattle.mega_durable.specs.Compacting.{AtEachUp, LogCompacts, OwesNothing}
+use Rattle.mega_durable.specs.Cut.{LogWent, failed_by, log_fault_in}
+use Rattle.mega_durable.specs.Standing.{IsUp, MayHappen, records_in}
+use Rattle.mega_durable.specs.Stepped.{AtEach}
+use Rattle.mega_serve.specs.declared.fault.NodeFault.{NodeFault}
+use Rattle.mega_serve.specs.declared.fault.NodeFault.TheVariants as node
+use Rattle.mega_serve.specs.Stepping.{Devices, HaveGone, IsDueTo}
+use Rattle.mega_server.specs.Causes.{fault_of}
+use Rattle.mega_server.specs.Serving.{devices_of}
+
+-- what is said of each node of the rules under which the compacted node is up, is said of each under which it was up before
+pub at_compacted : {R V : Type 0} (store : Ghosts R) (version : V → Versions) (makes : List ℕ → Option Meaning) (old mid : Node R V) (event : Event) (Is : Meanings → Setting → RuleNode → Type 0)
+    → AtEachUp store version old (λ h ruled. IsUp store version h mid ruled) → mid.replica.members ≡ old.replica.members → mid.replica.me ≡ old.replica.me
+    → AtEach store version makes mid event Is → AtEach store version makes old event Is
+at_compacted store version makes old mid event Is stays members me each = λ h ruled is may.
+    coe 0 1 (i. Is h (setting (members i) (me i) h) ruled) (each h ruled (stays h ruled is) (coe 0 1 (i. MayHappen makes (setting (sym members i) (sym me i) h) ruled event) may))
+
+-- one record of all before, and that of the step where it appends one
+pub at_most_two : (mid new : ℕ) (appends : Bool) → mid ≡ 1 → new ≡ mid + cond {A = ℕ} appends 1 0 → new ≤ 2
+at_most_two mid new true one is = omega arith
+at_most_two mid new false one is = omega arith
+
+-- ---- the devices
+longer : (a b : ℕ) → a ≡ b → b ≤ a
+longer a b same = omega arith
+
+pub compacting_gone : {R V : Type 0} (store : Ghosts R) (rows : VersionGhosts V) (old new : Node R V) (failed : Option LogFault) → LogCompacts store failed (records_in old) (records_in new)
+    → new.replica.rows ≡ old.replica.rows → HaveGone (devices_of store rows old) (devices_of store rows new)
+compacting_gone store rows old new failed went same = (went.1.later, longer (rows.faults new.replica.rows.rows) (rows.faults old.replica.rows.rows) (λ i. rows.faults (same i).rows))
+
+pub compacting_due : {R V : Type 0} (store : Ghosts R) (rows : VersionGhosts V) (old new : Node R V) (fault : UpFault) → OwesNothing fault
+    → LogCompacts store (log_fault_in fault) (records_in old) (records_in new) → IsDueTo (fault_of fault) (devices_of store rows old) (devices_of store rows new)
+compacting_due store rows old new (up.Step fault) owes went = absurd owes
+compacting_due store rows old new (up.Cut cut) owes went = inl (went.1.cause refl)
+compacting_due store rows old new (up.Log log.DiskFault) owes went = inl (went.1.cause refl)
+compacting_due store rows old new (up.Log (log.Full length)) owes went = (went.1.full length refl).0.2
+compacting_due store rows old new (up.Log log.Spent) owes went = tt
+compacting_due store rows old new (up.Log (log.BadRecord number)) owes went = tt
+compacting_due store rows old new (up.Log log.NoMemory) owes went = tt
+compacting_due store rows old new up.Unformed owes went = tt
+
+pub acting_due : {R V : Type 0} (store : Ghosts R) (rows : VersionGhosts V) (old new : Node R V) (fault : UpFault) → LogWent store (log_fault_in fault) (records_in old) (records_in new)
+    → Fares rows (failed_by {T = Step} (Err fault)) old.replica.rows.rows new.replica.rows.rows → IsDueTo (fault_of fault) (devices_of store rows old) (devices_of store rows new)
+acting_due store rows old new (up.Step step.DiskFault) went fares = inr (fares.cause refl)
+acting_due store rows old new (up.Step (step.Full length)) went fares = absurd (fares.never_full length refl)
+acting_due store rows old new (up.Step (step.BadRecord number)) went fares = tt
+acting_due store rows old new (up.Step step.Unserved) went fares = tt
+acting_due store rows old new (up.Step step.Stranger) went fares = tt
+acting_due store rows old new (up.Step step.Late) went fares = tt
+acting_due store rows old new (up.Step step.NoMemory) went fares = tt
+acting_due store rows old new (up.Cut cut) went fares = inl (went.1.cause refl)
+acting_due store rows old new (up.Log log.DiskFault) went fares = inl (went.1.cause refl)
+acting_due store rows old new (up.Log (log.Full length)) went fares = (went.1.full length refl).0.2
+acting_due store rows old new (up.Log log.Spent) went fares = tt
+acting_due store rows old new (up.Log (log.BadRecord number)) went fares = tt
+acting_due store rows old new (up.Log log.NoMemory) went fares = tt
+acting_due store rows old new up.Unformed went fares = tt
+
+pub gone_on : (old mid new : Devices) → HaveGone old mid → HaveGone mid new → HaveGone old new
+gone_on old mid new first second = (let a = first.0 in let b = second.0 in omega arith, let a = first.1 in let b = second.1 in omega arith)
+
+rose_on : (old mid new : ℕ) → old ≤ mid → Rose mid new → Rose old new
+rose_on old mid new first rose = omega arith
+
+pub due_on : (fault : NodeFault) (old mid new : Devices) → HaveGone old mid → IsDueTo fault mid new → IsDueTo fault old new
+due_on node.DiskFault old mid new gone (inl rose) = inl (rose_on old.0 mid.0 new.0 gone.0 rose)
+due_on node.DiskFault old mid new gone (inr rose) = inr (rose_on old.1 mid.1 new.1 gone.1 rose)
+due_on (node.Full length) old mid new gone due = due
+due_on (node.BadRecord number) old mid new gone due = tt
+due_on node.Spent old mid new gone due = tt
+due_on node.Unformed old mid new gone due = tt
+due_on node.NoMemory old mid new gone due = tt

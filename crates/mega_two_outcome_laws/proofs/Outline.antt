@@ -1,0 +1,120 @@
+-- Values that were read are spelled as good trees, and read back.
+use Rattle.std.proofs.Common.{◌≡◌, ℕ, zero, suc, ◌≤◌, ◌||◌, pos, negsuc, Bool, true, false, List, refl, ap, ◌∙◌, Some, arith, Less, Greater, nat_cmp}
+use Rattle.std.specs.Prelude.{option_map, option_and_then}
+use Rattle.std.specs.Ordering.{ordering_reverse}
+use Rattle.std.specs.Cmp.Lexicographic.{slice_cmp}
+use Rattle.std.proofs.lemmas.Cmp.{nat_list_cmp_total}
+use Rattle.std.proofs.lemmas.Fmt.{IsAscii-decimal, IsAscii-signed}
+use Rattle.std.proofs.lemmas.Str.{IsUtf8-from_ascii}
+use Rattle.json.specs.Json as json
+use Rattle.json.proofs.Printed.Decimals.{IsNumber-decimal, IsNumber-signed_decimal}
+use Rattle.serde_json.specs.Data.{Num, unsigned, negative, float, Data, null, boolean, number, string, array, object, Items, no_items, item, Members, no_members, member, put, depth, items_depth, members_depth}
+use Rattle.serde_json.specs.Find.{is_float}
+use Rattle.serde_json.specs.Read.{of_json, of_items, of_members}
+use Rattle.serde_json.specs.Written.{number_text, outline, items_outline, members_outline, has_float, items_have_float, members_have_float}
+use Rattle.serde_json.proofs.Numbers.{number_of-decimal, number_of-negative}
+use Rattle.mega_json_laws.specs.Whole.{AreWholeItems, AreWholeMembers, IsBelow, IsWhole, IsWholeNumber}
+use Rattle.mega_two_outcome_laws.proofs.Trees.{IsGood, AreGood, HasGood}
+
+pub neither : (a b : Bool) → (a || b) ≡ false → (a ≡ false) × (b ≡ false)
+neither false b e = (refl, e)
+neither true b e = absurd (cc)
+
+number_good : (x : Num) (n : ℕ) → IsWholeNumber x → is_float x ≡ false → IsGood n (json.number (number_text x))
+number_good (unsigned k) n whole plain = (IsNumber-decimal k whole, IsUtf8-from_ascii (number_text (unsigned k)) (IsAscii-decimal k whole))
+number_good (negative (pos k)) n whole plain = absurd whole
+number_good (negative (negsuc k)) n whole plain = (IsNumber-signed_decimal (negsuc k) whole, IsUtf8-from_ascii (number_text (negative (negsuc k))) (IsAscii-signed (negsuc k) whole))
+number_good (float x) n whole plain = absurd (cc)
+
+mutual
+  pub good : (n : ℕ) (d : Data) → IsWhole d → depth d ≤ n → has_float d ≡ false → IsGood n (outline d)
+  good n null whole deep plain = tt
+  good n (boolean b) whole deep plain = tt
+  good n (number x) whole deep plain = number_good x n whole plain
+  good n (string s) whole deep plain = whole
+  good zero (array ds) whole deep plain = absurd (omega (arith, deep))
+  good (suc n) (array ds) whole deep plain = items_good n ds whole (omega (arith, deep)) plain
+  good zero (object ms) whole deep plain = absurd (omega (arith, deep))
+  good (suc n) (object ms) whole deep plain = members_good n ms whole (omega (arith, deep)) plain
+
+  pub items_good : (n : ℕ) (ds : Items) → AreWholeItems ds → items_depth ds ≤ n → items_have_float ds ≡ false → AreGood n (items_outline ds)
+  items_good n no_items whole deep plain = tt
+  items_good n (item d ds) whole deep plain =
+      let p = neither (has_float d) (items_have_float ds) plain in
+      (good n d whole.0 (omega (arith, deep)) p.0, items_good n ds whole.1 (omega (arith, deep)) p.1)
+
+  members_good : (n : ℕ) (ms : Members) → AreWholeMembers ms → members_depth ms ≤ n → members_have_float ms ≡ false → HasGood n (members_outline ms)
+  members_good n no_members whole deep plain = tt
+  members_good n (member k d ms) whole deep plain =
+      let p = neither (has_float d) (members_have_float ms) plain in
+      (whole.0, (good n d whole.1.0 (omega (arith, deep)) p.0, members_good n ms whole.1.1.1 (omega (arith, deep)) p.1))
+
+-- ---- members that go in one after another, in order
+
+abbrev join : Members → Members → Members
+join no_members ms = ms
+join (member k d found) ms = member k d (join found ms)
+
+join_nil : (found : Members) → found ≡ join found no_members
+join_nil no_members = refl
+join_nil (member k d found) = ap (member k d) (join_nil found)
+
+join_one : (found : Members) (k : List ℕ) (d : Data) (ms : Members) → join (join found (member k d no_members)) ms ≡ join found (member k d ms)
+join_one no_members k d ms = refl
+join_one (member l e found) k d ms = ap (member l e) (join_one found k d ms)
+
+abbrev AreBelow : Members → List ℕ → Type 0
+AreBelow no_members k = Unit {0}
+AreBelow (member l e found) k = (slice_cmp nat_cmp l k ≡ Less) × AreBelow found k
+
+abbrev AreBelowFirst : Members → Members → Type 0
+AreBelowFirst found no_members = Unit {0}
+AreBelowFirst found (member k d ms) = AreBelow found k
+
+put_last : (k : List ℕ) (d : Data) (found : Members) → AreBelow found k → put k d found ≡ join found (member k d no_members)
+put_last k d no_members h = refl
+put_last k d (member l e found) h =
+    let above : slice_cmp nat_cmp k l ≡ Greater = nat_list_cmp_total.antisymm k l ∙ ap ordering_reverse h.0 in
+    rw above (ap (member l e) (put_last k d found h.1))
+
+below_next : (found : Members) (k : List ℕ) (d : Data) (l : List ℕ) → AreBelow found k → slice_cmp nat_cmp k l ≡ Less → AreBelow (join found (member k d no_members)) l
+below_next no_members k d l h less = (less, tt)
+below_next (member m e found) k d l h less = (nat_list_cmp_total.trans m k l h.0 less, below_next found k d l h.1 less)
+
+below_first : (found : Members) (k : List ℕ) (d : Data) (ms : Members) → AreBelow found k → IsBelow k ms → AreBelowFirst (join found (member k d no_members)) ms
+below_first found k d no_members h below = tt
+below_first found k d (member l e ms) h below = below_next found k d l h below
+
+none_below : (ms : Members) → AreBelowFirst no_members ms
+none_below no_members = tt
+none_below (member k d ms) = tt
+
+number_again : (x : Num) → IsWholeNumber x → is_float x ≡ false → of_json (json.number (number_text x)) ≡ Some (number x)
+number_again (unsigned n) s plain = ap (option_map number) (number_of-decimal n s)
+number_again (negative (pos n)) s plain = absurd s
+number_again (negative (negsuc n)) s plain = ap (option_map number) (number_of-negative n s)
+number_again (float x) s plain = absurd (cc)
+
+mutual
+  pub again : (d : Data) → IsWhole d → has_float d ≡ false → of_json (outline d) ≡ Some d
+  again null s plain = refl
+  again (boolean b) s plain = refl
+  again (number x) s plain = number_again x s plain
+  again (string t) s plain = refl
+  again (array ds) s plain = ap (option_map array) (items_again ds s plain)
+  again (object ms) s plain = ap (option_map object) (members_again ms no_members s plain (none_below ms))
+
+  pub items_again : (ds : Items) → AreWholeItems ds → items_have_float ds ≡ false → of_items (items_outline ds) ≡ Some ds
+  items_again no_items s plain = refl
+  items_again (item d ds) s plain =
+      let p = neither (has_float d) (items_have_float ds) plain in
+      ap (option_and_then (λ e. option_map (item e) (of_items (items_outline ds)))) (again d s.0 p.0) ∙ ap (option_map (item d)) (items_again ds s.1 p.1)
+
+  members_again : (ms found : Members) → AreWholeMembers ms → members_have_float ms ≡ false → AreBelowFirst found ms → of_members (members_outline ms) found ≡ Some (join found ms)
+  members_again no_members found s plain below = ap Some (join_nil found)
+  members_again (member k d ms) found s plain below =
+      let p = neither (has_float d) (members_have_float ms) plain in
+      ap (option_and_then (λ e. of_members (members_outline ms) (put k e found))) (again d s.1.0 p.0)
+      ∙ ap (of_members (members_outline ms)) (put_last k d found below)
+      ∙ members_again ms (join found (member k d no_members)) s.1.1.1 p.1 (below_first found k d ms below s.1.1.0)
+      ∙ ap Some (join_one found k d ms)
