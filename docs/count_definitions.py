@@ -11,6 +11,8 @@ import sys
 
 CRATES = os.path.join(os.path.dirname(os.path.abspath(__file__)), "..", "crates")
 HEAD = re.compile(r"^(?:unfoldable |abbrev )?(?:pub )?(?:(?:record|data) )?([^\s(:]+)(?= |$)")
+# what a crate passes on of one below it
+PASSED_ON = re.compile(r"^\w+\.of_(\w+)")
 WORD = re.compile(r"[\w◌≡-]+(?:\.[\w-]+)*")
 
 
@@ -44,7 +46,7 @@ class Module:
         match = re.match(r"use Rattle\.(\w+)\.specs\.([\w.]+?)(?:\.\{(.*)\})?(?: as (\w+))?$", line)
         if not match or match.group(2).startswith("declared"):
             return
-        module = f"{match.group(1)}.{match.group(2)}"
+        module = PASSED_ON.sub(r"mega_\1", f"{match.group(1)}.{match.group(2)}")
         for item in (match.group(3) or "").split(", "):
             name, _, other = item.partition(" as ")
             self.imports[other or name] = (module, name)

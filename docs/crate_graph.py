@@ -8,7 +8,11 @@ from pathlib import Path
 
 TOP = Path(__file__).resolve().parent.parent
 CALLED = re.compile(r"^\s*(?:pub )?use (\w+)(?:::|;)", re.MULTILINE)
-NAMED = re.compile(r"\b(\w+)::\w")
+NAMED = re.compile(r"\b(\w+)::(?=\w)")
+# a crate passes on what lies below it: `mega_durable::mega_core`, `Rattle.mega_durable.specs.of_core`
+PASSED = re.compile(r"\bmega_\w+::(?=mega_)")
+PASSES = re.compile(r"^pub use (?:mega_\w+::)*mega_\w+;$", re.MULTILINE)
+PASSED_IN_PROOFS = re.compile(r"\bRattle\.\w+\.(specs|proofs)\.of_(\w+)")
 CITED = re.compile(r"\bRattle\.(\w+)\.")
 
 
@@ -25,8 +29,10 @@ def text_of(crate, pattern):
 def uses(crate, known):
     """What the code of a crate calls, and what only its contracts, definitions and proofs cite."""
     code = "\n".join(line for line in text_of(crate, "src/**/*.rt").splitlines() if "ghost use" not in line)
+    code = PASSED.sub("", PASSES.sub("", code))
     called = {name for name in CALLED.findall(code) + NAMED.findall(code) if name in known and name != crate}
     all_text = text_of(crate, "src/**/*.rt") + text_of(crate, "specs/**/*.antt") + text_of(crate, "proofs/**/*.antt")
+    all_text = PASSED_IN_PROOFS.sub(r"Rattle.mega_\2.\1", all_text)
     cited = {name for name in CITED.findall(all_text) if name in known and name != crate}
     return called, cited - called
 

@@ -17,7 +17,7 @@ use Rattle.mega_rules.specs.Finding.{find_answer, find_by, group_bytes, group_ma
 use Rattle.mega_rules.specs.Operations.{Now, Setting}
 use Rattle.mega_rules.specs.Steps.{applied_position, snapshot_listed, snapshot_rows, stored_listed, stored_rows}
 use Rattle.mega_outcome.specs.declared.answer.Mark.{Mark}
-use Rattle.mega_node_laws.specs.About.{IsOf}
+use Rattle.mega_marks.specs.of_node_laws.About.{IsOf}
 use Rattle.mega_actions.specs.Servable.{group_asked, is_plain, is_proposed}
 use Rattle.mega_actions.specs.Showing.{looks, place_by, shown}
 

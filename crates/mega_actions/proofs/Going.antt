@@ -15,7 +15,7 @@ use Rattle.mega_outcome.specs.Outcome.{batch_outcome, outcome}
 use Rattle.mega_read.specs.declared.reading.Reading.{Reading}
 use Rattle.mega_rules.specs.Operations.{Now, Operation, Reads, Setting}
 use Rattle.mega_rules.specs.Acting.{batch_sealed, ends, finishes, listed_at, rows_at, sealed}
-use Rattle.mega_node_laws.specs.About.{IsOf}
+use Rattle.mega_marks.specs.of_node_laws.About.{IsOf}
 use Rattle.mega_actions.specs.declared.came.Came.{Came}
 use Rattle.mega_actions.specs.declared.came.Came.TheVariants.{Alone, Batched}
 use Rattle.mega_actions.specs.Servable.{is_proposed}

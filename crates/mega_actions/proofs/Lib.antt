@@ -11,3 +11,5 @@ mod InTurn
 mod Begun
 mod Serving
 mod Turned
+pub use Rattle.mega_marks.proofs as of_marks
+pub use Rattle.mega_marks.proofs.of_node_laws as of_node_laws

@@ -23,7 +23,7 @@ use Rattle.mega_replica.specs.Stored.{Counts, GroupLogs, IsUnwritten, last_write
 use Rattle.mega_replica.specs.Following.{Follows}
 use Rattle.mega_replica.proofs.Reading.{read_is, stored_is}
 use Rattle.mega_replica.proofs.Writing.{last_write-append}
-use Rattle.mega_node_laws.specs.Own.{HasOwnRows}
+use Rattle.mega_marks.specs.of_node_laws.Own.{HasOwnRows}
 use Rattle.mega_view.specs.Shows.{Shows}
 use Rattle.mega_view.proofs.Found.{key_named, stands_key}
 use Rattle.mega_view.proofs.Grouped.{has_group}

@@ -16,7 +16,7 @@ use Rattle.mega_rules.specs.Logs.{log_of}
 use Rattle.mega_rules.specs.Operations.{Now, Operation, Phase, Proposes, Reads, Setting}
 use Rattle.mega_rules.specs.Queues.{Posted, next_to_enter, next_to_handle, oldest_unhandled}
 use Rattle.mega_rules.specs.Steps.{begins, new_operation}
-use Rattle.mega_node_laws.specs.About.{IsAbout, IsOf}
+use Rattle.mega_marks.specs.of_node_laws.About.{IsAbout, IsOf}
 use Rattle.mega_actions.specs.declared.pumping.Pumped.{Pumped}
 use Rattle.mega_actions.specs.declared.pumping.Pumped.TheVariants.{Again, Done}
 use Rattle.mega_actions.specs.Acted.{IsNextAbout, IsNextAsked}

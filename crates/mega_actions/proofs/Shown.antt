@@ -30,7 +30,7 @@ use Rattle.mega_replica.specs.Following.{Follows}
 use Rattle.mega_replica.proofs.Reading.{stored_is}
 use Rattle.mega_rules.specs.Operations.{Setting}
 use Rattle.mega_rules.specs.Acting.{read_answer, rows_answer}
-use Rattle.mega_node_laws.specs.Own.{HasOwnRows}
+use Rattle.mega_marks.specs.of_node_laws.Own.{HasOwnRows}
 use Rattle.mega_actions.specs.Servable.{is_named}
 use Rattle.mega_actions.specs.Showing.{reading, told}
 

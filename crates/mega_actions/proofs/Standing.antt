@@ -13,9 +13,9 @@ use Rattle.mega_replica.specs.declared.progress.Progress.{Progress}
 use Rattle.mega_replica.specs.Following.{Follows}
 use Rattle.mega_replica.proofs.Growing.{follows_same}
 use Rattle.mega_voter.proofs.Told.{silent_told}
-use Rattle.mega_node_laws.proofs.Followed.{follows_more}
-use Rattle.mega_node_laws.proofs.Logs.{same_more, same_self}
-use Rattle.mega_node_laws.proofs.Owned.{batch_is, outcome_is, owned_same_logs}
+use Rattle.mega_marks.proofs.of_node_laws.Followed.{follows_more}
+use Rattle.mega_marks.proofs.of_node_laws.Logs.{same_more, same_self}
+use Rattle.mega_marks.proofs.of_node_laws.Owned.{batch_is, outcome_is, owned_same_logs}
 use Rattle.mega_actions.specs.Completed.{completed, stored_through, valid_if}
 use Rattle.mega_actions.specs.Sees.{Sees}
 use Rattle.mega_actions.specs.Stands.{Stands}

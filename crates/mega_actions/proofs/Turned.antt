@@ -2,7 +2,7 @@
 use Rattle.std.proofs.Common.{◌≡◌, ◌∙◌, ℕ, suc, ◌+◌, ◌-◌, ◌<◌, ◌≤◌, Some, None, ap, subst, sym, arith}
 use Rattle.mega_disk.specs.VersionMaps.{Versions}
 use Rattle.mega_handler.specs.Named.{Meanings}
-use Rattle.mega_node_laws.specs.About.{IsAbout}
+use Rattle.mega_marks.specs.of_node_laws.About.{IsAbout}
 use Rattle.mega_rules.specs.Acting.{acts, acts_within, goes_on, keeps}
 use Rattle.mega_rules.specs.Operations.{Now, Operation, Setting}
 use Rattle.mega_actions.specs.declared.replica.Replica.{Replica}

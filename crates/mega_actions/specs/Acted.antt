@@ -3,7 +3,7 @@
 use Rattle.std.specs.Prelude.{◌≡◌, Option, Some, None}
 use Rattle.mega_disk.specs.VersionMaps.{Versions}
 use Rattle.mega_handler.specs.Named.{Meanings}
-use Rattle.mega_node_laws.specs.About.{IsAbout}
+use Rattle.mega_marks.specs.of_node_laws.About.{IsAbout}
 use Rattle.mega_outcome.specs.declared.request.Request.{Request}
 use Rattle.mega_rules.specs.Operations.{Now, Operation}
 use Rattle.mega_actions.specs.declared.replica.Replica.{Replica}

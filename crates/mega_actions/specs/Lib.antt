@@ -15,3 +15,5 @@ pub mod Asked
 pub mod Acted
 pub mod Later
 pub mod Indexing
+pub use Rattle.mega_marks.specs as of_marks
+pub use Rattle.mega_marks.specs.of_node_laws as of_node_laws

@@ -13,7 +13,7 @@ use Rattle.mega_leases.specs.declared.leases.Leases.{Leases}
 use Rattle.mega_leases.specs.Tells.{Tells as TellsLeases}
 use Rattle.mega_replica.specs.declared.progress.Progress.{Progress}
 use Rattle.mega_replica.specs.Following.{Follows}
-use Rattle.mega_node_laws.specs.Own.{HasOwnRows}
+use Rattle.mega_marks.specs.of_node_laws.Own.{HasOwnRows}
 use Rattle.mega_view.specs.Small.{IsSmall}
 
 -- a node of a cluster, with handlers

@@ -2,7 +2,7 @@
 use Rattle.std.specs.Prelude.{◌≡◌, true}
 use Rattle.mega_rules.specs.Operations.{Operation}
 use Rattle.mega_rules.specs.Steps.{Heard}
-use Rattle.mega_node_laws.specs.About.{IsAbout}
+use Rattle.mega_marks.specs.of_node_laws.About.{IsAbout}
 use Rattle.mega_actions.specs.Servable.{is_open}
 
 abbrev pub IsHeardAbout : Heard → Type 0

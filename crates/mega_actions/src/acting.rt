@@ -2,7 +2,7 @@
 ghost use Rattle.std.specs.Prelude.{◌≡◌, ◌≤◌, ◌+◌, ◌<◌, ◌^◌, nat_le, IfOk, OnOk, OnErr, Err, None, false, true};
 ghost use Rattle.mega_handler.specs.Named.{Meanings};
 ghost use Rattle.mega_meanings.specs.Means.{Means};
-ghost use Rattle.mega_node_laws.specs.About.{IsAbout, IsOf};
+ghost use Rattle.mega_marks.specs.of_node_laws.About.{IsAbout, IsOf};
 ghost use Rattle.mega_operations.specs.Whole.{whole};
 ghost use Rattle.mega_operations.specs.Phases.{promised_of};
 ghost use Rattle.mega_rules.specs.Clock.{clock_of};

@@ -13,7 +13,7 @@ ghost use Rattle.mega_leases.specs.declared.leases.Leases.{Leases as LeasesKept}
 ghost use Rattle.mega_rules.specs.Acting.{read_answer};
 ghost use Rattle.mega_rules.specs.Operations.{Now, Setting};
 ghost use Rattle.mega_rules.specs.Steps.{is_current};
-ghost use Rattle.mega_node_laws.specs.About.{IsOf};
+ghost use Rattle.mega_marks.specs.of_node_laws.About.{IsOf};
 ghost use Rattle.mega_replica.specs.Faring.{Fares};
 ghost use Rattle.mega_replica.specs.Following.{progress_at};
 ghost use Rattle.mega_actions.specs.declared.fault.ActFault.TheVariants.{Unserved};

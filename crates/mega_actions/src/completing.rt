@@ -2,7 +2,7 @@
 ghost use Rattle.std.specs.Prelude.{◌≡◌, ◌≤◌, IfOk, OnOk, Err, true, false};
 ghost use Rattle.mega_handler.specs.Named.{Meanings};
 ghost use Rattle.mega_rules.specs.Logs.{log_of};
-ghost use Rattle.mega_node_laws.specs.About.{IsOf};
+ghost use Rattle.mega_marks.specs.of_node_laws.About.{IsOf};
 ghost use Rattle.mega_leases.specs.declared.leases.Leases.{Leases as LeasesKept};
 ghost use Rattle.mega_replica.specs.Applying.{applied};
 ghost use Rattle.mega_rules.specs.Clock.{clock_of};

@@ -2,7 +2,7 @@
 ghost use Rattle.std.specs.Prelude.{◌≡◌, ◌+◌, ◌<◌, ◌^◌, IfOk, true, false, nat_le, Err};
 ghost use Rattle.mega_disk.specs.VersionMaps.{SameVersions};
 ghost use Rattle.mega_handler.specs.Named.{Meanings};
-ghost use Rattle.mega_node_laws.specs.About.{IsOf};
+ghost use Rattle.mega_marks.specs.of_node_laws.About.{IsOf};
 ghost use Rattle.mega_rules.specs.Clock.{clock_of};
 ghost use Rattle.mega_rules.specs.Operations.{Now, Operation};
 ghost use Rattle.mega_rules.specs.Acting.{finishes};

@@ -25,6 +25,7 @@ pub use answering::is_served;
 pub use came::Came;
 pub use deed::{Deed, End};
 pub use fault::ActFault;
+pub use mega_marks;
 pub use pumping::{Pumped, is_pump};
 pub use reached::Reached;
 pub use replica::Replica;

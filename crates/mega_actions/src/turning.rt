@@ -2,7 +2,7 @@
 ghost use Rattle.std.specs.Prelude.{◌≡◌, OnOk, Err, false, true, List, All, fold};
 ghost use Rattle.mega_handler.specs.Named.{Meanings};
 ghost use Rattle.mega_meanings.specs.Means.{Means};
-ghost use Rattle.mega_node_laws.specs.About.{IsAbout};
+ghost use Rattle.mega_marks.specs.of_node_laws.About.{IsAbout};
 ghost use Rattle.mega_rules.specs.Operations.{Now};
 ghost use Rattle.mega_rules.specs.Steps.{acts_in_turn, all_act, ticked};
 ghost use Rattle.mega_replica.specs.Faring.{Fares};

@@ -38,11 +38,11 @@ use Rattle.mega_voter.specs.Journal.{journal_of, without_starts}
 use Rattle.mega_voter.specs.Telling.{Tells}
 use Rattle.mega_voter.proofs.Begun.{start_goes_on}
 use Rattle.mega_voter.proofs.Opened.{granted_without, slots_without}
-use Rattle.mega_node_laws.specs.About.{IsAbout}
-use Rattle.mega_node_laws.proofs.Ending.{onto_append}
-use Rattle.mega_node_laws.proofs.Logs.{log_after, log_is}
-use Rattle.mega_marks.specs.declared.indexed.Indexed.{Indexed}
-use Rattle.mega_marks.specs.AreMarked.{IsIndexed}
+use Rattle.mega_actions.specs.of_node_laws.About.{IsAbout}
+use Rattle.mega_actions.proofs.of_node_laws.Ending.{onto_append}
+use Rattle.mega_actions.proofs.of_node_laws.Logs.{log_after, log_is}
+use Rattle.mega_actions.specs.of_marks.declared.indexed.Indexed.{Indexed}
+use Rattle.mega_actions.specs.of_marks.AreMarked.{IsIndexed}
 use Rattle.mega_actions.specs.Stands.{setting}
 use Rattle.mega_actions.specs.Turns.{IsServable}
 use Rattle.mega_core.specs.Represents.{Represents}

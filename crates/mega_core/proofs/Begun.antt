@@ -19,15 +19,15 @@ use Rattle.mega_voter.proofs.Told.{silent_told}
 use Rattle.mega_leases.specs.declared.leases.Leases.{Leases}
 use Rattle.mega_leases.proofs.Shown.{apart}
 use Rattle.mega_replica.specs.declared.progress.Progress.{Progress}
-use Rattle.mega_node_laws.specs.About.{IsAbout}
-use Rattle.mega_node_laws.specs.Own.{HasOwnRows}
-use Rattle.mega_node_laws.specs.Sending.{MaySend}
-use Rattle.mega_node_laws.proofs.Followed.{follows_more}
-use Rattle.mega_node_laws.proofs.Sent.{step_may}
+use Rattle.mega_actions.specs.of_node_laws.About.{IsAbout}
+use Rattle.mega_actions.specs.of_node_laws.Own.{HasOwnRows}
+use Rattle.mega_actions.specs.of_node_laws.Sending.{MaySend}
+use Rattle.mega_actions.proofs.of_node_laws.Followed.{follows_more}
+use Rattle.mega_actions.proofs.of_node_laws.Sent.{step_may}
 use Rattle.mega_rules.specs.Finding.{refreshed_marks}
-use Rattle.mega_marks.specs.declared.indexed.Indexed.{Indexed}
-use Rattle.mega_marks.specs.AreMarked.{AreMarked, IsIndexed}
-use Rattle.mega_marks.proofs.Growing.{marked_after}
+use Rattle.mega_actions.specs.of_marks.declared.indexed.Indexed.{Indexed}
+use Rattle.mega_actions.specs.of_marks.AreMarked.{AreMarked, IsIndexed}
+use Rattle.mega_actions.proofs.of_marks.Growing.{marked_after}
 use Rattle.mega_actions.specs.Servable.{is_served}
 use Rattle.mega_actions.specs.Stands.{Stands}
 use Rattle.mega_actions.specs.Turns.{IsServable}

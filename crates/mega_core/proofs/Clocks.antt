@@ -18,15 +18,15 @@ use Rattle.mega_leases.specs.declared.note.Note.{Note}
 use Rattle.mega_leases.specs.declared.note.Note.TheVariants as note
 use Rattle.mega_leases.specs.Notes.{met_of}
 use Rattle.mega_replica.specs.declared.progress.Progress.{Progress}
-use Rattle.mega_node_laws.specs.About.{IsAbout}
-use Rattle.mega_node_laws.specs.Acted.{acted_on}
-use Rattle.mega_node_laws.specs.Deciding.{is_decision}
-use Rattle.mega_node_laws.specs.Sending.{MaySend}
-use Rattle.mega_node_laws.proofs.Logs.{log_stays}
-use Rattle.mega_node_laws.proofs.Sent.{step_may}
+use Rattle.mega_actions.specs.of_node_laws.About.{IsAbout}
+use Rattle.mega_actions.specs.of_node_laws.Acted.{acted_on}
+use Rattle.mega_actions.specs.of_node_laws.Deciding.{is_decision}
+use Rattle.mega_actions.specs.of_node_laws.Sending.{MaySend}
+use Rattle.mega_actions.proofs.of_node_laws.Logs.{log_stays}
+use Rattle.mega_actions.proofs.of_node_laws.Sent.{step_may}
 use Rattle.mega_rules.specs.Finding.{refreshed_marks}
-use Rattle.mega_marks.specs.declared.indexed.Indexed.{Indexed}
-use Rattle.mega_marks.specs.AreMarked.{AreMarked}
+use Rattle.mega_actions.specs.of_marks.declared.indexed.Indexed.{Indexed}
+use Rattle.mega_actions.specs.of_marks.AreMarked.{AreMarked}
 use Rattle.mega_actions.specs.Stands.{Stands}
 use Rattle.mega_actions.specs.Turns.{IsServable}
 use Rattle.mega_actions.specs.Working.{work_of}

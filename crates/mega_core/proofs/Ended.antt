@@ -18,12 +18,12 @@ use Rattle.mega_leases.specs.Tells.{Tells as TellsLeases}
 use Rattle.mega_replica.specs.declared.progress.Progress.{Progress}
 use Rattle.mega_replica.specs.Following.{Follows}
 use Rattle.mega_replica.specs.Stored.{GroupLogs}
-use Rattle.mega_node_laws.specs.About.{IsAbout}
-use Rattle.mega_node_laws.specs.Sending.{MaySend}
-use Rattle.mega_marks.specs.declared.indexed.Indexed.{Indexed}
+use Rattle.mega_actions.specs.of_node_laws.About.{IsAbout}
+use Rattle.mega_actions.specs.of_node_laws.Sending.{MaySend}
+use Rattle.mega_actions.specs.of_marks.declared.indexed.Indexed.{Indexed}
 use Rattle.mega_actions.specs.Turns.{IsServable}
-use Rattle.mega_node_laws.proofs.Ending.{onto_append}
-use Rattle.mega_node_laws.proofs.Logs.{log_after}
+use Rattle.mega_actions.proofs.of_node_laws.Ending.{onto_append}
+use Rattle.mega_actions.proofs.of_node_laws.Logs.{log_after}
 use Rattle.mega_actions.specs.declared.work.Work.{Work}
 use Rattle.mega_core.specs.Acted.{Acted, HasActed, IsEnd, IsValidate, ended}
 use Rattle.mega_core.specs.declared.note.Note.{Note}

@@ -19,7 +19,7 @@ use Rattle.mega_rules.specs.Logs.{log_of}
 use Rattle.mega_rules.specs.Members.{has_rows, is_full, is_node}
 use Rattle.mega_rules.specs.Operations.{Node, Now, Operation, Setting}
 use Rattle.mega_rules.specs.Steps.{Decision, Take, Tick, all_act, at_first, begins, find_begins, hears_message, is_current, local_find_begins, needs_full, new_operation, op_of, portion_of, read_begins, refusal, stored_after, ticked, unless_refused}
-use Rattle.mega_node_laws.specs.Acted.{acted_on, decision_in}
+use Rattle.mega_actions.specs.of_node_laws.Acted.{acted_on, decision_in}
 use Rattle.mega_view.specs.Small.{IsSmall}
 use Rattle.mega_core.specs.Beginning.{at_begin, has_begun}
 use Rattle.mega_core.specs.Kind.{FitsKind}

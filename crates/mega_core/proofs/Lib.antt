@@ -23,3 +23,4 @@ pub mod Anew
 pub mod Quiet
 pub mod Unshown
 pub mod Unheard
+pub use Rattle.mega_actions.proofs.of_node_laws as of_node_laws

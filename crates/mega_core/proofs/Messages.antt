@@ -28,16 +28,16 @@ use Rattle.mega_leases.specs.Tells.{Tells as TellsLeases}
 use Rattle.mega_leases.proofs.Shown.{apart}
 use Rattle.mega_replica.specs.declared.progress.Progress.{Progress}
 use Rattle.mega_replica.specs.Following.{Follows}
-use Rattle.mega_node_laws.specs.Acted.{acted_on, decision_in, or_settled}
-use Rattle.mega_node_laws.specs.Deciding.{IsNoDecision}
-use Rattle.mega_node_laws.specs.Own.{HasOwnRows}
-use Rattle.mega_node_laws.specs.Sending.{MaySend}
-use Rattle.mega_node_laws.proofs.Logs.{decided_after}
-use Rattle.mega_node_laws.proofs.Sent.{step_may}
-use Rattle.mega_node_laws.specs.About.{IsAbout}
+use Rattle.mega_actions.specs.of_node_laws.Acted.{acted_on, decision_in, or_settled}
+use Rattle.mega_actions.specs.of_node_laws.Deciding.{IsNoDecision}
+use Rattle.mega_actions.specs.of_node_laws.Own.{HasOwnRows}
+use Rattle.mega_actions.specs.of_node_laws.Sending.{MaySend}
+use Rattle.mega_actions.proofs.of_node_laws.Logs.{decided_after}
+use Rattle.mega_actions.proofs.of_node_laws.Sent.{step_may}
+use Rattle.mega_actions.specs.of_node_laws.About.{IsAbout}
 use Rattle.mega_rules.specs.Finding.{refreshed_marks}
-use Rattle.mega_marks.specs.declared.indexed.Indexed.{Indexed}
-use Rattle.mega_marks.specs.AreMarked.{AreMarked}
+use Rattle.mega_actions.specs.of_marks.declared.indexed.Indexed.{Indexed}
+use Rattle.mega_actions.specs.of_marks.AreMarked.{AreMarked}
 use Rattle.mega_actions.specs.Stands.{Stands}
 use Rattle.mega_actions.specs.Turns.{IsServable, IsServableHeard, IsHeardAbout}
 use Rattle.mega_actions.specs.Working.{work_of}

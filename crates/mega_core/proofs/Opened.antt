@@ -15,9 +15,9 @@ use Rattle.mega_leases.specs.declared.leases.Leases.{Leases}
 use Rattle.mega_leases.specs.Tells.{Tells as TellsLeases}
 use Rattle.mega_replica.specs.declared.progress.Progress.{Progress}
 use Rattle.mega_replica.specs.Following.{Follows}
-use Rattle.mega_node_laws.specs.About.{IsAbout}
-use Rattle.mega_marks.specs.declared.indexed.Indexed.{Indexed}
-use Rattle.mega_marks.specs.AreMarked.{IsIndexed}
+use Rattle.mega_actions.specs.of_node_laws.About.{IsAbout}
+use Rattle.mega_actions.specs.of_marks.declared.indexed.Indexed.{Indexed}
+use Rattle.mega_actions.specs.of_marks.AreMarked.{IsIndexed}
 use Rattle.mega_actions.specs.Stands.{setting}
 use Rattle.mega_actions.specs.Turns.{IsServable}
 use Rattle.mega_core.specs.Represents.{Represents}

@@ -7,7 +7,7 @@ use Rattle.mega_rules.specs.Steps.{onto}
 use Rattle.mega_voter.specs.Telling.{IsAnswer, Tells}
 use Rattle.mega_leases.specs.declared.note.Note.{Note}
 use Rattle.mega_leases.specs.Notes.{met_of}
-use Rattle.mega_node_laws.specs.Sending.{MaySend}
+use Rattle.mega_actions.specs.of_node_laws.Sending.{MaySend}
 
 -- what was met so far, which is told, and to which the rest leads
 pub record SentSo (kept : Kept) (left : List Message) (all : List Met) : Type 0 where

@@ -14,7 +14,7 @@ use Rattle.mega_rules.specs.Steps.{applied_at, apply_note, apply_notes, onto}
 use Rattle.mega_voter.specs.Journal.{item_of}
 use Rattle.mega_voter.specs.Telling.{Tells}
 use Rattle.mega_voter.proofs.Told.{silent_told}
-use Rattle.mega_node_laws.specs.Deciding.{IsNoDecision}
+use Rattle.mega_actions.specs.of_node_laws.Deciding.{IsNoDecision}
 use Rattle.mega_core.specs.Acted.{IsEnd, IsValidate}
 use Rattle.mega_core.proofs.Alike.{IsApart}
 

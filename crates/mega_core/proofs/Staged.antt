@@ -17,7 +17,7 @@ use Rattle.mega_rules.specs.Met.{Met, Decides, Grants, Lapses, Sends}
 use Rattle.mega_rules.specs.Steps.{onto}
 use Rattle.mega_voter.specs.Journal.{item_in, item_of, items_in, journal_of, without_starts}
 use Rattle.mega_voter.specs.Telling.{IsAnswer, Tells}
-use Rattle.mega_node_laws.specs.Sending.{MaySend}
+use Rattle.mega_actions.specs.of_node_laws.Sending.{MaySend}
 use Rattle.mega_leases.specs.declared.note.Note.{Note}
 use Rattle.mega_leases.specs.declared.note.Note.TheVariants as note
 use Rattle.mega_leases.specs.Notes.{met_of}

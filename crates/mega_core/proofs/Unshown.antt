@@ -31,9 +31,9 @@ use Rattle.mega_outcome.specs.declared.answer.Mark.{Mark}
 use Rattle.mega_wire.specs.declared.message.Message.{Message}
 use Rattle.mega_rules.specs.Finding.{marks_shown, refreshed_marks}
 use Rattle.mega_schema.specs.declared.schema.Schema.{Schema}
-use Rattle.mega_marks.specs.declared.indexed.Indexed.{Indexed}
-use Rattle.mega_marks.specs.AreMarked.{AreMarked, IsIndexed}
-use Rattle.mega_marks.proofs.Growing.{marked_after}
+use Rattle.mega_actions.specs.of_marks.declared.indexed.Indexed.{Indexed}
+use Rattle.mega_actions.specs.of_marks.AreMarked.{AreMarked, IsIndexed}
+use Rattle.mega_actions.proofs.of_marks.Growing.{marked_after}
 use Rattle.mega_core.specs.Acted.{IsValidate}
 use Rattle.mega_core.specs.Unshown.{is_plain, is_unshown}
 

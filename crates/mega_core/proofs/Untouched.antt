@@ -18,10 +18,10 @@ use Rattle.mega_rules.specs.Clock.{clock_of}
 use Rattle.mega_rules.specs.Logs.{decided, groups_of, log_of, prefix_of, with_group}
 use Rattle.mega_rules.specs.Operations.{Node, Now, Setting}
 use Rattle.mega_rules.specs.Steps.{Decision, Heard, Take, Tick, applied_at, apply_note, at_first, decision_note, first_settled, hears_message, if_new, new_operation, onto, op_of, portion_of, refusal, stored_after, told_decision, told_notes}
-use Rattle.mega_node_laws.specs.About.{group_in}
-use Rattle.mega_node_laws.specs.Acted.{acted_on, decision_in, or_settled}
-use Rattle.mega_node_laws.proofs.Applied.{applied_within}
-use Rattle.mega_node_laws.proofs.Logs.{groups_after, log_after, log_stays, other_log}
+use Rattle.mega_actions.specs.of_node_laws.About.{group_in}
+use Rattle.mega_actions.specs.of_node_laws.Acted.{acted_on, decision_in, or_settled}
+use Rattle.mega_actions.proofs.of_node_laws.Applied.{applied_within}
+use Rattle.mega_actions.proofs.of_node_laws.Logs.{groups_after, log_after, log_stays, other_log}
 use Rattle.mega_actions.specs.Servable.{is_served, is_pump}
 use Rattle.mega_actions.specs.Turns.{IsServable}
 use Rattle.mega_core.specs.declared.applying.Before.{Before}

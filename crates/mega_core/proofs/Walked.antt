@@ -10,10 +10,10 @@ use Rattle.mega_rules.specs.Met.{Met, Answers, Validates}
 use Rattle.mega_rules.specs.Operations.{Now, Operation, Phase, Proposes, Reads, Setting}
 use Rattle.mega_rules.specs.Acting.{validated_by}
 use Rattle.mega_rules.specs.Steps.{Heard, all_act, hears_message, ticked, unless_refused}
-use Rattle.mega_node_laws.specs.About.{IsAbout}
-use Rattle.mega_node_laws.proofs.Acting.{hears_message_asks}
-use Rattle.mega_node_laws.proofs.Ending.{onto_append}
-use Rattle.mega_node_laws.proofs.Lasting.{IsHeard, Lasts, all_act_it, all_ticked_it, begun_it, hears_message_about}
+use Rattle.mega_actions.specs.of_node_laws.About.{IsAbout}
+use Rattle.mega_actions.proofs.of_node_laws.Acting.{hears_message_asks}
+use Rattle.mega_actions.proofs.of_node_laws.Ending.{onto_append}
+use Rattle.mega_actions.proofs.of_node_laws.Lasting.{IsHeard, Lasts, all_act_it, all_ticked_it, begun_it, hears_message_about}
 use Rattle.mega_actions.specs.Servable.{is_served}
 use Rattle.mega_actions.specs.Turns.{IsServable, IsServableHeard, IsHeardAbout}
 use Rattle.mega_core.specs.Acted.{Acted, IsEnd, IsValidate}

@@ -15,10 +15,10 @@ use Rattle.mega_leases.specs.declared.leases.Leases.{Leases}
 use Rattle.mega_leases.specs.Tells.{Tells as TellsLeases}
 use Rattle.mega_replica.specs.declared.progress.Progress.{Progress}
 use Rattle.mega_replica.specs.Following.{Follows}
-use Rattle.mega_node_laws.specs.About.{IsAbout}
+use Rattle.mega_actions.specs.of_node_laws.About.{IsAbout}
 use Rattle.mega_rules.specs.Finding.{refreshed_marks}
-use Rattle.mega_marks.specs.declared.indexed.Indexed.{Indexed}
-use Rattle.mega_marks.specs.AreMarked.{AreMarked}
+use Rattle.mega_actions.specs.of_marks.declared.indexed.Indexed.{Indexed}
+use Rattle.mega_actions.specs.of_marks.AreMarked.{AreMarked}
 use Rattle.mega_actions.specs.Turns.{IsServable}
 use Rattle.mega_actions.specs.Working.{work_of}
 use Rattle.mega_actions.specs.declared.work.Work.{Work}

@@ -16,3 +16,5 @@ pub mod Staging
 pub mod Restarting
 pub mod Standing
 pub mod Unshown
+pub use Rattle.mega_actions.specs as of_actions
+pub use Rattle.mega_actions.specs.of_node_laws as of_node_laws

@@ -7,7 +7,7 @@ use Rattle.mega_rules.specs.Operations.{Operation, Setting}
 use Rattle.mega_rules.specs.Steps.{Step as RuleStep}
 use Rattle.mega_leases.specs.declared.leases.Leases.{Leases}
 use Rattle.mega_replica.specs.declared.progress.Progress.{Progress}
-use Rattle.mega_marks.specs.declared.indexed.Indexed.{Indexed}
+use Rattle.mega_actions.specs.of_marks.declared.indexed.Indexed.{Indexed}
 use Rattle.mega_core.specs.declared.step.Step.{Step}
 use Rattle.mega_core.specs.Notes.{met_of}
 use Rattle.mega_core.specs.Represents.{Represents}

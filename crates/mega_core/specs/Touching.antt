@@ -10,8 +10,8 @@ use Rattle.mega_rules.specs.Logs.{groups_of, prefix_of, with_group}
 use Rattle.mega_rules.specs.Met.{Met}
 use Rattle.mega_rules.specs.Operations.{Operation, Phase, Proposes, Reads}
 use Rattle.mega_rules.specs.Steps.{Decision, Heard, applied_at, decision_note, first_settled, onto, told_decision}
-use Rattle.mega_node_laws.specs.About.{group_in}
-use Rattle.mega_node_laws.specs.Acted.{or_settled}
+use Rattle.mega_actions.specs.of_node_laws.About.{group_in}
+use Rattle.mega_actions.specs.of_node_laws.Acted.{or_settled}
 use Rattle.mega_actions.specs.Servable.{is_pump}
 
 -- only an operation that reads through a position that it knows may store what it needs

@@ -1,7 +1,7 @@
 //! The decision of a step: what a message tells or an operation settles, kept where it is new.
 ghost use Rattle.std.specs.Prelude.{◌≡◌, ◌<◌, ◌++◌, ◌∷◌, ℕ, List, map, is_none, is_some, None, Some, true, false, IfOk, OnOk};
 ghost use Rattle.mega_base.specs.declared.names.GroupId.{GroupId as Group};
-ghost use Rattle.mega_node_laws.specs.Acted.{or_settled};
+ghost use Rattle.mega_actions.specs.of_node_laws.Acted.{or_settled};
 ghost use Rattle.mega_rules.specs.Logs.{decided, log_of};
 ghost use Rattle.mega_rules.specs.Members.{has_rows};
 ghost use Rattle.mega_rules.specs.Met.{Decides, Met};

@@ -4,7 +4,7 @@ ghost use Rattle.mega_handler.specs.Named.{Meanings};
 ghost use Rattle.mega_rules.specs.Met.{Met, Sends};
 ghost use Rattle.mega_rules.specs.Operations.{Node as RuleNode, Now};
 ghost use Rattle.mega_rules.specs.Steps.{apply_notes, onto};
-ghost use Rattle.mega_node_laws.specs.Sending.{MaySend};
+ghost use Rattle.mega_actions.specs.of_node_laws.Sending.{MaySend};
 ghost use Rattle.mega_voter.specs.Telling.{IsAnswer, Tells};
 ghost use Rattle.mega_actions.specs.IsAt.{setting_of};
 ghost use Rattle.mega_core.specs.Acted.{ActedAt, ended};

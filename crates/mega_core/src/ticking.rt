@@ -3,9 +3,9 @@ ghost use Rattle.std.specs.Prelude.{◌≡◌, ◌++◌, ℕ, List, map, flat_ma
 ghost use Rattle.mega_base.specs.declared.names.GroupId.{GroupId as Group};
 ghost use Rattle.mega_handler.specs.Named.{Meanings};
 ghost use Rattle.mega_meanings.specs.Means.{Means};
-ghost use Rattle.mega_node_laws.specs.About.{IsAbout};
-ghost use Rattle.mega_node_laws.specs.Acted.{acted_on};
-ghost use Rattle.mega_node_laws.specs.Own.{HasOwnRows};
+ghost use Rattle.mega_actions.specs.of_node_laws.About.{IsAbout};
+ghost use Rattle.mega_actions.specs.of_node_laws.Acted.{acted_on};
+ghost use Rattle.mega_actions.specs.of_node_laws.Own.{HasOwnRows};
 ghost use Rattle.mega_leases.specs.Notes.{met_of as leases_met};
 ghost use Rattle.mega_replica.specs.Applying.{after_portion};
 ghost use Rattle.mega_rules.specs.Clock.{does_again, ticks_of};

@@ -2,8 +2,8 @@
 ghost use Rattle.std.specs.Prelude.{◌≡◌, ◌++◌, ◌∷◌, ◌&&◌, ℕ, [], List, Option, Some, None, IfOk, OnOk, filter, fold};
 ghost use Rattle.std.specs.List.{list_any};
 ghost use Rattle.mega_base.specs.declared.names.GroupId.{GroupId as Group};
-ghost use Rattle.mega_node_laws.specs.About.{group_in};
-ghost use Rattle.mega_node_laws.specs.Acted.{or_settled};
+ghost use Rattle.mega_actions.specs.of_node_laws.About.{group_in};
+ghost use Rattle.mega_actions.specs.of_node_laws.Acted.{or_settled};
 ghost use Rattle.mega_rules.specs.Logs.{groups_of, is_group_before, with_group};
 ghost use Rattle.mega_rules.specs.Members.{has_rows};
 ghost use Rattle.mega_rules.specs.Met.{Met};

@@ -15,8 +15,8 @@ use Rattle.mega_voter.specs.Holding.{is_no_start}
 use Rattle.mega_voter.specs.Journal.{item_in, item_of, journal_of, without_starts}
 use Rattle.mega_voter.specs.Telling.{AreHonest}
 use Rattle.mega_voter.proofs.Begun.{Beside, beside_more, start_on}
-use Rattle.mega_node_laws.specs.Asking.{Asks}
-use Rattle.mega_node_laws.proofs.Ending.{onto_append}
+use Rattle.mega_core.specs.of_node_laws.Asking.{Asks}
+use Rattle.mega_core.proofs.of_node_laws.Ending.{onto_append}
 use Rattle.mega_promises.specs.Runs.{is_durable, owes}
 use Rattle.mega_durable.proofs.Noted.{HasParts, IsNoted, is_noted, passing_unkept}
 

@@ -12,8 +12,8 @@ use Rattle.mega_rules.specs.Members.{has_rows}
 use Rattle.mega_rules.specs.Met.{Crashes, Met}
 use Rattle.mega_voter.specs.Holding.{HoldsMet, Recalls}
 use Rattle.mega_wal.specs.declared.kept.Kept.{Kept}
-use Rattle.mega_node_laws.specs.Deciding.{IsNoDecision}
-use Rattle.mega_node_laws.proofs.Logs.{log_after}
+use Rattle.mega_core.specs.of_node_laws.Deciding.{IsNoDecision}
+use Rattle.mega_core.proofs.of_node_laws.Logs.{log_after}
 use Rattle.mega_core.specs.Restarting.{HaveFollowed}
 
 -- a crash is nothing that logs or records keep

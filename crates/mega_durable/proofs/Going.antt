@@ -18,8 +18,8 @@ use Rattle.mega_voter.specs.Holding.{GoesOn, starts_after}
 use Rattle.mega_voter.specs.Journal.{item_in, item_of, journal_of, without_starts}
 use Rattle.mega_voter.specs.Telling.{AreHonest}
 use Rattle.mega_voter.proofs.Begun.{Beside}
-use Rattle.mega_node_laws.specs.Asking.{Asks}
-use Rattle.mega_node_laws.proofs.Ending.{onto_append}
+use Rattle.mega_core.specs.of_node_laws.Asking.{Asks}
+use Rattle.mega_core.proofs.of_node_laws.Ending.{onto_append}
 use Rattle.mega_core.specs.Staging.{Stages}
 use Rattle.mega_promises.specs.Runs.{replies_in}
 use Rattle.mega_durable.proofs.Noted.{HasParts}

@@ -28,10 +28,10 @@ use Rattle.mega_rules.specs.Operations.{Node, Now, Operation, Setting}
 use Rattle.mega_rules.specs.Replies.{reply_to}
 use Rattle.mega_rules.specs.Steps.{Begin, Decision, Event, Heard, Step, Take, Tick, all_act, applied_at, apply_note, apply_notes, at_first, at_open, background, begin_step, decision_note, first_settled, hears_message, if_new, lapse_notes, lease_notes, new_operation, news, onto, op_of, portion_of, refusal, step, stored_after, take_step, taken, tick_step, ticked, told_decision, told_notes, unless_refused}
 use Rattle.mega_voter.specs.Journal.{item_of, journal_of}
-use Rattle.mega_node_laws.specs.Asking.{Asks}
-use Rattle.mega_node_laws.proofs.Acting.{acquires_at_asks, background_asks, news_ask}
-use Rattle.mega_node_laws.proofs.Ending.{ActsOn, acting_begins, acting_lasts, all_heard, onto_append, taken_by}
-use Rattle.mega_node_laws.proofs.Lasting.{IsHeard, Lasts, all_act_it, all_ticked_it, begun_it}
+use Rattle.mega_core.specs.of_node_laws.Asking.{Asks}
+use Rattle.mega_core.proofs.of_node_laws.Acting.{acquires_at_asks, background_asks, news_ask}
+use Rattle.mega_core.proofs.of_node_laws.Ending.{ActsOn, acting_begins, acting_lasts, all_heard, onto_append, taken_by}
+use Rattle.mega_core.proofs.of_node_laws.Lasting.{IsHeard, Lasts, all_act_it, all_ticked_it, begun_it}
 use Rattle.mega_promises.specs.Runs.{is_durable, replies_in}
 
 -- neither a start nor a message

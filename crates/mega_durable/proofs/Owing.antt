@@ -30,9 +30,9 @@ use Rattle.mega_outcome.specs.declared.request.Request.{Request}
 use Rattle.mega_rules.specs.Steps.{Begin, Decision, Event, Heard, Step, Take, Tick, all_act, applied_at, apply_note, apply_notes, at_first, at_open, begin_step, decision_note, first_settled, hears_message, if_new, lapse_notes, lease_notes, new_operation, news, onto, op_of, portion_of, refusal, start, start_items, start_note, start_notes, step, stored_after, take_step, taken, tick_step, ticked, told_decision, told_notes, unless_refused}
 use Rattle.mega_rules.specs.Replies.{reply_to}
 use Rattle.mega_leases.specs.Opening.{AreOwed}
-use Rattle.mega_node_laws.specs.Acted.{own_item}
-use Rattle.mega_node_laws.proofs.Ending.{all_heard, onto_append, step_met, taken_by}
-use Rattle.mega_node_laws.proofs.Lasting.{IsHeard, Lasts, all_act_it, all_ticked_it, begun_it}
+use Rattle.mega_core.specs.of_node_laws.Acted.{own_item}
+use Rattle.mega_core.proofs.of_node_laws.Ending.{all_heard, onto_append, step_met, taken_by}
+use Rattle.mega_core.proofs.of_node_laws.Lasting.{IsHeard, Lasts, all_act_it, all_ticked_it, begun_it}
 use Rattle.mega_promises.specs.Runs.{is_durable, owes, replies_in}
 use Rattle.mega_durable.specs.Granted.{KeepsGrants, grant_in, is_among}
 use Rattle.mega_durable.proofs.Granting.{IsStill, is_still, lapses_owed, nodes_apart, opening_keeps, same_keeps, still_cell, stills_same, take_keeps, tick_keeps}

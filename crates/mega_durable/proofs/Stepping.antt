@@ -16,8 +16,8 @@ use Rattle.mega_rules.specs.Operations.{Node as RuleNode, Setting}
 use Rattle.mega_rules.specs.Replies.{answer_to, reply_message, reply_to, where_served}
 use Rattle.mega_rules.specs.Steps.{Event, Step as RuleStep, step}
 use Rattle.mega_leases.specs.Opening.{AreOwed}
-use Rattle.mega_node_laws.specs.Acted.{acted_on, own_item}
-use Rattle.mega_node_laws.specs.Own.{HasOwnRows}
+use Rattle.mega_core.specs.of_node_laws.Acted.{acted_on, own_item}
+use Rattle.mega_core.specs.of_node_laws.Own.{HasOwnRows}
 use Rattle.mega_core.specs.declared.node.Node.{Node}
 use Rattle.mega_core.specs.declared.note.Note.{Note}
 use Rattle.mega_core.specs.declared.step.Step.{Step}

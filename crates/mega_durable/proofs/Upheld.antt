@@ -14,8 +14,8 @@ use Rattle.mega_voter.specs.Journal.{item_of, journal_of}
 use Rattle.mega_voter.specs.Telling.{AreHonest}
 use Rattle.mega_voter.proofs.Begun.{Beside}
 use Rattle.mega_voter.proofs.Held.{silent_held}
-use Rattle.mega_node_laws.specs.Acted.{own_item}
-use Rattle.mega_node_laws.proofs.Ending.{step_met}
+use Rattle.mega_core.specs.of_node_laws.Acted.{own_item}
+use Rattle.mega_core.proofs.of_node_laws.Ending.{step_met}
 use Rattle.mega_core.specs.Staging.{Stages}
 use Rattle.mega_promises.specs.Runs.{AsItWas, Recorded, owes, replies_in}
 use Rattle.mega_durable.specs.Cut.{HoldsCut, MayLeave}

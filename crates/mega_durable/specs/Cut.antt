@@ -12,7 +12,7 @@ use Rattle.mega_rules.specs.Steps.{Event, onto, step}
 use Rattle.mega_leases.specs.Opening.{AreOwed}
 use Rattle.mega_voter.specs.Faring.{LogFares}
 use Rattle.mega_voter.specs.Holding.{HoldsMet}
-use Rattle.mega_node_laws.specs.Acted.{own_item}
+use Rattle.mega_core.specs.of_node_laws.Acted.{own_item}
 use Rattle.mega_core.specs.declared.step.Step.{Step}
 use Rattle.mega_core.specs.Faults.{of_store}
 use Rattle.mega_core.specs.Notes.{met_of}

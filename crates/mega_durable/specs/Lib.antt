@@ -5,3 +5,5 @@ pub mod Cut
 pub mod Stepped
 pub mod Starting
 pub mod Compacting
+pub use Rattle.mega_core.specs.of_actions as of_actions
+pub use Rattle.mega_core.specs as of_core

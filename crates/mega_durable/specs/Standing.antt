@@ -15,9 +15,9 @@ use Rattle.mega_leases.specs.Opening.{AreOwed}
 use Rattle.mega_replica.specs.Following.{progress_at}
 use Rattle.mega_voter.specs.Holding.{HoldsMet, Recalls}
 use Rattle.mega_voter.specs.Journal.{journal_of}
-use Rattle.mega_node_laws.specs.Acted.{acted_on, decision_in}
-use Rattle.mega_node_laws.specs.Own.{HasOwnRows}
-use Rattle.mega_actions.specs.Stands.{setting}
+use Rattle.mega_core.specs.of_node_laws.Acted.{acted_on, decision_in}
+use Rattle.mega_core.specs.of_node_laws.Own.{HasOwnRows}
+use Rattle.mega_core.specs.of_actions.Stands.{setting}
 use Rattle.mega_core.specs.declared.node.Node.{Node}
 use Rattle.mega_core.specs.Placed.{IsPlaced}
 use Rattle.mega_core.specs.Restarting.{HaveFollowed}

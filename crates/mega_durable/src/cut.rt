@@ -4,8 +4,8 @@ ghost use Rattle.mega_leases.specs.Notes.{met_of as leases_met};
 ghost use Rattle.mega_core.specs.Notes.{met_of};
 ghost use Rattle.mega_promises.specs.Runs.{is_durable};
 
-use mega_actions::{Answered, Valid};
 use mega_base::Items;
+use mega_core::mega_actions::{Answered, Valid};
 use mega_core::{Note, Step};
 use mega_wire::Message;
 

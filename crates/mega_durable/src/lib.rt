@@ -15,6 +15,8 @@ mod up;
 pub use cut::Cut;
 pub use down::Down;
 pub use fault::UpFault;
+pub use mega_core;
+pub use mega_core::mega_actions;
 pub use noting::item_of;
 pub use starting::{NotStarted, Started};
 pub use up::Up;

@@ -21,8 +21,8 @@ use Rattle.mega_tape_laws.proofs.Majorities.{Shared, meet}
 use Rattle.mega_run_laws.proofs.Runs.{run_lawful, run_polls}
 use Rattle.mega_settled_laws.specs.Covering.{Earlier}
 use Rattle.mega_settled_laws.proofs.Tapes.{lawful_before}
-use Rattle.mega_valid_laws.specs.Leases.{has_polled}
-use Rattle.mega_valid_laws.proofs.Joint.{told_above}
+use Rattle.mega_leased_laws.specs.of_valid_laws.Leases.{has_polled}
+use Rattle.mega_leased_laws.proofs.of_valid_laws.Joint.{told_above}
 
 most_of : (a b d : ℕ) → a ≤ b → b ≤ d → a ≤ d
 most_of a b d h k = omega (arith, h, k)

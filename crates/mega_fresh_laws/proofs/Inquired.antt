@@ -38,7 +38,7 @@ use Rattle.mega_run_laws.proofs.Standing.{Good}
 use Rattle.mega_run_laws.proofs.Steps.{never_asked, never_moved}
 use Rattle.mega_run_laws.proofs.Turns.{Held, IsRising, each_on, each_zip, sent_append}
 use Rattle.mega_settled_laws.proofs.Tapes.{IsSilent, each_both, notes_silent}
-use Rattle.mega_valid_laws.specs.Leases.{has_polled}
+use Rattle.mega_leased_laws.specs.of_valid_laws.Leases.{has_polled}
 use Rattle.mega_leased_laws.specs.Items.{Are}
 use Rattle.mega_leased_laws.proofs.Cells.{by_node, occurs_own}
 use Rattle.mega_leased_laws.proofs.Forms.{Occurs, down, stepped}

@@ -24,7 +24,7 @@ use Rattle.mega_run_laws.specs.Vouched.{Each, sent}
 use Rattle.mega_run_laws.proofs.Sending.{Stood}
 use Rattle.mega_run_laws.proofs.Turns.{each_on}
 use Rattle.mega_settled_laws.proofs.Tapes.{IsSilent}
-use Rattle.mega_valid_laws.specs.Leases.{asks_end, has_polled}
+use Rattle.mega_leased_laws.specs.of_valid_laws.Leases.{asks_end, has_polled}
 use Rattle.mega_leased_laws.specs.Items.{Are}
 use Rattle.mega_leased_laws.proofs.Asking.{either_false, first_false, second_false}
 use Rattle.mega_leased_laws.proofs.Polls.{polled_on}

@@ -17,3 +17,4 @@ pub mod Runs
 pub mod Promised
 pub mod Polled
 pub mod Fresh
+pub use Rattle.mega_leased_laws.proofs as of_leased_laws

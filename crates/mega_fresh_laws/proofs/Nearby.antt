@@ -44,10 +44,10 @@ use Rattle.mega_run_laws.proofs.Turns.{each_on}
 use Rattle.mega_settled_laws.specs.Covering.{Earlier, WasCovered}
 use Rattle.mega_settled_laws.proofs.Behind.{run_decided}
 use Rattle.mega_settled_laws.proofs.Tapes.{IsSilent, earlier_stood, items_later, notes_silent, now_is, one_later, sent_later, then_later}
-use Rattle.mega_valid_laws.specs.Leases.{AreLeased, HasAtLeast, IsHeld, accepted, counted_on, decided, serving_on, valid_on}
-use Rattle.mega_valid_laws.proofs.Folds.{IsOwn}
-use Rattle.mega_valid_laws.proofs.Joint.{valid_has, vote_heard}
-use Rattle.mega_valid_laws.proofs.Shows.{run_serves, run_valid}
+use Rattle.mega_leased_laws.specs.of_valid_laws.Leases.{AreLeased, HasAtLeast, IsHeld, accepted, counted_on, decided, serving_on, valid_on}
+use Rattle.mega_leased_laws.proofs.of_valid_laws.Folds.{IsOwn}
+use Rattle.mega_leased_laws.proofs.of_valid_laws.Joint.{valid_has, vote_heard}
+use Rattle.mega_leased_laws.proofs.of_valid_laws.Shows.{run_serves, run_valid}
 use Rattle.mega_leased_laws.proofs.Beating.{IsNoCall, fronts_no_call}
 use Rattle.mega_leased_laws.proofs.Cells.{at_me}
 use Rattle.mega_leased_laws.proofs.Forms.{stepped}

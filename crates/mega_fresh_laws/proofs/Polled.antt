@@ -25,8 +25,8 @@ use Rattle.mega_run_laws.specs.Usages.{Fits}
 use Rattle.mega_run_laws.proofs.Runs.{run_lawful, run_polls}
 use Rattle.mega_run_laws.proofs.Sending.{Stood}
 use Rattle.mega_settled_laws.specs.Covering.{Earlier}
-use Rattle.mega_valid_laws.specs.Leases.{asks_end, has_polled}
-use Rattle.mega_valid_laws.proofs.Joint.{polled_is}
+use Rattle.mega_leased_laws.specs.of_valid_laws.Leases.{asks_end, has_polled}
+use Rattle.mega_leased_laws.proofs.of_valid_laws.Joint.{polled_is}
 use Rattle.mega_leased_laws.specs.Items.{Are}
 use Rattle.mega_leased_laws.proofs.Polls.{polled_on}
 use Rattle.mega_fresh_laws.proofs.Asked.{poll_covers}

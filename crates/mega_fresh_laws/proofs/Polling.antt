@@ -33,7 +33,7 @@ use Rattle.mega_run_laws.specs.Vouched.{Each, sent}
 use Rattle.mega_run_laws.proofs.Sending.{Stood, took_on}
 use Rattle.mega_run_laws.proofs.Turns.{IsRising, each_on, each_push, other_number, sent_append}
 use Rattle.mega_settled_laws.proofs.Tapes.{earlier_stood, sent_later}
-use Rattle.mega_valid_laws.specs.Leases.{has_polled}
+use Rattle.mega_leased_laws.specs.of_valid_laws.Leases.{has_polled}
 use Rattle.mega_leased_laws.specs.Items.{Are}
 use Rattle.mega_leased_laws.proofs.Asking.{apart_turned, not_seen, seen, seen_before, seen_now}
 use Rattle.mega_leased_laws.proofs.Polls.{tops_on}

@@ -37,7 +37,7 @@ use Rattle.mega_run_laws.proofs.Steps.{never_begun}
 use Rattle.mega_run_laws.proofs.Turns.{Held, Known, each_on, each_zip}
 use Rattle.mega_settled_laws.specs.Covering.{Earlier}
 use Rattle.mega_settled_laws.proofs.Tapes.{each_both, earlier_stood, items_later, lawful_before, polls_before, sent_later, then_later}
-use Rattle.mega_valid_laws.proofs.Folds.{IsOwn}
+use Rattle.mega_leased_laws.proofs.of_valid_laws.Folds.{IsOwn}
 use Rattle.mega_leased_laws.specs.Items.{Are}
 use Rattle.mega_leased_laws.proofs.Cells.{by_node, occurs_own}
 use Rattle.mega_leased_laws.proofs.Forms.{Occurs, down, stepped}

@@ -29,7 +29,7 @@ use Rattle.mega_tape_laws.proofs.Ballots.{number_self}
 use Rattle.mega_run_laws.specs.Vouched.{Each}
 use Rattle.mega_run_laws.proofs.Noting.{Lasts, all_act_it, begun_it, ticked_it}
 use Rattle.mega_settled_laws.proofs.Tapes.{each_both}
-use Rattle.mega_valid_laws.specs.Leases.{valid_on}
+use Rattle.mega_leased_laws.specs.of_valid_laws.Leases.{valid_on}
 use Rattle.mega_leased_laws.proofs.Notes.{front_apart, fronts}
 use Rattle.mega_fresh_laws.proofs.Steps.{decision_in, front_of}
 

@@ -17,7 +17,7 @@ ghost use Rattle.mega_tape_laws.specs.Polls.{IsPolled};
 ghost use Rattle.mega_tape_laws.specs.Writes.{Usage};
 ghost use Rattle.mega_run_laws.specs.Usages.{Fits};
 ghost use Rattle.mega_settled_laws.specs.Covering.{Earlier};
-ghost use Rattle.mega_valid_laws.specs.Leases.{has_polled};
+ghost use Rattle.mega_leased_laws.specs.of_valid_laws.Leases.{has_polled};
 ghost use Rattle.mega_leased_laws.specs.Items.{Are};
 ghost use Rattle.mega_fresh_laws.specs.Covering.{IsFreshItem};
 

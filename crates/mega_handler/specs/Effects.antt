@@ -12,7 +12,7 @@ use Rattle.mega_entry.specs.declared.content.Send.{Send}
 use Rattle.mega_entry.specs.declared.content.Name.{Name}
 use Rattle.mega_entry.specs.declared.content.Content.{Content}
 use Rattle.mega_entry.specs.Entries.{write_at, entry_text}
-use Rattle.mega_schema.specs.declared.schema.Schema.{Schema}
+use Rattle.mega_index.specs.of_schema.declared.schema.Schema.{Schema}
 use Rattle.mega_index.specs.Rows.{Listed, row_under}
 use Rattle.mega_index.specs.Cells.{values_of, row_set}
 use Rattle.mega_index.specs.Fitted.{fitted_writes, fitted_sends, most_bytes}

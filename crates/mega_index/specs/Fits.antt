@@ -5,8 +5,8 @@ use Rattle.std.specs.List.{list_all}
 use Rattle.mega_base.specs.declared.values.Value.{Value}
 use Rattle.mega_base.specs.declared.values.Cell.{Cell}
 use Rattle.mega_base.specs.declared.values.Row.{Row}
-use Rattle.mega_syntax.specs.declared.need.Need.{Need}
-use Rattle.mega_syntax.specs.declared.need.Need.TheVariants.{Required, Optional, Repeated}
+use Rattle.mega_schema.specs.of_syntax.declared.need.Need.{Need}
+use Rattle.mega_schema.specs.of_syntax.declared.need.Need.TheVariants.{Required, Optional, Repeated}
 use Rattle.mega_schema.specs.declared.schema.Property.{Property}
 use Rattle.mega_schema.specs.declared.schema.Table.{Table}
 use Rattle.mega_schema.specs.declared.schema.Index.{Index}

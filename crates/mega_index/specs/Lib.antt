@@ -12,3 +12,7 @@ pub mod Hints
 pub mod Wanted
 pub mod Keeping
 pub mod Forgetting
+pub use Rattle.mega_entry.specs as of_entry
+pub use Rattle.mega_keys.specs as of_keys
+pub use Rattle.mega_schema.specs as of_schema
+pub use Rattle.mega_schema.specs.of_syntax as of_syntax

@@ -39,9 +39,9 @@ use Rattle.mega_run_laws.specs.Vouched.{Each}
 use Rattle.mega_run_laws.proofs.Prefixes.{IsDecided, prefix_decided}
 use Rattle.mega_run_laws.proofs.Sending.{Stood}
 use Rattle.mega_run_laws.proofs.Turns.{IsRising, each_on, each_push}
-use Rattle.mega_settled_laws.specs.Covering.{Earlier}
-use Rattle.mega_settled_laws.proofs.Tapes.{each_both, earlier_stood, then_later}
-use Rattle.mega_settled_laws.proofs.Turns.{numbers_apart}
+use Rattle.mega_valid_laws.specs.of_settled_laws.Covering.{Earlier}
+use Rattle.mega_valid_laws.proofs.of_settled_laws.Tapes.{each_both, earlier_stood, then_later}
+use Rattle.mega_valid_laws.proofs.of_settled_laws.Turns.{numbers_apart}
 use Rattle.mega_valid_laws.specs.Leases.{asks_end, has_polled, serving_on}
 use Rattle.mega_leased_laws.proofs.Polls.{ReadPolls, StagePolls, due_polls, hears_polls, no_tops, polled_on, seeks_polls, tops_on}
 use Rattle.mega_leased_laws.proofs.Walk.{Walks, begun_it, caught, goes_on_it}

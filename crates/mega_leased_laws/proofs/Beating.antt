@@ -34,7 +34,7 @@ use Rattle.mega_rules.specs.Steps.{Begin, Event, Take, Tick, lapse_notes, lease_
 use Rattle.mega_tape_laws.proofs.Ballots.{number_is, number_self}
 use Rattle.mega_run_laws.specs.Vouched.{Each}
 use Rattle.mega_run_laws.proofs.Events.{onto_append}
-use Rattle.mega_settled_laws.proofs.Tapes.{each_both}
+use Rattle.mega_valid_laws.proofs.of_settled_laws.Tapes.{each_both}
 use Rattle.mega_valid_laws.specs.Leases.{serving_on}
 use Rattle.mega_valid_laws.proofs.Folds.{IsOwn, IsOwnNote, Told, with_told}
 use Rattle.mega_valid_laws.proofs.Orders.{stood_first}

@@ -59,8 +59,8 @@ use Rattle.mega_run_laws.proofs.Events.{onto_append}
 use Rattle.mega_run_laws.proofs.Runs.{IsMark, nobody}
 use Rattle.mega_run_laws.proofs.Standing.{Good}
 use Rattle.mega_run_laws.proofs.Turns.{each_on}
-use Rattle.mega_settled_laws.specs.Covering.{Earlier}
-use Rattle.mega_settled_laws.proofs.Tapes.{IsSilent as SilentItem, each_both, earlier_stood, items_later, notes_silent, now_is, one_later, then_later}
+use Rattle.mega_valid_laws.specs.of_settled_laws.Covering.{Earlier}
+use Rattle.mega_valid_laws.proofs.of_settled_laws.Tapes.{IsSilent as SilentItem, each_both, earlier_stood, items_later, notes_silent, now_is, one_later, then_later}
 use Rattle.mega_lease_laws.specs.Questions.{Asks as IsAsking, is_question}
 use Rattle.mega_valid_laws.specs.Leases.{HoldsNone, granted_on}
 use Rattle.mega_valid_laws.proofs.Epochs.{Shown, granted_shown}

@@ -38,7 +38,7 @@ use Rattle.mega_tape_laws.specs.Settled.{IsCellMajority}
 use Rattle.mega_tape_laws.proofs.Ballots.{number_is, number_self}
 use Rattle.mega_run_laws.specs.Vouched.{Each}
 use Rattle.mega_run_laws.proofs.Events.{onto_append}
-use Rattle.mega_settled_laws.proofs.Tapes.{each_both}
+use Rattle.mega_valid_laws.proofs.of_settled_laws.Tapes.{each_both}
 use Rattle.mega_valid_laws.specs.Leases.{counted_on}
 use Rattle.mega_valid_laws.proofs.Folds.{IsOwn, IsOwnNote, Told, with_told}
 use Rattle.mega_valid_laws.proofs.Orders.{epoch_is}

@@ -58,8 +58,8 @@ use Rattle.mega_run_laws.specs.Vouched.{Each, sent}
 use Rattle.mega_run_laws.proofs.Events.{onto_append}
 use Rattle.mega_run_laws.proofs.Runs.{IsMark}
 use Rattle.mega_run_laws.proofs.Turns.{each_on}
-use Rattle.mega_settled_laws.specs.Covering.{Earlier}
-use Rattle.mega_settled_laws.proofs.Tapes.{IsSilent, each_both, earlier_stood, items_later, notes_silent, now_is, one_later, then_later}
+use Rattle.mega_valid_laws.specs.of_settled_laws.Covering.{Earlier}
+use Rattle.mega_valid_laws.proofs.of_settled_laws.Tapes.{IsSilent, each_both, earlier_stood, items_later, notes_silent, now_is, one_later, then_later}
 use Rattle.mega_lease_laws.specs.Questions.{is_question}
 use Rattle.mega_valid_laws.specs.Leases.{MayServe, serving_on}
 use Rattle.mega_valid_laws.specs.Showing.{serving_met}

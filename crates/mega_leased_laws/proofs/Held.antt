@@ -21,7 +21,7 @@ use Rattle.mega_rules.specs.Coordinators.{coordinator_calls, serves_at, valid_at
 use Rattle.mega_rules.specs.Members.{full_nodes, is_full, nodes}
 use Rattle.mega_tape_laws.specs.Places.{In}
 use Rattle.mega_run_laws.proofs.Runs.{run_keeps, run_polls}
-use Rattle.mega_settled_laws.proofs.Behind.{run_decided}
+use Rattle.mega_valid_laws.proofs.of_settled_laws.Behind.{run_decided}
 use Rattle.mega_valid_laws.specs.Leases.{HasAtLeast, IsHeld, counted_on, serving_on}
 use Rattle.mega_valid_laws.specs.Showing.{serving_met}
 use Rattle.mega_valid_laws.proofs.Epochs.{serving_stands}

@@ -19,3 +19,4 @@ pub mod Counting
 pub mod Safety
 pub mod Held
 pub mod Tops
+pub use Rattle.mega_valid_laws.proofs as of_valid_laws

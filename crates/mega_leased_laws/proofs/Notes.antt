@@ -17,7 +17,7 @@ use Rattle.mega_rules.specs.Replies.{answer_to, reply_message, reply_to}
 use Rattle.mega_rules.specs.Steps.{Begin, Decision, Event, Heard, Step, Take, Tick, all_act, applied_at, apply_note, apply_notes, at_first, at_open, background, decision_note, first_settled, hears_message, if_new, lapse_notes, lease_notes, new_operation, news, onto, op_of, portion_of, refusal, step, stored_after, taken, ticked, told_decision, told_notes, unless_refused}
 use Rattle.mega_run_laws.specs.Vouched.{Each}
 use Rattle.mega_run_laws.proofs.Noting.{Lasts, all_act_it, begun_it, ticked_it}
-use Rattle.mega_settled_laws.proofs.Tapes.{each_both}
+use Rattle.mega_valid_laws.proofs.of_settled_laws.Tapes.{each_both}
 use Rattle.mega_lease_laws.specs.Questions.{Asks}
 use Rattle.mega_lease_laws.proofs.Acting.{Acquires, acquires_are, background_asks, news_ask}
 use Rattle.mega_lease_laws.proofs.Lasting.{IsHeard, all_act_it as all_ask, all_ticked_it as all_ticked_ask, begun_it as begun_ask}

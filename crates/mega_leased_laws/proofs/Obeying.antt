@@ -38,8 +38,8 @@ use Rattle.mega_tape_laws.proofs.Lists.{some_is}
 use Rattle.mega_run_laws.specs.Vouched.{Each}
 use Rattle.mega_run_laws.proofs.Runs.{IsMark}
 use Rattle.mega_run_laws.proofs.Turns.{each_on}
-use Rattle.mega_settled_laws.specs.Covering.{Earlier}
-use Rattle.mega_settled_laws.proofs.Tapes.{IsSilent, items_later, notes_silent}
+use Rattle.mega_valid_laws.specs.of_settled_laws.Covering.{Earlier}
+use Rattle.mega_valid_laws.proofs.of_settled_laws.Tapes.{IsSilent, items_later, notes_silent}
 use Rattle.mega_lease_laws.specs.Questions.{Asks, is_question}
 use Rattle.mega_valid_laws.proofs.Orders.{before_behind}
 use Rattle.mega_leased_laws.specs.Items.{Are}

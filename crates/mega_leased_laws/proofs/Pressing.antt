@@ -67,9 +67,9 @@ use Rattle.mega_run_laws.proofs.Opened.{Backed, BackedStage, at_place}
 use Rattle.mega_run_laws.proofs.Runs.{IsMark, nobody}
 use Rattle.mega_run_laws.proofs.Standing.{Good}
 use Rattle.mega_run_laws.proofs.Turns.{Held, each_on}
-use Rattle.mega_settled_laws.specs.Covering.{Earlier}
-use Rattle.mega_settled_laws.proofs.Tapes.{IsSilent, each_both, items_later, notes_silent, now_is, one_later, then_later}
-use Rattle.mega_settled_laws.proofs.Walk.{Walks, begun_it, goes_on_it}
+use Rattle.mega_valid_laws.specs.of_settled_laws.Covering.{Earlier}
+use Rattle.mega_valid_laws.proofs.of_settled_laws.Tapes.{IsSilent, each_both, items_later, notes_silent, now_is, one_later, then_later}
+use Rattle.mega_valid_laws.proofs.of_settled_laws.Walk.{Walks, begun_it, goes_on_it}
 use Rattle.mega_lease_laws.proofs.Acting.{Acquires, acquires_are}
 use Rattle.mega_valid_laws.specs.Leases.{WasChosen}
 use Rattle.mega_valid_laws.proofs.Joint.{chosen_on, vote_heard}

@@ -27,7 +27,7 @@ use Rattle.mega_run_laws.specs.Vouched.{Each, sent}
 use Rattle.mega_run_laws.proofs.Events.{onto_append}
 use Rattle.mega_run_laws.proofs.Runs.{IsMark}
 use Rattle.mega_run_laws.proofs.Turns.{each_on}
-use Rattle.mega_settled_laws.proofs.Tapes.{each_both}
+use Rattle.mega_valid_laws.proofs.of_settled_laws.Tapes.{each_both}
 use Rattle.mega_valid_laws.specs.Leases.{counted_on}
 use Rattle.mega_valid_laws.proofs.Folds.{IsOwn, IsOwnNote, Told, with_told}
 use Rattle.mega_leased_laws.proofs.Forms.{Holds, down, stepped}

@@ -10,7 +10,7 @@ use Rattle.mega_promises.specs.Runs.{breaks, with_item, with_items}
 use Rattle.mega_rules.specs.Met.{Met}
 use Rattle.mega_rules.specs.Operations.{Node}
 use Rattle.mega_run_laws.specs.Vouched.{Each, sent}
-use Rattle.mega_settled_laws.proofs.Tapes.{each_both}
+use Rattle.mega_valid_laws.proofs.of_settled_laws.Tapes.{each_both}
 use Rattle.mega_leased_laws.specs.Items.{Are}
 
 module _ (P : List Item → Item → Type 0) (unsafe : (t : List Item) → P t Unsafe) (c : Cluster) (nodes : ℕ → Node) where

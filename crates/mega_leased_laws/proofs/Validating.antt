@@ -60,8 +60,8 @@ use Rattle.mega_run_laws.proofs.Sending.{took_on}
 use Rattle.mega_run_laws.proofs.Standing.{Good}
 use Rattle.mega_run_laws.proofs.Steps.{never_asked}
 use Rattle.mega_run_laws.proofs.Turns.{Held, IsRising, Known, each_on}
-use Rattle.mega_settled_laws.specs.Covering.{Earlier}
-use Rattle.mega_settled_laws.proofs.Tapes.{IsSilent, each_both, earlier_stood, items_later, notes_silent, now_is, one_later, sent_later, then_later}
+use Rattle.mega_valid_laws.specs.of_settled_laws.Covering.{Earlier}
+use Rattle.mega_valid_laws.proofs.of_settled_laws.Tapes.{IsSilent, each_both, earlier_stood, items_later, notes_silent, now_is, one_later, sent_later, then_later}
 use Rattle.mega_lease_laws.proofs.Acting.{Acquires, acquires_are}
 use Rattle.mega_valid_laws.specs.Leases.{asks_end, has_polled, serving_on}
 use Rattle.mega_valid_laws.specs.Showing.{next_serving, serving_met}

@@ -27,7 +27,7 @@ use Rattle.mega_read.specs.declared.reading.Reading.{Reading}
 use Rattle.mega_read.specs.declared.reading.Move.{Move as ReadMove}
 use Rattle.mega_read.specs.Catching.{asked_by, denied, falls_due, fetch_to, fetches, fills, hears, helpers, is_position, local_read, move, no_op, polled_read, searched, seeks, site, topped, where_to}
 use Rattle.mega_run_laws.specs.Vouched.{Each}
-use Rattle.mega_settled_laws.proofs.Tapes.{each_both}
+use Rattle.mega_valid_laws.proofs.of_settled_laws.Tapes.{each_both}
 
 -- a message that asks where a log ends is of this operation, and about this group
 abbrev pub EndsBody : OpId → GroupId → Body → Type 0

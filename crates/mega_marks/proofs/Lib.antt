@@ -4,3 +4,4 @@ mod Applied
 mod Onward
 mod Found
 pub mod Growing
+pub use Rattle.mega_node_laws.proofs as of_node_laws

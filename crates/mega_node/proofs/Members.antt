@@ -7,7 +7,7 @@ use Rattle.toml.specs.Data.{Data, Members, get_member}
 use Rattle.mega_base.specs.declared.values.NodeKind.{NodeKind}
 use Rattle.mega_cluster.specs.declared.cluster.Cluster.{Cluster}
 use Rattle.mega_cluster.specs.Header.{◌>>=◌, cells_of, counted, document_of, has_unknown_key, header_of, is_full, needed, nodes_of, nodes_of_data, number_of, read_of, ruled_out, schema_of}
-use Rattle.mega_core.specs.Served.{IsServed}
+use Rattle.mega_server.specs.of_core.Served.{IsServed}
 use Rattle.mega_rules.specs.Members.{is_node}
 use Rattle.mega_line_laws.proofs.Starting.{can_start}
 use Rattle.mega_node.specs.Headers.{IsRead}

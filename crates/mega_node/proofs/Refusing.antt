@@ -3,9 +3,9 @@ use Rattle.std.proofs.Common.{◌≡◌, ◌≢◌, ℕ, ◌<◌, ◌≤◌, ◌
 use Rattle.std.specs.Prelude.{option_map}
 use Rattle.mega_base.specs.Causes.{Rose}
 use Rattle.mega_disk.specs.declared.records.Records.{Ghosts}
-use Rattle.mega_durable.specs.declared.starting.NotStarted.{NotStarted}
-use Rattle.mega_durable.specs.declared.starting.NotStarted.TheVariants as refused
-use Rattle.mega_durable.specs.Starting.{IsRefused}
+use Rattle.mega_server.specs.of_durable.declared.starting.NotStarted.{NotStarted}
+use Rattle.mega_server.specs.of_durable.declared.starting.NotStarted.TheVariants as refused
+use Rattle.mega_server.specs.of_durable.Starting.{IsRefused}
 use Rattle.mega_serve.specs.declared.fault.NodeFault.{NodeFault}
 use Rattle.mega_serve.specs.declared.fault.NodeFault.TheVariants as node
 use Rattle.mega_serve.specs.declared.fault.ServeFault.{ServeFault}

@@ -2,13 +2,13 @@
 use Rattle.std.proofs.Common.{◌≡◌, ℕ, ◌+◌, ◌<◌, false, true, List, [], ◌∷◌, None, Option, map, subst, sym, ◌∙◌}
 use Rattle.std.specs.Prelude.{flat_map}
 use Rattle.mega_cluster.specs.declared.cluster.Cluster.{Cluster}
-use Rattle.mega_core.specs.declared.note.Note.{Note}
-use Rattle.mega_core.specs.Notes.{met_of as notes_met}
-use Rattle.mega_core.specs.Restarting.{HaveFollowed}
+use Rattle.mega_server.specs.of_core.declared.note.Note.{Note}
+use Rattle.mega_server.specs.of_core.Notes.{met_of as notes_met}
+use Rattle.mega_server.specs.of_core.Restarting.{HaveFollowed}
 use Rattle.mega_disk.specs.declared.records.Records.{Ghosts}
 use Rattle.mega_disk.specs.VersionMaps.{Versions}
-use Rattle.mega_durable.specs.declared.down.Down.{Down}
-use Rattle.mega_durable.specs.Standing.{MayStart}
+use Rattle.mega_server.specs.of_durable.declared.down.Down.{Down}
+use Rattle.mega_server.specs.of_durable.Standing.{MayStart}
 use Rattle.mega_handler.specs.Named.{Meaning}
 use Rattle.mega_promises.specs.Items.{number, shown}
 use Rattle.mega_promises.specs.NodeRuns.{met_of}

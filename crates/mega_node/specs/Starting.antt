@@ -2,9 +2,9 @@
 use Rattle.std.specs.Prelude.{◌≡◌, ℕ, ◌<◌, ◌≤◌, ◌^◌, List, [], ◌∷◌, map, Option, Some, None}
 use Rattle.mega_base.specs.Causes.{Rose}
 use Rattle.mega_cluster.specs.declared.cluster.Cluster.{Cluster}
-use Rattle.mega_core.specs.declared.note.Note.{Note}
-use Rattle.mega_durable.specs.declared.starting.NotStarted.{NotStarted}
-use Rattle.mega_durable.specs.declared.starting.NotStarted.TheVariants as refused
+use Rattle.mega_server.specs.of_core.declared.note.Note.{Note}
+use Rattle.mega_server.specs.of_durable.declared.starting.NotStarted.{NotStarted}
+use Rattle.mega_server.specs.of_durable.declared.starting.NotStarted.TheVariants as refused
 use Rattle.mega_handler.specs.Named.{Meaning, Meanings}
 use Rattle.mega_meanings.specs.Means.{Means}
 use Rattle.mega_promises.specs.Items.{number}

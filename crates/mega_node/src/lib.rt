@@ -10,5 +10,6 @@ mod serving;
 mod starting;
 mod stop;
 
+pub use mega_server;
 pub use program::{Outcome, run_node};
 pub use stop::Stop;

@@ -14,11 +14,11 @@ ghost use Rattle.mega_node.specs.Stops.{IsWriteStop};
 
 use crate::stop::Stop;
 use mega_base::{Bytes, Items, NoMemory, NodeId};
-use mega_core::Note;
 use mega_io::{Sink, SinkError, put};
 use mega_schema::Schema;
 use mega_serve::NodeFault;
 use mega_server::items_of;
+use mega_server::mega_core::Note;
 use mega_transcript::{Item, text};
 use std::alloc::Global;
 

@@ -1,7 +1,7 @@
 //! A node over its log device, from its opening to its last turn.
 ghost use Rattle.std.specs.Prelude.{◌≡◌, ◌≤◌, ◌⊎◌, ℕ, List, None, Some, Option, Err, true, IfErr, OnErr, OnOk};
 ghost use Rattle.mega_base.specs.Causes.{Rose};
-ghost use Rattle.mega_core.specs.Served.{IsServed};
+ghost use Rattle.mega_server.specs.of_core.Served.{IsServed};
 ghost use Rattle.mega_checkpoint.specs.Format.{list_of};
 ghost use Rattle.mega_checkpoint.specs.Opened.{disk_of};
 ghost use Rattle.mega_rules.specs.Members.{is_node};
@@ -25,13 +25,13 @@ use crate::stop::Stop;
 use mega_base::Items;
 use mega_checkpoint::Checkpoint;
 use mega_cluster::Cluster;
-use mega_core::Note;
 use mega_disk::Disk;
 use mega_io::Sink;
 use mega_link::{Clock, Link};
 use mega_meanings::QueueHandlers;
 use mega_rows::VersionedRows;
 use mega_serve::Steps;
+use mega_server::mega_core::Note;
 use mega_server::{Number, Server};
 use std::alloc::Global;
 

@@ -1,6 +1,6 @@
 //! A node starts over what its log holds, and stands ready to be served.
 ghost use Rattle.std.specs.Prelude.{◌≡◌, ◌≤◌, ◌<◌, ◌^◌, ℕ, [], List, true, option_map, IfErr, IfOk};
-ghost use Rattle.mega_core.specs.Served.{IsServed};
+ghost use Rattle.mega_server.specs.of_core.Served.{IsServed};
 ghost use Rattle.mega_checkpoint.specs.Opened.{disk_of};
 ghost use Rattle.mega_rules.specs.Members.{is_node};
 ghost use Rattle.mega_node.specs.Logs.{AreOpened};
@@ -11,12 +11,12 @@ use crate::stop::Stop;
 use mega_base::Items;
 use mega_checkpoint::Checkpoint;
 use mega_cluster::Cluster;
-use mega_core::Note;
 use mega_disk::{Disk, Records};
-use mega_durable::{Down, NotStarted, Started, Up};
 use mega_meanings::QueueHandlers;
 use mega_rows::VersionedRows;
 use mega_serve::Steps;
+use mega_server::mega_core::Note;
+use mega_server::mega_durable::{Down, NotStarted, Started, Up};
 use mega_server::{Number, Server};
 use mega_voter::Voter;
 use mega_wal::LogFault;

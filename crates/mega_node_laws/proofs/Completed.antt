@@ -8,11 +8,11 @@ use Rattle.mega_wal.specs.Same.{same_group}
 use Rattle.mega_wal.proofs.Sames.{same_group_equal, same_group_self}
 use Rattle.mega_read.specs.declared.reading.Reading.{Reading}
 use Rattle.mega_replica.specs.Applying.{after_read, applied}
-use Rattle.mega_rules.specs.Met.{Validates}
-use Rattle.mega_rules.specs.Logs.{log_of, prefix_of}
-use Rattle.mega_rules.specs.Coordinators.{refused_at}
-use Rattle.mega_rules.specs.Operations.{Now, Setting}
-use Rattle.mega_rules.specs.Acting.{completes_read, stored_with, validated_by, validates}
+use Rattle.mega_voter.specs.of_rules.Met.{Validates}
+use Rattle.mega_voter.specs.of_rules.Logs.{log_of, prefix_of}
+use Rattle.mega_voter.specs.of_rules.Coordinators.{refused_at}
+use Rattle.mega_voter.specs.of_rules.Operations.{Now, Setting}
+use Rattle.mega_voter.specs.of_rules.Acting.{completes_read, stored_with, validated_by, validates}
 use Rattle.mega_node_laws.proofs.Applied.{read_applied_keeps, read_applies}
 use Rattle.mega_node_laws.proofs.Logs.{log_stays}
 

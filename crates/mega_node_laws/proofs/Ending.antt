@@ -6,15 +6,15 @@ use Rattle.mega_base.specs.declared.names.GroupId.{GroupId}
 use Rattle.mega_coordinator.specs.declared.answers.NotValid.{NotValid}
 use Rattle.mega_wire.specs.declared.message.Message.{Message}
 use Rattle.mega_outcome.specs.declared.request.Request.{Request}
-use Rattle.mega_rules.specs.Met.{Met, Answers, Applies, Begins, Sends, Takes, Ticks, Validates}
-use Rattle.mega_rules.specs.Members.{has_rows}
-use Rattle.mega_rules.specs.Clock.{clock_of}
-use Rattle.mega_rules.specs.Logs.{groups_of}
-use Rattle.mega_rules.specs.Operations.{Node, Now, Operation, Setting}
-use Rattle.mega_rules.specs.Acting.{validated_by}
-use Rattle.mega_rules.specs.Coordinators.{acquires_at}
-use Rattle.mega_rules.specs.Replies.{reply_to}
-use Rattle.mega_rules.specs.Steps.{Begin, Decision, Event, Heard, Step, Take, Tick, all_act, applied_at, apply_note, apply_notes, at_first, at_open, background, begin_step, decision_note, first_settled, hears_message, if_new, lapse_notes, lease_notes, new_operation, news, onto, op_of, portion_of, refusal, step, step_of, stored_after, take_step, taken, tick_step, ticked, told_decision, told_notes, unless_refused}
+use Rattle.mega_voter.specs.of_rules.Met.{Met, Answers, Applies, Begins, Sends, Takes, Ticks, Validates}
+use Rattle.mega_voter.specs.of_rules.Members.{has_rows}
+use Rattle.mega_voter.specs.of_rules.Clock.{clock_of}
+use Rattle.mega_voter.specs.of_rules.Logs.{groups_of}
+use Rattle.mega_voter.specs.of_rules.Operations.{Node, Now, Operation, Setting}
+use Rattle.mega_voter.specs.of_rules.Acting.{validated_by}
+use Rattle.mega_voter.specs.of_rules.Coordinators.{acquires_at}
+use Rattle.mega_voter.specs.of_rules.Replies.{reply_to}
+use Rattle.mega_voter.specs.of_rules.Steps.{Begin, Decision, Event, Heard, Step, Take, Tick, all_act, applied_at, apply_note, apply_notes, at_first, at_open, background, begin_step, decision_note, first_settled, hears_message, if_new, lapse_notes, lease_notes, new_operation, news, onto, op_of, portion_of, refusal, step, step_of, stored_after, take_step, taken, tick_step, ticked, told_decision, told_notes, unless_refused}
 use Rattle.mega_node_laws.specs.Acted.{acted_on, or_settled, own_item}
 use Rattle.mega_node_laws.specs.Asking.{Asks}
 use Rattle.mega_node_laws.specs.Deciding.{IsNoDecision, SameLogs}

@@ -2,9 +2,9 @@
 use Rattle.std.proofs.Common.{sym, subst, List, ◌∷◌}
 use Rattle.mega_base.specs.declared.names.GroupId.{GroupId}
 use Rattle.mega_disk.specs.VersionMaps.{Versions}
-use Rattle.mega_rules.specs.Met.{Met}
-use Rattle.mega_rules.specs.Logs.{log_of}
-use Rattle.mega_rules.specs.Steps.{onto}
+use Rattle.mega_voter.specs.of_rules.Met.{Met}
+use Rattle.mega_voter.specs.of_rules.Logs.{log_of}
+use Rattle.mega_voter.specs.of_rules.Steps.{onto}
 use Rattle.mega_replica.specs.declared.progress.Progress.{Progress}
 use Rattle.mega_replica.specs.Stored.{Counts, GroupLogs}
 use Rattle.mega_replica.specs.Following.{Follows}

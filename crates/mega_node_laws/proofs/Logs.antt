@@ -10,9 +10,9 @@ use Rattle.mega_wal.specs.declared.item.JournalItem.{JournalItem}
 use Rattle.mega_wal.specs.Same.{same_group}
 use Rattle.mega_wal.specs.History.{decided_of, prefix_of as kept_prefix}
 use Rattle.mega_wal.proofs.Sames.{same_group_equal}
-use Rattle.mega_rules.specs.Met.{Met, Crashes, Decides}
-use Rattle.mega_rules.specs.Logs.{decided, decided_from, first_of, groups_of, log_of, newest_of, prefix_of, then_more}
-use Rattle.mega_rules.specs.Steps.{onto}
+use Rattle.mega_voter.specs.of_rules.Met.{Met, Crashes, Decides}
+use Rattle.mega_voter.specs.of_rules.Logs.{decided, decided_from, first_of, groups_of, log_of, newest_of, prefix_of, then_more}
+use Rattle.mega_voter.specs.of_rules.Steps.{onto}
 use Rattle.mega_replica.specs.Stored.{entries_from, log_in, then_more as then_kept}
 use Rattle.mega_replica.proofs.Logs.{log_grows}
 use Rattle.mega_voter.specs.Journal.{item_of, journal_of}

@@ -19,9 +19,9 @@ use Rattle.mega_outcome.specs.declared.transaction.RowRef.{RowRef}
 use Rattle.mega_outcome.specs.declared.transaction.Transaction.{Transaction}
 use Rattle.mega_outcome.proofs.Group.{batch_same, outcome_same, read_rows_same}
 use Rattle.mega_replica.specs.Applying.{applied, writes_of}
-use Rattle.mega_rules.specs.Met.{Met}
-use Rattle.mega_rules.specs.Logs.{log_of}
-use Rattle.mega_rules.specs.Steps.{onto}
+use Rattle.mega_voter.specs.of_rules.Met.{Met}
+use Rattle.mega_voter.specs.of_rules.Logs.{log_of}
+use Rattle.mega_voter.specs.of_rules.Steps.{onto}
 use Rattle.mega_replica.specs.declared.progress.Progress.{Progress}
 use Rattle.mega_replica.specs.Stored.{Counts, GroupLogs, IsUnwritten, last_write}
 use Rattle.mega_replica.specs.Following.{Follows}

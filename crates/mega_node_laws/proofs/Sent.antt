@@ -17,17 +17,17 @@ use Rattle.mega_locks.specs.declared.asked.Asked.TheVariants.{Granted as Grant, 
 use Rattle.mega_wire.specs.declared.message.Message.{Message}
 use Rattle.mega_wire.specs.declared.message.Body.{Body}
 use Rattle.mega_wire.specs.declared.message.Body.TheVariants.{Where, Top, Accept, Accepted, Prepare, Promise, Invalidate, Invalidated, Dead, Fetch, Acquire, Granted}
-use Rattle.mega_rules.specs.Met.{Met, Begins, Counts, Decides, Grants, Invalidates, Sends, Serves, Takes, Ticks}
-use Rattle.mega_rules.specs.Members.{is_cell, is_full, is_voter}
-use Rattle.mega_rules.specs.Clock.{clock_of}
-use Rattle.mega_rules.specs.Coordinators.{acquires_at, counts_notes, grant_notes}
-use Rattle.mega_rules.specs.Locks.{asked_for, grant_note, held_answer, held_at, lock_answer}
-use Rattle.mega_rules.specs.Logs.{decided, top_of}
-use Rattle.mega_rules.specs.Operations.{Node, Now, Setting}
-use Rattle.mega_rules.specs.Replies.{answer_to, fetched, reply_message, reply_to, where_served}
+use Rattle.mega_voter.specs.of_rules.Met.{Met, Begins, Counts, Decides, Grants, Invalidates, Sends, Serves, Takes, Ticks}
+use Rattle.mega_voter.specs.of_rules.Members.{is_cell, is_full, is_voter}
+use Rattle.mega_voter.specs.of_rules.Clock.{clock_of}
+use Rattle.mega_voter.specs.of_rules.Coordinators.{acquires_at, counts_notes, grant_notes}
+use Rattle.mega_voter.specs.of_rules.Locks.{asked_for, grant_note, held_answer, held_at, lock_answer}
+use Rattle.mega_voter.specs.of_rules.Logs.{decided, top_of}
+use Rattle.mega_voter.specs.of_rules.Operations.{Node, Now, Setting}
+use Rattle.mega_voter.specs.of_rules.Replies.{answer_to, fetched, reply_message, reply_to, where_served}
 use Rattle.mega_outcome.specs.declared.request.Request.{Request}
-use Rattle.mega_rules.specs.Steps.{Begin, Event, Take, Tick, at_open, begin_step, lapse_notes, lease_notes, new_operation, op_of, portion_of, refusal, step, take_step, tick_step, ticked, Decision, Heard, all_act, apply_notes, at_first, background, decision_note, first_settled, hears_message, if_new, news, onto, stored_after, taken, told_decision, told_notes}
-use Rattle.mega_rules.specs.Voting.{act_made, acts, prepared, voted}
+use Rattle.mega_voter.specs.of_rules.Steps.{Begin, Event, Take, Tick, at_open, begin_step, lapse_notes, lease_notes, new_operation, op_of, portion_of, refusal, step, take_step, tick_step, ticked, Decision, Heard, all_act, apply_notes, at_first, background, decision_note, first_settled, hears_message, if_new, news, onto, stored_after, taken, told_decision, told_notes}
+use Rattle.mega_voter.specs.of_rules.Voting.{act_made, acts, prepared, voted}
 use Rattle.mega_voter.specs.Journal.{item_in}
 use Rattle.mega_voter.specs.Telling.{IsAnswer}
 use Rattle.mega_voter.proofs.Answered.{prepared_answers, voted_answers}

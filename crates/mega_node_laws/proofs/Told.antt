@@ -4,8 +4,8 @@ use Rattle.std.specs.List.{All}
 use Rattle.std.proofs.lemmas.List.Elements.{All-head, All-tail}
 use Rattle.mega_wire.specs.declared.message.Message.{Message}
 use Rattle.mega_wal.specs.declared.kept.Kept.{Kept}
-use Rattle.mega_rules.specs.Met.{Met, Sends}
-use Rattle.mega_rules.specs.Steps.{onto}
+use Rattle.mega_voter.specs.of_rules.Met.{Met, Sends}
+use Rattle.mega_voter.specs.of_rules.Steps.{onto}
 use Rattle.mega_voter.specs.Telling.{Tells}
 use Rattle.mega_voter.proofs.Told.{silent_told}
 use Rattle.mega_node_laws.specs.Asking.{Asks}

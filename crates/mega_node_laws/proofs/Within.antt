@@ -5,10 +5,10 @@ use Rattle.std.proofs.lemmas.List.Elements.{All-append, All-push, All-weaker}
 use Rattle.mega_base.specs.declared.names.GroupId.{GroupId}
 use Rattle.mega_coordinator.specs.declared.answers.NotValid.{NotValid}
 use Rattle.mega_read.specs.declared.reading.Reading.{Reading}
-use Rattle.mega_rules.specs.Met.{Met, Validates}
-use Rattle.mega_rules.specs.Operations.{Now, Operation, Setting}
-use Rattle.mega_rules.specs.Acting.{completes_read, goes_on, validated_by}
-use Rattle.mega_rules.specs.Steps.{Heard, acts_in_turn, all_act, begins, ticked}
+use Rattle.mega_voter.specs.of_rules.Met.{Met, Validates}
+use Rattle.mega_voter.specs.of_rules.Operations.{Now, Operation, Setting}
+use Rattle.mega_voter.specs.of_rules.Acting.{completes_read, goes_on, validated_by}
+use Rattle.mega_voter.specs.of_rules.Steps.{Heard, acts_in_turn, all_act, begins, ticked}
 use Rattle.mega_node_laws.specs.About.{IsAbout}
 use Rattle.mega_node_laws.specs.Asking.{Asks}
 use Rattle.mega_node_laws.specs.Deciding.{SameLogs}

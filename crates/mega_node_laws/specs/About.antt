@@ -3,7 +3,7 @@ use Rattle.std.specs.Prelude.{◌≡◌, Some}
 use Rattle.mega_base.specs.declared.names.GroupId.{GroupId}
 use Rattle.mega_outcome.specs.declared.request.Request.{Request}
 use Rattle.mega_outcome.specs.declared.request.Request.TheVariants.{Txn, Batch, Read, Find, PumpEnter, PumpHandle, Refresh}
-use Rattle.mega_rules.specs.Operations.{Operation, Phase, Proposes, Reads}
+use Rattle.mega_voter.specs.of_rules.Operations.{Operation, Phase, Proposes, Reads}
 
 abbrev pub IsOf : Request → GroupId → Type 0
 IsOf (Txn transaction) group = transaction.group ≡ group

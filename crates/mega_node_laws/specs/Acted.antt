@@ -1,10 +1,10 @@
 -- What a node has met where its operations begin to act in a step.
 use Rattle.std.specs.Prelude.{List, ◌∷◌, map, Option, Some, None}
 use Rattle.mega_wire.specs.declared.message.Message.{Message}
-use Rattle.mega_rules.specs.Met.{Met, Begins, Takes, Ticks}
-use Rattle.mega_rules.specs.Clock.{clock_of}
-use Rattle.mega_rules.specs.Operations.{Node, Setting}
-use Rattle.mega_rules.specs.Steps.{Begin, Decision, Event, Take, Tick, decision_note, first_settled, hears_message, if_new, lapse_notes, lease_notes, onto, op_of, told_decision, told_notes}
+use Rattle.mega_voter.specs.of_rules.Met.{Met, Begins, Takes, Ticks}
+use Rattle.mega_voter.specs.of_rules.Clock.{clock_of}
+use Rattle.mega_voter.specs.of_rules.Operations.{Node, Setting}
+use Rattle.mega_voter.specs.of_rules.Steps.{Begin, Decision, Event, Take, Tick, decision_note, first_settled, hears_message, if_new, lapse_notes, lease_notes, onto, op_of, told_decision, told_notes}
 
 -- the decision that a message tells, or else the first that an open operation settled by it
 abbrev pub or_settled : Option Decision → Option Decision → Option Decision

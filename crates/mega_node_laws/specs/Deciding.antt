@@ -1,8 +1,8 @@
 -- Which things that a node meets decide an entry, and that two histories decide the same.
 use Rattle.std.specs.Prelude.{◌≡◌, ℕ, Bool, true, false, List}
 use Rattle.mega_base.specs.declared.names.GroupId.{GroupId}
-use Rattle.mega_rules.specs.Met.{Met, Decides}
-use Rattle.mega_rules.specs.Logs.{decided, groups_of, log_of, newest_of, prefix_of}
+use Rattle.mega_voter.specs.of_rules.Met.{Met, Decides}
+use Rattle.mega_voter.specs.of_rules.Logs.{decided, groups_of, log_of, newest_of, prefix_of}
 
 abbrev pub is_decision : Met → Bool
 is_decision (Decides group position entry) = true

@@ -1,8 +1,8 @@
 -- Whether a node may send messages, one after another.
 use Rattle.std.specs.Prelude.{◌≡◌, List, [], ◌∷◌, None}
 use Rattle.mega_wire.specs.declared.message.Message.{Message}
-use Rattle.mega_rules.specs.Met.{Met, Sends}
-use Rattle.mega_rules.specs.Voting.{made_of}
+use Rattle.mega_voter.specs.of_rules.Met.{Met, Sends}
+use Rattle.mega_voter.specs.of_rules.Voting.{made_of}
 use Rattle.mega_voter.specs.Telling.{IsAnswer}
 
 -- no message was made by it

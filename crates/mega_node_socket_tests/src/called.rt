@@ -6,8 +6,8 @@ use mega_disk::{MemDisk, Pair};
 use mega_io::{MemSink, MemSource};
 use mega_link::{MemClock, MemLink, Peer};
 use mega_meanings::BuiltIn;
+use mega_node::mega_server::Number;
 use mega_node::run_node;
-use mega_server::Number;
 use std::alloc::Global;
 use std::test::Fail;
 

@@ -4,9 +4,9 @@ use Rattle.std.specs.Prelude.{Option, Some, None, Result, Ok, Err, is_some, is_n
 use Rattle.mega_base.specs.declared.names.GroupId.{GroupId}
 use Rattle.mega_base.specs.declared.values.Value.{Value}
 use Rattle.mega_base.specs.declared.values.Row.{Row}
-use Rattle.mega_entry.specs.declared.content.Write.{Write}
-use Rattle.mega_schema.specs.declared.schema.Table.{Table}
-use Rattle.mega_schema.specs.declared.schema.Schema.{Schema}
+use Rattle.mega_index.specs.of_entry.declared.content.Write.{Write}
+use Rattle.mega_index.specs.of_schema.declared.schema.Table.{Table}
+use Rattle.mega_index.specs.of_schema.declared.schema.Schema.{Schema}
 use Rattle.mega_index.specs.Cells.{key_values}
 use Rattle.mega_index.specs.Fits.{fits, numbered}
 use Rattle.mega_index.specs.Rows.{Rows, changed, same_key, written}

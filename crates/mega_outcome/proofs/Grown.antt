@@ -7,16 +7,16 @@ use Rattle.mega_base.specs.declared.values.Kind.{Kind}
 use Rattle.mega_base.specs.declared.values.Shape.{Shape}
 use Rattle.mega_base.specs.declared.values.Value.{Value}
 use Rattle.mega_base.specs.declared.values.Row.{Row}
-use Rattle.mega_entry.specs.declared.content.Send.{Send}
-use Rattle.mega_schema.specs.declared.schema.Property.{Property}
-use Rattle.mega_schema.specs.declared.schema.Table.{Table}
-use Rattle.mega_schema.specs.declared.schema.Schema.{Schema}
-use Rattle.mega_schema.specs.Rules.{kind_at}
-use Rattle.mega_schema.specs.Lookup.{is_root_table}
-use Rattle.mega_schema.specs.Shaping.{kinds_of, root_kinds, rest_kinds, space_of, shape_of}
-use Rattle.mega_keys.specs.Spelling.{root_part}
-use Rattle.mega_keys.specs.Answers.{row_key_of, group_key_of}
-use Rattle.mega_keys.specs.Reading.{key_at}
+use Rattle.mega_index.specs.of_entry.declared.content.Send.{Send}
+use Rattle.mega_index.specs.of_schema.declared.schema.Property.{Property}
+use Rattle.mega_index.specs.of_schema.declared.schema.Table.{Table}
+use Rattle.mega_index.specs.of_schema.declared.schema.Schema.{Schema}
+use Rattle.mega_index.specs.of_schema.Rules.{kind_at}
+use Rattle.mega_index.specs.of_schema.Lookup.{is_root_table}
+use Rattle.mega_index.specs.of_schema.Shaping.{kinds_of, root_kinds, rest_kinds, space_of, shape_of}
+use Rattle.mega_index.specs.of_keys.Spelling.{root_part}
+use Rattle.mega_index.specs.of_keys.Answers.{row_key_of, group_key_of}
+use Rattle.mega_index.specs.of_keys.Reading.{key_at}
 use Rattle.mega_index.specs.Rows.{Rows}
 use Rattle.mega_index.specs.Fits.{numbered}
 use Rattle.mega_index.specs.Fitted.{is_root_group, is_group, is_queue, send_fits}

@@ -7,16 +7,16 @@ use Rattle.mega_base.specs.declared.values.Shape.{Shape}
 use Rattle.mega_base.specs.declared.values.Value.{Value}
 use Rattle.mega_base.specs.declared.values.Cell.{Cell}
 use Rattle.mega_base.specs.declared.values.Row.{Row}
-use Rattle.mega_entry.specs.declared.content.Write.{Write}
-use Rattle.mega_syntax.specs.declared.need.Need.{Need}
-use Rattle.mega_syntax.specs.declared.need.Need.TheVariants.{Required, Optional, Repeated}
-use Rattle.mega_schema.specs.declared.schema.Property.{Property}
-use Rattle.mega_schema.specs.declared.schema.Table.{Table}
-use Rattle.mega_schema.specs.declared.schema.Schema.{Schema}
-use Rattle.mega_schema.specs.Shaping.{shape_of}
-use Rattle.mega_keys.specs.declared.fault.KeyFault.{KeyFault}
-use Rattle.mega_keys.specs.Spelling.{root_part}
-use Rattle.mega_keys.specs.Answers.{row_key_of, group_key_of}
+use Rattle.mega_index.specs.of_entry.declared.content.Write.{Write}
+use Rattle.mega_index.specs.of_syntax.declared.need.Need.{Need}
+use Rattle.mega_index.specs.of_syntax.declared.need.Need.TheVariants.{Required, Optional, Repeated}
+use Rattle.mega_index.specs.of_schema.declared.schema.Property.{Property}
+use Rattle.mega_index.specs.of_schema.declared.schema.Table.{Table}
+use Rattle.mega_index.specs.of_schema.declared.schema.Schema.{Schema}
+use Rattle.mega_index.specs.of_schema.Shaping.{shape_of}
+use Rattle.mega_index.specs.of_keys.declared.fault.KeyFault.{KeyFault}
+use Rattle.mega_index.specs.of_keys.Spelling.{root_part}
+use Rattle.mega_index.specs.of_keys.Answers.{row_key_of, group_key_of}
 use Rattle.mega_index.specs.Rows.{Rows, written}
 use Rattle.mega_index.specs.Cells.{values_of, key_values, is_listed, cell_set, row_set}
 use Rattle.mega_index.specs.Fits.{numbered, cell_fits, cells_fit, is_filled, has_required, properties_fit, key_of, group_bytes_of, long_in, long_key, row_fits, fits_in, fits}

@@ -4,7 +4,7 @@ use Rattle.std.specs.Prelude.{Option, Some}
 use Rattle.std.specs.BTreeMap.{Updates, get, is_at}
 use Rattle.std.specs.Map.{lookup}
 use Rattle.mega_base.specs.declared.values.Row.{Row}
-use Rattle.mega_entry.specs.declared.content.Write.{Write}
+use Rattle.mega_index.specs.of_entry.declared.content.Write.{Write}
 use Rattle.mega_index.specs.Rows.{Rows, key_cmp, same_key, changed}
 use Rattle.mega_outcome.specs.Answers.{Pending, or_row, seen}
 

@@ -11,11 +11,11 @@ use Rattle.mega_base.specs.Values.{value_text, cell_text, row_text}
 use Rattle.mega_base.specs.declared.values.Value.TheVariants.{Int32, Int64, Bool as Truth, Str, Raw}
 use Rattle.mega_base.specs.declared.values.Cell.{Cell}
 use Rattle.mega_base.specs.declared.values.Row.{Row}
-use Rattle.mega_entry.specs.declared.content.Write.{Write}
-use Rattle.mega_entry.specs.declared.content.Send.{Send}
-use Rattle.mega_entry.specs.declared.content.Cut.{Cut}
-use Rattle.mega_entry.specs.Entries.{write_text, send_text, enter_text, name_text, cut_text, cuts_text, entry_text, version_of}
-use Rattle.mega_entry.specs.declared.content.Content.{Content}
+use Rattle.mega_index.specs.of_entry.declared.content.Write.{Write}
+use Rattle.mega_index.specs.of_entry.declared.content.Send.{Send}
+use Rattle.mega_index.specs.of_entry.declared.content.Cut.{Cut}
+use Rattle.mega_index.specs.of_entry.Entries.{write_text, send_text, enter_text, name_text, cut_text, cuts_text, entry_text, version_of}
+use Rattle.mega_index.specs.of_entry.declared.content.Content.{Content}
 use Rattle.mega_base.specs.declared.names.OpId.{OpId}
 use Rattle.mega_base.specs.Names.{op_text, node_text, u32_text, u64_text}
 use Rattle.mega_index.specs.Fitted.{entry_of, entered, enter_length as enters}

@@ -5,12 +5,12 @@ use Rattle.mega_base.specs.declared.values.Value.TheVariants.{Int32, Int64}
 use Rattle.mega_base.specs.declared.values.Kind.{Kind}
 use Rattle.mega_base.specs.declared.values.Kind.TheVariants as kinds
 use Rattle.mega_base.specs.declared.values.Row.{Row}
-use Rattle.mega_entry.specs.declared.content.Write.{Write}
-use Rattle.mega_syntax.specs.declared.need.Need.{Need}
-use Rattle.mega_syntax.specs.declared.need.Need.TheVariants.{Required, Optional}
-use Rattle.mega_schema.specs.declared.schema.Property.{Property}
-use Rattle.mega_schema.specs.declared.schema.Table.{Table}
-use Rattle.mega_schema.specs.declared.schema.Schema.{Schema}
+use Rattle.mega_index.specs.of_entry.declared.content.Write.{Write}
+use Rattle.mega_index.specs.of_syntax.declared.need.Need.{Need}
+use Rattle.mega_index.specs.of_syntax.declared.need.Need.TheVariants.{Required, Optional}
+use Rattle.mega_index.specs.of_schema.declared.schema.Property.{Property}
+use Rattle.mega_index.specs.of_schema.declared.schema.Table.{Table}
+use Rattle.mega_index.specs.of_schema.declared.schema.Schema.{Schema}
 use Rattle.mega_index.specs.Rows.{Rows, written}
 use Rattle.mega_index.specs.Cells.{values_of, key_values, is_listed, row_set}
 use Rattle.mega_index.specs.Fits.{numbered, fits, long_key}

@@ -3,12 +3,12 @@ use Rattle.std.specs.Prelude.{ℕ, ◌+◌, ◌&&◌, nat_le, if◌then◌else�
 use Rattle.std.specs.List.{list_all}
 use Rattle.mega_base.specs.declared.values.Value.{Value}
 use Rattle.mega_base.specs.declared.values.Row.{Row}
-use Rattle.mega_syntax.specs.declared.need.Need.{Need}
-use Rattle.mega_syntax.specs.declared.need.Need.TheVariants.{Required, Optional, Repeated}
-use Rattle.mega_schema.specs.declared.schema.Property.{Property}
-use Rattle.mega_schema.specs.declared.schema.Table.{Table}
-use Rattle.mega_schema.specs.declared.schema.Schema.{Schema}
-use Rattle.mega_keys.specs.Fit.{has_kind}
+use Rattle.mega_index.specs.of_syntax.declared.need.Need.{Need}
+use Rattle.mega_index.specs.of_syntax.declared.need.Need.TheVariants.{Required, Optional, Repeated}
+use Rattle.mega_index.specs.of_schema.declared.schema.Property.{Property}
+use Rattle.mega_index.specs.of_schema.declared.schema.Table.{Table}
+use Rattle.mega_index.specs.of_schema.declared.schema.Schema.{Schema}
+use Rattle.mega_index.specs.of_keys.Fit.{has_kind}
 use Rattle.mega_index.specs.Rows.{Rows}
 use Rattle.mega_index.specs.Cells.{values_of}
 use Rattle.mega_index.specs.Same.{same_values}

@@ -3,12 +3,12 @@ use Rattle.std.specs.Prelude.{◌≡◌, ℕ, ◌+◌, Bool, true, false, List, 
 use Rattle.std.specs.List.{list_all}
 use Rattle.mega_base.specs.declared.values.Cell.{Cell}
 use Rattle.mega_base.specs.declared.values.Row.{Row}
-use Rattle.mega_entry.specs.declared.content.Write.{Write}
-use Rattle.mega_syntax.specs.declared.need.Need.{Need}
-use Rattle.mega_syntax.specs.declared.need.Need.TheVariants.{Required, Optional, Repeated}
-use Rattle.mega_schema.specs.declared.schema.Property.{Property}
-use Rattle.mega_schema.specs.declared.schema.Table.{Table}
-use Rattle.mega_schema.specs.declared.schema.Schema.{Schema}
+use Rattle.mega_index.specs.of_entry.declared.content.Write.{Write}
+use Rattle.mega_index.specs.of_syntax.declared.need.Need.{Need}
+use Rattle.mega_index.specs.of_syntax.declared.need.Need.TheVariants.{Required, Optional, Repeated}
+use Rattle.mega_index.specs.of_schema.declared.schema.Property.{Property}
+use Rattle.mega_index.specs.of_schema.declared.schema.Table.{Table}
+use Rattle.mega_index.specs.of_schema.declared.schema.Schema.{Schema}
 use Rattle.mega_index.specs.Rows.{Rows, written}
 use Rattle.mega_index.specs.Fits.{numbered}
 use Rattle.mega_outcome.specs.declared.transaction.Change.{Change}

@@ -1,7 +1,7 @@
 -- What a transaction looks at: rows under keys of its own group.
 use Rattle.std.specs.Prelude.{◌≡◌, ℕ, List, Ok}
 use Rattle.mega_base.specs.declared.values.Value.{Value}
-use Rattle.mega_schema.specs.declared.schema.Schema.{Schema}
+use Rattle.mega_index.specs.of_schema.declared.schema.Schema.{Schema}
 use Rattle.mega_index.specs.Rows.{Rows}
 use Rattle.mega_outcome.specs.Places.{key_in}
 

@@ -4,10 +4,10 @@ use Rattle.std.specs.List.{flat_map}
 use Rattle.mega_base.specs.Values.{value_text, cell_text}
 use Rattle.mega_base.specs.declared.values.Value.{Value}
 use Rattle.mega_base.specs.declared.values.Cell.{Cell}
-use Rattle.mega_entry.specs.declared.content.Write.{Write}
-use Rattle.mega_entry.specs.declared.content.Send.{Send}
-use Rattle.mega_entry.specs.declared.content.Cut.{Cut}
-use Rattle.mega_entry.specs.Entries.{write_text, send_text, cuts_text}
+use Rattle.mega_index.specs.of_entry.declared.content.Write.{Write}
+use Rattle.mega_index.specs.of_entry.declared.content.Send.{Send}
+use Rattle.mega_index.specs.of_entry.declared.content.Cut.{Cut}
+use Rattle.mega_index.specs.of_entry.Entries.{write_text, send_text, cuts_text}
 
 abbrev pub values_length : List Value → ℕ
 values_length values = length (flat_map value_text values)

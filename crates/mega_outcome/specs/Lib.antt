@@ -11,3 +11,4 @@ pub mod Numbers
 pub mod Lengths
 pub mod Extends
 pub mod Group
+pub use Rattle.mega_index.specs as of_index

@@ -2,12 +2,12 @@
 use Rattle.std.specs.Prelude.{ℕ, ◌+◌, ◌==◌, max, nat_lt, if◌then◌else◌, List, [], ◌∷◌, ◌++◌, length, fold, Some, Result, Ok, Err}
 use Rattle.mega_base.specs.declared.names.GroupId.{GroupId}
 use Rattle.mega_base.specs.declared.names.OpId.{OpId}
-use Rattle.mega_entry.specs.declared.content.Write.{Write}
-use Rattle.mega_entry.specs.declared.content.Send.{Send}
-use Rattle.mega_entry.specs.declared.content.Cut.{Cut}
-use Rattle.mega_entry.specs.declared.content.Content.{Content}
-use Rattle.mega_entry.specs.Entries.{entry_text}
-use Rattle.mega_schema.specs.declared.schema.Schema.{Schema}
+use Rattle.mega_index.specs.of_entry.declared.content.Write.{Write}
+use Rattle.mega_index.specs.of_entry.declared.content.Send.{Send}
+use Rattle.mega_index.specs.of_entry.declared.content.Cut.{Cut}
+use Rattle.mega_index.specs.of_entry.declared.content.Content.{Content}
+use Rattle.mega_index.specs.of_entry.Entries.{entry_text}
+use Rattle.mega_index.specs.of_schema.declared.schema.Schema.{Schema}
 use Rattle.mega_index.specs.Rows.{Rows, written}
 use Rattle.mega_index.specs.Fitted.{most_bytes, entry_of, enter_length, send_fits}
 use Rattle.mega_outcome.specs.declared.answer.Turn.{Turn}

@@ -2,9 +2,9 @@
 use Rattle.std.specs.Prelude.{ℕ, if◌then◌else◌, List, Option, Some, None, Result, Ok, Err}
 use Rattle.mega_base.specs.declared.values.Value.{Value}
 use Rattle.mega_base.specs.declared.values.Row.{Row}
-use Rattle.mega_schema.specs.declared.schema.Table.{Table}
-use Rattle.mega_schema.specs.declared.schema.Schema.{Schema}
-use Rattle.mega_keys.specs.declared.fault.KeyFault.{KeyFault}
+use Rattle.mega_index.specs.of_schema.declared.schema.Table.{Table}
+use Rattle.mega_index.specs.of_schema.declared.schema.Schema.{Schema}
+use Rattle.mega_index.specs.of_keys.declared.fault.KeyFault.{KeyFault}
 use Rattle.mega_index.specs.Rows.{Rows, same_key}
 use Rattle.mega_index.specs.Fits.{numbered, group_of, key_of}
 use Rattle.mega_outcome.specs.declared.answer.Turn.{Turn}

@@ -9,10 +9,10 @@ ghost use Rattle.mega_outcome.specs.Steps.{IsInside};
 use crate::answer::Turn;
 use crate::replacing::replaced;
 use mega_base::{Bytes, Items, Kind, NoMemory, Row, Value};
-use mega_entry::Write;
+use mega_index::mega_entry::Write;
+use mega_index::mega_schema::{Property, Schema, Table};
+use mega_index::mega_syntax::Need;
 use mega_index::{long_key, property_at, row_set, table_at, values_of};
-use mega_schema::{Property, Schema, Table};
-use mega_syntax::Need;
 use std::alloc::Global;
 
 /// Whether the property holds one number.

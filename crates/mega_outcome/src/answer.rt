@@ -1,7 +1,7 @@
 //! What transactions, batches and operations come to: replies, refusals and answers.
 use mega_base::{Copied, GroupId, Items, NoMemory, NodeKind, OpId, Position, Row, Text};
-use mega_entry::{Cut, Send, Write};
 use mega_index::Found;
+use mega_index::mega_entry::{Cut, Send, Write};
 use std::alloc::Global;
 
 /// A row that a read shows, with its table's number.

@@ -17,7 +17,7 @@ use crate::taking::add_result;
 use crate::transaction::Transaction;
 use mega_base::{GroupId, Items, Position};
 use mega_disk::{StoreError, Versions};
-use mega_schema::Schema;
+use mega_index::mega_schema::Schema;
 use std::alloc::Global;
 use std::collections::BTreeMap;
 

@@ -17,9 +17,9 @@ use crate::replacing::{append, delete_at, put_at};
 use crate::transaction::Change;
 use mega_base::{Bytes, Copied, Items, NoMemory, Position, Row};
 use mega_disk::{StoreError, Versions};
-use mega_entry::Write;
+use mega_index::mega_entry::Write;
+use mega_index::mega_schema::Schema;
 use mega_index::{key_values, table_at};
-use mega_schema::Schema;
 use std::alloc::Global;
 use std::collections::BTreeMap;
 

@@ -14,9 +14,9 @@ use crate::places::row_in;
 use crate::transaction::{Check, RowRef};
 use mega_base::{Items, Position, Row, Value};
 use mega_disk::{StoreError, Versions};
+use mega_index::mega_schema::{Property, Schema};
+use mega_index::mega_syntax::Need;
 use mega_index::{are_kind, property_at, table_at, values_are};
-use mega_schema::{Property, Schema};
-use mega_syntax::Need;
 use std::alloc::Global;
 
 fn holds(item: u32, truth: bool) -> Result<(), Turn>

@@ -7,7 +7,7 @@ use crate::answer::{Batch, Done};
 use crate::lengths::{sends_length, sum, writes_length};
 use crate::longest::entry_length;
 use mega_base::NoMemory;
-use mega_entry::Cut;
+use mega_index::mega_entry::Cut;
 
 /// The cut of a transaction that is taken next.
 pub fn cut_of(batch: &Batch, done: &Done) -> Result<Cut, NoMemory>

@@ -11,7 +11,7 @@ use crate::outcomes::run;
 use crate::transaction::Transaction;
 use mega_base::Position;
 use mega_disk::Versions;
-use mega_schema::Schema;
+use mega_index::mega_schema::Schema;
 use std::alloc::Global;
 
 /// What a transaction comes to under a schema, and under one that adds properties which are not required. Where

@@ -1,7 +1,7 @@
 //! Laws over all outcomes: they stay under more properties, and each looks at its own group alone.
 ghost use Rattle.std.specs.Prelude.{◌≡◌, List, ℕ, Ok};
 ghost use Rattle.mega_base.specs.declared.names.GroupId.{GroupId};
-ghost use Rattle.mega_schema.specs.declared.schema.Schema.{Schema};
+ghost use Rattle.mega_index.specs.of_schema.declared.schema.Schema.{Schema};
 ghost use Rattle.mega_index.specs.Rows.{Rows};
 ghost use Rattle.mega_outcome.specs.declared.answer.Done.{Done};
 ghost use Rattle.mega_outcome.specs.declared.transaction.RowRef.{RowRef};

@@ -3,11 +3,11 @@ ghost use Rattle.std.specs.Prelude.{◌≡◌, ◌+◌, length, IfOk};
 ghost use Rattle.std.specs.Option.{option_copied};
 ghost use Rattle.mega_base.specs.Codec.{option_text};
 ghost use Rattle.mega_base.specs.Values.{value_text, cell_text, row_text};
-ghost use Rattle.mega_entry.specs.Entries.{write_text, send_text};
+ghost use Rattle.mega_index.specs.of_entry.Entries.{write_text, send_text};
 ghost use Rattle.mega_outcome.specs.Lengths.{values_length, cells_length, writes_length, sends_length};
 
 use mega_base::{Cell, NoMemory, Row, Value};
-use mega_entry::{Send, Write};
+use mega_index::mega_entry::{Send, Write};
 
 /// The sum; numbers of bytes that no memory holds have none.
 pub fn sum(some: u64, more: u64) -> Result<u64, NoMemory>

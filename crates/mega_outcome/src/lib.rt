@@ -30,6 +30,7 @@ pub use answer::{Answer, Batch, Done, Mark, Shown, Turn};
 pub use batches::run_all;
 pub use extending::extends_outcome;
 pub use laws::{outcomes_look_at_their_group, outcomes_stay_under_more_properties};
+pub use mega_index;
 pub use outcomes::run;
 pub use request::{FindRequest, Mode, ReadRequest, Request};
 pub use sending::send_fits;

@@ -1,6 +1,6 @@
 //! The longest entry that comes of a transaction, against the limit of an entry.
 ghost use Rattle.std.specs.Prelude.{◌≡◌, ◌+◌, [], length, fold, max, IfOk};
-ghost use Rattle.mega_entry.specs.declared.content.Send.{Send as SendSeen};
+ghost use Rattle.mega_index.specs.of_entry.declared.content.Send.{Send as SendSeen};
 ghost use Rattle.mega_index.specs.Fitted.{enter_length};
 ghost use Rattle.mega_outcome.specs.Outcome.{entry_length, longest, unless_large};
 ghost use Rattle.mega_outcome.specs.Lengths.{writes_length, sends_length, cuts_length};
@@ -9,7 +9,7 @@ ghost use Rattle.mega_outcome.specs.Steps.{IsInside};
 use crate::answer::{Done, Turn};
 use crate::lengths::{message_length, sends_length, sum, writes_length};
 use mega_base::NoMemory;
-use mega_entry::{Send, Write};
+use mega_index::mega_entry::{Send, Write};
 
 /// The most bytes that an entry may have.
 pub const MOST_BYTES: u64 = 32768;

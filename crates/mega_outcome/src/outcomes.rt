@@ -12,7 +12,7 @@ use crate::running::outcome_in;
 use crate::transaction::Transaction;
 use mega_base::Position;
 use mega_disk::Versions;
-use mega_schema::Schema;
+use mega_index::mega_schema::Schema;
 use std::alloc::Global;
 use std::collections::BTreeMap;
 

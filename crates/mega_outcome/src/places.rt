@@ -12,9 +12,9 @@ use crate::answer::Turn;
 use crate::looking::{Pending, look};
 use mega_base::{Bytes, GroupId, NoMemory, Position, Row, Value};
 use mega_disk::{StoreError, Versions};
+use mega_index::mega_keys::KeyFault;
+use mega_index::mega_schema::{Schema, Table};
 use mega_index::{group_of, key_of, table_at};
-use mega_keys::KeyFault;
-use mega_schema::{Schema, Table};
 use std::alloc::Global;
 
 /// The key, where it could be spelled.

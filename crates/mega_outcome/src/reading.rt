@@ -12,7 +12,7 @@ use crate::places::row_in;
 use crate::transaction::RowRef;
 use mega_base::{Items, Position, Row};
 use mega_disk::{StoreError, Versions};
-use mega_schema::Schema;
+use mega_index::mega_schema::Schema;
 use std::alloc::Global;
 
 /// A row of the table as it is shown, where it is there.

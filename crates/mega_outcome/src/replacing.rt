@@ -8,9 +8,9 @@ ghost use Rattle.mega_outcome.specs.Steps.{IsInside, put_at};
 use crate::answer::Turn;
 use crate::looking::copy_row;
 use mega_base::{Bytes, Copied, Items, NoMemory, Row};
-use mega_entry::Write;
+use mega_index::mega_entry::Write;
+use mega_index::mega_schema::Schema;
 use mega_index::{index_writes, row_fits, table_at};
-use mega_schema::Schema;
 use std::alloc::Global;
 
 /// Adds these writes at the end.

@@ -18,8 +18,8 @@ use crate::sending::all_sends;
 use crate::transaction::Transaction;
 use mega_base::{Copied, Items, NoMemory, Position};
 use mega_disk::{StoreError, Versions};
-use mega_entry::Write;
-use mega_schema::Schema;
+use mega_index::mega_entry::Write;
+use mega_index::mega_schema::Schema;
 use std::alloc::Global;
 
 /// What the checks and reads of a transaction give.

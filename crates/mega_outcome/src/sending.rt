@@ -1,7 +1,7 @@
 //! Which groups and queues the sends of a transaction may name.
 ghost use Rattle.std.specs.Prelude.{◌≡◌, ◌+◌, ◌<◌, ◌^◌, ◌++◌, ◌∷◌, [], length, is_ok, Some, IfOk};
-ghost use Rattle.mega_keys.specs.Reading.{key_at};
-ghost use Rattle.mega_schema.specs.Shaping.{shape_of};
+ghost use Rattle.mega_index.specs.of_keys.Reading.{key_at};
+ghost use Rattle.mega_index.specs.of_schema.Shaping.{shape_of};
 ghost use Rattle.mega_index.specs.Fits.{numbered};
 ghost use Rattle.mega_index.specs.Fitted.{is_root_group, is_group, is_queue, send_fits};
 ghost use Rattle.mega_outcome.specs.Outcome.{all_sends};
@@ -9,10 +9,10 @@ ghost use Rattle.mega_outcome.specs.Steps.{IsInside};
 
 use crate::answer::Turn;
 use mega_base::{Bytes, NoMemory, Shape, Text};
-use mega_entry::Send;
+use mega_index::mega_entry::Send;
+use mega_index::mega_keys::is_spelled;
+use mega_index::mega_schema::{Schema, Table};
 use mega_index::table_at;
-use mega_keys::is_spelled;
-use mega_schema::{Schema, Table};
 use std::alloc::Global;
 
 /// The most bytes that a group has.

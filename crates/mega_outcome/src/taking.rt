@@ -11,7 +11,7 @@ use crate::longest::MOST_BYTES;
 use crate::looking::Pending;
 use crate::replacing::append;
 use mega_base::{Items, NoMemory};
-use mega_entry::{Cut, Send};
+use mega_index::mega_entry::{Cut, Send};
 use std::alloc::Global;
 
 /// Leaves the next transaction out with its refusal.

@@ -1,6 +1,6 @@
 //! A transaction on one entity group: its checks, reads, writes and sends.
 use mega_base::{Copied, GroupId, Items, NoMemory, Row, Value};
-use mega_entry::Send;
+use mega_index::mega_entry::Send;
 use std::alloc::Global;
 
 /// A row, by its table's number and the values of its whole primary key.

@@ -23,7 +23,7 @@ use Rattle.mega_outcome.specs.declared.request.Request.{Request}
 use Rattle.mega_outcome.specs.declared.request.Request.TheVariants.{Batch as BatchRequest, Find, PumpEnter, PumpHandle, Read as ReadRequested, Refresh, Txn}
 use Rattle.mega_outcome.specs.declared.transaction.Transaction.{Transaction}
 use Rattle.mega_outcome.specs.Outcome.{batch_outcome, outcome}
-use Rattle.mega_replica.specs.Applying.{stored_writes, writes_through}
+use Rattle.mega_rules.specs.of_replica.Applying.{stored_writes, writes_through}
 use Rattle.mega_transcript.specs.declared.item.Item.{Item}
 use Rattle.mega_transcript.specs.declared.item.Item.TheVariants.{Answer as AnswerItem, Decide}
 use Rattle.mega_wal.specs.Same.{same_group, same_op}

@@ -12,3 +12,4 @@ pub mod NodeRuns
 pub mod Served
 pub mod Records
 pub mod Worked
+pub use Rattle.mega_rules.specs as of_rules

@@ -6,10 +6,10 @@ use Rattle.mega_base.specs.declared.names.Epoch.{Epoch}
 use Rattle.mega_base.specs.declared.names.GroupId.{GroupId}
 use Rattle.mega_base.specs.declared.names.Position.{Position}
 use Rattle.mega_entry.specs.declared.content.Content.{Content}
-use Rattle.mega_wire.specs.declared.message.Message.{Message}
-use Rattle.mega_wire.specs.declared.message.Body.{Body}
-use Rattle.mega_wire.specs.declared.message.Body.TheVariants.{Where, Top, Fetch, HaveNot}
-use Rattle.mega_wal.specs.Same.{same_group, same_op}
+use Rattle.mega_propose.specs.of_wire.declared.message.Message.{Message}
+use Rattle.mega_propose.specs.of_wire.declared.message.Body.{Body}
+use Rattle.mega_propose.specs.of_wire.declared.message.Body.TheVariants.{Where, Top, Fetch, HaveNot}
+use Rattle.mega_propose.specs.of_wal.Same.{same_group, same_op}
 use Rattle.mega_propose.specs.Members.{has, is_majority, joined, others, with_node, without}
 use Rattle.mega_propose.specs.declared.round.Proposal.{Proposal}
 use Rattle.mega_propose.specs.declared.round.Site.{Site}

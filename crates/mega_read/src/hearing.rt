@@ -1,7 +1,7 @@
 //! What a read comes to that takes a message from a node.
 ghost use Rattle.std.specs.Prelude.{◌≡◌, ◌&&◌, ◌==◌, None, Some, IfOk};
 ghost use Rattle.mega_propose.specs.Members.{has};
-ghost use Rattle.mega_wal.specs.Same.{same_group, same_op};
+ghost use Rattle.mega_propose.specs.of_wal.Same.{same_group, same_op};
 ghost use Rattle.mega_read.specs.Catching.{hears, helpers, topped};
 ghost use Rattle.mega_read.specs.declared.reading.Search.TheVariants.{Fetching};
 ghost use Rattle.mega_read.specs.declared.reading.Stage.TheVariants.{Catching, Polling};
@@ -9,8 +9,8 @@ ghost use Rattle.mega_read.specs.declared.reading.Stage.TheVariants.{Catching, P
 use crate::kept::Kept;
 use crate::reading::{Move, Reader, Reading, Search, Stage};
 use mega_base::{GroupId, Items, NoMemory, OpId};
+use mega_propose::mega_wire::Body;
 use mega_propose::{has, is_majority, is_same_group, is_same_op};
-use mega_wire::Body;
 use std::alloc::Global;
 
 impl Reader {

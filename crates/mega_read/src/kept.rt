@@ -7,7 +7,7 @@ ghost use Rattle.mega_read.specs.declared.reading.Stage.TheVariants.{Catching};
 use crate::reading::{Move, Reading, Search, Stage};
 use mega_base::{Epoch, Items};
 use mega_propose::Proposal;
-use mega_wire::Message;
+use mega_propose::mega_wire::Message;
 
 /// What a read keeps through its stages: the epoch that it noted, and the nodes about which it asked the cells.
 #[derive(Drop)]

@@ -1,7 +1,7 @@
 //! A read: who reads among whom, its stage, and the position that it completes.
 use mega_base::{Epoch, GroupId, Items, OpId};
 use mega_propose::Proposal;
-use mega_wire::Message;
+use mega_propose::mega_wire::Message;
 
 /// Who reads which group, and among whom: the voters, the full nodes and how many lock cells there are.
 #[derive(Debug, Drop)]

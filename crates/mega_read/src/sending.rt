@@ -4,8 +4,8 @@ ghost use Rattle.mega_read.specs.Catching.{fetch_to, helpers, message, where_to}
 
 use crate::reading::Reader;
 use mega_base::{Copied, Items, NoMemory, Position};
+use mega_propose::mega_wire::{Body, Message};
 use mega_propose::others;
-use mega_wire::{Body, Message};
 use std::alloc::Global;
 
 impl Reader {

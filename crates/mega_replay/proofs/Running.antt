@@ -34,8 +34,8 @@ use Rattle.mega_row_laws.proofs.Steps.{begin_owns, take_owns, tick_owns}
 use Rattle.mega_line_laws.proofs.Asking.{clock_asked, request_asked}
 use Rattle.mega_line_laws.proofs.Again.{means}
 use Rattle.mega_line_laws.specs.Clusters.{CanStart}
-use Rattle.mega_leased_laws.proofs.Leased.{run_leased}
-use Rattle.mega_leased_laws.proofs.Tops.{run_fresh}
+use Rattle.mega_fresh_laws.proofs.of_leased_laws.Leased.{run_leased}
+use Rattle.mega_fresh_laws.proofs.of_leased_laws.Tops.{run_fresh}
 use Rattle.mega_line_laws.specs.Meanings.{meaning_in}
 use Rattle.mega_replay.specs.Meanings.{usage}
 use Rattle.mega_replay.specs.Running.{AllHappen, AllReadAll, Happens, ReadsAll, Replayed, Went, in_turn, stood}

@@ -13,10 +13,10 @@ use mega_disk::{Disk, Pair};
 use mega_io::{Sink, Source};
 use mega_link::{Clock, Link};
 use mega_meanings::{BuiltIn, QueueHandlers};
+use mega_node::mega_server::{Number, Server};
 use mega_node::run_node;
 use mega_rows::VersionedRows;
 use mega_serve::Steps;
-use mega_server::{Number, Server};
 use std::alloc::Global;
 
 /// Runs a node, and gives the status with which the program then ends.

@@ -8,7 +8,7 @@ use Rattle.mega_base.specs.declared.names.Epoch.{Epoch}
 use Rattle.mega_cluster.specs.declared.cluster.Cluster.{Cluster}
 use Rattle.mega_entry.specs.declared.content.Content.{Content}
 use Rattle.mega_entry.specs.declared.content.Enter.{Enter}
-use Rattle.mega_wire.specs.declared.message.Message.{Message}
+use Rattle.mega_read.specs.of_wire.declared.message.Message.{Message}
 use Rattle.mega_coordinator.specs.declared.answers.NotValid.{NotValid}
 use Rattle.mega_outcome.specs.declared.answer.Answer.{Answer}
 use Rattle.mega_outcome.specs.declared.answer.Answer.TheVariants.{Committed, Conflict, Turned, Read as ReadAnswer, Found as FoundAnswer, LogFull, NothingToDo, NoHandler, Batched, AllTurned}
@@ -22,14 +22,14 @@ use Rattle.mega_outcome.specs.declared.request.Request.TheVariants.{Txn, Batch a
 use Rattle.mega_outcome.specs.declared.request.ReadRequest.{ReadRequest}
 use Rattle.mega_outcome.specs.declared.request.FindRequest.{FindRequest}
 use Rattle.mega_outcome.specs.declared.transaction.Transaction.{Transaction}
-use Rattle.mega_index.specs.Rows.{Listed, Rows, after, list_after, no_rows}
+use Rattle.mega_replica.specs.of_index.Rows.{Listed, Rows, after, list_after, no_rows}
 use Rattle.mega_outcome.specs.Outcome.{batch_outcome, entry_of_batch, entry_of_done, outcome}
 use Rattle.mega_outcome.specs.Reads.{all_rows, read_rows}
-use Rattle.mega_wal.specs.Same.{same_group, same_op, same_option}
-use Rattle.mega_propose.specs.declared.round.Proposal.{Proposal}
-use Rattle.mega_propose.specs.declared.round.Site.{Site}
-use Rattle.mega_propose.specs.declared.round.Move.{Move as RoundMove}
-use Rattle.mega_propose.specs.Rounds.{asks}
+use Rattle.mega_replica.specs.of_wal.Same.{same_group, same_op, same_option}
+use Rattle.mega_read.specs.of_propose.declared.round.Proposal.{Proposal}
+use Rattle.mega_read.specs.of_propose.declared.round.Site.{Site}
+use Rattle.mega_read.specs.of_propose.declared.round.Move.{Move as RoundMove}
+use Rattle.mega_read.specs.of_propose.Rounds.{asks}
 use Rattle.mega_read.specs.declared.reading.Reader.{Reader}
 use Rattle.mega_read.specs.declared.reading.Reading.{Reading}
 use Rattle.mega_read.specs.declared.reading.Stage.{Stage}
@@ -45,7 +45,7 @@ use Rattle.mega_rules.specs.Coordinators.{refused_at, serves_at, valid_at}
 use Rattle.mega_rules.specs.Queues.{Log, Posted, enter_entry, is_named, names_entered, next_to_enter, next_to_handle, oldest_unhandled}
 use Rattle.mega_rules.specs.Operations.{Node, Now, Operation, Phase, Promised, Proposes, Reads, Replies, Results, Setting}
 use Rattle.mega_rules.specs.Finding.{local_found}
-use Rattle.mega_index.specs.Fitted.{table_of}
+use Rattle.mega_replica.specs.of_index.Fitted.{table_of}
 use Rattle.mega_handler.specs.Effects.{handle_entry, handled}
 use Rattle.mega_handler.specs.Named.{effect_by, has, meaning}
 use Rattle.mega_schema.specs.declared.schema.Schema.{Schema}

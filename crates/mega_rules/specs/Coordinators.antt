@@ -3,9 +3,9 @@ use Rattle.std.specs.Prelude.{ℕ, ◌+◌, ◌-◌, ◌&&◌, Bool, false, if�
 use Rattle.mega_base.specs.declared.names.Epoch.{Epoch}
 use Rattle.mega_base.specs.declared.names.GroupId.{GroupId}
 use Rattle.mega_cluster.specs.declared.cluster.Cluster.{Cluster}
-use Rattle.mega_wire.specs.declared.message.Message.{Message}
-use Rattle.mega_wire.specs.declared.message.Body.{Body}
-use Rattle.mega_wire.specs.declared.message.Body.TheVariants.{Acquire, Granted, Invalidate, Past}
+use Rattle.mega_read.specs.of_wire.declared.message.Message.{Message}
+use Rattle.mega_read.specs.of_wire.declared.message.Body.{Body}
+use Rattle.mega_read.specs.of_wire.declared.message.Body.TheVariants.{Acquire, Granted, Invalidate, Past}
 use Rattle.mega_coordinator.specs.declared.answers.Counted.{Counted}
 use Rattle.mega_coordinator.specs.declared.answers.Counted.TheVariants.{No, Yes, Serving}
 use Rattle.mega_coordinator.specs.declared.answers.NotValid.{NotValid}

@@ -3,10 +3,10 @@ use Rattle.std.specs.Prelude.{ℕ, ◌-◌, ◌==◌, ◌&&◌, if◌then◌else
 use Rattle.mega_base.specs.declared.names.GroupId.{GroupId}
 use Rattle.mega_schema.specs.declared.schema.Index.{Index}
 use Rattle.mega_schema.specs.declared.schema.Schema.{Schema}
-use Rattle.mega_index.specs.declared.found.Found.{Found}
-use Rattle.mega_index.specs.Finding.{found_in}
-use Rattle.mega_index.specs.Fits.{numbered}
-use Rattle.mega_index.specs.Rows.{Listed, list_after}
+use Rattle.mega_replica.specs.of_index.declared.found.Found.{Found}
+use Rattle.mega_replica.specs.of_index.Finding.{found_in}
+use Rattle.mega_replica.specs.of_index.Fits.{numbered}
+use Rattle.mega_replica.specs.of_index.Rows.{Listed, list_after}
 use Rattle.mega_outcome.specs.declared.answer.Answer.{Answer}
 use Rattle.mega_outcome.specs.declared.answer.Answer.TheVariants.{Found as FoundAnswer, Refreshed, Turned}
 use Rattle.mega_outcome.specs.declared.answer.Mark.{Mark}

@@ -12,3 +12,4 @@ pub mod Finding
 pub mod Acting
 pub mod Steps
 pub mod Examples
+pub use Rattle.mega_replica.specs as of_replica

@@ -4,14 +4,14 @@ use Rattle.mega_base.specs.declared.names.Epoch.{Epoch}
 use Rattle.mega_base.specs.declared.names.NodeId.{NodeId}
 use Rattle.mega_base.specs.declared.names.OpId.{OpId}
 use Rattle.mega_cluster.specs.declared.cluster.Cluster.{Cluster}
-use Rattle.mega_wire.specs.declared.message.Message.{Message}
-use Rattle.mega_wire.specs.declared.message.Body.{Body}
-use Rattle.mega_wire.specs.declared.message.Body.TheVariants.{Acquire, Dead, Granted as GrantedBody, Held, Past, Unheld}
+use Rattle.mega_read.specs.of_wire.declared.message.Message.{Message}
+use Rattle.mega_read.specs.of_wire.declared.message.Body.{Body}
+use Rattle.mega_read.specs.of_wire.declared.message.Body.TheVariants.{Acquire, Dead, Granted as GrantedBody, Held, Past, Unheld}
 use Rattle.mega_locks.specs.declared.asked.Asked.{Asked}
 use Rattle.mega_locks.specs.declared.asked.Asked.TheVariants.{Granted, Renewed, Taken, Over}
 use Rattle.mega_locks.specs.History.{Call, Reopens, Asks, Ticks as CellTicks, held_for, lapse_for, lock_of, nodes}
 use Rattle.mega_locks.specs.Rule.{answer}
-use Rattle.mega_wal.specs.History.{after_grant, after_lapse}
+use Rattle.mega_replica.specs.of_wal.History.{after_grant, after_lapse}
 use Rattle.mega_rules.specs.Met.{Met, Starts, Ticks, Takes, Grants, Lapses}
 use Rattle.mega_rules.specs.Clock.{clock_of, is_opening}
 use Rattle.mega_rules.specs.Members.{is_cell, keep_of}

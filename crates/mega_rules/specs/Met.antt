@@ -4,7 +4,7 @@ use Rattle.mega_base.specs.declared.names.Epoch.{Epoch}
 use Rattle.mega_base.specs.declared.names.GroupId.{GroupId}
 use Rattle.mega_base.specs.declared.names.OpId.{OpId}
 use Rattle.mega_entry.specs.declared.content.Content.{Content}
-use Rattle.mega_wire.specs.declared.message.Message.{Message}
+use Rattle.mega_read.specs.of_wire.declared.message.Message.{Message}
 use Rattle.mega_outcome.specs.declared.answer.Answer.{Answer}
 
 pub data Met : Type 0 where

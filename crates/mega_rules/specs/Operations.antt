@@ -4,12 +4,12 @@ use Rattle.mega_base.specs.declared.names.GroupId.{GroupId}
 use Rattle.mega_base.specs.declared.names.OpId.{OpId}
 use Rattle.mega_cluster.specs.declared.cluster.Cluster.{Cluster}
 use Rattle.mega_entry.specs.declared.content.Enter.{Enter}
-use Rattle.mega_wire.specs.declared.message.Message.{Message}
+use Rattle.mega_read.specs.of_wire.declared.message.Message.{Message}
 use Rattle.mega_handler.specs.Named.{Meanings}
 use Rattle.mega_outcome.specs.declared.answer.Shown.{Shown}
 use Rattle.mega_outcome.specs.declared.answer.Turn.{Turn}
 use Rattle.mega_outcome.specs.declared.request.Request.{Request}
-use Rattle.mega_propose.specs.declared.round.Proposal.{Proposal}
+use Rattle.mega_read.specs.of_propose.declared.round.Proposal.{Proposal}
 use Rattle.mega_read.specs.declared.reading.Reading.{Reading}
 use Rattle.mega_rules.specs.Met.{Met}
 

@@ -8,7 +8,7 @@ use Rattle.mega_entry.specs.declared.content.Enter.{Enter}
 use Rattle.mega_entry.specs.declared.content.Name.{Name}
 use Rattle.mega_entry.specs.declared.content.Send.{Send}
 use Rattle.mega_entry.specs.Entries.{entry_text}
-use Rattle.mega_wal.specs.Same.{same_group, same_name}
+use Rattle.mega_replica.specs.of_wal.Same.{same_group, same_name}
 
 -- a message on its way: to whom it was sent, and what its receiver enters
 pub record Posted : Type 0 where

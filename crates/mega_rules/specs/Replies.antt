@@ -5,9 +5,9 @@ use Rattle.mega_base.specs.declared.names.OpId.{OpId}
 use Rattle.mega_base.specs.declared.names.Position.{Position}
 use Rattle.mega_cluster.specs.declared.cluster.Cluster.{Cluster}
 use Rattle.mega_entry.specs.declared.content.Content.{Content}
-use Rattle.mega_wire.specs.declared.message.Message.{Message}
-use Rattle.mega_wire.specs.declared.message.Body.{Body}
-use Rattle.mega_wire.specs.declared.message.Body.TheVariants.{Where, Top, Accept, Accepted, Refused, Prepare, Promise, Invalidate, Invalidated, Dead, Held, Unheld, Decide, Fetch, Have, HaveNot, Acquire, Granted, Past, Request, Reply}
+use Rattle.mega_read.specs.of_wire.declared.message.Message.{Message}
+use Rattle.mega_read.specs.of_wire.declared.message.Body.{Body}
+use Rattle.mega_read.specs.of_wire.declared.message.Body.TheVariants.{Where, Top, Accept, Accepted, Refused, Prepare, Promise, Invalidate, Invalidated, Dead, Held, Unheld, Decide, Fetch, Have, HaveNot, Acquire, Granted, Past, Request, Reply}
 use Rattle.mega_rules.specs.Met.{Met}
 use Rattle.mega_rules.specs.Members.{is_cell, is_full, is_voter}
 use Rattle.mega_rules.specs.Voting.{acts, prepared, voted}

@@ -6,9 +6,9 @@ use Rattle.mega_base.specs.declared.values.NodeKind.{NodeKind}
 use Rattle.mega_base.specs.declared.values.NodeKind.TheVariants.{Full, Witness, Read as ReadOnly}
 use Rattle.mega_cluster.specs.declared.cluster.Cluster.{Cluster}
 use Rattle.mega_entry.specs.declared.content.Content.{Content}
-use Rattle.mega_wire.specs.declared.message.Message.{Message}
-use Rattle.mega_wire.specs.declared.message.Body.{Body}
-use Rattle.mega_wire.specs.declared.message.Body.TheVariants.{Acquire, Decide, Fetch, Granted, Have, Invalidate}
+use Rattle.mega_read.specs.of_wire.declared.message.Message.{Message}
+use Rattle.mega_read.specs.of_wire.declared.message.Body.{Body}
+use Rattle.mega_read.specs.of_wire.declared.message.Body.TheVariants.{Acquire, Decide, Fetch, Granted, Have, Invalidate}
 use Rattle.mega_outcome.specs.declared.answer.Answer.{Answer}
 use Rattle.mega_outcome.specs.declared.answer.Answer.TheVariants.{Busy, NotHere, Refreshed, TimedOut, Unknown, Worn}
 use Rattle.mega_outcome.specs.declared.request.Mode.{Mode}
@@ -17,12 +17,12 @@ use Rattle.mega_outcome.specs.declared.request.Request.{Request}
 use Rattle.mega_outcome.specs.declared.request.Request.TheVariants.{Txn, Batch, Read, Find, PumpEnter, PumpHandle, Refresh}
 use Rattle.mega_outcome.specs.declared.request.ReadRequest.{ReadRequest}
 use Rattle.mega_outcome.specs.declared.request.FindRequest.{FindRequest}
-use Rattle.mega_index.specs.Rows.{Listed, Rows, list_written, no_rows, written}
-use Rattle.mega_wal.specs.Same.{same_group}
-use Rattle.mega_propose.specs.Members.{others}
-use Rattle.mega_propose.specs.declared.round.Proposal.{Proposal}
-use Rattle.mega_propose.specs.declared.round.Move.{Move as RoundMove}
-use Rattle.mega_propose.specs.Rounds.{due, settled, takes}
+use Rattle.mega_replica.specs.of_index.Rows.{Listed, Rows, list_written, no_rows, written}
+use Rattle.mega_replica.specs.of_wal.Same.{same_group}
+use Rattle.mega_read.specs.of_propose.Members.{others}
+use Rattle.mega_read.specs.of_propose.declared.round.Proposal.{Proposal}
+use Rattle.mega_read.specs.of_propose.declared.round.Move.{Move as RoundMove}
+use Rattle.mega_read.specs.of_propose.Rounds.{due, settled, takes}
 use Rattle.mega_read.specs.declared.reading.Reading.{Reading}
 use Rattle.mega_read.specs.declared.reading.Move.{Move as ReadMove}
 use Rattle.mega_read.specs.Catching.{first_reading, hears, falls_due, read_settled, site}

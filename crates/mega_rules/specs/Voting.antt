@@ -6,15 +6,15 @@ use Rattle.mega_base.specs.declared.names.Position.{Position}
 use Rattle.mega_ballot.specs.declared.ballot.Ballot.{Ballot}
 use Rattle.mega_ballot.specs.Order.{zero_ballot}
 use Rattle.mega_entry.specs.declared.content.Content.{Content}
-use Rattle.mega_wire.specs.declared.message.Message.{Message}
-use Rattle.mega_wire.specs.declared.message.Body.{Body}
-use Rattle.mega_wire.specs.declared.message.Body.TheVariants.{Accepted, Promise, Refused}
-use Rattle.mega_wal.specs.Same.{same_group}
-use Rattle.mega_wal.specs.declared.answers.Promised.{Promised as PromiseAnswer}
-use Rattle.mega_wal.specs.declared.answers.Promised.TheVariants as promise
-use Rattle.mega_wal.specs.declared.answers.Voted.{Voted as AcceptAnswer}
-use Rattle.mega_wal.specs.declared.answers.Voted.TheVariants as vote
-use Rattle.mega_wal.specs.Acceptor.{Act, Promised, Voted, accept_answer, promise_answer}
+use Rattle.mega_read.specs.of_wire.declared.message.Message.{Message}
+use Rattle.mega_read.specs.of_wire.declared.message.Body.{Body}
+use Rattle.mega_read.specs.of_wire.declared.message.Body.TheVariants.{Accepted, Promise, Refused}
+use Rattle.mega_replica.specs.of_wal.Same.{same_group}
+use Rattle.mega_replica.specs.of_wal.declared.answers.Promised.{Promised as PromiseAnswer}
+use Rattle.mega_replica.specs.of_wal.declared.answers.Promised.TheVariants as promise
+use Rattle.mega_replica.specs.of_wal.declared.answers.Voted.{Voted as AcceptAnswer}
+use Rattle.mega_replica.specs.of_wal.declared.answers.Voted.TheVariants as vote
+use Rattle.mega_replica.specs.of_wal.Acceptor.{Act, Promised, Voted, accept_answer, promise_answer}
 use Rattle.mega_rules.specs.Met.{Met, Sends, Unsends}
 
 -- a node made a message where it sent it, or where it is shown as unsent: its record was kept, and a crash came before the sending

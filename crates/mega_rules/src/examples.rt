@@ -1,7 +1,7 @@
 //! Worked examples: what the definitions give where one can say it beforehand, as contracts of functions that do nothing.
 
 ghost use Rattle.std.specs.Prelude.{◌≡◌, [], ◌∷◌, ◌++◌, map, codes};
-ghost use Rattle.mega_wire.specs.declared.message.Body.TheVariants.{Where};
+ghost use Rattle.mega_read.specs.of_wire.declared.message.Body.TheVariants.{Where};
 ghost use Rattle.mega_ballot.specs.Order.{zero_ballot};
 ghost use Rattle.mega_rules.specs.Steps.{Begin, Take};
 ghost use Rattle.mega_rules.specs.Examples.{accept_for, accepted_from, cluster, entry_of, fresh, from_to, group, last_step, op_of, put, top_from};

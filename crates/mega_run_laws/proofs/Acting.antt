@@ -13,8 +13,8 @@ use Rattle.mega_wire.specs.declared.message.Message.{Message}
 use Rattle.mega_handler.specs.Named.{has}
 use Rattle.mega_transcript.specs.declared.item.Item.{Item}
 use Rattle.mega_transcript.specs.declared.item.Item.TheVariants.{Decide}
-use Rattle.mega_promises.specs.Items.{number}
-use Rattle.mega_promises.specs.Promises.{Stands, asked_for, handled_by}
+use Rattle.mega_tape_laws.specs.of_promises.Items.{number}
+use Rattle.mega_tape_laws.specs.of_promises.Promises.{Stands, asked_for, handled_by}
 use Rattle.mega_outcome.specs.declared.transaction.Transaction.{Transaction}
 use Rattle.mega_ballot.specs.Order.{zero_ballot}
 use Rattle.mega_outcome.specs.declared.answer.Answer.{Answer}
@@ -33,21 +33,21 @@ use Rattle.mega_read.specs.declared.reading.Stage.{Stage}
 use Rattle.mega_read.specs.declared.reading.Search.TheVariants.{Fetching, Filling}
 use Rattle.mega_read.specs.declared.reading.Stage.TheVariants.{Polling, Catching}
 use Rattle.mega_read.specs.Catching.{asked_by, local_read, polled_read, seeks}
-use Rattle.mega_rules.specs.Met.{Met, Validates}
-use Rattle.mega_rules.specs.Members.{voters}
-use Rattle.mega_rules.specs.Clock.{clock_of}
-use Rattle.mega_rules.specs.Logs.{decided, groups_of, log_of, prefix_of, top_of}
-use Rattle.mega_rules.specs.Coordinators.{refused_at, serves_at, valid_at}
-use Rattle.mega_rules.specs.Queues.{Posted, enter_entry, is_named, names_entered, next_to_enter, next_to_handle, oldest_unhandled}
+use Rattle.mega_tape_laws.specs.of_rules.Met.{Met, Validates}
+use Rattle.mega_tape_laws.specs.of_rules.Members.{voters}
+use Rattle.mega_tape_laws.specs.of_rules.Clock.{clock_of}
+use Rattle.mega_tape_laws.specs.of_rules.Logs.{decided, groups_of, log_of, prefix_of, top_of}
+use Rattle.mega_tape_laws.specs.of_rules.Coordinators.{refused_at, serves_at, valid_at}
+use Rattle.mega_tape_laws.specs.of_rules.Queues.{Posted, enter_entry, is_named, names_entered, next_to_enter, next_to_handle, oldest_unhandled}
 use Rattle.mega_index.specs.Rows.{Listed}
-use Rattle.mega_rules.specs.Operations.{Now, Operation, Phase, Promised, Proposes, Reads, Replies, Results, Setting}
-use Rattle.mega_rules.specs.Acting.{acts, acts_within, applied_logs, batch_sealed, begins_read, completes_read, ends, enters, finishes, goes_on, handles, handling, in_phase, is_taken, is_visited, keeps, leader_after, listed_at, named_leader, picks_group, picks_message, picks_to_enter, picks_to_handle, proposes, proposes_by, proposes_there, read_begun, reads_on, rows_at, sealed, seeks_on, sends_more, table_rows, unless_decided, unless_full, validated_by, validates, visiting}
+use Rattle.mega_tape_laws.specs.of_rules.Operations.{Now, Operation, Phase, Promised, Proposes, Reads, Replies, Results, Setting}
+use Rattle.mega_tape_laws.specs.of_rules.Acting.{acts, acts_within, applied_logs, batch_sealed, begins_read, completes_read, ends, enters, finishes, goes_on, handles, handling, in_phase, is_taken, is_visited, keeps, leader_after, listed_at, named_leader, picks_group, picks_message, picks_to_enter, picks_to_handle, proposes, proposes_by, proposes_there, read_begun, reads_on, rows_at, sealed, seeks_on, sends_more, table_rows, unless_decided, unless_full, validated_by, validates, visiting}
 use Rattle.mega_tape_laws.specs.Places.{In, Place, Proposes as ProposesMove, moves}
 use Rattle.mega_tape_laws.specs.Writes.{AreWritten, OwnEntry, Own, Usage, enters as enters_one, handles as handles_one, own as own_one, runs, runs_all, Knows}
 use Rattle.mega_run_laws.specs.Usages.{Brought}
 use Rattle.mega_run_laws.proofs.Owned.{Began, Owned, Context, KnowsAll, Serves, Users, Waits, began_asked, began_on, front_length, knows_front, serves_on}
 use Rattle.mega_run_laws.proofs.Picked.{next_waits}
-use Rattle.mega_rules.specs.Finding.{group_bytes, group_marks}
+use Rattle.mega_tape_laws.specs.of_rules.Finding.{group_bytes, group_marks}
 use Rattle.mega_index.specs.Fits.{numbered}
 use Rattle.mega_tape_laws.specs.Answers.{HasCause, KnowsBelow, of_write}
 use Rattle.mega_run_laws.proofs.Causes.{Keeps, keeps_to}

@@ -10,11 +10,11 @@ use Rattle.mega_wal.specs.Same.{same_op}
 use Rattle.mega_wal.proofs.Sames.{same_op_equal}
 use Rattle.mega_transcript.specs.declared.item.Item.{Item}
 use Rattle.mega_transcript.specs.declared.item.Item.TheVariants.{Answer as AnswerItem, Sent}
-use Rattle.mega_promises.specs.Items.{shown}
-use Rattle.mega_promises.specs.Promises.{is_negative}
-use Rattle.mega_promises.specs.Runs.{with_items}
-use Rattle.mega_rules.specs.Met.{Answers, Met}
-use Rattle.mega_rules.specs.Operations.{Node}
+use Rattle.mega_tape_laws.specs.of_promises.Items.{shown}
+use Rattle.mega_tape_laws.specs.of_promises.Promises.{is_negative}
+use Rattle.mega_tape_laws.specs.of_promises.Runs.{with_items}
+use Rattle.mega_tape_laws.specs.of_rules.Met.{Answers, Met}
+use Rattle.mega_tape_laws.specs.of_rules.Operations.{Node}
 use Rattle.mega_tape_laws.specs.Places.{In, Move, Place, Proposes, move_in, moves}
 use Rattle.mega_tape_laws.specs.Answers.{AreAnswered, IsDoomed, MaySpeak, has_failed}
 use Rattle.mega_tape_laws.specs.Writes.{Usage}

@@ -20,17 +20,17 @@ use Rattle.mega_read.specs.Catching.{falls_due, hears}
 use Rattle.mega_ballot.specs.Order.{zero_ballot}
 use Rattle.mega_cluster.specs.declared.cluster.Cluster.{Cluster}
 use Rattle.mega_coordinator.specs.declared.answers.NotValid.{NotValid}
-use Rattle.mega_rules.specs.Met.{Answers, Met, Validates}
-use Rattle.mega_rules.specs.Operations.{Now, Operation, Phase, Proposes, Reads, Setting}
-use Rattle.mega_rules.specs.Acting.{ends, goes_on, sends_more, validated_by}
-use Rattle.mega_rules.specs.Steps.{Heard, acts_in_turn, all_act, begins, does_due, find_begins, hears_message, is_out, last_answer, local_find_begins, read_begins, ticked, unless_refused, applied_position, is_current, snapshot_listed, stored_listed}
+use Rattle.mega_tape_laws.specs.of_rules.Met.{Answers, Met, Validates}
+use Rattle.mega_tape_laws.specs.of_rules.Operations.{Now, Operation, Phase, Proposes, Reads, Setting}
+use Rattle.mega_tape_laws.specs.of_rules.Acting.{ends, goes_on, sends_more, validated_by}
+use Rattle.mega_tape_laws.specs.of_rules.Steps.{Heard, acts_in_turn, all_act, begins, does_due, find_begins, hears_message, is_out, last_answer, local_find_begins, read_begins, ticked, unless_refused, applied_position, is_current, snapshot_listed, stored_listed}
 use Rattle.mega_tape_laws.specs.Places.{In, Place, Proposes as ProposesMove, Took, moves}
 use Rattle.mega_tape_laws.specs.Writes.{AreWritten, Usage, again}
 use Rattle.mega_run_laws.specs.Usages.{Brought}
 use Rattle.mega_run_laws.proofs.Owned.{Began, Users, began_on, serves_on, began_asked}
-use Rattle.mega_rules.specs.Finding.{group_bytes, group_marks, refreshed_marks, rows_through}
+use Rattle.mega_tape_laws.specs.of_rules.Finding.{group_bytes, group_marks, refreshed_marks, rows_through}
 use Rattle.mega_index.specs.Fits.{numbered}
-use Rattle.mega_promises.specs.Promises.{asked_for}
+use Rattle.mega_tape_laws.specs.of_promises.Promises.{asked_for}
 use Rattle.mega_entry.specs.declared.content.Content.{Content}
 use Rattle.mega_tape_laws.specs.Answers.{has_failed}
 use Rattle.mega_run_laws.proofs.Causes.{Given, IsGiven, keeps_to}

@@ -19,10 +19,10 @@ use Rattle.mega_outcome.specs.declared.transaction.Transaction.{Transaction}
 use Rattle.mega_outcome.specs.Outcome.{batch_outcome, outcome}
 use Rattle.mega_transcript.specs.declared.item.Item.{Item}
 use Rattle.mega_transcript.specs.declared.item.Item.TheVariants.{Decide, Sent}
-use Rattle.mega_promises.specs.Items.{number}
-use Rattle.mega_promises.specs.Promises.{Stands, asked_for, is_negative}
-use Rattle.mega_rules.specs.Met.{Met, Answers}
-use Rattle.mega_rules.specs.Operations.{Promised, Replies, Results}
+use Rattle.mega_tape_laws.specs.of_promises.Items.{number}
+use Rattle.mega_tape_laws.specs.of_promises.Promises.{Stands, asked_for, is_negative}
+use Rattle.mega_tape_laws.specs.of_rules.Met.{Met, Answers}
+use Rattle.mega_tape_laws.specs.of_rules.Operations.{Promised, Replies, Results}
 use Rattle.mega_tape_laws.specs.Places.{Place}
 use Rattle.mega_tape_laws.specs.Answers.{HasCause, IsDoomed, KnowsBelow, Lost, MayCommitAll, MayTurn, Replied, of_pump, of_read, of_transaction, of_write}
 use Rattle.mega_tape_laws.specs.Writes.{IsNamed, Knows, Usage}

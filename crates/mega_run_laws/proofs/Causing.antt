@@ -23,11 +23,11 @@ use Rattle.mega_wal.specs.Same.{same_op, same_option}
 use Rattle.mega_wal.proofs.Sames.{same_op_equal, same_op_self}
 use Rattle.mega_transcript.specs.declared.item.Item.{Item}
 use Rattle.mega_transcript.specs.declared.item.Item.TheVariants.{Decide}
-use Rattle.mega_promises.specs.Promises.{Stands, asked_for, rows_shown}
-use Rattle.mega_rules.specs.Acting.{committed, read_answer, rows_answer, verdict}
-use Rattle.mega_rules.specs.Finding.{find_answer, find_by}
-use Rattle.mega_rules.specs.Operations.{Promised, Replies, Results, Setting}
-use Rattle.mega_rules.specs.Steps.{is_current}
+use Rattle.mega_tape_laws.specs.of_promises.Promises.{Stands, asked_for, rows_shown}
+use Rattle.mega_tape_laws.specs.of_rules.Acting.{committed, read_answer, rows_answer, verdict}
+use Rattle.mega_tape_laws.specs.of_rules.Finding.{find_answer, find_by}
+use Rattle.mega_tape_laws.specs.of_rules.Operations.{Promised, Replies, Results, Setting}
+use Rattle.mega_tape_laws.specs.of_rules.Steps.{is_current}
 use Rattle.mega_tape_laws.specs.Places.{In, Proposes, moves}
 use Rattle.mega_tape_laws.specs.Answers.{HasCause, Lost, ShowsFront, of_read}
 use Rattle.mega_tape_laws.specs.Writes.{AreWritten, IsNamed, Knows, Usage}

@@ -12,7 +12,7 @@ use Rattle.mega_transcript.specs.declared.item.Item.{Item}
 use Rattle.mega_propose.specs.Members.{has, is_majority, with_node}
 use Rattle.mega_propose.specs.declared.round.Report.{Report}
 use Rattle.mega_propose.specs.Rounds.{greater_vote, greatest_vote, picked}
-use Rattle.mega_rules.specs.Members.{voters}
+use Rattle.mega_tape_laws.specs.of_rules.Members.{voters}
 use Rattle.mega_tape_laws.specs.Places.{Place, count}
 use Rattle.mega_tape_laws.specs.Lawful.{Carries, Heard, greatest, own}
 use Rattle.mega_tape_laws.proofs.Ballots.{at_most_at_most, at_most_self, below_not, number_is, number_self}

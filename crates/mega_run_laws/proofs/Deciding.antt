@@ -12,7 +12,7 @@ use Rattle.mega_wire.specs.declared.message.Body.{Body}
 use Rattle.mega_wire.specs.declared.message.Body.TheVariants.{Accepted, Decide, Have}
 use Rattle.mega_transcript.specs.declared.item.Item.{Item}
 use Rattle.mega_transcript.specs.declared.item.Item.TheVariants.{Sent, Taken}
-use Rattle.mega_promises.specs.Promises.{Stands}
+use Rattle.mega_tape_laws.specs.of_promises.Promises.{Stands}
 use Rattle.mega_propose.specs.declared.round.Proposal.{Proposal}
 use Rattle.mega_propose.specs.Rounds.{settled as settled_in}
 use Rattle.mega_read.specs.declared.reading.Reading.{Reading}
@@ -20,10 +20,10 @@ use Rattle.mega_read.specs.declared.reading.Stage.{Stage}
 use Rattle.mega_read.specs.declared.reading.Search.TheVariants.{Fetching, Filling}
 use Rattle.mega_read.specs.declared.reading.Stage.TheVariants.{Polling, Catching}
 use Rattle.mega_read.specs.Catching.{read_settled, settled_there}
-use Rattle.mega_rules.specs.Met.{Met}
-use Rattle.mega_rules.specs.Logs.{decided}
-use Rattle.mega_rules.specs.Operations.{Operation, Phase, Proposes, Reads, Setting}
-use Rattle.mega_rules.specs.Steps.{Decision, decision_at, decision_note, first_settled, hears_message, if_new, read_decision, settled_by, told_decision}
+use Rattle.mega_tape_laws.specs.of_rules.Met.{Met}
+use Rattle.mega_tape_laws.specs.of_rules.Logs.{decided}
+use Rattle.mega_tape_laws.specs.of_rules.Operations.{Operation, Phase, Proposes, Reads, Setting}
+use Rattle.mega_tape_laws.specs.of_rules.Steps.{Decision, decision_at, decision_note, first_settled, hears_message, if_new, read_decision, settled_by, told_decision}
 use Rattle.mega_tape_laws.specs.Places.{Place, Took}
 use Rattle.mega_run_laws.proofs.Owned.{Users}
 use Rattle.mega_tape_laws.specs.Lawful.{MayDecide, given, message, settled, told}

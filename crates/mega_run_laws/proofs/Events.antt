@@ -15,18 +15,18 @@ use Rattle.mega_wire.specs.declared.message.Body.{Body}
 use Rattle.mega_wire.specs.declared.message.Body.TheVariants.{Accept, Accepted, Promise, Acquire, Granted, Invalidate, Top}
 use Rattle.mega_transcript.specs.declared.item.Item.{Item}
 use Rattle.mega_transcript.specs.declared.item.Item.TheVariants.{Decide}
-use Rattle.mega_rules.specs.Met.{Met, Sends, Grants, Lapses, Counts, Forgets, Serves, Loses, Validates, Invalidates, Applies, Answers}
-use Rattle.mega_rules.specs.Coordinators.{coordinator_calls, counts_notes, is_cell_in, tick_told, forget_notes, grant_notes, lost_note, tick_notes}
-use Rattle.mega_rules.specs.Locks.{asked_for, cell_calls, grant_note, lapse_note, lapses_at}
+use Rattle.mega_tape_laws.specs.of_rules.Met.{Met, Sends, Grants, Lapses, Counts, Forgets, Serves, Loses, Validates, Invalidates, Applies, Answers}
+use Rattle.mega_tape_laws.specs.of_rules.Coordinators.{coordinator_calls, counts_notes, is_cell_in, tick_told, forget_notes, grant_notes, lost_note, tick_notes}
+use Rattle.mega_tape_laws.specs.of_rules.Locks.{asked_for, cell_calls, grant_note, lapse_note, lapses_at}
 use Rattle.mega_locks.specs.History.{lapse_for, nodes as lock_nodes}
 use Rattle.mega_coordinator.specs.Lease.{counted_by, granted_answer}
 use Rattle.mega_coordinator.specs.History.{epoch_after, lease_of}
-use Rattle.mega_rules.specs.Clock.{clock_of, start_of}
-use Rattle.mega_rules.specs.Members.{cells, has_rows, is_full, keep_of}
-use Rattle.mega_rules.specs.Logs.{decided, groups_of}
-use Rattle.mega_rules.specs.Operations.{Node, Now, Operation, Setting}
-use Rattle.mega_rules.specs.Acting.{validated_by}
-use Rattle.mega_rules.specs.Steps.{applied_at, apply_note, apply_notes, lapse_notes, lease_notes, onto, told_notes}
+use Rattle.mega_tape_laws.specs.of_rules.Clock.{clock_of, start_of}
+use Rattle.mega_tape_laws.specs.of_rules.Members.{cells, has_rows, is_full, keep_of}
+use Rattle.mega_tape_laws.specs.of_rules.Logs.{decided, groups_of}
+use Rattle.mega_tape_laws.specs.of_rules.Operations.{Node, Now, Operation, Setting}
+use Rattle.mega_tape_laws.specs.of_rules.Acting.{validated_by}
+use Rattle.mega_tape_laws.specs.of_rules.Steps.{applied_at, apply_note, apply_notes, lapse_notes, lease_notes, onto, told_notes}
 use Rattle.mega_tape_laws.specs.Places.{In, Move, Place, moves}
 use Rattle.mega_run_laws.proofs.Owned.{NoAccept, Users, quiet_written}
 use Rattle.mega_tape_laws.specs.Lawful.{Lawful}
@@ -45,9 +45,9 @@ use Rattle.mega_run_laws.proofs.Silent.{IsSilent, answers_apart, answers_asked, 
 use Rattle.mega_run_laws.proofs.Written.{moved_on}
 use Rattle.mega_tape_laws.proofs.Ballots.{clash}
 use Rattle.mega_tape_laws.specs.Answers.{AreAnswered, IsDoomed, has_failed}
-use Rattle.mega_promises.specs.Items.{shown}
-use Rattle.mega_promises.specs.Promises.{Stands, asked_for as asked_item}
-use Rattle.mega_promises.specs.Runs.{with_items}
+use Rattle.mega_tape_laws.specs.of_promises.Items.{shown}
+use Rattle.mega_tape_laws.specs.of_promises.Promises.{Stands, asked_for as asked_item}
+use Rattle.mega_tape_laws.specs.of_promises.Runs.{with_items}
 use Rattle.mega_run_laws.proofs.Noting.{Lasts}
 use Rattle.mega_run_laws.proofs.Noted.{Note}
 use Rattle.mega_run_laws.proofs.Beginning.{AllActed}

@@ -1,6 +1,6 @@
 -- What becomes of a step or a start is what may become of it.
 use Rattle.std.proofs.Common.{◌≡◌, ℕ, ◌&&◌, ◌||◌, cond, not, Bool, true, false, Option, Some, None, refl, ap, ◌∙◌}
-use Rattle.mega_promises.specs.Runs.{AsItWas, Calls, CutByData, CutByLog, Fate, Fuse, MayBecome, Standing, Whole, fate_of, is_burning, may_become}
+use Rattle.mega_tape_laws.specs.of_promises.Runs.{AsItWas, Calls, CutByData, CutByLog, Fate, Fuse, MayBecome, Standing, Whole, fate_of, is_burning, may_become}
 
 first_true : (a b : Bool) → (a && b) ≡ true → a ≡ true
 first_true true b h = refl

@@ -31,3 +31,4 @@ pub mod Steps
 pub mod Runs
 pub mod Fates
 pub mod Indexing
+pub use Rattle.mega_tape_laws.proofs as of_tape_laws

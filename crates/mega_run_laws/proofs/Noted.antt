@@ -10,16 +10,16 @@ use Rattle.mega_wal.specs.Same.{same_group}
 use Rattle.mega_wal.proofs.Sames.{same_group_equal}
 use Rattle.mega_transcript.specs.declared.item.Item.{Item}
 use Rattle.mega_transcript.specs.declared.item.Item.TheVariants.{Sent, Unsafe, Decide, Grant, Lapse, Counts as CountsItem, Forgets as ForgetsItem, Serving, Lost, Valid, Invalid, Apply, Answer as AnswerItem}
-use Rattle.mega_promises.specs.Items.{number, numbered, shown}
-use Rattle.mega_promises.specs.Messages.{is_unsafe}
-use Rattle.mega_promises.specs.Promises.{Stands}
-use Rattle.mega_promises.specs.Runs.{breaks, with_item, with_items}
-use Rattle.mega_rules.specs.Met.{Met, Starts, Crashes, Ticks, Begins, Takes, Sends, Unsends, Grants, Lapses, Counts, Forgets, Serves, Loses, Validates, Invalidates, Decides, Applies, Answers}
-use Rattle.mega_rules.specs.Clock.{begun_of, start_of}
-use Rattle.mega_rules.specs.Logs.{decided, first_of}
-use Rattle.mega_rules.specs.Operations.{Node}
-use Rattle.mega_rules.specs.Steps.{onto}
-use Rattle.mega_rules.specs.Voting.{acts as acts_met}
+use Rattle.mega_tape_laws.specs.of_promises.Items.{number, numbered, shown}
+use Rattle.mega_tape_laws.specs.of_promises.Messages.{is_unsafe}
+use Rattle.mega_tape_laws.specs.of_promises.Promises.{Stands}
+use Rattle.mega_tape_laws.specs.of_promises.Runs.{breaks, with_item, with_items}
+use Rattle.mega_tape_laws.specs.of_rules.Met.{Met, Starts, Crashes, Ticks, Begins, Takes, Sends, Unsends, Grants, Lapses, Counts, Forgets, Serves, Loses, Validates, Invalidates, Decides, Applies, Answers}
+use Rattle.mega_tape_laws.specs.of_rules.Clock.{begun_of, start_of}
+use Rattle.mega_tape_laws.specs.of_rules.Logs.{decided, first_of}
+use Rattle.mega_tape_laws.specs.of_rules.Operations.{Node}
+use Rattle.mega_tape_laws.specs.of_rules.Steps.{onto}
+use Rattle.mega_tape_laws.specs.of_rules.Voting.{acts as acts_met}
 use Rattle.mega_tape_laws.specs.Places.{Place, act_of, acts, move_of, moves}
 use Rattle.mega_tape_laws.specs.Lawful.{Allowed, Lawful, MayDecide, settled, told, given}
 use Rattle.mega_tape_laws.specs.Polls.{ArePolls, IsPolling, has_asked}

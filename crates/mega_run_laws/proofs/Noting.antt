@@ -24,12 +24,12 @@ use Rattle.mega_read.specs.declared.reading.Reading.{Reading}
 use Rattle.mega_read.specs.declared.reading.Stage.{Stage}
 use Rattle.mega_read.specs.declared.reading.Stage.TheVariants.{Polling, Catching}
 use Rattle.mega_read.specs.Catching.{asked_by}
-use Rattle.mega_rules.specs.Logs.{decided, groups_of, log_of, prefix_of}
-use Rattle.mega_rules.specs.Coordinators.{refused_at}
-use Rattle.mega_rules.specs.Queues.{Posted, enter_entry, is_named, names_entered, next_to_enter, next_to_handle, oldest_unhandled}
-use Rattle.mega_rules.specs.Operations.{Now, Operation, Phase, Promised, Proposes, Reads, Replies, Results, Setting}
-use Rattle.mega_rules.specs.Acting.{acts, acts_within, applied_logs, batch_sealed, begins_read, completes_read, ends, enters, finishes, goes_on, handles, is_taken, keeps, leader_after, listed_at, handling, picks_group, picks_message, proposes, proposes_by, read_begun, reads_on, rows_at, sealed, sends_more, table_rows, unless_decided, unless_full, validated_by, validates}
-use Rattle.mega_rules.specs.Steps.{acts_in_turn, all_act, Heard, begins, read_begins, local_find_begins, find_begins, ticked, is_out, does_due, unless_refused}
+use Rattle.mega_tape_laws.specs.of_rules.Logs.{decided, groups_of, log_of, prefix_of}
+use Rattle.mega_tape_laws.specs.of_rules.Coordinators.{refused_at}
+use Rattle.mega_tape_laws.specs.of_rules.Queues.{Posted, enter_entry, is_named, names_entered, next_to_enter, next_to_handle, oldest_unhandled}
+use Rattle.mega_tape_laws.specs.of_rules.Operations.{Now, Operation, Phase, Promised, Proposes, Reads, Replies, Results, Setting}
+use Rattle.mega_tape_laws.specs.of_rules.Acting.{acts, acts_within, applied_logs, batch_sealed, begins_read, completes_read, ends, enters, finishes, goes_on, handles, is_taken, keeps, leader_after, listed_at, handling, picks_group, picks_message, proposes, proposes_by, read_begun, reads_on, rows_at, sealed, sends_more, table_rows, unless_decided, unless_full, validated_by, validates}
+use Rattle.mega_tape_laws.specs.of_rules.Steps.{acts_in_turn, all_act, Heard, begins, read_begins, local_find_begins, find_begins, ticked, is_out, does_due, unless_refused}
 
 -- a fact of a node within a step that nothing which operations do can break
 pub record Lasts (P : Now → Type 0) : Type 0 where

@@ -17,9 +17,9 @@ use Rattle.mega_read.specs.declared.reading.Search.{Search}
 use Rattle.mega_read.specs.declared.reading.Stage.{Stage}
 use Rattle.mega_read.specs.declared.reading.Search.TheVariants.{Fetching, Filling}
 use Rattle.mega_read.specs.declared.reading.Stage.TheVariants.{Polling, Catching}
-use Rattle.mega_rules.specs.Met.{Met}
-use Rattle.mega_rules.specs.Logs.{prefix_of}
-use Rattle.mega_rules.specs.Operations.{Phase, Proposes, Reads}
+use Rattle.mega_tape_laws.specs.of_rules.Met.{Met}
+use Rattle.mega_tape_laws.specs.of_rules.Logs.{prefix_of}
+use Rattle.mega_tape_laws.specs.of_rules.Operations.{Phase, Proposes, Reads}
 use Rattle.mega_tape_laws.specs.Places.{Place, is_move_at, moves}
 use Rattle.mega_tape_laws.specs.Lawful.{Lawful}
 use Rattle.mega_tape_laws.proofs.Ballots.{number_is}

@@ -17,16 +17,16 @@ use Rattle.mega_outcome.specs.declared.request.Request.{Request}
 use Rattle.mega_outcome.specs.declared.request.Request.TheVariants.{Txn, Batch as BatchRequest, Read as ReadRequested, PumpEnter}
 use Rattle.mega_transcript.specs.declared.item.Item.{Item}
 use Rattle.mega_transcript.specs.declared.item.Item.TheVariants.{Begin, Decide, Sent}
-use Rattle.mega_promises.specs.Items.{number}
-use Rattle.mega_promises.specs.Promises.{Stands, asked_for}
+use Rattle.mega_tape_laws.specs.of_promises.Items.{number}
+use Rattle.mega_tape_laws.specs.of_promises.Promises.{Stands, asked_for}
 use Rattle.mega_read.specs.declared.reading.Search.{Search}
 use Rattle.mega_read.specs.declared.reading.Stage.{Stage}
 use Rattle.mega_read.specs.declared.reading.Search.TheVariants.{Fetching, Filling}
 use Rattle.mega_read.specs.declared.reading.Stage.TheVariants.{Polling, Catching}
-use Rattle.mega_rules.specs.Met.{Met}
-use Rattle.mega_rules.specs.Logs.{decided, decided_from, log_of, prefix_of, then_more}
-use Rattle.mega_rules.specs.Queues.{Posted, sent_in}
-use Rattle.mega_rules.specs.Operations.{Operation, Phase, Proposes as ProposesOn, Reads}
+use Rattle.mega_tape_laws.specs.of_rules.Met.{Met}
+use Rattle.mega_tape_laws.specs.of_rules.Logs.{decided, decided_from, log_of, prefix_of, then_more}
+use Rattle.mega_tape_laws.specs.of_rules.Queues.{Posted, sent_in}
+use Rattle.mega_tape_laws.specs.of_rules.Operations.{Operation, Phase, Proposes as ProposesOn, Reads}
 use Rattle.mega_tape_laws.specs.Places.{In, Place, Prepares, Proposes, is_move_at, move_in, moves}
 use Rattle.mega_tape_laws.specs.Lawful.{Lawful}
 use Rattle.mega_tape_laws.specs.Writes.{AreWritten, IsNamed, Knows, MaySay, MayWrite, Usage, fills, has_begun, no_op_by, own}

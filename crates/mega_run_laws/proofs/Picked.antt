@@ -7,10 +7,10 @@ use Rattle.mega_entry.specs.declared.content.Content.{Content}
 use Rattle.mega_entry.specs.declared.content.Send.{Send}
 use Rattle.mega_transcript.specs.declared.item.Item.{Item}
 use Rattle.mega_replica.specs.Applying.{applied}
-use Rattle.mega_rules.specs.Logs.{groups_of, log_of}
-use Rattle.mega_rules.specs.Queues.{Log, Posted, next_to_enter, posted, sent_from, sent_in, waits_to_enter}
-use Rattle.mega_rules.specs.Operations.{Now}
-use Rattle.mega_rules.specs.Acting.{applied_in, applied_logs}
+use Rattle.mega_tape_laws.specs.of_rules.Logs.{groups_of, log_of}
+use Rattle.mega_tape_laws.specs.of_rules.Queues.{Log, Posted, next_to_enter, posted, sent_from, sent_in, waits_to_enter}
+use Rattle.mega_tape_laws.specs.of_rules.Operations.{Now}
+use Rattle.mega_tape_laws.specs.of_rules.Acting.{applied_in, applied_logs}
 use Rattle.mega_tape_laws.specs.Places.{In}
 use Rattle.mega_tape_laws.specs.Writes.{Knows}
 use Rattle.mega_tape_laws.proofs.Lists.{some_is}

@@ -3,8 +3,8 @@ use Rattle.std.proofs.Common.{◌≡◌, ℕ, zero, suc, ◌+◌, ◌-◌, ◌==
 use Rattle.mega_base.specs.declared.names.GroupId.{GroupId}
 use Rattle.mega_entry.specs.declared.content.Content.{Content}
 use Rattle.mega_wal.specs.Same.{same_group}
-use Rattle.mega_rules.specs.Met.{Met, Decides}
-use Rattle.mega_rules.specs.Logs.{decided, decided_from, first_of, prefix_of, then_more}
+use Rattle.mega_tape_laws.specs.of_rules.Met.{Met, Decides}
+use Rattle.mega_tape_laws.specs.of_rules.Logs.{decided, decided_from, first_of, prefix_of, then_more}
 
 pub decided_more : (one : Met) (met : List Met) (g : GroupId) (n : ℕ) (e : Content) → decided met g n ≡ Some e → decided (one ∷ met) g n ≡ Some e
 decided_more (Decides group position entry) met g n e h = go (same_group group g && position == n)

@@ -22,10 +22,10 @@ use Rattle.mega_read.specs.declared.reading.Stage.{Stage}
 use Rattle.mega_read.specs.declared.reading.Search.TheVariants.{Fetching, Filling}
 use Rattle.mega_read.specs.declared.reading.Stage.TheVariants.{Polling, Catching}
 use Rattle.mega_read.specs.Catching.{asked_by, denied, falls_due, fetch_to, fetches, filled, fills, hears, helpers, local_read, move, no_op, polled_read, seeks, stays, topped, where_to}
-use Rattle.mega_rules.specs.Met.{Met}
-use Rattle.mega_rules.specs.Members.{full_nodes, voters}
-use Rattle.mega_rules.specs.Logs.{prefix_of}
-use Rattle.mega_rules.specs.Operations.{Reads}
+use Rattle.mega_tape_laws.specs.of_rules.Met.{Met}
+use Rattle.mega_tape_laws.specs.of_rules.Members.{full_nodes, voters}
+use Rattle.mega_tape_laws.specs.of_rules.Logs.{prefix_of}
+use Rattle.mega_tape_laws.specs.of_rules.Operations.{Reads}
 use Rattle.mega_tape_laws.specs.Places.{Place, Took, moves}
 use Rattle.mega_tape_laws.specs.Lawful.{Lawful, message}
 use Rattle.mega_run_laws.specs.Vouched.{Goes, here, sent}

@@ -20,12 +20,12 @@ use Rattle.mega_locks.specs.declared.asked.Asked.{Asked}
 use Rattle.mega_locks.specs.declared.asked.Asked.TheVariants.{Granted as AnswerGranted, Renewed, Taken, Over}
 use Rattle.mega_base.specs.declared.names.Epoch.{Epoch}
 use Rattle.mega_base.specs.declared.names.NodeId.{NodeId}
-use Rattle.mega_rules.specs.Met.{Met}
-use Rattle.mega_rules.specs.Logs.{decided}
-use Rattle.mega_rules.specs.Locks.{asked_for, held_answer, held_at, lock_answer}
-use Rattle.mega_rules.specs.Members.{is_cell, is_full, is_voter}
-use Rattle.mega_rules.specs.Replies.{answer_to, fetched, where_served}
-use Rattle.mega_rules.specs.Voting.{acts, prepared, promise_body, vote_body, voted}
+use Rattle.mega_tape_laws.specs.of_rules.Met.{Met}
+use Rattle.mega_tape_laws.specs.of_rules.Logs.{decided}
+use Rattle.mega_tape_laws.specs.of_rules.Locks.{asked_for, held_answer, held_at, lock_answer}
+use Rattle.mega_tape_laws.specs.of_rules.Members.{is_cell, is_full, is_voter}
+use Rattle.mega_tape_laws.specs.of_rules.Replies.{answer_to, fetched, where_served}
+use Rattle.mega_tape_laws.specs.of_rules.Voting.{acts, prepared, promise_body, vote_body, voted}
 use Rattle.mega_tape_laws.specs.Places.{Place, Took, acts as acts_on, move_in}
 use Rattle.mega_tape_laws.specs.Lawful.{MayMake, MaySend, a_prepare, an_accept, message}
 use Rattle.mega_tape_laws.proofs.Ballots.{number_is}

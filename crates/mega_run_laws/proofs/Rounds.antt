@@ -22,7 +22,7 @@ use Rattle.mega_propose.specs.declared.round.Proposal.{Proposal}
 use Rattle.mega_propose.specs.declared.round.Move.{Move as RoundMove}
 use Rattle.mega_propose.specs.declared.round.Round.TheVariants.{Asking, Preparing, Accepting, Covering, Settled, Waiting}
 use Rattle.mega_propose.specs.Rounds.{accept_to, accepted, accepts, asks, cell_numbers, completes, covers, dead_to, due, first_cover, greatest_vote, invalidate_to, invalidated, is_covered, is_due, is_here, is_sent, last_round, next_ballot, picked, prepare_to, prepares, presses, promised, proposes, refused, same_ballot, sees, settled, stays, takes, tells, uncovered, unheld, vote_round, with_accepted, with_cell, with_invalidated, with_told}
-use Rattle.mega_rules.specs.Members.{voters}
+use Rattle.mega_tape_laws.specs.of_rules.Members.{voters}
 use Rattle.mega_tape_laws.specs.Places.{Move, Place, Prepares as PreparesMove, Took, moves, newest, round_of}
 use Rattle.mega_tape_laws.specs.Lawful.{Heard, IsOwn, Leads, asks as asks_leader, message}
 use Rattle.mega_tape_laws.proofs.Ballots.{number_is}

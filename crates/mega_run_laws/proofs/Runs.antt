@@ -10,16 +10,16 @@ use Rattle.mega_schedule.specs.declared.world_event.WorldEvent.{WorldEvent}
 use Rattle.mega_schedule.specs.declared.world_event.WorldEvent.TheVariants.{Tick as TickEvent, Deliver, Drop, Drain, Crash as CrashEvent, Start as StartEvent, Fuse as FuseEvent, Begin as BeginEvent}
 use Rattle.mega_transcript.specs.declared.item.Item.{Item}
 use Rattle.mega_transcript.specs.declared.item.Item.TheVariants.{Sent, Taken, Dropped, Start, Tick as TickItem, Begin as BeginItem, Crash, Cut as CutItem}
-use Rattle.mega_promises.specs.Items.{number, shown}
-use Rattle.mega_promises.specs.Messages.{is_deliverable, is_dropped, message_of, next_delivery, receiver_up}
-use Rattle.mega_promises.specs.Runs.{Calls, CutByData, CutByLog, Cuts, Fate, Fuse, Happening, IsRun, Left, Standing, Whole, after_event, at_node, because, calls_of, crashes, cut_start, cut_step, delivered, drained, fate_by, fated, fated_start, goes_on, handed, is_durable, is_kept, log_fuse_after, marked, new_fuse, nothing_yet, opening, owes, receiver_down, records_left, refusal, set_at, setting, start_calls, started_records, unless_none, unless_refused, up, whole_start, whole_step, with_item, with_items}
+use Rattle.mega_tape_laws.specs.of_promises.Items.{number, shown}
+use Rattle.mega_tape_laws.specs.of_promises.Messages.{is_deliverable, is_dropped, message_of, next_delivery, receiver_up}
+use Rattle.mega_tape_laws.specs.of_promises.Runs.{Calls, CutByData, CutByLog, Cuts, Fate, Fuse, Happening, IsRun, Left, Standing, Whole, after_event, at_node, because, calls_of, crashes, cut_start, cut_step, delivered, drained, fate_by, fated, fated_start, goes_on, handed, is_durable, is_kept, log_fuse_after, marked, new_fuse, nothing_yet, opening, owes, receiver_down, records_left, refusal, set_at, setting, start_calls, started_records, unless_none, unless_refused, up, whole_start, whole_step, with_item, with_items}
 use Rattle.mega_transcript.specs.Tape.{is_sent, is_taken}
-use Rattle.mega_rules.specs.Met.{Met, Answers, Applies, Begins, Crashes, Starts, Takes, Ticks, Unsends}
-use Rattle.mega_rules.specs.Members.{has_rows, is_node, nodes}
-use Rattle.mega_rules.specs.Clock.{is_up, start_of}
-use Rattle.mega_rules.specs.Logs.{groups_of, prefix_of}
-use Rattle.mega_rules.specs.Operations.{Node, Setting}
-use Rattle.mega_rules.specs.Steps.{Begin, Step, Take, Tick, crashed, onto, op_of, start, start_items, start_note, start_notes, step}
+use Rattle.mega_tape_laws.specs.of_rules.Met.{Met, Answers, Applies, Begins, Crashes, Starts, Takes, Ticks, Unsends}
+use Rattle.mega_tape_laws.specs.of_rules.Members.{has_rows, is_node, nodes}
+use Rattle.mega_tape_laws.specs.of_rules.Clock.{is_up, start_of}
+use Rattle.mega_tape_laws.specs.of_rules.Logs.{groups_of, prefix_of}
+use Rattle.mega_tape_laws.specs.of_rules.Operations.{Node, Setting}
+use Rattle.mega_tape_laws.specs.of_rules.Steps.{Begin, Step, Take, Tick, crashed, onto, op_of, start, start_items, start_note, start_notes, step}
 use Rattle.mega_tape_laws.specs.Places.{Place, moves, Took, acts}
 use Rattle.mega_run_laws.proofs.Owned.{Users}
 use Rattle.mega_tape_laws.specs.Lawful.{Lawful, message}
@@ -43,11 +43,11 @@ use Rattle.mega_run_laws.proofs.Replied.{Fair, answer_fair}
 use Rattle.mega_run_laws.specs.Shows.{Shows}
 use Rattle.mega_run_laws.proofs.Turns.{Known}
 use Rattle.std.specs.List.{cons_option}
-use Rattle.mega_rules.specs.Replies.{answer_to, reply_message, reply_to}
+use Rattle.mega_tape_laws.specs.of_rules.Replies.{answer_to, reply_message, reply_to}
 use Rattle.mega_wire.specs.declared.message.Body.{Body}
-use Rattle.mega_rules.specs.Voting.{acts as acts_met}
+use Rattle.mega_tape_laws.specs.of_rules.Voting.{acts as acts_met}
 use Rattle.mega_disk.specs.declared.pair.Device.TheVariants.{Log, Data}
-use Rattle.mega_promises.specs.Promises.{Stands}
+use Rattle.mega_tape_laws.specs.of_promises.Promises.{Stands}
 
 old_moves : (users : Users) → (c : Cluster) (now : Standing) (me : ℕ) → Good users c now → (x : OpId) → x.node.0 ≡ me → IsNew (now.starts me) (now.node me).met x → (q : Place) → moves now.tape x q ≡ []
 old_moves users c now me g x node new q = g.fresh x (subst (λ w. IsNew (now.starts w) (now.node w).met x) (sym node) new) q

@@ -18,7 +18,7 @@ use Rattle.mega_propose.specs.declared.round.Proposal.{Proposal}
 use Rattle.mega_propose.specs.declared.round.Move.{Move as RoundMove}
 use Rattle.mega_propose.specs.declared.round.Round.TheVariants.{Asking, Preparing, Accepting, Covering, Settled, Waiting}
 use Rattle.mega_propose.specs.Rounds.{accept_to, accepted, asks, completes, cell_numbers, dead_to, due, greatest_vote, invalidate_to, invalidated, is_due, is_here, is_sent, last_round, next_ballot, picked, prepare_to, prepares, promised, refused, same_ballot, takes, uncovered, unheld, vote_round}
-use Rattle.mega_rules.specs.Members.{voters}
+use Rattle.mega_tape_laws.specs.of_rules.Members.{voters}
 use Rattle.mega_tape_laws.specs.Places.{In, Place, Proposes, Took, acts, moves}
 use Rattle.mega_tape_laws.specs.Lawful.{Heard, Lawful, message}
 use Rattle.mega_tape_laws.proofs.Made.{acts_lawful, heard_act, promised_here, vote_proposed}

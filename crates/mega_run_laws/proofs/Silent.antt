@@ -6,12 +6,12 @@ use Rattle.mega_schema.specs.declared.schema.Schema.{Schema}
 use Rattle.mega_wire.specs.declared.message.Message.{Message}
 use Rattle.mega_transcript.specs.declared.item.Item.{Item}
 use Rattle.mega_transcript.specs.declared.item.Item.TheVariants.{Answer as AnswerItem, Apply, Begin, Counts as CountsItem, Crash, Decide, Forgets as ForgetsItem, Grant, Invalid, Lapse, Lost, Sent, Serving, Start, Tick, Unsafe, Unsent, Valid}
-use Rattle.mega_promises.specs.Items.{number, shown}
-use Rattle.mega_promises.specs.Messages.{is_unsafe}
-use Rattle.mega_promises.specs.Promises.{is_negative}
-use Rattle.mega_promises.specs.Runs.{breaks, with_item, with_items}
-use Rattle.mega_rules.specs.Met.{Answers, Applies, Begins, Counts, Crashes, Decides, Forgets, Grants, Invalidates, Lapses, Loses, Met, Sends, Serves, Starts, Takes, Ticks, Unsends, Validates}
-use Rattle.mega_rules.specs.Operations.{Node}
+use Rattle.mega_tape_laws.specs.of_promises.Items.{number, shown}
+use Rattle.mega_tape_laws.specs.of_promises.Messages.{is_unsafe}
+use Rattle.mega_tape_laws.specs.of_promises.Promises.{is_negative}
+use Rattle.mega_tape_laws.specs.of_promises.Runs.{breaks, with_item, with_items}
+use Rattle.mega_tape_laws.specs.of_rules.Met.{Answers, Applies, Begins, Counts, Crashes, Decides, Forgets, Grants, Invalidates, Lapses, Loses, Met, Sends, Serves, Starts, Takes, Ticks, Unsends, Validates}
+use Rattle.mega_tape_laws.specs.of_rules.Operations.{Node}
 use Rattle.mega_tape_laws.specs.Places.{Place, moves}
 use Rattle.mega_tape_laws.specs.Answers.{AreAnswered, IsAnswered, has_failed}
 use Rattle.mega_tape_laws.specs.Writes.{Usage}

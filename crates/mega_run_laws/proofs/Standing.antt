@@ -10,13 +10,13 @@ use Rattle.mega_wire.specs.declared.message.Body.TheVariants.{Accepted, Promise,
 use Rattle.mega_wal.specs.Acceptor.{Act, accept_answer, promise_answer}
 use Rattle.mega_transcript.specs.declared.item.Item.{Item}
 use Rattle.mega_transcript.specs.declared.item.Item.TheVariants.{Sent}
-use Rattle.mega_promises.specs.Runs.{Standing}
-use Rattle.mega_rules.specs.Met.{Answers, Met, Sends, Unsends}
-use Rattle.mega_rules.specs.Clock.{begun_of, is_up, last_number, start_of}
-use Rattle.mega_rules.specs.Logs.{decided}
-use Rattle.mega_rules.specs.Operations.{Node, Operation}
-use Rattle.mega_rules.specs.Steps.{onto}
-use Rattle.mega_rules.specs.Voting.{act_in, acts as acts_met, prepared, voted}
+use Rattle.mega_tape_laws.specs.of_promises.Runs.{Standing}
+use Rattle.mega_tape_laws.specs.of_rules.Met.{Answers, Met, Sends, Unsends}
+use Rattle.mega_tape_laws.specs.of_rules.Clock.{begun_of, is_up, last_number, start_of}
+use Rattle.mega_tape_laws.specs.of_rules.Logs.{decided}
+use Rattle.mega_tape_laws.specs.of_rules.Operations.{Node, Operation}
+use Rattle.mega_tape_laws.specs.of_rules.Steps.{onto}
+use Rattle.mega_tape_laws.specs.of_rules.Voting.{act_in, acts as acts_met, prepared, voted}
 use Rattle.mega_tape_laws.specs.Places.{Place, acts, moves}
 use Rattle.mega_run_laws.proofs.Owned.{Users}
 use Rattle.mega_tape_laws.specs.Lawful.{Lawful, MayMake, a_prepare, an_accept}

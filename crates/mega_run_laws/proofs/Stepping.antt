@@ -6,14 +6,14 @@ use Rattle.mega_base.specs.declared.names.OpId.{OpId}
 use Rattle.mega_cluster.specs.declared.cluster.Cluster.{Cluster}
 use Rattle.mega_wire.specs.declared.message.Message.{Message}
 use Rattle.mega_transcript.specs.declared.item.Item.{Item}
-use Rattle.mega_promises.specs.Items.{shown}
-use Rattle.mega_promises.specs.Runs.{Fuse, Standing, set_at, with_items}
-use Rattle.mega_rules.specs.Met.{Begins, Met, Sends}
-use Rattle.mega_rules.specs.Clock.{begun_of, is_up, last_number, start_of}
-use Rattle.mega_rules.specs.Logs.{decided}
-use Rattle.mega_rules.specs.Operations.{Node, Operation}
-use Rattle.mega_rules.specs.Steps.{onto}
-use Rattle.mega_rules.specs.Voting.{acts as acts_met}
+use Rattle.mega_tape_laws.specs.of_promises.Items.{shown}
+use Rattle.mega_tape_laws.specs.of_promises.Runs.{Fuse, Standing, set_at, with_items}
+use Rattle.mega_tape_laws.specs.of_rules.Met.{Begins, Met, Sends}
+use Rattle.mega_tape_laws.specs.of_rules.Clock.{begun_of, is_up, last_number, start_of}
+use Rattle.mega_tape_laws.specs.of_rules.Logs.{decided}
+use Rattle.mega_tape_laws.specs.of_rules.Operations.{Node, Operation}
+use Rattle.mega_tape_laws.specs.of_rules.Steps.{onto}
+use Rattle.mega_tape_laws.specs.of_rules.Voting.{acts as acts_met}
 use Rattle.mega_tape_laws.specs.Places.{Place, acts, moves}
 use Rattle.mega_run_laws.proofs.Owned.{Users, sent_begun}
 use Rattle.mega_tape_laws.specs.Lawful.{Lawful}

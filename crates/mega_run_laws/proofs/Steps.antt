@@ -9,18 +9,18 @@ use Rattle.mega_wire.specs.declared.message.Message.{Message}
 use Rattle.mega_transcript.specs.declared.item.Item.{Item}
 use Rattle.mega_transcript.specs.declared.item.Item.TheVariants.{Sent, Begin}
 use Rattle.mega_transcript.specs.Tape.{sent_count}
-use Rattle.mega_promises.specs.Items.{numbered, shown}
-use Rattle.mega_promises.specs.Promises.{Stands}
-use Rattle.mega_promises.specs.Runs.{Standing, log_fuse_after, records_after, appends, set_at, whole_step, with_item, with_items}
-use Rattle.mega_promises.specs.Messages.{message_of}
-use Rattle.mega_rules.specs.Met.{Met, Begins}
-use Rattle.mega_rules.specs.Members.{kind_of}
-use Rattle.mega_rules.specs.Clock.{begun_of, clock_of, last_number, is_up, start_of}
+use Rattle.mega_tape_laws.specs.of_promises.Items.{numbered, shown}
+use Rattle.mega_tape_laws.specs.of_promises.Promises.{Stands}
+use Rattle.mega_tape_laws.specs.of_promises.Runs.{Standing, log_fuse_after, records_after, appends, set_at, whole_step, with_item, with_items}
+use Rattle.mega_tape_laws.specs.of_promises.Messages.{message_of}
+use Rattle.mega_tape_laws.specs.of_rules.Met.{Met, Begins}
+use Rattle.mega_tape_laws.specs.of_rules.Members.{kind_of}
+use Rattle.mega_tape_laws.specs.of_rules.Clock.{begun_of, clock_of, last_number, is_up, start_of}
 use Rattle.mega_outcome.specs.declared.answer.Answer.{Answer}
 use Rattle.mega_outcome.specs.declared.answer.Answer.TheVariants.{Busy, NotHere, Worn}
-use Rattle.mega_rules.specs.Logs.{decided}
-use Rattle.mega_rules.specs.Operations.{Node, Now, Operation, Setting}
-use Rattle.mega_rules.specs.Steps.{begin_step, at_open, new_operation, op_of, refusal, unless_refused, is_worn, unless_busy, unless_missing, missing_kind, Step, apply_notes, at_first, onto}
+use Rattle.mega_tape_laws.specs.of_rules.Logs.{decided}
+use Rattle.mega_tape_laws.specs.of_rules.Operations.{Node, Now, Operation, Setting}
+use Rattle.mega_tape_laws.specs.of_rules.Steps.{begin_step, at_open, new_operation, op_of, refusal, unless_refused, is_worn, unless_busy, unless_missing, missing_kind, Step, apply_notes, at_first, onto}
 use Rattle.mega_tape_laws.specs.Places.{In, Place, Proposes as ProposesMove, moves}
 use Rattle.mega_tape_laws.specs.Writes.{IsNamed, Usage, has_begun}
 use Rattle.mega_tape_laws.proofs.Ballots.{clash, number_self, number_is}

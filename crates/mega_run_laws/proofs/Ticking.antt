@@ -6,18 +6,18 @@ use Rattle.mega_wire.specs.declared.message.Message.{Message}
 use Rattle.mega_transcript.specs.declared.item.Item.{Item}
 use Rattle.mega_transcript.specs.declared.item.Item.TheVariants.{Tick}
 use Rattle.mega_transcript.specs.Tape.{sent_count}
-use Rattle.mega_promises.specs.Items.{number, shown}
-use Rattle.mega_promises.specs.Runs.{Standing, with_items}
+use Rattle.mega_tape_laws.specs.of_promises.Items.{number, shown}
+use Rattle.mega_tape_laws.specs.of_promises.Runs.{Standing, with_items}
 use Rattle.mega_propose.specs.Members.{others}
-use Rattle.mega_rules.specs.Met.{Met, Ticks}
-use Rattle.mega_rules.specs.Members.{has_rows, is_full, voters}
-use Rattle.mega_rules.specs.Clock.{begun_of, does_again, ticks_of, is_up, start_of}
+use Rattle.mega_tape_laws.specs.of_rules.Met.{Met, Ticks}
+use Rattle.mega_tape_laws.specs.of_rules.Members.{has_rows, is_full, voters}
+use Rattle.mega_tape_laws.specs.of_rules.Clock.{begun_of, does_again, ticks_of, is_up, start_of}
 use Rattle.mega_coordinator.specs.History.{Call, Ticks as Told, counted_cells, epoch_after, serving}
 use Rattle.mega_base.specs.declared.names.Epoch.{Epoch}
-use Rattle.mega_rules.specs.Coordinators.{acquire_to, acquires, acquires_at, asked_cells, coordinator_calls}
-use Rattle.mega_rules.specs.Logs.{decided, groups_of, newest_of, prefix_of}
-use Rattle.mega_rules.specs.Operations.{Node, Now, Setting}
-use Rattle.mega_rules.specs.Steps.{background, fetch_to, fetches_for, lapse_notes, lease_notes, portion_of, tick_step, ticked, apply_notes, at_first, onto}
+use Rattle.mega_tape_laws.specs.of_rules.Coordinators.{acquire_to, acquires, acquires_at, asked_cells, coordinator_calls}
+use Rattle.mega_tape_laws.specs.of_rules.Logs.{decided, groups_of, newest_of, prefix_of}
+use Rattle.mega_tape_laws.specs.of_rules.Operations.{Node, Now, Setting}
+use Rattle.mega_tape_laws.specs.of_rules.Steps.{background, fetch_to, fetches_for, lapse_notes, lease_notes, portion_of, tick_step, ticked, apply_notes, at_first, onto}
 use Rattle.mega_tape_laws.specs.Places.{Place, moves}
 use Rattle.mega_run_laws.specs.Usages.{Brought}
 use Rattle.mega_run_laws.proofs.Owned.{Users}

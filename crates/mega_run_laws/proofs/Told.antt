@@ -20,12 +20,12 @@ use Rattle.mega_wal.specs.Same.{same_group}
 use Rattle.mega_transcript.specs.declared.item.Item.{Item}
 use Rattle.mega_locks.specs.declared.asked.Asked.{Asked}
 use Rattle.mega_locks.specs.declared.asked.Asked.TheVariants.{Granted as AnswerGranted, Renewed, Taken, Over}
-use Rattle.mega_rules.specs.Met.{Met, Sends, Unsends, Decides}
-use Rattle.mega_rules.specs.Logs.{accepted_at, decided, top_of}
-use Rattle.mega_rules.specs.Locks.{asked_for, held_answer, held_at, lock_answer}
-use Rattle.mega_rules.specs.Members.{is_cell, is_full, is_voter}
-use Rattle.mega_rules.specs.Replies.{answer_to, fetched}
-use Rattle.mega_rules.specs.Voting.{act_if, act_in, acts, prepared, promise_body, vote_body, voted}
+use Rattle.mega_tape_laws.specs.of_rules.Met.{Met, Sends, Unsends, Decides}
+use Rattle.mega_tape_laws.specs.of_rules.Logs.{accepted_at, decided, top_of}
+use Rattle.mega_tape_laws.specs.of_rules.Locks.{asked_for, held_answer, held_at, lock_answer}
+use Rattle.mega_tape_laws.specs.of_rules.Members.{is_cell, is_full, is_voter}
+use Rattle.mega_tape_laws.specs.of_rules.Replies.{answer_to, fetched}
+use Rattle.mega_tape_laws.specs.of_rules.Voting.{act_if, act_in, acts, prepared, promise_body, vote_body, voted}
 use Rattle.mega_tape_laws.specs.Places.{In, Took}
 use Rattle.mega_tape_laws.specs.Lawful.{message}
 use Rattle.mega_tape_laws.specs.Polls.{MayPoll, MayTell, is_asking}

@@ -15,13 +15,13 @@ use Rattle.mega_wal.specs.Same.{same_group, same_op}
 use Rattle.mega_wal.proofs.Sames.{same_op_equal}
 use Rattle.mega_transcript.specs.declared.item.Item.{Item}
 use Rattle.mega_transcript.specs.declared.item.Item.TheVariants.{Sent, Decide}
-use Rattle.mega_promises.specs.Items.{number}
-use Rattle.mega_promises.specs.Promises.{Stands}
-use Rattle.mega_rules.specs.Met.{Answers, Met}
-use Rattle.mega_rules.specs.Clock.{last_number}
-use Rattle.mega_rules.specs.Logs.{decided}
-use Rattle.mega_rules.specs.Operations.{Operation}
-use Rattle.mega_rules.specs.Voting.{act_in}
+use Rattle.mega_tape_laws.specs.of_promises.Items.{number}
+use Rattle.mega_tape_laws.specs.of_promises.Promises.{Stands}
+use Rattle.mega_tape_laws.specs.of_rules.Met.{Answers, Met}
+use Rattle.mega_tape_laws.specs.of_rules.Clock.{last_number}
+use Rattle.mega_tape_laws.specs.of_rules.Logs.{decided}
+use Rattle.mega_tape_laws.specs.of_rules.Operations.{Operation}
+use Rattle.mega_tape_laws.specs.of_rules.Voting.{act_in}
 use Rattle.mega_tape_laws.specs.Places.{In, Move, Place, Prepares, Proposes, acts, is_move_at, move_if, move_in, moves}
 use Rattle.mega_tape_laws.specs.Writes.{AreWritten, Usage}
 use Rattle.mega_run_laws.proofs.Owned.{Owned, Users, owned_on}

@@ -10,18 +10,18 @@ use Rattle.mega_wire.specs.declared.message.Body.{Body}
 use Rattle.mega_transcript.specs.declared.item.Item.{Item}
 use Rattle.mega_transcript.specs.declared.item.Item.TheVariants.{Sent, Taken, Decide, Unsafe}
 use Rattle.mega_transcript.specs.Tape.{sent_count}
-use Rattle.mega_promises.specs.Items.{number, shown}
-use Rattle.mega_promises.specs.Promises.{Stands}
-use Rattle.mega_promises.specs.Runs.{Standing, breaks, with_item, with_items}
-use Rattle.mega_promises.specs.Messages.{is_unsafe}
+use Rattle.mega_tape_laws.specs.of_promises.Items.{number, shown}
+use Rattle.mega_tape_laws.specs.of_promises.Promises.{Stands}
+use Rattle.mega_tape_laws.specs.of_promises.Runs.{Standing, breaks, with_item, with_items}
+use Rattle.mega_tape_laws.specs.of_promises.Messages.{is_unsafe}
 use Rattle.mega_propose.specs.Members.{others}
-use Rattle.mega_rules.specs.Met.{Met, Starts, Crashes, Decides, Takes}
-use Rattle.mega_rules.specs.Members.{nodes}
-use Rattle.mega_rules.specs.Clock.{begun_of, clock_of, is_up, start_of}
-use Rattle.mega_rules.specs.Logs.{decided}
-use Rattle.mega_rules.specs.Operations.{Node, Now, Setting}
-use Rattle.mega_rules.specs.Replies.{answer_to, reply_message, reply_to}
-use Rattle.mega_rules.specs.Steps.{Decision, Heard, Step, all_act, apply_notes, at_first, decide_to, decision_note, first_settled, hears_message, if_new, news, onto, stored_after, take_step, taken, told_decision, told_notes}
+use Rattle.mega_tape_laws.specs.of_rules.Met.{Met, Starts, Crashes, Decides, Takes}
+use Rattle.mega_tape_laws.specs.of_rules.Members.{nodes}
+use Rattle.mega_tape_laws.specs.of_rules.Clock.{begun_of, clock_of, is_up, start_of}
+use Rattle.mega_tape_laws.specs.of_rules.Logs.{decided}
+use Rattle.mega_tape_laws.specs.of_rules.Operations.{Node, Now, Setting}
+use Rattle.mega_tape_laws.specs.of_rules.Replies.{answer_to, reply_message, reply_to}
+use Rattle.mega_tape_laws.specs.of_rules.Steps.{Decision, Heard, Step, all_act, apply_notes, at_first, decide_to, decision_note, first_settled, hears_message, if_new, news, onto, stored_after, take_step, taken, told_decision, told_notes}
 use Rattle.mega_tape_laws.specs.Places.{In, Place, Took, moves}
 use Rattle.mega_run_laws.proofs.Owned.{Users, quiet_written}
 use Rattle.mega_tape_laws.specs.Lawful.{Lawful, message}

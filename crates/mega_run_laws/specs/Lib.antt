@@ -2,3 +2,5 @@ pub mod Shows
 pub mod Vouched
 pub mod Usages
 pub mod Examples
+pub use Rattle.mega_tape_laws.specs.of_promises as of_promises
+pub use Rattle.mega_tape_laws.specs as of_tape_laws

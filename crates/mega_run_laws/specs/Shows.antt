@@ -4,11 +4,11 @@ use Rattle.mega_base.specs.declared.names.GroupId.{GroupId}
 use Rattle.mega_entry.specs.declared.content.Content.{Content}
 use Rattle.mega_transcript.specs.declared.item.Item.{Item}
 use Rattle.mega_transcript.specs.declared.item.Item.TheVariants.{Decide}
-use Rattle.mega_promises.specs.Items.{number}
-use Rattle.mega_promises.specs.Promises.{Stands}
-use Rattle.mega_rules.specs.Met.{Met}
-use Rattle.mega_rules.specs.Logs.{decided}
-use Rattle.mega_rules.specs.Voting.{acts}
+use Rattle.mega_tape_laws.specs.of_promises.Items.{number}
+use Rattle.mega_tape_laws.specs.of_promises.Promises.{Stands}
+use Rattle.mega_tape_laws.specs.of_rules.Met.{Met}
+use Rattle.mega_tape_laws.specs.of_rules.Logs.{decided}
+use Rattle.mega_tape_laws.specs.of_rules.Voting.{acts}
 use Rattle.mega_tape_laws.specs.Places.{Place, acts as acts_on}
 
 pub record Shows (tape : List Item) (node : ℕ) (met : List Met) : Type 0 where

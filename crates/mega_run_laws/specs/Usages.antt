@@ -5,7 +5,7 @@ use Rattle.mega_handler.specs.Named.{Meanings}
 use Rattle.mega_schedule.specs.declared.world_event.WorldEvent.{WorldEvent}
 use Rattle.mega_schedule.specs.declared.world_event.WorldEvent.TheVariants.{Begin}
 use Rattle.mega_transcript.specs.declared.item.Item.{Item}
-use Rattle.mega_promises.specs.Runs.{Happening}
+use Rattle.mega_tape_laws.specs.of_promises.Runs.{Happening}
 use Rattle.mega_outcome.specs.declared.request.Request.{Request}
 use Rattle.mega_tape_laws.specs.Indexed.{AsksValues}
 use Rattle.mega_tape_laws.specs.Writes.{Usage}

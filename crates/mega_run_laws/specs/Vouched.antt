@@ -18,7 +18,7 @@ use Rattle.mega_propose.specs.declared.round.Round.{Round}
 use Rattle.mega_propose.specs.declared.round.Proposal.{Proposal}
 use Rattle.mega_propose.specs.declared.round.Move.{Move as RoundMove}
 use Rattle.mega_propose.specs.declared.round.Round.TheVariants.{Asking, Preparing, Accepting, Covering, Settled, Waiting}
-use Rattle.mega_rules.specs.Members.{full_nodes, voters}
+use Rattle.mega_tape_laws.specs.of_rules.Members.{full_nodes, voters}
 use Rattle.mega_tape_laws.specs.Places.{IsMajority, Move, Place, Prepares, count, moves, newest, round_of}
 use Rattle.mega_tape_laws.specs.Lawful.{Heard, IsOwn, Lawful, Leads}
 

@@ -3,9 +3,9 @@
 ghost use Rattle.std.specs.Prelude.{◌≡◌, true, [], ◌∷◌, Some, codes, map, take};
 ghost use Rattle.mega_schedule.specs.declared.world_event.WorldEvent.TheVariants.{Deliver, Drain};
 ghost use Rattle.mega_transcript.specs.declared.item.Item.TheVariants.{Answer, Begin};
-ghost use Rattle.mega_rules.specs.Coordinators.{serves_at, valid_at};
-ghost use Rattle.mega_rules.specs.Examples.{cluster, group};
-ghost use Rattle.mega_promises.specs.Worked.{Serves, Valid, drain, epoch, happens, marks, op, put_at, read_through};
+ghost use Rattle.mega_tape_laws.specs.of_rules.Coordinators.{serves_at, valid_at};
+ghost use Rattle.mega_tape_laws.specs.of_rules.Examples.{cluster, group};
+ghost use Rattle.mega_tape_laws.specs.of_promises.Worked.{Serves, Valid, drain, epoch, happens, marks, op, put_at, read_through};
 ghost use Rattle.mega_tape_laws.specs.Examples.{asks_put};
 ghost use Rattle.mega_tape_laws.specs.Lawful.{Lawful};
 ghost use Rattle.mega_run_laws.specs.Examples.{stands_after, then_reads};

@@ -12,12 +12,12 @@ ghost use Rattle.mega_transcript.specs.declared.item.Item.TheVariants.{Answer, B
 ghost use Rattle.mega_propose.specs.declared.round.Proposal.{Proposal};
 ghost use Rattle.mega_propose.specs.Rounds.{due, settled, takes};
 ghost use Rattle.mega_entry.specs.declared.content.Content.{Content};
-ghost use Rattle.mega_rules.specs.Met.{Met};
-ghost use Rattle.mega_rules.specs.Replies.{answer_to};
+ghost use Rattle.mega_tape_laws.specs.of_rules.Met.{Met};
+ghost use Rattle.mega_tape_laws.specs.of_rules.Replies.{answer_to};
 ghost use Rattle.mega_tape_laws.specs.Places.{Place, Took};
 ghost use Rattle.mega_handler.specs.Named.{Meanings};
-ghost use Rattle.mega_promises.specs.Promises.{Agree, AreMessages, IsSerial, Stands, StoodBefore, asked_for, comes_to, group_written, is_write, log_of, rows_shown};
-ghost use Rattle.mega_promises.specs.Runs.{Calls, Fate, Happening, IsRun, MayBecome, Standing, Whole, fate_of};
+ghost use Rattle.mega_tape_laws.specs.of_promises.Promises.{Agree, AreMessages, IsSerial, Stands, StoodBefore, asked_for, comes_to, group_written, is_write, log_of, rows_shown};
+ghost use Rattle.mega_tape_laws.specs.of_promises.Runs.{Calls, Fate, Happening, IsRun, MayBecome, Standing, Whole, fate_of};
 ghost use Rattle.mega_tape_laws.specs.Lawful.{Lawful, MayMake, MaySend, message};
 ghost use Rattle.mega_tape_laws.specs.Polls.{ArePolls, IsPolled};
 ghost use Rattle.mega_tape_laws.specs.Writes.{LawfulWrites, Usage};
@@ -26,7 +26,7 @@ ghost use Rattle.mega_outcome.specs.declared.answer.Answer.TheVariants.{Read as 
 ghost use Rattle.mega_outcome.specs.declared.answer.Shown.{Shown};
 ghost use Rattle.mega_outcome.specs.declared.request.ReadRequest.{ReadRequest};
 ghost use Rattle.mega_outcome.specs.declared.request.Request.TheVariants.{Read as ReadRequested};
-ghost use Rattle.mega_rules.specs.Steps.{is_current};
+ghost use Rattle.mega_tape_laws.specs.of_rules.Steps.{is_current};
 ghost use Rattle.mega_outcome.specs.declared.request.Request.{Request};
 ghost use Rattle.mega_run_laws.specs.Usages.{Fits};
 ghost use Rattle.mega_run_laws.specs.Shows.{Shows};

@@ -8,7 +8,7 @@ use Rattle.mega_syntax.specs.Names.{same}
 use Rattle.mega_schema.specs.declared.schema.Index.{Index}
 use Rattle.mega_schema.specs.declared.schema.Schema.{Schema}
 use Rattle.mega_schema.specs.Shaping.{table_at}
-use Rattle.mega_index.specs.Fits.{numbered}
+use Rattle.mega_outcome.specs.of_index.Fits.{numbered}
 use Rattle.mega_outcome.specs.declared.request.Mode.{Mode}
 use Rattle.mega_outcome.specs.declared.request.Mode.TheVariants.{Snapshot}
 use Rattle.mega_outcome.specs.declared.request.ReadRequest.{ReadRequest}

@@ -7,7 +7,7 @@ ghost use Rattle.mega_syntax.specs.Names.{same};
 ghost use Rattle.mega_schema.specs.Rules.{kind_at};
 ghost use Rattle.mega_schema.specs.Shaping.{table_at, shape_of};
 ghost use Rattle.mega_keys.specs.Answers.{group_key_of};
-ghost use Rattle.mega_index.specs.Fits.{numbered};
+ghost use Rattle.mega_outcome.specs.of_index.Fits.{numbered};
 ghost use Rattle.mega_schedule.specs.Values.{text_in, number_in, whole_in, list_in, byte_in, is_int32, number_value, bytes_of, text_value, value_of, first_kind, others, values_at, number_of_place, table_number, property_number, properties_of, primary_of, key_in, group_or_none, group_in, group_named, group_of, no_group};
 
 use crate::fields::{is_hex, pair_of};

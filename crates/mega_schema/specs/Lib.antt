@@ -10,3 +10,4 @@ pub mod Known
 pub mod Declare
 pub mod Verdict
 pub mod Shaping
+pub use Rattle.mega_syntax.specs as of_syntax

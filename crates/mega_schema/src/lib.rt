@@ -15,6 +15,7 @@ mod shaping;
 mod verdict;
 
 pub use fault::SchemaFault;
+pub use mega_syntax;
 pub use mega_syntax::Need;
 pub use schema::{Index, Property, Schema, Table};
 pub use verdict::parse;

@@ -14,7 +14,7 @@ use Rattle.mega_rules.specs.Steps.{Event, step}
 use Rattle.mega_voter.specs.Journal.{journal_of}
 use Rattle.mega_wal.specs.Items.{IsItem}
 use Rattle.mega_wal.specs.Same.{same_op}
-use Rattle.mega_core.specs.declared.node.Node.{Node}
+use Rattle.mega_durable.specs.of_core.declared.node.Node.{Node}
 use Rattle.mega_durable.specs.Standing.{IsPlacedAt, IsUp, records_in}
 
 -- a node of this number that is up as this node of the rules, over rows that tell what they hold and handlers that make this of messages

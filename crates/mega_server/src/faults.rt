@@ -2,8 +2,8 @@
 ghost use Rattle.std.specs.Prelude.{◌≡◌};
 ghost use Rattle.mega_server.specs.Causes.{fault_of, log_fault_of, step_fault_of};
 
-use mega_core::StepFault;
 use mega_durable::UpFault;
+use mega_durable::mega_core::StepFault;
 use mega_serve::NodeFault;
 use mega_wal::LogFault;
 

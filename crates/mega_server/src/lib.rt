@@ -7,5 +7,7 @@ mod number;
 mod server;
 
 pub use forming::items_of;
+pub use mega_durable;
+pub use mega_durable::mega_core;
 pub use number::Number;
 pub use server::Server;

@@ -10,13 +10,13 @@ use Rattle.mega_outcome.specs.declared.answer.Answer.{Answer}
 use Rattle.mega_outcome.specs.declared.answer.Answer.TheVariants.{Batched, Committed}
 use Rattle.mega_transcript.specs.declared.item.Item.{Item}
 use Rattle.mega_transcript.specs.declared.item.Item.TheVariants.{Answer as AnswerItem, Decide}
-use Rattle.mega_promises.specs.Moments.{StoodOn}
-use Rattle.mega_promises.specs.Promises.{Stands}
-use Rattle.mega_promises.specs.Runs.{Happening, IsRun}
-use Rattle.mega_tape_laws.specs.Answers.{AreAnswered, LawfulAnswers}
-use Rattle.mega_tape_laws.specs.Lawful.{Lawful}
-use Rattle.mega_tape_laws.specs.Writes.{AreWritten, Usage}
-use Rattle.mega_tape_laws.proofs.Answered.{serial}
+use Rattle.mega_run_laws.specs.of_promises.Moments.{StoodOn}
+use Rattle.mega_run_laws.specs.of_promises.Promises.{Stands}
+use Rattle.mega_run_laws.specs.of_promises.Runs.{Happening, IsRun}
+use Rattle.mega_run_laws.specs.of_tape_laws.Answers.{AreAnswered, LawfulAnswers}
+use Rattle.mega_run_laws.specs.of_tape_laws.Lawful.{Lawful}
+use Rattle.mega_run_laws.specs.of_tape_laws.Writes.{AreWritten, Usage}
+use Rattle.mega_run_laws.proofs.of_tape_laws.Answered.{serial}
 use Rattle.mega_run_laws.specs.Usages.{Fits}
 use Rattle.mega_run_laws.proofs.Runs.{run_answered}
 use Rattle.mega_settled_laws.specs.Covering.{AreSettled, OwnSettled}

@@ -8,13 +8,13 @@ use Rattle.mega_handler.specs.Named.{Meanings}
 use Rattle.mega_wire.specs.declared.message.Body.TheVariants.{Decide as Tell, Have}
 use Rattle.mega_transcript.specs.declared.item.Item.{Item}
 use Rattle.mega_transcript.specs.declared.item.Item.TheVariants.{Decide, Sent}
-use Rattle.mega_promises.specs.Items.{number}
-use Rattle.mega_promises.specs.Moments.{StoodOn}
-use Rattle.mega_promises.specs.Promises.{Stands}
-use Rattle.mega_promises.specs.Runs.{Happening, IsRun}
-use Rattle.mega_tape_laws.specs.Lawful.{Lawful, message}
-use Rattle.mega_tape_laws.specs.Places.{Place}
-use Rattle.mega_tape_laws.proofs.Lists.{lookback}
+use Rattle.mega_run_laws.specs.of_promises.Items.{number}
+use Rattle.mega_run_laws.specs.of_promises.Moments.{StoodOn}
+use Rattle.mega_run_laws.specs.of_promises.Promises.{Stands}
+use Rattle.mega_run_laws.specs.of_promises.Runs.{Happening, IsRun}
+use Rattle.mega_run_laws.specs.of_tape_laws.Lawful.{Lawful, message}
+use Rattle.mega_run_laws.specs.of_tape_laws.Places.{Place}
+use Rattle.mega_run_laws.proofs.of_tape_laws.Lists.{lookback}
 use Rattle.mega_run_laws.proofs.Runs.{run_lawful}
 use Rattle.mega_settled_laws.specs.Covering.{WasCovered}
 use Rattle.mega_settled_laws.proofs.Tapes.{lawful_before, now_is, one_later}

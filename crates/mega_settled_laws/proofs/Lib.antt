@@ -8,3 +8,4 @@ pub mod Steps
 pub mod Runs
 pub mod Behind
 pub mod Answering
+pub use Rattle.mega_run_laws.proofs as of_run_laws

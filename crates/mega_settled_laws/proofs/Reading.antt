@@ -23,8 +23,8 @@ use Rattle.mega_read.specs.declared.reading.Stage.TheVariants.{Polling, Catching
 use Rattle.mega_read.specs.declared.reading.Move.{Move as ReadMove}
 use Rattle.mega_read.specs.Catching.{asked_by, denied, falls_due, fetch_to, fills, hears, helpers, is_position, local_read, move, no_op, polled_read, search_told, searched, seeks, topped, where_to}
 use Rattle.mega_rules.specs.Members.{voters}
-use Rattle.mega_tape_laws.specs.Places.{Took}
-use Rattle.mega_tape_laws.specs.Lawful.{message}
+use Rattle.mega_run_laws.specs.of_tape_laws.Places.{Took}
+use Rattle.mega_run_laws.specs.of_tape_laws.Lawful.{message}
 use Rattle.mega_run_laws.specs.Vouched.{Each, here}
 use Rattle.mega_run_laws.proofs.Opened.{at_place}
 use Rattle.mega_run_laws.proofs.Reading.{who}

@@ -12,7 +12,7 @@ use Rattle.mega_wire.specs.declared.message.Body.TheVariants.{Accept, Accepted, 
 use Rattle.mega_wal.specs.Same.{same_entry, same_op}
 use Rattle.mega_wal.proofs.Sames.{same_entry_equal, same_op_equal}
 use Rattle.mega_transcript.specs.declared.item.Item.{Item}
-use Rattle.mega_promises.specs.Items.{number}
+use Rattle.mega_run_laws.specs.of_promises.Items.{number}
 use Rattle.mega_propose.specs.Members.{has, is_majority, others, with_node}
 use Rattle.mega_propose.specs.declared.round.Cover.{Cover}
 use Rattle.mega_propose.specs.declared.round.Free.{Free}
@@ -23,9 +23,9 @@ use Rattle.mega_propose.specs.declared.round.Proposal.{Proposal}
 use Rattle.mega_propose.specs.declared.round.Move.{Move as RoundMove}
 use Rattle.mega_propose.specs.Rounds.{accept_to, accepted, accepts, asks, cell_numbers, completes, covers, dead_to, due, first_cover, greatest_vote, invalidate_to, invalidated, is_covered, is_due, is_here, is_same_free, is_sent, last_round, next_ballot, picked, prepare_to, prepares, promised, proposes, refused, same_ballot, stays, takes, tells, uncovered, unheld, vote_round, with_accepted, with_cell, with_invalidated}
 use Rattle.mega_rules.specs.Members.{full_nodes, voters}
-use Rattle.mega_tape_laws.specs.Places.{IsMajority, Place, Took, count}
-use Rattle.mega_tape_laws.specs.Lawful.{Heard, message}
-use Rattle.mega_tape_laws.proofs.Ballots.{clash, number_is, number_self}
+use Rattle.mega_run_laws.specs.of_tape_laws.Places.{IsMajority, Place, Took, count}
+use Rattle.mega_run_laws.specs.of_tape_laws.Lawful.{Heard, message}
+use Rattle.mega_run_laws.proofs.of_tape_laws.Ballots.{clash, number_is, number_self}
 use Rattle.mega_run_laws.specs.Vouched.{Accepters, Each, here}
 use Rattle.mega_run_laws.proofs.Counted.{majority_is, none_accepted, one_more, with_one}
 use Rattle.mega_run_laws.proofs.Rounds.{ballot_is, here_is}

@@ -14,8 +14,8 @@ use Rattle.mega_wire.specs.declared.message.Body.{Body}
 use Rattle.mega_wire.specs.declared.message.Body.TheVariants.{Unheld, Decide as Tell, Have}
 use Rattle.mega_transcript.specs.declared.item.Item.{Item}
 use Rattle.mega_transcript.specs.declared.item.Item.TheVariants.{Sent}
-use Rattle.mega_promises.specs.Items.{number}
-use Rattle.mega_promises.specs.Promises.{Stands}
+use Rattle.mega_run_laws.specs.of_promises.Items.{number}
+use Rattle.mega_run_laws.specs.of_promises.Promises.{Stands}
 use Rattle.mega_propose.specs.Members.{has}
 use Rattle.mega_propose.specs.declared.round.Cover.{Cover}
 use Rattle.mega_propose.specs.declared.round.Free.{Free}
@@ -32,10 +32,10 @@ use Rattle.mega_read.specs.Catching.{read_settled, settled_there}
 use Rattle.mega_rules.specs.Members.{cells, full_nodes, is_cell}
 use Rattle.mega_rules.specs.Operations.{Operation, Phase, Proposes, Reads, Setting}
 use Rattle.mega_rules.specs.Steps.{Decision, Heard, decision_at, first_settled, hears_message, read_decision, settled_by}
-use Rattle.mega_tape_laws.specs.Places.{In, Place, Took, count}
-use Rattle.mega_tape_laws.specs.Lawful.{message}
-use Rattle.mega_tape_laws.proofs.Ballots.{number_is, number_self}
-use Rattle.mega_tape_laws.proofs.Lists.{some_is}
+use Rattle.mega_run_laws.specs.of_tape_laws.Places.{In, Place, Took, count}
+use Rattle.mega_run_laws.specs.of_tape_laws.Lawful.{message}
+use Rattle.mega_run_laws.proofs.of_tape_laws.Ballots.{number_is, number_self}
+use Rattle.mega_run_laws.proofs.of_tape_laws.Lists.{some_is}
 use Rattle.mega_run_laws.specs.Vouched.{Each, here}
 use Rattle.mega_run_laws.proofs.Counted.{count_more, count_most, majority_is}
 use Rattle.mega_run_laws.proofs.Opened.{at_place}

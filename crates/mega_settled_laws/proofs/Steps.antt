@@ -34,11 +34,11 @@ use Rattle.mega_rules.specs.Acting.{validated_by}
 use Rattle.mega_rules.specs.Replies.{answer_to, fetched, reply_message, reply_to, where_served}
 use Rattle.mega_rules.specs.Steps.{Decision, Heard, Step, all_act, apply_notes, at_first, at_open, background, begin_step, decide_to, decision_note, fetch_to, fetches_for, first_settled, hears_message, if_new, lapse_notes, lease_notes, new_operation, news, onto, op_of, portion_of, refusal, stored_after, take_step, taken, tick_step, ticked, told_decision, told_notes, unless_refused}
 use Rattle.mega_rules.specs.Voting.{acts, prepared, promise_body, vote_body, voted}
-use Rattle.mega_tape_laws.specs.Lawful.{message}
-use Rattle.mega_tape_laws.specs.Places.{Took}
-use Rattle.mega_tape_laws.specs.Writes.{has_begun}
-use Rattle.mega_tape_laws.proofs.Ballots.{number_is}
-use Rattle.mega_tape_laws.proofs.Lists.{some_is}
+use Rattle.mega_run_laws.specs.of_tape_laws.Lawful.{message}
+use Rattle.mega_run_laws.specs.of_tape_laws.Places.{Took}
+use Rattle.mega_run_laws.specs.of_tape_laws.Writes.{has_begun}
+use Rattle.mega_run_laws.proofs.of_tape_laws.Ballots.{number_is}
+use Rattle.mega_run_laws.proofs.of_tape_laws.Lists.{some_is}
 use Rattle.mega_run_laws.specs.Vouched.{Each}
 use Rattle.mega_run_laws.proofs.Events.{IsAnswer, IsPlain, apply_plain, lapses_plain, lease_plain, told_plain}
 use Rattle.mega_run_laws.proofs.Noting.{Lasts, all_act_it, begun_it as begun_noted, ticked_it}

@@ -8,19 +8,19 @@ use Rattle.mega_wire.specs.declared.message.Body.TheVariants.{Dead, Unheld}
 use Rattle.mega_wal.specs.Same.{same_op}
 use Rattle.mega_transcript.specs.declared.item.Item.{Item}
 use Rattle.mega_transcript.specs.declared.item.Item.TheVariants.{Sent, Unsafe}
-use Rattle.mega_promises.specs.Items.{shown}
-use Rattle.mega_promises.specs.Messages.{is_unsafe}
-use Rattle.mega_promises.specs.Promises.{Stands}
-use Rattle.mega_promises.specs.Runs.{breaks, with_item, with_items}
+use Rattle.mega_run_laws.specs.of_promises.Items.{shown}
+use Rattle.mega_run_laws.specs.of_promises.Messages.{is_unsafe}
+use Rattle.mega_run_laws.specs.of_promises.Promises.{Stands}
+use Rattle.mega_run_laws.specs.of_promises.Runs.{breaks, with_item, with_items}
 use Rattle.mega_propose.specs.Members.{has, joined, without}
 use Rattle.mega_rules.specs.Met.{Met, Starts, Crashes, Ticks, Begins, Takes, Sends, Unsends, Grants, Lapses, Counts, Forgets, Serves, Loses, Validates, Invalidates, Decides, Applies, Answers}
 use Rattle.mega_rules.specs.Operations.{Node}
 use Rattle.mega_schema.specs.declared.schema.Schema.{Schema}
-use Rattle.mega_tape_laws.specs.Answers.{AreAnswered}
-use Rattle.mega_tape_laws.specs.Lawful.{Lawful}
-use Rattle.mega_tape_laws.specs.Polls.{ArePolls}
-use Rattle.mega_tape_laws.specs.Writes.{AreWritten, Usage}
-use Rattle.mega_tape_laws.proofs.Ballots.{number_is}
+use Rattle.mega_run_laws.specs.of_tape_laws.Answers.{AreAnswered}
+use Rattle.mega_run_laws.specs.of_tape_laws.Lawful.{Lawful}
+use Rattle.mega_run_laws.specs.of_tape_laws.Polls.{ArePolls}
+use Rattle.mega_run_laws.specs.of_tape_laws.Writes.{AreWritten, Usage}
+use Rattle.mega_run_laws.proofs.of_tape_laws.Ballots.{number_is}
 use Rattle.mega_run_laws.specs.Vouched.{Each, sent}
 use Rattle.mega_run_laws.proofs.Sending.{Stood}
 use Rattle.mega_settled_laws.specs.Covering.{Earlier, asks_about, has_asked_about}

@@ -27,9 +27,9 @@ use Rattle.mega_rules.specs.Members.{is_cell}
 use Rattle.mega_rules.specs.Operations.{Now, Operation, Phase, Proposes, Reads, Setting}
 use Rattle.mega_rules.specs.Acting.{completes_read, ends, in_phase, is_visited, keeps, read_begun, reader_of, sends_more, validated_by}
 use Rattle.mega_rules.specs.Steps.{Heard, acts_in_turn, all_act, does_due, hears_message, is_out, last_answer, new_operation, ticked, unless_refused}
-use Rattle.mega_tape_laws.specs.Places.{Took}
-use Rattle.mega_tape_laws.specs.Lawful.{message}
-use Rattle.mega_tape_laws.specs.Writes.{has_begun}
+use Rattle.mega_run_laws.specs.of_tape_laws.Places.{Took}
+use Rattle.mega_run_laws.specs.of_tape_laws.Lawful.{message}
+use Rattle.mega_run_laws.specs.of_tape_laws.Writes.{has_begun}
 use Rattle.mega_run_laws.specs.Vouched.{Each}
 use Rattle.mega_run_laws.proofs.Opened.{at_place}
 use Rattle.mega_run_laws.proofs.Turns.{IsRising, each_on, each_push}

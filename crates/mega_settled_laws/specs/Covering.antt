@@ -16,13 +16,13 @@ use Rattle.mega_outcome.specs.declared.answer.Shown.{Shown}
 use Rattle.mega_outcome.specs.declared.answer.Turn.{Turn}
 use Rattle.mega_transcript.specs.declared.item.Item.{Item}
 use Rattle.mega_transcript.specs.declared.item.Item.TheVariants.{Answer as AnswerItem, Decide, Sent}
-use Rattle.mega_promises.specs.Items.{number}
-use Rattle.mega_promises.specs.Moments.{StoodOn}
-use Rattle.mega_promises.specs.Promises.{Stands}
+use Rattle.mega_run_laws.specs.of_promises.Items.{number}
+use Rattle.mega_run_laws.specs.of_promises.Moments.{StoodOn}
+use Rattle.mega_run_laws.specs.of_promises.Promises.{Stands}
 use Rattle.mega_rules.specs.Members.{full_nodes}
-use Rattle.mega_tape_laws.specs.Lawful.{Heard}
-use Rattle.mega_tape_laws.specs.Places.{In, IsMajority, Place}
-use Rattle.mega_tape_laws.specs.Settled.{IsCellMajority}
+use Rattle.mega_run_laws.specs.of_tape_laws.Lawful.{Heard}
+use Rattle.mega_run_laws.specs.of_tape_laws.Places.{In, IsMajority, Place}
+use Rattle.mega_run_laws.specs.of_tape_laws.Settled.{IsCellMajority}
 
 -- an earlier moment of a tape, or this one
 pub record Earlier (moment tape : List Item) : Type 0 where

@@ -7,10 +7,10 @@ ghost use Rattle.mega_entry.specs.declared.content.Content.{Content};
 ghost use Rattle.mega_handler.specs.Named.{Meanings};
 ghost use Rattle.mega_transcript.specs.declared.item.Item.{Item};
 ghost use Rattle.mega_transcript.specs.declared.item.Item.TheVariants.{Decide};
-ghost use Rattle.mega_promises.specs.Moments.{StoodOn};
-ghost use Rattle.mega_promises.specs.Runs.{Happening, IsRun};
-ghost use Rattle.mega_tape_laws.specs.Places.{Place};
-ghost use Rattle.mega_tape_laws.specs.Writes.{Usage};
+ghost use Rattle.mega_run_laws.specs.of_promises.Moments.{StoodOn};
+ghost use Rattle.mega_run_laws.specs.of_promises.Runs.{Happening, IsRun};
+ghost use Rattle.mega_run_laws.specs.of_tape_laws.Places.{Place};
+ghost use Rattle.mega_run_laws.specs.of_tape_laws.Writes.{Usage};
 ghost use Rattle.mega_run_laws.specs.Usages.{Fits};
 ghost use Rattle.mega_settled_laws.specs.Covering.{AreSettled, WasCovered};
 

@@ -6,7 +6,7 @@ use Rattle.mega_outcome.specs.declared.answer.Done.{Done}
 use Rattle.mega_outcome.specs.declared.answer.Turn.{Turn}
 use Rattle.mega_outcome.specs.declared.transaction.Change.TheVariants.{Put}
 use Rattle.mega_index.specs.Rows.{no_rows}
-use Rattle.mega_rules.specs.Examples.{group, user}
+use Rattle.mega_promises.specs.of_rules.Examples.{group, user}
 use Rattle.mega_tape_laws.specs.IndexExamples.{named_users, put_writes}
 use Rattle.mega_tape_laws.specs.Growing.{RowsFit}
 use Rattle.mega_tape_laws.specs.GrowingExamples.{john_rows, nickname, nicknamed_users, removal, removed, removed_whole, rename, renamed, stray_rows}

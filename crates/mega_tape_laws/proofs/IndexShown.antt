@@ -16,7 +16,7 @@ use Rattle.mega_index.specs.Cells.{key_values, row_with}
 use Rattle.mega_index.specs.Fits.{numbered, entry_keys, indexes_of, group_bytes_of, stands_in}
 use Rattle.mega_index.specs.Entries.{local_in, local_entries}
 use Rattle.mega_index.specs.Fitted.{table_of}
-use Rattle.mega_rules.specs.Acting.{table_rows}
+use Rattle.mega_promises.specs.of_rules.Acting.{table_rows}
 use Rattle.mega_tape_laws.specs.Places.{In}
 use Rattle.mega_tape_laws.specs.Indexed.{IsDeclared, IsIndexed, local_index_rows}
 use Rattle.mega_tape_laws.proofs.Placed.{under, There, Ascends, in_under, under_in}

@@ -16,8 +16,8 @@ use Rattle.mega_outcome.specs.Changes.{all_changes}
 use Rattle.mega_transcript.specs.declared.item.Item.{Item}
 use Rattle.mega_transcript.specs.declared.item.Item.TheVariants.{Begin}
 use Rattle.mega_wal.specs.Same.{same_op}
-use Rattle.mega_rules.specs.Acting.{table_rows}
-use Rattle.mega_rules.specs.Examples.{group, put, user, users}
+use Rattle.mega_promises.specs.of_rules.Acting.{table_rows}
+use Rattle.mega_promises.specs.of_rules.Examples.{group, put, user, users}
 use Rattle.mega_promises.specs.Promises.{asked_for}
 use Rattle.mega_tape_laws.specs.Examples.{asks_put}
 use Rattle.mega_tape_laws.specs.Indexed.{AskValues, AsksValues, IsDeclared, IsIndexed, local_index_rows}
@@ -29,7 +29,7 @@ use Rattle.mega_index.specs.Rows.{after, list_after}
 use Rattle.mega_outcome.specs.Outcome.{outcome}
 use Rattle.mega_transcript.specs.declared.item.Item.TheVariants.{Taken}
 use Rattle.mega_transcript.specs.Tape.{newest}
-use Rattle.mega_rules.specs.Examples.{op_of}
+use Rattle.mega_promises.specs.of_rules.Examples.{op_of}
 use Rattle.mega_promises.specs.Promises.{log_of}
 use Rattle.mega_tape_laws.specs.Places.{IsMajority}
 use Rattle.mega_tape_laws.specs.Lawful.{Heard, Lawful, asks, lowest, settled, spreads}

@@ -1,7 +1,7 @@
 -- Two majorities share a voter.
 use Rattle.std.proofs.Common.{◌≡◌, ◌⊎◌, inl, inr, ℕ, ◌+◌, ◌*◌, ◌<◌, ◌≤◌, Bool, true, false, cond, List, [], ◌∷◌, length, refl, arith}
 use Rattle.mega_cluster.specs.declared.cluster.Cluster.{Cluster}
-use Rattle.mega_rules.specs.Members.{voters}
+use Rattle.mega_promises.specs.of_rules.Members.{voters}
 use Rattle.mega_tape_laws.specs.Places.{IsMajority, count}
 
 pub record Shared (f g : ℕ → Bool) : Type 0 where

@@ -11,7 +11,7 @@ use Rattle.mega_transcript.specs.Tape.{newest}
 use Rattle.mega_promises.specs.Items.{number}
 use Rattle.mega_outcome.specs.declared.request.Request.TheVariants.{Txn}
 use Rattle.mega_promises.specs.Promises.{Stands}
-use Rattle.mega_rules.specs.Examples.{accept_for, cluster, entry_of, from_to, group, op_of}
+use Rattle.mega_promises.specs.of_rules.Examples.{accept_for, cluster, entry_of, from_to, group, op_of}
 use Rattle.mega_tape_laws.specs.Lawful.{Heard, Lawful, an_accept, asks, lowest, settled, spreads, told}
 use Rattle.mega_tape_laws.specs.Writes.{AreWritten, Own, again, own, runs}
 use Rattle.mega_tape_laws.specs.Answers.{AreAnswered, IsDoomed, LawfulAnswers, Lost, MayCommit, MayConflict, of_transaction}

@@ -10,8 +10,8 @@ use Rattle.mega_transcript.specs.declared.item.Item.{Item}
 use Rattle.mega_transcript.specs.declared.item.Item.TheVariants.{Sent}
 use Rattle.mega_transcript.specs.Tape.{newest}
 use Rattle.mega_promises.specs.Promises.{Stands}
-use Rattle.mega_rules.specs.Examples.{cluster, entry_of, group, op_of}
-use Rattle.mega_rules.specs.Members.{full_nodes}
+use Rattle.mega_promises.specs.of_rules.Examples.{cluster, entry_of, group, op_of}
+use Rattle.mega_promises.specs.of_rules.Members.{full_nodes}
 use Rattle.mega_tape_laws.specs.Lawful.{Heard, Lawful}
 use Rattle.mega_tape_laws.specs.Places.{In, Place}
 use Rattle.mega_tape_laws.specs.Settled.{IsCovered, IsSettled, Told, free, invalidated, voted}

@@ -7,7 +7,7 @@ use Rattle.mega_wal.specs.Acceptor.{Voted}
 use Rattle.mega_wal.specs.declared.answers.Voted.TheVariants as vote
 use Rattle.mega_transcript.specs.Tape.{newest}
 use Rattle.mega_promises.specs.Items.{number}
-use Rattle.mega_rules.specs.Examples.{cluster, entry_of, op_of}
+use Rattle.mega_promises.specs.of_rules.Examples.{cluster, entry_of, op_of}
 use Rattle.mega_tape_laws.specs.Chosen.{Chosen}
 use Rattle.mega_tape_laws.specs.Places.{In, acts}
 use Rattle.mega_tape_laws.specs.Lawful.{Lawful, Leads, MayPropose, asks, lowest, named, picks, repeats, spreads}

@@ -17,7 +17,7 @@ use Rattle.mega_outcome.specs.Outcome.{outcome}
 use Rattle.mega_transcript.specs.declared.item.Item.{Item}
 use Rattle.mega_transcript.specs.declared.item.Item.TheVariants.{Begin, Taken}
 use Rattle.mega_transcript.specs.Tape.{newest}
-use Rattle.mega_rules.specs.Examples.{cluster, entry_of, group, op_of, schema, user}
+use Rattle.mega_promises.specs.of_rules.Examples.{cluster, entry_of, group, op_of, schema, user}
 use Rattle.mega_tape_laws.specs.Lawful.{Heard, Lawful, asks, lowest, settled, spreads}
 use Rattle.mega_tape_laws.specs.Writes.{AreWritten, LawfulWrites, MayWrite, Own, OwnEntry, again, enters, fills, handles, own, runs, runs_all}
 use Rattle.mega_tape_laws.specs.Examples.{asks_put, first, not_its_own, place, put_decided, two_accept}

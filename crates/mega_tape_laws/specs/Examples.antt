@@ -11,8 +11,8 @@ use Rattle.mega_wal.specs.Acceptor.{Vote}
 use Rattle.mega_transcript.specs.declared.item.Item.{Item}
 use Rattle.mega_transcript.specs.declared.item.Item.TheVariants.{Answer, Begin, Crash, Decide, Sent, Start, Taken}
 use Rattle.mega_promises.specs.Items.{number}
-use Rattle.mega_rules.specs.Met.{Met, Grants, Lapses, Starts, Takes, Ticks}
-use Rattle.mega_rules.specs.Examples.{accept_for, accepted_from, entry_of, from_to, group, op_of, put}
+use Rattle.mega_promises.specs.of_rules.Met.{Met, Grants, Lapses, Starts, Takes, Ticks}
+use Rattle.mega_promises.specs.of_rules.Examples.{accept_for, accepted_from, entry_of, from_to, group, op_of, put}
 use Rattle.mega_tape_laws.specs.Places.{Place}
 use Rattle.mega_tape_laws.specs.Writes.{Usage}
 

@@ -14,7 +14,7 @@ use Rattle.mega_outcome.specs.declared.transaction.Check.TheVariants.{Is}
 use Rattle.mega_outcome.specs.declared.transaction.RowRef.{RowRef}
 use Rattle.mega_outcome.specs.declared.transaction.Transaction.{Transaction}
 use Rattle.mega_outcome.specs.Reads.{shown}
-use Rattle.mega_rules.specs.Examples.{group, user, users}
+use Rattle.mega_promises.specs.of_rules.Examples.{group, user, users}
 use Rattle.mega_tape_laws.specs.IndexExamples.{john_key, named_users, nothing_stored, put_writes, user_key}
 
 -- the users with a property more, which is not required

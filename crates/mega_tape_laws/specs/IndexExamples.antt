@@ -16,7 +16,7 @@ use Rattle.mega_index.specs.Rows.{Listed}
 use Rattle.mega_transcript.specs.declared.item.Item.{Item}
 use Rattle.mega_transcript.specs.declared.item.Item.TheVariants.{Begin, Decide, Sent, Taken}
 use Rattle.mega_promises.specs.Items.{number}
-use Rattle.mega_rules.specs.Examples.{accept_for, accepted_from, cluster, group, op_of, user, users}
+use Rattle.mega_promises.specs.of_rules.Examples.{accept_for, accepted_from, cluster, group, op_of, user, users}
 use Rattle.mega_tape_laws.specs.Examples.{first}
 
 -- users, with a local index by name

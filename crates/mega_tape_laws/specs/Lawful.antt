@@ -17,8 +17,8 @@ use Rattle.mega_transcript.specs.declared.item.Item.{Item}
 use Rattle.mega_transcript.specs.declared.item.Item.TheVariants.{Decide, Sent, Unsent}
 use Rattle.mega_promises.specs.Items.{number}
 use Rattle.mega_promises.specs.Promises.{Stands}
-use Rattle.mega_rules.specs.Members.{voters}
-use Rattle.mega_rules.specs.Voting.{prepared, voted}
+use Rattle.mega_promises.specs.of_rules.Members.{voters}
+use Rattle.mega_promises.specs.of_rules.Voting.{prepared, voted}
 use Rattle.mega_tape_laws.specs.Places.{IsAbove, IsMajority, Place, Prepares, Proposes, Took, acts, moves, newest}
 
 -- a message to a node

@@ -10,3 +10,5 @@ pub mod Examples
 pub mod IndexExamples
 pub mod Growing
 pub mod GrowingExamples
+pub use Rattle.mega_promises.specs as of_promises
+pub use Rattle.mega_promises.specs.of_rules as of_rules

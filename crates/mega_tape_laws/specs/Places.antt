@@ -14,8 +14,8 @@ use Rattle.mega_wal.specs.Same.{same_group, same_op}
 use Rattle.mega_transcript.specs.declared.item.Item.{Item}
 use Rattle.mega_transcript.specs.declared.item.Item.TheVariants.{Sent, Unsent, Taken}
 use Rattle.mega_promises.specs.Promises.{Stands}
-use Rattle.mega_rules.specs.Members.{voters}
-use Rattle.mega_rules.specs.Voting.{act_in}
+use Rattle.mega_promises.specs.of_rules.Members.{voters}
+use Rattle.mega_promises.specs.of_rules.Voting.{act_in}
 
 -- an element of a list
 abbrev pub In : {X : Type 0} → X → List X → Type 0

@@ -17,7 +17,7 @@ use Rattle.mega_transcript.specs.declared.item.Item.TheVariants.{Answer as Answe
 use Rattle.mega_promises.specs.Items.{number}
 use Rattle.mega_promises.specs.Moments.{StoodOn}
 use Rattle.mega_promises.specs.Promises.{Stands}
-use Rattle.mega_rules.specs.Members.{cells, full_nodes}
+use Rattle.mega_promises.specs.of_rules.Members.{cells, full_nodes}
 use Rattle.mega_tape_laws.specs.Lawful.{Heard, message}
 use Rattle.mega_tape_laws.specs.Places.{In, IsMajority, Place, Proposes, count, moves, newest}
 

@@ -18,7 +18,7 @@ ghost use Rattle.mega_outcome.specs.Extends.{Extends, LookAtKnown};
 ghost use Rattle.mega_outcome.specs.Outcome.{outcome_in};
 ghost use Rattle.mega_transcript.specs.declared.item.Item.{Item};
 ghost use Rattle.mega_promises.specs.Promises.{log_of};
-ghost use Rattle.mega_rules.specs.Examples.{group};
+ghost use Rattle.mega_promises.specs.of_rules.Examples.{group};
 ghost use Rattle.mega_tape_laws.specs.IndexExamples.{named_users};
 ghost use Rattle.mega_tape_laws.specs.Indexed.{IsDeclared};
 ghost use Rattle.mega_tape_laws.specs.Writes.{LawfulWrites, Usage};

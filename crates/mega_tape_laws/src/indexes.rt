@@ -13,8 +13,8 @@ ghost use Rattle.mega_outcome.specs.declared.transaction.Change.TheVariants.{Put
 ghost use Rattle.mega_outcome.specs.Changes.{all_changes};
 ghost use Rattle.mega_transcript.specs.declared.item.Item.{Item};
 ghost use Rattle.mega_transcript.specs.Tape.{newest};
-ghost use Rattle.mega_rules.specs.Acting.{table_rows};
-ghost use Rattle.mega_rules.specs.Examples.{group, user};
+ghost use Rattle.mega_promises.specs.of_rules.Acting.{table_rows};
+ghost use Rattle.mega_promises.specs.of_rules.Examples.{group, user};
 ghost use Rattle.mega_promises.specs.Promises.{log_of};
 ghost use Rattle.mega_tape_laws.specs.Examples.{asks_put};
 ghost use Rattle.mega_tape_laws.specs.IndexExamples.{john_key, named_cluster, named_put, named_users, no_text, no_text_key, nothing_stored, put_writes, whole, without_entry, without_user, word_group, word_schema};

@@ -23,7 +23,7 @@ use Rattle.mega_schema.specs.declared.schema.Table.{Table}
 use Rattle.mega_schema.specs.declared.schema.Schema.{Schema}
 use Rattle.mega_schema.specs.Lookup.{property_at, is_repeated}
 use Rattle.mega_schema.specs.Shaping.{table_at, shape_of}
-use Rattle.mega_index.specs.declared.found.Found.{Found}
+use Rattle.mega_outcome.specs.of_index.declared.found.Found.{Found}
 use Rattle.mega_outcome.specs.declared.answer.Turn.{Turn}
 use Rattle.mega_outcome.specs.declared.answer.Turn.TheVariants as turns
 use Rattle.mega_transcript.specs.Named.{number_of_place, table_number, names_table, names_property}

@@ -18,7 +18,7 @@ use Rattle.mega_schema.specs.declared.schema.Table.{Table}
 use Rattle.mega_schema.specs.declared.schema.Schema.{Schema}
 use Rattle.mega_schema.specs.Lookup.{is_repeated}
 use Rattle.mega_schema.specs.Shaping.{table_at, shape_of}
-use Rattle.mega_index.specs.declared.found.Found.{Found}
+use Rattle.mega_outcome.specs.of_index.declared.found.Found.{Found}
 use Rattle.mega_outcome.specs.declared.answer.Shown.{Shown}
 use Rattle.mega_outcome.specs.declared.answer.Mark.{Mark}
 use Rattle.mega_outcome.specs.declared.answer.Turn.{Turn}

@@ -10,7 +10,7 @@ ghost use Rattle.mega_transcript.specs.Answers.{turn_word, turn_number, other_wo
 use crate::showing::{Show, list, put_json};
 use crate::words::{put_end, put_number, put_op, put_position, put_word};
 use mega_base::{Bytes, NoMemory, NodeKind, OpId, Position, Text};
-use mega_index::Found;
+use mega_outcome::mega_index::Found;
 use mega_outcome::{Answer, Mark, Turn};
 use mega_schema::Schema;
 use serde_json::Value as Json;

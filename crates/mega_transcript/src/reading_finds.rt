@@ -10,7 +10,7 @@ use crate::reading_rows::cells_of;
 use crate::reading_values::{list_of, triple_of, value_of};
 use crate::showing::table_at;
 use mega_base::{Items, Kind, NoMemory, Row, Value};
-use mega_index::Found;
+use mega_outcome::mega_index::Found;
 use mega_schema::{Schema, Table};
 use serde_json::Value as Json;
 use std::alloc::Global;

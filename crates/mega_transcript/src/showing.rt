@@ -17,7 +17,7 @@ ghost use Rattle.mega_transcript.specs.Answers.{result_data};
 use crate::answers::{turn_number, turn_word};
 use crate::words::put_word;
 use mega_base::{Bytes, Cell, Items, Kind, NoMemory, Row, Value};
-use mega_index::Found;
+use mega_outcome::mega_index::Found;
 use mega_outcome::{Mark, Shown, Turn};
 use mega_schema::{Need, Property, Schema, Table};
 use serde_json::{Map, Value as Json};

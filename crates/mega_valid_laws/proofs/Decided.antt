@@ -12,7 +12,7 @@ use Rattle.mega_transcript.specs.declared.item.Item.TheVariants.{Decide}
 use Rattle.mega_promises.specs.Promises.{Stands}
 use Rattle.mega_promises.specs.Runs.{Happening, IsRun}
 use Rattle.mega_rules.specs.Members.{full_nodes}
-use Rattle.mega_run_laws.proofs.Runs.{run_polls}
+use Rattle.mega_settled_laws.proofs.of_run_laws.Runs.{run_polls}
 use Rattle.mega_tape_laws.specs.Places.{In}
 use Rattle.mega_settled_laws.proofs.Behind.{run_decided}
 use Rattle.mega_valid_laws.specs.Leases.{AreLeased, HasAtLeast, IsHeld, IsTop, accepted, decided, valid_on}

@@ -13,8 +13,8 @@ use Rattle.mega_promises.specs.Runs.{breaks, with_item, with_items}
 use Rattle.mega_rules.specs.Met.{Met, Starts, Crashes, Ticks, Begins, Takes, Sends, Unsends, Grants, Lapses, Counts, Forgets, Serves, Loses, Validates, Invalidates, Decides, Applies, Answers}
 use Rattle.mega_rules.specs.Operations.{Node}
 use Rattle.mega_rules.specs.Steps.{onto}
-use Rattle.mega_run_laws.specs.Vouched.{sent}
-use Rattle.mega_run_laws.proofs.Noted.{with_append}
+use Rattle.mega_settled_laws.specs.of_run_laws.Vouched.{sent}
+use Rattle.mega_settled_laws.proofs.of_run_laws.Noted.{with_append}
 use Rattle.mega_valid_laws.specs.Leases.{serving_on, valid_on}
 use Rattle.mega_valid_laws.specs.Showing.{next_serving, next_valid, serving_met, valid_met}
 

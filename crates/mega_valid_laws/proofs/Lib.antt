@@ -7,3 +7,4 @@ pub mod Agreeing
 pub mod Walked
 pub mod Shows
 pub mod Witness
+pub use Rattle.mega_settled_laws.proofs as of_settled_laws

@@ -18,10 +18,10 @@ use Rattle.mega_rules.specs.Operations.{Node, Setting}
 use Rattle.mega_rules.specs.Replies.{reply_to}
 use Rattle.mega_rules.specs.Steps.{Begin, Decision, Event, Heard, Step, Take, Tick, crashed, first_settled, hears_message, if_new, news, onto, op_of, start, start_items, start_note, start_notes, step, taken, told_decision, told_notes}
 use Rattle.mega_tape_laws.proofs.Ballots.{number_is}
-use Rattle.mega_run_laws.specs.Vouched.{Each, sent}
-use Rattle.mega_run_laws.proofs.Events.{onto_append}
-use Rattle.mega_run_laws.proofs.Noted.{with_append, with_sent}
-use Rattle.mega_run_laws.proofs.Runs.{IsMark, Keeps, run_keeps}
+use Rattle.mega_settled_laws.specs.of_run_laws.Vouched.{Each, sent}
+use Rattle.mega_settled_laws.proofs.of_run_laws.Events.{onto_append}
+use Rattle.mega_settled_laws.proofs.of_run_laws.Noted.{with_append, with_sent}
+use Rattle.mega_settled_laws.proofs.of_run_laws.Runs.{IsMark, Keeps, run_keeps}
 use Rattle.mega_settled_laws.proofs.Tapes.{each_both}
 use Rattle.mega_valid_laws.specs.Leases.{serving_on, valid_on}
 use Rattle.mega_valid_laws.specs.Showing.{next_serving, next_valid, serving_met, valid_met}

@@ -30,9 +30,9 @@ use Rattle.mega_rules.specs.Operations.{Node, Now, Operation, Setting}
 use Rattle.mega_rules.specs.Acting.{completes_read, ends, sends_more, validated_by}
 use Rattle.mega_rules.specs.Steps.{Begin, Decision, Event, Heard, Step, Take, Tick, acts_in_turn, all_act, applied_at, apply_note, apply_notes, at_first, at_open, background, begin_step, decision_note, does_due, first_settled, hears_message, if_new, is_out, lapse_notes, last_answer, lease_notes, new_operation, news, onto, op_of, portion_of, refusal, step, stored_after, take_step, taken, tick_step, ticked, told_decision, told_notes, unless_refused}
 use Rattle.mega_rules.specs.Replies.{reply_to}
-use Rattle.mega_run_laws.specs.Vouched.{Each}
-use Rattle.mega_run_laws.proofs.Events.{IsAnswer, onto_append}
-use Rattle.mega_run_laws.proofs.Turns.{each_on}
+use Rattle.mega_settled_laws.specs.of_run_laws.Vouched.{Each}
+use Rattle.mega_settled_laws.proofs.of_run_laws.Events.{IsAnswer, onto_append}
+use Rattle.mega_settled_laws.proofs.of_run_laws.Turns.{each_on}
 use Rattle.mega_settled_laws.proofs.Tapes.{each_both}
 use Rattle.mega_settled_laws.proofs.Walk.{Walks, begun_it, goes_on_it}
 use Rattle.mega_valid_laws.specs.Showing.{serving_met, valid_met}

@@ -7,9 +7,9 @@ use Rattle.mega_voter.specs.Faring.{LogFares}
 use Rattle.mega_wal.specs.declared.answers.LogFault.{LogFault}
 use Rattle.mega_wal.specs.declared.answers.LogFault.TheVariants as log
 use Rattle.mega_replica.specs.Faring.{Fares}
-use Rattle.mega_core.specs.declared.fault.StepFault.{StepFault}
-use Rattle.mega_core.specs.declared.fault.StepFault.TheVariants as fault
-use Rattle.mega_core.specs.Faults.{of_store}
+use Rattle.mega_durable.specs.of_core.declared.fault.StepFault.{StepFault}
+use Rattle.mega_durable.specs.of_core.declared.fault.StepFault.TheVariants as fault
+use Rattle.mega_durable.specs.of_core.Faults.{of_store}
 use Rattle.mega_world.specs.Faults.{is_strange}
 
 -- a device that never fails, and never held anything bad, is not why

@@ -10,7 +10,7 @@ use Rattle.mega_rules.specs.Met.{Met}
 use Rattle.mega_rules.specs.Operations.{Node as RuleNode}
 use Rattle.mega_rules.specs.Steps.{onto}
 use Rattle.mega_voter.specs.Holding.{HoldsMet, Recalls}
-use Rattle.mega_core.specs.Restarting.{HaveFollowed}
+use Rattle.mega_durable.specs.of_core.Restarting.{HaveFollowed}
 use Rattle.mega_durable.specs.declared.cut.Cut.{Cut}
 use Rattle.mega_durable.specs.declared.down.Down.{Down as DownNode}
 use Rattle.mega_durable.specs.Replying.{owed_by}

@@ -10,8 +10,8 @@ use Rattle.mega_rules.specs.Clock.{is_up, start_of}
 use Rattle.mega_rules.specs.Operations.{Node as RuleNode}
 use Rattle.mega_replica.specs.Following.{progress_at}
 use Rattle.mega_voter.specs.Holding.{HoldsMet}
-use Rattle.mega_core.specs.declared.node.Node.{Node}
-use Rattle.mega_core.specs.Represents.{Represents}
+use Rattle.mega_durable.specs.of_core.declared.node.Node.{Node}
+use Rattle.mega_durable.specs.of_core.Represents.{Represents}
 use Rattle.mega_durable.specs.Granted.{KeepsGrants}
 use Rattle.mega_promises.specs.Runs.{setting}
 use Rattle.mega_world.specs.declared.member.Member.{Member}

@@ -6,7 +6,7 @@ use Rattle.mega_schedule.specs.declared.world_event.WorldEvent.{WorldEvent}
 use Rattle.mega_schedule.specs.declared.world_event.WorldEvent.TheVariants.{Deliver}
 use Rattle.mega_transcript.specs.declared.item.Item.{Item}
 use Rattle.mega_transcript.specs.Tape.{newest}
-use Rattle.mega_core.specs.Served.{IsServed}
+use Rattle.mega_durable.specs.of_core.Served.{IsServed}
 use Rattle.mega_promises.specs.Runs.{Standing, refusal}
 use Rattle.mega_world.specs.declared.world.World.{World}
 use Rattle.mega_world.specs.Carries.{Carries}

@@ -1,10 +1,10 @@
 //! Why an event does not happen in a world.
 ghost use Rattle.std.specs.Prelude.{◌≡◌, Some, None, false};
-ghost use Rattle.mega_core.specs.Faults.{of_store};
+ghost use Rattle.mega_durable.specs.of_core.Faults.{of_store};
 ghost use Rattle.mega_world.specs.Faults.{fault_of, is_strange, log_fault_of};
 
 use mega_base::NoMemory;
-use mega_core::StepFault;
+use mega_durable::mega_core::StepFault;
 use mega_wal::LogFault;
 
 /// Why an event did not happen.

@@ -4,7 +4,7 @@ ghost use Rattle.std.specs.Prelude.{All};
 ghost use Rattle.mega_handler.specs.Named.{Meanings};
 ghost use Rattle.mega_transcript.specs.Lines.{HasLine};
 ghost use Rattle.mega_transcript.specs.Tape.{newest};
-ghost use Rattle.mega_core.specs.Served.{IsServed};
+ghost use Rattle.mega_durable.specs.of_core.Served.{IsServed};
 ghost use Rattle.mega_view.specs.Small.{IsSmall};
 ghost use Rattle.mega_rules.specs.Members.{is_node};
 ghost use Rattle.mega_promises.specs.Runs.{opening};

@@ -2,7 +2,7 @@
 ghost use Rattle.std.specs.Prelude.{◌≡◌, ◌≢◌, ◌≤◌, ◌-◌, ℕ, List, length, set, IfNone, IfOk, IfSome, OnOk, Err, Option, Some, None, true, false, ◌++◌};
 ghost use Rattle.std.specs.Prelude.{All};
 ghost use Rattle.mega_cluster.specs.declared.cluster.Cluster.{Cluster as ClusterValue};
-ghost use Rattle.mega_core.specs.Served.{IsServed};
+ghost use Rattle.mega_durable.specs.of_core.Served.{IsServed};
 ghost use Rattle.mega_handler.specs.Named.{Meaning, Meanings};
 ghost use Rattle.mega_rules.specs.Members.{is_node};
 ghost use Rattle.mega_schedule.specs.declared.world_event.WorldEvent.TheVariants as event;
@@ -27,8 +27,8 @@ use crate::starting::{Begun, NotBegun};
 use crate::world::World;
 use mega_base::{Copied, Items, NodeId};
 use mega_cluster::Cluster;
-use mega_core::Note;
 use mega_durable::Cut;
+use mega_durable::mega_core::Note;
 use mega_transcript::{Item, Tape};
 use std::alloc::Global;
 

@@ -8,7 +8,7 @@ ghost use Rattle.mega_transcript.specs.declared.item.Item.TheVariants as item;
 ghost use Rattle.mega_transcript.specs.Lines.{HasLine};
 ghost use Rattle.mega_transcript.specs.Tape.{newest, sent_count};
 ghost use Rattle.mega_rules.specs.Operations.{Node as RuleNode};
-ghost use Rattle.mega_core.specs.Notes.{met_of};
+ghost use Rattle.mega_durable.specs.of_core.Notes.{met_of};
 ghost use Rattle.mega_promises.specs.Items.{numbered, shown};
 ghost use Rattle.mega_promises.specs.Runs.{with_items};
 ghost use Rattle.mega_world.specs.Carries.{Carries};
@@ -23,8 +23,8 @@ use crate::safety::{Safety, keep_lapses};
 use crate::stepping::Stepped;
 use crate::world::World;
 use mega_base::{Items, NoMemory, NodeId};
-use mega_core::{Note, Step};
 use mega_durable::item_of;
+use mega_durable::mega_core::{Note, Step};
 use mega_transcript::{Item, Tape};
 use std::alloc::Global;
 

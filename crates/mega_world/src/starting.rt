@@ -1,7 +1,7 @@
 //! A node starts over what it left.
 ghost use Rattle.std.specs.Prelude.{◌≡◌, ℕ, List, [], true, IfErr, IfOk, Err};
 ghost use Rattle.mega_cluster.specs.declared.cluster.Cluster.{Cluster as ClusterValue};
-ghost use Rattle.mega_core.specs.Served.{IsServed};
+ghost use Rattle.mega_durable.specs.of_core.Served.{IsServed};
 ghost use Rattle.mega_disk.specs.MemDisk.{fuse_of, image_of};
 ghost use Rattle.mega_rules.specs.Members.{is_node};
 ghost use Rattle.mega_rules.specs.Met.{Met};
@@ -17,8 +17,8 @@ use crate::member::Member;
 use crate::remains::Remains;
 use mega_base::{Items, NoMemory};
 use mega_cluster::Cluster;
-use mega_core::Note;
 use mega_disk::MemRecords;
+use mega_durable::mega_core::Note;
 use mega_durable::{Cut, Down, NotStarted, Started, Up};
 use mega_rows::VersionedRows;
 use mega_voter::Voter;

@@ -9,9 +9,9 @@ use Rattle.mega_replica.specs.Following.{progress_at}
 use Rattle.mega_rules.specs.Logs.{log_of}
 use Rattle.mega_rules.specs.Steps.{applied_position, snapshot_listed, snapshot_rows, stored_listed, stored_rows}
 use Rattle.mega_voter.specs.Journal.{journal_of}
-use Rattle.mega_node_laws.specs.About.{IsOf}
-use Rattle.mega_node_laws.proofs.Logs.{log_is}
-use Rattle.mega_node_laws.proofs.Owned.{outcome_is}
+use Rattle.mega_marks.specs.of_node_laws.About.{IsOf}
+use Rattle.mega_marks.proofs.of_node_laws.Logs.{log_is}
+use Rattle.mega_marks.proofs.of_node_laws.Owned.{outcome_is}
 use Rattle.mega_actions.specs.Servable.{mode_asked}
 use Rattle.mega_actions.specs.Showing.{looks_in, place_by}
 use Rattle.mega_actions.specs.Stands.{setting}

@@ -1,6 +1,6 @@
 use Rattle.mega_rules.specs.Logs.{log_of}
 use Rattle.mega_voter.specs.Journal.{journal_of}
-use Rattle.mega_node_laws.proofs.Logs.{log_is}
+use Rattle.mega_marks.proofs.of_node_laws.Logs.{log_is}
 use Rattle.mega_replica.proofs.Fared.{fares_by_puts}
 use Rattle.mega_actions.proofs.completing.stores_through.Goals as goal
 

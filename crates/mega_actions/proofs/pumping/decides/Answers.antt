@@ -1,6 +1,6 @@
 use Rattle.std.proofs.Common.{◌≤◌, ◌∙◌, Bool, ap, sym, refl, arith}
 use Rattle.mega_outcome.specs.Answers.{rows_at as versions_at}
-use Rattle.mega_node_laws.proofs.Applied.{applied_within}
+use Rattle.mega_marks.proofs.of_node_laws.Applied.{applied_within}
 use Rattle.mega_pumps.specs.Owns.{own_by}
 use Rattle.mega_rules.specs.Acting.{enters, listed_at}
 use Rattle.mega_rules.specs.Logs.{log_of, prefix_of}

@@ -1,6 +1,6 @@
 use Rattle.mega_rules.specs.Logs.{log_of}
 use Rattle.mega_voter.specs.Journal.{journal_of}
-use Rattle.mega_node_laws.proofs.Logs.{log_is}
+use Rattle.mega_actions.proofs.of_node_laws.Logs.{log_is}
 use Rattle.mega_core.proofs.applying.applied_at.Goals as goal
 
 pub returns : goal.returns

@@ -2,7 +2,7 @@ use Rattle.std.proofs.Common.{◌≡◌, OnOk, Option, rules, subst, sym, true}
 use Rattle.mega_handler.specs.Named.{Meanings}
 use Rattle.mega_outcome.specs.declared.answer.Answer.{Answer}
 use Rattle.mega_rules.specs.Operations.{Now}
-use Rattle.mega_marks.specs.AreMarked.{AreMarked, IsIndexed}
+use Rattle.mega_actions.specs.of_marks.AreMarked.{AreMarked, IsIndexed}
 use Rattle.mega_actions.specs.Faults.{failed_by}
 use Rattle.mega_actions.specs.IsAt.{IsAt}
 use Rattle.mega_core.specs.Beginning.{marks_unless}

@@ -4,7 +4,7 @@ use Rattle.mega_rules.specs.Logs.{log_of}
 use Rattle.mega_rules.specs.Steps.{Decision, stored_after}
 use Rattle.mega_replica.specs.Following.{Follows, progress_at}
 use Rattle.mega_voter.specs.Journal.{journal_of}
-use Rattle.mega_node_laws.proofs.Logs.{log_is}
+use Rattle.mega_actions.proofs.of_node_laws.Logs.{log_is}
 use Rattle.mega_core.proofs.Fitting.{stored_bare}
 use Rattle.mega_core.proofs.Portions.{stored_after_is}
 use Rattle.mega_core.proofs.deciding.stores.Goals as goal

@@ -1,7 +1,7 @@
 use Rattle.std.proofs.Common.{◌≡◌, List, drop, map}
 use Rattle.mega_rules.specs.Met.{Met, Sends}
 use Rattle.mega_rules.specs.Steps.{onto}
-use Rattle.mega_node_laws.specs.Sending.{MaySend}
+use Rattle.mega_actions.specs.of_node_laws.Sending.{MaySend}
 use Rattle.mega_voter.specs.Telling.{Tells}
 use Rattle.mega_core.specs.Staging.{Stages}
 use Rattle.mega_core.proofs.Sent.{SentSo}

@@ -5,7 +5,7 @@ use Rattle.mega_rules.specs.Members.{has_rows}
 use Rattle.mega_rules.specs.Met.{Takes}
 use Rattle.mega_rules.specs.Operations.{Setting}
 use Rattle.mega_rules.specs.Steps.{decision_note, onto, stored_after, told_decision, told_notes}
-use Rattle.mega_node_laws.proofs.Followed.{follows_after, follows_more}
+use Rattle.mega_actions.proofs.of_node_laws.Followed.{follows_after, follows_more}
 use Rattle.mega_replica.specs.declared.rows.StoredRows.{StoredRows}
 use Rattle.mega_replica.specs.Following.{Follows, progress_at}
 use Rattle.mega_actions.specs.Stands.{setting}

@@ -10,8 +10,8 @@ use Rattle.mega_leases.specs.Notes.{met_of}
 use Rattle.mega_voter.specs.Telling.{Tells}
 use Rattle.mega_voter.proofs.Told.{silent_told}
 use Rattle.mega_replica.specs.Following.{progress_at}
-use Rattle.mega_node_laws.proofs.Logs.{log_stays}
-use Rattle.mega_node_laws.proofs.Followed.{follows_after, follows_more}
+use Rattle.mega_actions.proofs.of_node_laws.Logs.{log_stays}
+use Rattle.mega_actions.proofs.of_node_laws.Followed.{follows_after, follows_more}
 use Rattle.mega_actions.specs.Stands.{setting}
 use Rattle.mega_core.specs.Staging.{Stages}
 use Rattle.mega_core.specs.Touching.{behind}

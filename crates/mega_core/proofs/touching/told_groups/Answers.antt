@@ -1,5 +1,5 @@
 use Rattle.std.proofs.Common.{◌∙◌, Bool, [], ap, sym}
-use Rattle.mega_node_laws.specs.Acted.{or_settled}
+use Rattle.mega_actions.specs.of_node_laws.Acted.{or_settled}
 use Rattle.mega_rules.specs.Steps.{first_settled, told_decision}
 use Rattle.mega_core.specs.Touching.{told_groups}
 use Rattle.mega_core.proofs.Groups.{groups_told}

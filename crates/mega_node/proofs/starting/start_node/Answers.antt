@@ -1,5 +1,5 @@
 use Rattle.std.proofs.Common.{◌≡◌, ◌+◌, ℕ, ◌<◌, [], ap, refl, sym, subst, ◌∙◌, arith}
-use Rattle.mega_durable.specs.Starting.{IsRefused}
+use Rattle.mega_server.specs.of_durable.Starting.{IsRefused}
 use Rattle.mega_checkpoint.specs.Opened.{disk_of}
 use Rattle.mega_promises.specs.NodeRuns.{met_of}
 use Rattle.mega_promises.specs.Runs.{setting}

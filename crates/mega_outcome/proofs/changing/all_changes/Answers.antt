@@ -2,7 +2,7 @@ use Rattle.std.proofs.Common.{◌∙◌, ap, sym, ◌+◌, ◌∷◌, ◌++◌, 
 use Rattle.std.specs.Prelude.{Some}
 use Rattle.std.proofs.lemmas.List.{at_drop_more}
 use Rattle.mega_disk.specs.VersionMaps.{Versions}
-use Rattle.mega_entry.specs.declared.content.Write.{Write}
+use Rattle.mega_index.specs.of_entry.declared.content.Write.{Write}
 use Rattle.mega_index.specs.Rows.{Rows}
 use Rattle.mega_outcome.specs.declared.transaction.Change.{Change}
 use Rattle.mega_outcome.specs.Changes.{change, all_changes}

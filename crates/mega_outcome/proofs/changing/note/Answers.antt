@@ -1,6 +1,6 @@
 use Rattle.std.proofs.Common.{◌∙◌, ap, sym, ◌+◌, ◌∷◌, List, drop}
 use Rattle.std.proofs.lemmas.List.{at_drop_more}
-use Rattle.mega_entry.specs.declared.content.Write.{Write}
+use Rattle.mega_index.specs.of_entry.declared.content.Write.{Write}
 use Rattle.mega_index.specs.Rows.{written}
 use Rattle.mega_outcome.specs.Answers.{seen}
 use Rattle.mega_outcome.proofs.changing.note.Goals as goal

@@ -1,6 +1,6 @@
 use Rattle.std.proofs.Common.{◌≡◌, drop}
 use Rattle.std.specs.Prelude.{fold, max}
-use Rattle.mega_entry.specs.declared.content.Send.{Send}
+use Rattle.mega_index.specs.of_entry.declared.content.Send.{Send}
 use Rattle.mega_index.specs.Fitted.{enter_length}
 use Rattle.mega_outcome.proofs.longest.longer.Given as goal
 

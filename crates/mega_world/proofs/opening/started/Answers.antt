@@ -1,6 +1,6 @@
 use Rattle.std.proofs.Common.{◌≡◌, None, [], refl, subst, sym, true}
 use Rattle.mega_cluster.specs.declared.cluster.Cluster.{Cluster}
-use Rattle.mega_core.specs.Served.{IsServed}
+use Rattle.mega_durable.specs.of_core.Served.{IsServed}
 use Rattle.mega_rules.specs.Members.{is_node}
 use Rattle.mega_rules.specs.Steps.{start}
 use Rattle.mega_promises.specs.Runs.{setting}

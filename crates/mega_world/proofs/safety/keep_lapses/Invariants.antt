@@ -1,7 +1,7 @@
 use Rattle.std.proofs.Common.{ℕ, List, drop, map}
 use Rattle.mega_rules.specs.Met.{Met}
 use Rattle.mega_rules.specs.Steps.{onto}
-use Rattle.mega_core.specs.Notes.{met_of}
+use Rattle.mega_durable.specs.of_core.Notes.{met_of}
 use Rattle.mega_world.specs.Lapses.{AreLapsesOf}
 use Rattle.mega_world.proofs.Lapsing.{KeptSo}
 use Rattle.mega_world.proofs.safety.keep_lapses.Given as goal

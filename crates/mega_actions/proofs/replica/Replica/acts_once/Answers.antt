@@ -5,7 +5,7 @@ use Rattle.mega_rules.specs.Logs.{decided}
 use Rattle.mega_rules.specs.Operations.{Operation, Proposes, Reads}
 use Rattle.mega_rules.specs.Acting.{acts, unless_decided}
 use Rattle.mega_replica.specs.Following.{progress_at}
-use Rattle.mega_node_laws.specs.About.{IsAbout}
+use Rattle.mega_marks.specs.of_node_laws.About.{IsAbout}
 use Rattle.mega_outcome.specs.declared.request.Request.{Request}
 use Rattle.mega_actions.specs.Acted.{IsNextAsked}
 use Rattle.mega_actions.specs.Stands.{Stands, setting}

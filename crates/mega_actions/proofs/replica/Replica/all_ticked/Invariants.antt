@@ -3,7 +3,7 @@ use Rattle.std.specs.Prelude.{None}
 use Rattle.std.specs.Vec.Iter.{into_iter_items}
 use Rattle.mega_handler.specs.Named.{Meanings}
 use Rattle.mega_meanings.specs.Means.{Means}
-use Rattle.mega_node_laws.specs.About.{IsAbout}
+use Rattle.mega_marks.specs.of_node_laws.About.{IsAbout}
 use Rattle.mega_rules.specs.Operations.{Now}
 use Rattle.mega_rules.specs.Steps.{ticked}
 use Rattle.mega_replica.specs.Faring.{Fares}

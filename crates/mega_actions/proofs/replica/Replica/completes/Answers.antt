@@ -1,6 +1,6 @@
 use Rattle.std.proofs.Common.{None, rules}
 use Rattle.mega_rules.specs.Acting.{completes_read}
-use Rattle.mega_node_laws.proofs.Completed.{completed_applied}
+use Rattle.mega_marks.proofs.of_node_laws.Completed.{completed_applied}
 use Rattle.mega_replica.specs.Faring.{Fares}
 use Rattle.mega_replica.proofs.Fared.{fares_then}
 use Rattle.mega_actions.specs.Faults.{failed_by}

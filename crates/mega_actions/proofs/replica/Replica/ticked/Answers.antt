@@ -2,7 +2,7 @@ use Rattle.std.proofs.Common.{◌≡◌, ◌∙◌, [], false, sym, ap, refl, ru
 use Rattle.mega_rules.specs.Operations.{Now}
 use Rattle.mega_rules.specs.Acting.{ends}
 use Rattle.mega_rules.specs.Steps.{Heard, acts_in_turn}
-use Rattle.mega_node_laws.proofs.Lasting.{does_due_about}
+use Rattle.mega_marks.proofs.of_node_laws.Lasting.{does_due_about}
 use Rattle.mega_replica.specs.Following.{progress_at}
 use Rattle.mega_actions.specs.Servable.{is_open}
 use Rattle.mega_actions.specs.IsAt.{IsAt}

@@ -2,7 +2,7 @@ use Rattle.std.proofs.Common.{◌∙◌, ◌∷◌, List, map, subst}
 use Rattle.mega_wire.specs.declared.message.Message.{Message}
 use Rattle.mega_rules.specs.Met.{Met, Sends}
 use Rattle.mega_rules.specs.Steps.{onto}
-use Rattle.mega_node_laws.specs.Sending.{MaySend}
+use Rattle.mega_actions.specs.of_node_laws.Sending.{MaySend}
 use Rattle.mega_replica.specs.Following.{progress_at}
 use Rattle.mega_voter.specs.Telling.{Tells}
 use Rattle.mega_actions.specs.Stands.{setting}

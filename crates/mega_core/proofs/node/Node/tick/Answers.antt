@@ -6,8 +6,8 @@ use Rattle.mega_rules.specs.Met.{Ticks}
 use Rattle.mega_rules.specs.Steps.{Step as RuleStep, Tick, lapse_notes, lease_notes, portion_of}
 use Rattle.mega_replica.specs.Following.{progress_at}
 use Rattle.mega_replica.proofs.Fared.{fares_then}
-use Rattle.mega_node_laws.specs.About.{IsAbout}
-use Rattle.mega_node_laws.specs.Acted.{acted_on}
+use Rattle.mega_actions.specs.of_node_laws.About.{IsAbout}
+use Rattle.mega_actions.specs.of_node_laws.Acted.{acted_on}
 use Rattle.mega_actions.specs.Stands.{setting}
 use Rattle.mega_actions.specs.Turns.{IsServable}
 use Rattle.mega_core.specs.Faults.{failed_by}
