@@ -19,20 +19,20 @@ use Rattle.mega_voter.proofs.Begun.{Beside, beside_more}
 use Rattle.mega_voter.proofs.Opened.{granted_without, slots_without}
 use Rattle.mega_voter.specs.Journal.{journal_of}
 use Rattle.mega_promises.specs.Runs.{Standing, after_append, cut_start, has_lapsed, is_kept, left_by, set_at, setting}
-use Rattle.mega_world.specs.declared.fallen.Fallen.{Fallen}
-use Rattle.mega_world.specs.declared.place.Place.{Place}
-use Rattle.mega_world.specs.declared.place.Place.TheVariants.{Up, Down}
-use Rattle.mega_world.specs.declared.log_fuse.LogFuse.{LogFuse}
-use Rattle.mega_world.specs.declared.remains.Remains.{Remains}
-use Rattle.mega_world.specs.Kept.{AreNodes, AreReady, IsFallen, owed_of, records_below}
-use Rattle.mega_world.specs.LogFuses.{IsFused}
-use Rattle.mega_world.specs.Members.{records_of}
+use Rattle.mega_places.specs.declared.fallen.Fallen.{Fallen}
+use Rattle.mega_places.specs.declared.place.Place.{Place}
+use Rattle.mega_places.specs.declared.place.Place.TheVariants.{Up, Down}
+use Rattle.mega_places.specs.declared.log_fuse.LogFuse.{LogFuse}
+use Rattle.mega_places.specs.declared.remains.Remains.{Remains}
+use Rattle.mega_places.specs.Kept.{AreNodes, AreReady, IsFallen, owed_of, records_below}
+use Rattle.mega_places.specs.LogFuses.{IsFused}
+use Rattle.mega_places.specs.Members.{records_of}
 use Rattle.mega_world.specs.Restarting.{Opens, StaysDown, started}
-use Rattle.mega_world.specs.Starting.{BeginsSo, FallsAgain}
-use Rattle.mega_world.specs.declared.starting.Begun.{Begun}
-use Rattle.mega_world.proofs.Fuses.{fused_gone}
-use Rattle.mega_world.proofs.Joining.{at_other, at_own, nodes_on}
-use Rattle.mega_world.proofs.Lapsing.{lapsed_on}
+use Rattle.mega_places.specs.Starting.{BeginsSo, FallsAgain}
+use Rattle.mega_places.specs.declared.starting.Begun.{Begun}
+use Rattle.mega_places.proofs.Fuses.{fused_gone}
+use Rattle.mega_places.proofs.Joining.{at_other, at_own, nodes_on}
+use Rattle.mega_places.proofs.Lapsing.{lapsed_on}
 use Rattle.mega_world.proofs.Holding.{owed_crashed}
 
 -- ---- a crash behind what is owed changes nothing that records hold

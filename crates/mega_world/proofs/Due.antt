@@ -17,12 +17,12 @@ use Rattle.mega_rules.specs.Steps.{Begin, Event, Take, Tick, op_of, step}
 use Rattle.mega_promises.specs.Items.{number, shown}
 use Rattle.mega_promises.specs.Messages.{message_of}
 use Rattle.mega_promises.specs.Runs.{Standing, setting}
-use Rattle.mega_world.specs.declared.mail.Mail.{Mail}
+use Rattle.mega_places.specs.declared.mail.Mail.{Mail}
 use Rattle.mega_world.specs.declared.world.World.{World}
-use Rattle.mega_world.specs.Carries.{Carries}
+use Rattle.mega_places.specs.Carries.{Carries}
 use Rattle.mega_world.specs.Formed.{IsSound, OwnsStep, OwnsTaken}
 use Rattle.mega_world.specs.Stands.{StandsWith}
-use Rattle.mega_world.proofs.Carrying.{shown_on}
+use Rattle.mega_places.proofs.Carrying.{shown_on}
 use Rattle.mega_world.proofs.Forming.{made_formed}
 use Rattle.mega_world.proofs.Happening.{IsFit, IsReady}
 use Rattle.mega_world.proofs.Holding.{journal_items}

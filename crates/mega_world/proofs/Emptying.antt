@@ -12,16 +12,16 @@ use Rattle.mega_transcript.specs.Tape.{newest}
 use Rattle.mega_transcript.proofs.Tapes.{newest-append}
 use Rattle.mega_promises.specs.Messages.{next_delivery}
 use Rattle.mega_promises.specs.Runs.{Standing, after_event, by_fuse, delivered, drained, marked, up}
-use Rattle.mega_world.specs.declared.place.Place.{Place}
-use Rattle.mega_world.specs.declared.safety.Safety.{Safety}
+use Rattle.mega_places.specs.declared.place.Place.{Place}
+use Rattle.mega_places.specs.declared.safety.Safety.{Safety}
 use Rattle.mega_world.specs.declared.world.World.{World}
-use Rattle.mega_world.specs.Carries.{Carries}
+use Rattle.mega_places.specs.Carries.{Carries}
 use Rattle.mega_world.specs.Formed.{IfNext, IsSound, OwnsDelivered, OwnsDrained}
-use Rattle.mega_world.specs.Kept.{AreNodes}
-use Rattle.mega_world.specs.Lapses.{KnowsLeases}
+use Rattle.mega_places.specs.Kept.{AreNodes}
+use Rattle.mega_places.specs.Lapses.{KnowsLeases}
 use Rattle.mega_world.specs.Stands.{StandsWith}
 use Rattle.mega_world.proofs.Behind.{behind}
-use Rattle.mega_world.proofs.Carrying.{same_on}
+use Rattle.mega_places.proofs.Carrying.{same_on}
 use Rattle.mega_world.proofs.Events.{drain_is_cut, drains_no_more, drains_on}
 
 -- an item that no node meets leaves the nodes

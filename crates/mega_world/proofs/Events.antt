@@ -11,7 +11,7 @@ use Rattle.mega_rules.specs.Steps.{Step}
 use Rattle.mega_promises.specs.Items.{numbered, shown}
 use Rattle.mega_promises.specs.Messages.{next_delivery}
 use Rattle.mega_promises.specs.Runs.{Standing, after_event, by_fuse, delivered, drained, marked, set_at, unless_none, up, whole_step, with_items}
-use Rattle.mega_world.proofs.Plain.{with_step}
+use Rattle.mega_places.proofs.Plain.{with_step}
 
 -- what a whole step shows, oldest first in three pieces: the event's own items, the notes, and the messages with the next numbers
 pub step_shows : (c : Cluster) (now : Standing) (me : ℕ) (own : List Item) (made : Step) → ((node : ℕ → Node) (t : List Item) → with_items c node t own ≡ onto own t)

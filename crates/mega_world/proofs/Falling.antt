@@ -23,22 +23,22 @@ use Rattle.mega_voter.specs.Holding.{HoldsMet}
 use Rattle.mega_voter.proofs.Holding.{told_recalled}
 use Rattle.mega_durable.proofs.Fallen.{crash_followed, crash_held, crash_recalled}
 use Rattle.mega_promises.specs.Runs.{Standing, after_event, by_fuse, crashes, has_lapsed, set_at}
-use Rattle.mega_world.specs.declared.member.Member.{Member}
-use Rattle.mega_world.specs.declared.place.Place.{Place}
-use Rattle.mega_world.specs.declared.place.Place.TheVariants.{Down, Up}
+use Rattle.mega_places.specs.declared.member.Member.{Member}
+use Rattle.mega_places.specs.declared.place.Place.{Place}
+use Rattle.mega_places.specs.declared.place.Place.TheVariants.{Down, Up}
 use Rattle.mega_world.specs.declared.world.World.{World}
-use Rattle.mega_world.specs.Carries.{Carries}
+use Rattle.mega_places.specs.Carries.{Carries}
 use Rattle.mega_world.specs.Formed.{IsFormed}
-use Rattle.mega_world.specs.Kept.{AreNodes, AreReady, remains_of}
-use Rattle.mega_world.specs.Lapses.{KnowsLeases}
-use Rattle.mega_world.specs.Members.{IsMember, IsTold, is_up_at, node_in, records_of, version_of}
+use Rattle.mega_places.specs.Kept.{AreNodes, AreReady, remains_of}
+use Rattle.mega_places.specs.Lapses.{KnowsLeases}
+use Rattle.mega_places.specs.Members.{IsMember, IsTold, is_up_at, node_in, records_of, version_of}
 use Rattle.mega_world.specs.Restarting.{StaysDown}
 use Rattle.mega_world.specs.Stands.{StandsWith}
 use Rattle.mega_world.specs.Within.{RunsWithin}
-use Rattle.mega_world.proofs.Carrying.{shown_on}
+use Rattle.mega_places.proofs.Carrying.{shown_on}
 use Rattle.mega_world.proofs.Fates.{start_cut}
-use Rattle.mega_world.proofs.Joining.{at_other, nodes_on}
-use Rattle.mega_world.proofs.Outcomes.{StandsAt, stands_at, up_at}
+use Rattle.mega_places.proofs.Joining.{at_other, nodes_on}
+use Rattle.mega_places.proofs.Outcomes.{StandsAt, stands_at, up_at}
 
 -- a crash is met, and is nothing that logs or records hold, or that rows follow
 left_ready : (c : Cluster) (h : Meanings) (me : ℕ) (member : Member) (ruled : RuleNode) → IsMember c me member ruled → AreReady c me (remains_of member) (start_of ruled.met) (Crashes ∷ ruled.met)

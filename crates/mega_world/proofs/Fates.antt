@@ -16,9 +16,9 @@ use Rattle.mega_promises.specs.Runs.{CutByLog, Standing, Whole, after_event, app
 use Rattle.mega_world.specs.Restarting.{started}
 use Rattle.mega_world.specs.declared.world.World.{World}
 use Rattle.mega_world.specs.Stands.{StandsWith}
-use Rattle.mega_world.specs.Stepping.{cut_off}
-use Rattle.mega_world.proofs.Fuses.{fated as fate_is}
-use Rattle.mega_world.proofs.Plain.{with_append}
+use Rattle.mega_places.specs.Stepping.{cut_off}
+use Rattle.mega_places.proofs.Fuses.{fated as fate_is}
+use Rattle.mega_places.proofs.Plain.{with_append}
 
 pub step_whole : (c : Cluster) (h : Meanings) (now : Standing) (me : ℕ) (own : List Item) (event : Event) → (appends (step (setting c h me) (now.node me) event) && is_burning (now.log_fuse me)) ≡ false
     → at_node c h now me own event (by_fuse now me) ≡ whole_step c now me own (step (setting c h me) (now.node me) event)

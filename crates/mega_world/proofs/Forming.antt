@@ -21,7 +21,7 @@ use Rattle.mega_promises.specs.Items.{numbered, shown}
 use Rattle.mega_promises.specs.Messages.{message_of}
 use Rattle.mega_promises.specs.Runs.{Standing, set_at, setting, whole_step, with_items}
 use Rattle.mega_world.specs.Formed.{IsFormed}
-use Rattle.mega_world.proofs.Carrying.{notes_same}
+use Rattle.mega_places.proofs.Carrying.{notes_same}
 
 -- the nodes of a cluster of the format have numbers of the format
 pub is_member : (c : Cluster) (me : ℕ) → IsCluster c → is_node c me ≡ true → IsMember me

@@ -7,16 +7,16 @@ use Rattle.mega_disk.specs.declared.pair.Device.{Device}
 use Rattle.mega_disk.specs.declared.pair.Device.TheVariants.{Log, Data}
 use Rattle.mega_transcript.specs.declared.item.Item.{Item}
 use Rattle.mega_promises.specs.Runs.{Standing, fused, new_fuse, set_at}
-use Rattle.mega_world.specs.declared.place.Place.{Place}
-use Rattle.mega_world.specs.declared.place.Place.TheVariants.{Up, Down}
+use Rattle.mega_places.specs.declared.place.Place.{Place}
+use Rattle.mega_places.specs.declared.place.Place.TheVariants.{Up, Down}
 use Rattle.mega_world.specs.declared.world.World.{World}
-use Rattle.mega_world.specs.Fusing.{SetsFuse, SetsFuseAt}
-use Rattle.mega_world.specs.Carries.{Carries}
-use Rattle.mega_world.specs.Kept.{AreNodes, IsKept}
-use Rattle.mega_world.specs.Lapses.{KnowsLeases}
-use Rattle.mega_world.specs.Members.{AreMembers, member_in}
+use Rattle.mega_places.specs.Fusing.{SetsFuse, SetsFuseAt}
+use Rattle.mega_places.specs.Carries.{Carries}
+use Rattle.mega_places.specs.Kept.{AreNodes, IsKept}
+use Rattle.mega_places.specs.Lapses.{KnowsLeases}
+use Rattle.mega_places.specs.Members.{AreMembers, member_in}
 use Rattle.mega_world.specs.Stands.{StandsWith}
-use Rattle.mega_world.proofs.Joining.{IsPlace, at_other, at_own, kept_on, joined, member_is, member_up, place_at}
+use Rattle.mega_places.proofs.Joining.{IsPlace, at_other, at_own, kept_on, joined, member_is, member_up, place_at}
 
 same_all : {X : Type 0} (f : ℕ → X) (me : ℕ) → set_at f me (f me) ≡ f
 same_all f me = λ i other. by other (me == other) refl i

@@ -19,15 +19,15 @@ use Rattle.mega_durable.specs.of_core.Notes.{met_of}
 use Rattle.mega_promises.specs.Items.{numbered, shown}
 use Rattle.mega_promises.specs.Messages.{is_unsafe}
 use Rattle.mega_promises.specs.Runs.{set_at, with_items}
-use Rattle.mega_world.specs.declared.safety.Lapse.{Lapse}
-use Rattle.mega_world.specs.declared.safety.Safety.{Safety}
+use Rattle.mega_places.specs.declared.safety.Lapse.{Lapse}
+use Rattle.mega_places.specs.declared.safety.Safety.{Safety}
 use Rattle.mega_world.specs.declared.world.World.{World}
-use Rattle.mega_world.specs.Carries.{Carries}
-use Rattle.mega_world.specs.Lapses.{AreLapsesOf, KnowsLeases}
+use Rattle.mega_places.specs.Carries.{Carries}
+use Rattle.mega_places.specs.Lapses.{AreLapsesOf, KnowsLeases}
 use Rattle.mega_world.specs.Showing.{IsShown, IsStepped}
 use Rattle.mega_world.specs.Shown.{notes_shown}
-use Rattle.mega_world.proofs.Carrying.{notes_same, same_on}
-use Rattle.mega_world.proofs.Plain.{with_append, with_sent}
+use Rattle.mega_places.proofs.Carrying.{notes_same, same_on}
+use Rattle.mega_places.proofs.Plain.{with_append, with_sent}
 
 pub notes_last : (me : ℕ) (notes : List Note) (note : Note) → notes_shown me (notes ++ note ∷ []) ≡ notes_shown me notes ++ shown me (met_of note)
 notes_last me [] note = right (shown me (met_of note))

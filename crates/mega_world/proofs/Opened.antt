@@ -25,22 +25,22 @@ use Rattle.mega_member_laws.proofs.Steps.{first_started}
 use Rattle.mega_promises.specs.Items.{number, shown}
 use Rattle.mega_promises.specs.Messages.{is_unsafe, message_of}
 use Rattle.mega_promises.specs.Runs.{Whole, Standing, after_append, empty_node, fated_start, has_lapsed, nothing_yet, opening, set_at, setting, whole_start, with_items}
-use Rattle.mega_world.specs.declared.mail.Mail.{Mail}
-use Rattle.mega_world.specs.declared.safety.Lapse.{Lapse}
-use Rattle.mega_world.specs.declared.safety.Safety.{Safety}
-use Rattle.mega_world.specs.Carries.{Carries}
-use Rattle.mega_world.proofs.Carrying.{shown_on}
+use Rattle.mega_places.specs.declared.mail.Mail.{Mail}
+use Rattle.mega_places.specs.declared.safety.Lapse.{Lapse}
+use Rattle.mega_places.specs.declared.safety.Safety.{Safety}
+use Rattle.mega_places.specs.Carries.{Carries}
+use Rattle.mega_places.proofs.Carrying.{shown_on}
 use Rattle.mega_world.specs.Formed.{IsFormed}
-use Rattle.mega_world.specs.Lapses.{KnowsLeases, lapse, lapse_cmp}
-use Rattle.mega_world.specs.declared.place.Place.{Place}
-use Rattle.mega_world.specs.declared.place.Place.TheVariants.{Up, Down}
-use Rattle.mega_world.specs.declared.member.Member.{Member}
-use Rattle.mega_world.specs.Kept.{AreNodes, IsKept}
-use Rattle.mega_world.specs.LogFuses.{IsFused}
-use Rattle.mega_world.specs.Members.{IsMember, is_up_at, member_in, member_of, records_of}
+use Rattle.mega_places.specs.Lapses.{KnowsLeases, lapse, lapse_cmp}
+use Rattle.mega_places.specs.declared.place.Place.{Place}
+use Rattle.mega_places.specs.declared.place.Place.TheVariants.{Up, Down}
+use Rattle.mega_places.specs.declared.member.Member.{Member}
+use Rattle.mega_places.specs.Kept.{AreNodes, IsKept}
+use Rattle.mega_places.specs.LogFuses.{IsFused}
+use Rattle.mega_places.specs.Members.{IsMember, is_up_at, member_in, member_of, records_of}
 use Rattle.mega_world.specs.Opening.{AreStarted, IsFirst, IsStarted, first_starts}
 use Rattle.mega_world.specs.Within.{RunsWithin}
-use Rattle.mega_world.proofs.Joining.{member_is}
+use Rattle.mega_places.proofs.Joining.{member_is}
 
 -- ---- the first start of a node
 

@@ -24,18 +24,18 @@ use Rattle.mega_rules.specs.Operations.{Node, Setting}
 use Rattle.mega_rules.specs.Steps.{onto, start, start_items, start_note, start_notes}
 use Rattle.mega_promises.specs.Items.{number, shown}
 use Rattle.mega_promises.specs.Runs.{Standing, after_event, by_fuse, has_lapsed, setting, with_items}
-use Rattle.mega_world.specs.declared.place.Place.{Place}
+use Rattle.mega_places.specs.declared.place.Place.{Place}
 use Rattle.mega_world.specs.declared.restarting.Shown.{Shown}
 use Rattle.mega_world.specs.declared.world.World.{World}
-use Rattle.mega_world.specs.Carries.{Carries}
-use Rattle.mega_world.specs.Kept.{AreNodes, owed_of}
-use Rattle.mega_world.specs.Lapses.{KnowsLeases}
+use Rattle.mega_places.specs.Carries.{Carries}
+use Rattle.mega_places.specs.Kept.{AreNodes, owed_of}
+use Rattle.mega_places.specs.Lapses.{KnowsLeases}
 use Rattle.mega_world.specs.Owing.{IsOwing, ShowsStart}
 use Rattle.mega_world.specs.Restarting.{Opens, started}
 use Rattle.mega_world.specs.Shown.{notes_shown}
 use Rattle.mega_world.specs.Stands.{StandsWith}
 use Rattle.mega_world.proofs.Again.{started_lapsed}
-use Rattle.mega_world.proofs.Carrying.{notes_same, same_on}
+use Rattle.mega_places.proofs.Carrying.{notes_same, same_on}
 use Rattle.mega_world.proofs.Fates.{start_whole}
 use Rattle.mega_world.proofs.Lining.{notes_lines}
 

@@ -22,13 +22,13 @@ use Rattle.mega_promises.specs.Items.{number, shown}
 use Rattle.mega_promises.specs.Messages.{is_unsafe}
 use Rattle.mega_promises.specs.Runs.{has_lapsed, set_at, with_items}
 use Rattle.mega_world.specs.declared.restarting.Shown.{Shown}
-use Rattle.mega_world.specs.declared.safety.Lapse.{Lapse}
+use Rattle.mega_places.specs.declared.safety.Lapse.{Lapse}
 use Rattle.mega_world.specs.declared.world.World.{World}
-use Rattle.mega_world.specs.Kept.{owed_of}
-use Rattle.mega_world.specs.Lapses.{AreLapsesOf, KnowsLeases}
+use Rattle.mega_places.specs.Kept.{owed_of}
+use Rattle.mega_places.specs.Lapses.{AreLapsesOf, KnowsLeases}
 use Rattle.mega_world.specs.Owing.{IsOwing, ShowsOwed, ShowsStart}
 use Rattle.mega_world.specs.Shown.{notes_shown}
-use Rattle.mega_world.proofs.Plain.{with_append}
+use Rattle.mega_places.proofs.Plain.{with_append}
 
 flat_two : (me : ℕ) (xs ys : List Met) → flat_map (shown me) (xs ++ ys) ≡ flat_map (shown me) xs ++ flat_map (shown me) ys
 flat_two me [] ys = refl

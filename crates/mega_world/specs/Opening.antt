@@ -7,11 +7,11 @@ use Rattle.mega_transcript.specs.declared.item.Item.TheVariants.{Start}
 use Rattle.mega_rules.specs.Steps.{start}
 use Rattle.mega_promises.specs.Items.{number}
 use Rattle.mega_promises.specs.Runs.{setting}
-use Rattle.mega_world.specs.declared.member.Member.{Member}
-use Rattle.mega_world.specs.declared.place.Place.{Place}
-use Rattle.mega_world.specs.declared.place.Place.TheVariants.{Up, Down}
-use Rattle.mega_world.specs.LogFuses.{IsFused}
-use Rattle.mega_world.specs.Members.{IsMember, records_of}
+use Rattle.mega_places.specs.declared.member.Member.{Member}
+use Rattle.mega_places.specs.declared.place.Place.{Place}
+use Rattle.mega_places.specs.declared.place.Place.TheVariants.{Up, Down}
+use Rattle.mega_places.specs.LogFuses.{IsFused}
+use Rattle.mega_places.specs.Members.{IsMember, records_of}
 
 abbrev pub first_starts : ℕ → List Item
 first_starts zero = []

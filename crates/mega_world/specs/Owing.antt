@@ -11,9 +11,9 @@ use Rattle.mega_promises.specs.Items.{number, shown}
 use Rattle.mega_promises.specs.Runs.{has_lapsed, set_at, with_items}
 use Rattle.mega_world.specs.declared.restarting.Shown.{Shown}
 use Rattle.mega_world.specs.declared.world.World.{World}
-use Rattle.mega_world.specs.Kept.{owed_of}
-use Rattle.mega_world.specs.Lapses.{KnowsLeases}
-use Rattle.mega_world.specs.Members.{AreMembers}
+use Rattle.mega_places.specs.Kept.{owed_of}
+use Rattle.mega_places.specs.Lapses.{KnowsLeases}
+use Rattle.mega_places.specs.Members.{AreMembers}
 use Rattle.mega_world.specs.Shown.{notes_shown}
 
 -- this node started and owes this, which is not shown yet

@@ -6,9 +6,9 @@ use Rattle.mega_rules.specs.Met.{Starts}
 use Rattle.mega_rules.specs.Steps.{onto, start, start_items, start_notes}
 use Rattle.mega_durable.specs.of_core.Notes.{met_of}
 use Rattle.mega_promises.specs.Runs.{Standing, cut_start, is_burning, left_by, set_at, setting, whole_start}
-use Rattle.mega_world.specs.declared.place.Place.{Place}
+use Rattle.mega_places.specs.declared.place.Place.{Place}
 use Rattle.mega_world.specs.declared.restarting.Shown.{Shown}
-use Rattle.mega_world.specs.Kept.{AreNodes, owed_of}
+use Rattle.mega_places.specs.Kept.{AreNodes, owed_of}
 
 -- there is a run whose nodes these are
 pub record AreStartable (c : Cluster) (places : List Place) : Type 0 where

@@ -13,12 +13,12 @@ use Rattle.mega_durable.specs.of_core.declared.step.Step.{Step}
 use Rattle.mega_durable.specs.of_core.Notes.{met_of}
 use Rattle.mega_promises.specs.Items.{number, numbered}
 use Rattle.mega_promises.specs.Runs.{has_lapsed, set_at, with_items}
-use Rattle.mega_world.specs.declared.stepping.Stepped.{Stepped}
-use Rattle.mega_world.specs.declared.stepping.Stepped.TheVariants as stepped
+use Rattle.mega_places.specs.declared.stepping.Stepped.{Stepped}
+use Rattle.mega_places.specs.declared.stepping.Stepped.TheVariants as stepped
 use Rattle.mega_world.specs.declared.world.World.{World}
-use Rattle.mega_world.specs.Carries.{Carries}
-use Rattle.mega_world.specs.Lapses.{KnowsLeases}
-use Rattle.mega_world.specs.Members.{AreMembers}
+use Rattle.mega_places.specs.Carries.{Carries}
+use Rattle.mega_places.specs.Lapses.{KnowsLeases}
+use Rattle.mega_places.specs.Members.{AreMembers}
 use Rattle.mega_world.specs.Shown.{notes_shown}
 
 -- this node made a step that notes this, which is not shown yet

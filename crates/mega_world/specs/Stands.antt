@@ -9,10 +9,10 @@ use Rattle.mega_transcript.specs.Tape.{newest}
 use Rattle.mega_durable.specs.of_core.Served.{IsServed}
 use Rattle.mega_promises.specs.Runs.{Standing, refusal}
 use Rattle.mega_world.specs.declared.world.World.{World}
-use Rattle.mega_world.specs.Carries.{Carries}
+use Rattle.mega_places.specs.Carries.{Carries}
 use Rattle.mega_world.specs.Formed.{IsFormed, IsSound}
-use Rattle.mega_world.specs.Kept.{AreNodes}
-use Rattle.mega_world.specs.Lapses.{KnowsLeases}
+use Rattle.mega_places.specs.Kept.{AreNodes}
+use Rattle.mega_places.specs.Lapses.{KnowsLeases}
 use Rattle.mega_world.specs.Within.{RunsWithin}
 
 -- the nodes, up or down, with all that they keep, what is carried between them, and what tells whether leases are safe are those of the run,

@@ -7,15 +7,15 @@ ghost use Rattle.mega_transcript.specs.declared.item.Item.{Item as OnTape};
 ghost use Rattle.mega_transcript.specs.Lines.{HasLine};
 ghost use Rattle.mega_transcript.specs.Tape.{onto};
 ghost use Rattle.mega_promises.specs.Runs.{Standing, after_event, by_fuse, refusal};
-ghost use Rattle.mega_world.specs.declared.fault.WorldFault.TheVariants.{Limit, Refused};
+ghost use Rattle.mega_places.specs.declared.fault.WorldFault.TheVariants.{Limit, Refused};
 ghost use Rattle.mega_world.specs.Formed.{IsSound};
 ghost use Rattle.mega_world.specs.Stands.{IsAt, MayCome, StandsWith};
 ghost use Rattle.mega_world.specs.Last.{IsPastLast};
 
-use crate::fault::WorldFault;
 use crate::world::World;
 use mega_base::Items;
 use mega_meanings::QueueHandlers;
+use mega_places::WorldFault;
 use mega_schedule::WorldEvent;
 use mega_transcript::Tape;
 use std::alloc::Global;

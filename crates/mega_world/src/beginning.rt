@@ -7,19 +7,16 @@ ghost use Rattle.mega_schedule.specs.declared.world_event.WorldEvent.TheVariants
 ghost use Rattle.mega_transcript.specs.declared.item.Item.{Item as OnTape};
 ghost use Rattle.mega_transcript.specs.Lines.{HasLine};
 ghost use Rattle.mega_promises.specs.Runs.{Standing, after_event, by_fuse, is_empty, names_nothing, refusal};
-ghost use Rattle.mega_world.specs.declared.fault.WorldFault.TheVariants.{Limit, Refused};
+ghost use Rattle.mega_places.specs.declared.fault.WorldFault.TheVariants.{Limit, Refused};
 ghost use Rattle.mega_world.specs.Formed.{IsSound};
-ghost use Rattle.mega_world.specs.Members.{AreMembers, is_up_at};
+ghost use Rattle.mega_places.specs.Members.{AreMembers, is_up_at};
 ghost use Rattle.mega_world.specs.Stands.{StandsWith, IsDue, MayCome};
 
-use crate::fault::WorldFault;
-use crate::place::Place;
-use crate::places::{is_node, is_up};
-use crate::stepping::begin_at;
 use crate::world::World;
 use mega_base::{GroupId, NodeId, Text};
 use mega_meanings::QueueHandlers;
 use mega_outcome::Request;
+use mega_places::{Place, WorldFault, begin_at, is_node, is_up};
 use mega_transcript::{Item, Tape};
 use std::alloc::Global;
 

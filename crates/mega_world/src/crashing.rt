@@ -7,15 +7,13 @@ ghost use Rattle.mega_schedule.specs.declared.world_event.WorldEvent.TheVariants
 ghost use Rattle.mega_transcript.specs.declared.item.Item.{Item as OnTape};
 ghost use Rattle.mega_transcript.specs.Lines.{HasLine};
 ghost use Rattle.mega_promises.specs.Runs.{Standing, after_event, by_fuse, refusal};
-ghost use Rattle.mega_world.specs.declared.fault.WorldFault.TheVariants.{Limit, Refused};
-ghost use Rattle.mega_world.specs.Members.{AreMembers, is_up_at};
+ghost use Rattle.mega_places.specs.declared.fault.WorldFault.TheVariants.{Limit, Refused};
+ghost use Rattle.mega_places.specs.Members.{AreMembers, is_up_at};
 ghost use Rattle.mega_world.specs.Stands.{StandsWith};
 
-use crate::fault::WorldFault;
-use crate::place::Place;
-use crate::places::{is_node, is_up, take_down};
 use crate::world::World;
 use mega_base::{NoMemory, NodeId};
+use mega_places::{Place, WorldFault, is_node, is_up, take_down};
 use mega_transcript::{Item, Tape};
 use std::alloc::Global;
 

@@ -7,13 +7,13 @@ ghost use Rattle.mega_schedule.specs.declared.world_event.WorldEvent.TheVariants
 ghost use Rattle.mega_transcript.specs.declared.item.Item.{Item as OnTape};
 ghost use Rattle.mega_transcript.specs.Lines.{HasLine};
 ghost use Rattle.mega_promises.specs.Runs.{Standing, after_event, by_fuse};
-ghost use Rattle.mega_world.specs.declared.fault.WorldFault.TheVariants.{Limit, Refused};
+ghost use Rattle.mega_places.specs.declared.fault.WorldFault.TheVariants.{Limit, Refused};
 ghost use Rattle.mega_world.specs.Formed.{IsSound};
 ghost use Rattle.mega_world.specs.Stands.{StandsWith, IsDue};
 
-use crate::fault::WorldFault;
 use crate::world::World;
 use mega_meanings::QueueHandlers;
+use mega_places::WorldFault;
 use mega_transcript::{Item, Tape};
 use std::alloc::Global;
 

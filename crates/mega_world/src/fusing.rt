@@ -6,18 +6,16 @@ ghost use Rattle.mega_handler.specs.Named.{Meanings};
 ghost use Rattle.mega_schedule.specs.declared.world_event.WorldEvent.TheVariants as event;
 ghost use Rattle.mega_transcript.specs.declared.item.Item.{Item as OnTape};
 ghost use Rattle.mega_promises.specs.Runs.{Standing, after_event, by_fuse, refusal};
-ghost use Rattle.mega_world.specs.declared.fault.WorldFault.TheVariants.{Limit, Refused};
-ghost use Rattle.mega_world.specs.declared.place.Place.{Place as PlaceValue};
-ghost use Rattle.mega_world.specs.Fusing.{SetsFuse, SetsFuseAt};
-ghost use Rattle.mega_world.specs.Members.{AreMembers};
+ghost use Rattle.mega_places.specs.declared.fault.WorldFault.TheVariants.{Limit, Refused};
+ghost use Rattle.mega_places.specs.declared.place.Place.{Place as PlaceValue};
+ghost use Rattle.mega_places.specs.Fusing.{SetsFuse, SetsFuseAt};
+ghost use Rattle.mega_places.specs.Members.{AreMembers};
 ghost use Rattle.mega_world.specs.Stands.{StandsWith};
 
-use crate::fault::WorldFault;
-use crate::place::Place;
-use crate::places::is_node;
 use crate::world::World;
 use mega_base::NodeId;
 use mega_disk::Device;
+use mega_places::{Place, WorldFault, is_node};
 
 /// Why no fuse is set: 6, there is no such node.
 fn refusal(places: &[Place], node: NodeId) -> Option<u8>

@@ -8,23 +8,16 @@ ghost use Rattle.mega_durable.specs.of_core.Served.{IsServed};
 ghost use Rattle.mega_view.specs.Small.{IsSmall};
 ghost use Rattle.mega_rules.specs.Members.{is_node};
 ghost use Rattle.mega_promises.specs.Runs.{opening};
-ghost use Rattle.mega_world.specs.declared.fault.WorldFault.TheVariants.{NoMemory as OutOfMemory};
-ghost use Rattle.mega_world.specs.declared.place.Place.TheVariants.{Up};
+ghost use Rattle.mega_places.specs.declared.fault.WorldFault.TheVariants.{NoMemory as OutOfMemory};
+ghost use Rattle.mega_places.specs.declared.place.Place.TheVariants.{Up};
 ghost use Rattle.mega_world.specs.Opening.{AreStarted, IsFirst, first_starts};
 ghost use Rattle.mega_world.specs.Stands.{IsAt};
 
-use crate::fallen::Fallen;
-use crate::fault::WorldFault;
-use crate::mail::Mail;
-use crate::member::Member;
-use crate::place::Place;
-use crate::remains::Remains;
-use crate::safety::Safety;
-use crate::starting::Begun;
 use crate::world::World;
 use mega_base::{Copied, NoMemory, NodeId};
 use mega_cluster::Cluster;
 use mega_disk::MemRecords;
+use mega_places::{Begun, Fallen, Mail, Member, Place, Remains, Safety, WorldFault};
 use mega_transcript::{Item, Tape};
 use std::alloc::Global;
 

@@ -9,16 +9,16 @@ ghost use Rattle.mega_transcript.specs.declared.item.Item.{Item as OnTape};
 ghost use Rattle.mega_transcript.specs.Lines.{HasLine};
 ghost use Rattle.mega_transcript.specs.Tape.{newest};
 ghost use Rattle.mega_promises.specs.Items.{number, shown};
-ghost use Rattle.mega_world.specs.Kept.{owed_of};
+ghost use Rattle.mega_places.specs.Kept.{owed_of};
 ghost use Rattle.mega_world.specs.Owing.{IsOwing, ShowsOwed, ShowsStart};
 ghost use Rattle.mega_world.specs.Shown.{notes_shown};
 
 use crate::restarting::Shown;
-use crate::safety::keep_lapses;
 use crate::showing::put_all;
 use crate::world::World;
 use mega_base::{Items, NoMemory, NodeId};
 use mega_durable::Cut;
+use mega_places::keep_lapses;
 use mega_transcript::{Item, Tape};
 use mega_wire::Message;
 

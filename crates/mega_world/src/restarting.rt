@@ -9,26 +9,24 @@ ghost use Rattle.mega_schedule.specs.declared.world_event.WorldEvent.TheVariants
 ghost use Rattle.mega_transcript.specs.declared.item.Item.{Item as OnTape};
 ghost use Rattle.mega_transcript.specs.Lines.{HasLine};
 ghost use Rattle.mega_promises.specs.Runs.{Standing, after_event, by_fuse, refusal};
-ghost use Rattle.mega_world.specs.declared.fault.WorldFault.TheVariants.{Limit, Refused};
+ghost use Rattle.mega_places.specs.declared.fault.WorldFault.TheVariants.{Limit, Refused};
 ghost use Rattle.mega_base.specs.Names.{IsU32};
-ghost use Rattle.mega_world.specs.declared.place.Place.{Place as PlaceValue};
-ghost use Rattle.mega_world.specs.Kept.{AreNodes, IsFallen};
-ghost use Rattle.mega_world.specs.Members.{AreMembers, is_up_at};
+ghost use Rattle.mega_places.specs.declared.place.Place.{Place as PlaceValue};
+ghost use Rattle.mega_places.specs.Kept.{AreNodes, IsFallen};
+ghost use Rattle.mega_places.specs.Members.{AreMembers, is_up_at};
 ghost use Rattle.mega_world.specs.Restarting.{AreStartable, OpensOr, Reopens};
-ghost use Rattle.mega_world.specs.Starting.{AtEachFallen, IsStartable};
+ghost use Rattle.mega_places.specs.Starting.{AtEachFallen, IsStartable};
 ghost use Rattle.mega_world.specs.Stands.{StandsWith, IsDue, MayCome};
 ghost use Rattle.mega_world.specs.Last.{IsPastLast};
 
-use crate::fallen::Fallen;
-use crate::fault::WorldFault;
-use crate::place::Place;
-use crate::places::{is_node, is_up, put_place, take_place};
-use crate::starting::{Begun, NotBegun};
 use crate::world::World;
 use mega_base::{Copied, Items, NodeId};
 use mega_cluster::Cluster;
 use mega_durable::Cut;
 use mega_durable::mega_core::Note;
+use mega_places::{
+    Begun, Fallen, NotBegun, Place, WorldFault, is_node, is_up, put_place, take_place,
+};
 use mega_transcript::{Item, Tape};
 use std::alloc::Global;
 

@@ -11,20 +11,17 @@ ghost use Rattle.mega_rules.specs.Operations.{Node as RuleNode};
 ghost use Rattle.mega_durable.specs.of_core.Notes.{met_of};
 ghost use Rattle.mega_promises.specs.Items.{numbered, shown};
 ghost use Rattle.mega_promises.specs.Runs.{with_items};
-ghost use Rattle.mega_world.specs.Carries.{Carries};
-ghost use Rattle.mega_world.specs.Lapses.{KnowsLeases};
-ghost use Rattle.mega_world.specs.Members.{AreMembers};
+ghost use Rattle.mega_places.specs.Carries.{Carries};
+ghost use Rattle.mega_places.specs.Lapses.{KnowsLeases};
+ghost use Rattle.mega_places.specs.Members.{AreMembers};
 ghost use Rattle.mega_world.specs.Showing.{IsShown, IsStepped, LinesStep, ShowsStep};
 ghost use Rattle.mega_world.specs.Shown.{notes_shown};
 
-use crate::judging::breaks_first;
-use crate::place::Place;
-use crate::safety::{Safety, keep_lapses};
-use crate::stepping::Stepped;
 use crate::world::World;
 use mega_base::{Items, NoMemory, NodeId};
 use mega_durable::item_of;
 use mega_durable::mega_core::{Note, Step};
+use mega_places::{Place, Safety, Stepped, breaks_first, keep_lapses};
 use mega_transcript::{Item, Tape};
 use std::alloc::Global;
 

@@ -9,18 +9,15 @@ ghost use Rattle.mega_transcript.specs.Lines.{HasLine};
 ghost use Rattle.mega_rules.specs.Clock.{clock_of};
 ghost use Rattle.mega_rules.specs.Operations.{Node as RuleNode};
 ghost use Rattle.mega_promises.specs.Runs.{Standing, after_event, by_fuse, refusal};
-ghost use Rattle.mega_world.specs.declared.fault.WorldFault.TheVariants.{Limit, Refused};
+ghost use Rattle.mega_places.specs.declared.fault.WorldFault.TheVariants.{Limit, Refused};
 ghost use Rattle.mega_world.specs.Formed.{IsSound};
-ghost use Rattle.mega_world.specs.Members.{AreMembers, is_up_at};
+ghost use Rattle.mega_places.specs.Members.{AreMembers, is_up_at};
 ghost use Rattle.mega_world.specs.Stands.{StandsWith, IsDue, MayCome};
 
-use crate::fault::WorldFault;
-use crate::place::Place;
-use crate::places::{is_node, is_up, member_of};
-use crate::stepping::tick_at;
 use crate::world::World;
 use mega_base::NodeId;
 use mega_meanings::QueueHandlers;
+use mega_places::{Place, WorldFault, is_node, is_up, member_of, tick_at};
 use mega_transcript::{Item, Tape};
 use std::alloc::Global;
 

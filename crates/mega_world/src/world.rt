@@ -1,8 +1,6 @@
 //! A world: the nodes of a cluster over memory, up or down, and all messages between them.
-use crate::mail::Mail;
-use crate::place::Place;
-use crate::safety::Safety;
 use mega_cluster::Cluster;
+use mega_places::{Mail, Place, Safety};
 
 /// The nodes of a cluster, each in its place, all messages between them, and what tells whether leases are safe.
 #[derive(Drop)]

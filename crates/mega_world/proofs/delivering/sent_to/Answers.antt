@@ -1,6 +1,6 @@
 use Rattle.std.proofs.Common.{◌∙◌, ap, is_some, sym}
-use Rattle.mega_world.proofs.Finding.{down_refused, found_sent, none_refused}
-use Rattle.mega_world.proofs.Joining.{up_within}
+use Rattle.mega_places.proofs.Finding.{down_refused, found_sent, none_refused}
+use Rattle.mega_places.proofs.Joining.{up_within}
 use Rattle.mega_world.proofs.delivering.sent_to.Goals as goal
 
 pub returns-then-not-is_up-clause-none : goal.returns-then-not-is_up-clause-none

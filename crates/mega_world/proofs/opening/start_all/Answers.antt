@@ -6,7 +6,7 @@ use Rattle.mega_transcript.specs.Lines.{HasLine}
 use Rattle.mega_transcript.specs.Tape.{newest}
 use Rattle.mega_promises.specs.Items.{number}
 use Rattle.mega_world.specs.Opening.{AreStarted}
-use Rattle.mega_world.specs.declared.place.Place.TheVariants.{Up}
+use Rattle.mega_places.specs.declared.place.Place.TheVariants.{Up}
 use Rattle.mega_world.proofs.Opened.{length_last, started_more, starts_more}
 use Rattle.mega_world.proofs.opening.start_all.Goals as goal
 

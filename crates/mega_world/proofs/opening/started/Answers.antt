@@ -4,10 +4,10 @@ use Rattle.mega_durable.specs.of_core.Served.{IsServed}
 use Rattle.mega_rules.specs.Members.{is_node}
 use Rattle.mega_rules.specs.Steps.{start}
 use Rattle.mega_promises.specs.Runs.{setting}
-use Rattle.mega_world.specs.declared.remains.Remains.TheVariants.{OnDisk}
-use Rattle.mega_world.specs.Kept.{IsFallen}
-use Rattle.mega_world.specs.Members.{IsMember}
-use Rattle.mega_world.proofs.Anew.{nothing_held}
+use Rattle.mega_places.specs.declared.remains.Remains.TheVariants.{OnDisk}
+use Rattle.mega_places.specs.Kept.{IsFallen}
+use Rattle.mega_places.specs.Members.{IsMember}
+use Rattle.mega_places.proofs.Anew.{nothing_held}
 use Rattle.mega_world.proofs.opening.started.Goals as goal
 
 pub start-requires-clause-served : goal.start-requires-clause-served

@@ -1,5 +1,5 @@
 use Rattle.std.proofs.Common.{Err, ap, subst, sym, ◌∙◌}
-use Rattle.mega_world.specs.declared.place.Place.TheVariants.{Down, Up}
+use Rattle.mega_places.specs.declared.place.Place.TheVariants.{Down, Up}
 use Rattle.mega_world.specs.Restarting.{Opens, StaysDown}
 use Rattle.mega_world.proofs.Again.{begins_at, stays_at}
 use Rattle.mega_world.proofs.restarting.restarted.Goals as goal

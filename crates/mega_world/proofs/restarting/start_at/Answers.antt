@@ -1,5 +1,5 @@
 use Rattle.std.proofs.Common.{◌≡◌, Err, ap}
-use Rattle.mega_world.specs.declared.fault.WorldFault.TheVariants.{Limit}
+use Rattle.mega_places.specs.declared.fault.WorldFault.TheVariants.{Limit}
 use Rattle.mega_world.proofs.Again.{fallen_at_place}
 use Rattle.mega_world.proofs.restarting.start_at.Goals as goal
 

@@ -6,8 +6,8 @@ use Rattle.mega_transcript.specs.Lines.{HasLine}
 use Rattle.mega_transcript.specs.Tape.{newest}
 use Rattle.mega_rules.specs.Operations.{Node as RuleNode}
 use Rattle.mega_promises.specs.Runs.{with_items}
-use Rattle.mega_world.specs.Lapses.{KnowsLeases}
-use Rattle.mega_world.specs.Members.{AreMembers}
+use Rattle.mega_places.specs.Lapses.{KnowsLeases}
+use Rattle.mega_places.specs.Members.{AreMembers}
 use Rattle.mega_world.specs.Shown.{notes_shown}
 use Rattle.mega_world.proofs.showing.put_all.Given as goal
 

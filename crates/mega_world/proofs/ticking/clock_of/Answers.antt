@@ -1,5 +1,5 @@
 use Rattle.std.proofs.Common.{◌≡◌, ◌∙◌, [], true, false, ap, is_some, sym}
-use Rattle.mega_world.specs.Members.{is_up_at, member_of}
+use Rattle.mega_places.specs.Members.{is_up_at, member_of}
 use Rattle.mega_world.proofs.ticking.clock_of.Goals as goal
 
 pub returns-in-Some : goal.returns-in-Some

@@ -1,6 +1,6 @@
 use Rattle.std.proofs.Common.{◌≡◌, ◌∙◌, OnOk, Ok, Err, Result, Some, List, ap, subst, sym}
-use Rattle.mega_world.specs.declared.place.Place.{Place}
-use Rattle.mega_world.specs.Members.{AreMembers}
+use Rattle.mega_places.specs.declared.place.Place.{Place}
+use Rattle.mega_places.specs.Members.{AreMembers}
 use Rattle.mega_world.proofs.world.World.begin.Goals as goal
 
 pub returns-in-Some-clause-refused : goal.returns-in-Some-clause-refused

@@ -1,6 +1,6 @@
 use Rattle.std.proofs.Common.{◌≡◌, ◌∙◌, List, Some, ap, subst, sym}
-use Rattle.mega_world.specs.declared.place.Place.{Place}
-use Rattle.mega_world.specs.Members.{AreMembers}
+use Rattle.mega_places.specs.declared.place.Place.{Place}
+use Rattle.mega_places.specs.Members.{AreMembers}
 use Rattle.mega_world.proofs.world.World.crash.Goals as goal
 
 pub returns-in-Some-clause-refused : goal.returns-in-Some-clause-refused

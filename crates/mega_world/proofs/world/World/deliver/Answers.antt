@@ -1,6 +1,6 @@
 use Rattle.std.proofs.Common.{◌≡◌, ◌∙◌, OnOk, Ok, Err, Result, List, Some, ap, sym}
-use Rattle.mega_world.specs.declared.place.Place.{Place}
-use Rattle.mega_world.specs.Members.{is_up_at}
+use Rattle.mega_places.specs.declared.place.Place.{Place}
+use Rattle.mega_places.specs.Members.{is_up_at}
 use Rattle.mega_world.proofs.world.World.deliver.Goals as goal
 
 pub returns-in-Some-clause-refused : goal.returns-in-Some-clause-refused

@@ -3,10 +3,10 @@ use Rattle.std.specs.List.{All}
 use Rattle.std.proofs.lemmas.List.Elements.{All-push}
 use Rattle.mega_transcript.specs.declared.item.Item.TheVariants.{Cut}
 use Rattle.mega_transcript.specs.Lines.{HasLine}
-use Rattle.mega_world.specs.declared.place.Place.{Place}
-use Rattle.mega_world.specs.Members.{is_up_at}
+use Rattle.mega_places.specs.declared.place.Place.{Place}
+use Rattle.mega_places.specs.Members.{is_up_at}
 use Rattle.mega_world.proofs.Emptying.{drained_at, drained_cut, next_sound, none_left, reaches_next}
-use Rattle.mega_world.proofs.Finding.{next_happens}
+use Rattle.mega_places.proofs.Finding.{next_happens}
 use Rattle.mega_world.proofs.world.World.drain.Goals as goal
 
 pub returns-in-None-clause-state : goal.returns-in-None-clause-state

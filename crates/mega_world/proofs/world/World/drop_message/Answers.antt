@@ -2,7 +2,7 @@ use Rattle.std.proofs.Common.{[], ◌∷◌, ◌++◌, ◌≡◌, ◌∙◌, Som
 use Rattle.mega_transcript.specs.declared.item.Item.TheVariants.{Dropped}
 use Rattle.mega_world.proofs.Behind.{behind}
 use Rattle.mega_world.proofs.Emptying.{dropped_at}
-use Rattle.mega_world.proofs.Finding.{drop_sent}
+use Rattle.mega_places.proofs.Finding.{drop_sent}
 use Rattle.mega_world.proofs.world.World.drop_message.Goals as goal
 
 pub returns-in-Some-clause-refused : goal.returns-in-Some-clause-refused

@@ -1,8 +1,8 @@
 use Rattle.std.proofs.Common.{◌≡◌, ◌∷◌, ◌++◌, [], ◌∙◌, ◌≤◌, Err, List, ap, length, refl, subst, sym}
 use Rattle.mega_rules.specs.Steps.{Take}
 use Rattle.mega_transcript.specs.declared.item.Item.TheVariants.{Taken}
-use Rattle.mega_world.specs.declared.place.Place.{Place}
-use Rattle.mega_world.specs.Members.{is_up_at}
+use Rattle.mega_places.specs.declared.place.Place.{Place}
+use Rattle.mega_places.specs.Members.{is_up_at}
 use Rattle.mega_world.proofs.Behind.{behind}
 use Rattle.mega_world.proofs.Due.{may_happen, take_fit, take_owns}
 use Rattle.mega_world.proofs.Fates.{handed_is}

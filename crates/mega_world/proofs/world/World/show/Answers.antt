@@ -4,7 +4,7 @@ use Rattle.std.proofs.lemmas.List.Elements.{All-append}
 use Rattle.mega_transcript.specs.Lines.{HasLine}
 use Rattle.mega_transcript.specs.Tape.{newest, sent_count}
 use Rattle.mega_promises.specs.Items.{numbered}
-use Rattle.mega_world.specs.Members.{AreMembers}
+use Rattle.mega_places.specs.Members.{AreMembers}
 use Rattle.mega_world.proofs.Behind.{behind}
 use Rattle.mega_world.proofs.Noted.{kept_of, shown_whole}
 use Rattle.mega_world.proofs.world.World.show.Goals as goal

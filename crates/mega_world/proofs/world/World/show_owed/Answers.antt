@@ -5,10 +5,10 @@ use Rattle.mega_rules.specs.Met.{Unsends}
 use Rattle.mega_transcript.specs.Lines.{HasLine}
 use Rattle.mega_transcript.specs.Tape.{newest}
 use Rattle.mega_promises.specs.Items.{shown}
-use Rattle.mega_world.specs.declared.place.Place.{Place}
+use Rattle.mega_places.specs.declared.place.Place.{Place}
 use Rattle.mega_world.specs.declared.world.World.{World}
-use Rattle.mega_world.specs.Kept.{owed_of}
-use Rattle.mega_world.specs.Members.{AreMembers}
+use Rattle.mega_places.specs.Kept.{owed_of}
+use Rattle.mega_places.specs.Members.{AreMembers}
 use Rattle.mega_world.specs.Owing.{IsOwing, ShowsOwed}
 use Rattle.mega_world.proofs.Behind.{behind}
 use Rattle.mega_world.proofs.Showed.{none_owed, owed_kept, owed_lined, owed_shown}

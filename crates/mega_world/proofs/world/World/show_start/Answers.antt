@@ -4,8 +4,8 @@ use Rattle.std.proofs.lemmas.List.Elements.{All-push}
 use Rattle.mega_transcript.specs.declared.item.Item.TheVariants.{Start}
 use Rattle.mega_transcript.specs.Lines.{HasLine}
 use Rattle.mega_promises.specs.Items.{number}
-use Rattle.mega_world.specs.declared.place.Place.{Place}
-use Rattle.mega_world.specs.Members.{AreMembers}
+use Rattle.mega_places.specs.declared.place.Place.{Place}
+use Rattle.mega_places.specs.Members.{AreMembers}
 use Rattle.mega_world.proofs.Behind.{behind}
 use Rattle.mega_world.proofs.Showed.{owing_behind, start_shown}
 use Rattle.mega_world.proofs.world.World.show_start.Goals as goal

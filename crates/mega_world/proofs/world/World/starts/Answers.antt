@@ -3,7 +3,7 @@ use Rattle.mega_cluster.specs.declared.cluster.Cluster.{Cluster}
 use Rattle.mega_durable.specs.of_core.Served.{IsServed}
 use Rattle.mega_rules.specs.Members.{is_node}
 use Rattle.mega_world.specs.declared.world.World.{World}
-use Rattle.mega_world.specs.Kept.{AreNodes}
+use Rattle.mega_places.specs.Kept.{AreNodes}
 use Rattle.mega_world.specs.Restarting.{Opens, StaysDown, started}
 use Rattle.mega_transcript.specs.declared.item.Item.TheVariants.{Crash}
 use Rattle.mega_world.proofs.Behind.{behind}

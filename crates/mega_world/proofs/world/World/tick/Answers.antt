@@ -1,6 +1,6 @@
 use Rattle.std.proofs.Common.{List, subst, sym}
-use Rattle.mega_world.specs.declared.place.Place.{Place}
-use Rattle.mega_world.specs.Members.{AreMembers}
+use Rattle.mega_places.specs.declared.place.Place.{Place}
+use Rattle.mega_places.specs.Members.{AreMembers}
 use Rattle.mega_world.proofs.world.World.tick.Goals as goal
 
 pub ticks-requires-clause-known : goal.ticks-requires-clause-known

@@ -1,0 +1,14 @@
+pub mod Anew
+pub mod Breaking
+pub mod Carrying
+pub mod Failing
+pub mod Finding
+pub mod Fuses
+pub mod Joining
+pub mod Lapsing
+pub mod Least
+pub mod Outcomes
+pub mod Plain
+pub mod Sending
+pub mod Staying
+pub mod Stepped

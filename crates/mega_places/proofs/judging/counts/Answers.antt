@@ -1,0 +1,15 @@
+use Rattle.std.proofs.Common.{◌∙◌, [], ap, is_some, sym}
+use Rattle.mega_places.specs.Members.{is_up_at, member_of}
+use Rattle.mega_places.proofs.Breaking.{counts_down, counts_up}
+use Rattle.mega_places.proofs.judging.counts.Goals as goal
+
+pub returns-in-Some : goal.returns-in-Some
+returns-in-Some c cluster ruled all =
+    let me = c.args.node in
+    let told = (all.each me c.in-Some.member.now (ap (λ k. member_of c.args.places.now k) (sym c.from.ensures) ∙ sym c.in-Some.ensures)).told [] in
+    c.counts.ensures cluster me (ruled me).met told.leased ∙ counts_up cluster (ruled me).met c.args.cell c.args.epoch (all.up_are me ∙ ap (λ k. is_up_at c.args.places.now k) (sym c.from.ensures) ∙ ap is_some (sym c.in-Some.ensures))
+
+pub returns-in-None : goal.returns-in-None
+returns-in-None c cluster ruled all =
+    let me = c.args.node in
+    counts_down cluster (ruled me).met c.args.cell c.args.epoch (all.up_are me ∙ ap (λ k. is_up_at c.args.places.now k) (sym c.from.ensures) ∙ ap is_some (sym c.in-None.ensures))

@@ -1,0 +1,11 @@
+pub mod Carries
+pub mod Faults
+pub mod Fusing
+pub mod Kept
+pub mod Lapses
+pub mod Least
+pub mod LogFuses
+pub mod Members
+pub mod Starting
+pub mod Stepping
+pub mod Waits
