@@ -6,3 +6,5 @@ pub mod Causes
 pub mod Runs
 pub mod Plain
 pub mod Told
+pub mod Ticks
+pub mod Named

@@ -1,9 +1,11 @@
 //! Laws of shown rows and of whole tapes, as contracts of functions that do nothing.
 
-ghost use Rattle.std.specs.Prelude.{◌≡◌, All, List, reverse};
+ghost use Rattle.std.specs.Prelude.{◌≡◌, ℕ, All, List, Ok, reverse};
 ghost use Rattle.mega_base.specs.declared.names.OpId.{OpId as Operation};
 ghost use Rattle.mega_cluster.specs.declared.cluster.Cluster.{Cluster};
 ghost use Rattle.mega_handler.specs.Named.{Meanings};
+ghost use Rattle.mega_schema.specs.declared.schema.Schema.{Schema};
+ghost use Rattle.mega_schema.specs.Verdict.{parse_of};
 ghost use Rattle.mega_outcome.specs.declared.answer.Answer.{Answer as Given};
 ghost use Rattle.mega_transcript.specs.declared.item.Item.{Item};
 ghost use Rattle.mega_transcript.specs.declared.item.Item.TheVariants.{Answer};
@@ -39,4 +41,9 @@ pub fn every_item_is_plain()
 pub fn the_text_tells_the_tape()
     ensures { (c d : Cluster) (usage others : Usage) (first second : Meanings) (events more : List Happening) (tape other : List Item) → IsOfFormat c usage first events tape → IsOfFormat d others second more other →
         c.schema ≡ d.schema → lines c.schema (reverse tape) ≡ lines c.schema (reverse other) → tape ≡ other }
+{}
+
+/// A schema that a text declares has names that tell its tables and properties, as the law of plain items asks (`IsNamed`): each name is a text, and stands once.
+pub fn declared_schemas_tell_their_names()
+    ensures { (text : List ℕ) (schema : Schema) → parse_of text ≡ Ok schema → IsNamed schema }
 {}

@@ -1,5 +1,5 @@
 use Rattle.std.proofs.Common.{refl}
-use Rattle.mega_shown_laws.proofs.Examples.{declared, none_there}
+use Rattle.mega_shown_laws.proofs.Ticks.{declared, none_there}
 use Rattle.mega_shown_laws.proofs.examples.a_shown_user_meets_the_premises.Goals as goal
 
 pub returns-clause-declared : goal.returns-clause-declared
