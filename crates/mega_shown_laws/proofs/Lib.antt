@@ -8,3 +8,4 @@ pub mod Plain
 pub mod Told
 pub mod Ticks
 pub mod Named
+pub mod Clusters

@@ -3,6 +3,7 @@
 ghost use Rattle.std.specs.Prelude.{◌≡◌, ℕ, All, List, Ok, reverse};
 ghost use Rattle.mega_base.specs.declared.names.OpId.{OpId as Operation};
 ghost use Rattle.mega_cluster.specs.declared.cluster.Cluster.{Cluster};
+ghost use Rattle.mega_cluster.specs.Header.{read_of};
 ghost use Rattle.mega_handler.specs.Named.{Meanings};
 ghost use Rattle.mega_schema.specs.declared.schema.Schema.{Schema};
 ghost use Rattle.mega_schema.specs.Verdict.{parse_of};
@@ -46,4 +47,9 @@ pub fn the_text_tells_the_tape()
 /// A schema that a text declares has names that tell its tables and properties, as the law of plain items asks (`IsNamed`): each name is a text, and stands once.
 pub fn declared_schemas_tell_their_names()
     ensures { (text : List ℕ) (schema : Schema) → parse_of text ≡ Ok schema → IsNamed schema }
+{}
+
+/// So a cluster that is read from a header meets what the laws ask of clusters and of their schemas.
+pub fn headers_meet_the_premises()
+    ensures { (least : ℕ) (text : List ℕ) (c : Cluster) → read_of least text ≡ Ok c → IsCluster c × IsNamed c.schema × IsDeclared c.schema }
 {}
