@@ -6,6 +6,6 @@ pub mod Causes
 pub mod Runs
 pub mod Plain
 pub mod Told
-pub mod Ticks
 pub mod Named
 pub mod Clusters
+pub mod Users
