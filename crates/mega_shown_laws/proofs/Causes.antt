@@ -1,5 +1,5 @@
 -- What has its cause on a lawful tape shows rows that fit their tables.
-use Rattle.std.proofs.Common.{◌≡◌, ℕ, ◌-◌, List, [], ◌∷◌, ◌++◌, take, flat_map, refl, sym, ap, ◌∙◌, subst, Option, Some, None, Result, Ok, Err}
+use Rattle.std.proofs.Common.{◌≡◌, ℕ, ◌-◌, List, [], ◌∷◌, flat_map, refl, sym, ap, subst, Option, Result, Ok, Err}
 use Rattle.mega_base.specs.declared.names.GroupId.{GroupId}
 use Rattle.mega_base.specs.declared.names.OpId.{OpId}
 use Rattle.mega_base.specs.declared.names.Position.{Position}
@@ -18,16 +18,14 @@ use Rattle.mega_outcome.specs.declared.request.Request.{Request}
 use Rattle.mega_outcome.specs.declared.request.Request.TheVariants.{Batch as BatchRequest, Find, PumpEnter, PumpHandle, Read as ReadRequested, Refresh, Txn}
 use Rattle.mega_outcome.specs.declared.transaction.RowRef.{RowRef}
 use Rattle.mega_outcome.specs.declared.transaction.Transaction.{Transaction}
-use Rattle.mega_outcome.specs.Outcome.{batch_outcome, first_read, outcome}
+use Rattle.mega_outcome.specs.Outcome.{batch_outcome, first_read}
 use Rattle.mega_outcome.specs.Reads.{all_rows, read_rows}
 use Rattle.mega_replica.specs.Applying.{stored_writes}
 use Rattle.mega_transcript.specs.declared.item.Item.{Item}
-use Rattle.mega_rules.specs.Acting.{read_answer, rows_answer}
-use Rattle.mega_rules.specs.Operations.{Setting}
+use Rattle.mega_rules.specs.Acting.{rows_answer}
 use Rattle.mega_promises.specs.Causes.{AreTurned, HasReplies, HasResults, IsCause, ShowsRead, front}
 use Rattle.mega_promises.specs.Moments.{applied_on}
 use Rattle.mega_promises.specs.Promises.{log_of, rows_shown}
-use Rattle.mega_promises.specs.Runs.{setting}
 use Rattle.mega_tape_laws.specs.Indexed.{IsDeclared}
 use Rattle.mega_tape_laws.specs.Writes.{LawfulWrites, Usage}
 use Rattle.mega_tape_laws.proofs.FittingLogs.{log_fits}

@@ -1,5 +1,5 @@
 -- Each write of a log leaves rows that fit, and so do any first writes of it.
-use Rattle.std.proofs.Common.{◌≡◌, ℕ, suc, Bool, true, false, if◌then◌else◌, List, [], ◌∷◌, ◌++◌, length, take, slice_get, nat_lt, refl, sym, ap, ◌∙◌, subst, Some, Ok}
+use Rattle.std.proofs.Common.{◌≡◌, ℕ, suc, Bool, true, false, if◌then◌else◌, List, [], ◌∷◌, length, take, slice_get, nat_lt, refl, sym, ap, ◌∙◌, subst, Some}
 use Rattle.mega_base.specs.declared.names.GroupId.{GroupId}
 use Rattle.mega_base.specs.declared.names.OpId.{OpId}
 use Rattle.mega_cluster.specs.declared.cluster.Cluster.{Cluster}
@@ -7,10 +7,9 @@ use Rattle.mega_entry.specs.declared.content.Content.{Content}
 use Rattle.mega_entry.specs.Entries.{entry_text}
 use Rattle.mega_schema.specs.declared.schema.Schema.{Schema}
 use Rattle.mega_index.specs.Fitted.{most_bytes}
-use Rattle.mega_index.specs.Rows.{Listed, Rows, after, list_after, no_rows, row_under, written}
+use Rattle.mega_index.specs.Rows.{Listed, after, list_after, no_rows, row_under, written}
 use Rattle.mega_handler.specs.Effects.{Effect, entry_handling, handled}
 use Rattle.mega_handler.specs.Named.{effect_by, meaning}
-use Rattle.mega_outcome.specs.declared.transaction.Transaction.{Transaction}
 use Rattle.mega_outcome.specs.Outcome.{first_change, outcome_in}
 use Rattle.mega_replica.specs.Applying.{stored_writes, writes_of}
 use Rattle.mega_transcript.specs.declared.item.Item.{Item}

@@ -1,5 +1,5 @@
 -- A schema that a text declares tells its tables and properties by their names: each name is a text, and stands once.
-use Rattle.std.proofs.Common.{◌≡◌, ℕ, zero, suc, ◌+◌, ◌≤◌, ◌<◌, ◌||◌, ◌&&◌, ◌==◌, Bool, true, false, cond, not, if◌then◌else◌, List, [], ◌∷◌, ◌++◌, length, map, find, slice_get, nat_le, nat_lt, refl, sym, ap, ◌∙◌, subst, arith, Option, Some, None, Result, Ok, Err, is_some, leb-false}
+use Rattle.std.proofs.Common.{◌≡◌, ℕ, zero, suc, ◌+◌, ◌≤◌, ◌<◌, ◌||◌, ◌&&◌, ◌==◌, Bool, true, false, cond, List, [], ◌∷◌, ◌++◌, length, map, find, slice_get, nat_le, nat_lt, refl, sym, ap, ◌∙◌, subst, arith, Option, Some, None, Result, Ok, Err, is_some, leb-false}
 use Rattle.std.specs.Prelude.{position, slice_set}
 use Rattle.std.specs.List.{AllByRecursion, list_any, position_from, position_or_len}
 use Rattle.std.specs.Str.{is_utf8}
@@ -16,25 +16,24 @@ use Rattle.mega_syntax.specs.declared.words.Statement.TheVariants as statements
 use Rattle.mega_syntax.specs.declared.words.Placed.{Placed}
 use Rattle.mega_syntax.specs.declared.words.SchemaWords.{SchemaWords}
 use Rattle.mega_syntax.specs.Grammar.{AreNames, FitItems, FitsPlaced, IsChange, IsName, IsProperty, IsStatement, IsTable, spell_placed}
-use Rattle.mega_syntax.specs.Names.{is_name, same}
+use Rattle.mega_syntax.specs.Names.{same}
 use Rattle.mega_syntax.specs.Tokens.{tokens}
 use Rattle.mega_syntax.proofs.NameText.{name_text}
-use Rattle.mega_schema.specs.declared.fault.SchemaFault.{SchemaFault}
 use Rattle.mega_schema.specs.declared.schema.Property.{Property}
 use Rattle.mega_schema.specs.declared.schema.Schema.{Schema}
 use Rattle.mega_schema.specs.declared.schema.Table.{Table}
 use Rattle.mega_schema.specs.Declare.{declare, grown, grown_at, grown_with, property_of, table_of}
 use Rattle.mega_schema.specs.Known.{table_names}
-use Rattle.mega_schema.specs.Lookup.{is_among, property_named, stands_twice, table_named, table_place}
+use Rattle.mega_schema.specs.Lookup.{is_among, property_named, stands_twice, table_place}
 use Rattle.mega_schema.specs.Rules.{adds_known, broken, change_broken, change_rule_1, change_rule_5, change_rule_11, change_rule_12, change_rule_13, first_broken, is_long, is_table, properties_of, property_names, table_broken, table_rule_1, table_rule_2, table_rule_3, table_rule_4, table_rule_5, table_rule_7, table_rule_8, table_rule_9, table_rule_11, table_rule_12, table_rule_14, words_names}
-use Rattle.mega_schema.specs.Verdict.{Gives, empty, judge, judge_all, parse_of, refused_or}
+use Rattle.mega_schema.specs.Verdict.{empty, judge, parse_of, refused_or}
 use Rattle.mega_schema.proofs.Growing.{names_of_words, table_names_stay}
 use Rattle.mega_schema.proofs.Naming.{same_other, same_self}
 use Rattle.mega_schema.proofs.Told.{parse_tells}
 use Rattle.mega_index.specs.Fits.{numbered}
-use Rattle.mega_transcript.specs.Named.{names_property, names_table, number_of_place, property_number, table_number}
+use Rattle.mega_transcript.specs.Named.{number_of_place}
 use Rattle.mega_tape_laws.proofs.Declared.{neither, unbroken}
-use Rattle.mega_tape_laws.proofs.RowKeys.{Numbered, numbered_at}
+use Rattle.mega_tape_laws.proofs.RowKeys.{numbered_at}
 use Rattle.mega_plain_laws.specs.Answers.{IsNamed}
 use Rattle.mega_format_laws.specs.Rounds.{Each}
 use Rattle.mega_format_laws.proofs.Each.{each_both}
@@ -194,10 +193,13 @@ table_sound s t h is fine =
       apart = subst Apart (sym (map-append (λ (u : Table). u.name) s.tables (table_of s t ∷ [])))
           (apart_both (table_names s.tables) (t.name ∷ []) h.apart (record { once = refl; are = (is.0, tt) })
           (both_no (is_among (table_names s.tables) t.name) false (any_named (λ (u : Table). u.name) t.name s.tables ∙ first.0) refl));
-      each = each_both Tabled s.tables (table_of s t ∷ []) h.each (record {
-        few = (let same = mapped property_of t.properties in let short = at_most 64 (length t.properties) counts.1 in omega (arith, same, short));
-        apart = words_apart t.properties is.1 first.1;
-      }, tt);
+      each = each_both Tabled s.tables (table_of s t ∷ []) h.each (
+        record {
+          few = (let same = mapped property_of t.properties in let short = at_most 64 (length t.properties) counts.1 in omega (arith, same, short));
+          apart = words_apart t.properties is.1 first.1;
+        },
+        tt,
+      );
     }
 
 -- what an added name is not among

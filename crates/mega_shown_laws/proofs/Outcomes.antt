@@ -1,13 +1,12 @@
 -- Over rows that fit, a transaction and a batch show rows that fit, and write such.
-use Rattle.std.proofs.Common.{◌≡◌, ℕ, ◌+◌, Bool, true, false, cond, if◌then◌else◌, List, [], ◌∷◌, ◌++◌, fold, nat_lt, refl, sym, ap, ◌∙◌, subst, Option, Some, None, Result, Ok, Err}
+use Rattle.std.proofs.Common.{◌≡◌, ℕ, ◌+◌, Bool, true, false, cond, if◌then◌else◌, List, [], ◌∷◌, fold, nat_lt, refl, sym, ap, ◌∙◌, subst, Option, Some, None, Result, Ok, Err}
 use Rattle.std.specs.Prelude.{option_map}
 use Rattle.std.proofs.lemmas.List.Sums.{fold-append}
-use Rattle.mega_base.specs.declared.names.GroupId.{GroupId}
 use Rattle.mega_base.specs.declared.values.Row.{Row}
 use Rattle.mega_base.specs.declared.values.Value.{Value}
 use Rattle.mega_schema.specs.declared.schema.Schema.{Schema}
 use Rattle.mega_schema.specs.declared.schema.Table.{Table}
-use Rattle.mega_index.specs.Fits.{fits, fits_in, key_of, numbered, stands_in}
+use Rattle.mega_index.specs.Fits.{fits, fits_in, key_of, numbered}
 use Rattle.mega_index.specs.Fitted.{most_bytes}
 use Rattle.mega_index.specs.Rows.{Rows, changed, written}
 use Rattle.mega_outcome.specs.declared.answer.Batch.{Batch}
@@ -19,7 +18,7 @@ use Rattle.mega_outcome.specs.declared.transaction.RowRef.{RowRef}
 use Rattle.mega_outcome.specs.declared.transaction.Transaction.{Transaction}
 use Rattle.mega_outcome.specs.Changes.{all_changes}
 use Rattle.mega_outcome.specs.Checks.{all_checks}
-use Rattle.mega_outcome.specs.Outcome.{all_sends, batch_length, batch_outcome, first_change, first_read, first_send, left_out, longest, no_batch, outcome_in, taken, unless_large, with_next, with_result}
+use Rattle.mega_outcome.specs.Outcome.{all_sends, batch_length, first_change, first_read, first_send, left_out, longest, no_batch, outcome_in, taken, unless_large, with_next, with_result}
 use Rattle.mega_outcome.specs.Places.{◌>>=◌, key_in, key_in_table, row_in}
 use Rattle.mega_outcome.specs.Reads.{all_reads, read, shown}
 use Rattle.mega_tape_laws.specs.Growing.{RowsFit}

@@ -1,5 +1,5 @@
 -- What shows rows that fit is plain, and so is every item of a run.
-use Rattle.std.proofs.Common.{◌≡◌, ◌&&◌, ℕ, ◌<◌, ◌==◌, nat_lt, Bool, true, false, cond, List, [], ◌∷◌, ◌++◌, flat_map, length, Option, Some, None, Result, Ok, Err, inl, inr, refl, sym, subst, arith}
+use Rattle.std.proofs.Common.{◌≡◌, ◌&&◌, ℕ, ◌<◌, ◌==◌, nat_lt, Bool, true, false, cond, List, [], ◌∷◌, ◌++◌, flat_map, length, Option, Some, None, Result, Ok, Err, inl, inr, refl, arith}
 use Rattle.std.specs.Prelude.{All, is_ok, is_none}
 use Rattle.std.specs.List.{AllByRecursion, list_all}
 use Rattle.std.proofs.lemmas.Bool.Decides.{nat_tests}
@@ -17,7 +17,7 @@ use Rattle.mega_schema.specs.declared.schema.Schema.{Schema}
 use Rattle.mega_schema.specs.declared.schema.Table.{Table}
 use Rattle.mega_schema.specs.Lookup.{is_repeated}
 use Rattle.mega_index.specs.Cells.{key_values}
-use Rattle.mega_index.specs.Fits.{cell_fits, cells_fit, fits, fits_in, has_place, has_required, is_count, key_of, long_key, numbered, properties_fit, row_fits}
+use Rattle.mega_index.specs.Fits.{cell_fits, cells_fit, fits_in, has_place, has_required, is_count, key_of, long_key, numbered, properties_fit}
 use Rattle.mega_outcome.specs.declared.answer.Answer.{Answer}
 use Rattle.mega_outcome.specs.declared.answer.Answer.TheVariants as answers
 use Rattle.mega_outcome.specs.declared.answer.Shown.{Shown}
@@ -25,10 +25,9 @@ use Rattle.mega_outcome.specs.declared.answer.Turn.{Turn}
 use Rattle.mega_outcome.specs.declared.answer.Turn.TheVariants.{OtherGroup, BadRow, CheckFailed, NoRow, Overflow, TooLarge, DiskFault, Full, BadRecord, NoMemory}
 use Rattle.mega_transcript.specs.declared.item.Item.{Item}
 use Rattle.mega_transcript.specs.declared.item.Item.TheVariants.{Start, Unsent, Tick, Begin, Taken, Dropped, Sent, Grant, Lapse, Counts, Forgets, Serving, Lost, Valid, Invalid, Decide, Apply, Answer as AnswerItem, Crash, Cut, Unsafe}
-use Rattle.mega_transcript.specs.Named.{names_property, names_table}
+use Rattle.mega_transcript.specs.Named.{names_property}
 use Rattle.mega_transcript.specs.Plain.{IsPlain}
-use Rattle.mega_transcript.specs.PlainAnswers.{IsPlainAnswer}
-use Rattle.mega_transcript.specs.PlainRows.{ArePlainCells, ArePlainIn, ArePlainResults, ArePlainRows, IsHeld, IsPlainCell, IsPlainShown}
+use Rattle.mega_transcript.specs.PlainRows.{ArePlainCells, ArePlainIn, ArePlainResults, ArePlainRows, IsHeld, IsPlainCell}
 use Rattle.mega_transcript.specs.PlainTurns.{IsPlainTurn}
 use Rattle.mega_promises.specs.Promises.{Stands}
 use Rattle.mega_promises.specs.Runs.{Happening, IsRun}
@@ -37,7 +36,7 @@ use Rattle.mega_format_laws.specs.Rounds.{Each}
 use Rattle.mega_format_laws.proofs.Each.{all_of_each, each_of_all}
 use Rattle.mega_plain_laws.specs.Answers.{IsNamed, IsWord, shows_rows}
 use Rattle.mega_plain_laws.specs.Formed.{AreFormed, is_of_rows}
-use Rattle.mega_plain_laws.specs.Held.{HoldsCell, HoldsItem, HoldsResult, HoldsRows, HoldsShown, HoldsTurn}
+use Rattle.mega_plain_laws.specs.Held.{HoldsCell, HoldsItem, HoldsResult, HoldsRows, HoldsTurn}
 use Rattle.mega_plain_laws.proofs.Plain.{items_plain}
 use Rattle.mega_plain_laws.proofs.Showing.{each_stands}
 use Rattle.mega_plain_laws.proofs.Turning.{AreWords}
@@ -69,8 +68,7 @@ plain_cell : (ps : List Property) (cell : Cell) (o : Option Property) → ((prop
     → AllByRecursion IsHeld cell.values → IsPlainCell ps o cell
 plain_cell ps cell None named fit held = cc
 plain_cell ps cell (Some property) named fit held =
-    let parts = both_true (is_count property.need (length cell.values)) (list_all (has_kind property.kind) cell.values) fit in
-    (
+    let parts = both_true (is_count property.need (length cell.values)) (list_all (has_kind property.kind) cell.values) fit in (
       named property refl,
       (both_are (list_all (has_kind property.kind) cell.values) (cond (is_repeated property.need) (nat_lt 0 (length cell.values)) (length cell.values == 1)) parts.1 (counted property.need (length cell.values) parts.0), held),
     )

@@ -1,5 +1,5 @@
 -- In every run each row that an answer shows fits its table, and each refusal in a batch is a word.
-use Rattle.std.proofs.Common.{◌≡◌, inl, inr, ℕ, ◌-◌, List, [], ◌∷◌, ◌++◌, Option, Result, refl, sym, ap, subst}
+use Rattle.std.proofs.Common.{inl, inr, ◌-◌, List, [], ◌∷◌, ◌++◌, Option, Result, ap, subst}
 use Rattle.std.specs.Prelude.{All}
 use Rattle.mega_base.specs.declared.names.GroupId.{GroupId}
 use Rattle.mega_base.specs.declared.names.OpId.{OpId}
@@ -16,7 +16,7 @@ use Rattle.mega_outcome.specs.declared.request.Request.{Request}
 use Rattle.mega_outcome.specs.declared.request.Request.TheVariants.{Batch as BatchRequest, Find, PumpEnter, PumpHandle, Read as ReadRequested, Refresh, Txn}
 use Rattle.mega_transcript.specs.declared.item.Item.{Item}
 use Rattle.mega_transcript.specs.declared.item.Item.TheVariants.{Answer as AnswerItem}
-use Rattle.mega_promises.specs.Causes.{HasCause, HasResults, IsCause, front}
+use Rattle.mega_promises.specs.Causes.{HasResults, IsCause, front}
 use Rattle.mega_promises.specs.Moments.{StoodOn}
 use Rattle.mega_promises.specs.Promises.{Stands}
 use Rattle.mega_promises.specs.Runs.{Happening, IsRun}

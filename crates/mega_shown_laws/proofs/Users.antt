@@ -1,7 +1,5 @@
 -- A user is put and read, in a run of the format: what the tape holds is tried item by item.
-use Rattle.std.proofs.Common.{◌≡◌, ◌&&◌, ◌<◌, ◌≤◌, ◌^◌, ℕ, suc, zero, nat_le, nat_lt, Bool, true, false, List, [], ◌∷◌, codes, inl, pos, negsuc, ℤ, Option, Some, None, Result, refl, arith}
-use Rattle.std.specs.Prelude.{All}
-use Rattle.std.specs.Int.{w64}
+use Rattle.std.proofs.Common.{◌≡◌, ◌&&◌, ◌<◌, ◌≤◌, ℕ, suc, zero, nat_le, nat_lt, Bool, true, false, List, [], ◌∷◌, codes, inl, pos, negsuc, Option, Some, None, refl, arith}
 use Rattle.std.specs.Fmt.{digits}
 use Rattle.std.specs.Str.{chars, is_utf8}
 use Rattle.std.specs.Char.{encode_utf8}
@@ -31,16 +29,14 @@ use Rattle.mega_outcome.specs.declared.answer.Shown.{Shown}
 use Rattle.mega_transcript.specs.declared.item.Item.{Item}
 use Rattle.mega_transcript.specs.declared.item.Item.TheVariants.{Start, Unsent, Tick, Begin, Taken, Dropped, Sent, Grant, Lapse, Counts, Forgets, Serving, Lost, Valid, Invalid, Decide, Apply, Answer as AnswerItem, Crash, Cut, Unsafe}
 use Rattle.mega_transcript.specs.PlainRows.{IsHeld}
-use Rattle.mega_transcript.specs.Requests.{IsRequest as IsText, is_request, json_of}
+use Rattle.mega_transcript.specs.Requests.{is_request, json_of}
 use Rattle.mega_rules.specs.Examples.{cluster, put}
 use Rattle.mega_promises.specs.Promises.{Stands}
 use Rattle.mega_promises.specs.Runs.{Whole, goes_on, opening}
 use Rattle.mega_promises.specs.Worked.{op, read_through}
 use Rattle.mega_tape_laws.specs.Indexed.{IsDeclared}
-use Rattle.mega_tape_laws.specs.Writes.{Usage}
 use Rattle.mega_tape_laws.proofs.IndexWitnesses.{declared as named_declared}
 use Rattle.mega_run_laws.specs.Usages.{Brought, Fits}
-use Rattle.mega_answer_laws.specs.Examples.{snapshot}
 use Rattle.mega_format_laws.specs.Requests.{IsRequest}
 use Rattle.mega_format_laws.specs.Rounds.{Each}
 use Rattle.mega_format_laws.proofs.Each.{all_of_each}
