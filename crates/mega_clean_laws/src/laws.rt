@@ -10,6 +10,13 @@ ghost use Rattle.mega_replica.specs.declared.progress.Progress.{Progress};
 ghost use Rattle.mega_replica.specs.Following.{Follows};
 ghost use Rattle.mega_replica.specs.Stored.{Counts, GroupLogs, IsOwn, IsUnwritten};
 ghost use Rattle.mega_rows.specs.Trims.{trimmed};
+ghost use Rattle.mega_outcome.specs.declared.request.FindRequest.{FindRequest};
+ghost use Rattle.mega_outcome.specs.declared.request.Mode.TheVariants.{Snapshot};
+ghost use Rattle.mega_outcome.specs.declared.request.ReadRequest.{ReadRequest};
+ghost use Rattle.mega_rules.specs.Acting.{ends, listed_at, read_answer, rows_at};
+ghost use Rattle.mega_rules.specs.Finding.{local_found};
+ghost use Rattle.mega_rules.specs.Operations.{Now, Operation, Setting};
+ghost use Rattle.mega_rules.specs.Steps.{applied_at, local_find_begins, read_begins};
 ghost use Rattle.mega_clean_laws.specs.Keeping.{KeepsFrom, OneKey, put_at};
 
 /// Where of one key the versions below the one that a read at a position sees are let go, each read at or above the position sees what it saw; and so it
@@ -31,4 +38,11 @@ pub fn cleaning_changes_no_answer()
         below ≤ p → p ≤ applied (log group) (stored group) → IsScan kept from to p rows → rows ≡ list_after (take p (log group)) [] }
     ensures newest { (version kept : Versions) (progress : Group → Progress) (log : GroupLogs) (stored : Counts) (group : Group) (key : List ℕ) (below : ℕ) (row : Option Row) → Follows version progress log stored → IsOwn log group key → KeepsFrom below (version key) (kept key) →
         IsLatest (kept key) row → row ≡ written (stored_writes (log group) (stored group)) no_rows key }
+{}
+/// A snapshot, of rows or of an index of a group, looks at the rows at the very position that its node has applied as it begins.
+pub fn snapshots_read_what_is_applied()
+    ensures reads { (s : Setting) (now : Now) (o : Operation) (request : ReadRequest) → let p = applied_at now.met now.stored request.group in
+        read_begins s now o request Snapshot ≡ ends now o.id (read_answer s request p (rows_at now request.group p) (listed_at now request.group p)) }
+    ensures finds { (s : Setting) (now : Now) (o : Operation) (request : FindRequest) (group : Group) → let p = applied_at now.met now.stored group in
+        local_find_begins s now o request group Snapshot ≡ ends now o.id (local_found (s.cluster).schema request p (listed_at now group p)) }
 {}
