@@ -1,6 +1,6 @@
 -- A walk through what an operation does in a step: each answer that it gives, and each proposal that it makes, is of a log that it read through a position
 -- at or above each that its node had decided before it began. `tape` is behind the step's first notes and its decision, `base` is what the node met by then.
-use Rattle.std.proofs.Common.{◌≡◌, ℕ, zero, suc, ◌+◌, ◌-◌, ◌≤◌, nat_le, Bool, true, false, cond, List, [], ◌∷◌, ◌++◌, take, length, Option, Some, None, Result, Ok, Err, refl, sym, ap, ◌∙◌, subst, arith}
+use Rattle.std.proofs.Common.{◌≡◌, ℕ, zero, suc, ◌+◌, ◌-◌, ◌≤◌, nat_le, Bool, true, false, cond, List, [], ◌∷◌, take, length, Option, Some, None, Result, Ok, Err, refl, sym, ap, ◌∙◌, subst, arith}
 use Rattle.std.proofs.lemmas.Bool.Decides.{nat_tests}
 use Rattle.std.specs.List.{list_any}
 use Rattle.mega_base.specs.declared.names.Epoch.{Epoch}
@@ -55,7 +55,6 @@ use Rattle.mega_rules.specs.Operations.{Now, Operation, Phase, Promised, Propose
 use Rattle.mega_rules.specs.Acting.{acts, acts_within, applied_logs, batch_sealed, begins_read, committed, completes_read, ends, enters, finishes, goes_on, handles, handling, in_phase, is_taken, is_visited, keeps, leader_after, listed_at, picks_group, picks_message, proposes, proposes_by, read_answer, read_begun, reader_of, reads_on, rows_answer, rows_at, sealed, sends_more, table_rows, unless_decided, unless_full, validated_by, verdict, visiting}
 use Rattle.mega_rules.specs.Steps.{onto}
 use Rattle.mega_tape_laws.specs.Lawful.{Lawful, message}
-use Rattle.mega_tape_laws.specs.Places.{In}
 use Rattle.mega_tape_laws.specs.Polls.{ArePolls}
 use Rattle.mega_tape_laws.specs.Writes.{Usage}
 use Rattle.mega_run_laws.specs.Vouched.{Each}
@@ -162,23 +161,17 @@ module _ (s : Setting) (usage : Usage) (tape : List Item) (l : Lawful s.cluster 
     pub asked : asked_for usage.meaning tape o.id ≡ Some o.request
     pub phase : PhaseReaching s.cluster tape o.id o.request o.phase
 
-  abbrev pub P : Now → Type 0
-  P now = Acting now
-
-  abbrev pub W : Now → Operation → Type 0
-  W now o = Turn now o
-
-  either_so : (t : Bool) (one other : Now) → (t ≡ true → P one) → P other → P (cond t one other)
+  either_so : (t : Bool) (one other : Now) → (t ≡ true → Acting one) → Acting other → Acting (cond t one other)
   either_so true one other h k = h refl
   either_so false one other h k = k
 
-  either : (t : Bool) (one other : Now) → P one → P other → P (cond t one other)
+  either : (t : Bool) (one other : Now) → Acting one → Acting other → Acting (cond t one other)
   either true one other h k = h
   either false one other h k = k
 
   -- ---- it stays open, or ends
 
-  keeps_it : (now : Now) (o : Operation) → W now o → P (keeps now o)
+  keeps_it : (now : Now) (o : Operation) → Turn now o → Acting (keeps now o)
   keeps_it now o t = record {
     mid = (t.acting).mid;
     valids = (t.acting).valids;
@@ -196,13 +189,13 @@ module _ (s : Setting) (usage : Usage) (tape : List Item) (l : Lawful s.cluster 
     kept = a.kept;
   }
 
-  ends_it : (now : Now) (o : Operation) (answer : Answer) → W now o → IsReachingAnswer s.cluster tape o.id o.request answer → P (ends now o.id answer)
+  ends_it : (now : Now) (o : Operation) (answer : Answer) → Turn now o → IsReachingAnswer s.cluster tape o.id o.request answer → Acting (ends now o.id answer)
   ends_it now o answer t reaching = answers_more now o.id answer t.acting (record { request = o.request; asked = t.asked; reaching = reaching })
 
   pub sends_acting : (now : Now) (ms : List Message) → Acting now → Each MessageReaching ms → Acting (sends_more now ms)
   sends_acting now ms a reaching = record { mid = a.mid; valids = a.valids; answers = a.answers; sends = each_both MessageReaching now.sends ms a.sends reaching; kept = a.kept }
 
-  unless_decided_it : (now : Now) (o : Operation) (n : ℕ) (promised : Promised) (d : Option Content) → W now o → P (unless_decided now o n promised d)
+  unless_decided_it : (now : Now) (o : Operation) (n : ℕ) (promised : Promised) (d : Option Content) → Turn now o → Acting (unless_decided now o n promised d)
   unless_decided_it now o n promised None w = keeps_it now o w
   unless_decided_it now o n promised (Some entry) w = ends_it now o (verdict o.id n promised entry) w (verdict_reaching s.cluster tape o.id o.id o.request n promised entry)
 
@@ -211,22 +204,22 @@ module _ (s : Setting) (usage : Usage) (tape : List Item) (l : Lawful s.cluster 
   above_one : (p : ℕ) → p + 1 - 1 ≡ p
   above_one p = omega arith
 
-  proposes_by_it : (now : Now) (o : Operation) (group : GroupId) (r : Reading) (p : ℕ) (own : Content) (promised : Promised) (leader : Option ℕ) → W now (in_phase o (Reads group r)) → Reaches tape o.id group p
-      → P (proposes_by s now (in_phase o (Reads group r)) group r p own promised leader)
+  proposes_by_it : (now : Now) (o : Operation) (group : GroupId) (r : Reading) (p : ℕ) (own : Content) (promised : Promised) (leader : Option ℕ) → Turn now (in_phase o (Reads group r)) → Reaches tape o.id group p
+      → Acting (proposes_by s now (in_phase o (Reads group r)) group r p own promised leader)
   proposes_by_it now o group r p own promised None w reaches = keeps_it now (in_phase o (Reads group r)) w
   proposes_by_it now o group r p own promised (Some leader) w reaches =
       unless_decided_it (sends_more now (asks (site (reader_of s o.id group) (asked_by r) (p + 1)) leader own (clock_of now.met)).sends)
       (in_phase o (Proposes group (p + 1) (asked_by r) (asks (site (reader_of s o.id group) (asked_by r) (p + 1)) leader own (clock_of now.met)).proposal promised))
       (p + 1) promised (decided now.met group (p + 1)) there
     where
-      there : W (sends_more now (asks (site (reader_of s o.id group) (asked_by r) (p + 1)) leader own (clock_of now.met)).sends)
+      there : Turn (sends_more now (asks (site (reader_of s o.id group) (asked_by r) (p + 1)) leader own (clock_of now.met)).sends)
           (in_phase o (Proposes group (p + 1) (asked_by r) (asks (site (reader_of s o.id group) (asked_by r) (p + 1)) leader own (clock_of now.met)).proposal promised))
       there =
           let c : Reaches tape o.id group (p + 1 - 1) = subst (Reaches tape o.id group) (sym (above_one p)) reaches in
           record { acting = sends_acting now _ w.acting ((λ is id. c), tt); node = w.node; asked = w.asked; phase = c }
 
-  proposes_it : (now : Now) (o : Operation) (group : GroupId) (r : Reading) (p : ℕ) (own : Content) (promised : Promised) → W now (in_phase o (Reads group r)) → Reaches tape o.id group p
-      → P (proposes s now (in_phase o (Reads group r)) group r p own promised)
+  proposes_it : (now : Now) (o : Operation) (group : GroupId) (r : Reading) (p : ℕ) (own : Content) (promised : Promised) → Turn now (in_phase o (Reads group r)) → Reaches tape o.id group p
+      → Acting (proposes s now (in_phase o (Reads group r)) group r p own promised)
   proposes_it now o group r p own promised w reaches = proposes_by_it now o group r p own promised (leader_after s now group p) w reaches
 
   -- ---- it reads
@@ -239,7 +232,7 @@ module _ (s : Setting) (usage : Usage) (tape : List Item) (l : Lawful s.cluster 
     pub full : is_full s.cluster s.me ≡ true
     pub of : Of o.request group
 
-  pub visits : (now : Now) (o : Operation) (asked : List ℕ) (group : GroupId) (message : Option Enter) → (Begins now o group) → W (sends_more now (read_begun s now o group asked).sends) (visiting o group message (read_begun s now o group asked))
+  pub visits : (now : Now) (o : Operation) (asked : List ℕ) (group : GroupId) (message : Option Enter) → Begins now o group → Turn (sends_more now (read_begun s now o group asked).sends) (visiting o group message (read_begun s now o group asked))
   visits now o asked group message ready = by (is_visited o group) (valid_at s.cluster now.met group)
     where
       a : Acting now
@@ -284,7 +277,7 @@ module _ (s : Setting) (usage : Usage) (tape : List Item) (l : Lawful s.cluster 
     phase = t.phase;
   }
 
-  validates_it : (now : Now) (o : Operation) (group : GroupId) (p : ℕ) (refusal : Option NotValid) → W now o → W (validated_by now group p refusal) o
+  validates_it : (now : Now) (o : Operation) (group : GroupId) (p : ℕ) (refusal : Option NotValid) → Turn now o → Turn (validated_by now group p refusal) o
   validates_it now o group p (Some why) w = w
   validates_it now o group p None t = record {
     acting = record {
@@ -302,7 +295,7 @@ module _ (s : Setting) (usage : Usage) (tape : List Item) (l : Lawful s.cluster 
   abbrev caught : Option Epoch → List ℕ → ℕ → Option Search → Reading
   caught noted asked p search = record { noted = noted; asked = asked; stage = Catching p search }
 
-  completes_it : (now : Now) (o : Operation) (group : GroupId) (noted : Option Epoch) (asked : List ℕ) (p : ℕ) (search : Option Search) → W now o → W (completes_read s now group (caught noted asked p search) p) o
+  completes_it : (now : Now) (o : Operation) (group : GroupId) (noted : Option Epoch) (asked : List ℕ) (p : ℕ) (search : Option Search) → Turn now o → Turn (completes_read s now group (caught noted asked p search) p) o
   completes_it now o group None asked p search w = stores now _ o w
   completes_it now o group (Some noted) asked p search w =
       validates_it (record { met = now.met; stored = _; kept = now.kept; valid = now.valid; answers = now.answers; sends = now.sends }) o group p (refused_at s.cluster now.met group p noted) (stores now _ o w)
@@ -320,18 +313,18 @@ module _ (s : Setting) (usage : Usage) (tape : List Item) (l : Lawful s.cluster 
 
   -- ---- an operation that reads, in fields
 
-  module _ (again : Now → Operation → Now) (more : (now : Now) (o : Operation) → W now o → P (again now o)) where
-    pub begins_read_it : (now : Now) (o : Operation) (group : GroupId) (message : Option Enter) (asked : List ℕ) → (Begins now o group) → P (begins_read s again now o group message asked)
+  module _ (again : Now → Operation → Now) (more : (now : Now) (o : Operation) → Turn now o → Acting (again now o)) where
+    pub begins_read_it : (now : Now) (o : Operation) (group : GroupId) (message : Option Enter) (asked : List ℕ) → Begins now o group → Acting (begins_read s again now o group message asked)
     begins_read_it now o group message asked begun =
         more (sends_more now (read_begun s now o group asked).sends) (visiting o group message (read_begun s now o group asked)) (visits now o asked group message begun)
 
-    pub picks_message_it : (now : Now) (o : Operation) (asked : List ℕ) (one : Option Posted) → ((group : GroupId) → Begins now o group) → ((answer : Answer) → ((request : Request) → IsReachingAnswer s.cluster tape o.id request answer) → P (ends now o.id answer))
-        → P (picks_message s again now o asked one)
+    pub picks_message_it : (now : Now) (o : Operation) (asked : List ℕ) (one : Option Posted) → ((group : GroupId) → Begins now o group) → ((answer : Answer) → ((request : Request) → IsReachingAnswer s.cluster tape o.id request answer) → Acting (ends now o.id answer))
+        → Acting (picks_message s again now o asked one)
     picks_message_it now o asked None begun ended = ended _ (λ request. tt)
     picks_message_it now o asked (Some one) begun ended = begins_read_it now o one.to (Some one.message) asked (begun one.to)
 
-    pub picks_group_it : (now : Now) (o : Operation) (asked : List ℕ) (one : Option GroupId) → ((group : GroupId) → Begins now o group) → ((answer : Answer) → ((request : Request) → IsReachingAnswer s.cluster tape o.id request answer) → P (ends now o.id answer))
-        → P (picks_group s again now o asked one)
+    pub picks_group_it : (now : Now) (o : Operation) (asked : List ℕ) (one : Option GroupId) → ((group : GroupId) → Begins now o group) → ((answer : Answer) → ((request : Request) → IsReachingAnswer s.cluster tape o.id request answer) → Acting (ends now o.id answer))
+        → Acting (picks_group s again now o asked one)
     picks_group_it now o asked None begun ended = ended _ (λ request. tt)
     picks_group_it now o asked (Some group) begun ended = begins_read_it now o group None asked (begun group)
 
@@ -347,65 +340,65 @@ module _ (s : Setting) (usage : Usage) (tape : List Item) (l : Lawful s.cluster 
         abbrev log : List Content
         log = take p (log_of now.met group)
 
-        covered : (request : Request) → W now (one request) → Reaches tape id group p
+        covered : (request : Request) → Turn now (one request) → Reaches tape id group p
         covered request w = ((w.phase).1).1
 
-        over : (request : Request) → W now (one request) → (Shows : ℕ → List Content → Type 0) → Shows p log → ReadOver tape id group Shows
+        over : (request : Request) → Turn now (one request) → (Shows : ℕ → List Content → Type 0) → Shows p log → ReadOver tape id group Shows
         over request w Shows shows = reads_over now (one request) group p w (covered request w) le Shows shows
 
         -- it ends, or goes on where the log is not full
-        full_it : (request : Request) (next : Now) → W now (one request) → (Of request group → is_write request ≡ true → group_written request ≡ Some group) → P next → P (unless_full s now (one request) p next)
+        full_it : (request : Request) (next : Now) → Turn now (one request) → (Of request group → is_write request ≡ true → group_written request ≡ Some group) → Acting next → Acting (unless_full s now (one request) p next)
         full_it request next w home k = either_so (nat_le ((s.cluster).limit).0 p) _ next (λ full. ends_it now (one request) (LogFull (record { 0 = p })) w (record {
           group = group;
           home = home ((w.phase).1).0;
           reads = over request w (λ n front. (n ≡ p) × (((s.cluster).limit).0 ≤ n)) (refl, le_is ((s.cluster).limit).0 p full);
         })) k
 
-        proposed : (request : Request) (own : Content) (promised : Promised) → W now (one request) → P (proposes s now (one request) group r p own promised)
+        proposed : (request : Request) (own : Content) (promised : Promised) → Turn now (one request) → Acting (proposes s now (one request) group r p own promised)
         proposed request own promised w = proposes_it now (one request) group r p own promised w (covered request w)
 
-        again_reads : (request : Request) → ((other : GroupId) → Of request other) → W now (one request) → (other : GroupId) → Begins now (one request) other
+        again_reads : (request : Request) → ((other : GroupId) → Of request other) → Turn now (one request) → (other : GroupId) → Begins now (one request) other
         again_reads request of t other = record { acting = t.acting; node = t.node; asked = t.asked; full = ap (is_full s.cluster) (sym t.node) ∙ (t.phase).0; of = of other }
 
-        nothing_left : (request : Request) → W now (one request) → (answer : Answer) → ((asked_of : Request) → IsReachingAnswer s.cluster tape id asked_of answer) → P (ends now id answer)
+        nothing_left : (request : Request) → Turn now (one request) → (answer : Answer) → ((asked_of : Request) → IsReachingAnswer s.cluster tape id asked_of answer) → Acting (ends now id answer)
         nothing_left request w answer reaching = ends_it now (one request) answer w (reaching request)
 
-        sealed_it : (transaction : Transaction) (result : Result Done Turned) → outcome (s.cluster).schema transaction (rows_at now group p) ≡ result → W now (one (Txn transaction)) → P (sealed s now (one (Txn transaction)) group r p result)
-        sealed_it transaction (Err turn) e w = ends_it now (one (Txn transaction)) (TurnedAnswer turn) w (
-            subst (λ g. ReadOver tape id g (λ n front. outcome (s.cluster).schema transaction (after front no_rows) ≡ Err turn)) (sym ((w.phase).1).0)
+        sealed_it : (transaction : Transaction) (result : Result Done Turned) → outcome (s.cluster).schema transaction (rows_at now group p) ≡ result → Turn now (one (Txn transaction)) → Acting (sealed s now (one (Txn transaction)) group r p result)
+        sealed_it transaction (Err turn) e w = ends_it now (one (Txn transaction)) (TurnedAnswer turn) w
+            (subst (λ g. ReadOver tape id g (λ n front. outcome (s.cluster).schema transaction (after front no_rows) ≡ Err turn)) (sym ((w.phase).1).0)
             (over (Txn transaction) w (λ n front. outcome (s.cluster).schema transaction (after front no_rows) ≡ Err turn) e))
         sealed_it transaction (Ok done) e w = proposed (Txn transaction) (entry_of_done id done) (Replies done.replies) w
 
-        batch_sealed_it : (own : GroupId) (transactions : List Transaction) → W now (one (BatchRequest own transactions)) → P (batch_sealed s now (one (BatchRequest own transactions)) group r p (batch_outcome (s.cluster).schema own transactions (rows_at now group p)))
+        batch_sealed_it : (own : GroupId) (transactions : List Transaction) → Turn now (one (BatchRequest own transactions)) → Acting (batch_sealed s now (one (BatchRequest own transactions)) group r p (batch_outcome (s.cluster).schema own transactions (rows_at now group p)))
         batch_sealed_it own transactions w = either (list_any is_taken (batch_outcome (s.cluster).schema own transactions (rows_at now group p)).results) _ _
             (proposed (BatchRequest own transactions) (entry_of_batch id (batch_outcome (s.cluster).schema own transactions (rows_at now group p))) (Results (batch_outcome (s.cluster).schema own transactions (rows_at now group p)).results) w)
-            (ends_it now (one (BatchRequest own transactions)) (AllTurned (batch_outcome (s.cluster).schema own transactions (rows_at now group p)).results) w (
-            subst (λ g. ReadOver tape id g (λ n front. (batch_outcome (s.cluster).schema own transactions (after front no_rows)).results ≡ (batch_outcome (s.cluster).schema own transactions (rows_at now group p)).results)) (sym ((w.phase).1).0)
+            (ends_it now (one (BatchRequest own transactions)) (AllTurned (batch_outcome (s.cluster).schema own transactions (rows_at now group p)).results) w
+            (subst (λ g. ReadOver tape id g (λ n front. (batch_outcome (s.cluster).schema own transactions (after front no_rows)).results ≡ (batch_outcome (s.cluster).schema own transactions (rows_at now group p)).results)) (sym ((w.phase).1).0)
             (over (BatchRequest own transactions) w (λ n front. (batch_outcome (s.cluster).schema own transactions (after front no_rows)).results ≡ (batch_outcome (s.cluster).schema own transactions (rows_at now group p)).results) refl)))
 
-        read_it : (request : ReadRequest) → W now (one (ReadRequested request)) → P (ends now id (read_answer s request p (rows_at now group p) (listed_at now group p)))
-        read_it request w = ends_it now (one (ReadRequested request)) (read_answer s request p (rows_at now group p) (listed_at now group p)) w (
-            subst (IsReachingAnswer s.cluster tape id (ReadRequested request)) (answer_is s request p log) (rows_reaching s.cluster tape id request p (rows_shown (s.cluster).schema request log request.rows) (λ current.
+        read_it : (request : ReadRequest) → Turn now (one (ReadRequested request)) → Acting (ends now id (read_answer s request p (rows_at now group p) (listed_at now group p)))
+        read_it request w = ends_it now (one (ReadRequested request)) (read_answer s request p (rows_at now group p) (listed_at now group p)) w
+            (subst (IsReachingAnswer s.cluster tape id (ReadRequested request)) (answer_is s request p log) (rows_reaching s.cluster tape id request p (rows_shown (s.cluster).schema request log request.rows) (λ current.
             subst (λ g. ReadOver tape id g (λ n front. read_over s.cluster request n front ≡ rows_answer p (rows_shown (s.cluster).schema request log request.rows))) (sym ((w.phase).1).0)
             (over (ReadRequested request) w (λ n front. read_over s.cluster request n front ≡ rows_answer p (rows_shown (s.cluster).schema request log request.rows)) refl))))
 
-        find_it : (request : FindRequest) → W now (one (Find request)) → P (ends now id (local_found (s.cluster).schema request p (listed_at now group p)))
-        find_it request w = ends_it now (one (Find request)) (local_found (s.cluster).schema request p (listed_at now group p)) w (
-            found_reaching s.cluster tape id request request _ _ (listed_at now group p) _ (λ current other is.
+        find_it : (request : FindRequest) → Turn now (one (Find request)) → Acting (ends now id (local_found (s.cluster).schema request p (listed_at now group p)))
+        find_it request w = ends_it now (one (Find request)) (local_found (s.cluster).schema request p (listed_at now group p)) w
+            (found_reaching s.cluster tape id request request _ _ (listed_at now group p) _ (λ current other is.
             subst (λ g. ReadOver tape id g (λ n front. find_over s.cluster request n front ≡ local_found (s.cluster).schema request p (listed_at now group p))) (some_same group other (sym ((w.phase).1).0 ∙ is))
             (over (Find request) w (λ n front. find_over s.cluster request n front ≡ local_found (s.cluster).schema request p (listed_at now group p)) refl)))
 
-        enters_it : (picked : Option Enter) → W now (one PumpEnter) → P (enters s again now (one PumpEnter) group r p picked)
+        enters_it : (picked : Option Enter) → Turn now (one PumpEnter) → Acting (enters s again now (one PumpEnter) group r p picked)
         enters_it None w = picks_message_it now (one PumpEnter) (asked_by r) (next_to_enter id (applied_logs now)) (again_reads PumpEnter (λ other. tt) w) (nothing_left PumpEnter w)
         enters_it (Some picked) w = either (is_named picked.name (names_entered log)) _ _
             (picks_message_it now (one PumpEnter) (asked_by r) (next_to_enter id (applied_logs now)) (again_reads PumpEnter (λ other. tt) w) (nothing_left PumpEnter w)) (proposed PumpEnter (enter_entry id picked) (Replies []) w)
 
-        handles_it : (oldest : Option Enter) → W now (one PumpHandle) → P (handles s again now (one PumpHandle) group r p oldest)
+        handles_it : (oldest : Option Enter) → Turn now (one PumpHandle) → Acting (handles s again now (one PumpHandle) group r p oldest)
         handles_it None w = picks_group_it now (one PumpHandle) (asked_by r) (next_to_handle (applied_logs now)) (again_reads PumpHandle (λ other. tt) w) (nothing_left PumpHandle w)
         handles_it (Some oldest) w = either (has s.handlers oldest.queue) _ _
             (proposed PumpHandle (handling s id group oldest (table_rows (s.cluster).schema group (listed_at now group p))) (Replies []) w) (ends_it now (one PumpHandle) (NoHandler oldest.queue) w (tt))
 
-        finishes_by : (request : Request) → W now (one request) → P (finishes s again now (one request) group r p)
+        finishes_by : (request : Request) → Turn now (one request) → Acting (finishes s again now (one request) group r p)
         finishes_by (Txn transaction) w = full_it (Txn transaction) _ w (λ of is. ap Some of) (sealed_it transaction (outcome (s.cluster).schema transaction (rows_at now group p)) refl w)
         finishes_by (BatchRequest own transactions) w = full_it (BatchRequest own transactions) _ w (λ of is. ap Some of) (batch_sealed_it own transactions w)
         finishes_by (ReadRequested request) w = read_it request w
@@ -418,8 +411,8 @@ module _ (s : Setting) (usage : Usage) (tape : List Item) (l : Lawful s.cluster 
       abbrev in_fields : Request → Phase → Operation
       in_fields request phase = record { id = id; request = request; began = began; visited = visited; message = message; phase = phase }
 
-      seeks_it : (now : Now) (request : Request) (group : GroupId) (noted : Option Epoch) (asked : List ℕ) (p : ℕ) (search : Option Search) (least : ℕ) → W now (in_fields request (Reads group (caught noted asked p search)))
-          → W (sends_more now (seeks (reader_of s id group) (caught noted asked p search) least (clock_of now.met)).sends) (in_fields request (Reads group (seeks (reader_of s id group) (caught noted asked p search) least (clock_of now.met)).reading))
+      seeks_it : (now : Now) (request : Request) (group : GroupId) (noted : Option Epoch) (asked : List ℕ) (p : ℕ) (search : Option Search) (least : ℕ) → Turn now (in_fields request (Reads group (caught noted asked p search)))
+          → Turn (sends_more now (seeks (reader_of s id group) (caught noted asked p search) least (clock_of now.met)).sends) (in_fields request (Reads group (seeks (reader_of s id group) (caught noted asked p search) least (clock_of now.met)).reading))
       seeks_it now request group noted asked p search least t = record {
         acting = sends_acting now _ t.acting (never_reaching tape _ (seeks_never (reader_of s id group) (caught noted asked p search) least (clock_of now.met)));
         node = t.node;
@@ -427,8 +420,8 @@ module _ (s : Setting) (usage : Usage) (tape : List Item) (l : Lawful s.cluster 
         phase = ((t.phase).0, (((t.phase).1).0, seeks_reaching s.cluster tape l q id group (caught noted asked p search) least (clock_of now.met) ((t.phase).1).1));
       }
 
-      reads_on_by : (now : Now) (request : Request) (group : GroupId) (noted : Option Epoch) (asked : List ℕ) (stage : Stage) → W now (in_fields request (Reads group (record { noted = noted; asked = asked; stage = stage })))
-          → P (reads_on s again now (in_fields request (Reads group (record { noted = noted; asked = asked; stage = stage }))) group (record { noted = noted; asked = asked; stage = stage }))
+      reads_on_by : (now : Now) (request : Request) (group : GroupId) (noted : Option Epoch) (asked : List ℕ) (stage : Stage) → Turn now (in_fields request (Reads group (record { noted = noted; asked = asked; stage = stage })))
+          → Acting (reads_on s again now (in_fields request (Reads group (record { noted = noted; asked = asked; stage = stage }))) group (record { noted = noted; asked = asked; stage = stage }))
       reads_on_by now request group noted asked (Polling heard best at) w = keeps_it now (in_fields request (Reads group (record { noted = noted; asked = asked; stage = Polling heard best at }))) w
       reads_on_by now request group noted asked (Catching p search) w = either_so (nat_le p (prefix_of now.met group)) _ _
           (λ all. finishes_by id began visited message group noted asked p search (completes_read s now group (caught noted asked p search) p)
@@ -438,13 +431,13 @@ module _ (s : Setting) (usage : Usage) (tape : List Item) (l : Lawful s.cluster 
           (in_fields request (Reads group (seeks (reader_of s id group) (caught noted asked p search) (prefix_of now.met group + 1) (clock_of now.met)).reading))
           (seeks_it now request group noted asked p search (prefix_of now.met group + 1) w))
 
-      acts_by : (now : Now) (request : Request) (phase : Phase) → W now (in_fields request phase) → P (acts s again now (in_fields request phase))
+      acts_by : (now : Now) (request : Request) (phase : Phase) → Turn now (in_fields request phase) → Acting (acts s again now (in_fields request phase))
       acts_by now request (Reads group r) w = reads_on_by now request group r.noted r.asked r.stage w
       acts_by now request (Proposes group n asked proposal promised) w = unless_decided_it now (in_fields request (Proposes group n asked proposal promised)) n promised (decided now.met group n) w
 
-  acts_within_it : (most : ℕ) (now : Now) (o : Operation) → W now o → P (acts_within most s now o)
+  acts_within_it : (most : ℕ) (now : Now) (o : Operation) → Turn now o → Acting (acts_within most s now o)
   acts_within_it zero now o w = keeps_it now o w
   acts_within_it (suc most) now o w = acts_by (acts_within most s) (acts_within_it most) o.id o.began o.visited o.message now o.request o.phase w
 
-  pub goes_on_it : (now : Now) (o : Operation) → W now o → P (goes_on s now o)
+  pub goes_on_it : (now : Now) (o : Operation) → Turn now o → Acting (goes_on s now o)
   goes_on_it now o w = acts_within_it (length (groups_of now.met) + 2) now o w

@@ -106,9 +106,6 @@ module _ (s : Setting) (usage : Usage) (tape : List Item) (l : Lawful s.cluster 
   abbrev ActingAt : Now → Type 0
   ActingAt now = Acting s usage tape l q base known locals now
 
-  abbrev pub Ended : Now → Type 0
-  Ended now = ActingAt now
-
   record Heeds (t : Heard) : Type 0 where
     node : ((t.operation).id).node.0 ≡ s.me
     asked : asked_for usage.meaning tape (t.operation).id ≡ Some (t.operation).request
@@ -145,50 +142,50 @@ module _ (s : Setting) (usage : Usage) (tape : List Item) (l : Lawful s.cluster 
     sends = zero_reaching tape (site (reader_of s o.id group) asked_about n) proposal.own _ h (due_zero (site (reader_of s o.id group) asked_about n) proposal.own proposal (s.cluster).retry clock);
   }
 
-  turn_it : (now : Now) (t : Heard) → Ended now → Heeds t → Ended (acts_in_turn s now t)
+  turn_it : (now : Now) (t : Heard) → ActingAt now → Heeds t → ActingAt (acts_in_turn s now t)
   turn_it now t p h = goes_on_it s usage tape l q base known locals (sends_more now t.sends) t.operation
       (record { acting = sends_acting s usage tape l q base known locals now t.sends p h.sends; node = h.node; asked = h.asked; phase = h.phase })
 
-  pub all_heard : (clock : ℕ) (m : Message) → Took tape (message m.from s.me m.body) → (os : List Operation) (now : Now) → Each (Open s usage tape) os → Ended now → Ended (all_act s now (map (hears_message s clock m) os))
+  pub all_heard : (clock : ℕ) (m : Message) → Took tape (message m.from s.me m.body) → (os : List Operation) (now : Now) → Each (Open s usage tape) os → ActingAt now → ActingAt (all_act s now (map (hears_message s clock m) os))
   all_heard clock m took [] now h p = p
   all_heard clock m took (o ∷ os) now h p = all_heard clock m took os (acts_in_turn s now (hears_message s clock m o)) h.1
       (turn_it now (hears_message s clock m o) p (heard_by clock m o o.phase (h.0).node (h.0).asked (h.0).above (h.0).reaching (subst (λ to. Took tape (message m.from to m.body)) (sym (h.0).node) took)))
 
-  ticked_it : (clock : ℕ) (now : Now) (o : Operation) → Open s usage tape o → Ended now → Ended (ticked s clock now o)
+  ticked_it : (clock : ℕ) (now : Now) (o : Operation) → Open s usage tape o → ActingAt now → ActingAt (ticked s clock now o)
   ticked_it clock now o h p = by (is_out s clock o)
     where
-      by : (t : Bool) → Ended (cond t (ends now o.id (last_answer o)) (acts_in_turn s now (does_due s clock o)))
+      by : (t : Bool) → ActingAt (cond t (ends now o.id (last_answer o)) (acts_in_turn s now (does_due s clock o)))
       by true = answers_more s usage tape l q base known locals now o.id (last_answer o) p (record { request = o.request; asked = h.asked; reaching = out_reaching s.cluster tape o })
       by false = turn_it now (does_due s clock o) p (due_by clock o o.phase h.node h.asked h.above h.reaching)
 
-  pub all_ticked : (clock : ℕ) (os : List Operation) (now : Now) → Each (Open s usage tape) os → Ended now → Ended (fold (ticked s clock) now os)
+  pub all_ticked : (clock : ℕ) (os : List Operation) (now : Now) → Each (Open s usage tape) os → ActingAt now → ActingAt (fold (ticked s clock) now os)
   all_ticked clock [] now h p = p
   all_ticked clock (o ∷ os) now h p = all_ticked clock os (ticked s clock now o) h.1 (ticked_it clock now o h.0 p)
 
   -- ---- one that begins
 
-  module _ (now : Now) (id : OpId) (clock : ℕ) (p : Ended now) (node : id.node.0 ≡ s.me) where
+  module _ (now : Now) (id : OpId) (clock : ℕ) (p : ActingAt now) (node : id.node.0 ≡ s.me) where
     module _ (request : Request) (asked : asked_for usage.meaning tape id ≡ Some request) where
       abbrev o : Operation
       o = new_operation id request clock
 
-      given : (answer : Answer) → IsReachingAnswer s.cluster tape id request answer → Ended (ends now id answer)
+      given : (answer : Answer) → IsReachingAnswer s.cluster tape id request answer → ActingAt (ends now id answer)
       given answer reaching = answers_more s usage tape l q base known locals now id answer p (record { request = request; asked = asked; reaching = reaching })
 
       ready : (group : GroupId) → is_full s.cluster s.me ≡ true → Of request group → Begins s usage tape l q base known locals now o group
       ready group full of = record { acting = p; node = node; asked = asked; full = full; of = of }
 
-      reads : (group : GroupId) (message : Option Enter) → is_full s.cluster s.me ≡ true → Of request group → Ended (begins_read s (goes_on s) now o group message [])
+      reads : (group : GroupId) (message : Option Enter) → is_full s.cluster s.me ≡ true → Of request group → ActingAt (begins_read s (goes_on s) now o group message [])
       reads group message full of = begins_read_it s usage tape l q base known locals (goes_on s) (goes_on_it s usage tape l q base known locals) now o group message [] (ready group full of)
 
     read_begins_it : (request : ReadRequest) → asked_for usage.meaning tape id ≡ Some (ReadRequested request) → (is_current request.mode ≡ true → is_full s.cluster s.me ≡ true) → (mode : Mode) → request.mode ≡ mode
-        → Ended (read_begins s now (new_operation id (ReadRequested request) clock) request mode)
+        → ActingAt (read_begins s now (new_operation id (ReadRequested request) clock) request mode)
     read_begins_it request asked full Current e = reads (ReadRequested request) asked request.group None (full (ap is_current e)) refl
     read_begins_it request asked full Snapshot e = given (ReadRequested request) asked _ (read_reaching s tape id request _ _ _ (λ current. let clashing = sym current ∙ ap is_current e in cc))
     read_begins_it request asked full Inconsistent e = given (ReadRequested request) asked _ (read_reaching s tape id request _ _ _ (λ current. let clashing = sym current ∙ ap is_current e in cc))
 
     local_find_it : (request : FindRequest) (group : GroupId) → request.group ≡ Some group → asked_for usage.meaning tape id ≡ Some (Find request) → (is_current request.mode ≡ true → is_full s.cluster s.me ≡ true) → (mode : Mode) → request.mode ≡ mode
-        → Ended (local_find_begins s now (new_operation id (Find request) clock) request group mode)
+        → ActingAt (local_find_begins s now (new_operation id (Find request) clock) request group mode)
     local_find_it request group of asked full Current e = reads (Find request) asked group None (full (ap is_current e)) of
     local_find_it request group of asked full Snapshot e = given (Find request) asked _ (found_reaching s.cluster tape id request request (group_marks request.group (applied_position now group)) (group_bytes request.group) (snapshot_listed now group)
         (numbered (s.cluster).schema.indexes request.index) (λ current. clash_of (is_current request.mode) current (ap is_current e)))
@@ -196,12 +193,12 @@ module _ (s : Setting) (usage : Usage) (tape : List Item) (l : Lawful s.cluster 
         (numbered (s.cluster).schema.indexes request.index) (λ current. clash_of (is_current request.mode) current (ap is_current e)))
 
     find_begins_it : (request : FindRequest) → asked_for usage.meaning tape id ≡ Some (Find request) → (is_current request.mode ≡ true → is_full s.cluster s.me ≡ true) → (group : Option GroupId) → request.group ≡ group
-        → Ended (find_begins s now (new_operation id (Find request) clock) request group)
+        → ActingAt (find_begins s now (new_operation id (Find request) clock) request group)
     find_begins_it request asked full None e = given (Find request) asked _ (found_reaching s.cluster tape id request request (refreshed_marks now.met) [] (flat_map (rows_through now.met) (refreshed_marks now.met))
         (numbered (s.cluster).schema.indexes request.index) (λ current other is. none_some other (sym e ∙ is)))
     find_begins_it request asked full (Some group) e = local_find_it request group e asked full request.mode refl
 
-    begins_it : (request : Request) → asked_for usage.meaning tape id ≡ Some request → (needs_full request ≡ true → is_full s.cluster s.me ≡ true) → Ended (begins s now (new_operation id request clock))
+    begins_it : (request : Request) → asked_for usage.meaning tape id ≡ Some request → (needs_full request ≡ true → is_full s.cluster s.me ≡ true) → ActingAt (begins s now (new_operation id request clock))
     begins_it (Txn transaction) asked full = reads (Txn transaction) asked transaction.group None (full refl) refl
     begins_it (BatchRequest group transactions) asked full = reads (BatchRequest group transactions) asked group None (full refl) refl
     begins_it (ReadRequested request) asked full = read_begins_it request asked full request.mode refl
@@ -213,6 +210,6 @@ module _ (s : Setting) (usage : Usage) (tape : List Item) (l : Lawful s.cluster 
     begins_it Refresh asked full = given Refresh asked _ tt
 
     pub begun_it : (request : Request) → asked_for usage.meaning tape id ≡ Some request → (refusal : Option Answer) → (refusal ≡ None → needs_full request ≡ true → is_full s.cluster s.me ≡ true) → ((answer : Answer) → refusal ≡ Some answer → IsReachingAnswer s.cluster tape id request answer)
-        → Ended (unless_refused s now (new_operation id request clock) refusal)
+        → ActingAt (unless_refused s now (new_operation id request clock) refusal)
     begun_it request asked None full reaching = begins_it request asked (full refl)
     begun_it request asked (Some answer) full reaching = given request asked answer (reaching answer refl)

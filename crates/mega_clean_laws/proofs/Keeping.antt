@@ -1,11 +1,10 @@
 -- Reads from a position on see the same after versions below it were let go, and so they do after further versions are put.
-use Rattle.std.proofs.Common.{◌≡◌, ℕ, zero, suc, ◌≤◌, ◌<◌, ◌==◌, cond, Bool, true, false, Option, Some, None, List, refl, sym, ap, ◌∙◌, subst, arith, inl, inr, take}
+use Rattle.std.proofs.Common.{◌≡◌, ℕ, zero, suc, ◌≤◌, ◌<◌, ◌==◌, cond, Bool, true, false, Option, Some, List, refl, sym, ap, ◌∙◌, subst, arith, inl, inr}
 use Rattle.std.proofs.lemmas.Bool.{cases_lt}
 use Rattle.std.proofs.lemmas.Bool.Decides.{nat_tests}
 use Rattle.mega_base.specs.declared.values.Row.{Row}
-use Rattle.mega_base.specs.declared.names.GroupId.{GroupId}
-use Rattle.mega_disk.specs.VersionMaps.{Cleaned, Drops, IsAbove, Versions, or_else, row_at, row_of, version_at}
-use Rattle.mega_rows.specs.Trims.{floor, trimmed}
+use Rattle.mega_disk.specs.VersionMaps.{Cleaned, Drops, IsAbove, Versions, or_else, version_at}
+use Rattle.mega_rows.specs.Trims.{trimmed}
 use Rattle.mega_rows.proofs.Trims.{floor_bound, trimmed_kept, trimmed_reads}
 use Rattle.mega_clean_laws.specs.Keeping.{KeepsFrom, OneKey, put_at}
 

@@ -1,6 +1,6 @@
 -- What a node decided stands on the tape, and so does what it applied.
 use Rattle.std.proofs.lemmas.Bool.{cases_lt}
-use Rattle.std.proofs.Common.{◌≡◌, ◌⊎◌, inl, inr, ℕ, zero, suc, ◌+◌, ◌-◌, ◌<◌, ◌≤◌, ◌==◌, ◌&&◌, nat_le, Bool, true, false, cond, List, [], ◌∷◌, ◌++◌, flat_map, length, map, Option, Some, None, refl, sym, ap, ◌∙◌, subst, arith}
+use Rattle.std.proofs.Common.{◌≡◌, ◌⊎◌, inl, inr, ℕ, ◌+◌, ◌<◌, ◌≤◌, ◌==◌, ◌&&◌, Bool, true, false, cond, List, [], ◌∷◌, flat_map, length, map, Option, Some, None, refl, sym, ◌∙◌, subst, arith}
 use Rattle.mega_base.specs.declared.names.GroupId.{GroupId}
 use Rattle.mega_base.specs.declared.names.NodeId.{NodeId}
 use Rattle.mega_base.specs.declared.names.OpId.{OpId}
@@ -25,7 +25,6 @@ use Rattle.mega_tape_laws.specs.Writes.{Usage}
 use Rattle.mega_tape_laws.proofs.Ballots.{number_is}
 use Rattle.mega_tape_laws.proofs.Lists.{some_is}
 use Rattle.mega_run_laws.specs.Usages.{Fits}
-use Rattle.mega_run_laws.specs.Vouched.{sent}
 use Rattle.mega_run_laws.proofs.Noted.{with_append}
 use Rattle.mega_run_laws.proofs.Prefixes.{IsDecided, prefix_decided}
 use Rattle.mega_run_laws.proofs.Turns.{Known}

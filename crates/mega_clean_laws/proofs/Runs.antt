@@ -1,29 +1,25 @@
 -- In every run each answer and each proposal is of a log that was read far enough, item by item, and so is what stays open.
-use Rattle.std.proofs.Common.{ℕ, ◌≡◌, inl, inr, ◌+◌, ◌≤◌, ◌==◌, ◌&&◌, ◌||◌, Bool, true, false, cond, List, [], ◌∷◌, ◌++◌, flat_map, length, Option, Some, None, refl, sym, ap, ◌∙◌, subst}
-use Rattle.mega_base.specs.declared.names.GroupId.{GroupId}
+use Rattle.std.proofs.Common.{ℕ, ◌≡◌, inl, inr, ◌+◌, ◌≤◌, ◌||◌, Bool, true, false, cond, List, [], ◌∷◌, ◌++◌, flat_map, refl, sym, ap, ◌∙◌, subst}
 use Rattle.mega_base.specs.declared.names.OpId.{OpId}
 use Rattle.mega_cluster.specs.declared.cluster.Cluster.{Cluster}
-use Rattle.mega_entry.specs.declared.content.Content.{Content}
 use Rattle.mega_handler.specs.Named.{Meanings}
 use Rattle.mega_transcript.specs.declared.item.Item.{Item}
 use Rattle.mega_transcript.specs.declared.item.Item.TheVariants.{Answer as AnswerItem, Begin as BeginItem, Crash, Decide, Sent, Taken, Tick as TickItem}
 use Rattle.mega_transcript.specs.Tape.{sent_count}
-use Rattle.mega_wal.specs.Same.{same_group, same_op}
-use Rattle.mega_wal.proofs.Sames.{same_group_equal, same_op_equal, same_op_self}
+use Rattle.mega_wal.specs.Same.{same_op}
+use Rattle.mega_wal.proofs.Sames.{same_op_equal, same_op_self}
 use Rattle.mega_wire.specs.declared.message.Message.{Message}
 use Rattle.mega_promises.specs.Items.{number, numbered, shown}
 use Rattle.mega_promises.specs.Promises.{Stands, asked_for}
 use Rattle.mega_promises.specs.Runs.{Cuts, Happening, IsRun, Standing, met_in, set_at, setting, whole_step, with_item, with_items}
 use Rattle.mega_rules.specs.Clock.{begun_of, is_up, start_of}
-use Rattle.mega_rules.specs.Logs.{decided, first_of, top_of}
-use Rattle.mega_rules.specs.Met.{Met, Starts, Crashes, Ticks, Begins, Takes, Sends, Unsends, Grants, Lapses, Counts, Forgets, Serves, Loses, Validates, Invalidates, Decides, Applies, Answers}
+use Rattle.mega_rules.specs.Logs.{top_of}
+use Rattle.mega_rules.specs.Met.{Met, Starts, Crashes, Ticks, Begins, Takes, Sends, Unsends, Validates, Applies, Answers}
 use Rattle.mega_rules.specs.Operations.{Node, Operation, Setting}
 use Rattle.mega_rules.specs.Steps.{Begin, Event, Step, Take, Tick, crashed, lapse_notes, lease_notes, onto, op_of, start, start_items, start_notes, step}
 use Rattle.mega_tape_laws.specs.Lawful.{Lawful, message}
 use Rattle.mega_tape_laws.specs.Polls.{ArePolls}
 use Rattle.mega_tape_laws.specs.Writes.{IsNamed, Usage, has_begun}
-use Rattle.mega_tape_laws.proofs.Ballots.{number_is}
-use Rattle.mega_tape_laws.proofs.Lists.{some_is}
 use Rattle.mega_run_laws.specs.Usages.{Fits}
 use Rattle.mega_run_laws.specs.Vouched.{Each, sent}
 use Rattle.mega_run_laws.proofs.Events.{IsPlain, lapses_plain, lease_plain, told_plain}
@@ -55,7 +51,7 @@ use Rattle.mega_fresh_laws.proofs.Nearby.{before_top}
 use Rattle.mega_leased_laws.proofs.Tops.{run_decided_most, then_most, top_more, top_onto}
 use Rattle.mega_clean_laws.proofs.Steps.{Shown, StepReaching, step_reaching}
 use Rattle.mega_fresh_laws.proofs.Steps.{IsApply, base_of, front_of}
-use Rattle.mega_fresh_laws.proofs.Tails.{IsTail, Parted, front_each, step_parted}
+use Rattle.mega_fresh_laws.proofs.Tails.{Parted, front_each, step_parted}
 use Rattle.mega_clean_laws.proofs.Through.{PhaseReaching, phase_on}
 use Rattle.mega_fresh_laws.proofs.Through.{phase_above}
 

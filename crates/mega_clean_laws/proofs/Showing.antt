@@ -3,7 +3,7 @@ use Rattle.std.proofs.Common.{◌≡◌, ◌⊎◌, ℕ, zero, suc, ◌≤◌, �
 use Rattle.std.proofs.lemmas.Bool.{cases_lt}
 use Rattle.mega_base.specs.declared.values.Row.{Row}
 use Rattle.mega_base.specs.declared.names.GroupId.{GroupId}
-use Rattle.mega_disk.specs.VersionMaps.{HasRow, IsLatest, IsScan, IsWithin, Versions, or_else, row_at, row_of, version_at}
+use Rattle.mega_disk.specs.VersionMaps.{IsLatest, IsScan, IsWithin, Versions, or_else, row_at, row_of, version_at}
 use Rattle.mega_index.specs.Rows.{Listed, after, list_after, no_rows, written}
 use Rattle.mega_replica.specs.Applying.{applied, stored_writes}
 use Rattle.mega_replica.specs.declared.progress.Progress.{Progress}

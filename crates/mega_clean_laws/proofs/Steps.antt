@@ -1,5 +1,5 @@
 -- A step of a node: what it answers, proposes and leaves open is of logs that were read far enough.
-use Rattle.std.proofs.Common.{ℕ, ◌≡◌, inl, inr, zero, suc, ◌-◌, ◌<◌, ◌&&◌, nat_le, nat_lt, slice_get, length, arith, Bool, true, false, cond, List, [], ◌∷◌, ◌++◌, map, flat_map, fold, Option, Some, None, refl, sym, ap, subst}
+use Rattle.std.proofs.Common.{ℕ, ◌≡◌, zero, suc, ◌-◌, ◌<◌, ◌&&◌, nat_le, nat_lt, slice_get, length, arith, Bool, true, false, cond, List, [], ◌∷◌, ◌++◌, map, flat_map, fold, Option, Some, None, refl, sym, ap, subst}
 use Rattle.std.proofs.lemmas.Bool.Decides.{nat_tests}
 use Rattle.mega_base.specs.declared.names.GroupId.{GroupId}
 use Rattle.mega_base.specs.declared.values.NodeKind.{NodeKind}
@@ -13,7 +13,6 @@ use Rattle.mega_wire.specs.declared.message.Message.{Message}
 use Rattle.mega_wire.specs.declared.message.Body.{Body}
 use Rattle.mega_wire.specs.declared.message.Body.TheVariants.{Accept}
 use Rattle.mega_promises.specs.Promises.{asked_for}
-use Rattle.mega_promises.specs.Runs.{met_in}
 use Rattle.mega_rules.specs.Clock.{clock_of}
 use Rattle.mega_rules.specs.Coordinators.{acquires_at}
 use Rattle.mega_rules.specs.Logs.{groups_of}
@@ -23,7 +22,7 @@ use Rattle.mega_rules.specs.Operations.{Node, Now, Operation, Setting}
 use Rattle.mega_rules.specs.Replies.{reply_to}
 use Rattle.mega_rules.specs.Steps.{Begin, Decision, Event, Heard as HeardBy, Step, Take, Tick, all_act, applied_at, apply_note, apply_notes, at_first, at_open, background, begin_step, decision_note, first_settled, hears_message, if_new, is_worn, lapse_notes, lease_notes, missing_kind, needs_full, new_operation, news, onto, op_of, portion_of, refusal, step, stored_after, taken, tick_step, ticked, told_decision, told_notes, unless_missing, unless_refused}
 use Rattle.mega_tape_laws.specs.Lawful.{Lawful, message}
-use Rattle.mega_tape_laws.specs.Places.{In, Took}
+use Rattle.mega_tape_laws.specs.Places.{Took}
 use Rattle.mega_tape_laws.specs.Polls.{ArePolls}
 use Rattle.mega_tape_laws.specs.Writes.{Usage}
 use Rattle.mega_run_laws.specs.Vouched.{Each}

@@ -13,7 +13,6 @@ use Rattle.mega_read.specs.Catching.{falls_due, hears, polled_read, seeks}
 use Rattle.mega_transcript.specs.declared.item.Item.{Item}
 use Rattle.mega_transcript.specs.declared.item.Item.TheVariants.{Decide}
 use Rattle.mega_wire.specs.declared.message.Body.{Body}
-use Rattle.mega_promises.specs.Promises.{Stands}
 use Rattle.mega_rules.specs.Members.{is_full}
 use Rattle.mega_rules.specs.Operations.{Phase, Proposes, Reads}
 use Rattle.mega_tape_laws.specs.Lawful.{Lawful, message}

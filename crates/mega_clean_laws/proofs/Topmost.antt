@@ -1,5 +1,5 @@
 -- What a node has applied is at or below the greatest position that it accepted or decided.
-use Rattle.std.proofs.Common.{◌≡◌, ◌⊎◌, inl, inr, ℕ, ◌-◌, ◌+◌, max, ◌≤◌, ◌<◌, ◌==◌, ◌&&◌, nat_le, Bool, true, false, cond, List, [], ◌∷◌, length, Option, Some, None, refl, arith, suc}
+use Rattle.std.proofs.Common.{◌≡◌, ◌⊎◌, inl, inr, ℕ, ◌-◌, ◌+◌, max, ◌≤◌, ◌<◌, ◌==◌, ◌&&◌, nat_le, Bool, true, false, cond, List, [], ◌∷◌, length, Some, refl, arith, suc}
 use Rattle.std.proofs.lemmas.Bool.{cases_lt}
 use Rattle.std.proofs.lemmas.Bool.Decides.{nat_tests}
 use Rattle.mega_base.specs.declared.names.GroupId.{GroupId}
@@ -9,7 +9,7 @@ use Rattle.mega_wal.specs.Same.{same_group}
 use Rattle.mega_rules.specs.Logs.{accepted_at, decided, first_of, log_of, top_of}
 use Rattle.mega_rules.specs.Met.{Met, Decides, Sends, Unsends}
 use Rattle.mega_rules.specs.Steps.{applied_at}
-use Rattle.mega_run_laws.proofs.Prefixes.{IsDecided, prefix_decided}
+use Rattle.mega_run_laws.proofs.Prefixes.{prefix_decided}
 use Rattle.mega_leased_laws.proofs.Tops.{then_most}
 
 pub applied_least : (log : List Content) (stored : ℕ) → applied log stored ≤ length log
