@@ -1,0 +1,215 @@
+-- What operations do in a step that takes a message, ticks, or lets a request begin: they read through positions at or above each that their node had decided
+-- before they began.
+use Rattle.std.proofs.Common.{◌≡◌, ℕ, ◌-◌, nat_le, Bool, true, false, cond, List, [], ◌∷◌, length, map, flat_map, fold, Option, Some, None, refl, sym, ap, ◌∙◌, subst}
+use Rattle.mega_base.specs.declared.names.GroupId.{GroupId}
+use Rattle.mega_base.specs.declared.names.OpId.{OpId}
+use Rattle.mega_cluster.specs.declared.cluster.Cluster.{Cluster}
+use Rattle.mega_entry.specs.declared.content.Content.{Content}
+use Rattle.mega_entry.specs.declared.content.Enter.{Enter}
+use Rattle.mega_index.specs.Rows.{Listed, Rows}
+use Rattle.mega_outcome.specs.declared.answer.Answer.{Answer}
+use Rattle.mega_outcome.specs.declared.answer.Answer.TheVariants.{Read as ReadAnswer}
+use Rattle.mega_outcome.specs.declared.request.FindRequest.{FindRequest}
+use Rattle.mega_outcome.specs.declared.request.Mode.{Mode}
+use Rattle.mega_outcome.specs.declared.request.Mode.TheVariants.{Current, Snapshot, Inconsistent}
+use Rattle.mega_outcome.specs.declared.request.ReadRequest.{ReadRequest}
+use Rattle.mega_outcome.specs.declared.request.Request.{Request}
+use Rattle.mega_outcome.specs.declared.request.Request.TheVariants.{Txn, Batch as BatchRequest, Read as ReadRequested, Find, PumpEnter, PumpHandle, Refresh}
+use Rattle.mega_outcome.specs.declared.transaction.RowRef.{RowRef}
+use Rattle.mega_outcome.specs.Reads.{all_rows, read_rows}
+use Rattle.mega_read.specs.Catching.{site}
+use Rattle.mega_transcript.specs.declared.item.Item.{Item}
+use Rattle.mega_wire.specs.declared.message.Message.{Message}
+use Rattle.mega_wire.specs.declared.message.Body.{Body}
+use Rattle.mega_wire.specs.declared.message.Body.TheVariants.{Accept}
+use Rattle.mega_promises.specs.Promises.{asked_for}
+use Rattle.mega_rules.specs.Members.{is_full}
+use Rattle.mega_rules.specs.Met.{Met}
+use Rattle.mega_rules.specs.Queues.{next_to_enter, next_to_handle}
+use Rattle.mega_rules.specs.Operations.{Now, Operation, Phase, Proposes, Reads, Setting}
+use Rattle.mega_rules.specs.Acting.{applied_logs, begins_read, ends, goes_on, read_answer, reader_of, rows_answer, sends_more}
+use Rattle.mega_rules.specs.Steps.{Heard, acts_in_turn, all_act, begins, does_due, find_begins, hears_message, is_current, is_out, last_answer, local_find_begins, new_operation, read_begins, ticked, unless_refused}
+use Rattle.mega_tape_laws.specs.Lawful.{Lawful, message}
+use Rattle.mega_tape_laws.specs.Places.{Took}
+use Rattle.mega_tape_laws.specs.Polls.{ArePolls}
+use Rattle.mega_tape_laws.specs.Writes.{Usage}
+use Rattle.mega_run_laws.specs.Vouched.{Each}
+use Rattle.mega_run_laws.proofs.Turns.{Known}
+use Rattle.mega_clean_laws.specs.Reaching.{Reaches, IsReachingAnswer, IsProposed}
+use Rattle.mega_fresh_laws.proofs.Accepts.{Zero, ZeroBody, due_zero, falls_due_never, hears_never, takes_zero}
+use Rattle.mega_clean_laws.proofs.Through.{PhaseReaching, due_reaching, hears_reaching}
+use Rattle.mega_fresh_laws.proofs.Through.{Of, PhaseAbove}
+use Rattle.mega_base.specs.declared.values.NodeKind.{NodeKind}
+use Rattle.mega_outcome.specs.declared.answer.Answer.TheVariants.{Busy, NotHere, TimedOut, Unknown, Worn}
+use Rattle.mega_propose.specs.declared.round.Site.{Site}
+use Rattle.mega_index.specs.Fits.{numbered}
+use Rattle.mega_rules.specs.Finding.{group_bytes, group_marks, refreshed_marks, rows_through}
+use Rattle.mega_rules.specs.Steps.{applied_position, needs_full, snapshot_listed, stored_listed, unless_missing}
+use Rattle.mega_clean_laws.proofs.Acting.{Acting, Begins, Locals, answers_more, begins_read_it, found_reaching, goes_on_it, never_reaching, picks_group_it, picks_message_it, rows_reaching, sends_acting, some_same}
+
+clash_of : {X : Type 0} (t : Bool) → t ≡ true → t ≡ false → X
+clash_of t h k = absurd (let both = sym h ∙ k in cc)
+
+none_some : {X Y : Type 0} (x : X) → None ≡ Some x → Y
+none_some x h = cc
+
+zero_reaching : (tape : List Item) (at : Site) (own : Content) (ms : List Message) → Reaches tape at.op at.group (at.position - 1) → Each (Zero at own) ms → Each (λ m. IsProposed tape m.body) ms
+zero_reaching tape at own [] reaches h = tt
+zero_reaching tape at own (m ∷ ms) reaches h = (by m.body h.0, zero_reaching tape at own ms reaches h.1)
+  where
+    by : (body : Body) → ZeroBody at own body → IsProposed tape body
+    by (Accept op group n b e) only = λ is id. let same = only is in coe 1 0 (i. Reaches tape ((same.0).0 i) ((same.0).1 i) (((same.1).0 i) - 1)) reaches
+    by _ only = tt
+
+-- no answer of an operation that is refused, or that has waited too long, shows rows
+pub refused_reaching : (c : Cluster) (tape : List Item) (op : OpId) (asked : Request) (open_ones : List Operation) (kind : Option NodeKind) (worn : Bool) (answer : Answer) → cond worn (Some Worn) (unless_missing open_ones kind) ≡ Some answer
+    → IsReachingAnswer c tape op asked answer
+refused_reaching c tape op asked open_ones kind true answer is = subst (IsReachingAnswer c tape op asked) (some_same Worn answer is) tt
+refused_reaching c tape op asked open_ones (Some kind) false answer is = subst (IsReachingAnswer c tape op asked) (some_same (NotHere kind) answer is) tt
+refused_reaching c tape op asked open_ones None false answer is = by (nat_le 64 (length open_ones)) is
+  where
+    by : (t : Bool) → cond t (Some (Busy 64)) None ≡ Some answer → IsReachingAnswer c tape op asked answer
+    by true k = subst (IsReachingAnswer c tape op asked) (some_same (Busy 64) answer k) tt
+    by false k = cc
+
+out_reaching : (c : Cluster) (tape : List Item) (o : Operation) → IsReachingAnswer c tape o.id o.request (last_answer o)
+out_reaching c tape o = by o.phase
+  where
+    answered : Phase → Answer
+    answered (Reads group r) = TimedOut
+    answered (Proposes group n asked proposal promised) = Unknown
+
+    by : (phase : Phase) → IsReachingAnswer c tape o.id o.request (answered phase)
+    by (Reads group r) = tt
+    by (Proposes group n asked proposal promised) = tt
+
+-- a read that is not current may show anything
+read_reaching : (s : Setting) (tape : List Item) (op : OpId) (request : ReadRequest) (p : ℕ) (rows : Rows) (listed : Listed) → (is_current request.mode ≡ true → ⊥) → IsReachingAnswer s.cluster tape op (ReadRequested request) (read_answer s request p rows listed)
+read_reaching s tape op request p rows listed other = by request.rows
+  where
+    answered : List RowRef → Answer
+    answered [] = ReadAnswer (record { 0 = p }) (all_rows (s.cluster).schema request.group listed)
+    answered (row ∷ more) = rows_answer p (read_rows (s.cluster).schema request.group (row ∷ more) rows)
+
+    by : (refs : List RowRef) → IsReachingAnswer s.cluster tape op (ReadRequested request) (answered refs)
+    by [] = λ current. absurd (other current)
+    by (row ∷ more) = rows_reaching s.cluster tape op request p (read_rows (s.cluster).schema request.group (row ∷ more) rows) (λ current. absurd (other current))
+
+-- an open operation, before it hears anything
+pub record Open (s : Setting) (usage : Usage) (tape : List Item) (o : Operation) : Type 0 where
+  pub node : (o.id).node.0 ≡ s.me
+  pub asked : asked_for usage.meaning tape o.id ≡ Some o.request
+  pub above : PhaseAbove o.id o.phase
+  pub reaching : PhaseReaching s.cluster tape o.id o.request o.phase
+
+module _ (s : Setting) (usage : Usage) (tape : List Item) (l : Lawful s.cluster tape) (q : ArePolls tape) (base : List Met) (known : Known s.me base tape) (locals : Locals s tape base) where
+  abbrev ActingAt : Now → Type 0
+  ActingAt now = Acting s usage tape l q base known locals now
+
+  record Heeds (t : Heard) : Type 0 where
+    node : ((t.operation).id).node.0 ≡ s.me
+    asked : asked_for usage.meaning tape (t.operation).id ≡ Some (t.operation).request
+    phase : PhaseReaching s.cluster tape (t.operation).id (t.operation).request (t.operation).phase
+    sends : Each (λ m. IsProposed tape m.body) t.sends
+
+  heard_by : (clock : ℕ) (m : Message) (o : Operation) (phase : Phase) → (o.id).node.0 ≡ s.me → asked_for usage.meaning tape o.id ≡ Some o.request → PhaseAbove o.id phase → PhaseReaching s.cluster tape o.id o.request phase → Took tape (message m.from (o.id).node.0 m.body)
+      → Heeds (hears_message s clock m (record { id = o.id; request = o.request; began = o.began; visited = o.visited; message = o.message; phase = phase }))
+  heard_by clock m o (Reads group r) node asked above h took = record {
+    node = node;
+    asked = asked;
+    phase = (h.0, ((h.1).0, hears_reaching s.cluster tape l q o.id group r m.from clock m.body (h.1).1 took));
+    sends = never_reaching tape _ (hears_never (reader_of s o.id group) r m.from clock m.body above);
+  }
+  heard_by clock m o (Proposes group n asked_about proposal promised) node asked above h took = record {
+    node = node;
+    asked = asked;
+    phase = h;
+    sends = zero_reaching tape (site (reader_of s o.id group) asked_about n) proposal.own _ h (takes_zero (site (reader_of s o.id group) asked_about n) proposal m.from clock m.body above);
+  }
+
+  due_by : (clock : ℕ) (o : Operation) (phase : Phase) → (o.id).node.0 ≡ s.me → asked_for usage.meaning tape o.id ≡ Some o.request → PhaseAbove o.id phase → PhaseReaching s.cluster tape o.id o.request phase
+      → Heeds (does_due s clock (record { id = o.id; request = o.request; began = o.began; visited = o.visited; message = o.message; phase = phase }))
+  due_by clock o (Reads group r) node asked above h = record {
+    node = node;
+    asked = asked;
+    phase = (h.0, ((h.1).0, due_reaching s.cluster tape l q o.id group r (s.cluster).retry clock (h.1).1));
+    sends = never_reaching tape _ (falls_due_never (reader_of s o.id group) r (s.cluster).retry clock above);
+  }
+  due_by clock o (Proposes group n asked_about proposal promised) node asked above h = record {
+    node = node;
+    asked = asked;
+    phase = h;
+    sends = zero_reaching tape (site (reader_of s o.id group) asked_about n) proposal.own _ h (due_zero (site (reader_of s o.id group) asked_about n) proposal.own proposal (s.cluster).retry clock);
+  }
+
+  turn_it : (now : Now) (t : Heard) → ActingAt now → Heeds t → ActingAt (acts_in_turn s now t)
+  turn_it now t p h = goes_on_it s usage tape l q base known locals (sends_more now t.sends) t.operation
+      (record { acting = sends_acting s usage tape l q base known locals now t.sends p h.sends; node = h.node; asked = h.asked; phase = h.phase })
+
+  pub all_heard : (clock : ℕ) (m : Message) → Took tape (message m.from s.me m.body) → (os : List Operation) (now : Now) → Each (Open s usage tape) os → ActingAt now → ActingAt (all_act s now (map (hears_message s clock m) os))
+  all_heard clock m took [] now h p = p
+  all_heard clock m took (o ∷ os) now h p = all_heard clock m took os (acts_in_turn s now (hears_message s clock m o)) h.1
+      (turn_it now (hears_message s clock m o) p (heard_by clock m o o.phase (h.0).node (h.0).asked (h.0).above (h.0).reaching (subst (λ to. Took tape (message m.from to m.body)) (sym (h.0).node) took)))
+
+  ticked_it : (clock : ℕ) (now : Now) (o : Operation) → Open s usage tape o → ActingAt now → ActingAt (ticked s clock now o)
+  ticked_it clock now o h p = by (is_out s clock o)
+    where
+      by : (t : Bool) → ActingAt (cond t (ends now o.id (last_answer o)) (acts_in_turn s now (does_due s clock o)))
+      by true = answers_more s usage tape l q base known locals now o.id (last_answer o) p (record { request = o.request; asked = h.asked; reaching = out_reaching s.cluster tape o })
+      by false = turn_it now (does_due s clock o) p (due_by clock o o.phase h.node h.asked h.above h.reaching)
+
+  pub all_ticked : (clock : ℕ) (os : List Operation) (now : Now) → Each (Open s usage tape) os → ActingAt now → ActingAt (fold (ticked s clock) now os)
+  all_ticked clock [] now h p = p
+  all_ticked clock (o ∷ os) now h p = all_ticked clock os (ticked s clock now o) h.1 (ticked_it clock now o h.0 p)
+
+  -- ---- one that begins
+
+  module _ (now : Now) (id : OpId) (clock : ℕ) (p : ActingAt now) (node : id.node.0 ≡ s.me) where
+    module _ (request : Request) (asked : asked_for usage.meaning tape id ≡ Some request) where
+      abbrev o : Operation
+      o = new_operation id request clock
+
+      given : (answer : Answer) → IsReachingAnswer s.cluster tape id request answer → ActingAt (ends now id answer)
+      given answer reaching = answers_more s usage tape l q base known locals now id answer p (record { request = request; asked = asked; reaching = reaching })
+
+      ready : (group : GroupId) → is_full s.cluster s.me ≡ true → Of request group → Begins s usage tape l q base known locals now o group
+      ready group full of = record { acting = p; node = node; asked = asked; full = full; of = of }
+
+      reads : (group : GroupId) (message : Option Enter) → is_full s.cluster s.me ≡ true → Of request group → ActingAt (begins_read s (goes_on s) now o group message [])
+      reads group message full of = begins_read_it s usage tape l q base known locals (goes_on s) (goes_on_it s usage tape l q base known locals) now o group message [] (ready group full of)
+
+    read_begins_it : (request : ReadRequest) → asked_for usage.meaning tape id ≡ Some (ReadRequested request) → (is_current request.mode ≡ true → is_full s.cluster s.me ≡ true) → (mode : Mode) → request.mode ≡ mode
+        → ActingAt (read_begins s now (new_operation id (ReadRequested request) clock) request mode)
+    read_begins_it request asked full Current e = reads (ReadRequested request) asked request.group None (full (ap is_current e)) refl
+    read_begins_it request asked full Snapshot e = given (ReadRequested request) asked _ (read_reaching s tape id request _ _ _ (λ current. let clashing = sym current ∙ ap is_current e in cc))
+    read_begins_it request asked full Inconsistent e = given (ReadRequested request) asked _ (read_reaching s tape id request _ _ _ (λ current. let clashing = sym current ∙ ap is_current e in cc))
+
+    local_find_it : (request : FindRequest) (group : GroupId) → request.group ≡ Some group → asked_for usage.meaning tape id ≡ Some (Find request) → (is_current request.mode ≡ true → is_full s.cluster s.me ≡ true) → (mode : Mode) → request.mode ≡ mode
+        → ActingAt (local_find_begins s now (new_operation id (Find request) clock) request group mode)
+    local_find_it request group of asked full Current e = reads (Find request) asked group None (full (ap is_current e)) of
+    local_find_it request group of asked full Snapshot e = given (Find request) asked _ (found_reaching s.cluster tape id request request (group_marks request.group (applied_position now group)) (group_bytes request.group) (snapshot_listed now group)
+        (numbered (s.cluster).schema.indexes request.index) (λ current. clash_of (is_current request.mode) current (ap is_current e)))
+    local_find_it request group of asked full Inconsistent e = given (Find request) asked _ (found_reaching s.cluster tape id request request (group_marks request.group (applied_position now group)) (group_bytes request.group) (stored_listed now group)
+        (numbered (s.cluster).schema.indexes request.index) (λ current. clash_of (is_current request.mode) current (ap is_current e)))
+
+    find_begins_it : (request : FindRequest) → asked_for usage.meaning tape id ≡ Some (Find request) → (is_current request.mode ≡ true → is_full s.cluster s.me ≡ true) → (group : Option GroupId) → request.group ≡ group
+        → ActingAt (find_begins s now (new_operation id (Find request) clock) request group)
+    find_begins_it request asked full None e = given (Find request) asked _ (found_reaching s.cluster tape id request request (refreshed_marks now.met) [] (flat_map (rows_through now.met) (refreshed_marks now.met))
+        (numbered (s.cluster).schema.indexes request.index) (λ current other is. none_some other (sym e ∙ is)))
+    find_begins_it request asked full (Some group) e = local_find_it request group e asked full request.mode refl
+
+    begins_it : (request : Request) → asked_for usage.meaning tape id ≡ Some request → (needs_full request ≡ true → is_full s.cluster s.me ≡ true) → ActingAt (begins s now (new_operation id request clock))
+    begins_it (Txn transaction) asked full = reads (Txn transaction) asked transaction.group None (full refl) refl
+    begins_it (BatchRequest group transactions) asked full = reads (BatchRequest group transactions) asked group None (full refl) refl
+    begins_it (ReadRequested request) asked full = read_begins_it request asked full request.mode refl
+    begins_it (Find request) asked full = find_begins_it request asked full request.group refl
+    begins_it PumpEnter asked full = picks_message_it s usage tape l q base known locals (goes_on s) (goes_on_it s usage tape l q base known locals) now (new_operation id PumpEnter clock) [] (next_to_enter id (applied_logs now))
+        (λ group. ready PumpEnter asked group (full refl) tt) (λ answer reaching. given PumpEnter asked answer (reaching PumpEnter))
+    begins_it PumpHandle asked full = picks_group_it s usage tape l q base known locals (goes_on s) (goes_on_it s usage tape l q base known locals) now (new_operation id PumpHandle clock) [] (next_to_handle (applied_logs now))
+        (λ group. ready PumpHandle asked group (full refl) tt) (λ answer reaching. given PumpHandle asked answer (reaching PumpHandle))
+    begins_it Refresh asked full = given Refresh asked _ tt
+
+    pub begun_it : (request : Request) → asked_for usage.meaning tape id ≡ Some request → (refusal : Option Answer) → (refusal ≡ None → needs_full request ≡ true → is_full s.cluster s.me ≡ true) → ((answer : Answer) → refusal ≡ Some answer → IsReachingAnswer s.cluster tape id request answer)
+        → ActingAt (unless_refused s now (new_operation id request clock) refusal)
+    begun_it request asked None full reaching = begins_it request asked (full refl)
+    begun_it request asked (Some answer) full reaching = given request asked answer (reaching answer refl)

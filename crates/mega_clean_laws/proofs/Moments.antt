@@ -1,0 +1,71 @@
+-- What a longer tape keeps of what an operation read through.
+use Rattle.std.proofs.Common.{ℕ, List, Option, Result, ◌∙◌, subst}
+use Rattle.mega_base.specs.declared.names.GroupId.{GroupId}
+use Rattle.mega_base.specs.declared.names.OpId.{OpId}
+use Rattle.mega_cluster.specs.declared.cluster.Cluster.{Cluster}
+use Rattle.mega_entry.specs.declared.content.Content.{Content}
+use Rattle.mega_wire.specs.declared.message.Body.{Body}
+use Rattle.mega_wire.specs.declared.message.Body.TheVariants.{Accept}
+use Rattle.mega_outcome.specs.declared.answer.Answer.{Answer}
+use Rattle.mega_outcome.specs.declared.answer.Answer.TheVariants.{AllTurned, Found as FoundAnswer, LogFull, Read as ReadAnswer, Turned}
+use Rattle.mega_outcome.specs.declared.answer.Shown.{Shown}
+use Rattle.mega_outcome.specs.declared.answer.Turn.{Turn}
+use Rattle.mega_outcome.specs.declared.request.Request.{Request}
+use Rattle.mega_outcome.specs.declared.request.Request.TheVariants.{Batch as BatchRequest, Find, PumpEnter, PumpHandle, Read as ReadRequested, Refresh, Txn}
+use Rattle.mega_transcript.specs.declared.item.Item.{Item}
+use Rattle.mega_transcript.specs.declared.item.Item.TheVariants.{Decide}
+use Rattle.mega_promises.specs.Promises.{Stands}
+use Rattle.mega_tape_laws.specs.Writes.{Usage}
+use Rattle.mega_clean_laws.specs.Reaching.{Answered, AreTurned, Reaches, IsReachingAnswer, IsProposed, IsShown, IsTurned, ReadOver}
+use Rattle.mega_fresh_laws.proofs.Moments.{Onward}
+
+-- ---- what was read
+
+pub reaches_on : (op : OpId) (old new : List Item) → Onward op old new → (group : GroupId) (p : ℕ) → Reaches old op group p → Reaches new op group p
+reaches_on op old new o group p h = λ n entry s. h n entry (subst (Stands (Decide op.node group n entry)) o.same s)
+
+pub over_on : (op : OpId) (old new : List Item) → Onward op old new → (group : GroupId) (Shows : ℕ → List Content → Type 0) → ReadOver old op group Shows → ReadOver new op group Shows
+over_on op old new o group Shows h = record { below = h.below; known = λ k d is. o.stood _ (h.known k d is); reaches = reaches_on op old new o group _ h.reaches; shows = h.shows }
+
+module _ (c : Cluster) (op : OpId) (old new : List Item) (o : Onward op old new) where
+  shown_on : (request : Request) (answer : Answer) → IsShown c old op request answer → IsShown c new op request answer
+  shown_on (ReadRequested request) answer h = λ current. over_on op old new o request.group _ (h current)
+  shown_on (Find request) answer h = λ current group is. over_on op old new o group _ (h current group is)
+  shown_on (Txn transaction) answer h = tt
+  shown_on (BatchRequest group transactions) answer h = tt
+  shown_on PumpEnter answer h = tt
+  shown_on PumpHandle answer h = tt
+  shown_on Refresh answer h = tt
+
+  turned_on : (request : Request) (turn : Turn) → IsTurned c old op request turn → IsTurned c new op request turn
+  turned_on (Txn transaction) turn h = over_on op old new o transaction.group _ h
+  turned_on (ReadRequested request) turn h = shown_on (ReadRequested request) (Turned turn) h
+  turned_on (Find request) turn h = shown_on (Find request) (Turned turn) h
+  turned_on (BatchRequest group transactions) turn h = tt
+  turned_on PumpEnter turn h = tt
+  turned_on PumpHandle turn h = tt
+  turned_on Refresh turn h = tt
+
+  all_turned_on : (request : Request) (results : List (Result (List (Option Shown)) Turn)) → AreTurned c old op request results → AreTurned c new op request results
+  all_turned_on (BatchRequest group transactions) results h = over_on op old new o group _ h
+  all_turned_on (Txn transaction) results h = tt
+  all_turned_on (ReadRequested request) results h = tt
+  all_turned_on (Find request) results h = tt
+  all_turned_on PumpEnter results h = tt
+  all_turned_on PumpHandle results h = tt
+  all_turned_on Refresh results h = tt
+
+  reaching_on : (request : Request) (answer : Answer) → IsReachingAnswer c old op request answer → IsReachingAnswer c new op request answer
+  reaching_on request (ReadAnswer p rows) h = shown_on request (ReadAnswer p rows) h
+  reaching_on request (FoundAnswer marks found) h = shown_on request (FoundAnswer marks found) h
+  reaching_on request (Turned turn) h = turned_on request turn h
+  reaching_on request (AllTurned results) h = all_turned_on request results h
+  reaching_on request (LogFull n) h = record { group = h.group; home = h.home; reads = over_on op old new o h.group _ h.reads }
+  reaching_on request _ h = tt
+
+pub answered_on : (c : Cluster) (usage : Usage) (op : OpId) (old new : List Item) → Onward op old new → (answer : Answer) → Answered c usage old op answer → Answered c usage new op answer
+answered_on c usage op old new o answer h = record { request = h.request; asked = o.asked usage.meaning ∙ h.asked; reaching = reaching_on c op old new o h.request answer h.reaching }
+
+pub proposed_on : (old new : List Item) → ((op : OpId) → Onward op old new) → (body : Body) → IsProposed old body → IsProposed new body
+proposed_on old new o (Accept op group n b e) h = λ is own. reaches_on op old new (o op) group _ (h is own)
+proposed_on old new o _ h = tt

@@ -1,0 +1,262 @@
+-- A step of a node: what it answers, proposes and leaves open is of logs that were read far enough.
+use Rattle.std.proofs.Common.{ℕ, ◌≡◌, zero, suc, ◌-◌, ◌<◌, ◌&&◌, nat_le, nat_lt, slice_get, length, arith, Bool, true, false, cond, List, [], ◌∷◌, ◌++◌, map, flat_map, fold, Option, Some, None, refl, sym, ap, subst}
+use Rattle.std.proofs.lemmas.Bool.Decides.{nat_tests}
+use Rattle.mega_base.specs.declared.names.GroupId.{GroupId}
+use Rattle.mega_base.specs.declared.values.NodeKind.{NodeKind}
+use Rattle.mega_base.specs.declared.values.NodeKind.TheVariants.{Full, Witness, Read as ReadOnly}
+use Rattle.mega_cluster.specs.declared.cluster.Cluster.{Cluster}
+use Rattle.mega_outcome.specs.declared.answer.Answer.{Answer}
+use Rattle.mega_outcome.specs.declared.answer.Answer.TheVariants.{Worn}
+use Rattle.mega_outcome.specs.declared.request.Request.{Request}
+use Rattle.mega_transcript.specs.declared.item.Item.{Item}
+use Rattle.mega_wire.specs.declared.message.Message.{Message}
+use Rattle.mega_wire.specs.declared.message.Body.{Body}
+use Rattle.mega_wire.specs.declared.message.Body.TheVariants.{Accept}
+use Rattle.mega_promises.specs.Promises.{asked_for}
+use Rattle.mega_rules.specs.Clock.{clock_of}
+use Rattle.mega_rules.specs.Coordinators.{acquires_at}
+use Rattle.mega_rules.specs.Logs.{groups_of}
+use Rattle.mega_rules.specs.Members.{has_rows, is_full, is_node, kind_of, runs}
+use Rattle.mega_rules.specs.Met.{Met, Applies, Begins, Takes, Ticks}
+use Rattle.mega_rules.specs.Operations.{Node, Now, Operation, Setting}
+use Rattle.mega_rules.specs.Replies.{reply_to}
+use Rattle.mega_rules.specs.Steps.{Begin, Decision, Event, Heard as HeardBy, Step, Take, Tick, all_act, applied_at, apply_note, apply_notes, at_first, at_open, background, begin_step, decision_note, first_settled, hears_message, if_new, is_worn, lapse_notes, lease_notes, missing_kind, needs_full, new_operation, news, onto, op_of, portion_of, refusal, step, stored_after, taken, tick_step, ticked, told_decision, told_notes, unless_missing, unless_refused}
+use Rattle.mega_tape_laws.specs.Lawful.{Lawful, message}
+use Rattle.mega_tape_laws.specs.Places.{Took}
+use Rattle.mega_tape_laws.specs.Polls.{ArePolls}
+use Rattle.mega_tape_laws.specs.Writes.{Usage}
+use Rattle.mega_run_laws.specs.Vouched.{Each}
+use Rattle.mega_run_laws.proofs.Events.{onto_append}
+use Rattle.mega_run_laws.proofs.Owned.{NoAccept}
+use Rattle.mega_run_laws.proofs.Turns.{Known, each_on}
+use Rattle.mega_settled_laws.proofs.Tapes.{each_both}
+use Rattle.mega_leased_laws.proofs.Validating.{NoRequest, Plain, acquires_plain, background_plain, news_plain, reply_plain}
+use Rattle.mega_clean_laws.specs.Reaching.{IsProposed}
+use Rattle.mega_clean_laws.proofs.Through.{PhaseReaching}
+use Rattle.mega_fresh_laws.proofs.Steps.{IsApply, Quiet, base_of, decision_in, front_of}
+use Rattle.mega_clean_laws.proofs.Acting.{Acting, Locals, NoteReaching}
+use Rattle.mega_fresh_laws.proofs.Acting.{IsValidate}
+use Rattle.mega_clean_laws.proofs.Heeding.{Open, all_heard, all_ticked, begun_it, refused_reaching}
+
+-- ---- what proposes nothing
+
+plain_quiet : (ms : List Message) → Each Plain ms → Each Quiet ms
+plain_quiet ms h = each_on Plain Quiet (λ m k. by m.body k) ms h
+  where
+    by : (body : Body) → NoRequest body → NoAccept body
+    by (Accept op group n b e) k = absurd k
+    by _ k = tt
+
+quiet_reaching : (tape : List Item) (ms : List Message) → Each Quiet ms → Each (λ m. IsProposed tape m.body) ms
+quiet_reaching tape ms h = each_on Quiet (λ m. IsProposed tape m.body) (λ m k. by m.body k) ms h
+  where
+    by : (body : Body) → NoAccept body → IsProposed tape body
+    by (Accept op group n b e) k = absurd k
+    by _ k = tt
+
+-- ---- what is noted
+
+apply_only : (s : Setting) (was : List Met) (was_stored : GroupId → ℕ) (met : List Met) (stored : GroupId → ℕ) → Each IsApply (apply_notes s was was_stored met stored)
+apply_only s was was_stored met stored = if_so (has_rows s.cluster s.me) _ (each (groups_of met))
+  where
+    if_so : (t : Bool) (xs : List Met) → Each IsApply xs → Each IsApply (cond t xs [])
+    if_so true xs h = h
+    if_so false xs h = tt
+
+    each : (groups : List GroupId) → Each IsApply (flat_map (apply_note was was_stored met stored) groups)
+    each [] = tt
+    each (group ∷ groups) = each_both IsApply (apply_note was was_stored met stored group) (flat_map (apply_note was was_stored met stored) groups)
+        (if_so (nat_lt (applied_at was was_stored group) (applied_at met stored group)) (Applies group (applied_at met stored group) ∷ []) (tt, tt)) (each groups)
+
+pub record StepReaching (s : Setting) (usage : Usage) (tape : List Item) (front : List Met) (made : Step) : Type 0 where
+  pub applies : List Met
+  pub valid : List Met
+  pub answers : List Met
+  pub is : made.notes ≡ ((front ++ applies) ++ valid) ++ answers
+  pub applied : Each IsApply applies
+  pub valids : Each IsValidate valid
+  pub reaching : Each (NoteReaching s.cluster usage tape) answers
+  pub opens : Each (λ (o : Operation). PhaseReaching s.cluster tape o.id o.request o.phase) (made.node).open_operations
+  pub sends : Each (λ m. IsProposed tape m.body) made.sends
+
+-- ---- a node that runs operations
+
+both : (a b : Bool) → (a && b) ≡ true → (a ≡ true) × (b ≡ true)
+both true b h = (refl, h)
+both false b h = cc
+
+get_in : {X : Type 0} (xs : List X) (k : ℕ) → k < length xs → slice_get xs k ≡ None → ⊥
+get_in [] k less h = omega (arith, less)
+get_in (x ∷ xs) zero less h = cc
+get_in (x ∷ xs) (suc k) less h = get_in xs k (omega (arith, less)) h
+
+less_one : (n most : ℕ) → nat_le 1 n ≡ true → nat_le n most ≡ true → n - 1 < most
+less_one n most low high = grind (arith, nat_tests)
+
+kind_full : (c : Cluster) (me : ℕ) (request : Request) (open_ones : List Operation) → is_node c me ≡ true → unless_missing open_ones (missing_kind request (kind_of c me)) ≡ None → needs_full request ≡ true → is_full c me ≡ true
+kind_full c me request open_ones node none needs = joined (is_node c me) (runs (kind_of c me)) node (by (kind_of c me) refl none)
+  where
+    joined : (a b : Bool) → a ≡ true → b ≡ true → (a && b) ≡ true
+    joined true b h k = k
+    joined false b h k = cc
+
+    by_needs : (t : Bool) → t ≡ true → unless_missing open_ones (cond t (Some ReadOnly) None) ≡ None → false ≡ true
+    by_needs true h k = cc
+    by_needs false h k = cc
+
+    by : (kind : Option NodeKind) → kind_of c me ≡ kind → unless_missing open_ones (missing_kind request kind) ≡ None → runs kind ≡ true
+    by (Some Full) e k = refl
+    by (Some Witness) e k = cc
+    by (Some ReadOnly) e k = by_needs (needs_full request) needs k
+    by None e k = let parts = both (nat_le 1 me) (nat_le me (length c.nodes)) node in absurd (get_in c.nodes (me - 1) (less_one me (length c.nodes) parts.0 parts.1) e)
+
+unworn : (worn : Bool) (other : Option Answer) → cond worn (Some Worn) other ≡ None → other ≡ None
+unworn true other h = cc
+unworn false other h = h
+
+-- ---- steps
+
+module _ (s : Setting) (usage : Usage) (tape : List Item) (l : Lawful s.cluster tape) (q : ArePolls tape) (node : Node) where
+  abbrev Opens : List Operation → Type 0
+  Opens os = Each (Open s usage tape) os
+
+  taken_reaching : (m : Message) (d : Option Decision) (told_news : List Message) → let ts = map (hears_message s (clock_of node.met) m) node.open_operations in let told = told_notes s node.met m.from m.body in
+      Known s.me (onto (decision_note d) (onto told (Takes m ∷ node.met))) tape → Locals s tape (onto (decision_note d) (onto told (Takes m ∷ node.met)))
+      → Took tape (message m.from s.me m.body) → Opens node.open_operations → Each Quiet (reply_to s.cluster s.me node.met m ++ told_news)
+      → StepReaching s usage tape (told ++ decision_note d) (taken s node m told ts d (reply_to s.cluster s.me node.met m) told_news)
+  taken_reaching m d told_news known locals took opens quiet = record {
+    applies = applies;
+    valid = now.valid;
+    answers = now.answers;
+    is = refl;
+    applied = apply_only s node.met node.stored now.met now.stored;
+    valids = acted.valids;
+    reaching = acted.answers;
+    opens = acted.kept;
+    sends = each_both (λ m'. IsProposed tape m'.body) (reply_to s.cluster s.me node.met m ++ told_news) now.sends (quiet_reaching tape (reply_to s.cluster s.me node.met m ++ told_news) quiet) acted.sends;
+  }
+    where
+      ts : List HeardBy
+      ts = map (hears_message s (clock_of node.met) m) node.open_operations
+
+      told : List Met
+      told = told_notes s node.met m.from m.body
+
+      base : List Met
+      base = onto (decision_note d) (onto told (Takes m ∷ node.met))
+
+      begin : Now
+      begin = at_first base (stored_after s base node.stored d)
+
+      now : Now
+      now = all_act s begin ts
+
+      applies : List Met
+      applies = apply_notes s node.met node.stored now.met now.stored
+
+      acted : Acting s usage tape l q base known locals now
+      acted = all_heard s usage tape l q base known locals (clock_of node.met) m took node.open_operations begin opens (record { mid = refl; valids = tt; answers = tt; sends = tt; kept = tt })
+
+  tick_reaching : (clock : ℕ) → Known s.me (onto (lapse_notes s node.met clock) (onto (lease_notes s node.met clock) (Ticks clock ∷ node.met))) tape
+      → Locals s tape (onto (lapse_notes s node.met clock) (onto (lease_notes s node.met clock) (Ticks clock ∷ node.met))) → Opens node.open_operations
+      → StepReaching s usage tape (lease_notes s node.met clock ++ lapse_notes s node.met clock) (tick_step s node clock)
+  tick_reaching clock known locals opens = record {
+    applies = applies;
+    valid = now.valid;
+    answers = now.answers;
+    is = refl;
+    applied = apply_only s node.met node.stored now.met now.stored;
+    valids = acted.valids;
+    reaching = acted.answers;
+    opens = acted.kept;
+    sends = each_both (λ m'. IsProposed tape m'.body) (acquires_at s.cluster s.me node.met clock ++ now.sends) (background s node.met clock)
+        (each_both (λ m'. IsProposed tape m'.body) (acquires_at s.cluster s.me node.met clock) now.sends (quiet_reaching tape (acquires_at s.cluster s.me node.met clock) (plain_quiet _ (acquires_plain s node.met clock))) acted.sends)
+        (quiet_reaching tape (background s node.met clock) (plain_quiet _ (background_plain s node.met clock)));
+  }
+    where
+      front : List Met
+      front = lease_notes s node.met clock ++ lapse_notes s node.met clock
+
+      base : List Met
+      base = onto (lapse_notes s node.met clock) (onto (lease_notes s node.met clock) (Ticks clock ∷ node.met))
+
+      begin : Now
+      begin = at_first base (portion_of s node.met node.stored)
+
+      now : Now
+      now = fold (ticked s clock) begin node.open_operations
+
+      applies : List Met
+      applies = apply_notes s node.met node.stored now.met now.stored
+
+      acted : Acting s usage tape l q base known locals now
+      acted = all_ticked s usage tape l q base known locals clock node.open_operations begin opens (record { mid = refl; valids = tt; answers = tt; sends = tt; kept = tt })
+
+  begin_reaching : (request : Request) (text : List ℕ) → Known s.me (Begins (op_of s node.met) text ∷ node.met) tape → Locals s tape (Begins (op_of s node.met) text ∷ node.met) → Opens node.open_operations
+      → is_node s.cluster s.me ≡ true → asked_for usage.meaning tape (op_of s node.met) ≡ Some request → StepReaching s usage tape [] (begin_step s node request text)
+  begin_reaching request text known locals opens is_one asked = record {
+    applies = applies;
+    valid = now.valid;
+    answers = now.answers;
+    is = refl;
+    applied = apply_only s node.met node.stored now.met now.stored;
+    valids = acted.valids;
+    reaching = acted.answers;
+    opens = acted.kept;
+    sends = acted.sends;
+  }
+    where
+      base : List Met
+      base = Begins (op_of s node.met) text ∷ node.met
+
+      begin : Now
+      begin = at_open (at_first base node.stored) node.open_operations
+
+      now : Now
+      now = unless_refused s begin (new_operation (op_of s node.met) request (clock_of node.met)) (refusal s node request)
+
+      applies : List Met
+      applies = apply_notes s node.met node.stored now.met now.stored
+
+      acted : Acting s usage tape l q base known locals now
+      acted = begun_it s usage tape l q base known locals begin (op_of s node.met) (clock_of node.met)
+          (record { mid = refl; valids = tt; answers = tt; sends = tt; kept = each_on (Open s usage tape) (λ (o : Operation). PhaseReaching s.cluster tape o.id o.request o.phase) (λ o h. h.reaching) node.open_operations opens })
+          refl request asked (refusal s node request)
+          (λ none needs. kind_full s.cluster s.me request node.open_operations is_one (unworn (is_worn node.met) (unless_missing node.open_operations (missing_kind request (kind_of s.cluster s.me))) none) needs)
+          (λ answer is. refused_reaching s.cluster tape (op_of s node.met) request node.open_operations (missing_kind request (kind_of s.cluster s.me)) (is_worn node.met) answer is)
+
+  -- what the tape shows of an event
+  abbrev pub Shown : Event → Type 0
+  Shown (Tick clock) = Unit {0}
+  Shown (Take m) = Took tape (message m.from s.me m.body)
+  Shown (Begin request text) = (is_node s.cluster s.me ≡ true) × (asked_for usage.meaning tape (op_of s node.met) ≡ Some request)
+
+  abbrev take_by : Message → Option Decision → Step
+  take_by m (Some d) = taken s node m (told_notes s node.met m.from m.body) (map (hears_message s (clock_of node.met) m) node.open_operations) (if_new node.met (Some d)) (reply_to s.cluster s.me node.met m) []
+  take_by m None = taken s node m (told_notes s node.met m.from m.body) (map (hears_message s (clock_of node.met) m) node.open_operations) (if_new node.met (first_settled (map (hears_message s (clock_of node.met) m) node.open_operations)))
+      (reply_to s.cluster s.me node.met m) (news s (if_new node.met (first_settled (map (hears_message s (clock_of node.met) m) node.open_operations))))
+
+  append_nil : {X : Type 0} (xs : List X) → xs ++ [] ≡ xs
+  append_nil [] = refl
+  append_nil (x ∷ xs) = ap (λ ys. x ∷ ys) (append_nil xs)
+
+  take_reaching : (m : Message) (told : Option Decision) → Known s.me (onto (told_notes s node.met m.from m.body ++ decision_note (decision_in s node m told)) (Takes m ∷ node.met)) tape
+      → Locals s tape (onto (told_notes s node.met m.from m.body ++ decision_note (decision_in s node m told)) (Takes m ∷ node.met)) → Shown (Take m) → Opens node.open_operations
+      → StepReaching s usage tape (told_notes s node.met m.from m.body ++ decision_note (decision_in s node m told)) (take_by m told)
+  take_reaching m (Some d) known locals shown opens =
+      let apart = onto_append (told_notes s node.met m.from m.body) (decision_note (if_new node.met (Some d))) (Takes m ∷ node.met) in
+      taken_reaching m (if_new node.met (Some d)) [] (subst (λ b. Known s.me b tape) apart known) (subst (Locals s tape) apart locals) shown opens
+      (subst (Each Quiet) (sym (append_nil (reply_to s.cluster s.me node.met m))) (plain_quiet _ (reply_plain s.cluster s.me node.met m)))
+  take_reaching m None known locals shown opens =
+      let d = if_new node.met (first_settled (map (hears_message s (clock_of node.met) m) node.open_operations)) in
+      let apart = onto_append (told_notes s node.met m.from m.body) (decision_note d) (Takes m ∷ node.met) in
+      taken_reaching m d (news s d) (subst (λ b. Known s.me b tape) apart known) (subst (Locals s tape) apart locals) shown opens
+      (each_both Quiet (reply_to s.cluster s.me node.met m) (news s d) (plain_quiet _ (reply_plain s.cluster s.me node.met m)) (plain_quiet _ (news_plain s d)))
+
+  pub step_reaching : (event : Event) → Known s.me (base_of s node event) tape → Locals s tape (base_of s node event) → Shown event → Opens node.open_operations
+      → StepReaching s usage tape (front_of s node event) (step s node event)
+  step_reaching (Tick clock) known locals shown opens =
+      let apart = onto_append (lease_notes s node.met clock) (lapse_notes s node.met clock) (Ticks clock ∷ node.met) in
+      tick_reaching clock (subst (λ b. Known s.me b tape) apart known) (subst (Locals s tape) apart locals) opens
+  step_reaching (Take m) known locals shown opens = take_reaching m (told_decision m.body) known locals shown opens
+  step_reaching (Begin request text) known locals shown opens = begin_reaching request text known locals opens shown.0 shown.1

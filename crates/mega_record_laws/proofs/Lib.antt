@@ -1,0 +1,5 @@
+pub mod Peers
+pub mod Ends
+pub mod Reading
+pub mod Records
+pub mod Served

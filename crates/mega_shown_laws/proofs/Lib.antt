@@ -1,0 +1,11 @@
+pub mod Writes
+pub mod Outcomes
+pub mod Logs
+pub mod Rows
+pub mod Causes
+pub mod Runs
+pub mod Plain
+pub mod Told
+pub mod Named
+pub mod Clusters
+pub mod Users
