@@ -22,7 +22,7 @@ use Rattle.mega_places.specs.LogFuses.{HasRoom, IsFused, run_fuse}
 use Rattle.mega_places.specs.Members.{node_in, records_of}
 use Rattle.mega_places.specs.Starting.{BeginsSo, FallsAgain, IsOpened}
 use Rattle.mega_places.proofs.Fuses.{fused_more, fused_same, leaves, short_is}
-use Rattle.mega_places.proofs.Stepped.{IsHere, as_member}
+use Rattle.mega_places.proofs.StepsMade.{IsHere, as_member}
 
 -- records that hold nothing
 pub nothing_held : (records : MemRecords) → records.list.items ≡ [] → HoldsMet records.list.items 0 []

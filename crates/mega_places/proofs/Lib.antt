@@ -11,4 +11,4 @@ pub mod Outcomes
 pub mod Plain
 pub mod Sending
 pub mod Staying
-pub mod Stepped
+pub mod StepsMade

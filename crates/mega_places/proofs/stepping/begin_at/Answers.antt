@@ -3,7 +3,7 @@ use Rattle.mega_rules.specs.Steps.{Begin}
 use Rattle.mega_places.specs.declared.place.Place.TheVariants.{Up}
 use Rattle.mega_places.proofs.Joining.{not_down}
 use Rattle.mega_places.proofs.Outcomes.{stands_at}
-use Rattle.mega_places.proofs.Stepped.{found}
+use Rattle.mega_places.proofs.StepsMade.{found}
 use Rattle.mega_places.proofs.stepping.begin_at.Goals as goal
 
 pub begin-made-requires : goal.begin-made-requires

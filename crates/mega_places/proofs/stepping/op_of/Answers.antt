@@ -1,4 +1,4 @@
-use Rattle.mega_places.proofs.Stepped.{id_is}
+use Rattle.mega_places.proofs.StepsMade.{id_is}
 use Rattle.mega_places.proofs.stepping.op_of.Goals as goal
 
 pub returns : goal.returns

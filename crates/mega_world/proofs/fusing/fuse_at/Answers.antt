@@ -2,7 +2,7 @@ use Rattle.std.proofs.Common.{◌≡◌, ◌-◌, ◌∙◌, Some, ap, set, subs
 use Rattle.std.specs.List.{slice_get}
 use Rattle.mega_places.specs.declared.place.Place.{Place}
 use Rattle.mega_places.specs.Fusing.{SetsFuse}
-use Rattle.mega_places.proofs.Stepped.{found}
+use Rattle.mega_places.proofs.StepsMade.{found}
 use Rattle.mega_world.proofs.fusing.fuse_at.Goals as goal
 
 pub returns : goal.returns

@@ -6,7 +6,7 @@ use Rattle.mega_durable.specs.declared.fault.UpFault.TheVariants.{Step as Failed
 use Rattle.mega_places.specs.declared.member.Member.{Member}
 use Rattle.mega_places.specs.Members.{node_in, records_of}
 use Rattle.mega_places.proofs.Failing.{log_memory, not_strange}
-use Rattle.mega_places.proofs.Stepped.{Counts, Steps, is_here, made_step, own_setting, was_cut}
+use Rattle.mega_places.proofs.StepsMade.{Counts, Steps, is_here, made_step, own_setting, was_cut}
 use Rattle.mega_places.proofs.member.Member.begin.Goals as goal
 
 pub returns-in-Ok-clause-made : goal.returns-in-Ok-clause-made

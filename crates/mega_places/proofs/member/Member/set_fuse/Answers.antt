@@ -1,4 +1,4 @@
-use Rattle.mega_places.proofs.Stepped.{as_member, is_here}
+use Rattle.mega_places.proofs.StepsMade.{as_member, is_here}
 use Rattle.mega_places.specs.declared.member.Member.{Member}
 use Rattle.std.proofs.Common.{[], Some, refl, ◌∙◌}
 use Rattle.mega_places.proofs.member.Member.set_fuse.Goals as goal
