@@ -39,6 +39,8 @@ use Rattle.mega_fresh_laws.proofs.of_leased_laws.Tops.{run_fresh}
 use Rattle.mega_line_laws.specs.Meanings.{meaning_in}
 use Rattle.mega_replay.specs.Meanings.{usage}
 use Rattle.mega_replay.specs.Running.{AllHappen, AllReadAll, Happens, ReadsAll, Replayed, Went, in_turn, stood}
+use Rattle.mega_promises.specs.Calm.{IsCalmComplete}
+use Rattle.mega_calm_laws.proofs.Complete.{run_is_calm_complete}
 use Rattle.mega_replay.proofs.Caused.{run_caused}
 use Rattle.mega_replay.proofs.Holding.{means_values}
 use Rattle.mega_replay.proofs.Starts.{declared_of}
@@ -86,6 +88,10 @@ all_read_all : (c : Cluster) (events : List Happening) → CanStart c → AllRea
 all_read_all c [] can = reads_all c [] can
 all_read_all c (one ∷ earlier) can = (all_read_all c earlier can, reads_all c (one ∷ earlier) can)
 
+calm_complete : (c : Cluster) (events : List Happening) → CanStart c → Fits (usage c.schema) (in_turn events []) → IsCalmComplete c built_in by_fuse (stood c events)
+calm_complete c events can fits =
+    subst (IsCalmComplete c built_in by_fuse) (turned c events []) (run_is_calm_complete c (usage c.schema) by_fuse built_in built_in (in_turn events []) can.few (cells_few c.cells can.cells) can.housed fits)
+
 pub replayed : (c : Cluster) (lines : List (List ℕ)) (events : List Happening) → CanStart c → AllHappen c lines events → Replayed c lines events
 replayed c lines events can happen =
     let declared = declared_of c can in
@@ -108,6 +114,7 @@ replayed c lines events can happen =
       fresh = run_is_fresh c (usage c.schema) built_in (in_turn events []) tape can.few (cells_few c.cells can.cells) run fits;
       settled = run_settled c (usage c.schema) built_in (in_turn events []) tape run fits;
       leased = run_leased c built_in (in_turn events []) tape can.few run;
+      complete = calm_complete c events can fits;
     }
 
 -- what an event leads to, where it is not refused

@@ -18,6 +18,7 @@ use Rattle.mega_rules.specs.Clock.{is_up}
 use Rattle.mega_rules.specs.Coordinators.{valid_at}
 use Rattle.mega_rules.specs.Logs.{top_of}
 use Rattle.mega_rules.specs.Members.{is_full}
+use Rattle.mega_promises.specs.Calm.{IsCalmComplete}
 use Rattle.mega_promises.specs.Fresh.{IsFresh}
 use Rattle.mega_promises.specs.Messages.{is_unsafe}
 use Rattle.mega_promises.specs.Moments.{StoodOn}
@@ -78,7 +79,7 @@ AllReadAll c (one ∷ earlier) = AllReadAll c earlier × ReadsAll c (stood c (on
 -- tables' rows, each of which fits and stands under its own key; behind each line local reads read through all that is decided, while leases are
 -- safe; as long as leases are safe by its end, what a current read, a find, a transaction or a batch comes to holds all that was decided before it began, and what
 -- an operation proposes that polled stands above all that was decided before it asked, whether leases are safe or not; what is decided, committed or answered of a
--- batch stands behind what settled its entry; and leases are as the rules have them
+-- batch stands behind what settled its entry; leases are as the rules have them; and where it leaves the cluster calm, what begins next is answered
 pub record Replayed (c : Cluster) (lines : List (List ℕ)) (events : List Happening) : Type 0 where
   pub happen : AllHappen c lines events
   pub run : IsRun c built_in (in_turn events []) (stood c events).tape
@@ -93,6 +94,7 @@ pub record Replayed (c : Cluster) (lines : List (List ℕ)) (events : List Happe
   pub fresh : IsFresh c (meaning_in c.schema) (stood c events).tape
   pub settled : AreSettled c (stood c events).tape
   pub leased : AreLeased c (stood c events).tape
+  pub complete : IsCalmComplete c built_in by_fuse (stood c events)
 
 -- the world stands as the run does after these lines' events, in a cluster that can start
 pub record StandsAfter (c : Cluster) (lines : List (List ℕ)) (events : List Happening) (world : World) : Type 0 where
