@@ -1,0 +1,7 @@
+use Rattle.mega_promises.specs.Runs.{setting}
+use Rattle.mega_promises.specs.Promises.{log_of}
+use Rattle.mega_calm_laws.proofs.Beginning.{read_awaits, shows_rows}
+use Rattle.mega_calm_laws.proofs.laws.an_open_read_awaits_a_message.Goals as goal
+
+pub returns : goal.returns
+returns f c h cuts now me request text numbers rows numbered stocked current calm full shown waited = read_awaits c h cuts now me request text calm numbered stocked full current (shows_rows (setting c h me) request (log_of now.tape request.group) rows shown) numbers waited

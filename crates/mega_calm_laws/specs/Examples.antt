@@ -1,0 +1,21 @@
+-- A current read and a transaction in a cluster of three nodes that has just opened.
+use Rattle.std.specs.Prelude.{[], ◌∷◌}
+use Rattle.mega_outcome.specs.declared.request.Mode.TheVariants.{Current}
+use Rattle.mega_outcome.specs.declared.request.ReadRequest.{ReadRequest}
+use Rattle.mega_outcome.specs.declared.transaction.Change.TheVariants.{Put}
+use Rattle.mega_outcome.specs.declared.transaction.Transaction.{Transaction}
+use Rattle.mega_rules.specs.Examples.{cluster, group, user}
+use Rattle.mega_promises.specs.Runs.{Standing, by_fuse}
+use Rattle.mega_calm_laws.specs.Next.{run_of}
+
+-- the cluster as it has opened, with no handlers
+abbrev pub opened : Standing
+opened = run_of cluster by_fuse [] []
+
+-- all rows of a group are read
+abbrev pub whole_read : ReadRequest
+whole_read = record { mode = Current; group = group; rows = [] }
+
+-- one user is put
+abbrev pub put_user : Transaction
+put_user = record { group = group; checks = []; reads = []; writes = Put 1 user ∷ []; sends = [] }
