@@ -51,8 +51,8 @@ pub fn a_calm_pump_handles()
         Stands (Decide (number me) group (record { 0 = n }) (handled_by c.schema h group (op_of (setting c h me) (now.node me).met) message (log_of now.tape group))) (drained c h cuts now me PumpHandle text most).tape }
 {}
 
-/// In every run of at most nine nodes and five cells, where each text means the request that begins with it, and under the four conditions of calm: a transaction that its outcome takes, and that
-/// begins alone at a full node, is committed at the next position by the end of a drain that is not cut.
+/// In every run of at most nine nodes and five cells, no more cells than nodes, where each text means the request that begins with it, and under the four conditions of calm: a transaction that its
+/// outcome takes, and that begins alone at a full node, is committed at the next position by the end of a drain that is not cut.
 pub fn calm_transactions_are_committed()
     ensures { (c : Cluster) (usage : Usage) (cuts : Cuts) (first h : Meanings) (events : List Happening) (me n most : ℕ) (transaction : Transaction) (text : List ℕ) (done : Done) →
         length c.nodes ≤ 9 → c.cells ≤ 5 → c.cells ≤ length c.nodes → Fits usage events → IsCalmAt c (run_of c cuts first events) transaction.group n → Ends c h cuts (run_of c cuts first events) me (Txn transaction) text most →

@@ -160,8 +160,8 @@ pub fn pumps_at_hand_do_what_they_pick()
         Stands (Decide (number me) group (record { 0 = n }) (handled_by c.schema h group (op_of (setting c h me) ((run_of c cuts first events).node me).met) message (log_of (run_of c cuts first events).tape group))) (drained c h cuts (run_of c cuts first events) me PumpHandle text most).tape }
 {}
 
-/// In every run of no more cells than nodes, where each text means the request that begins with it, there is a leader behind the log of each group, and it is a voter: each entry names the node of the
-/// operation that proposed it, and only full nodes have such operations.
+/// In every run of a cluster of no more cells than nodes, with a voter, where each text means the request that begins with it, there is a leader behind the log of each group, and it is a voter: each
+/// entry names the node of the operation that proposed it, and only full nodes have such operations.
 pub fn logs_have_leaders()
     ensures { (c : Cluster) (usage : Usage) (cuts : Cuts) (first : Meanings) (events : List Happening) (group : Group) (voter : ℕ) → Fits usage events → c.cells ≤ length c.nodes → is_voter c voter ≡ true →
         HasLeader c (log_of (run_of c cuts first events).tape group) }
