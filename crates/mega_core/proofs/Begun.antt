@@ -28,11 +28,11 @@ use Rattle.mega_rules.specs.Finding.{refreshed_marks}
 use Rattle.mega_actions.specs.of_marks.declared.indexed.Indexed.{Indexed}
 use Rattle.mega_actions.specs.of_marks.AreMarked.{AreMarked, IsIndexed}
 use Rattle.mega_actions.proofs.of_marks.Growing.{marked_after}
-use Rattle.mega_actions.specs.Servable.{is_served}
-use Rattle.mega_actions.specs.Stands.{Stands}
+use Rattle.mega_actions.specs.of_proposing.Servable.{is_served}
+use Rattle.mega_actions.specs.of_finishing.Stands.{Stands}
 use Rattle.mega_actions.specs.Turns.{IsServable}
-use Rattle.mega_actions.specs.Working.{work_of}
-use Rattle.mega_actions.specs.declared.work.Work.{Work}
+use Rattle.mega_actions.specs.of_proposing.Working.{work_of}
+use Rattle.mega_actions.specs.of_proposing.declared.work.Work.{Work}
 use Rattle.mega_core.specs.Acted.{Acted, HasActed, IsEnd, IsValidate, ended}
 use Rattle.mega_core.specs.Beginning.{at_begin, has_begun, marks_unless}
 use Rattle.mega_core.specs.Kind.{FitsKind}

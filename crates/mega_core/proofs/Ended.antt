@@ -24,7 +24,7 @@ use Rattle.mega_actions.specs.of_marks.declared.indexed.Indexed.{Indexed}
 use Rattle.mega_actions.specs.Turns.{IsServable}
 use Rattle.mega_actions.proofs.of_node_laws.Ending.{onto_append}
 use Rattle.mega_actions.proofs.of_node_laws.Logs.{log_after}
-use Rattle.mega_actions.specs.declared.work.Work.{Work}
+use Rattle.mega_actions.specs.of_proposing.declared.work.Work.{Work}
 use Rattle.mega_core.specs.Acted.{Acted, HasActed, IsEnd, IsValidate, ended}
 use Rattle.mega_core.specs.declared.note.Note.{Note}
 use Rattle.mega_core.specs.Kind.{FitsKind}

@@ -38,10 +38,10 @@ use Rattle.mega_actions.specs.of_node_laws.About.{IsAbout}
 use Rattle.mega_rules.specs.Finding.{refreshed_marks}
 use Rattle.mega_actions.specs.of_marks.declared.indexed.Indexed.{Indexed}
 use Rattle.mega_actions.specs.of_marks.AreMarked.{AreMarked}
-use Rattle.mega_actions.specs.Stands.{Stands}
+use Rattle.mega_actions.specs.of_finishing.Stands.{Stands}
 use Rattle.mega_actions.specs.Turns.{IsServable, IsServableHeard, IsHeardAbout}
-use Rattle.mega_actions.specs.Working.{work_of}
-use Rattle.mega_actions.specs.declared.work.Work.{Work}
+use Rattle.mega_actions.specs.of_proposing.Working.{work_of}
+use Rattle.mega_actions.specs.of_proposing.declared.work.Work.{Work}
 use Rattle.mega_core.specs.Acted.{HasActed, IsEnd, IsValidate, ended}
 use Rattle.mega_core.specs.Kind.{FitsKind}
 use Rattle.mega_core.specs.Represents.{Represents}

@@ -18,7 +18,7 @@ use Rattle.mega_replica.specs.Following.{Follows}
 use Rattle.mega_actions.specs.of_node_laws.About.{IsAbout}
 use Rattle.mega_actions.specs.of_marks.declared.indexed.Indexed.{Indexed}
 use Rattle.mega_actions.specs.of_marks.AreMarked.{IsIndexed}
-use Rattle.mega_actions.specs.Stands.{setting}
+use Rattle.mega_actions.specs.of_proposing.Settings.{setting}
 use Rattle.mega_actions.specs.Turns.{IsServable}
 use Rattle.mega_core.specs.Represents.{Represents}
 use Rattle.mega_view.specs.Small.{IsSmall}

@@ -22,7 +22,7 @@ use Rattle.mega_actions.specs.of_node_laws.About.{group_in}
 use Rattle.mega_actions.specs.of_node_laws.Acted.{acted_on, decision_in, or_settled}
 use Rattle.mega_actions.proofs.of_node_laws.Applied.{applied_within}
 use Rattle.mega_actions.proofs.of_node_laws.Logs.{groups_after, log_after, log_stays, other_log}
-use Rattle.mega_actions.specs.Servable.{is_served, is_pump}
+use Rattle.mega_actions.specs.of_proposing.Servable.{is_served, is_pump}
 use Rattle.mega_actions.specs.Turns.{IsServable}
 use Rattle.mega_core.specs.declared.applying.Before.{Before}
 use Rattle.mega_core.specs.Acted.{Acted, IsValidate}

@@ -14,7 +14,7 @@ use Rattle.mega_rules.specs.Steps.{Tick, at_first, background, lapse_notes, leas
 use Rattle.mega_leases.specs.declared.leases.Leases.{Leases}
 use Rattle.mega_replica.specs.declared.progress.Progress.{Progress}
 use Rattle.mega_actions.specs.of_node_laws.Acted.{acted_on}
-use Rattle.mega_actions.specs.Stands.{Stands}
+use Rattle.mega_actions.specs.of_finishing.Stands.{Stands}
 use Rattle.mega_core.specs.declared.ticking.Ticked.{Ticked}
 use Rattle.mega_core.specs.Notes.{met_of}
 use Rattle.mega_handler.specs.Named.{Meanings}

@@ -12,7 +12,7 @@ use Rattle.mega_rules.specs.Operations.{Operation, Phase, Proposes, Reads}
 use Rattle.mega_rules.specs.Steps.{Decision, Heard, applied_at, decision_note, first_settled, onto, told_decision}
 use Rattle.mega_actions.specs.of_node_laws.About.{group_in}
 use Rattle.mega_actions.specs.of_node_laws.Acted.{or_settled}
-use Rattle.mega_actions.specs.Servable.{is_pump}
+use Rattle.mega_actions.specs.of_proposing.Servable.{is_pump}
 
 -- only an operation that reads through a position that it knows may store what it needs
 abbrev pub reaches_in : Phase → Bool

@@ -18,7 +18,7 @@ use crate::joining::{add_sends, joined};
 use crate::node::Node;
 use crate::note::Note;
 use crate::step::Step;
-use mega_actions::Work;
+use mega_actions::mega_proposing::Work;
 use mega_base::{Items, NoMemory};
 use mega_disk::{Records, Versions};
 use mega_voter::Voter;

@@ -2,7 +2,7 @@
 ghost use Rattle.std.specs.Prelude.{◌≡◌};
 ghost use Rattle.mega_core.specs.Faults.{fault_of, taking_fault_of};
 
-use mega_actions::ActFault;
+use mega_actions::mega_finishing::ActFault;
 use mega_base::NoMemory;
 use mega_leases::TakeFault;
 

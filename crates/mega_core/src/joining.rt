@@ -4,7 +4,7 @@ ghost use Rattle.mega_leases.specs.Notes.{met_of as leases_met};
 ghost use Rattle.mega_core.specs.Notes.{met_of};
 
 use crate::note::Note;
-use mega_actions::{Answered, Valid};
+use mega_actions::mega_proposing::{Answered, Valid};
 use mega_base::{Items, NoMemory};
 use mega_wire::Message;
 use std::alloc::Global;

@@ -1,5 +1,5 @@
 //! What a node notes in a step.
-use mega_actions::{Answered, Valid};
+use mega_actions::mega_proposing::{Answered, Valid};
 use mega_base::GroupId;
 use mega_entry::Entry;
 

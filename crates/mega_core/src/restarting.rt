@@ -17,7 +17,7 @@ ghost use Rattle.mega_rules.specs.Steps.{apply_all, onto, start, start_note, sta
 ghost use Rattle.mega_voter.specs.Holding.{Recalls};
 ghost use Rattle.mega_voter.specs.Telling.{Tells};
 ghost use Rattle.mega_wal.specs.declared.item.JournalItem.TheVariants.{Start as StartItem};
-ghost use Rattle.mega_actions.specs.Stands.{setting};
+ghost use Rattle.mega_actions.specs.of_proposing.Settings.{setting};
 ghost use Rattle.mega_core.specs.declared.restarting.RestartFault.TheVariants.{NoMemory as OutOfMemory, StartsFull};
 ghost use Rattle.mega_core.specs.Notes.{met_of};
 ghost use Rattle.mega_core.specs.Restarting.{HaveFollowed, applied_at_start};

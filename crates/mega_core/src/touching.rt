@@ -16,7 +16,8 @@ ghost use Rattle.mega_core.specs.Touching.{asked_groups, begun_groups, behind, i
 use crate::applying::applied_at;
 use crate::deciding::tells_decision;
 use crate::kinds::has_rows;
-use mega_actions::{Replica, is_pump};
+use mega_actions::Replica;
+use mega_actions::mega_proposing::is_pump;
 use mega_base::{Copied, GroupId, Items, NoMemory};
 use mega_disk::{Records, Versions};
 use mega_operations::{Heard, Operation, Phase, first_settled};

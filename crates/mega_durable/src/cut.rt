@@ -5,7 +5,7 @@ ghost use Rattle.mega_core.specs.Notes.{met_of};
 ghost use Rattle.mega_promises.specs.Runs.{is_durable};
 
 use mega_base::Items;
-use mega_core::mega_actions::{Answered, Valid};
+use mega_core::mega_actions::mega_proposing::{Answered, Valid};
 use mega_core::{Note, Step};
 use mega_wire::Message;
 

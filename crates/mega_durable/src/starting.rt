@@ -10,7 +10,7 @@ ghost use Rattle.mega_rules.specs.Operations.{Node as RuleNode};
 ghost use Rattle.mega_voter.specs.Holding.{GoesOn, HoldsMet, starts_after};
 ghost use Rattle.mega_wal.specs.declared.answers.LogFault.TheVariants.{DiskFault};
 ghost use Rattle.mega_wal.specs.declared.item.JournalItem.TheVariants.{Start as StartItem};
-ghost use Rattle.mega_core.specs.of_actions.Stands.{setting};
+ghost use Rattle.mega_core.specs.of_actions.of_proposing.Settings.{setting};
 ghost use Rattle.mega_core.specs.Notes.{met_of};
 ghost use Rattle.mega_core.specs.Served.{IsServed};
 ghost use Rattle.mega_core.specs.Standing.{StandsFor};

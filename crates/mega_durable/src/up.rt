@@ -7,7 +7,7 @@ ghost use Rattle.mega_leases.specs.Taking.{IsByStranger, IsLate};
 ghost use Rattle.mega_rules.specs.Operations.{Node as RuleNode};
 ghost use Rattle.mega_rules.specs.Steps.{Begin, Take, Tick, step};
 ghost use Rattle.mega_replica.specs.Faring.{Fares};
-ghost use Rattle.mega_core.specs.of_actions.Servable.{is_served};
+ghost use Rattle.mega_core.specs.of_actions.of_proposing.Servable.{is_served};
 ghost use Rattle.mega_core.specs.declared.fault.StepFault.TheVariants.{Late, Stranger, Unserved};
 ghost use Rattle.mega_core.specs.Notes.{met_of};
 ghost use Rattle.mega_promises.specs.Runs.{appends};

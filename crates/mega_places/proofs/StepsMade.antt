@@ -12,7 +12,7 @@ use Rattle.mega_handler.specs.Named.{Meaning, Meanings}
 use Rattle.mega_wire.specs.declared.message.Body.{Body}
 use Rattle.mega_voter.specs.Holding.{HoldsMet}
 use Rattle.mega_voter.specs.Telling.{Tells}
-use Rattle.mega_durable.specs.of_actions.Stands.{setting as at_node}
+use Rattle.mega_durable.specs.of_actions.of_proposing.Settings.{setting as at_node}
 use Rattle.mega_leases.specs.Opening.{AreOwed}
 use Rattle.mega_leases.specs.Taking.{IsLate}
 use Rattle.mega_rules.specs.Clock.{begun_of, start_of}

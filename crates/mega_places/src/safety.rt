@@ -11,7 +11,7 @@ ghost use Rattle.mega_places.specs.declared.safety.Lapse.{Lapse as LapseValue};
 ghost use Rattle.mega_places.specs.Lapses.{AreLapsesOf, is_lapse, lapse_cmp, lapse_of};
 
 use mega_base::{Epoch, Items, NoMemory, NodeId};
-use mega_durable::mega_actions::{Answered, Valid};
+use mega_durable::mega_actions::mega_proposing::{Answered, Valid};
 use mega_durable::mega_core::Note;
 use std::alloc::Global;
 use std::collections::BTreeSet;

@@ -6,7 +6,7 @@ use Rattle.mega_rules.specs.Replies.{reply_message}
 use Rattle.mega_rules.specs.Steps.{onto}
 use Rattle.mega_leases.specs.declared.note.Note.{Note}
 use Rattle.mega_leases.specs.Notes.{met_of}
-use Rattle.mega_actions.specs.Stands.{setting}
+use Rattle.mega_actions.specs.of_proposing.Settings.{setting}
 use Rattle.mega_core.specs.Staging.{Stages}
 use Rattle.mega_core.specs.Taking.{or_reply, vote_reply}
 use Rattle.mega_core.proofs.Staged.{silent_staged}

@@ -12,7 +12,7 @@ use Rattle.mega_voter.proofs.Told.{silent_told}
 use Rattle.mega_replica.specs.Following.{progress_at}
 use Rattle.mega_actions.proofs.of_node_laws.Logs.{log_stays}
 use Rattle.mega_actions.proofs.of_node_laws.Followed.{follows_after, follows_more}
-use Rattle.mega_actions.specs.Stands.{setting}
+use Rattle.mega_actions.specs.of_proposing.Settings.{setting}
 use Rattle.mega_core.specs.Staging.{Stages}
 use Rattle.mega_core.specs.Touching.{behind}
 use Rattle.mega_core.proofs.Clocks.{leases_begun, leases_groups, leases_log}

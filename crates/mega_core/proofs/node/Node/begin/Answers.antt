@@ -4,7 +4,7 @@ use Rattle.mega_rules.specs.Members.{has_rows}
 use Rattle.mega_rules.specs.Met.{Begins}
 use Rattle.mega_rules.specs.Steps.{Step as RuleStep, op_of}
 use Rattle.mega_replica.specs.Following.{progress_at}
-use Rattle.mega_actions.specs.Stands.{setting}
+use Rattle.mega_actions.specs.of_proposing.Settings.{setting}
 use Rattle.mega_core.specs.declared.note.Note.{Note}
 use Rattle.mega_core.specs.Beginning.{has_begun}
 use Rattle.mega_core.specs.Notes.{met_of}

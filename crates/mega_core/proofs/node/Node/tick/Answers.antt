@@ -8,7 +8,7 @@ use Rattle.mega_replica.specs.Following.{progress_at}
 use Rattle.mega_replica.proofs.Fared.{fares_then}
 use Rattle.mega_actions.specs.of_node_laws.About.{IsAbout}
 use Rattle.mega_actions.specs.of_node_laws.Acted.{acted_on}
-use Rattle.mega_actions.specs.Stands.{setting}
+use Rattle.mega_actions.specs.of_proposing.Settings.{setting}
 use Rattle.mega_actions.specs.Turns.{IsServable}
 use Rattle.mega_core.specs.Faults.{failed_by}
 use Rattle.mega_core.specs.Positions.{before_at}
