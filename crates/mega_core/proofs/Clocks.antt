@@ -12,11 +12,11 @@ use Rattle.mega_rules.specs.Coordinators.{acquires_at}
 use Rattle.mega_rules.specs.Logs.{groups_of, log_of}
 use Rattle.mega_rules.specs.Operations.{Node, Now, Operation, Setting}
 use Rattle.mega_rules.specs.Steps.{Step, Tick, at_first, background, lapse_notes, lease_notes, onto, portion_of, step, ticked}
-use Rattle.mega_voter.specs.Telling.{Tells}
-use Rattle.mega_leases.specs.declared.leases.Leases.{Leases}
-use Rattle.mega_leases.specs.declared.note.Note.{Note}
-use Rattle.mega_leases.specs.declared.note.Note.TheVariants as note
-use Rattle.mega_leases.specs.Notes.{met_of}
+use Rattle.mega_stepping.specs.of_voter.Telling.{Tells}
+use Rattle.mega_stepping.specs.of_leases.declared.leases.Leases.{Leases}
+use Rattle.mega_stepping.specs.of_leases.declared.note.Note.{Note}
+use Rattle.mega_stepping.specs.of_leases.declared.note.Note.TheVariants as note
+use Rattle.mega_stepping.specs.of_leases.Notes.{met_of}
 use Rattle.mega_replica.specs.declared.progress.Progress.{Progress}
 use Rattle.mega_actions.specs.of_node_laws.About.{IsAbout}
 use Rattle.mega_actions.specs.of_node_laws.Acted.{acted_on}

@@ -3,8 +3,8 @@ use Rattle.std.proofs.Common.{◌≡◌, refl, subst, sym}
 use Rattle.std.specs.Prelude.{Option, None}
 use Rattle.mega_disk.specs.declared.versions.StoreError.{StoreError}
 use Rattle.mega_disk.specs.declared.versions.Versions.{Ghosts}
-use Rattle.mega_leases.specs.declared.fault.TakeFault.{TakeFault}
-use Rattle.mega_leases.specs.declared.fault.TakeFault.TheVariants as take
+use Rattle.mega_stepping.specs.of_leases.declared.fault.TakeFault.{TakeFault}
+use Rattle.mega_stepping.specs.of_leases.declared.fault.TakeFault.TheVariants as take
 use Rattle.mega_actions.specs.of_finishing.declared.fault.ActFault.{ActFault}
 use Rattle.mega_actions.specs.of_finishing.declared.fault.ActFault.TheVariants as act
 use Rattle.mega_actions.specs.of_finishing.Faults.{of_store as act_store}

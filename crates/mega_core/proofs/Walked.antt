@@ -17,7 +17,7 @@ use Rattle.mega_actions.proofs.of_node_laws.Lasting.{IsHeard, Lasts, all_act_it,
 use Rattle.mega_actions.specs.of_proposing.Servable.{is_served}
 use Rattle.mega_actions.specs.Turns.{IsServable, IsServableHeard, IsHeardAbout}
 use Rattle.mega_core.specs.Acted.{Acted, IsEnd, IsValidate}
-use Rattle.mega_core.specs.Touching.{asked_groups}
+use Rattle.mega_stepping.specs.Touching.{asked_groups}
 use Rattle.mega_core.proofs.Walking.{IsHeardIn, IsOf, Walks, all_ticked_walked, all_walked, begun_walked}
 
 -- ---- what is added to what is met

@@ -38,7 +38,7 @@ use Rattle.mega_rules.specs.Steps.{Heard, acts_in_turn, all_act, begins, does_du
 use Rattle.mega_actions.specs.of_node_laws.About.{group_in}
 use Rattle.mega_actions.specs.of_proposing.Servable.{is_served, is_open, is_pump}
 use Rattle.mega_actions.specs.Turns.{IsServable, IsServableHeard}
-use Rattle.mega_core.specs.Touching.{asked_groups, named, reaches, reaches_in}
+use Rattle.mega_stepping.specs.Touching.{asked_groups, named, reaches, reaches_in}
 
 -- a fact of a node within a step that nothing can break which served operations do in such groups
 pub record Walks (P : Now → Type 0) (Mine : GroupId → Type 0) : Type 0 where

@@ -19,7 +19,7 @@ use Rattle.mega_core.specs.of_node_laws.Acted.{acted_on, decision_in}
 use Rattle.mega_core.specs.of_node_laws.Own.{HasOwnRows}
 use Rattle.mega_core.specs.of_actions.of_proposing.Settings.{setting}
 use Rattle.mega_core.specs.declared.node.Node.{Node}
-use Rattle.mega_core.specs.Placed.{IsPlaced}
+use Rattle.mega_core.specs.of_stepping.Placed.{IsPlaced}
 use Rattle.mega_core.specs.Restarting.{HaveFollowed}
 use Rattle.mega_core.specs.Standing.{StandsFor}
 use Rattle.mega_durable.specs.declared.down.Down.{Down}
