@@ -7,7 +7,7 @@ ghost use Rattle.mega_finishing.specs.of_operations.Whole.{whole};
 ghost use Rattle.mega_finishing.specs.of_operations.Phases.{promised_of};
 ghost use Rattle.mega_rules.specs.Clock.{clock_of};
 ghost use Rattle.mega_rules.specs.Logs.{decided, log_of, prefix_of};
-ghost use Rattle.mega_rules.specs.Operations.{Now, Operation as Open, Proposes, Reads};
+ghost use Rattle.mega_rules.specs.Operations.{Now, Proposes, Reads};
 ghost use Rattle.mega_rules.specs.Acting.{acts, acts_within, completes_read, finishes, goes_on, reader_of, reads_on, seeks_on, unless_decided};
 ghost use Rattle.mega_replica.specs.Applying.{applied};
 ghost use Rattle.mega_read.specs.Catching.{seeks};

@@ -16,22 +16,18 @@ ghost use Rattle.mega_finishing.specs.Indexing.{marks_then};
 ghost use Rattle.mega_finishing.specs.of_marks.AreMarked.{AreMarked, IsIndexed};
 ghost use Rattle.mega_finishing.specs.Faults.{failed_by};
 ghost use Rattle.mega_actions.specs.IsAt.{IsAt, setting_of};
-ghost use Rattle.mega_finishing.specs.of_proposing.Settings.{setting};
 ghost use Rattle.mega_finishing.specs.of_proposing.Working.{work_of};
 
 use crate::replica::Replica;
 use mega_base::{Copied, GroupId, Items, NoMemory, OpId};
 use mega_disk::{Records, Versions};
-use mega_finishing::mega_leases::Leases;
-use mega_finishing::mega_operations::{Heard, Kept, Members, Operation, Phase};
+use mega_finishing::mega_operations::{Heard, Kept, Operation, Phase};
 use mega_finishing::mega_proposing::{
     Deed, End, Work, group_asked, is_at_once, is_indexed, is_pump, read_begun,
 };
-use mega_finishing::mega_voter::Voter;
 use mega_finishing::{ActFault, Pumped, answer_now, indexed_answer, is_entering, picks};
 use mega_meanings::QueueHandlers;
 use mega_outcome::Request;
-use mega_read::local_read;
 use std::alloc::Global;
 
 /// The group that a request reads and writes, where it is served.

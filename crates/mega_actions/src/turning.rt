@@ -1,5 +1,5 @@
 //! Operations act one after another, each on what those before it left.
-ghost use Rattle.std.specs.Prelude.{◌≡◌, OnOk, Err, false, true, List, All, fold};
+ghost use Rattle.std.specs.Prelude.{◌≡◌, OnOk, Err, false, true, All, fold};
 ghost use Rattle.mega_handler.specs.Named.{Meanings};
 ghost use Rattle.mega_meanings.specs.Means.{Means};
 ghost use Rattle.mega_finishing.specs.of_node_laws.About.{IsAbout};

@@ -1,7 +1,7 @@
 -- A node at any start: what it met then, how far it has applied, and that it is the node of the rules.
-use Rattle.std.proofs.Common.{◌≡◌, ℕ, ◌+◌, ◌==◌, ◌<◌, ◌≤◌, ◌&&◌, ◌||◌, max, min, nat_lt, Bool, true, false, cond, List, [], ◌∷◌, ◌++◌, map, flat_map, length, refl, sym, ap, subst, ◌∙◌, arith}
+use Rattle.std.proofs.Common.{◌≡◌, ℕ, ◌+◌, ◌==◌, ◌<◌, ◌≤◌, ◌&&◌, ◌||◌, max, min, nat_lt, Bool, true, false, cond, List, [], ◌∷◌, ◌++◌, flat_map, length, refl, sym, ap, subst, ◌∙◌, arith}
 use Rattle.std.specs.List.{All, list_all}
-use Rattle.std.specs.Prelude.{take, sum_by}
+use Rattle.std.specs.Prelude.{sum_by}
 use Rattle.std.proofs.lemmas.List.{append_assoc, length-append, take_all}
 use Rattle.std.proofs.lemmas.List.Sums.{sum_by-cons}
 use Rattle.std.proofs.lemmas.List.Elements.{All-append, All-cons, All-head, All-nil, All-tail, All-weaker}
@@ -22,7 +22,7 @@ use Rattle.mega_stepping.specs.of_leases.declared.leases.Leases.{Leases}
 use Rattle.mega_stepping.specs.of_leases.Opening.{AreOwed, is_owed}
 use Rattle.mega_stepping.specs.of_leases.Tells.{Tells as TellsLeases}
 use Rattle.mega_replica.specs.declared.progress.Progress.{Progress}
-use Rattle.mega_replica.specs.Applying.{after_read, writes_of, writes_through}
+use Rattle.mega_replica.specs.Applying.{after_read, writes_of}
 use Rattle.mega_replica.specs.Following.{Follows}
 use Rattle.mega_replica.specs.Stored.{entries_from, log_in, stored_with}
 use Rattle.mega_replica.proofs.Places.{place_total}
@@ -30,7 +30,7 @@ use Rattle.mega_rules.specs.Clock.{begun_of, last_number}
 use Rattle.mega_rules.specs.Locks.{last_grant}
 use Rattle.mega_rules.specs.Logs.{groups_of, log_of, prefix_of}
 use Rattle.mega_rules.specs.Members.{has_rows, is_node}
-use Rattle.mega_rules.specs.Met.{Met, Applies, Begins, Decides, Grants, Lapses, Starts, Unsends}
+use Rattle.mega_rules.specs.Met.{Met, Applies, Begins, Grants, Lapses, Starts}
 use Rattle.mega_rules.specs.Operations.{Setting}
 use Rattle.mega_rules.specs.Steps.{apply_all, onto, start, start_items, start_note, start_notes}
 use Rattle.mega_stepping.specs.of_voter.Holding.{Agrees, GoesOn, Recalls, is_no_start}

@@ -1,18 +1,13 @@
 -- What taking a message comes to, part by part.
-use Rattle.std.specs.Prelude.{◌≡◌, ◌++◌, List, [], map, Option, Some, None}
+use Rattle.std.specs.Prelude.{◌≡◌, ◌++◌, map}
 use Rattle.mega_base.specs.declared.names.GroupId.{GroupId}
 use Rattle.mega_disk.specs.VersionMaps.{Versions}
 use Rattle.mega_wal.specs.declared.kept.Kept.{Kept}
 use Rattle.mega_wire.specs.declared.message.Message.{Message}
-use Rattle.mega_wire.specs.declared.message.Body.{Body}
-use Rattle.mega_wire.specs.declared.message.Body.TheVariants.{Where, Top, Accept, Prepare, Fetch}
-use Rattle.mega_rules.specs.Met.{Met}
 use Rattle.mega_rules.specs.Clock.{clock_of}
-use Rattle.mega_rules.specs.Logs.{decided, top_of}
 use Rattle.mega_rules.specs.Operations.{Node, Now, Setting}
-use Rattle.mega_rules.specs.Replies.{fetched, reply_to}
-use Rattle.mega_rules.specs.Steps.{Decision, Take, all_act, at_first, decision_note, hears_message, news, stored_after, told_decision, told_notes}
-use Rattle.mega_rules.specs.Voting.{acts, prepared, voted}
+use Rattle.mega_rules.specs.Replies.{reply_to}
+use Rattle.mega_rules.specs.Steps.{Take, all_act, at_first, decision_note, hears_message, stored_after, told_decision, told_notes}
 use Rattle.mega_stepping.specs.of_leases.declared.leases.Leases.{Leases}
 use Rattle.mega_replica.specs.declared.progress.Progress.{Progress}
 use Rattle.mega_actions.specs.of_node_laws.Acted.{acted_on, decision_in}

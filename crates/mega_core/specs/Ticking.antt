@@ -1,11 +1,8 @@
 -- What a tick comes to, part by part.
 use Rattle.std.specs.Prelude.{◌≡◌, ◌++◌, ℕ, map, fold}
 use Rattle.mega_base.specs.declared.names.GroupId.{GroupId}
-use Rattle.mega_base.specs.declared.names.OpId.{OpId}
 use Rattle.mega_disk.specs.VersionMaps.{Versions}
 use Rattle.mega_wal.specs.declared.kept.Kept.{Kept}
-use Rattle.mega_wire.specs.declared.message.Message.{Message}
-use Rattle.mega_wire.specs.declared.message.Body.TheVariants.{Fetch}
 use Rattle.mega_rules.specs.Clock.{begun_of}
 use Rattle.mega_rules.specs.Coordinators.{acquires_at}
 use Rattle.mega_rules.specs.Logs.{groups_of, log_of}

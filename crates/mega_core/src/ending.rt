@@ -1,11 +1,10 @@
 //! A step ends: its notes and messages in their order, and what is sent told to the voter.
 ghost use Rattle.std.specs.Prelude.{◌≡◌, ◌++◌, ◌∷◌, List, map, flat_map, IfOk, OnOk};
 ghost use Rattle.mega_handler.specs.Named.{Meanings};
-ghost use Rattle.mega_rules.specs.Met.{Met, Sends};
+ghost use Rattle.mega_rules.specs.Met.{Met};
 ghost use Rattle.mega_rules.specs.Operations.{Node as RuleNode, Now};
 ghost use Rattle.mega_rules.specs.Steps.{apply_notes, onto};
 ghost use Rattle.mega_actions.specs.of_node_laws.Sending.{MaySend};
-ghost use Rattle.mega_stepping.specs.of_voter.Telling.{IsAnswer, Tells};
 ghost use Rattle.mega_actions.specs.IsAt.{setting_of};
 ghost use Rattle.mega_core.specs.Acted.{ActedAt, ended};
 ghost use Rattle.mega_core.specs.Made.{MadeAt};
@@ -17,7 +16,6 @@ use crate::node::Node;
 use mega_actions::mega_proposing::Work;
 use mega_base::{Items, NoMemory};
 use mega_disk::{Records, Versions};
-use mega_stepping::mega_voter::Voter;
 use mega_stepping::{Before, Note, Step, add_sends, apply_notes, joined};
 use mega_wire::Message;
 use std::alloc::Global;

@@ -27,7 +27,7 @@ ghost use Rattle.mega_core.specs.Standing.{StandsFor};
 use crate::node::Node;
 use mega_actions::Replica;
 use mega_actions::mega_marks::Indexed;
-use mega_base::{Copied, Epoch, GroupId, Items, NoMemory, NodeId};
+use mega_base::{Epoch, GroupId, Items, NoMemory, NodeId};
 use mega_cluster::Cluster;
 use mega_disk::{Records, Versions};
 use mega_replica::StoredRows;

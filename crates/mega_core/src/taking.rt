@@ -1,6 +1,5 @@
 //! A message is taken: what is told by it, what is decided, and what the operations do then.
 ghost use Rattle.std.specs.Prelude.{◌≡◌, ◌≢◌, ◌++◌, ℕ, List, All, map, true, false, None, IfOk, OnOk, Err};
-ghost use Rattle.std.specs.List.{range_with_len};
 ghost use Rattle.mega_base.specs.declared.names.GroupId.{GroupId as Group};
 ghost use Rattle.mega_handler.specs.Named.{Meanings};
 ghost use Rattle.mega_meanings.specs.Means.{Means};
@@ -13,7 +12,7 @@ ghost use Rattle.mega_rules.specs.Logs.{log_of};
 ghost use Rattle.mega_rules.specs.Members.{has_rows};
 ghost use Rattle.mega_rules.specs.Met.{Met};
 ghost use Rattle.mega_rules.specs.Operations.{Node as RuleNode, Operation as Open, Setting};
-ghost use Rattle.mega_rules.specs.Steps.{Take, all_act, at_first, decide_to, decision_note, first_settled, hears_message, if_new, news, onto, stored_after, told_decision};
+ghost use Rattle.mega_rules.specs.Steps.{Take, all_act, at_first, decision_note, first_settled, hears_message, if_new, news, onto, stored_after, told_decision};
 ghost use Rattle.mega_replica.specs.Faring.{Fares};
 ghost use Rattle.mega_replica.specs.Following.{Follows, progress_at};
 ghost use Rattle.mega_stepping.specs.of_voter.Telling.{Tells};
@@ -36,14 +35,11 @@ use crate::telling::{Told, is_told};
 use mega_actions::Replica;
 use mega_actions::mega_finishing::ActFault;
 use mega_actions::mega_proposing::Work;
-use mega_base::{Copied, Items, NoMemory, Position};
+use mega_base::{Items, NoMemory};
 use mega_disk::{Records, Versions};
 use mega_meanings::QueueHandlers;
-use mega_propose::others;
 use mega_stepping::mega_operations::{Heard, Members};
-use mega_stepping::{
-    Chosen, Note, add_sends, decides, decision, has_rows, note_decision, stores, tells_decision,
-};
+use mega_stepping::{Chosen, Note, add_sends, decides, decision, has_rows, note_decision, stores};
 use mega_wire::{Body, Message};
 use std::alloc::Global;
 

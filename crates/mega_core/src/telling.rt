@@ -1,10 +1,9 @@
 //! A message tells the cell and the coordinator, and is replied to.
 ghost use Rattle.std.specs.Prelude.{◌≡◌, ◌≢◌, ◌∷◌, List, map, None, IfOk, OnOk, Err};
 ghost use Rattle.mega_handler.specs.Named.{Meanings};
-ghost use Rattle.mega_stepping.specs.of_leases.Notes.{met_of as leases_met};
 ghost use Rattle.mega_stepping.specs.of_leases.Taking.{IsByStranger, IsLate};
 ghost use Rattle.mega_stepping.specs.of_leases.Tells.{Tells as TellsLeases};
-ghost use Rattle.mega_rules.specs.Met.{Grants, Lapses, Met, Takes};
+ghost use Rattle.mega_rules.specs.Met.{Met, Takes};
 ghost use Rattle.mega_rules.specs.Replies.{reply_to};
 ghost use Rattle.mega_rules.specs.Steps.{onto, told_notes};
 ghost use Rattle.mega_stepping.specs.of_voter.Telling.{Tells};
@@ -16,11 +15,9 @@ ghost use Rattle.mega_stepping.specs.Staging.{Stages};
 
 use crate::fault::StepFault;
 use mega_actions::Replica;
-use mega_base::{Epoch, Items, NoMemory, NodeId};
+use mega_base::Items;
 use mega_disk::{Records, Versions};
-use mega_stepping::mega_leases::Note as OfLeases;
-use mega_stepping::mega_voter::Voter;
-use mega_stepping::{Note, add_of_leases, is_voter, own_reply, reply_message};
+use mega_stepping::{Note, is_voter, own_reply, reply_message};
 use mega_wire::Message;
 use std::alloc::Global;
 
@@ -61,7 +58,7 @@ pub(crate) fn is_told<R: Records, V: Versions>(
     let votes = is_voter(replica.members.cluster(), replica.me);
     let mine = own_reply(alloc, &replica.voter, votes, &message.body)?;
     let told = replica.leases.takes(alloc, message)?;
-    let mega_leases::Told { notes, reply } = told;
+    let mega_stepping::mega_leases::Told { notes, reply } = told;
     keep_notes(alloc, &mut replica.voter, notes.as_slice())?;
     let sends = reply_message(alloc, replica.me, message.from, mine, reply)?;
     let notes = of_leases(alloc, notes)?;

@@ -1,48 +1,37 @@
 //! A tick: portions are stored, leases tick, and what is missing is fetched.
-ghost use Rattle.std.specs.Prelude.{◌≡◌, ◌++◌, ℕ, List, map, flat_map, fold, true, false, None, IfOk, OnOk, Err, All};
+ghost use Rattle.std.specs.Prelude.{◌≡◌, ℕ, List, fold, true, None, IfOk, OnOk, Err, All};
 ghost use Rattle.mega_base.specs.declared.names.GroupId.{GroupId as Group};
 ghost use Rattle.mega_handler.specs.Named.{Meanings};
 ghost use Rattle.mega_meanings.specs.Means.{Means};
 ghost use Rattle.mega_actions.specs.of_node_laws.About.{IsAbout};
 ghost use Rattle.mega_actions.specs.of_node_laws.Acted.{acted_on};
 ghost use Rattle.mega_actions.specs.of_node_laws.Own.{HasOwnRows};
-ghost use Rattle.mega_stepping.specs.of_leases.Notes.{met_of as leases_met};
-ghost use Rattle.mega_replica.specs.Applying.{after_portion};
-ghost use Rattle.mega_rules.specs.Clock.{does_again, ticks_of};
-ghost use Rattle.mega_rules.specs.Logs.{groups_of, log_of};
+ghost use Rattle.mega_rules.specs.Clock.{does_again};
+ghost use Rattle.mega_rules.specs.Logs.{log_of};
 ghost use Rattle.mega_rules.specs.Members.{has_rows};
 ghost use Rattle.mega_rules.specs.Met.{Met};
-ghost use Rattle.mega_rules.specs.Operations.{Node as RuleNode, Operation as Open, Setting};
-ghost use Rattle.mega_rules.specs.Steps.{Tick, at_first, background, fetches_for, portion_of, ticked};
+ghost use Rattle.mega_rules.specs.Operations.{Node as RuleNode, Operation as Open};
+ghost use Rattle.mega_rules.specs.Steps.{Tick, at_first, background, ticked};
 ghost use Rattle.mega_replica.specs.Faring.{Fares};
-ghost use Rattle.mega_replica.specs.Following.{Follows, progress_at};
-ghost use Rattle.mega_replica.specs.Stored.{stored_with};
-ghost use Rattle.mega_stepping.specs.of_voter.Telling.{Tells};
 ghost use Rattle.mega_actions.specs.of_finishing.declared.fault.ActFault.TheVariants as act;
 ghost use Rattle.mega_actions.specs.of_finishing.Faults.{failed_by as failed_to_act};
 ghost use Rattle.mega_actions.specs.IsAt.{IsAt, setting_of};
 ghost use Rattle.mega_actions.specs.Turns.{IsServable};
 ghost use Rattle.mega_actions.specs.of_proposing.Working.{work_of};
-ghost use Rattle.mega_stepping.specs.Notes.{met_of};
 ghost use Rattle.mega_stepping.specs.Staging.{Stages};
 ghost use Rattle.mega_core.specs.Ticking.{TickedAt};
-ghost use Rattle.mega_stepping.specs.Fetching.{fetch_message};
 ghost use Rattle.mega_stepping.specs.Touching.{behind};
 ghost use Rattle.mega_core.specs.Standing.{StandsWith};
 
 use mega_actions::Replica;
 use mega_actions::mega_finishing::ActFault;
 use mega_actions::mega_proposing::Work;
-use mega_base::{Copied, GroupId, Items, NoMemory, NodeId, OpId, Position};
+use mega_base::{GroupId, Items, NoMemory};
 use mega_disk::{Records, Versions};
 use mega_meanings::QueueHandlers;
-use mega_propose::others;
-use mega_replica::StoredRows;
-use mega_stepping::mega_leases::Note as OfLeases;
-use mega_stepping::mega_operations::{Members, Operation};
-use mega_stepping::mega_voter::Voter;
-use mega_stepping::{Note, add_of_leases, add_sends, has_rows, keep_notes, of_leases};
-use mega_wire::{Body, Message};
+use mega_stepping::mega_operations::Operation;
+use mega_stepping::{Note, has_rows, keep_notes};
+use mega_wire::Message;
 use std::alloc::Global;
 
 /// A tick before the operations act: what is noted, and what is sent before and behind what they send.
@@ -122,7 +111,7 @@ pub(crate) fn ticks<R: Records, V: Versions>(
         groups,
     )?;
     let ticking = replica.leases.ticks(alloc, now)?;
-    let mega_leases::Ticking {
+    let mega_stepping::mega_leases::Ticking {
         of_coordinator,
         of_cell,
         sends,

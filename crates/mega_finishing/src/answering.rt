@@ -1,7 +1,6 @@
 //! Reads and finds over the rows of a position: of named rows the transaction that only reads them, else all rows of the group's tables, or
 //! what an index has over them.
 ghost use Rattle.std.specs.Prelude.{◌≡◌, IfOk, Some, true, false, Err};
-ghost use Rattle.std.specs.Option.{option_copied};
 ghost use Rattle.mega_base.specs.declared.names.GroupId.{GroupId as Group};
 ghost use Rattle.mega_disk.specs.VersionMaps.{SameVersions};
 ghost use Rattle.mega_handler.specs.Named.{Meanings};
@@ -12,13 +11,12 @@ ghost use Rattle.mega_outcome.specs.declared.transaction.Transaction.{Transactio
 ghost use Rattle.mega_proposing.specs.of_leases.declared.leases.Leases.{Leases as LeasesKept};
 ghost use Rattle.mega_rules.specs.Acting.{read_answer};
 ghost use Rattle.mega_rules.specs.Operations.{Now, Setting};
-ghost use Rattle.mega_rules.specs.Steps.{is_current};
 ghost use Rattle.mega_marks.specs.of_node_laws.About.{IsOf};
 ghost use Rattle.mega_replica.specs.Faring.{Fares};
 ghost use Rattle.mega_replica.specs.Following.{progress_at};
 ghost use Rattle.mega_finishing.specs.declared.fault.ActFault.TheVariants.{Unserved};
-ghost use Rattle.mega_proposing.specs.Servable.{group_asked, is_answered, is_at_once, is_served, is_indexed, is_named, is_plain, mode_asked};
-ghost use Rattle.mega_finishing.specs.Faults.{error_of, failed_by, of_store};
+ghost use Rattle.mega_proposing.specs.Servable.{group_asked, is_answered, is_at_once, is_named, mode_asked};
+ghost use Rattle.mega_finishing.specs.Faults.{failed_by};
 ghost use Rattle.mega_finishing.specs.Showing.{at_once, place_by, reading, shown, told};
 ghost use Rattle.mega_finishing.specs.Stands.{Stands};
 ghost use Rattle.mega_proposing.specs.Settings.{setting};
@@ -28,12 +26,11 @@ ghost use Rattle.mega_view.specs.Shows.{Shows};
 use crate::fault::ActFault;
 use crate::finding::found_at;
 use crate::outcomes::outcome_at;
-use mega_base::{Copied, GroupId, Items, NoMemory, Position};
-use mega_disk::{Records, StoreError, Versions};
+use mega_base::{Copied, Items, NoMemory, Position};
+use mega_disk::{Records, Versions};
 use mega_outcome::{Answer, Done, Mode, ReadRequest, Request, RowRef, Transaction, Turn};
 use mega_proposing::mega_operations::Members;
 use mega_proposing::mega_voter::Voter;
-use mega_proposing::{is_proposed, is_pump};
 use mega_replica::StoredRows;
 use mega_schema::Schema;
 use mega_view::read_all;

@@ -1,5 +1,5 @@
 //! An operation whose read is complete is answered, proposes what its request comes to, or ends.
-ghost use Rattle.std.specs.Prelude.{◌≡◌, ◌+◌, ◌<◌, ◌^◌, IfOk, true, false, nat_le, Err};
+ghost use Rattle.std.specs.Prelude.{◌≡◌, ◌+◌, ◌<◌, ◌^◌, IfOk, true, false, Err};
 ghost use Rattle.mega_disk.specs.VersionMaps.{SameVersions};
 ghost use Rattle.mega_handler.specs.Named.{Meanings};
 ghost use Rattle.mega_marks.specs.of_node_laws.About.{IsOf};

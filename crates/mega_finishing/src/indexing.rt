@@ -1,6 +1,5 @@
 //! Requests that the global indexes of a node answer: a find in no group, and a refresh.
-ghost use Rattle.std.specs.Prelude.{◌≡◌, IfOk, OnOk, Some, None, Err, true, false};
-ghost use Rattle.mega_cluster.specs.declared.cluster.Cluster.{Cluster};
+ghost use Rattle.std.specs.Prelude.{◌≡◌, IfOk, OnOk, Some, None, Err, false};
 ghost use Rattle.mega_replica.specs.Following.{Follows, progress_at};
 ghost use Rattle.mega_rules.specs.Logs.{log_of};
 ghost use Rattle.mega_rules.specs.Operations.{Now};

@@ -1,7 +1,6 @@
 //! The entry of an operation, and its answer once an entry is decided at its position.
 ghost use Rattle.std.specs.Prelude.{◌≡◌, [], IfOk, Some};
 ghost use Rattle.mega_operations.specs.Phases.{promised_of};
-ghost use Rattle.mega_outcome.specs.Outcome.{entry_of_batch, entry_of_done};
 ghost use Rattle.mega_rules.specs.Acting.{committed, verdict};
 ghost use Rattle.mega_wal.specs.Same.{same_op, same_option};
 

@@ -1,5 +1,5 @@
 //! What a step has come to: operations, groups that became valid, answers and messages.
-ghost use Rattle.std.specs.Prelude.{◌≡◌, ◌++◌, [], ◌∷◌, OnOk, if◌then◌else◌};
+ghost use Rattle.std.specs.Prelude.{◌≡◌, ◌++◌, [], OnOk};
 ghost use Rattle.mega_rules.specs.Operations.{Now};
 ghost use Rattle.mega_proposing.specs.Completed.{completed};
 ghost use Rattle.mega_proposing.specs.Deeds.{does, ended_by, said};

@@ -1,9 +1,8 @@
 -- What is staged, one thing that is met after another.
-use Rattle.std.proofs.Common.{◌≡◌, ℕ, List, [], ◌∷◌, ◌++◌, map, append-nil, Option, Some, None, refl, sym, ap, subst, ◌∙◌}
-use Rattle.std.specs.Prelude.{reverse, option_to_list, Result, Ok, Err, OnOk}
-use Rattle.std.specs.List.{All, cons_option}
+use Rattle.std.proofs.Common.{◌≡◌, ℕ, List, [], ◌∷◌, ◌++◌, map, append-nil, Some, None, refl, sym, ap, subst, ◌∙◌}
+use Rattle.std.specs.Prelude.{reverse, Result, Ok, Err, OnOk}
+use Rattle.std.specs.List.{cons_option}
 use Rattle.std.proofs.lemmas.List.{reverse-append}
-use Rattle.std.proofs.lemmas.List.Elements.{All-head, All-tail, All-weaker}
 use Rattle.mega_base.specs.declared.names.Epoch.{Epoch}
 use Rattle.mega_base.specs.declared.names.GroupId.{GroupId}
 use Rattle.mega_entry.specs.declared.content.Content.{Content}
@@ -15,11 +14,10 @@ use Rattle.mega_wal.specs.declared.item.JournalItem.TheVariants.{Start, Promise,
 use Rattle.mega_wal.specs.declared.kept.Kept.{Kept}
 use Rattle.mega_rules.specs.Met.{Met, Decides, Grants, Lapses, Sends}
 use Rattle.mega_rules.specs.Steps.{onto}
-use Rattle.mega_proposing.specs.of_voter.Journal.{item_in, item_of, items_in, journal_of, without_starts}
+use Rattle.mega_proposing.specs.of_voter.Journal.{item_of, items_in, journal_of, without_starts}
 use Rattle.mega_proposing.specs.of_voter.Telling.{IsAnswer, Tells}
 use Rattle.mega_node_laws.specs.Sending.{MaySend}
 use Rattle.mega_proposing.specs.of_leases.declared.note.Note.{Note}
-use Rattle.mega_proposing.specs.of_leases.declared.note.Note.TheVariants as note
 use Rattle.mega_proposing.specs.of_leases.Notes.{met_of}
 use Rattle.mega_stepping.specs.Staging.{Stages}
 

@@ -1,16 +1,13 @@
 //! Which groups a step applies more of, and what is noted of that.
-ghost use Rattle.std.specs.Prelude.{◌≡◌, ◌++◌, if◌then◌else◌, ℕ, List, [], map, flat_map, IfOk, OnOk};
+ghost use Rattle.std.specs.Prelude.{◌≡◌, ◌++◌, ℕ, List, map, flat_map, IfOk, OnOk};
 ghost use Rattle.mega_base.specs.declared.names.GroupId.{GroupId as Group};
-ghost use Rattle.mega_rules.specs.Members.{has_rows};
 ghost use Rattle.mega_rules.specs.Met.{Met};
 ghost use Rattle.mega_rules.specs.Steps.{applied_at};
 ghost use Rattle.mega_replica.specs.Following.{progress_at};
 ghost use Rattle.mega_stepping.specs.Notes.{met_of};
 ghost use Rattle.mega_stepping.specs.Positions.{Keeps, before_at, note_since};
 
-use crate::kinds::has_rows;
 use crate::note::Note;
-use mega_actions::Replica;
 use mega_base::{GroupId, Items, NoMemory};
 use mega_disk::{Records, Versions};
 use mega_proposing::mega_voter::Voter;

@@ -1,14 +1,9 @@
 //! The decision of a step: what a message tells or an operation settles, kept where it is new.
-ghost use Rattle.std.specs.Prelude.{◌≡◌, ◌<◌, ◌++◌, ◌∷◌, ℕ, List, map, is_none, is_some, None, Some, true, false, IfOk, OnOk};
-ghost use Rattle.mega_base.specs.declared.names.GroupId.{GroupId as Group};
+ghost use Rattle.std.specs.Prelude.{◌≡◌, ◌<◌, ◌++◌, ◌∷◌, List, map, is_none, is_some, None, Some, true, IfOk, OnOk};
 ghost use Rattle.mega_node_laws.specs.Acted.{or_settled};
-ghost use Rattle.mega_rules.specs.Logs.{decided, log_of};
-ghost use Rattle.mega_rules.specs.Members.{has_rows};
+ghost use Rattle.mega_rules.specs.Logs.{decided};
 ghost use Rattle.mega_rules.specs.Met.{Decides, Met};
-ghost use Rattle.mega_rules.specs.Operations.{Setting};
-ghost use Rattle.mega_rules.specs.Steps.{decision_note, first_settled, if_new, onto, stored_after, told_decision};
-ghost use Rattle.mega_replica.specs.Faring.{Fares};
-ghost use Rattle.mega_replica.specs.Following.{Follows, progress_at};
+ghost use Rattle.mega_rules.specs.Steps.{decision_note, first_settled, if_new, onto, told_decision};
 ghost use Rattle.mega_proposing.specs.of_voter.Telling.{Tells};
 ghost use Rattle.mega_stepping.specs.Notes.{met_of};
 ghost use Rattle.mega_stepping.specs.Placed.{IsPlaced};
@@ -16,11 +11,10 @@ ghost use Rattle.mega_stepping.specs.Staging.{Stages};
 
 use crate::note::Note;
 use mega_base::{Copied, GroupId, Items, NoMemory, Position};
-use mega_disk::{Records, Versions};
+use mega_disk::Records;
 use mega_entry::Entry;
 use mega_proposing::mega_operations::{Heard, first_settled};
 use mega_proposing::mega_voter::Voter;
-use mega_replica::StoredRows;
 use mega_wire::Body;
 use std::alloc::Global;
 use std::marker::Model;

@@ -5,9 +5,9 @@ ghost use Rattle.mega_stepping.specs.Notes.{met_of};
 
 use crate::note::Note;
 use mega_base::{Items, NoMemory};
+use mega_proposing::mega_leases::Note as OfLeases;
 use mega_proposing::{Answered, Valid};
 use mega_wire::Message;
-use std::alloc::Global;
 
 /// Adds messages behind these.
 pub fn add_sends(sends: &mut Items<Message>, more: Items<Message>) -> Result<(), NoMemory>
@@ -50,10 +50,7 @@ fn add_answers(notes: &mut Items<Note>, answers: Items<Answered>) -> Result<(), 
 }
 
 /// Adds what the cell and the coordinator note.
-pub fn add_of_leases(
-    notes: &mut Items<Note>,
-    more: Items<mega_leases::Note>,
-) -> Result<(), NoMemory>
+pub fn add_of_leases(notes: &mut Items<Note>, more: Items<OfLeases>) -> Result<(), NoMemory>
     ensures { OnOk result (map met_of notes.new ≡ map met_of notes.old ++ map leases_met more) }
 {
     for note in more.into_vec() {

@@ -7,7 +7,7 @@ use mega_proposing::{Answered, Valid};
 #[derive(Debug, Drop)]
 pub enum Note {
     /// A note of its lock cell or its coordinator.
-    OfLeases(mega_leases::Note),
+    OfLeases(mega_proposing::mega_leases::Note),
     /// A position of a group is decided.
     Decided {
         group: GroupId,

@@ -1,61 +1,24 @@
 //! Portions that are stored: of the group of a decision, and of each group at a tick.
-ghost use Rattle.std.specs.Prelude.{◌≡◌, ◌<◌, ◌++◌, ◌∷◌, ℕ, List, map, is_none, is_some, None, Some, true, false, IfOk, OnOk};
+ghost use Rattle.std.specs.Prelude.{◌≡◌, ◌<◌, ℕ, List, None, Some, false, OnOk, Err};
 ghost use Rattle.mega_base.specs.declared.names.GroupId.{GroupId as Group};
-ghost use Rattle.mega_node_laws.specs.Acted.{or_settled};
-ghost use Rattle.mega_rules.specs.Logs.{decided, log_of};
+ghost use Rattle.mega_rules.specs.Logs.{log_of};
 ghost use Rattle.mega_rules.specs.Members.{has_rows};
-ghost use Rattle.mega_rules.specs.Met.{Decides, Met};
+ghost use Rattle.mega_rules.specs.Met.{Met};
 ghost use Rattle.mega_rules.specs.Operations.{Setting};
-ghost use Rattle.mega_rules.specs.Steps.{decision_note, first_settled, if_new, onto, stored_after, told_decision};
+ghost use Rattle.mega_rules.specs.Steps.{stored_after, portion_of};
 ghost use Rattle.mega_replica.specs.Faring.{Fares};
 ghost use Rattle.mega_replica.specs.Following.{Follows, progress_at};
 ghost use Rattle.mega_proposing.specs.of_voter.Telling.{Tells};
-ghost use Rattle.mega_stepping.specs.Notes.{met_of};
-ghost use Rattle.mega_stepping.specs.Placed.{IsPlaced};
-ghost use Rattle.mega_stepping.specs.Staging.{Stages};
-ghost use Rattle.std.specs.Prelude.{◌≡◌, ◌++◌, ℕ, List, map, flat_map, fold, true, false, None, IfOk, OnOk, Err, All};
-ghost use Rattle.mega_handler.specs.Named.{Meanings};
-ghost use Rattle.mega_meanings.specs.Means.{Means};
-ghost use Rattle.mega_node_laws.specs.About.{IsAbout};
-ghost use Rattle.mega_node_laws.specs.Acted.{acted_on};
-ghost use Rattle.mega_node_laws.specs.Own.{HasOwnRows};
-ghost use Rattle.mega_proposing.specs.of_leases.Notes.{met_of as leases_met};
 ghost use Rattle.mega_replica.specs.Applying.{after_portion};
-ghost use Rattle.mega_rules.specs.Clock.{does_again, ticks_of};
-ghost use Rattle.mega_rules.specs.Logs.{groups_of, log_of};
-ghost use Rattle.mega_rules.specs.Met.{Met};
-ghost use Rattle.mega_rules.specs.Operations.{Node as RuleNode, Operation as Open, Setting};
-ghost use Rattle.mega_rules.specs.Steps.{Tick, at_first, background, fetches_for, portion_of, ticked};
 ghost use Rattle.mega_replica.specs.Stored.{stored_with};
-ghost use Rattle.mega_actions.specs.of_finishing.declared.fault.ActFault.TheVariants as act;
-ghost use Rattle.mega_actions.specs.of_finishing.Faults.{failed_by as failed_to_act};
-ghost use Rattle.mega_actions.specs.IsAt.{IsAt, setting_of};
-ghost use Rattle.mega_actions.specs.Turns.{IsServable};
-ghost use Rattle.mega_proposing.specs.Working.{work_of};
-ghost use Rattle.mega_core.specs.Ticking.{TickedAt};
-ghost use Rattle.mega_stepping.specs.Fetching.{fetch_message};
 ghost use Rattle.mega_stepping.specs.Touching.{behind};
-ghost use Rattle.mega_core.specs.Standing.{StandsWith};
 
-use crate::joining::{add_of_leases, add_sends};
-use crate::keeping::{keep_notes, of_leases};
 use crate::kinds::has_rows;
-use crate::note::Note;
-use mega_actions::Replica;
-use mega_actions::mega_finishing::ActFault;
-use mega_base::{Copied, GroupId, Items, NoMemory, NodeId, OpId, Position};
+use mega_base::{GroupId, Items, NoMemory};
 use mega_disk::{Records, Versions};
-use mega_entry::Entry;
-use mega_meanings::QueueHandlers;
-use mega_propose::others;
-use mega_proposing::Work;
-use mega_proposing::mega_leases::Note as OfLeases;
-use mega_proposing::mega_operations::{Heard, Members, Operation, first_settled};
 use mega_proposing::mega_voter::Voter;
 use mega_replica::StoredRows;
-use mega_wire::{Body, Message};
 use std::alloc::Global;
-use std::marker::Model;
 
 /// Stores a portion of the group of a decision, at a node that keeps rows.
 #[tactic(auto, using(mega_replica::proofs::Fared::fares_by_puts, mega_replica::proofs::Fared::fares_here))]

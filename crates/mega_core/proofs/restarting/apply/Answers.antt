@@ -1,5 +1,4 @@
-use Rattle.std.proofs.Common.{◌≡◌, ℕ, ap, subst, ◌∙◌}
-use Rattle.mega_base.specs.declared.names.GroupId.{GroupId}
+use Rattle.std.proofs.Common.{ℕ, ap, subst, ◌∙◌}
 use Rattle.mega_replica.specs.Applying.{after_read}
 use Rattle.mega_replica.specs.Following.{Follows, progress_at}
 use Rattle.mega_replica.specs.Stored.{stored_with}

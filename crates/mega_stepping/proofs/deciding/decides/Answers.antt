@@ -1,4 +1,4 @@
-use Rattle.std.proofs.Common.{◌≡◌, ◌∙◌, sym}
+use Rattle.std.proofs.Common.{◌∙◌, sym}
 use Rattle.mega_stepping.proofs.deciding.decides.Goals as goal
 
 pub returns-in_ok-keep_new-in-Some-clause-staged : goal.returns-in_ok-keep_new-in-Some-clause-staged

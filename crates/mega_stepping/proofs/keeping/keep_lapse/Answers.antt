@@ -1,4 +1,4 @@
-use Rattle.std.proofs.Common.{◌≡◌, ◌∷◌, List, subst, sym}
+use Rattle.std.proofs.Common.{◌∷◌, List, subst, sym}
 use Rattle.mega_wal.specs.declared.item.JournalItem.{JournalItem}
 use Rattle.mega_rules.specs.Met.{Lapses}
 use Rattle.mega_stepping.specs.Staging.{Stages}

@@ -1,4 +1,4 @@
-use Rattle.std.proofs.Common.{◌≡◌, ◌∷◌, subst, sym}
+use Rattle.std.proofs.Common.{◌∷◌, subst, sym}
 use Rattle.mega_proposing.specs.of_leases.declared.note.Note.{Note}
 use Rattle.mega_proposing.specs.of_leases.Notes.{met_of}
 use Rattle.mega_stepping.specs.Staging.{Stages}
