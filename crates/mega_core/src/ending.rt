@@ -16,7 +16,7 @@ use crate::node::Node;
 use mega_actions::mega_proposing::Work;
 use mega_base::{Items, NoMemory};
 use mega_disk::{Records, Versions};
-use mega_stepping::{Before, Note, Step, add_sends, apply_notes, joined};
+use mega_stepping::{Before, Note, Step, add_sends, apply_notes, joined, tell_all_sent};
 use mega_wire::Message;
 use std::alloc::Global;
 

@@ -39,7 +39,9 @@ use mega_base::{Items, NoMemory};
 use mega_disk::{Records, Versions};
 use mega_meanings::QueueHandlers;
 use mega_stepping::mega_operations::{Heard, Members};
-use mega_stepping::{Chosen, Note, add_sends, decides, decision, has_rows, note_decision, stores};
+use mega_stepping::{
+    Chosen, Note, add_sends, decides, decision, has_rows, news_by, note_decision, stores,
+};
 use mega_wire::{Body, Message};
 use std::alloc::Global;
 

@@ -17,7 +17,7 @@ use crate::fault::StepFault;
 use mega_actions::Replica;
 use mega_base::Items;
 use mega_disk::{Records, Versions};
-use mega_stepping::{Note, is_voter, own_reply, reply_message};
+use mega_stepping::{Note, is_voter, keep_notes, of_leases, own_reply, reply_message};
 use mega_wire::Message;
 use std::alloc::Global;
 

@@ -30,7 +30,7 @@ use mega_base::{GroupId, Items, NoMemory};
 use mega_disk::{Records, Versions};
 use mega_meanings::QueueHandlers;
 use mega_stepping::mega_operations::Operation;
-use mega_stepping::{Note, has_rows, keep_notes};
+use mega_stepping::{Note, background, both, has_rows, keep_notes, store_portions};
 use mega_wire::Message;
 use std::alloc::Global;
 

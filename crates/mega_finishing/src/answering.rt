@@ -23,7 +23,7 @@ ghost use Rattle.mega_proposing.specs.Settings.{setting};
 ghost use Rattle.mega_view.specs.Small.{IsSmall};
 ghost use Rattle.mega_view.specs.Shows.{Shows};
 
-use crate::fault::ActFault;
+use crate::fault::{ActFault, fault_by};
 use crate::finding::found_at;
 use crate::outcomes::outcome_at;
 use mega_base::{Copied, Items, NoMemory, Position};
@@ -31,6 +31,7 @@ use mega_disk::{Records, Versions};
 use mega_outcome::{Answer, Done, Mode, ReadRequest, Request, RowRef, Transaction, Turn};
 use mega_proposing::mega_operations::Members;
 use mega_proposing::mega_voter::Voter;
+use mega_proposing::{group_asked, mode_asked};
 use mega_replica::StoredRows;
 use mega_schema::Schema;
 use mega_view::read_all;

@@ -25,7 +25,7 @@ use mega_disk::{Records, Versions};
 use mega_outcome::Answer;
 use mega_proposing::mega_operations::Members;
 use mega_proposing::mega_voter::Voter;
-use mega_proposing::{Deed, Reached, is_answered, is_proposed};
+use mega_proposing::{Deed, Reached, is_answered, is_limit, is_proposed};
 use std::alloc::Global;
 
 /// The operation ends with the answer that its request has over the rows, or goes on to its own proposal.

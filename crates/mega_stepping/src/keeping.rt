@@ -9,7 +9,6 @@ ghost use Rattle.mega_stepping.specs.Staging.{Stages};
 ghost use Rattle.mega_node_laws.specs.Sending.{MaySend};
 
 use crate::joining::add_of_leases;
-use crate::keeping::{keep_notes, of_leases};
 use crate::note::Note;
 use mega_base::{Epoch, Items, NoMemory, NodeId};
 use mega_disk::Records;
