@@ -5,10 +5,10 @@ use Rattle.std.proofs.lemmas.Bool.{cases_eq, cases_lt}
 use Rattle.std.proofs.lemmas.Bool.Decides.{nat_tests}
 use Rattle.std.proofs.lemmas.List.{take_at, drop_more, drop_all, append-nil, nil_from_length}
 use Rattle.mega_disk.specs.Images.{overwritten, Torn}
-use Rattle.mega_runs.specs.Chain.{chain_of, first_record, records_of}
-use Rattle.mega_runs.specs.Rest.{IsAtRest, IsRead, is_shut}
-use Rattle.mega_runs.proofs.Records.{both, records_chain, records_none, first_closed}
-use Rattle.mega_runs.proofs.Written.{at_rest}
+use Rattle.mega_chain.specs.Chain.{chain_of, first_record, records_of}
+use Rattle.mega_chain.specs.Rest.{IsAtRest, IsRead, is_shut}
+use Rattle.mega_chain.proofs.Records.{both, records_chain, records_none, first_closed}
+use Rattle.mega_chain.proofs.Written.{at_rest}
 
 module _ (file : List ℕ) (end : ℕ) (is : IsRead file end) where
   abbrev bodies : List (List ℕ)

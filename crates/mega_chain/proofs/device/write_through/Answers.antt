@@ -1,7 +1,7 @@
 use Rattle.std.proofs.Common.{length}
 use Rattle.mega_disk.specs.Images.{Torn}
 use Rattle.mega_disk.proofs.Leaves.{goes_on}
-use Rattle.mega_runs.proofs.device.write_through.Goals as goal
+use Rattle.mega_chain.proofs.device.write_through.Goals as goal
 
 pub returns-clause-any_moment : goal.returns-clause-any_moment
 returns-clause-any_moment g c told only =

@@ -1,7 +1,7 @@
 use Rattle.std.proofs.Common.{rules, arith}
 use Rattle.mega_disk.proofs.Leaves.{goes_on}
-use Rattle.mega_runs.proofs.Torn.{piece_torn, piece_written}
-use Rattle.mega_runs.proofs.device.write_pieces.Goals as goal
+use Rattle.mega_chain.proofs.Torn.{piece_torn, piece_written}
+use Rattle.mega_chain.proofs.device.write_pieces.Goals as goal
 
 pub returns-in_err-write-clause-torn : goal.returns-in_err-write-clause-torn
 returns-in_err-write-clause-torn g c told only image now =

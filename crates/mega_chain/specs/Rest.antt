@@ -2,7 +2,7 @@
 use Rattle.std.specs.Prelude.{◌≡◌, ◌≢◌, ◌<◌, ◌++◌, drop, None, ℕ, List, length, take, get_or, Bool, not, nat_lt, ◌==◌, ◌&&◌}
 use Rattle.mega_disk.specs.Images.{Only, Torn}
 use Rattle.mega_disk.specs.RecordLists.{IsBeforeOrAfter}
-use Rattle.mega_runs.specs.Chain.{chain_of, first_record, records_of, AreShort}
+use Rattle.mega_chain.specs.Chain.{chain_of, first_record, records_of, AreShort}
 
 -- the file is the chain of its records, and then a closed gate
 pub record IsAtRest (file : List ℕ) (end : ℕ) : Type 0 where

@@ -5,10 +5,10 @@ use Rattle.std.proofs.lemmas.Bool.{cases_eq, cases_lt}
 use Rattle.std.proofs.lemmas.List.{take_at, drop_at, drop_more, take-take, get_or_past, get_or_at, take_more}
 use Rattle.mega_disk.specs.Images.{overwritten, Torn}
 use Rattle.mega_disk.specs.RecordLists.{IsBeforeOrAfter}
-use Rattle.mega_runs.specs.Chain.{record_of, chain_of, records_of, AreShort, behind_gate}
-use Rattle.mega_runs.specs.Rest.{IsAtRest, Appends}
-use Rattle.mega_runs.proofs.Records.{records_closed}
-use Rattle.mega_runs.proofs.Chains.{chain_push, short_push}
+use Rattle.mega_chain.specs.Chain.{record_of, chain_of, records_of, AreShort, behind_gate}
+use Rattle.mega_chain.specs.Rest.{IsAtRest, Appends}
+use Rattle.mega_chain.proofs.Records.{records_closed}
+use Rattle.mega_chain.proofs.Chains.{chain_push, short_push}
 
 -- the chain of short bodies and a closed gate are at rest
 pub at_rest : (bodies : List (List ℕ)) (gate : ℕ) (rest file : List ℕ) (end : ℕ) → AreShort bodies → gate ≢ 1 → file ≡ chain_of bodies ++ gate ∷ rest → end ≡ length (chain_of bodies) → IsAtRest file end × (records_of file ≡ bodies)

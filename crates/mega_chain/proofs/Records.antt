@@ -6,7 +6,7 @@ use Rattle.std.proofs.lemmas.Bool.Decides.{nat_tests}
 use Rattle.std.proofs.lemmas.List.{take_at, drop_at, drop-drop, get_or-drop, append-nil}
 use Rattle.std.proofs.lemmas.Nat.{from_be_bytes-to_be_bytes_8, be_bytes_8}
 use Rattle.std.proofs.lemmas.Option.{cond_some}
-use Rattle.mega_runs.specs.Chain.{record_of, chain_of, first_record, body_and, bodies_in, records_of, AreShort}
+use Rattle.mega_chain.specs.Chain.{record_of, chain_of, first_record, body_and, bodies_in, records_of, AreShort}
 
 abbrev pub IsBytes : List ℕ → Type 0
 IsBytes bytes = (i : ℕ) → get_or bytes i 0 < 256

@@ -2,10 +2,10 @@ use Rattle.std.proofs.Common.{ℕ, ◌+◌, List, [], ◌∷◌, ◌∙◌, ap, 
 use Rattle.std.proofs.lemmas.Result.{on_ok_weaker}
 use Rattle.mega_disk.specs.Images.{overwritten, Torn}
 use Rattle.mega_disk.proofs.Leaves.{weaker_leaves, then_leaves}
-use Rattle.mega_runs.specs.Rest.{Appends}
-use Rattle.mega_runs.proofs.Outcomes.{both_ok}
-use Rattle.mega_runs.proofs.Written.{appends_behind, appends_gate, at_rest_after}
-use Rattle.mega_runs.proofs.append.put_record.Goals as goal
+use Rattle.mega_chain.specs.Rest.{Appends}
+use Rattle.mega_chain.proofs.Outcomes.{both_ok}
+use Rattle.mega_chain.proofs.Written.{appends_behind, appends_gate, at_rest_after}
+use Rattle.mega_chain.proofs.append.put_record.Goals as goal
 
 -- behind the closed gate nothing counts yet
 pub returns-in_err-write_through-clause-any_moment : goal.returns-in_err-write_through-clause-any_moment

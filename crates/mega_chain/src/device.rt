@@ -3,7 +3,7 @@ ghost use Rattle.std.specs.Prelude.{◌≡◌, ◌+◌, ◌<◌, ◌≤◌, ◌^
 ghost use Rattle.mega_base.specs.Causes.{Rose};
 ghost use Rattle.mega_disk.specs.Images.{overwritten, Only, Torn, LeavesOnly};
 ghost use Rattle.mega_disk.specs.Fuse.{LowersBy, MayBurn, Burns};
-ghost use Rattle.mega_runs.specs.Rest.{AreTorn};
+ghost use Rattle.mega_chain.specs.Rest.{AreTorn};
 
 use mega_disk::{Disk, DiskError};
 

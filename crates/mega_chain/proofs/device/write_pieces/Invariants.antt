@@ -1,8 +1,8 @@
 use Rattle.std.proofs.Common.{◌≡◌, ◌-◌, ◌≤◌, true, length, take}
 use Rattle.mega_disk.specs.Images.{overwritten, Only, Torn, LeavesOnly}
 use Rattle.mega_disk.specs.Fuse.{LowersBy}
-use Rattle.mega_runs.specs.Rest.{AreTorn}
-use Rattle.mega_runs.proofs.device.write_pieces.Given as goal
+use Rattle.mega_chain.specs.Rest.{AreTorn}
+use Rattle.mega_chain.proofs.device.write_pieces.Given as goal
 
 abbrev pub invariant-loop-done : goal.invariant-loop-done
 invariant-loop-done g l = record {
