@@ -1,5 +1,5 @@
 //! Writes a run behind the others, and keeps its index.
-ghost use Rattle.std.specs.Prelude.{◌≡◌, ℕ, take, Err, OnErr, ◌+◌, ◌<◌, ◌≤◌, ◌^◌, ◌++◌, [], ◌∷◌, true, length, IfOk, OnOk};
+ghost use Rattle.std.specs.Prelude.{◌≡◌, ℕ, take, Err, OnErr, ◌+◌, ◌<◌, ◌≤◌, ◌^◌, true, length, OnOk};
 ghost use Rattle.mega_base.specs.Causes.{Rose};
 ghost use Rattle.mega_disk.specs.Images.{LeavesOnly};
 ghost use Rattle.mega_disk.specs.Fuse.{LowersBy, MayBurn, Burns};

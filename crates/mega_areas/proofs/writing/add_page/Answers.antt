@@ -1,9 +1,9 @@
 use Rattle.std.proofs.Common.{ℕ, List, [], length, ◌≤◌, sym, ◌∙◌, subst}
 use Rattle.std.proofs.lemmas.Result.{on_ok_weaker}
 use Rattle.mega_disk.proofs.Leaves.{started, goes_on}
-use Rattle.mega_checkpoint.specs.Places.{Keeps, Puts}
-use Rattle.mega_checkpoint.proofs.Kept.{put_behind, behind_kept}
-use Rattle.mega_checkpoint.proofs.writing.add_page.Goals as goal
+use Rattle.mega_areas.specs.Places.{Keeps, Puts}
+use Rattle.mega_areas.proofs.Kept.{put_behind, behind_kept}
+use Rattle.mega_areas.proofs.writing.add_page.Goals as goal
 
 pub returns-clause-put : goal.returns-clause-put
 returns-clause-put g c area place told =

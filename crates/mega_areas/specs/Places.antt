@@ -1,7 +1,7 @@
 -- What writes to an area leave of a file.
 use Rattle.std.specs.Prelude.{◌≡◌, ◌≢◌, ℕ, ◌+◌, ◌<◌, ◌≤◌, List, length, get_or}
-use Rattle.mega_checkpoint.specs.declared.area.Area.{Area}
-use Rattle.mega_checkpoint.specs.Format.{offset}
+use Rattle.mega_areas.specs.declared.area.Area.{Area}
+use Rattle.mega_areas.specs.Pages.{offset}
 
 -- writes to the area from this place on: all else that was there stays
 pub record Keeps (area : Area) (from : ℕ) (old new : List ℕ) : Type 0 where

@@ -2,9 +2,9 @@ use Rattle.std.proofs.Common.{ℕ, [], ◌∷◌, sym, ◌∙◌, ap, subst}
 use Rattle.std.proofs.lemmas.Result.{on_ok_weaker}
 use Rattle.mega_disk.specs.Images.{overwritten, Torn}
 use Rattle.mega_disk.proofs.Leaves.{weaker_leaves}
-use Rattle.mega_checkpoint.specs.Places.{Sets}
-use Rattle.mega_checkpoint.proofs.Kept.{set_whole, set_torn}
-use Rattle.mega_checkpoint.proofs.writing.set_byte.Goals as goal
+use Rattle.mega_areas.specs.Places.{Sets}
+use Rattle.mega_areas.proofs.Kept.{set_whole, set_torn}
+use Rattle.mega_areas.proofs.writing.set_byte.Goals as goal
 
 pub returns-clause-set : goal.returns-clause-set
 returns-clause-set g c told =

@@ -2,9 +2,9 @@ use Rattle.std.proofs.Common.{ℕ, List, length, sym, ◌∙◌, ap, subst}
 use Rattle.std.proofs.lemmas.Result.{on_ok_weaker}
 use Rattle.mega_disk.specs.Images.{overwritten, Torn}
 use Rattle.mega_disk.proofs.Leaves.{started, goes_on}
-use Rattle.mega_checkpoint.specs.Places.{Keeps, Puts}
-use Rattle.mega_checkpoint.proofs.Kept.{piece_kept, piece_put}
-use Rattle.mega_checkpoint.proofs.writing.write_piece.Goals as goal
+use Rattle.mega_areas.specs.Places.{Keeps, Puts}
+use Rattle.mega_areas.proofs.Kept.{piece_kept, piece_put}
+use Rattle.mega_areas.proofs.writing.write_piece.Goals as goal
 
 pub returns-clause-put : goal.returns-clause-put
 returns-clause-put g c told =

@@ -3,13 +3,11 @@ ghost use Rattle.std.specs.Prelude.{◌≡◌, ◌+◌, ◌*◌, ◌%◌, ◌<�
 ghost use Rattle.mega_base.specs.Causes.{Rose};
 ghost use Rattle.mega_disk.specs.Images.{Only, LeavesOnly};
 ghost use Rattle.mega_disk.specs.Fuse.{LowersBy, MayBurn, Burns};
-ghost use Rattle.byteorder.specs.Endian.{big_bytes};
-ghost use Rattle.mega_checkpoint.specs.Format.{offset, length_of_pages, zero_bytes};
-ghost use Rattle.mega_checkpoint.specs.Places.{Keeps, AllKeep, Puts, Sets, SetsAny};
-ghost use Rattle.mega_checkpoint.specs.declared.area.Area.{Area as AreaWord};
+ghost use Rattle.mega_areas.specs.Pages.{offset, length_of_pages, zero_bytes};
+ghost use Rattle.mega_areas.specs.Places.{Keeps, AllKeep, Puts, Sets, SetsAny};
+ghost use Rattle.mega_areas.specs.declared.area.Area.{Area as AreaWord};
 
 use crate::area::{Area, PAGE, length_of_pages};
-use byteorder::{BigEndian, ByteOrder};
 use mega_base::NoMemory;
 use mega_disk::{Disk, DiskError};
 use mega_journal::write_through;
@@ -67,7 +65,7 @@ fn write_area<D: Disk>(
 }
 
 /// Writes a page of zero bytes for each area behind the end of the file.
-pub(crate) fn add_page<D: Disk>(disk: &mut D, zeros: &[u8], pages: u64) -> Result<(), DiskError>
+pub fn add_page<D: Disk>(disk: &mut D, zeros: &[u8], pages: u64) -> Result<(), DiskError>
     requires zeros { length zeros.now ≡ 8192 }
     requires small { pages < 2 ^ 50 }
     requires size { D.is_told ≡ true → length (D.seen disk.old) ≡ length_of_pages pages }
@@ -86,22 +84,12 @@ pub(crate) fn add_page<D: Disk>(disk: &mut D, zeros: &[u8], pages: u64) -> Resul
 }
 
 /// So many zero bytes.
-#[tactic(auto, unfolding(crate::specs::Format::zero_bytes))]
-pub(crate) fn zeros(alloc: Global, size: usize) -> Result<Vec<u8>, NoMemory>
+#[tactic(auto, unfolding(crate::specs::Pages::zero_bytes))]
+pub fn zeros(alloc: Global, size: usize) -> Result<Vec<u8>, NoMemory>
     ensures value { IfOk result (λ bytes. bytes.items ≡ zero_bytes size) }
     ensures size { IfOk result (λ bytes. length bytes.items ≡ size) }
 {
     Ok(vec![in alloc; 0; size]?)
-}
-
-/// The bytes of a generation.
-#[tactic(auto, using(crate::proofs::Fresh::eight_zeros))]
-pub(crate) fn generation_bytes(alloc: Global, generation: u64) -> Result<Vec<u8>, NoMemory>
-    ensures { IfOk result (λ bytes. bytes.items ≡ big_bytes 8 generation) }
-{
-    let mut bytes = zeros(alloc, 8)?;
-    BigEndian::write_u64(bytes.as_mut_slice(), generation);
-    Ok(bytes)
 }
 
 /// Lengthens a file to so many pages of each area, by a page of each at a time.
@@ -133,7 +121,7 @@ fn grow<D: Disk>(alloc: Global, disk: &mut D, pages: u64, wanted: u64) -> Result
 }
 
 /// Writes bytes into an area from a place on, in a file that grows to so many pages, and syncs.
-pub(crate) fn stage<D: Disk>(
+pub fn stage<D: Disk>(
     alloc: Global,
     disk: &mut D,
     area: Area,
@@ -165,12 +153,7 @@ pub(crate) fn stage<D: Disk>(
 }
 
 /// Writes a gate or another byte of an area, and syncs.
-pub(crate) fn set_byte<D: Disk>(
-    disk: &mut D,
-    area: Area,
-    place: u64,
-    byte: u8,
-) -> Result<(), DiskError>
+pub fn set_byte<D: Disk>(disk: &mut D, area: Area, place: u64, byte: u8) -> Result<(), DiskError>
     requires small { place < 2 ^ 62 }
     requires inside { D.is_told ≡ true → offset area place < length (D.seen disk.old) }
     requires durable { D.is_told ≡ true → Only (D.seen disk.old) (D.may_leave disk.old) }

@@ -2,9 +2,9 @@
 use Rattle.std.proofs.Common.{◌≡◌, ℕ, ◌+◌, ◌-◌, ◌*◌, ◌<◌, ◌≤◌, arith}
 use Rattle.std.specs.Prelude.{◌/◌, ◌%◌}
 use Rattle.std.proofs.Math.Nat.{div-add-mod, mod-lt}
-use Rattle.mega_checkpoint.specs.declared.area.Area.{Area}
-use Rattle.mega_checkpoint.specs.declared.area.Area.TheVariants.{Odd, Even}
-use Rattle.mega_checkpoint.specs.Format.{first_page, offset, other_of}
+use Rattle.mega_areas.specs.declared.area.Area.{Area}
+use Rattle.mega_areas.specs.declared.area.Area.TheVariants.{Odd, Even}
+use Rattle.mega_areas.specs.Pages.{first_page, offset, other_of}
 
 -- a place is that many pages and bytes
 pub record Parted (place : ℕ) : Type 0 where

@@ -1,9 +1,9 @@
 use Rattle.std.proofs.Common.{◌≡◌, ◌-◌, ◌≤◌, ℕ, List, true, min, length, take}
 use Rattle.mega_disk.specs.Images.{LeavesOnly}
 use Rattle.mega_disk.specs.Fuse.{LowersBy}
-use Rattle.mega_checkpoint.specs.Format.{length_of_pages}
-use Rattle.mega_checkpoint.specs.Places.{Keeps, AllKeep, Puts}
-use Rattle.mega_checkpoint.proofs.writing.write_area.Given as goal
+use Rattle.mega_areas.specs.Pages.{length_of_pages}
+use Rattle.mega_areas.specs.Places.{Keeps, AllKeep, Puts}
+use Rattle.mega_areas.proofs.writing.write_area.Given as goal
 
 abbrev pub invariant-loop-done : goal.invariant-loop-done
 invariant-loop-done g l = record {

@@ -3,14 +3,14 @@ use Rattle.std.proofs.Common.{◌≡◌, ◌≢◌, ◌⊎◌, inl, inr, ⊎_eli
 use Rattle.std.specs.Prelude.{◌%◌}
 use Rattle.std.proofs.lemmas.Bool.{cases_lt}
 use Rattle.mega_disk.specs.Images.{overwritten, Torn}
-use Rattle.mega_checkpoint.specs.declared.area.Area.{Area}
-use Rattle.mega_checkpoint.specs.Format.{offset}
-use Rattle.mega_checkpoint.specs.Places.{Keeps, Puts, Sets, SetsAny}
-use Rattle.mega_checkpoint.proofs.Bytes.{torn_before, torn_after, over_before, over_there, over_after, length-over}
+use Rattle.mega_areas.specs.declared.area.Area.{Area}
+use Rattle.mega_areas.specs.Pages.{offset}
+use Rattle.mega_areas.specs.Places.{Keeps, Puts, Sets, SetsAny}
+use Rattle.mega_areas.proofs.Bytes.{torn_before, torn_after, over_before, over_there, over_after, length-over}
 use Rattle.std.specs.Prelude.{slice_range}
 use Rattle.std.proofs.lemmas.List.{get_or-take, get_or-drop, get_or_past}
 use Rattle.mega_disk.specs.Fuse.{Fuse, Untold, Unset, Left, LowersBy}
-use Rattle.mega_checkpoint.proofs.Offsets.{within_page, ascends}
+use Rattle.mega_areas.proofs.Offsets.{within_page, ascends}
 
 -- no offset of these bytes is that place
 beyond : (area : Area) (place n i : ℕ) → place % 4096 + n ≤ 4096 → ((j : ℕ) → j < n → offset area (place + j) ≢ i) → (i < offset area place) ⊎ (offset area place + n ≤ i)

@@ -1,20 +1,20 @@
 //! The two areas of a file, and where their bytes stand in it.
 ghost use Rattle.std.specs.Prelude.{◌≡◌, ◌<◌, ◌^◌};
-ghost use Rattle.mega_checkpoint.specs.Format.{first_page, offset, other_of, pages_for, length_of_pages};
-ghost use Rattle.mega_checkpoint.specs.Held.{is_due, length_replaced, length_with, limit_of, pages_of};
+ghost use Rattle.mega_areas.specs.Pages.{first_page, offset, other_of, pages_for, length_of_pages};
+ghost use Rattle.mega_areas.specs.Forms.{is_due, length_replaced, length_with, limit_of, pages_of};
 
 /// The bytes of a page.
-pub(crate) const PAGE: u64 = 4096;
+pub const PAGE: u64 = 4096;
 
 /// The length in bytes that no file passes.
-pub(crate) const MAX_LENGTH: u64 = 1 << 40;
+pub const MAX_LENGTH: u64 = 1 << 40;
 
 /// So many records behind the last replacement make the list due for the next.
 const MANY: u64 = 4096;
 
 /// An area, by its pages: 1, 3, 5 and so on, or 2, 4, 6 and so on.
 #[derive(Clone, Copy, PartialEq, Eq, Debug, Drop)]
-pub(crate) enum Area {
+pub enum Area {
     Odd,
     Even,
 }
@@ -22,7 +22,7 @@ pub(crate) enum Area {
 /// A file of areas: the one that counts, its generation, the pages that each has, and whether the gate of the other is
 /// open.
 #[derive(Clone, Copy, PartialEq, Eq, Debug, Drop)]
-pub(crate) struct Areas {
+pub struct Areas {
     pub active: Area,
     pub generation: u64,
     pub pages: u64,
@@ -31,13 +31,13 @@ pub(crate) struct Areas {
 
 /// How a file keeps its records.
 #[derive(Clone, Copy, PartialEq, Eq, Debug, Drop)]
-pub(crate) enum Form {
+pub enum Form {
     Chain,
     InAreas(Areas),
 }
 
 impl Area {
-    pub(crate) fn other(self) -> Area
+    pub fn other(self) -> Area
         ensures { result ≡ other_of self }
     {
         match self {
@@ -47,7 +47,7 @@ impl Area {
     }
 
     /// The page with which the area begins.
-    pub(crate) fn first_page(self) -> u64
+    pub fn first_page(self) -> u64
         ensures { result ≡ first_page self }
     {
         match self {
@@ -57,7 +57,7 @@ impl Area {
     }
 
     /// Where a place of the area stands in the file.
-    pub(crate) fn offset(self, place: u64) -> u64
+    pub fn offset(self, place: u64) -> u64
         requires { place < 2 ^ 62 }
         ensures { result ≡ offset self place }
     {
@@ -66,7 +66,7 @@ impl Area {
 }
 
 /// How many pages hold so many bytes.
-pub(crate) fn pages_for(bytes: u64) -> u64
+pub fn pages_for(bytes: u64) -> u64
     requires { bytes < 2 ^ 63 }
     ensures { result ≡ pages_for bytes }
 {
@@ -74,7 +74,7 @@ pub(crate) fn pages_for(bytes: u64) -> u64
 }
 
 /// The length of a file with so many pages of each area.
-pub(crate) fn length_of_pages(pages: u64) -> u64
+pub fn length_of_pages(pages: u64) -> u64
     requires { pages < 2 ^ 51 }
     ensures { result ≡ length_of_pages pages }
 {
@@ -83,7 +83,7 @@ pub(crate) fn length_of_pages(pages: u64) -> u64
 
 impl Form {
     /// The length of the file with a body of so many bytes behind the end.
-    pub(crate) fn length_with(self, end: u64, size: u64) -> u64
+    pub fn length_with(self, end: u64, size: u64) -> u64
         requires end { end < limit_of self }
         requires size { size < 2 ^ 32 }
         requires pages { pages_of self < 2 ^ 50 }
@@ -96,7 +96,7 @@ impl Form {
     }
 
     /// The length of the file with a body of so many bytes in place of all.
-    pub(crate) fn length_replaced(self, size: u64) -> u64
+    pub fn length_replaced(self, size: u64) -> u64
         requires size { size < 2 ^ 32 }
         requires pages { pages_of self < 2 ^ 50 }
         ensures { result ≡ length_replaced self size }
@@ -109,7 +109,7 @@ impl Form {
 
     /// Whether the list is to be replaced: enough records follow the last replacement, or stand there where there was
     /// none, and there is a next generation.
-    pub(crate) fn is_due(self, count: u64) -> bool
+    pub fn is_due(self, count: u64) -> bool
         ensures { result ≡ is_due self count }
     {
         match self {

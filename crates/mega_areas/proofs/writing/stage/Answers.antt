@@ -1,10 +1,10 @@
 use Rattle.std.proofs.Common.{ℕ, ◌≤◌, List, length, sym, subst, arith}
 use Rattle.std.proofs.lemmas.Result.{on_ok_weaker}
 use Rattle.mega_disk.proofs.Leaves.{then_leaves, goes_on}
-use Rattle.mega_checkpoint.specs.Format.{length_of_pages}
-use Rattle.mega_checkpoint.specs.Places.{Keeps, Puts, AllKeep}
-use Rattle.mega_checkpoint.proofs.Kept.{put_grown, keeps_same}
-use Rattle.mega_checkpoint.proofs.writing.stage.Goals as goal
+use Rattle.mega_areas.specs.Pages.{length_of_pages}
+use Rattle.mega_areas.specs.Places.{Keeps, Puts, AllKeep}
+use Rattle.mega_areas.proofs.Kept.{put_grown, keeps_same}
+use Rattle.mega_areas.proofs.writing.stage.Goals as goal
 
 pub returns-clause-put : goal.returns-clause-put
 returns-clause-put g c told =

@@ -1,8 +1,8 @@
 use Rattle.std.proofs.Common.{rules, arith}
 use Rattle.mega_disk.proofs.Leaves.{then_leaves}
-use Rattle.mega_checkpoint.specs.Places.{Keeps}
-use Rattle.mega_checkpoint.proofs.Kept.{put_both}
-use Rattle.mega_checkpoint.proofs.writing.grow.Goals as goal
+use Rattle.mega_areas.specs.Places.{Keeps}
+use Rattle.mega_areas.proofs.Kept.{put_both}
+use Rattle.mega_areas.proofs.writing.grow.Goals as goal
 
 pub loop-at-preserved : goal.loop-at-preserved
 loop-at-preserved g c =

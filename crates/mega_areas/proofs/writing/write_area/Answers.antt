@@ -1,8 +1,8 @@
 use Rattle.std.proofs.Common.{rules, ◌+◌, min, ◌∙◌, arith}
 use Rattle.mega_disk.proofs.Leaves.{then_leaves}
-use Rattle.mega_checkpoint.specs.Places.{Keeps}
-use Rattle.mega_checkpoint.proofs.Kept.{put_read, lowers_on}
-use Rattle.mega_checkpoint.proofs.writing.write_area.Goals as goal
+use Rattle.mega_areas.specs.Places.{Keeps}
+use Rattle.mega_areas.proofs.Kept.{put_read, lowers_on}
+use Rattle.mega_areas.proofs.writing.write_area.Goals as goal
 
 pub loop-done-preserved : goal.loop-done-preserved
 loop-done-preserved g c =

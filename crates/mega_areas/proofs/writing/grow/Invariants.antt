@@ -1,10 +1,10 @@
 use Rattle.std.proofs.Common.{◌≡◌, ◌-◌, ◌≤◌, ℕ, List, [], true, length}
 use Rattle.mega_disk.specs.Images.{LeavesOnly}
 use Rattle.mega_disk.specs.Fuse.{LowersBy}
-use Rattle.mega_checkpoint.specs.declared.area.Area.{Area}
-use Rattle.mega_checkpoint.specs.Format.{length_of_pages}
-use Rattle.mega_checkpoint.specs.Places.{Keeps, AllKeep, Puts}
-use Rattle.mega_checkpoint.proofs.writing.grow.Given as goal
+use Rattle.mega_areas.specs.declared.area.Area.{Area}
+use Rattle.mega_areas.specs.Pages.{length_of_pages}
+use Rattle.mega_areas.specs.Places.{Keeps, AllKeep, Puts}
+use Rattle.mega_areas.proofs.writing.grow.Given as goal
 
 abbrev pub invariant-loop-at : goal.invariant-loop-at
 invariant-loop-at g l = record {
