@@ -1,13 +1,13 @@
 -- How a change of so many parts goes on by what it is told.
 use Rattle.std.specs.Prelude.{ℕ, ◌+◌, nat_lt, if◌then◌else◌, Bool, true, false, Option, Some, None}
-use Rattle.mega_two_driver.specs.declared.phase.Ended.{Ended}
-use Rattle.mega_two_driver.specs.declared.phase.Ended.TheVariants.{Committed, Aborted, Used, Open}
-use Rattle.mega_two_driver.specs.declared.phase.Phase.{Phase}
-use Rattle.mega_two_driver.specs.declared.phase.Phase.TheVariants.{Begins, Prepares, Decides, Looks, Finishes, Checks, Recovers, Over}
-use Rattle.mega_two_driver.specs.declared.told.State.{State}
-use Rattle.mega_two_driver.specs.declared.told.State.TheVariants.{Undecided, Made, Dropped}
-use Rattle.mega_two_driver.specs.declared.told.Told.{Told}
-use Rattle.mega_two_driver.specs.declared.told.Told.TheVariants.{Done, Turned, Again, Lost, Refused, NoPlan, Stands, Held, Free}
+use Rattle.mega_two_moves.specs.declared.phase.Ended.{Ended}
+use Rattle.mega_two_moves.specs.declared.phase.Ended.TheVariants.{Committed, Aborted, Used, Open}
+use Rattle.mega_two_moves.specs.declared.phase.Phase.{Phase}
+use Rattle.mega_two_moves.specs.declared.phase.Phase.TheVariants.{Begins, Prepares, Decides, Looks, Finishes, Checks, Recovers, Over}
+use Rattle.mega_two_moves.specs.declared.told.State.{State}
+use Rattle.mega_two_moves.specs.declared.told.State.TheVariants.{Undecided, Made, Dropped}
+use Rattle.mega_two_moves.specs.declared.told.Told.{Told}
+use Rattle.mega_two_moves.specs.declared.told.Told.TheVariants.{Done, Turned, Again, Lost, Refused, NoPlan, Stands, Held, Free}
 
 -- the parts from i on are prepared, and then the change is made
 abbrev pub preparing : ℕ → ℕ → Phase

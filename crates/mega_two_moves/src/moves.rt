@@ -1,6 +1,6 @@
 //! How a change goes on by what it is told.
 ghost use Rattle.std.specs.Prelude.{◌≡◌, ◌+◌};
-ghost use Rattle.mega_two_driver.specs.Moves.{by_state, checked, decided, ended_in, ending_of, finished, finishing, looked, moved, planned, prepared, preparing};
+ghost use Rattle.mega_two_moves.specs.Moves.{by_state, checked, decided, ended_in, ending_of, finished, finishing, looked, moved, planned, prepared, preparing};
 
 use crate::phase::{Ended, Phase};
 use crate::told::{State, Told};
@@ -62,7 +62,7 @@ fn finishing_behind(count: usize, made: bool, part: usize) -> Phase
 }
 
 /// A plan that is decided is finished; an undecided one is decided so.
-pub(crate) fn by_state(count: usize, made: bool, state: State) -> Phase
+pub fn by_state(count: usize, made: bool, state: State) -> Phase
     ensures { result ≡ by_state count made state }
 {
     match state {
@@ -139,7 +139,7 @@ fn checked(count: usize, made: bool, part: usize, told: Told) -> Phase
 }
 
 /// Where a change of so many parts is, once it is told this of its present request.
-pub(crate) fn moved(count: usize, phase: Phase, told: Told) -> Phase
+pub fn moved(count: usize, phase: Phase, told: Told) -> Phase
     ensures { result ≡ moved count phase told }
 {
     match phase {
@@ -154,7 +154,7 @@ pub(crate) fn moved(count: usize, phase: Phase, told: Told) -> Phase
     }
 }
 
-pub(crate) fn ended_in(phase: Phase) -> Option<Ended>
+pub fn ended_in(phase: Phase) -> Option<Ended>
     ensures { result ≡ ended_in phase }
 {
     match phase {
