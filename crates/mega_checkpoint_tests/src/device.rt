@@ -15,8 +15,12 @@ pub fn device(rt: &impl Abort, alloc: Global, bytes: &[u8]) -> MemDisk {
 
 /// The bytes that a device holds.
 pub fn bytes_on(rt: &impl Abort, alloc: Global, disk: &mut MemDisk) -> Vec<u8> {
-    let size = disk.len().expect(rt, "refused");
-    let mut bytes = vec![in alloc; 0u8; size as usize].expect(rt, "refused");
+    let Ok(size) = disk.len() else {
+        panic!(rt; "no length");
+    };
+    let Ok(mut bytes) = vec![in alloc; 0u8; size as usize] else {
+        panic!(rt; "no memory");
+    };
     disk.read(0, bytes.as_mut_slice()).expect(rt, "refused");
     bytes
 }

@@ -13,7 +13,9 @@ fn a_growth_that_was_cut_is_made_whole(rt: HostRuntime) {
         append_many(alloc, &mut disk, 20).expect(&rt, "refused"),
         20
     );
-    let size = disk.len().expect(&rt, "refused");
+    let Ok(size) = disk.len() else {
+        panic!(rt; "no length");
+    };
     disk.write(size, &[0xa5; 100]).expect(&rt, "refused");
     let found = records_on(alloc, &mut disk).expect(&rt, "refused");
     assert_eq!(rt; found.len(), 20);

@@ -128,7 +128,9 @@ fn put(
     schema: &Schema,
     photo: Row,
 ) -> u64 {
-    let table = table_at(schema, 2).expect(rt, "no table");
+    let Some(table) = table_at(schema, 2) else {
+        panic!(rt; "no table");
+    };
     let values = key_values(alloc, table.primary.as_slice(), &photo).expect(rt, "refused");
     let key = key_of(alloc, schema, 2, table, values.as_slice()).expect(rt, "refused");
     let group = group_of(alloc, schema, 2, table, values.as_slice()).expect(rt, "refused");

@@ -18,7 +18,9 @@ fn a_link_in_memory_gives_its_items(rt: HostRuntime) {
         rt.alloc(),
         vec![in rt.alloc(); None, Some(item)].expect(&rt, "refused"),
     );
-    let mut buffer = vec![in rt.alloc(); 0u8; ROOM].expect(&rt, "refused");
+    let Ok(mut buffer) = vec![in rt.alloc(); 0u8; ROOM] else {
+        panic!(rt; "no memory");
+    };
     assert!(rt; link.bind(NodeId(1), &[]).is_ok());
     assert_eq!(rt; link.receive(buffer.as_mut_slice()), None);
     assert_eq!(rt;
@@ -41,7 +43,10 @@ fn an_outbox_sends_what_it_collects(rt: HostRuntime) {
 
 #[test]
 fn a_clock_in_memory_stays_at_its_last_reading(rt: HostRuntime) {
-    let mut clock = MemClock::new(vec![in rt.alloc(); 5, 60].expect(&rt, "refused"));
+    let Ok(readings) = vec![in rt.alloc(); 5, 60] else {
+        panic!(rt; "no memory");
+    };
+    let mut clock = MemClock::new(readings);
     assert_eq!(rt; clock.now(), 5);
     assert_eq!(rt; clock.now(), 60);
     assert_eq!(rt; clock.now(), 60);
@@ -75,7 +80,9 @@ fn datagrams_cross_the_loopback(rt: HostRuntime) {
     let address = Text::from_string(place.to_string(rt.alloc()).expect(&rt, "refused"));
     let mut link = UdpLink::new(rt.alloc(), &rt);
     link.bind(NodeId(0), &[address]).ok().expect(&rt, "bind");
-    let mut buffer = vec![in rt.alloc(); 0u8; ROOM].expect(&rt, "refused");
+    let Ok(mut buffer) = vec![in rt.alloc(); 0u8; ROOM] else {
+        panic!(rt; "no memory");
+    };
     let first = exchange(&rt, &mut link, &node, buffer.as_mut_slice());
     assert_eq!(rt; first, Some(Peer::Node(NodeId(1))));
     let second = exchange(&rt, &mut link, &client, buffer.as_mut_slice());
