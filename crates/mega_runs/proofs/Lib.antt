@@ -1,5 +1,4 @@
 mod Blocks
-mod Chains
 mod Found
 mod Fronting
 mod Growing
@@ -11,9 +10,5 @@ mod Nexts
 mod Order
 mod Outcomes
 mod Readable
-mod Records
-mod Repaired
 mod Showing
 mod Spilled
-mod Torn
-mod Written

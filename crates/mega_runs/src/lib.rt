@@ -6,7 +6,6 @@ mod append;
 mod body;
 mod cleaning;
 mod coding;
-mod device;
 mod ending;
 mod examples;
 mod file;
