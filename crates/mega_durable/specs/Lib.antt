@@ -7,3 +7,4 @@ pub mod Starting
 pub mod Compacting
 pub use Rattle.mega_core.specs.of_actions as of_actions
 pub use Rattle.mega_core.specs as of_core
+pub use Rattle.mega_core.specs.of_view as of_view
