@@ -1,5 +1,6 @@
 mod Blocks
 mod Chains
+mod Emptied
 mod Found
 mod Fronting
 mod Growing
