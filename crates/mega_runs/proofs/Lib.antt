@@ -1,4 +1,5 @@
 mod Blocks
+mod Emptied
 mod Found
 mod Fronting
 mod Growing

@@ -1,3 +1,4 @@
+pub mod Archives
 pub mod Bodies
 pub mod BodyLaws
 pub mod Devices

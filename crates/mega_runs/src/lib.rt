@@ -3,6 +3,7 @@
 
 mod among;
 mod append;
+mod archive;
 mod body;
 mod cleaning;
 mod coding;
@@ -22,6 +23,7 @@ mod search;
 mod store;
 mod writable;
 
+pub use archive::Archive;
 pub use body::{Mark, Run, Version};
 pub use coding::{read_body, write_body};
 pub use file::RunFile;
