@@ -6,7 +6,7 @@ use Rattle.mega_transcript.specs.declared.item.Item.{Item}
 use Rattle.mega_promises.specs.Runs.{Happening, IsRun}
 use Rattle.mega_run_laws.specs.Usages.{Fits}
 use Rattle.mega_run_laws.specs.Vouched.{Each}
-use Rattle.mega_answer_laws.proofs.Runs.{run_causes}
+use Rattle.mega_held.proofs.of_shown_laws.of_answer_laws.Runs.{run_causes}
 use Rattle.mega_replay.specs.Meanings.{usage}
 use Rattle.mega_replay.specs.Running.{HaveCauses}
 

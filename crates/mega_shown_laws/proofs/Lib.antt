@@ -9,3 +9,5 @@ pub mod Told
 pub mod Named
 pub mod Clusters
 pub mod Users
+pub use Rattle.mega_answer_laws.proofs as of_answer_laws
+pub use Rattle.mega_row_laws.proofs as of_row_laws
