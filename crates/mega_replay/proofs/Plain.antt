@@ -3,25 +3,25 @@ use Rattle.std.proofs.Common.{◌≡◌, ℕ, zero, suc, ◌+◌, ◌≤◌, Lis
 use Rattle.std.specs.List.{All}
 use Rattle.std.proofs.lemmas.List.Elements.{All-cons, All-head, All-nil, All-tail}
 use Rattle.mega_cluster.specs.declared.cluster.Cluster.{Cluster}
-use Rattle.mega_format_laws.specs.Histories.{IsCluster}
-use Rattle.mega_format_laws.specs.Requests.{AreHandlers}
-use Rattle.mega_format_laws.proofs.Brought.{copy_formed, credit_formed}
-use Rattle.mega_held.specs.of_plain_laws.Formed.{AreFormed, IsAsked, IsFormed}
-use Rattle.mega_held.specs.of_plain_laws.Held.{HoldsItem}
-use Rattle.mega_held.proofs.of_shown_laws.Named.{parsed_named}
-use Rattle.mega_held.proofs.of_shown_laws.Plain.{every_plain}
+use Rattle.mega_shown_laws.specs.of_format_laws.Histories.{IsCluster}
+use Rattle.mega_shown_laws.specs.of_format_laws.Requests.{AreHandlers}
+use Rattle.mega_shown_laws.proofs.of_format_laws.Brought.{copy_formed, credit_formed}
+use Rattle.mega_shown_laws.specs.of_plain_laws.Formed.{AreFormed, IsAsked, IsFormed}
+use Rattle.mega_held.specs.Held.{HoldsItem}
+use Rattle.mega_shown_laws.proofs.Named.{parsed_named}
+use Rattle.mega_shown_laws.proofs.Plain.{every_plain}
 use Rattle.mega_line_laws.proofs.Asking.{clock_asked, request_asked}
 use Rattle.mega_line_laws.proofs.Texts.{begun_request}
 use Rattle.mega_line_laws.specs.Clusters.{CanStart}
 use Rattle.mega_meanings.specs.BuiltIn.{built_in, key_property}
-use Rattle.mega_promises.specs.Items.{number}
-use Rattle.mega_promises.specs.Runs.{Happening, IsRun, Standing}
-use Rattle.mega_run_laws.specs.Usages.{Fits}
+use Rattle.mega_shown_laws.specs.of_promises.Items.{number}
+use Rattle.mega_shown_laws.specs.of_promises.Runs.{Happening, IsRun, Standing}
+use Rattle.mega_shown_laws.specs.of_run_laws.Usages.{Fits}
 use Rattle.mega_schedule.specs.declared.world_event.WorldEvent.{WorldEvent}
 use Rattle.mega_schedule.specs.declared.world_event.WorldEvent.TheVariants.{Tick, Deliver, Drop, Drain, Crash, Start as StartEvent, Fuse, Begin}
 use Rattle.mega_schedule.specs.Events.{event_of}
 use Rattle.mega_schema.specs.declared.schema.Schema.{Schema}
-use Rattle.mega_tape_laws.specs.Indexed.{IsDeclared}
+use Rattle.mega_shown_laws.specs.of_tape_laws.Indexed.{IsDeclared}
 use Rattle.mega_transcript.specs.declared.item.Item.{Item}
 use Rattle.mega_transcript.specs.declared.item.Item.TheVariants.{Start}
 use Rattle.mega_transcript.specs.Plain.{IsPlain}

@@ -13,25 +13,25 @@ use Rattle.mega_wire.specs.declared.message.Message.{Message}
 use Rattle.mega_transcript.specs.declared.item.Item.{Item}
 use Rattle.mega_transcript.specs.Tape.{onto}
 use Rattle.mega_rules.specs.Steps.{Begin as BeginStep, Take, Tick as TickStep}
-use Rattle.mega_promises.specs.Messages.{message_of, next_delivery}
-use Rattle.mega_promises.specs.Runs.{Happening, IsRun, Standing, after_event, by_fuse, delivered, goes_on, opening, refusal, unless_refused, up}
+use Rattle.mega_shown_laws.specs.of_promises.Messages.{message_of, next_delivery}
+use Rattle.mega_shown_laws.specs.of_promises.Runs.{Happening, IsRun, Standing, after_event, by_fuse, delivered, goes_on, opening, refusal, unless_refused, up}
 use Rattle.mega_world.specs.declared.world.World.{World}
 use Rattle.mega_world.specs.Formed.{IfNext, IsAsked, IsSound, Owns, OwnsDelivered, OwnsDrained, OwnsStep, OwnsTaken}
 use Rattle.mega_world.specs.Stands.{IsAt}
-use Rattle.mega_tape_laws.specs.Indexed.{IsDeclared}
-use Rattle.mega_tape_laws.proofs.Agreement.{agreement}
-use Rattle.mega_tape_laws.proofs.Answered.{serial}
-use Rattle.mega_tape_laws.proofs.IndexLogs.{indexed, rows_fit}
-use Rattle.mega_tape_laws.proofs.Sending.{messages}
+use Rattle.mega_shown_laws.specs.of_tape_laws.Indexed.{IsDeclared}
+use Rattle.mega_shown_laws.proofs.of_tape_laws.Agreement.{agreement}
+use Rattle.mega_shown_laws.proofs.of_tape_laws.Answered.{serial}
+use Rattle.mega_shown_laws.proofs.of_tape_laws.IndexLogs.{indexed, rows_fit}
+use Rattle.mega_shown_laws.proofs.of_tape_laws.Sending.{messages}
 use Rattle.mega_fresh_laws.proofs.Fresh.{run_is_fresh}
 use Rattle.mega_settled_laws.proofs.Answering.{run_settled}
-use Rattle.mega_run_laws.specs.Usages.{Fits, FitsOne, IsMeant}
-use Rattle.mega_run_laws.proofs.Events.{each_append}
-use Rattle.mega_run_laws.proofs.Indexing.{asks_values}
-use Rattle.mega_run_laws.proofs.Runs.{run_answered, run_lawful, run_written}
-use Rattle.mega_held.proofs.of_shown_laws.of_row_laws.Draining.{next_allowed}
-use Rattle.mega_held.proofs.of_shown_laws.of_row_laws.Steps.{begin_owns, take_owns, tick_owns}
-use Rattle.mega_held.specs.of_plain_laws.Held.{HoldsItem}
+use Rattle.mega_shown_laws.specs.of_run_laws.Usages.{Fits, FitsOne, IsMeant}
+use Rattle.mega_shown_laws.proofs.of_run_laws.Events.{each_append}
+use Rattle.mega_shown_laws.proofs.of_run_laws.Indexing.{asks_values}
+use Rattle.mega_shown_laws.proofs.of_run_laws.Runs.{run_answered, run_lawful, run_written}
+use Rattle.mega_shown_laws.proofs.of_row_laws.Draining.{next_allowed}
+use Rattle.mega_shown_laws.proofs.of_row_laws.Steps.{begin_owns, take_owns, tick_owns}
+use Rattle.mega_held.specs.Held.{HoldsItem}
 use Rattle.mega_line_laws.proofs.Asking.{clock_asked, request_asked}
 use Rattle.mega_line_laws.proofs.Again.{means}
 use Rattle.mega_line_laws.specs.Clusters.{CanStart}
@@ -40,7 +40,7 @@ use Rattle.mega_fresh_laws.proofs.of_leased_laws.Tops.{run_fresh}
 use Rattle.mega_line_laws.specs.Meanings.{meaning_in}
 use Rattle.mega_replay.specs.Meanings.{usage}
 use Rattle.mega_replay.specs.Running.{AllHappen, AllReadAll, Happens, ReadsAll, Replayed, Went, in_turn, stood}
-use Rattle.mega_promises.specs.Calm.{IsCalmComplete}
+use Rattle.mega_shown_laws.specs.of_promises.Calm.{IsCalmComplete}
 use Rattle.mega_calm_laws.proofs.Complete.{run_is_calm_complete}
 use Rattle.mega_replay.proofs.Caused.{run_caused}
 use Rattle.mega_replay.proofs.Holding.{means_values}

@@ -11,7 +11,7 @@ use Rattle.mega_schedule.specs.Events.{event_of}
 use Rattle.mega_tally.specs.declared.tally.Tally.{Tally}
 use Rattle.mega_transcript.specs.declared.item.Item.{Item}
 use Rattle.mega_transcript.specs.Tape.{newest}
-use Rattle.mega_promises.specs.Runs.{Happening, Standing}
+use Rattle.mega_shown_laws.specs.of_promises.Runs.{Happening, Standing}
 use Rattle.mega_line_laws.specs.Clusters.{CanStart}
 use Rattle.mega_world.specs.declared.world.World.{World}
 use Rattle.mega_heading.specs.Known.{Ends, Follows, Passes, TakesLine}
@@ -23,7 +23,7 @@ use Rattle.mega_replay.specs.Stops.{IsBeforeWriting}
 use Rattle.mega_replay.specs.declared.status.Stop.{Stop}
 use Rattle.mega_replay.specs.Texts.{IsTallied, at_end, in_all, so_far}
 use Rattle.mega_heading.proofs.Inputs.{both_none, ended_none}
-use Rattle.mega_held.specs.of_plain_laws.Held.{HoldsItem}
+use Rattle.mega_held.specs.Held.{HoldsItem}
 use Rattle.mega_replay.proofs.Plain.{all_onto, opening_held}
 use Rattle.mega_replay.proofs.Progress.{as_front, more_waits, wrote_front}
 use Rattle.mega_replay.proofs.Running.{replayed}

@@ -5,7 +5,7 @@ use Rattle.mega_base.specs.declared.names.NodeId.{NodeId}
 use Rattle.mega_base.specs.declared.names.OpId.{OpId}
 use Rattle.mega_base.specs.declared.names.Position.{Position}
 use Rattle.mega_cluster.specs.declared.cluster.Cluster.{Cluster}
-use Rattle.mega_held.specs.of_plain_laws.Held.{HoldsItem}
+use Rattle.mega_held.specs.Held.{HoldsItem}
 use Rattle.mega_meanings.specs.BuiltIn.{built_in}
 use Rattle.mega_entry.specs.declared.content.Content.{Content}
 use Rattle.mega_index.specs.Rows.{list_after}
@@ -17,18 +17,18 @@ use Rattle.mega_transcript.specs.declared.item.Item.TheVariants.{Answer as Answe
 use Rattle.mega_transcript.specs.Lines.{lines as lines_for}
 use Rattle.mega_transcript.specs.Plain.{IsPlain}
 use Rattle.mega_transcript.specs.Tape.{newest, onto}
-use Rattle.mega_promises.specs.Causes.{HasCause}
+use Rattle.mega_shown_laws.specs.of_promises.Causes.{HasCause}
 use Rattle.mega_rules.specs.Clock.{is_up}
 use Rattle.mega_rules.specs.Coordinators.{valid_at}
 use Rattle.mega_rules.specs.Logs.{top_of}
 use Rattle.mega_rules.specs.Members.{is_full}
-use Rattle.mega_promises.specs.Calm.{IsCalmComplete}
-use Rattle.mega_promises.specs.Fresh.{IsFresh}
-use Rattle.mega_promises.specs.Messages.{is_unsafe}
-use Rattle.mega_promises.specs.Moments.{StoodOn}
-use Rattle.mega_promises.specs.Promises.{Agree, AreMessages, IsSerial, Stands, log_of}
-use Rattle.mega_promises.specs.Runs.{Happening, IsRun, Standing, after_event, by_fuse, goes_on, opening, refusal, unless_refused}
-use Rattle.mega_tape_laws.specs.Indexed.{AreRows, IsIndexed}
+use Rattle.mega_shown_laws.specs.of_promises.Calm.{IsCalmComplete}
+use Rattle.mega_shown_laws.specs.of_promises.Fresh.{IsFresh}
+use Rattle.mega_shown_laws.specs.of_promises.Messages.{is_unsafe}
+use Rattle.mega_shown_laws.specs.of_promises.Moments.{StoodOn}
+use Rattle.mega_shown_laws.specs.of_promises.Promises.{Agree, AreMessages, IsSerial, Stands, log_of}
+use Rattle.mega_shown_laws.specs.of_promises.Runs.{Happening, IsRun, Standing, after_event, by_fuse, goes_on, opening, refusal, unless_refused}
+use Rattle.mega_shown_laws.specs.of_tape_laws.Indexed.{AreRows, IsIndexed}
 use Rattle.mega_settled_laws.specs.Covering.{AreSettled}
 use Rattle.mega_valid_laws.specs.Leases.{AreLeased}
 use Rattle.mega_world.specs.declared.world.World.{World}

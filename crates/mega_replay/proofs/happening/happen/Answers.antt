@@ -1,11 +1,11 @@
 use Rattle.std.proofs.Common.{ℕ, ◌≡◌, [], Some, None, Err, ap, append-nil, subst, sym, List}
 use Rattle.std.specs.List.{All}
-use Rattle.mega_held.specs.of_plain_laws.Held.{HoldsItem}
+use Rattle.mega_held.specs.Held.{HoldsItem}
 use Rattle.mega_meanings.specs.BuiltIn.{built_in}
 use Rattle.mega_transcript.specs.declared.item.Item.{Item}
 use Rattle.mega_transcript.specs.Lines.{HasLine}
 use Rattle.mega_transcript.specs.Tape.{newest}
-use Rattle.mega_promises.specs.Runs.{refusal}
+use Rattle.mega_shown_laws.specs.of_promises.Runs.{refusal}
 use Rattle.mega_world.specs.Stands.{StandsWith}
 use Rattle.mega_replay.specs.Running.{stood}
 use Rattle.mega_replay.proofs.Running.{sound, went}
