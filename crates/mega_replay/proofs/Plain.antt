@@ -28,9 +28,10 @@ use Rattle.mega_transcript.specs.Plain.{IsPlain}
 use Rattle.mega_transcript.specs.Tape.{newest, onto}
 use Rattle.mega_transcript.proofs.LineEnds.{same_tape}
 use Rattle.mega_world.specs.Opening.{first_starts}
-use Rattle.mega_world.proofs.Opened.{opening_opened}
+use Rattle.mega_world.proofs.Opened.{opening_tape}
 use Rattle.mega_replay.specs.Meanings.{usage}
 use Rattle.mega_replay.specs.Running.{AllHappen, Happens, IsTold, in_turn, stood}
+use Rattle.mega_replay.proofs.Texts.{newest_twice}
 
 -- ---- what the types of its items hold
 
@@ -44,7 +45,10 @@ starts_held (suc count) few = All-cons HoldsItem (Start (number (suc count)) 1) 
 
 -- the nodes start, of which there are at most nine
 pub opening_held : (c : Cluster) → CanStart c → All HoldsItem (stood c []).tape
-opening_held c can = subst (All HoldsItem) (sym (opening_opened c built_in).tape_is) (starts_held (length c.nodes) can.few)
+opening_held c can =
+    let starts = first_starts (length c.nodes) in
+    let twice = newest_twice starts in
+    subst (All HoldsItem) (opening_tape c built_in (newest starts) twice) (subst (All HoldsItem) (sym twice) (starts_held (length c.nodes) can.few))
 
 -- ---- events of the format
 
