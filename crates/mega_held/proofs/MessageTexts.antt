@@ -6,7 +6,7 @@ use Rattle.mega_base.specs.declared.names.NodeId.{NodeId}
 use Rattle.mega_base.specs.declared.names.OpId.{OpId}
 use Rattle.mega_base.specs.declared.names.Position.{Position}
 use Rattle.mega_base.specs.Codec.{IsBetween, IsNested, IsOption, nested_text, one_byte, option_text}
-use Rattle.mega_base.specs.Names.{IsNode, IsOp, epoch_text, group_text, node_text, op_text, position_text, u64_text}
+use Rattle.mega_base.specs.Names.{IsNode, IsOp, epoch_text, group_text, node_text, op_text, position_text}
 use Rattle.mega_base.specs.Pairs.{IsPair, pair_text}
 use Rattle.mega_ballot.specs.declared.ballot.Ballot.{Ballot}
 use Rattle.mega_ballot.specs.Ballots.{IsBallot, ballot_text}
@@ -15,7 +15,7 @@ use Rattle.mega_entry.specs.Entries.{IsEntry, entry_text}
 use Rattle.mega_wire.specs.declared.message.Body.{Body}
 use Rattle.mega_wire.specs.declared.message.Body.TheVariants.{Where, Top, Accept, Accepted, Refused, Prepare, Promise, Invalidate, Invalidated, Dead, Held, Unheld, Decide, Fetch, Have, HaveNot, Acquire, Granted, Past, Request, Reply}
 use Rattle.mega_wire.specs.declared.message.Message.{Message}
-use Rattle.mega_wire.specs.Messages.{IsBody, IsMessage, body_text, greatest_from, greatest_to, kind_of, message_text}
+use Rattle.mega_wire.specs.Messages.{IsBody, IsMessage, body_text, kind_of, message_text}
 use Rattle.mega_held.specs.Entries.{HoldsContent}
 use Rattle.mega_held.specs.Messages.{HoldsBody, HoldsReport, HoldsShownEntry}
 use Rattle.mega_transcript.specs.PlainNames.{IsGroup}

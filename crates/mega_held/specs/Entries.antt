@@ -1,5 +1,5 @@
 -- What the types of an entry hold, beyond what the format asks of one: its keys, texts and rows are of bytes and values.
-use Rattle.std.specs.Prelude.{List, Option, Some, None}
+use Rattle.std.specs.Prelude.{Option, Some, None}
 use Rattle.std.specs.List.{AllByRecursion}
 use Rattle.hex.specs.Hex.{IsBytes}
 use Rattle.mega_base.specs.declared.values.Row.{Row}
