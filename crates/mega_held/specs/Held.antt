@@ -5,7 +5,7 @@ use Rattle.hex.specs.Hex.{IsBytes}
 use Rattle.mega_base.specs.declared.values.Cell.{Cell}
 use Rattle.mega_base.specs.declared.values.Row.{Row}
 use Rattle.mega_entry.specs.Entries.{entry_text}
-use Rattle.mega_index.specs.declared.found.Found.{Found}
+use Rattle.mega_outcome.specs.of_index.declared.found.Found.{Found}
 use Rattle.mega_outcome.specs.declared.answer.Answer.{Answer}
 use Rattle.mega_outcome.specs.declared.answer.Answer.TheVariants as answers
 use Rattle.mega_outcome.specs.declared.answer.Shown.{Shown}
