@@ -9,6 +9,7 @@ mod keeping;
 mod naming;
 mod noting;
 mod replying;
+mod spilling;
 mod starting;
 mod up;
 

@@ -3,10 +3,10 @@
 
 mod among;
 mod append;
+mod archive;
 mod body;
 mod cleaning;
 mod coding;
-mod device;
 mod ending;
 mod examples;
 mod file;
@@ -23,6 +23,7 @@ mod search;
 mod store;
 mod writable;
 
+pub use archive::Archive;
 pub use body::{Mark, Run, Version};
 pub use coding::{read_body, write_body};
 pub use file::RunFile;

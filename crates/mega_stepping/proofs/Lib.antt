@@ -4,7 +4,6 @@ pub mod Staged
 pub mod Portions
 pub mod Groups
 mod Unheard
-mod Counted
 pub use Rattle.mega_proposing.proofs.of_voter as of_voter
 pub use Rattle.mega_proposing.proofs.of_leases as of_leases
 pub use Rattle.mega_proposing.proofs.of_operations as of_operations
