@@ -12,6 +12,7 @@ use Rattle.mega_stepping.specs.of_leases.declared.leases.Leases.{Leases}
 use Rattle.mega_replica.specs.declared.progress.Progress.{Progress}
 use Rattle.mega_actions.specs.of_node_laws.Acted.{acted_on, decision_in}
 use Rattle.mega_actions.specs.of_finishing.Stands.{Stands}
+use Rattle.mega_stepping.specs.News.{news_by}
 use Rattle.mega_core.specs.declared.taking.Taken.{Taken}
 use Rattle.mega_stepping.specs.Notes.{met_of}
 use Rattle.mega_handler.specs.Named.{Meanings}
