@@ -1,5 +1,8 @@
 -- Rows that are spilled: what they hold then, what a crash leaves, and how the device below them fared.
-use Rattle.std.proofs.Common.{◌≡◌, inl, ℕ, [], List, Option, None, Some, Result, Err, ap, subst, sym, arith}
+use Rattle.std.proofs.Common.{◌≡◌, inl, ℕ, ◌<◌, ◌≤◌, ◌^◌, true, [], List, Option, None, Some, Result, Ok, Err, ap, subst, sym, arith}
+use Rattle.std.specs.Result.{result_err}
+use Rattle.mega_base.specs.Causes.{Rose}
+use Rattle.mega_disk.specs.Fuse.{Burns, MayBurn}
 use Rattle.mega_disk.specs.Images.{LeavesOnly}
 use Rattle.mega_disk.specs.VersionMaps.{Cleaned, Drops, Marks, SameVersions, Stored, Versions}
 use Rattle.mega_disk.specs.declared.records.Records.{Ghosts as RecordGhosts}
@@ -53,6 +56,36 @@ fares_short store rows = record {
   cause = λ is. absurd (cc);
   full = λ n is. absurd (cc);
   burns = λ by is. absurd (cc);
+}
+
+error_in : Option StoreError → StoreError
+error_in None = NoMemory
+error_in (Some error) = error
+
+error_same : {one two : StoreError} → Some one ≡ Some two → one ≡ two
+unfolding error_in
+error_same is = ap error_in is
+
+-- a spill that was made or refused fared as its calls did
+pub fares_made : {V : Type 0} (store : Ghosts V) (made : Result (Unit {0}) StoreError) (length : ℕ) (old new : V) → store.faults old ≤ store.faults new → MayBurn (store.fuse_left old) (store.fuse_left new)
+    → (store.fails_by_fuse old ≡ true → store.fails_by_fuse new ≡ true) → (made ≡ Err DiskFault → Rose (store.faults old) (store.faults new))
+    → ((n : ℕ) → made ≡ Err (Full n) → (n ≡ length) × (2 ^ 40 < n)) → (store.fails_by_fuse old ≡ true → made ≡ Err DiskFault → Burns (store.fuse_left old) (store.fuse_left new))
+    → SpillFares store (result_err made) old new
+fares_made store (Ok done) length old new later may_burn by_fuse cause full burns = record {
+  later = later;
+  may_burn = may_burn;
+  by_fuse = by_fuse;
+  cause = λ is. absurd (cc);
+  full = λ n is. absurd (cc);
+  burns = λ by is. absurd (cc);
+}
+fares_made store (Err error) length old new later may_burn by_fuse cause full burns = record {
+  later = later;
+  may_burn = may_burn;
+  by_fuse = by_fuse;
+  cause = λ is. cause (ap Err (error_same is));
+  full = λ n is. (full n (ap Err (error_same is))).1;
+  burns = λ by is. burns by (ap Err (error_same is));
 }
 
 -- why the rows were not spilled, told as the fault of a step
