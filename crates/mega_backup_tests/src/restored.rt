@@ -5,21 +5,23 @@ use mega_base::{Bytes, NoMemory, Position, Text};
 use mega_outcome::Transaction;
 use mega_schema::{Schema, parse};
 use std::alloc::Global;
-use std::test::Fail;
+use std::process::Abort;
 
 /// The schema of a text.
-pub fn schema(alloc: Global, text: &str) -> Result<Schema, Fail> {
-    let text = Text::from_str(alloc, text)?;
-    Ok(parse(alloc, &text)?)
+pub fn schema(rt: &impl Abort, alloc: Global, text: &str) -> Schema {
+    let text = Text::from_str(alloc, text).expect(rt, "refused");
+    parse(alloc, &text).expect(rt, "refused")
 }
 
 /// The lines of a text.
-pub fn lines_of(alloc: Global, text: &str) -> Result<Vec<Bytes>, Fail> {
+pub fn lines_of(rt: &impl Abort, alloc: Global, text: &str) -> Vec<Bytes> {
     let mut lines = Vec::new(alloc);
     for line in text.lines() {
-        lines.push(Bytes::from_slice(alloc, line.as_bytes())?)?;
+        lines
+            .push(Bytes::from_slice(alloc, line.as_bytes()).expect(rt, "refused"))
+            .expect(rt, "refused");
     }
-    Ok(lines)
+    lines
 }
 
 /// The schedule lines of transactions, one after another.
@@ -32,24 +34,27 @@ fn shown(alloc: Global, schema: &Schema, txns: &[Transaction]) -> Result<Bytes, 
 }
 
 /// The words of a refusal.
-fn refusal(alloc: Global, fault: &BackupFault) -> Result<Bytes, Fail> {
+fn refusal(rt: &impl Abort, alloc: Global, fault: &BackupFault) -> Bytes {
     let words = match fault {
-        BackupFault::Short { has } => format!(in alloc; "short {}", has.0)?,
-        BackupFault::Malformed { line } => format!(in alloc; "malformed {line}")?,
-        _ => String::from_str(alloc, "another fault")?,
+        BackupFault::Short { has } => format!(in alloc; "short {}", has.0).expect(rt, "refused"),
+        BackupFault::Malformed { line } => format!(in alloc; "malformed {line}").expect(
+            rt, "refused",
+        ),
+        _ => String::from_str(alloc, "another fault").expect(rt, "refused"),
     };
-    Ok(Bytes::from_slice(alloc, words.as_bytes())?)
+    Bytes::from_slice(alloc, words.as_bytes()).expect(rt, "refused")
 }
 
 /// What a restore of these lines at a position writes.
 pub fn restored(
+    rt: &impl Abort,
     alloc: Global,
     schema: &Schema,
     lines: &[Bytes],
     through: u64,
-) -> Result<Bytes, Fail> {
+) -> Bytes {
     match read(alloc, schema, lines, Position(through)) {
-        Ok(txns) => Ok(shown(alloc, schema, txns.as_slice())?),
-        Err(fault) => refusal(alloc, &fault),
+        Ok(txns) => shown(alloc, schema, txns.as_slice()).expect(rt, "refused"),
+        Err(fault) => refusal(rt, alloc, &fault),
     }
 }

@@ -7,7 +7,6 @@ use mega_disk::{Disk, DiskError, MemDisk};
 use mega_io::{MemSink, MemSource};
 use std::alloc::Global;
 use std::process::Abort;
-use std::test::Fail;
 
 /// The group of user 101.
 fn group(alloc: Global) -> Result<GroupId, NoMemory> {
@@ -16,12 +15,14 @@ fn group(alloc: Global) -> Result<GroupId, NoMemory> {
 }
 
 /// A source of texts, one behind the other.
-fn source(alloc: Global, texts: &[&str], failing: Vec<u64>) -> Result<MemSource, Fail> {
+fn source(rt: &impl Abort, alloc: Global, texts: &[&str], failing: Vec<u64>) -> MemSource {
     let mut bytes = Vec::new(alloc);
     for text in texts {
-        bytes.extend_from_slice(text.as_bytes())?;
+        bytes
+            .extend_from_slice(text.as_bytes())
+            .expect(rt, "refused");
     }
-    Ok(MemSource::new(bytes, failing))
+    MemSource::new(bytes, failing)
 }
 
 /// A device that holds these bytes.
@@ -32,9 +33,9 @@ fn holding(alloc: Global, bytes: &[u8]) -> Result<MemDisk, DiskError> {
 }
 
 /// A device with a log in hex.
-fn device(alloc: Global, log: &str) -> Result<MemDisk, Fail> {
-    let bytes = hex::decode(alloc, log.as_bytes())?;
-    Ok(holding(alloc, bytes.as_slice())?)
+fn device(rt: &impl Abort, alloc: Global, log: &str) -> MemDisk {
+    let bytes = hex::decode(alloc, log.as_bytes()).expect(rt, "refused");
+    holding(alloc, bytes.as_slice()).expect(rt, "refused")
 }
 
 /// Asserts the status and the output of a backup, and gives the device back.
@@ -45,9 +46,9 @@ fn check_backup(
     number: u8,
     through: u64,
     wanted: (u8, &str),
-) -> Result<MemDisk, Fail> {
-    let group = group(alloc)?;
-    let mut input = source(alloc, &[samples::HEADER], Vec::new(alloc))?;
+) -> MemDisk {
+    let group = group(alloc).expect(rt, "refused");
+    let mut input = source(rt, alloc, &[samples::HEADER], Vec::new(alloc));
     let mut out = MemSink::new(alloc, Vec::new(alloc));
     let Outcome { status, log } = run_backup(
         alloc,
@@ -60,67 +61,58 @@ fn check_backup(
     );
     assert_eq!(rt; status, wanted.0);
     assert_eq!(rt; out.bytes(), wanted.1.as_bytes());
-    Ok(log)
+    log
 }
 
 #[test]
-fn a_log_is_backed_up_again_and_again(rt: HostRuntime) -> Result<(), Fail> {
+fn a_log_is_backed_up_again_and_again(rt: HostRuntime) {
     let alloc = rt.alloc();
-    let log = device(alloc, samples::USER_LOG)?;
-    let log = check_backup(&rt, alloc, log, 1, 1, (0, samples::USER_BACKUP))?;
-    let log = check_backup(&rt, alloc, log, 1, 2, (13, "short 1\n"))?;
-    let log = check_backup(&rt, alloc, log, 4, 1, (3, "header 3\n"))?;
-    check_backup(&rt, alloc, log, 3, 0, (0, "backup 018000000000000065 0\n"))?;
-    Ok(())
+    let log = device(&rt, alloc, samples::USER_LOG);
+    let log = check_backup(&rt, alloc, log, 1, 1, (0, samples::USER_BACKUP));
+    let log = check_backup(&rt, alloc, log, 1, 2, (13, "short 1\n"));
+    let log = check_backup(&rt, alloc, log, 4, 1, (3, "header 3\n"));
+    check_backup(&rt, alloc, log, 3, 0, (0, "backup 018000000000000065 0\n"));
 }
 
 #[test]
-fn a_device_that_fails_and_a_bad_record_are_told(rt: HostRuntime) -> Result<(), Fail> {
+fn a_device_that_fails_and_a_bad_record_are_told(rt: HostRuntime) {
     let alloc = rt.alloc();
-    let log = device(alloc, samples::BAD_LOG)?;
-    check_backup(&rt, alloc, log, 1, 0, (16, ""))?;
-    let mut failing = device(alloc, samples::USER_LOG)?;
+    let log = device(&rt, alloc, samples::BAD_LOG);
+    check_backup(&rt, alloc, log, 1, 0, (16, ""));
+    let mut failing = device(&rt, alloc, samples::USER_LOG);
     failing.fail_at(2);
-    check_backup(&rt, alloc, failing, 1, 1, (7, ""))?;
-    Ok(())
+    check_backup(&rt, alloc, failing, 1, 1, (7, ""));
 }
 
 /// Asserts the status and the output of a restore.
-fn check_restore(
-    rt: &impl Abort,
-    alloc: Global,
-    texts: &[&str],
-    at: u64,
-    wanted: (u8, &str),
-) -> Result<(), Fail> {
-    let mut input = source(alloc, texts, Vec::new(alloc))?;
+fn check_restore(rt: &impl Abort, alloc: Global, texts: &[&str], at: u64, wanted: (u8, &str)) {
+    let mut input = source(rt, alloc, texts, Vec::new(alloc));
     let mut out = MemSink::new(alloc, Vec::new(alloc));
     let status = run_restore(alloc, Position(at), &mut input, &mut out);
     assert_eq!(rt; status, wanted.0);
     assert_eq!(rt; out.bytes(), wanted.1.as_bytes());
-    Ok(())
 }
 
 #[test]
-fn a_backup_is_restored_at_each_position(rt: HostRuntime) -> Result<(), Fail> {
+fn a_backup_is_restored_at_each_position(rt: HostRuntime) {
     let alloc = rt.alloc();
     let texts = [samples::HEADER, "---\n", samples::USER_BACKUP];
-    check_restore(&rt, alloc, &texts, 1, (0, samples::USER_LINE))?;
-    check_restore(&rt, alloc, &texts, 0, (0, ""))?;
-    check_restore(&rt, alloc, &texts, 2, (13, "short 1\n"))
+    check_restore(&rt, alloc, &texts, 1, (0, samples::USER_LINE));
+    check_restore(&rt, alloc, &texts, 0, (0, ""));
+    check_restore(&rt, alloc, &texts, 2, (13, "short 1\n"));
 }
 
 #[test]
-fn an_input_that_is_no_backup_is_told(rt: HostRuntime) -> Result<(), Fail> {
+fn an_input_that_is_no_backup_is_told(rt: HostRuntime) {
     let alloc = rt.alloc();
     let missing = [samples::HEADER, "---\nbackup 018000000000000065 1\n"];
-    check_restore(&rt, alloc, &missing, 1, (12, "malformed 2\n"))?;
+    check_restore(&rt, alloc, &missing, 1, (12, "malformed 2\n"));
     check_restore(
         &rt,
         alloc,
         &[samples::HEADER, "---"],
         0,
         (12, "malformed 1\n"),
-    )?;
-    check_restore(&rt, alloc, &[samples::HEADER], 0, (3, "header 9\n"))
+    );
+    check_restore(&rt, alloc, &[samples::HEADER], 0, (3, "header 9\n"));
 }

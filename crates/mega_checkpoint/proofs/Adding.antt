@@ -10,11 +10,12 @@ use Rattle.mega_disk.proofs.Steps.{torn_written}
 use Rattle.mega_journal.specs.Chain.{chain_of, records_of, behind_gate}
 use Rattle.mega_journal.specs.Rest.{IsAtRest}
 use Rattle.mega_journal.proofs.Written.{at_rest, front_and_gate, inside as gate_inside, torn_gate, at_rest_after, staged}
-use Rattle.mega_checkpoint.specs.declared.area.Area.{Area}
-use Rattle.mega_checkpoint.specs.Format.{other_of, offset, pages_in, length_of_pages, is_open, generation_of, chain_in, outranks, counts, is_marked, is_areas, list_of}
-use Rattle.mega_checkpoint.specs.Places.{Keeps, Puts, Sets}
-use Rattle.mega_checkpoint.proofs.Bytes.{over_before, over_there, over_after, length-over}
-use Rattle.mega_checkpoint.proofs.Offsets.{ascends, apart, behind_head, inside}
+use Rattle.mega_areas.specs.declared.area.Area.{Area}
+use Rattle.mega_areas.specs.Pages.{other_of, offset, pages_in, length_of_pages, is_open, generation_of, chain_in, outranks, counts, is_marked, is_areas}
+use Rattle.mega_checkpoint.specs.Format.{list_of}
+use Rattle.mega_areas.specs.Places.{Keeps, Puts, Sets}
+use Rattle.mega_areas.proofs.Bytes.{over_before, over_there, over_after, length-over}
+use Rattle.mega_areas.proofs.Offsets.{ascends, apart, behind_head, inside}
 use Rattle.mega_checkpoint.proofs.Fronts.{SameFront, same_chain, same_gate, same_generation, same_mark, areas_parts, areas_whole, list_counts, length-chain, get_or-chain, pages_parted, pages_whole}
 
 -- a chain with the same bytes through its closed gate

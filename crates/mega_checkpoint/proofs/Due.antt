@@ -1,12 +1,14 @@
 -- Whether a list is due is told by its file.
 use Rattle.std.proofs.Common.{◌≡◌, ℕ, ◌-◌, ◌^◌, Bool, true, List, length, sym, ◌∙◌, ap}
 use Rattle.std.specs.Prelude.{◌&&◌, nat_lt, nat_le, if◌then◌else◌}
-use Rattle.mega_checkpoint.specs.declared.area.Area.{Area}
-use Rattle.mega_checkpoint.specs.declared.area.Area.TheVariants.{Odd, Even}
-use Rattle.mega_checkpoint.specs.declared.area.Form.{Form}
-use Rattle.mega_checkpoint.specs.declared.area.Form.TheVariants.{Chain, InAreas}
-use Rattle.mega_checkpoint.specs.Format.{counts, generation_of, is_open, list_of}
-use Rattle.mega_checkpoint.specs.Held.{IsHeld, behind_replacement, due_of, generation_in, is_due}
+use Rattle.mega_areas.specs.declared.area.Area.{Area}
+use Rattle.mega_areas.specs.declared.area.Area.TheVariants.{Odd, Even}
+use Rattle.mega_areas.specs.declared.area.Form.{Form}
+use Rattle.mega_areas.specs.declared.area.Form.TheVariants.{Chain, InAreas}
+use Rattle.mega_areas.specs.Pages.{counts, generation_of, is_open}
+use Rattle.mega_checkpoint.specs.Format.{list_of}
+use Rattle.mega_areas.specs.Forms.{behind_replacement, is_due}
+use Rattle.mega_checkpoint.specs.Held.{IsHeld, due_of, generation_in}
 use Rattle.mega_checkpoint.proofs.Fronts.{alone, no_areas_by_mark}
 
 active : (area : Area) (file : List ℕ) → counts area file ≡ true → generation_in file ≡ generation_of area file

@@ -4,9 +4,10 @@ use Rattle.mega_disk.specs.Images.{overwritten, Torn, Only}
 use Rattle.mega_disk.proofs.Steps.{torn_written}
 use Rattle.mega_journal.specs.Rest.{IsRead}
 use Rattle.mega_journal.proofs.Repaired.{torn_end, closed_end, shut_end, open_end}
-use Rattle.mega_checkpoint.specs.declared.area.Areas.{Areas}
-use Rattle.mega_checkpoint.specs.Format.{other_of, pages_in, length_of_pages, is_open, generation_of, chain_in, counts, is_areas, list_of}
-use Rattle.mega_checkpoint.specs.Places.{Sets}
+use Rattle.mega_areas.specs.declared.area.Areas.{Areas}
+use Rattle.mega_areas.specs.Pages.{other_of, pages_in, length_of_pages, is_open, generation_of, chain_in, counts, is_areas}
+use Rattle.mega_checkpoint.specs.Format.{list_of}
+use Rattle.mega_areas.specs.Places.{Sets}
 use Rattle.mega_checkpoint.specs.Held.{HoldsAreas}
 use Rattle.mega_checkpoint.proofs.Fronts.{areas_parts, list_counts, length-chain, pages_whole}
 use Rattle.mega_checkpoint.proofs.Adding.{Stays, stays, set_keeps, set_chain}

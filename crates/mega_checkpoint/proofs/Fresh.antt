@@ -11,13 +11,14 @@ use Rattle.mega_journal.specs.Chain.{records_of, first_record}
 use Rattle.mega_journal.specs.Rest.{IsAtRest}
 use Rattle.mega_journal.proofs.Records.{records_none, first_closed, first_torn}
 use Rattle.mega_journal.proofs.Written.{at_rest}
-use Rattle.mega_checkpoint.specs.declared.area.Area.{Area}
-use Rattle.mega_checkpoint.specs.declared.area.Area.TheVariants.{Odd, Even}
-use Rattle.mega_checkpoint.specs.Format.{offset, pages_in, is_open, generation_of, chain_in, counts, is_areas, list_of, zero_bytes}
+use Rattle.mega_areas.specs.declared.area.Area.{Area}
+use Rattle.mega_areas.specs.declared.area.Area.TheVariants.{Odd, Even}
+use Rattle.mega_areas.specs.Pages.{offset, pages_in, is_open, generation_of, chain_in, counts, is_areas, zero_bytes}
+use Rattle.mega_checkpoint.specs.Format.{list_of}
 use Rattle.mega_checkpoint.specs.Held.{HoldsChain, IsIdle}
-use Rattle.mega_checkpoint.specs.Places.{Keeps, Puts, Sets}
-use Rattle.mega_checkpoint.proofs.Bytes.{length-over}
-use Rattle.mega_checkpoint.proofs.Offsets.{ascends}
+use Rattle.mega_areas.specs.Places.{Keeps, Puts, Sets}
+use Rattle.mega_areas.proofs.Bytes.{length-over}
+use Rattle.mega_areas.proofs.Offsets.{ascends}
 use Rattle.mega_checkpoint.proofs.Fronts.{no_areas_by_mark, no_areas_by_length, areas_parts, areas_whole, list_none, list_idle, list_counts, same_generation, generation_put, counts_alone, length-chain, get_or-chain}
 use Rattle.mega_checkpoint.proofs.Adding.{areas_stay, other_stays, some_pages, in_pages, put_keeps, set_keeps}
 use Rattle.mega_checkpoint.proofs.Swapped.{gate_stays, gate_set}

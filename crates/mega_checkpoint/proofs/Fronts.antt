@@ -9,10 +9,11 @@ use Rattle.byteorder.specs.Endian.{big_from, big_bytes}
 use Rattle.byteorder.specs.Numbers.{big_number-reads_back}
 use Rattle.mega_journal.specs.Chain.{records_of}
 use Rattle.mega_journal.proofs.Records.{both}
-use Rattle.mega_checkpoint.specs.declared.area.Area.{Area}
-use Rattle.mega_checkpoint.specs.declared.area.Area.TheVariants.{Odd, Even}
-use Rattle.mega_checkpoint.specs.Format.{first_page, other_of, offset, pages_in, length_of_pages, space, is_open, generation_of, chain_in, outranks, counts, is_marked, is_areas, area_records, list_of}
-use Rattle.mega_checkpoint.proofs.Offsets.{front_offset}
+use Rattle.mega_areas.specs.declared.area.Area.{Area}
+use Rattle.mega_areas.specs.declared.area.Area.TheVariants.{Odd, Even}
+use Rattle.mega_areas.specs.Pages.{first_page, other_of, offset, pages_in, length_of_pages, space, is_open, generation_of, chain_in, outranks, counts, is_marked, is_areas}
+use Rattle.mega_checkpoint.specs.Format.{area_records, list_of}
+use Rattle.mega_areas.proofs.Offsets.{front_offset}
 
 -- the whole pages of a length
 pub pages_parted : (size : ℕ) → 4096 ≤ size → (8192 * pages_in size + 4096 ≤ size) × (size < 8192 * pages_in size + 12288)

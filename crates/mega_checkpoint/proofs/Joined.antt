@@ -5,9 +5,9 @@ use Rattle.std.specs.List.{range_with_len}
 use Rattle.std.proofs.lemmas.Bool.{cases_lt}
 use Rattle.std.proofs.lemmas.List.{ext_get_or, get_or-take, get_or-drop, get_or_append_left, get_or-append_right}
 use Rattle.std.proofs.lemmas.List.FromFn.{get_or-map-range_with_len, length-map-range_with_len}
-use Rattle.mega_checkpoint.specs.declared.area.Area.{Area}
-use Rattle.mega_checkpoint.specs.Format.{first_page, offset, pages_in, space}
-use Rattle.mega_checkpoint.proofs.Offsets.{page_offset}
+use Rattle.mega_areas.specs.declared.area.Area.{Area}
+use Rattle.mega_areas.specs.Pages.{first_page, offset, pages_in, space}
+use Rattle.mega_areas.proofs.Offsets.{page_offset}
 
 abbrev pub front_of : Area → List ℕ → ℕ → List ℕ
 front_of area file pages = map (λ place. get_or file (offset area place) 0) (range_with_len 0 (4096 * pages))

@@ -1,12 +1,9 @@
 mod Adding
-mod Bytes
 mod Due
 mod Ended
 mod Fresh
 mod Fronts
 mod Joined
-mod Kept
-mod Offsets
 mod Plain
 mod Rooms
 mod Swapped

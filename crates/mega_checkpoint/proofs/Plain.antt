@@ -14,10 +14,11 @@ use Rattle.mega_journal.specs.Rest.{IsAtRest, IsRead}
 use Rattle.mega_journal.proofs.Records.{records_none, first_closed}
 use Rattle.mega_journal.proofs.Written.{torn_behind, torn_gate, at_rest_after, inside as gate_inside}
 use Rattle.mega_journal.proofs.Repaired.{torn_end, closed_end, shut_end, open_end}
-use Rattle.mega_checkpoint.specs.Format.{is_marked, is_areas, list_of, spells_mark}
+use Rattle.mega_areas.specs.Pages.{is_marked, is_areas}
+use Rattle.mega_checkpoint.specs.Format.{list_of, spells_mark}
 use Rattle.mega_checkpoint.specs.Held.{HoldsChain}
 use Rattle.mega_checkpoint.proofs.Adding.{length-behind}
-use Rattle.mega_checkpoint.proofs.Bytes.{torn_before, torn_after, over_before, over_there, length-over}
+use Rattle.mega_areas.proofs.Bytes.{torn_before, torn_after, over_before, over_there, length-over}
 use Rattle.mega_checkpoint.proofs.Fronts.{same_mark, areas_whole, no_areas_by_mark, no_areas_by_length, list_none}
 
 -- a record has at least five bytes

@@ -2,7 +2,7 @@
 use Rattle.std.proofs.Common.{◌≡◌, ℕ, ◌+◌, ◌*◌, ◌<◌, ◌≤◌, max, arith}
 use Rattle.std.specs.Prelude.{◌%◌}
 use Rattle.std.proofs.Math.Nat.{div-add-mod, mod-lt}
-use Rattle.mega_checkpoint.specs.Format.{pages_for}
+use Rattle.mega_areas.specs.Pages.{pages_for}
 
 pub pages_fit : (n : ℕ) → (n ≤ 4096 * pages_for n) × (4096 * pages_for n < n + 4096)
 pages_fit n = let a = div-add-mod (n + 4095) 4096 in let b : (n + 4095) % 4096 < 4096 = mod-lt (n + 4095) (omega arith) in (omega (arith, a, b), omega (arith, a, b))

@@ -11,12 +11,13 @@ use Rattle.mega_journal.specs.Chain.{record_of, chain_of, records_of}
 use Rattle.mega_journal.specs.Rest.{IsAtRest}
 use Rattle.mega_journal.proofs.Written.{at_rest, inside as gate_inside}
 use Rattle.mega_disk.specs.Images.{Only}
-use Rattle.mega_checkpoint.specs.declared.area.Area.{Area}
-use Rattle.mega_checkpoint.specs.declared.area.Areas.{Areas}
+use Rattle.mega_areas.specs.declared.area.Area.{Area}
+use Rattle.mega_areas.specs.declared.area.Areas.{Areas}
 use Rattle.mega_checkpoint.specs.Held.{HoldsAreas, shut}
-use Rattle.mega_checkpoint.specs.Format.{other_of, offset, pages_in, length_of_pages, is_open, generation_of, chain_in, counts, outranks, is_areas, list_of, replacing}
-use Rattle.mega_checkpoint.specs.Places.{Keeps, Puts, Sets}
-use Rattle.mega_checkpoint.proofs.Offsets.{ascends}
+use Rattle.mega_areas.specs.Pages.{other_of, offset, pages_in, length_of_pages, is_open, generation_of, chain_in, counts, outranks, is_areas}
+use Rattle.mega_checkpoint.specs.Format.{list_of, replacing}
+use Rattle.mega_areas.specs.Places.{Keeps, Puts, Sets}
+use Rattle.mega_areas.proofs.Offsets.{ascends}
 use Rattle.mega_checkpoint.proofs.Fronts.{SameFront, same_chain, same_gate, same_generation, areas_parts, areas_whole, list_counts, length-chain, pages_whole, counts_open, counts_alone, counts_later, other_other, equal_chain, generation_put, first_offset}
 use Rattle.mega_checkpoint.proofs.Adding.{areas_stay, front_stays, other_stays, some_pages, in_pages, closed, put_chain, put_keeps, set_keeps}
 

@@ -4,10 +4,11 @@ use Rattle.std.specs.Prelude.{◌&&◌, ◌||◌, not, if◌then◌else◌}
 use Rattle.std.proofs.lemmas.List.{get_or-take, take-take}
 use Rattle.mega_disk.specs.Images.{Cut}
 use Rattle.mega_journal.specs.Chain.{records_of}
-use Rattle.mega_checkpoint.specs.declared.area.Area.{Area}
-use Rattle.mega_checkpoint.specs.declared.area.Area.TheVariants.{Odd, Even}
-use Rattle.mega_checkpoint.specs.Format.{other_of, offset, pages_in, length_of_pages, is_open, generation_of, chain_in, outranks, counts, is_areas, list_of}
-use Rattle.mega_checkpoint.proofs.Offsets.{inside}
+use Rattle.mega_areas.specs.declared.area.Area.{Area}
+use Rattle.mega_areas.specs.declared.area.Area.TheVariants.{Odd, Even}
+use Rattle.mega_areas.specs.Pages.{other_of, offset, pages_in, length_of_pages, is_open, generation_of, chain_in, outranks, counts, is_areas}
+use Rattle.mega_checkpoint.specs.Format.{list_of}
+use Rattle.mega_areas.proofs.Offsets.{inside}
 use Rattle.mega_checkpoint.proofs.Fronts.{same_mark, same_gate, same_generation, areas_parts, areas_whole, list_areas, pages_parted, pages_more, pages_whole, equal_chain}
 
 module _ (file c : List ℕ) (form : is_areas file ≡ true) (least : length_of_pages (pages_in (length file)) ≤ length c) (most : length c ≤ length file) (same : take (length_of_pages (pages_in (length file))) c ≡ take (length_of_pages (pages_in (length file))) file) where

@@ -1,14 +1,16 @@
 -- A file of records between two calls.
-use Rattle.std.specs.Prelude.{◌≡◌, ℕ, ◌+◌, ◌-◌, ◌*◌, ◌^◌, max, Bool, true, false, ◌&&◌, nat_le, nat_lt, if◌then◌else◌, List, length, get_or}
+use Rattle.std.specs.Prelude.{◌≡◌, ℕ, ◌-◌, ◌^◌, Bool, true, false, ◌&&◌, nat_le, nat_lt, if◌then◌else◌, List, length, get_or}
 use denote.Struct.Props as logic
 use Rattle.std.specs.List.{AllByRecursion-prop}
 use Rattle.mega_disk.specs.Images.{Only}
 use Rattle.mega_journal.specs.Rest.{IsAtRest, IsSettled}
-use Rattle.mega_checkpoint.specs.declared.area.Area.TheVariants.{Odd, Even}
-use Rattle.mega_checkpoint.specs.declared.area.Areas.{Areas}
-use Rattle.mega_checkpoint.specs.declared.area.Form.{Form}
-use Rattle.mega_checkpoint.specs.declared.area.Form.TheVariants.{Chain, InAreas}
-use Rattle.mega_checkpoint.specs.Format.{other_of, length_of_pages, pages_for, is_open, generation_of, chain_in, counts, is_marked, is_areas, list_of}
+use Rattle.mega_areas.specs.declared.area.Area.TheVariants.{Odd, Even}
+use Rattle.mega_areas.specs.declared.area.Areas.{Areas}
+use Rattle.mega_areas.specs.declared.area.Form.{Form}
+use Rattle.mega_areas.specs.declared.area.Form.TheVariants.{Chain, InAreas}
+use Rattle.mega_areas.specs.Pages.{other_of, length_of_pages, is_open, generation_of, chain_in, counts, is_marked, is_areas}
+use Rattle.mega_areas.specs.Forms.{behind_replacement}
+use Rattle.mega_checkpoint.specs.Format.{list_of}
 
 -- a chain, settled, that does not begin as a file of areas does
 pub record HoldsChain (file : List ℕ) (may_leave : List ℕ → Type 0) (end : ℕ) : Type 0 where
@@ -38,35 +40,6 @@ pub record IsIdle (file : List ℕ) (may_leave : List ℕ → Type 0) (pages : �
 abbrev pub HoldsAs : (List ℕ → Type 0) → List ℕ → Type 0
 HoldsAs images file = (image : List ℕ) × images image × (list_of file ≡ list_of image)
 
--- the pages that each area has
-abbrev pub pages_of : Form → ℕ
-pages_of Chain = 0
-pages_of (InAreas areas) = areas.pages
-
--- what the end of the records stays below
-abbrev pub limit_of : Form → ℕ
-limit_of Chain = 2 ^ 63
-limit_of (InAreas areas) = 4096 * areas.pages
-
--- the length of the file with a body of so many bytes behind the end
-abbrev pub length_with : Form → ℕ → ℕ → ℕ
-length_with Chain end size = end + 6 + size
-length_with (InAreas areas) end size = length_of_pages (max areas.pages (pages_for (end + 15 + size)))
-
--- the length of the file with such a body in place of all
-abbrev pub length_replaced : Form → ℕ → ℕ
-length_replaced Chain size = 0
-length_replaced (InAreas areas) size = length_of_pages (max areas.pages (pages_for (15 + size)))
-
--- the records behind the one that the last replacement left; the first generation had none
-abbrev pub behind_replacement : ℕ → ℕ → ℕ
-behind_replacement generation count = if nat_le generation 1 then count else count - 1
-
--- 4,096 records follow the last replacement, and there is a next generation
-abbrev pub is_due : Form → ℕ → Bool
-is_due Chain count = false
-is_due (InAreas areas) count = nat_lt areas.generation (2 ^ 64 - 1) && nat_le 4096 (behind_replacement areas.generation count)
-
 -- the generation of the area that counts
 abbrev pub generation_in : List ℕ → ℕ
 generation_in file = if counts Odd file then generation_of Odd file else generation_of Even file
@@ -91,8 +64,3 @@ IsHeld-prop file may_leave (InAreas areas) end = Prim.hlevel (logic.props, AllBy
 pub durable_of : (file : List ℕ) (may_leave : List ℕ → Type 0) (form : Form) (end : ℕ) → IsHeld file may_leave form end → Only file may_leave
 durable_of file may_leave Chain end held = held.settled.durable
 durable_of file may_leave (InAreas areas) end held = held.durable
-
--- the pages that each area has with a body of so many bytes behind the end
-abbrev pub pages_with : Form → ℕ → ℕ → ℕ
-pages_with Chain end size = 0
-pages_with (InAreas areas) end size = max areas.pages (pages_for (end + 15 + size))

@@ -1,4 +1,3 @@
 pub mod Format
 pub mod Held
 pub mod Opened
-pub mod Places

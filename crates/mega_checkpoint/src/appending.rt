@@ -4,12 +4,13 @@ ghost use Rattle.mega_base.specs.Causes.{Rose};
 ghost use Rattle.mega_disk.specs.Images.{LeavesOnly};
 ghost use Rattle.mega_disk.specs.Fuse.{LowersBy, MayBurn, Burns};
 ghost use Rattle.mega_disk.specs.RecordLists.{IsBeforeOrAfter};
-ghost use Rattle.mega_checkpoint.specs.Format.{list_of, length_of_pages, pages_for};
-ghost use Rattle.mega_checkpoint.specs.Held.{HoldsAreas, IsHeld, length_with, limit_of, pages_of, pages_with};
+ghost use Rattle.mega_areas.specs.Pages.{length_of_pages, pages_for};
+ghost use Rattle.mega_checkpoint.specs.Format.{list_of};
+ghost use Rattle.mega_areas.specs.Forms.{length_with, limit_of, pages_of, pages_with};
+ghost use Rattle.mega_checkpoint.specs.Held.{HoldsAreas, IsHeld};
 
-use crate::area::{Areas, Form, pages_for};
 use crate::chain::{add_to_chain, behind_gate, spells_mark};
-use crate::writing::{set_byte, stage};
+use mega_areas::{Areas, Form, pages_for, set_byte, stage};
 use mega_disk::{Disk, DiskError};
 use std::alloc::Global;
 

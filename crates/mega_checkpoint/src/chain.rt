@@ -6,7 +6,8 @@ ghost use Rattle.mega_disk.specs.Fuse.{LowersBy, MayBurn, Burns};
 ghost use Rattle.mega_disk.specs.RecordLists.{IsBeforeOrAfter};
 ghost use Rattle.mega_journal.specs.Chain.{behind_gate as bytes_behind_gate};
 ghost use Rattle.mega_journal.specs.Rest.{IsRead};
-ghost use Rattle.mega_checkpoint.specs.Format.{is_areas, list_of, spells_mark};
+ghost use Rattle.mega_areas.specs.Pages.{is_areas};
+ghost use Rattle.mega_checkpoint.specs.Format.{list_of, spells_mark};
 ghost use Rattle.mega_checkpoint.specs.Held.{HoldsChain};
 
 use crate::reading::is_shut;

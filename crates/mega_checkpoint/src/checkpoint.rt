@@ -3,12 +3,13 @@ ghost use Rattle.std.specs.Prelude.{◌≡◌, ◌+◌, ◌<◌, ◌≤◌, ◌^
 ghost use Rattle.std.specs.List.{AllByRecursion-prop};
 ghost use Rattle.std.proofs.Props.{props};
 ghost use Rattle.mega_checkpoint.specs.Format.{list_of};
-ghost use Rattle.mega_checkpoint.specs.Held.{IsHeld, IsHeld-prop, limit_of, pages_of};
+ghost use Rattle.mega_areas.specs.Forms.{limit_of, pages_of};
+ghost use Rattle.mega_checkpoint.specs.Held.{IsHeld, IsHeld-prop};
 
 use crate::appending::add;
-use crate::area::{Form, MAX_LENGTH};
 use crate::opening::open_file;
 use crate::replacing::replace_area;
+use mega_areas::{Form, MAX_LENGTH};
 use mega_base::Bytes;
 use mega_disk::{Disk, DiskError, RecordError, Records};
 use std::alloc::Global;
@@ -97,7 +98,8 @@ fn refusal(error: DiskError) -> RecordError
 impl<D: Disk> Records for Checkpoint<D> {
     ghost use Rattle.std.proofs.Common.{◌≡◌, ℕ, List, ◌∙◌, ap, sym};
     ghost use Rattle.mega_checkpoint.specs.Format.{list_of};
-    ghost use Rattle.mega_checkpoint.specs.Held.{durable_of, is_due, length_with, length_replaced};
+    ghost use Rattle.mega_areas.specs.Forms.{is_due, length_with, length_replaced};
+    ghost use Rattle.mega_checkpoint.specs.Held.{durable_of};
     ghost use Rattle.mega_checkpoint.specs.Opened.{Opens, opens_only, opened_now};
 
     ghost is_told = { D.is_told };

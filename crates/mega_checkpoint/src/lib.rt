@@ -3,15 +3,14 @@
 #![tactic(auto)]
 
 mod appending;
-mod area;
 mod chain;
 mod checkpoint;
 pub mod laws;
 mod making;
+mod numbering;
 mod opening;
 mod reading;
 mod reopening;
 mod replacing;
-mod writing;
 
 pub use checkpoint::Checkpoint;

@@ -4,11 +4,12 @@ ghost use Rattle.mega_base.specs.Causes.{Rose};
 ghost use Rattle.mega_disk.specs.Images.{Only, LeavesOnly};
 ghost use Rattle.mega_disk.specs.Fuse.{LowersBy, MayBurn, Burns};
 ghost use Rattle.byteorder.specs.Endian.{big_bytes};
-ghost use Rattle.mega_checkpoint.specs.Format.{list_of, zero_bytes};
+ghost use Rattle.mega_areas.specs.Pages.{zero_bytes};
+ghost use Rattle.mega_checkpoint.specs.Format.{list_of};
 ghost use Rattle.mega_checkpoint.specs.Held.{HoldsAreas, IsIdle};
 
-use crate::area::{Area, Areas};
-use crate::writing::{generation_bytes, set_byte, stage, zeros};
+use crate::numbering::generation_bytes;
+use mega_areas::{Area, Areas, set_byte, stage, zeros};
 use mega_base::NoMemory;
 use mega_disk::{Disk, DiskError};
 use mega_journal::write_through;

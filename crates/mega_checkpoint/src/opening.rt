@@ -3,14 +3,15 @@ ghost use Rattle.std.specs.Prelude.{◌≡◌, ◌<◌, ◌≤◌, ◌^◌, true
 ghost use Rattle.mega_base.specs.Causes.{Rose};
 ghost use Rattle.mega_disk.specs.Images.{Only, LeavesOnly};
 ghost use Rattle.mega_disk.specs.Fuse.{LowersBy, MayBurn, Burns};
-ghost use Rattle.mega_checkpoint.specs.Format.{is_areas, list_of};
-ghost use Rattle.mega_checkpoint.specs.Held.{HoldsAs, IsHeld, limit_of, pages_of};
+ghost use Rattle.mega_areas.specs.Pages.{is_areas};
+ghost use Rattle.mega_checkpoint.specs.Format.{list_of};
+ghost use Rattle.mega_areas.specs.Forms.{limit_of, pages_of};
+ghost use Rattle.mega_checkpoint.specs.Held.{HoldsAs, IsHeld};
 
-use crate::area::Form;
 use crate::chain::open_chain;
 use crate::making::{begin, make};
-use crate::reading::is_areas;
 use crate::reopening::open_areas;
+use mega_areas::{Form, is_areas};
 use mega_base::Bytes;
 use mega_disk::{Disk, DiskError};
 use mega_journal::{read_all, settle};

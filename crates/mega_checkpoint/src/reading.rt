@@ -1,25 +1,13 @@
-//! Reads a file of areas: its mark, which area counts, and the bytes of an area.
-ghost use Rattle.std.specs.Prelude.{◌≡◌, ◌==◌, not, get_or, ◌+◌, ◌*◌, ◌<◌, ◌≤◌, ◌^◌, true, length, IfOk};
+//! Reads a file of areas: how many pages it has, and the bytes and records of an area.
+ghost use Rattle.std.specs.Prelude.{◌≡◌, ◌==◌, not, get_or, ◌+◌, ◌*◌, ◌<◌, ◌≤◌, ◌^◌, length, IfOk};
 ghost use Rattle.mega_journal.specs.Chain.{records_of};
 ghost use Rattle.mega_journal.specs.Rest.{IsRead};
-ghost use Rattle.mega_checkpoint.specs.Format.{chain_in, counts, generation_of, is_areas, is_open, length_of_pages, pages_in, space};
+ghost use Rattle.mega_areas.specs.Pages.{chain_in, length_of_pages, pages_in, space};
 
-use crate::area::{Area, PAGE};
-use byteorder::{BigEndian, ByteOrder};
+use mega_areas::{Area, PAGE};
 use mega_base::{Bytes, NoMemory};
 use mega_journal::parse;
 use std::alloc::Global;
-
-/// Whether the bytes are those of a file of areas.
-pub(crate) fn is_areas(bytes: &[u8]) -> bool
-    ensures { result ≡ is_areas bytes.now }
-{
-    bytes.len() >= 12288
-        && bytes[0] != 0
-        && bytes[1] == 0x47
-        && bytes[2] == 0x41
-        && bytes[3] == 0x32
-}
 
 /// Of how many pages each area has a whole one.
 #[tactic(auto, using(crate::proofs::Fronts::pages_parted))]
@@ -31,43 +19,6 @@ pub(crate) fn pages_in(bytes: &[u8]) -> u64
     ensures small { result < 2 ^ 50 }
 {
     (bytes.len() as u64 - PAGE) / (2 * PAGE)
-}
-
-/// Whether the gate of the area is open.
-pub(crate) fn is_open(bytes: &[u8], area: Area) -> bool
-    requires { 12288 ≤ length bytes.now }
-    ensures { result ≡ is_open area bytes.now }
-{
-    bytes[(PAGE * area.first_page()) as usize] == 1
-}
-
-/// The generation of the area.
-#[tactic(auto, unfolding(crate::specs::Format::generation_of))]
-pub(crate) fn generation_of(bytes: &[u8], area: Area) -> u64
-    requires { 12288 ≤ length bytes.now }
-    ensures { result ≡ generation_of area bytes.now }
-{
-    let at = (PAGE * area.first_page()) as usize;
-    BigEndian::read_u64(&bytes[at + 1..])
-}
-
-/// Whether the area counts.
-pub(crate) fn counts(bytes: &[u8], area: Area) -> bool
-    requires { 12288 ≤ length bytes.now }
-    ensures { result ≡ counts area bytes.now }
-{
-    if !is_open(bytes, area) {
-        return false;
-    }
-    let other = area.other();
-    if !is_open(bytes, other) {
-        return true;
-    }
-    let (mine, others) = (generation_of(bytes, area), generation_of(bytes, other));
-    match area {
-        Area::Odd => others <= mine,
-        Area::Even => others < mine,
-    }
 }
 
 /// Whether the gate there is closed.

@@ -4,13 +4,16 @@ ghost use Rattle.mega_base.specs.Causes.{Rose};
 ghost use Rattle.mega_disk.specs.Images.{Only, LeavesOnly};
 ghost use Rattle.mega_disk.specs.Fuse.{LowersBy, MayBurn, Burns};
 ghost use Rattle.mega_journal.specs.Rest.{IsRead};
-ghost use Rattle.mega_checkpoint.specs.Format.{chain_in, counts, generation_of, is_areas, is_open, length_of_pages, list_of, other_of, pages_in};
+ghost use Rattle.mega_areas.specs.Pages.{chain_in, counts, generation_of, is_areas, is_open, length_of_pages, other_of, pages_in};
+ghost use Rattle.mega_checkpoint.specs.Format.{list_of};
 ghost use Rattle.mega_checkpoint.specs.Held.{HoldsAreas};
 
-use crate::area::{Area, Areas, MAX_LENGTH, length_of_pages};
 use crate::making::begin;
-use crate::reading::{counts, generation_of, is_open, pages_in, read_area};
-use crate::writing::{add_page, set_byte, zeros};
+use crate::reading::{pages_in, read_area};
+use mega_areas::{
+    Area, Areas, MAX_LENGTH, add_page, counts, generation_of, is_open, length_of_pages, set_byte,
+    zeros,
+};
 use mega_base::Bytes;
 use mega_disk::{Disk, DiskError};
 use std::alloc::Global;

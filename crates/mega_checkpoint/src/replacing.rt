@@ -4,11 +4,12 @@ ghost use Rattle.mega_base.specs.Causes.{Rose};
 ghost use Rattle.mega_disk.specs.Images.{LeavesOnly};
 ghost use Rattle.mega_disk.specs.Fuse.{LowersBy, MayBurn, Burns};
 ghost use Rattle.mega_disk.specs.RecordLists.{IsOldOrReplaced};
-ghost use Rattle.mega_checkpoint.specs.Format.{length_of_pages, list_of, pages_for, replacing};
+ghost use Rattle.mega_areas.specs.Pages.{length_of_pages, pages_for};
+ghost use Rattle.mega_checkpoint.specs.Format.{list_of, replacing};
 ghost use Rattle.mega_checkpoint.specs.Held.{HoldsAreas, shut};
 
-use crate::area::{Areas, pages_for};
-use crate::writing::{generation_bytes, set_byte, stage};
+use crate::numbering::generation_bytes;
+use mega_areas::{Areas, pages_for, set_byte, stage};
 use mega_base::NoMemory;
 use mega_disk::{Disk, DiskError};
 use std::alloc::Global;

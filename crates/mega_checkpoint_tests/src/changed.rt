@@ -8,7 +8,6 @@ use mega_disk::{MemDisk, RecordError, Records};
 use mega_journal::Journal;
 use std::alloc::Global;
 use std::process::Abort;
-use std::test::Fail;
 
 /// Changes a byte anywhere, a byte at the front of a page, or cuts the file.
 fn change(draws: &mut Draws, bytes: &mut Vec<u8>) {
@@ -35,12 +34,12 @@ fn change(draws: &mut Draws, bytes: &mut Vec<u8>) {
 }
 
 /// The file with one to three changes.
-fn changed(alloc: Global, draws: &mut Draws, file: &[u8]) -> Result<Vec<u8>, Fail> {
-    let mut bytes = Vec::from_slice(alloc, file)?;
+fn changed(rt: &impl Abort, alloc: Global, draws: &mut Draws, file: &[u8]) -> Vec<u8> {
+    let mut bytes = Vec::from_slice(alloc, file).expect(rt, "refused");
     for _ in 0..draws.draw(3) + 1 {
         change(draws, &mut bytes);
     }
-    Ok(bytes)
+    bytes
 }
 
 fn assert_same(rt: &impl Abort, found: &[Bytes], wanted: &[Bytes], number: u64) {
@@ -51,28 +50,28 @@ fn assert_same(rt: &impl Abort, found: &[Bytes], wanted: &[Bytes], number: u64) 
 }
 
 /// Opens a file twice, appends to it, and opens it again.
-fn assert_opens(rt: &impl Abort, alloc: Global, bytes: &[u8], number: u64) -> Result<(), Fail> {
-    let mut wanted = records_in(alloc, bytes)?;
-    let mut disk = device(alloc, bytes)?;
+fn assert_opens(rt: &impl Abort, alloc: Global, bytes: &[u8], number: u64) {
+    let mut wanted = records_in(alloc, bytes).expect(rt, "refused");
+    let mut disk = device(rt, alloc, bytes);
     for _ in 0..2 {
-        let found = records_on(alloc, &mut disk)?;
+        let found = records_on(alloc, &mut disk).expect(rt, "refused");
         assert_same(rt, found.as_slice(), wanted.as_slice(), number);
     }
-    append_many(alloc, &mut disk, 1)?;
-    wanted.push(Bytes::from_slice(alloc, b"x")?)?;
-    let found = records_on(alloc, &mut disk)?;
+    append_many(alloc, &mut disk, 1).expect(rt, "refused");
+    wanted
+        .push(Bytes::from_slice(alloc, b"x").expect(rt, "refused"))
+        .expect(rt, "refused");
+    let found = records_on(alloc, &mut disk).expect(rt, "refused");
     assert_same(rt, found.as_slice(), wanted.as_slice(), number);
-    Ok(())
 }
 
 /// Changes a file so often, each time anew.
-fn assert_all_open(rt: &impl Abort, alloc: Global, file: &[u8], count: u64) -> Result<(), Fail> {
+fn assert_all_open(rt: &impl Abort, alloc: Global, file: &[u8], count: u64) {
     let mut draws = Draws::new(count);
     for number in 0..count {
-        let bytes = changed(alloc, &mut draws, file)?;
-        assert_opens(rt, alloc, bytes.as_slice(), number)?;
+        let bytes = changed(rt, alloc, &mut draws, file);
+        assert_opens(rt, alloc, bytes.as_slice(), number);
     }
-    Ok(())
 }
 
 /// Appends records of many lengths.
@@ -89,41 +88,41 @@ fn append_drawn<R: Records>(alloc: Global, store: &mut R) -> Result<(), RecordEr
 }
 
 #[test]
-fn changed_files_of_areas_open_as_their_bytes_say(rt: HostRuntime) -> Result<(), Fail> {
+fn changed_files_of_areas_open_as_their_bytes_say(rt: HostRuntime) {
     let alloc = rt.alloc();
     let mut store = match Checkpoint::open(alloc, MemDisk::new(alloc)) {
         Ok(store) => store,
-        Err((error, _)) => return Err(error.into()),
+        Err((error, _)) => panic!(rt; "refused: {error:?}"),
     };
-    append_drawn(alloc, &mut store)?;
-    let file = bytes_on(alloc, &mut store.close())?;
+    append_drawn(alloc, &mut store).expect(&rt, "refused");
+    let file = bytes_on(&rt, alloc, &mut store.close());
     assert_eq!(rt; file.len(), 20480);
-    assert_all_open(&rt, alloc, file.as_slice(), 4000)
+    assert_all_open(&rt, alloc, file.as_slice(), 4000);
 }
 
 #[test]
-fn changed_chains_open_as_their_bytes_say(rt: HostRuntime) -> Result<(), Fail> {
+fn changed_chains_open_as_their_bytes_say(rt: HostRuntime) {
     let alloc = rt.alloc();
     let mut journal = match Journal::open(alloc, MemDisk::new(alloc)) {
         Ok(journal) => journal,
-        Err((error, _)) => return Err(error.into()),
+        Err((error, _)) => panic!(rt; "refused: {error:?}"),
     };
-    append_drawn(alloc, &mut journal)?;
-    let file = bytes_on(alloc, &mut journal.close())?;
-    assert_all_open(&rt, alloc, file.as_slice(), 3000)
+    append_drawn(alloc, &mut journal).expect(&rt, "refused");
+    let file = bytes_on(&rt, alloc, &mut journal.close());
+    assert_all_open(&rt, alloc, file.as_slice(), 3000);
 }
 
 #[test]
-fn changed_files_with_a_replacement_open_as_their_bytes_say(rt: HostRuntime) -> Result<(), Fail> {
+fn changed_files_with_a_replacement_open_as_their_bytes_say(rt: HostRuntime) {
     let alloc = rt.alloc();
     let mut disk = MemDisk::new(alloc);
-    append_many(alloc, &mut disk, 4096)?;
+    append_many(alloc, &mut disk, 4096).expect(&rt, "refused");
     let mut store = match Checkpoint::open(alloc, disk) {
         Ok(store) => store,
-        Err((error, _)) => return Err(error.into()),
+        Err((error, _)) => panic!(rt; "refused: {error:?}"),
     };
-    store.replace(alloc, b"all")?;
-    append_drawn(alloc, &mut store)?;
-    let file = bytes_on(alloc, &mut store.close())?;
-    assert_all_open(&rt, alloc, file.as_slice(), 3000)
+    store.replace(alloc, b"all").expect(&rt, "refused");
+    append_drawn(alloc, &mut store).expect(&rt, "refused");
+    let file = bytes_on(&rt, alloc, &mut store.close());
+    assert_all_open(&rt, alloc, file.as_slice(), 3000);
 }

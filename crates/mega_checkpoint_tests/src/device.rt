@@ -3,22 +3,26 @@ use mega_base::Bytes;
 use mega_checkpoint::Checkpoint;
 use mega_disk::{Disk, MemDisk, RecordError, Records};
 use std::alloc::Global;
-use std::test::Fail;
+use std::process::Abort;
 
 /// A device that holds these bytes.
-pub fn device(alloc: Global, bytes: &[u8]) -> Result<MemDisk, Fail> {
+pub fn device(rt: &impl Abort, alloc: Global, bytes: &[u8]) -> MemDisk {
     let mut disk = MemDisk::new(alloc);
-    disk.write(0, bytes)?;
-    disk.sync()?;
-    Ok(disk)
+    disk.write(0, bytes).expect(rt, "refused");
+    disk.sync().expect(rt, "refused");
+    disk
 }
 
 /// The bytes that a device holds.
-pub fn bytes_on(alloc: Global, disk: &mut MemDisk) -> Result<Vec<u8>, Fail> {
-    let size = disk.len()?;
-    let mut bytes = vec![in alloc; 0u8; size as usize]?;
-    disk.read(0, bytes.as_mut_slice())?;
-    Ok(bytes)
+pub fn bytes_on(rt: &impl Abort, alloc: Global, disk: &mut MemDisk) -> Vec<u8> {
+    let Ok(size) = disk.len() else {
+        panic!(rt; "no length");
+    };
+    let Ok(mut bytes) = vec![in alloc; 0u8; size as usize] else {
+        panic!(rt; "no memory");
+    };
+    disk.read(0, bytes.as_mut_slice()).expect(rt, "refused");
+    bytes
 }
 
 /// The records that an opening finds.

@@ -4,52 +4,53 @@ use mega_checkpoint::Checkpoint;
 use mega_disk::{Disk, MemDisk, Records};
 use mega_journal::Journal;
 use std::alloc::Global;
-use std::test::Fail;
 
 #[test]
-fn a_growth_that_was_cut_is_made_whole(rt: HostRuntime) -> Result<(), Fail> {
+fn a_growth_that_was_cut_is_made_whole(rt: HostRuntime) {
     let alloc = rt.alloc();
     let mut disk = MemDisk::new(alloc);
-    assert_eq!(rt; append_many(alloc, &mut disk, 20)?, 20);
-    let size = disk.len()?;
-    disk.write(size, &[0xa5; 100])?;
-    let found = records_on(alloc, &mut disk)?;
+    assert_eq!(rt;
+        append_many(alloc, &mut disk, 20).expect(&rt, "refused"),
+        20
+    );
+    let Ok(size) = disk.len() else {
+        panic!(rt; "no length");
+    };
+    disk.write(size, &[0xa5; 100]).expect(&rt, "refused");
+    let found = records_on(alloc, &mut disk).expect(&rt, "refused");
     assert_eq!(rt; found.len(), 20);
-    assert_eq!(rt; disk.len()?, size + 8192);
-    assert_eq!(rt; append_many(alloc, &mut disk, 1)?, 21);
-    Ok(())
+    assert_eq!(rt; disk.len().expect(&rt, "refused"), size + 8192);
+    assert_eq!(rt; append_many(alloc, &mut disk, 1).expect(&rt, "refused"), 21);
 }
 
 #[test]
-fn a_chain_goes_on_as_a_chain(rt: HostRuntime) -> Result<(), Fail> {
+fn a_chain_goes_on_as_a_chain(rt: HostRuntime) {
     let alloc = rt.alloc();
     let mut disk = MemDisk::new(alloc);
     {
         let Ok(mut journal) = Journal::open(alloc, &mut disk) else {
-            return Ok(());
+            return;
         };
-        journal.append(alloc, b"first")?;
+        journal.append(alloc, b"first").expect(&rt, "refused");
     }
-    assert_eq!(rt; append_many(alloc, &mut disk, 3)?, 4);
-    let bytes = bytes_on(alloc, &mut disk)?;
+    assert_eq!(rt; append_many(alloc, &mut disk, 3).expect(&rt, "refused"), 4);
+    let bytes = bytes_on(&rt, alloc, &mut disk);
     assert_eq!(rt; bytes.len(), 29);
     let Ok(mut store) = Checkpoint::open(alloc, disk) else {
-        return Ok(());
+        return;
     };
     assert!(rt; !store.due());
     assert_eq!(rt; store.take_opened().len(), 4);
-    Ok(())
 }
 
 #[test]
-fn a_torn_first_gate_is_closed(rt: HostRuntime) -> Result<(), Fail> {
+fn a_torn_first_gate_is_closed(rt: HostRuntime) {
     let alloc = rt.alloc();
-    let mut disk = device(alloc, b"\xa5\0\0\0\x03abc\0")?;
-    let found = records_on(alloc, &mut disk)?;
+    let mut disk = device(&rt, alloc, b"\xa5\0\0\0\x03abc\0");
+    let found = records_on(alloc, &mut disk).expect(&rt, "refused");
     assert_eq!(rt; found.len(), 0);
-    assert_eq!(rt; disk.len()?, 2);
-    assert_eq!(rt; append_many(alloc, &mut disk, 2)?, 2);
-    let found = records_on(alloc, &mut disk)?;
+    assert_eq!(rt; disk.len().expect(&rt, "refused"), 2);
+    assert_eq!(rt; append_many(alloc, &mut disk, 2).expect(&rt, "refused"), 2);
+    let found = records_on(alloc, &mut disk).expect(&rt, "refused");
     assert_eq!(rt; found.len(), 2);
-    Ok(())
 }

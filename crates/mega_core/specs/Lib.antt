@@ -13,3 +13,4 @@ pub mod Unshown
 pub use Rattle.mega_stepping.specs as of_stepping
 pub use Rattle.mega_actions.specs as of_actions
 pub use Rattle.mega_actions.specs.of_node_laws as of_node_laws
+pub use Rattle.mega_actions.specs.of_view as of_view

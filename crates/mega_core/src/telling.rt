@@ -17,7 +17,7 @@ use crate::fault::StepFault;
 use mega_actions::Replica;
 use mega_base::Items;
 use mega_disk::{Records, Versions};
-use mega_stepping::{Note, is_voter, keep_notes, of_leases, own_reply, reply_message};
+use mega_stepping::{Note, as_notes, is_voter, keep_notes, own_reply, reply_message};
 use mega_wire::Message;
 use std::alloc::Global;
 
@@ -61,6 +61,6 @@ pub(crate) fn is_told<R: Records, V: Versions>(
     let mega_stepping::mega_leases::Told { notes, reply } = told;
     keep_notes(alloc, &mut replica.voter, notes.as_slice())?;
     let sends = reply_message(alloc, replica.me, message.from, mine, reply)?;
-    let notes = of_leases(alloc, notes)?;
+    let notes = as_notes(alloc, notes)?;
     Ok(Told { notes, sends })
 }

@@ -12,7 +12,6 @@ use mega_schedule::{LineFault, WorldEvent, event};
 use mega_schema::{Schema, parse};
 use std::alloc::Global;
 use std::process::Abort;
-use std::test::Fail;
 
 const SCHEMA: &str = "CREATE SCHEMA S;
 CREATE TABLE A {
@@ -31,9 +30,9 @@ CREATE LOCAL INDEX Own ON A(n, raw);
 CREATE GLOBAL INDEX All ON A(s);
 ";
 
-fn schema(alloc: Global) -> Result<Schema, Fail> {
-    let text = Text::from_str(alloc, SCHEMA)?;
-    Ok(parse(alloc, &text)?)
+fn schema(rt: &impl Abort, alloc: Global) -> Schema {
+    let text = Text::from_str(alloc, SCHEMA).expect(rt, "refused");
+    parse(alloc, &text).expect(rt, "refused")
 }
 
 /// The reason of a refusal; 0 for an event, 255 where memory ran out.
@@ -46,60 +45,52 @@ fn reason(answer: Result<WorldEvent, LineFault>) -> u8 {
 }
 
 /// Asserts for which reason a line is refused.
-fn tells(
-    rt: &impl Abort,
-    alloc: Global,
-    schema: &Schema,
-    wanted: &str,
-    line: &str,
-) -> Result<(), Fail> {
+fn tells(rt: &impl Abort, alloc: Global, schema: &Schema, wanted: &str, line: &str) {
     let told = reason(event(alloc, line.as_bytes(), 1, schema));
-    let told = format!(in alloc; "{told}")?;
+    let told = format!(in alloc; "{told}").expect(rt, "refused");
     assert_eq!(rt; told.as_str(), wanted, "{line}");
-    Ok(())
 }
 
 /// Each row is a reason and a line.
-fn check(rt: &impl Abort, alloc: Global, rows: &str) -> Result<(), Fail> {
-    let schema = schema(alloc)?;
+fn check(rt: &impl Abort, alloc: Global, rows: &str) {
+    let schema = schema(rt, alloc);
     for row in rows.lines() {
-        let (wanted, line) = row.split_once(' ').ok_or("no reason")?;
-        tells(rt, alloc, &schema, wanted, line)?;
+        let (wanted, line) = row.split_once(' ').expect(rt, "no reason");
+        tells(rt, alloc, &schema, wanted, line);
     }
-    Ok(())
 }
 
 #[test]
-fn words_are_told(rt: HostRuntime) -> Result<(), Fail> {
-    check(&rt, rt.alloc(), lines::WORDS)
+fn words_are_told(rt: HostRuntime) {
+    check(&rt, rt.alloc(), lines::WORDS);
 }
 
 #[test]
-fn lines_of_the_world_are_told(rt: HostRuntime) -> Result<(), Fail> {
-    check(&rt, rt.alloc(), lines::WORLD)
+fn lines_of_the_world_are_told(rt: HostRuntime) {
+    check(&rt, rt.alloc(), lines::WORLD);
 }
 
 #[test]
-fn transactions_are_told(rt: HostRuntime) -> Result<(), Fail> {
-    check(&rt, rt.alloc(), lines::TRANSACTIONS)
+fn transactions_are_told(rt: HostRuntime) {
+    check(&rt, rt.alloc(), lines::TRANSACTIONS);
 }
 
 #[test]
-fn requests_are_told(rt: HostRuntime) -> Result<(), Fail> {
-    check(&rt, rt.alloc(), lines::REQUESTS)
+fn requests_are_told(rt: HostRuntime) {
+    check(&rt, rt.alloc(), lines::REQUESTS);
 }
 
 #[test]
-fn the_first_of_two_faults_is_told(rt: HostRuntime) -> Result<(), Fail> {
-    check(&rt, rt.alloc(), lines::TWO)
+fn the_first_of_two_faults_is_told(rt: HostRuntime) {
+    check(&rt, rt.alloc(), lines::TWO);
 }
 
 #[test]
-fn texts_are_those_of_json(rt: HostRuntime) -> Result<(), Fail> {
-    check(&rt, rt.alloc(), lines::TEXTS)
+fn texts_are_those_of_json(rt: HostRuntime) {
+    check(&rt, rt.alloc(), lines::TEXTS);
 }
 
 #[test]
-fn of_equal_names_the_last_counts(rt: HostRuntime) -> Result<(), Fail> {
-    check(&rt, rt.alloc(), lines::TWICE)
+fn of_equal_names_the_last_counts(rt: HostRuntime) {
+    check(&rt, rt.alloc(), lines::TWICE);
 }

@@ -8,3 +8,4 @@ pub mod Compacting
 pub mod Spilling
 pub use Rattle.mega_core.specs.of_actions as of_actions
 pub use Rattle.mega_core.specs as of_core
+pub use Rattle.mega_core.specs.of_view as of_view

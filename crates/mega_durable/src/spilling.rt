@@ -164,11 +164,7 @@ impl<R: Records, V: Versions> Up<R, V> {
         ensures open { self.new.node.open ≡ self.old.node.open }
         ensures begun { self.new.node.begun ≡ self.old.node.begun }
     {
-        match spilled(
-            alloc,
-            &self.node.replica.voter,
-            &mut self.node.replica.rows,
-        ) {
+        match spilled(alloc, &self.node.replica.voter, &mut self.node.replica.rows) {
             Ok(()) => Ok(()),
             Err(error) => Err(UpFault::Step(step_fault(error))),
         }

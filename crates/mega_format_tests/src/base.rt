@@ -1,15 +1,14 @@
 //! Fields of a text in turn, and texts that are no UTF-8.
 use crate::changes::check_places;
 use mega_base::{Bytes, Cursor, CursorFault, Text, put_bytes, put_u8, put_u32, put_u64};
-use std::test::Fail;
 
 #[test]
-fn fields_in_turn(rt: HostRuntime) -> Result<(), Fail> {
+fn fields_in_turn(rt: HostRuntime) {
     let mut out = Bytes::new(rt.alloc());
-    put_u8(&mut out, 7)?;
-    put_u32(&mut out, 0x0102_0304)?;
-    put_u64(&mut out, 5)?;
-    put_bytes(&mut out, b"ab")?;
+    put_u8(&mut out, 7).expect(&rt, "refused");
+    put_u32(&mut out, 0x0102_0304).expect(&rt, "refused");
+    put_u64(&mut out, 5).expect(&rt, "refused");
+    put_bytes(&mut out, b"ab").expect(&rt, "refused");
     let mut cursor = Cursor::new(out.as_slice());
     assert_eq!(rt; cursor.take_u8(), Ok(7));
     assert_eq!(rt; cursor.take_u32(), Ok(0x0102_0304));
@@ -26,7 +25,6 @@ fn fields_in_turn(rt: HostRuntime) -> Result<(), Fail> {
             })
     );
     assert_eq!(rt; long.at(), 0);
-    Ok(())
 }
 
 /// Texts, each behind the place where it is refused, or behind 1000.
@@ -40,6 +38,6 @@ const TEXTS: &str = "1000 00000002c3a9
 0 01";
 
 #[test]
-fn texts(rt: HostRuntime) -> Result<(), Fail> {
-    check_places::<Text>(&rt, rt.alloc(), TEXTS)
+fn texts(rt: HostRuntime) {
+    check_places::<Text>(&rt, rt.alloc(), TEXTS);
 }

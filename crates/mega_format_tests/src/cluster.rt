@@ -2,7 +2,7 @@
 use mega_base::{NodeKind, Text};
 use mega_cluster::{Cluster, HeaderFault, read};
 use std::alloc::Global;
-use std::test::Fail;
+use std::process::Abort;
 
 const SCHEMA: &str =
     "schema = \"CREATE SCHEMA S; CREATE TABLE User { required int64 user_id; required string name; } PRIMARY KEY(user_id), ENTITY GROUP ROOT;\"";
@@ -36,7 +36,7 @@ const FAULTS: &str = r#"1 nodes =
 6 ONE & LOOSE & margin = -1"#;
 
 /// The header of these lines.
-fn header(alloc: Global, lines: &str) -> Result<Text, Fail> {
+fn header(rt: &impl Abort, alloc: Global, lines: &str) -> Text {
     let mut text = Text::new(alloc);
     for line in lines.split(" & ") {
         text.push_str(match line {
@@ -45,10 +45,11 @@ fn header(alloc: Global, lines: &str) -> Result<Text, Fail> {
             "ONE" => ONE,
             "THREE" => THREE,
             _ => line,
-        })?;
-        text.push_str("\r\n")?;
+        })
+        .expect(rt, "refused");
+        text.push_str("\r\n").expect(rt, "refused");
     }
-    Ok(text)
+    text
 }
 
 /// The rule that a header breaks, 0 for none.
@@ -60,50 +61,46 @@ fn rule_of(header: Result<Cluster, HeaderFault>) -> u8 {
 }
 
 #[test]
-fn a_header_has_defaults(rt: HostRuntime) -> Result<(), Fail> {
+fn a_header_has_defaults(rt: HostRuntime) {
     let alloc = rt.alloc();
-    let text = header(alloc, "THREE & SCHEMA & addresses = 5")?;
-    let cluster = read(alloc, text.as_bytes(), 3)?;
+    let text = header(&rt, alloc, "THREE & SCHEMA & addresses = 5");
+    let cluster = read(alloc, text.as_bytes(), 3).expect(&rt, "refused");
     let kinds = [NodeKind::Full, NodeKind::Witness, NodeKind::Read];
     assert!(rt; cluster.nodes.as_slice() == kinds.as_slice());
     assert!(rt; cluster.cells == 3 && cluster.lease == 100 && cluster.patience == 1000);
     assert!(rt; cluster.retry == 50 && cluster.margin == 20 && cluster.apply == 64);
     assert!(rt; cluster.limit.0 == 1_000_000 && cluster.addresses.is_empty());
     assert!(rt; cluster.schema.tables.len() == 1);
-    Ok(())
 }
 
 #[test]
-fn a_header_tells_what_it_gives(rt: HostRuntime) -> Result<(), Fail> {
+fn a_header_tells_what_it_gives(rt: HostRuntime) {
     let alloc = rt.alloc();
     let given =
         "ONE & SCHEMA & cells = 1 & lease = 7 & margin = 0 & apply = 1000 & limit = 2 & addresses = [\"a\", \"b\"]";
-    let text = header(alloc, given)?;
-    let cluster = read(alloc, text.as_bytes(), 0)?;
+    let text = header(&rt, alloc, given);
+    let cluster = read(alloc, text.as_bytes(), 0).expect(&rt, "refused");
     assert!(rt; cluster.cells == 1 && cluster.lease == 7 && cluster.margin == 0);
     assert!(rt; cluster.apply == 1000 && cluster.limit.0 == 2 && cluster.addresses.len() == 2);
-    Ok(())
 }
 
 #[test]
-fn each_rule_is_told_in_order(rt: HostRuntime) -> Result<(), Fail> {
+fn each_rule_is_told_in_order(rt: HostRuntime) {
     let alloc = rt.alloc();
     for row in FAULTS.lines() {
-        let (wanted, lines) = row.split_once(' ').ok_or("no rule")?;
-        let text = header(alloc, lines)?;
+        let (wanted, lines) = row.split_once(' ').expect(&rt, "no rule");
+        let text = header(&rt, alloc, lines);
         let rule = rule_of(read(alloc, text.as_bytes(), 0));
-        let rule = format!(in alloc; "{rule}")?;
+        let rule = format!(in alloc; "{rule}").expect(&rt, "refused");
         assert_eq!(rt; rule.as_str(), wanted, "{lines}");
     }
-    Ok(())
 }
 
 #[test]
-fn few_nodes_and_long_texts_are_refused(rt: HostRuntime) -> Result<(), Fail> {
+fn few_nodes_and_long_texts_are_refused(rt: HostRuntime) {
     let alloc = rt.alloc();
-    let text = header(alloc, "ONE & SCHEMA")?;
+    let text = header(&rt, alloc, "ONE & SCHEMA");
     assert_eq!(rt; rule_of(read(alloc, text.as_bytes(), 2)), 3);
-    let long = vec![in alloc; b' '; 262_145]?;
+    let long = vec![in alloc; b' '; 262_145].expect(&rt, "refused");
     assert_eq!(rt; rule_of(read(alloc, long.as_slice(), 0)), 6);
-    Ok(())
 }

@@ -2,7 +2,7 @@
 use mega_base::{Bytes, Epoch, GroupId, Position};
 use mega_coordinator::{Coordinator, Counted, NotValid};
 use std::alloc::Global;
-use std::test::Fail;
+use std::process::Abort;
 
 const LEASE: u64 = 100;
 
@@ -10,14 +10,16 @@ fn epoch(count: u32) -> Epoch {
     Epoch { start: 1, count }
 }
 
-fn group(alloc: Global) -> Result<GroupId, Fail> {
-    let key = Bytes::from_slice(alloc, b"\x01\x80\x00\x00\x00\x00\x00\x00\x65")?;
-    Ok(GroupId { key })
+fn group(rt: &impl Abort, alloc: Global) -> GroupId {
+    let key = Bytes::from_slice(alloc, b"\x01\x80\x00\x00\x00\x00\x00\x00\x65").expect(
+        rt, "refused",
+    );
+    GroupId { key }
 }
 
 #[test]
-fn a_lock_regained_is_in_a_new_epoch(rt: HostRuntime) -> Result<(), Fail> {
-    let group = group(rt.alloc())?;
+fn a_lock_regained_is_in_a_new_epoch(rt: HostRuntime) {
+    let group = group(&rt, rt.alloc());
     let mut node = Coordinator::new(rt.alloc(), 1, 3);
     node.tick(10);
     for (cell, want) in [(1, Counted::Yes), (2, Counted::Serving), (3, Counted::No)] {
@@ -35,17 +37,16 @@ fn a_lock_regained_is_in_a_new_epoch(rt: HostRuntime) -> Result<(), Fail> {
     }
     assert_eq!(rt; node.state(), Some(epoch(1)));
     assert!(rt; !node.is_valid(&group));
-    Ok(())
 }
 
 #[test]
-fn validates_are_refused_in_order(rt: HostRuntime) -> Result<(), Fail> {
-    let group = group(rt.alloc())?;
+fn validates_are_refused_in_order(rt: HostRuntime) {
+    let group = group(&rt, rt.alloc());
     let mut node = Coordinator::new(rt.alloc(), 1, 1);
     let early = node.validate(&group, Position(5), epoch(0));
     assert_eq!(rt; early, Err(NotValid::NotServing));
     node.granted(1, epoch(0), LEASE, 0);
-    node.invalidate(&group, Position(5))?;
+    node.invalidate(&group, Position(5)).expect(&rt, "refused");
     let position = Position(5);
     let now = epoch(0);
     for (p, begun, want) in [
@@ -56,7 +57,6 @@ fn validates_are_refused_in_order(rt: HostRuntime) -> Result<(), Fail> {
         let made = node.validate(&group, Position(p), begun);
         assert_eq!(rt; made, want, "at {p}");
     }
-    Ok(())
 }
 
 #[test]

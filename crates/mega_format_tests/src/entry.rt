@@ -3,7 +3,6 @@
 use crate::changes::check_changes;
 use mega_base::{Copied, Same};
 use mega_entry::{Entry, decode};
-use std::test::Fail;
 
 /// A no-op, a put of one row, an entry with a row of several kinds, a send, an enter and a handle, and a
 /// batch of two; before each the sum, over its bytes and three changes of each, of the offsets of
@@ -14,23 +13,26 @@ const ENTRIES: &str = "1917 01000900000000000000000000000000000000
 82243 02010100000001000000010300000002000000010100000000010100000000010000000901800000000000006500000003c3a96300000001ff000000000000000000000002000000000100000000020000000100000001";
 
 #[test]
-fn changed_entries(rt: HostRuntime) -> Result<(), Fail> {
-    check_changes::<Entry>(&rt, rt.alloc(), ENTRIES)
+fn changed_entries(rt: HostRuntime) {
+    check_changes::<Entry>(&rt, rt.alloc(), ENTRIES);
 }
 
 #[test]
-fn copies_are_equal(rt: HostRuntime) -> Result<(), Fail> {
+fn copies_are_equal(rt: HostRuntime) {
     let alloc = rt.alloc();
     let empty = decode(
         alloc,
         &[1, 0, 9, 0, 0, 0, 0, 0, 0, 0, 0, 0, 0, 0, 0, 0, 0, 0, 0],
-    )?;
+    )
+    .expect(&rt, "refused");
     for row in ENTRIES.lines() {
-        let (_, text) = row.split_once(' ').ok_or("no sum")?;
-        let bytes = hex::decode(alloc, text)?;
-        let entry = decode(alloc, bytes.as_slice())?;
-        assert!(rt; entry.copy(alloc)?.same_as(&entry), "{text}");
+        let (_, text) = row.split_once(' ').expect(&rt, "no sum");
+        let bytes = hex::decode(alloc, text).expect(&rt, "refused");
+        let entry = decode(alloc, bytes.as_slice()).expect(&rt, "refused");
+        assert!(rt;
+            entry.copy(alloc).expect(&rt, "refused").same_as(&entry),
+            "{text}"
+        );
         assert_eq!(rt; empty.same_as(&entry), bytes.len() == 19, "{text}");
     }
-    Ok(())
 }

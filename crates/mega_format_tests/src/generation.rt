@@ -2,7 +2,6 @@
 use mega_gen::generate;
 use mega_io::{MemSink, SinkError};
 use std::alloc::Global;
-use std::test::Fail;
 
 /// A hash of bytes, by which a long text is told.
 fn hash(bytes: &[u8]) -> u64 {
@@ -14,7 +13,7 @@ fn hash(bytes: &[u8]) -> u64 {
 }
 
 #[test]
-fn texts_are_those_of_the_definition(rt: HostRuntime) -> Result<(), Fail> {
+fn texts_are_those_of_the_definition(rt: HostRuntime) {
     let alloc = rt.alloc();
     for (nodes, length, wanted) in [
         (1u8, 6283usize, 11_611_511_675_008_445_046u64),
@@ -28,19 +27,17 @@ fn texts_are_those_of_the_definition(rt: HostRuntime) -> Result<(), Fail> {
         assert_eq!(rt; sink.bytes().len(), length);
         assert_eq!(rt; hash(sink.bytes()), wanted);
     }
-    Ok(())
 }
 
 #[test]
-fn a_text_ends_anywhere(rt: HostRuntime) -> Result<(), Fail> {
+fn a_text_ends_anywhere(rt: HostRuntime) {
     let alloc = rt.alloc();
     let mut sink = MemSink::new(alloc, Vec::new(alloc));
     assert!(rt; generate(alloc, 7, 3, 2, &mut sink).is_ok());
     assert!(rt; sink.bytes() == TEXT.as_bytes());
-    let mut failing = MemSink::new(alloc, vec![in alloc; 2]?);
+    let mut failing = MemSink::new(alloc, vec![in alloc; 2].expect(&rt, "refused"));
     let done = generate(alloc, 7, 3, 2, &mut failing);
     assert!(rt; matches!(done, Err(SinkError::Failed)));
-    Ok(())
 }
 
 const TEXT: &str = "nodes = [\"full\", \"full\"]

@@ -3,7 +3,6 @@ use mega_base::{Kind, Text};
 use mega_schema::{SchemaFault, parse};
 use std::alloc::Global;
 use std::process::Abort;
-use std::test::Fail;
 
 const PHOTO_APP: &str = "CREATE SCHEMA PhotoApp;
 CREATE TABLE User {
@@ -31,9 +30,13 @@ const CHILD: &str =
     "CREATE SCHEMA S; CREATE TABLE U { required int64 a; } PRIMARY KEY(a), ENTITY GROUP ROOT; CREATE TABLE C { required int64 a; } PRIMARY KEY(a), ENTITY GROUP KEY(a) REFERENCES U; ";
 
 #[test]
-fn photos_are_declared(rt: HostRuntime) -> Result<(), Fail> {
+fn photos_are_declared(rt: HostRuntime) {
     let alloc = rt.alloc();
-    let schema = parse(alloc, &Text::from_str(alloc, PHOTO_APP)?)?;
+    let schema = parse(
+        alloc,
+        &Text::from_str(alloc, PHOTO_APP).expect(&rt, "refused"),
+    )
+    .expect(&rt, "refused");
     assert!(rt; schema.name.as_str() == "PhotoApp");
     assert_eq!(rt; schema.tables.len(), 2);
     assert_eq!(rt; schema.indexes.len(), 2);
@@ -45,11 +48,10 @@ fn photos_are_declared(rt: HostRuntime) -> Result<(), Fail> {
     assert!(rt; by_tag.global && by_tag.table == 2);
     assert!(rt; by_tag.indexed.as_slice() == [6].as_slice());
     assert!(rt; by_tag.storing.as_slice() == [5].as_slice());
-    let shape = schema.shape(alloc, 2)?;
+    let shape = schema.shape(alloc, 2).expect(&rt, "refused");
     assert!(rt; shape.space == 1 && shape.root == 1 && shape.table == 2);
     assert!(rt; shape.root_kinds.as_slice() == [Kind::Int64].as_slice());
     assert!(rt; shape.rest_kinds.as_slice() == [Kind::Int32].as_slice());
-    Ok(())
 }
 
 /// The rule that a text breaks at this place; 0 for none, 100 for a token that cannot stand there.
@@ -63,15 +65,14 @@ fn rule_at(alloc: Global, text: &Text, place: u64) -> u8 {
 }
 
 /// Asserts of each row, which is a rule and a statement, that the statement breaks the rule.
-fn check(rt: &impl Abort, alloc: Global, before: &str, rows: &str) -> Result<(), Fail> {
+fn check(rt: &impl Abort, alloc: Global, before: &str, rows: &str) {
     for row in rows.lines() {
-        let (wanted, last) = row.split_once(' ').ok_or("no rule")?;
-        let text = Text::from_string(format!(in alloc; "{before}{last}")?);
+        let (wanted, last) = row.split_once(' ').expect(rt, "no rule");
+        let text = Text::from_string(format!(in alloc; "{before}{last}").expect(rt, "refused"));
         let rule = rule_at(alloc, &text, before.len() as u64);
-        let rule = format!(in alloc; "{rule}")?;
+        let rule = format!(in alloc; "{rule}").expect(rt, "refused");
         assert_eq!(rt; rule.as_str(), wanted, "{last}");
     }
-    Ok(())
 }
 
 /// Statements that break a rule on their own.
@@ -100,31 +101,33 @@ const NAME: &str =
     "12 CREATE SCHEMA aaaaaaaaaabbbbbbbbbbccccccccccddddddddddeeeeeeeeeeffffffffffggggg;";
 
 #[test]
-fn rules_of_a_first_statement_are_told(rt: HostRuntime) -> Result<(), Fail> {
-    check(&rt, rt.alloc(), "", NAME)?;
-    check(&rt, rt.alloc(), "CREATE SCHEMA S; ", FIRST)
+fn rules_of_a_first_statement_are_told(rt: HostRuntime) {
+    check(&rt, rt.alloc(), "", NAME);
+    check(&rt, rt.alloc(), "CREATE SCHEMA S; ", FIRST);
 }
 
 #[test]
-fn rules_of_a_later_statement_are_told(rt: HostRuntime) -> Result<(), Fail> {
-    check(&rt, rt.alloc(), CHILD, AFTER_CHILD)?;
-    check(&rt, rt.alloc(), USER, AFTER_USER)
+fn rules_of_a_later_statement_are_told(rt: HostRuntime) {
+    check(&rt, rt.alloc(), CHILD, AFTER_CHILD);
+    check(&rt, rt.alloc(), USER, AFTER_USER);
 }
 
 #[test]
-fn too_many_properties(rt: HostRuntime) -> Result<(), Fail> {
+fn too_many_properties(rt: HostRuntime) {
     let alloc = rt.alloc();
-    let mut text = Text::from_str(alloc, "CREATE SCHEMA S; CREATE TABLE A { ")?;
+    let mut text = Text::from_str(alloc, "CREATE SCHEMA S; CREATE TABLE A { ").expect(
+        &rt, "refused",
+    );
     for number in 0..65u8 {
-        let property = format!(in alloc; "required int64 p{number}; ")?;
-        text.push_str(property.as_str())?;
+        let property = format!(in alloc; "required int64 p{number}; ").expect(&rt, "refused");
+        text.push_str(property.as_str()).expect(&rt, "refused");
     }
-    text.push_str("} PRIMARY KEY(p0), ENTITY GROUP ROOT;")?;
+    text.push_str("} PRIMARY KEY(p0), ENTITY GROUP ROOT;")
+        .expect(&rt, "refused");
     assert!(rt;
         matches!(
             parse(alloc, &text),
             Err(SchemaFault::Rule { at: 17, rule: 11 })
         )
     );
-    Ok(())
 }

@@ -1,6 +1,5 @@
 //! Texts with a token that cannot stand where it stands, and a text that is read.
 use mega_syntax::{Statement, SyntaxFault, offset, read};
-use std::test::Fail;
 
 /// Texts, each with a mark before its first bad token.
 const FAULTS: &str = "#
@@ -27,25 +26,24 @@ CREATE SCHEMA S; ALTER TABLE A #{ }
 CREATE SCHEMA S; #%";
 
 #[test]
-fn syntax_errors_have_their_places(rt: HostRuntime) -> Result<(), Fail> {
+fn syntax_errors_have_their_places(rt: HostRuntime) {
     let alloc = rt.alloc();
     for row in FAULTS.lines() {
-        let (front, back) = row.split_once('#').ok_or("no mark")?;
-        let text = format!(in alloc; "{front}{back}")?;
+        let (front, back) = row.split_once('#').expect(&rt, "no mark");
+        let text = format!(in alloc; "{front}{back}").expect(&rt, "refused");
         let at = match read(alloc, text.as_bytes()) {
             Err(SyntaxFault::Token { at }) => Some(at),
             _ => None,
         };
         assert_eq!(rt; at, Some(front.len() as u64), "{row}");
     }
-    Ok(())
 }
 
 #[test]
-fn statements_are_read(rt: HostRuntime) -> Result<(), Fail> {
+fn statements_are_read(rt: HostRuntime) {
     let alloc = rt.alloc();
     let text = "CREATE SCHEMA S; ALTER TABLE A ADD { repeated bytes x; };";
-    let found = read(alloc, text.as_bytes())?;
+    let found = read(alloc, text.as_bytes()).expect(&rt, "refused");
     assert!(rt; found.words.name.is(b"S"));
     assert_eq!(rt; found.tokens.len(), 15);
     assert_eq!(rt; found.words.statements.len(), 1);
@@ -56,5 +54,4 @@ fn statements_are_read(rt: HostRuntime) -> Result<(), Fail> {
         17
     );
     assert!(rt; matches!(&placed.statement, Statement::Change(change) if change.table.is(b"A")));
-    Ok(())
 }

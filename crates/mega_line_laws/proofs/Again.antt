@@ -33,7 +33,7 @@ number_sound (negative (negsuc n)) whole plain = whole
 number_sound (float x) whole plain = absurd (cc)
 
 mutual
-  sound : (n : ℕ) (d : Data) → IsWhole d → depth d ≤ n → has_float d ≡ false → IsSound n d
+  pub sound : (n : ℕ) (d : Data) → IsWhole d → depth d ≤ n → has_float d ≡ false → IsSound n d
   sound n null whole deep plain = tt
   sound n (boolean b) whole deep plain = tt
   sound n (number x) whole deep plain = number_sound x whole plain
@@ -74,7 +74,7 @@ text_again d s is_one = go (is_utf8 (compact_text d)) (read_json (compact_text d
     go false o e = absurd (cc)
 
 -- an operation begins with the compact text of its line's object
-begun_text : (schema : Schema) (form : Form) (d : Data) (node : NodeId) (request : Request) (text : List ℕ) → event_in schema form d ≡ Begin node request text → compact_text d ≡ text
+pub begun_text : (schema : Schema) (form : Form) (d : Data) (node : NodeId) (request : Request) (text : List ℕ) → event_in schema form d ≡ Begin node request text → compact_text d ≡ text
 begun_text schema forms.Txn d node request text e = cc
 begun_text schema forms.Batch d node request text e = cc
 begun_text schema forms.Read d node request text e = cc

@@ -3,3 +3,4 @@ pub mod Typed
 pub mod Again
 pub mod Asking
 pub mod Starting
+pub mod Texts

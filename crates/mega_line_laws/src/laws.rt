@@ -10,6 +10,7 @@ ghost use Rattle.mega_outcome.specs.declared.request.Request.{Request};
 ghost use Rattle.mega_schedule.specs.Events.{event_of};
 ghost use Rattle.mega_schedule.specs.declared.world_event.WorldEvent.TheVariants.{Begin, Tick};
 ghost use Rattle.mega_schema.specs.declared.schema.Schema.{Schema as Tables};
+ghost use Rattle.mega_transcript.specs.Requests.{IsRequest as IsText};
 ghost use Rattle.mega_line_laws.specs.Clusters.{CanStart};
 ghost use Rattle.mega_line_laws.specs.Meanings.{meaning_in};
 
@@ -22,6 +23,11 @@ pub fn lines_ask_for_what_is_of_the_format()
 /// The text with which an operation begins means its request: read again, it asks for the same.
 pub fn texts_mean_their_requests()
     ensures { (schema : Tables) (number : ℕ) (line : List ℕ) (node : Node) (request : Request) (text : List ℕ) → event_of schema number line ≡ Ok (Begin node request text) → meaning_in schema text ≡ Some request }
+{}
+
+/// That text is the compact text of an object, as a line of a transcript shows it.
+pub fn begins_have_compact_texts()
+    ensures { (schema : Tables) (number : ℕ) (line : List ℕ) (node : Node) (request : Request) (text : List ℕ) → event_of schema number line ≡ Ok (Begin node request text) → IsText text }
 {}
 
 /// What any text means keeps what its types say: numbers are in their ranges, and texts are of UTF-8.

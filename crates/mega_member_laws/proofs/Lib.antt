@@ -6,3 +6,4 @@ pub mod Replies
 pub mod Acting
 pub mod Steps
 pub mod Headers
+pub use Rattle.mega_format_laws.proofs as of_format_laws

@@ -62,6 +62,23 @@ pub fn alone(alloc: Global, header: &str, first: Mail, rounds: u64) -> Result<Ca
     called(alloc, 1, header, &mail)
 }
 
+/// Puts the record of a node, called with all that came to it, behind its title.
+fn put_record(
+    alloc: Global,
+    records: &mut Bytes,
+    title: &[u8],
+    number: u8,
+    mail: &[Option<(Peer, Bytes)>],
+) -> Result<(), Fail>
+    requires least { 1 ≤ number }
+    requires most { number ≤ 9 }
+{
+    records.extend_from_slice(title)?;
+    let made = called(alloc, number, samples::FULL, mail)?;
+    records.extend_from_slice(made.text.as_slice())?;
+    Ok(())
+}
+
 impl Talk {
     /// What these datagrams begin, which come to node 1.
     pub fn begun(alloc: Global, first: Mail) -> Talk {
@@ -87,29 +104,44 @@ impl Talk {
         Ok(sent.len())
     }
 
+    /// Hands on what the three nodes sent, each behind so many datagrams, and tells how many each sent.
+    fn pass_all(
+        &mut self,
+        alloc: Global,
+        one: &Called,
+        two: &Called,
+        three: &Called,
+        seen: (usize, usize, usize),
+    ) -> Result<(usize, usize, usize), Fail> {
+        let first = self.pass(alloc, one, 1, seen.0)?;
+        let second = self.pass(alloc, two, 2, seen.1)?;
+        let third = self.pass(alloc, three, 3, seen.2)?;
+        Ok((first, second, third))
+    }
+
+    /// Calls each node with all that came to it before, and hands on what it sent behind so many datagrams.
+    fn go_on(
+        &mut self,
+        alloc: Global,
+        seen: (usize, usize, usize),
+    ) -> Result<(usize, usize, usize), Fail> {
+        let one = called(alloc, 1, samples::FULL, &self.one)?;
+        let two = called(alloc, 2, samples::FULL, &self.two)?;
+        let three = called(alloc, 3, samples::FULL, &self.three)?;
+        self.pass_all(alloc, &one, &two, &three, seen)
+    }
+
     /// The records of the three nodes, once each was called so often with all that came to it before: what it did before it does again, and goes on.
     pub fn records(self, alloc: Global, rounds: u64) -> Result<Bytes, Fail> {
         let mut talk = self;
         let mut seen = (0, 0, 0);
         for _ in 0..rounds {
-            let one = called(alloc, 1, samples::FULL, &talk.one)?;
-            let two = called(alloc, 2, samples::FULL, &talk.two)?;
-            let three = called(alloc, 3, samples::FULL, &talk.three)?;
-            seen.0 = talk.pass(alloc, &one, 1, seen.0)?;
-            seen.1 = talk.pass(alloc, &two, 2, seen.1)?;
-            seen.2 = talk.pass(alloc, &three, 3, seen.2)?;
+            seen = talk.go_on(alloc, seen)?;
         }
         let mut records = Bytes::new(alloc);
-        records.extend_from_slice(b"record 1\n")?;
-        records.extend_from_slice(called(alloc, 1, samples::FULL, &talk.one)?.text.as_slice())?;
-        records.extend_from_slice(b"record 2\n")?;
-        records.extend_from_slice(called(alloc, 2, samples::FULL, &talk.two)?.text.as_slice())?;
-        records.extend_from_slice(b"record 3\n")?;
-        records.extend_from_slice(
-            called(alloc, 3, samples::FULL, &talk.three)?
-                .text
-                .as_slice(),
-        )?;
+        put_record(alloc, &mut records, b"record 1\n", 1, &talk.one)?;
+        put_record(alloc, &mut records, b"record 2\n", 2, &talk.two)?;
+        put_record(alloc, &mut records, b"record 3\n", 3, &talk.three)?;
         Ok(records)
     }
 }

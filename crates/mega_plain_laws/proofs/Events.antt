@@ -22,7 +22,7 @@ use Rattle.mega_format_laws.specs.Histories.{IsCluster}
 use Rattle.mega_format_laws.specs.Requests.{AreHandlers}
 use Rattle.mega_format_laws.specs.Rounds.{Each}
 use Rattle.mega_plain_laws.specs.Formed.{AreFormed, IsAsked, IsSpelled}
-use Rattle.mega_plain_laws.specs.Held.{HoldsItem}
+use Rattle.mega_held.specs.Held.{HoldsItem}
 use Rattle.mega_plain_laws.proofs.Showing.{message_formed}
 use Rattle.mega_plain_laws.proofs.Forming.{Formed, at_back, at_formed, crash_reached, start_reached}
 

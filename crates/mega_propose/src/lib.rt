@@ -16,6 +16,6 @@ mod votes;
 
 pub use due::is_due;
 pub use mega_wire;
-pub use members::{has, is_majority, joined, others, with_node, without};
+pub use members::{greatest_top, has, is_majority, joined, others, with_node, without};
 pub use round::{Cover, Free, Move, Proposal, Report, Round, Site};
 pub use same::{is_same_group, is_same_op};

@@ -1,5 +1,5 @@
-//! Lists of nodes: membership, union, difference and majority.
-ghost use Rattle.std.specs.Prelude.{◌≡◌, IfOk};
+//! Lists of nodes: membership, union, difference and majority, and the greatest position that they tell.
+ghost use Rattle.std.specs.Prelude.{◌≡◌, max, IfOk};
 ghost use Rattle.mega_propose.specs.Members.{has, is_majority, joined, others, with_node, without};
 
 use mega_base::{Items, NoMemory};
@@ -63,4 +63,11 @@ pub fn is_majority(members: usize, count: usize) -> bool
     ensures { result ≡ is_majority members count }
 {
     members / 2 < count
+}
+
+/// The greatest top position that nodes told, with what one more tells.
+pub fn greatest_top(best: u64, top: u64) -> u64
+    ensures { result ≡ max best top }
+{
+    best.max(top)
 }

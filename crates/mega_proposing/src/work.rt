@@ -109,9 +109,16 @@ impl Work {
         ensures { OnOk result ((now : Now) → self.old ≡ work_of now → self.new ≡ work_of (does now deed)) }
     {
         let Deed { sends, end } = deed;
-        self.says(sends)?;
-        self.ends(end)?;
-        Ok(())
+        match self.says(sends) {
+            Ok(()) => {
+                self.ends(end)?;
+                Ok(())
+            }
+            Err(refused) => {
+                drop(end);
+                Err(refused)
+            }
+        }
     }
 
     /// Adds that a group was made valid where its read completed, if it was.

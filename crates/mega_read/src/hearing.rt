@@ -10,7 +10,7 @@ use crate::kept::Kept;
 use crate::reading::{Move, Reader, Reading, Search, Stage};
 use mega_base::{GroupId, Items, NoMemory, OpId};
 use mega_propose::mega_wire::Body;
-use mega_propose::{has, is_majority, is_same_group, is_same_op};
+use mega_propose::{greatest_top, has, is_majority, is_same_group, is_same_op};
 use std::alloc::Global;
 
 impl Reader {
@@ -45,7 +45,7 @@ impl Reader {
         if has(from, heard.as_slice()) || !has(from, self.voters.as_slice()) {
             return Ok(kept.at(Stage::Polling { heard, best, sent }, Items::new(alloc)));
         }
-        let best = best.max(top);
+        let best = greatest_top(best, top);
         let mut heard = heard;
         heard.push(from)?;
         if is_majority(self.voters.len(), heard.len()) {

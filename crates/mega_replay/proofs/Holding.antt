@@ -10,10 +10,10 @@ use Rattle.mega_outcome.specs.declared.request.Request.TheVariants.{Txn, Batch, 
 use Rattle.mega_outcome.specs.declared.transaction.Change.{Change}
 use Rattle.mega_outcome.specs.declared.transaction.Change.TheVariants.{Put, Delete, Add}
 use Rattle.mega_outcome.specs.declared.transaction.Transaction.{Transaction}
-use Rattle.mega_format_laws.specs.Rounds.{Each}
-use Rattle.mega_format_laws.specs.Requests.{IsChange, IsGiven, IsSpelled, IsTyped, IsTypedRequest}
-use Rattle.mega_tape_laws.specs.Indexed.{AllPutValues, AsksValues, HoldValues, PutValues, PutsValues}
-use Rattle.mega_run_laws.specs.Usages.{MeansValues}
+use Rattle.mega_shown_laws.specs.of_format_laws.Rounds.{Each}
+use Rattle.mega_shown_laws.specs.of_format_laws.Requests.{IsChange, IsGiven, IsSpelled, IsTyped, IsTypedRequest}
+use Rattle.mega_shown_laws.specs.of_tape_laws.Indexed.{AllPutValues, AsksValues, HoldValues, PutValues, PutsValues}
+use Rattle.mega_shown_laws.specs.of_run_laws.Usages.{MeansValues}
 use Rattle.mega_line_laws.specs.Meanings.{meaning_in}
 use Rattle.mega_line_laws.proofs.Asking.{meant_typed}
 

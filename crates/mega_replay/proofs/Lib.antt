@@ -7,6 +7,7 @@ pub mod Holding
 pub mod Inputs
 pub mod NodeHandlers
 pub mod NodeStops
+pub mod Plain
 pub mod Progress
 pub mod Running
 pub mod Said

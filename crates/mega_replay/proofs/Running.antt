@@ -3,9 +3,9 @@ use Rattle.std.proofs.Common.{◌≡◌, ◌≤◌, ◌⊎◌, inl, inr, ℕ, ze
 use Rattle.std.proofs.lemmas.List.Sums.{fold-append}
 use Rattle.mega_cluster.specs.declared.cluster.Cluster.{Cluster}
 use Rattle.mega_handler.specs.Named.{Meaning, Meanings}
-use Rattle.mega_meanings.specs.BuiltIn.{built_in, key_property}
+use Rattle.mega_meanings.specs.BuiltIn.{built_in}
 use Rattle.mega_meanings.specs.Means.{Means}
-use Rattle.mega_format_laws.proofs.Brought.{copy_formed, credit_formed}
+use Rattle.std.specs.List.{All}
 use Rattle.mega_schedule.specs.declared.world_event.WorldEvent.{WorldEvent}
 use Rattle.mega_schedule.specs.declared.world_event.WorldEvent.TheVariants.{Tick, Deliver, Drop, Drain, Crash, Start, Fuse, Begin}
 use Rattle.mega_schedule.specs.Events.{event_of}
@@ -13,24 +13,25 @@ use Rattle.mega_wire.specs.declared.message.Message.{Message}
 use Rattle.mega_transcript.specs.declared.item.Item.{Item}
 use Rattle.mega_transcript.specs.Tape.{onto}
 use Rattle.mega_rules.specs.Steps.{Begin as BeginStep, Take, Tick as TickStep}
-use Rattle.mega_promises.specs.Messages.{message_of, next_delivery}
-use Rattle.mega_promises.specs.Runs.{Happening, IsRun, Standing, after_event, by_fuse, delivered, goes_on, opening, refusal, unless_refused, up}
+use Rattle.mega_shown_laws.specs.of_promises.Messages.{message_of, next_delivery}
+use Rattle.mega_shown_laws.specs.of_promises.Runs.{Happening, IsRun, Standing, after_event, by_fuse, delivered, goes_on, opening, refusal, unless_refused, up}
 use Rattle.mega_world.specs.declared.world.World.{World}
 use Rattle.mega_world.specs.Formed.{IfNext, IsAsked, IsSound, Owns, OwnsDelivered, OwnsDrained, OwnsStep, OwnsTaken}
 use Rattle.mega_world.specs.Stands.{IsAt}
-use Rattle.mega_tape_laws.specs.Indexed.{IsDeclared}
-use Rattle.mega_tape_laws.proofs.Agreement.{agreement}
-use Rattle.mega_tape_laws.proofs.Answered.{serial}
-use Rattle.mega_tape_laws.proofs.IndexLogs.{indexed, rows_fit}
-use Rattle.mega_tape_laws.proofs.Sending.{messages}
+use Rattle.mega_shown_laws.specs.of_tape_laws.Indexed.{IsDeclared}
+use Rattle.mega_shown_laws.proofs.of_tape_laws.Agreement.{agreement}
+use Rattle.mega_shown_laws.proofs.of_tape_laws.Answered.{serial}
+use Rattle.mega_shown_laws.proofs.of_tape_laws.IndexLogs.{indexed, rows_fit}
+use Rattle.mega_shown_laws.proofs.of_tape_laws.Sending.{messages}
 use Rattle.mega_fresh_laws.proofs.Fresh.{run_is_fresh}
 use Rattle.mega_settled_laws.proofs.Answering.{run_settled}
-use Rattle.mega_run_laws.specs.Usages.{Fits, FitsOne, IsMeant}
-use Rattle.mega_run_laws.proofs.Events.{each_append}
-use Rattle.mega_run_laws.proofs.Indexing.{asks_values}
-use Rattle.mega_run_laws.proofs.Runs.{run_answered, run_lawful, run_written}
-use Rattle.mega_row_laws.proofs.Draining.{next_allowed}
-use Rattle.mega_row_laws.proofs.Steps.{begin_owns, take_owns, tick_owns}
+use Rattle.mega_shown_laws.specs.of_run_laws.Usages.{Fits, FitsOne, IsMeant}
+use Rattle.mega_shown_laws.proofs.of_run_laws.Events.{each_append}
+use Rattle.mega_shown_laws.proofs.of_run_laws.Indexing.{asks_values}
+use Rattle.mega_shown_laws.proofs.of_run_laws.Runs.{run_answered, run_lawful, run_written}
+use Rattle.mega_shown_laws.proofs.of_row_laws.Draining.{next_allowed}
+use Rattle.mega_shown_laws.proofs.of_row_laws.Steps.{begin_owns, take_owns, tick_owns}
+use Rattle.mega_held.specs.Held.{HoldsItem}
 use Rattle.mega_line_laws.proofs.Asking.{clock_asked, request_asked}
 use Rattle.mega_line_laws.proofs.Again.{means}
 use Rattle.mega_line_laws.specs.Clusters.{CanStart}
@@ -39,10 +40,11 @@ use Rattle.mega_fresh_laws.proofs.of_leased_laws.Tops.{run_fresh}
 use Rattle.mega_line_laws.specs.Meanings.{meaning_in}
 use Rattle.mega_replay.specs.Meanings.{usage}
 use Rattle.mega_replay.specs.Running.{AllHappen, AllReadAll, Happens, ReadsAll, Replayed, Went, in_turn, stood}
-use Rattle.mega_promises.specs.Calm.{IsCalmComplete}
+use Rattle.mega_shown_laws.specs.of_promises.Calm.{IsCalmComplete}
 use Rattle.mega_calm_laws.proofs.Complete.{run_is_calm_complete}
 use Rattle.mega_replay.proofs.Caused.{run_caused}
 use Rattle.mega_replay.proofs.Holding.{means_values}
+use Rattle.mega_replay.proofs.Plain.{built_formed, each_plain, told_by}
 use Rattle.mega_replay.proofs.Starts.{declared_of}
 
 -- the run over events, the newest first, is that over the events in order
@@ -92,14 +94,15 @@ calm_complete : (c : Cluster) (events : List Happening) → CanStart c → Fits 
 calm_complete c events can fits =
     subst (IsCalmComplete c built_in by_fuse) (turned c events []) (run_is_calm_complete c (usage c.schema) by_fuse built_in built_in (in_turn events []) can.few (cells_few c.cells can.cells) can.housed fits)
 
-pub replayed : (c : Cluster) (lines : List (List ℕ)) (events : List Happening) → CanStart c → AllHappen c lines events → Replayed c lines events
-replayed c lines events can happen =
+pub replayed : (c : Cluster) (lines : List (List ℕ)) (events : List Happening) → CanStart c → AllHappen c lines events → All HoldsItem (stood c events).tape → Replayed c lines events
+replayed c lines events can happen held =
     let declared = declared_of c can in
     let run = is_run c events in
     let fits = fits_turned c lines events [] happen tt in
     let tape = (stood c events).tape in
     let writes = run_written c (usage c.schema) built_in (in_turn events []) tape run fits in
     let values = asks_values (meaning_in c.schema) (means_values c.schema) tape in
+    let plain = each_plain c lines events can (record { nodes = can.few; cells = cells_few c.cells can.cells; limit = can.limit }) declared happen fits tape run held in
     record {
       happen = happen;
       run = run;
@@ -115,6 +118,8 @@ replayed c lines events can happen =
       settled = run_settled c (usage c.schema) built_in (in_turn events []) tape run fits;
       leased = run_leased c built_in (in_turn events []) tape can.few run;
       complete = calm_complete c events can fits;
+      plain = plain;
+      told = told_by c.schema tape plain;
     }
 
 -- what an event leads to, where it is not refused
@@ -189,16 +194,18 @@ pub sound : {makes : List ℕ → Option Meaning} (c : Cluster) (lines : List (L
 sound c lines events number line event can happen spelled allowed means =
     let first : FitsOne (usage c.schema) (record { handlers = built_in; event = event }) = record { brought = record { moment = []; is = refl }; meant = meant c number line event spelled } in record {
       means = means;
-      handlers = (credit_formed key_property, (copy_formed, tt));
+      handlers = built_formed;
       asked = asked c number line event spelled;
       own = owns c (declared_of c can) (in_turn events []) (stood c events) event (fits_turned c lines events [] happen tt) first (turned c events []) allowed;
     }
 
 pub went : (c : Cluster) (number : ℕ) (line : List ℕ) (events : List Happening) (event : WorldEvent) (world : World) (added : List Item) → event_of c.schema number line ≡ Ok event → refusal c (stood c events) event ≡ None
-    → IsAt c world (after_event c built_in by_fuse (stood c events) event) → (after_event c built_in by_fuse (stood c events) event).tape ≡ onto added (stood c events).tape → Went c number line events world added
-went c number line events event world added spelled allowed here adds = record {
+    → IsAt c world (after_event c built_in by_fuse (stood c events) event) → (after_event c built_in by_fuse (stood c events) event).tape ≡ onto added (stood c events).tape → All HoldsItem added
+    → Went c number line events world added
+went c number line events event world added spelled allowed here adds held = record {
   one = record { handlers = built_in; event = event };
   happens = record { spelled = spelled; handled = refl; allowed = allowed };
   here = subst (λ (now : Standing). IsAt c world now) (sym (went_on c events built_in event allowed)) here;
   adds = ap (λ (now : Standing). now.tape) (went_on c events built_in event allowed) ∙ adds;
+  held = held;
 }

@@ -4,7 +4,7 @@ use Rattle.std.specs.Io.KnownBytes.{Appends}
 use Rattle.mega_cluster.specs.declared.cluster.Cluster.{Cluster}
 use Rattle.mega_io.specs.Pieces.{AppendsFront}
 use Rattle.mega_words.specs.declared.command.Report.{Report}
-use Rattle.mega_promises.specs.Runs.{Standing}
+use Rattle.mega_shown_laws.specs.of_promises.Runs.{Standing}
 use Rattle.mega_schedule.specs.Events.{event_of}
 use Rattle.mega_replay.specs.LastLines.{header_line, schedule_line, limit_line, refused_line}
 use Rattle.mega_heading.specs.Parts.{lines_behind}

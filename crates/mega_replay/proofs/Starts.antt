@@ -1,7 +1,7 @@
 -- What is known of a cluster that was read from a header.
 use Rattle.mega_cluster.specs.declared.cluster.Cluster.{Cluster}
-use Rattle.mega_tape_laws.specs.Indexed.{IsDeclared}
-use Rattle.mega_tape_laws.proofs.Declared.{parsed_declared}
+use Rattle.mega_shown_laws.specs.of_tape_laws.Indexed.{IsDeclared}
+use Rattle.mega_shown_laws.proofs.of_tape_laws.Declared.{parsed_declared}
 use Rattle.mega_line_laws.specs.Clusters.{CanStart}
 use Rattle.mega_line_laws.proofs.Starting.{can_start}
 use Rattle.mega_view.specs.Small.{IsSmall}

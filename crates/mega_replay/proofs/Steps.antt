@@ -1,6 +1,7 @@
 -- How the lines of a schedule are done one after another.
 use Rattle.std.proofs.Common.{◌≡◌, ℕ, ◌+◌, ◌≤◌, ◌<◌, cond, Bool, true, false, Option, Some, None, Err, ◌⊎◌, List, [], ◌∷◌, ◌++◌, length, refl, sym, ◌∙◌, ap, subst, append_assoc, append-nil, inl, inr, arith}
 use Rattle.std.specs.Prelude.{nat_lt, if◌then◌else◌}
+use Rattle.std.specs.List.{All}
 use Rattle.std.proofs.lemmas.Bool.Decides.{nat_tests}
 use Rattle.mega_cluster.specs.declared.cluster.Cluster.{Cluster}
 use Rattle.mega_io.specs.TextLines.{BreaksOff, IsUnbroken, ended_lines, lines_of}
@@ -10,7 +11,7 @@ use Rattle.mega_schedule.specs.Events.{event_of}
 use Rattle.mega_tally.specs.declared.tally.Tally.{Tally}
 use Rattle.mega_transcript.specs.declared.item.Item.{Item}
 use Rattle.mega_transcript.specs.Tape.{newest}
-use Rattle.mega_promises.specs.Runs.{Happening, Standing}
+use Rattle.mega_shown_laws.specs.of_promises.Runs.{Happening, Standing}
 use Rattle.mega_line_laws.specs.Clusters.{CanStart}
 use Rattle.mega_world.specs.declared.world.World.{World}
 use Rattle.mega_heading.specs.Known.{Ends, Follows, Passes, TakesLine}
@@ -22,6 +23,8 @@ use Rattle.mega_replay.specs.Stops.{IsBeforeWriting}
 use Rattle.mega_replay.specs.declared.status.Stop.{Stop}
 use Rattle.mega_replay.specs.Texts.{IsTallied, at_end, in_all, so_far}
 use Rattle.mega_heading.proofs.Inputs.{both_none, ended_none}
+use Rattle.mega_held.specs.Held.{HoldsItem}
+use Rattle.mega_replay.proofs.Plain.{all_onto, opening_held}
 use Rattle.mega_replay.proofs.Progress.{as_front, more_waits, wrote_front}
 use Rattle.mega_replay.proofs.Running.{replayed}
 use Rattle.mega_replay.proofs.Texts.{front_on, newest_onto}
@@ -94,6 +97,7 @@ ran_on c first now next world other count line added Is Next ran follows went on
     starts = ran.after.starts;
     happen = (ran.after.happen, subst (λ (n : ℕ). Happens c (n + 1) line (stood c ran.events) went.one) ran.counted went.happens);
     here = went.here;
+    held = subst (All HoldsItem) (sym went.adds) (all_onto HoldsItem added (stood c ran.events).tape went.held ran.after.held);
   };
   counted = omega (arith, ran.counted);
   left = stands_on first now next ran.done line ran.left follows;
@@ -107,7 +111,7 @@ ran_out report c (Some first) None world count Is tally Says ran ends tallied sa
 ran_out report c (Some first) (Some now) world count Is tally Says ran ends tallied said = record {
   done = ran.done;
   events = ran.events;
-  replayed = replayed c ran.done ran.events ran.after.starts ran.after.happen;
+  replayed = replayed c ran.done ran.events ran.after.starts ran.after.happen ran.after.held;
   all = ran.left.0 ∙ ap (in_order ran.done) ends;
   tallied = tallied;
   counted = ran.counted;
@@ -144,18 +148,18 @@ end_cut report c (Some start) tally count first now waiting later ran same = rec
   said = as_front first now later (text_at report c ran.events) (subst (λ (xs : List ℕ). Writes first now xs (text_at report c ran.events)) (sym same) ran.said);
 }
 
-begun_with : (report : Report) (c : Cluster) (first now : Option (List ℕ)) (Says : List ℕ → Type 0) (done : List (List ℕ)) (events : List Happening) → CanStart c → AllHappen c done events → Stands first now done → Says (text_at report c events)
+begun_with : (report : Report) (c : Cluster) (first now : Option (List ℕ)) (Says : List ℕ → Type 0) (done : List (List ℕ)) (events : List Happening) → CanStart c → AllHappen c done events → All HoldsItem (stood c events).tape → Stands first now done → Says (text_at report c events)
     → LeftIsBegun report c first Says
-begun_with report c None now Says done events can happen left said = tt
-begun_with report c (Some first) None Says done events can happen left said = absurd left
-begun_with report c (Some first) (Some now) Says done events can happen left said =
-    record { done = done; rest = lines_of now; events = events; replayed = replayed c done events can happen; all = left.0; said = said }
+begun_with report c None now Says done events can happen held left said = tt
+begun_with report c (Some first) None Says done events can happen held left said = absurd left
+begun_with report c (Some first) (Some now) Says done events can happen held left said =
+    record { done = done; rest = lines_of now; events = events; replayed = replayed c done events can happen held; all = left.0; said = said }
 
 cut_here : (report : Report) (c : Cluster) (first now : Option (List ℕ)) (Says : List ℕ → Type 0) (world : World) (count : ℕ) (Is : List Item → Type 0) (ran : RanTo c first now world count Is) → Says (text_at report c ran.events) → LeftIsBegun report c first Says
-cut_here report c first now Says world count Is ran said = begun_with report c first now Says ran.done ran.events ran.after.starts ran.after.happen ran.left said
+cut_here report c first now Says world count Is ran said = begun_with report c first now Says ran.done ran.events ran.after.starts ran.after.happen ran.after.held ran.left said
 
 pub cut_before : (report : Report) (c : Cluster) (first : Option (List ℕ)) (Says : List ℕ → Type 0) → CanStart c → Says (text_at report c []) → LeftIsBegun report c first Says
-cut_before report c first Says can said = begun_with report c first first Says [] [] can tt (none_done first) said
+cut_before report c first Says can said = begun_with report c first first Says [] [] can tt (opening_held c can) (none_done first) said
 
 -- the run was cut off between two lines
 pub cut_after : (report : Report) (c : Cluster) (start left : Option (List ℕ)) (world : World) (count : ℕ) (Is : List Item → Type 0) (first now : Option (List ℕ)) (waiting : List ℕ) (ran : RanTo c start left world count Is)
@@ -178,7 +182,7 @@ cut_line report c start left next line world other count Is first mid now waitin
 reached : (c : Cluster) (first now : List ℕ) (world : World) (count number : ℕ) (Is : List Item → Type 0) (line : List ℕ) (rest : List (List ℕ)) (ran : RanTo c (Some first) (Some now) world count Is) → lines_of now ≡ line ∷ rest
     → number ≡ count + 1 → Reaches c (lines_of first) number line ran.events
 reached c first now world count number Is line rest ran is next =
-    record { done = ran.done; rest = rest; replayed = replayed c ran.done ran.events ran.after.starts ran.after.happen; all = ran.left.0 ∙ ap (in_order ran.done) is; counted = omega (arith, ran.counted) }
+    record { done = ran.done; rest = rest; replayed = replayed c ran.done ran.events ran.after.starts ran.after.happen ran.after.held; all = ran.left.0 ∙ ap (in_order ran.done) is; counted = omega (arith, ran.counted) }
 
 pub stopped : (report : Report) (c : Cluster) (first now : Option (List ℕ)) (IsCause : List ℕ → Standing → Type 0) (Says : List ℕ → Type 0) (world : World) (count number : ℕ) (Is : List Item → Type 0) (ran : RanTo c first now world count Is)
     → number ≡ count + 1 → StopsNext now (λ line. IsCause line (stood c ran.events)) → Says (text_at report c ran.events) → LeftStops report c first number IsCause Says
@@ -235,7 +239,7 @@ fails_here report c (Some first) (Some now) (Some left) waiting line Says world 
   record {
     done = ran.done;
     events = ran.events;
-    replayed = replayed c ran.done ran.events ran.after.starts ran.after.happen;
+    replayed = replayed c ran.done ran.events ran.after.starts ran.after.happen ran.after.held;
     all = refl;
     said = said;
   },

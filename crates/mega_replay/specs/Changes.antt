@@ -4,9 +4,9 @@ use Rattle.std.specs.Io.KnownBytes.{Appends}
 use Rattle.mega_io.specs.Pieces.{AppendsFront}
 use Rattle.mega_link.specs.Datagrams.{Datagram}
 use Rattle.mega_node.specs.Outside.{Outside}
-use Rattle.mega_two_driver.specs.declared.phase.Ended.TheVariants.{Committed}
-use Rattle.mega_two_driver.specs.declared.phase.Phase.{Phase}
-use Rattle.mega_two_driver.specs.declared.phase.Phase.TheVariants.{Begins, Recovers}
+use Rattle.mega_two_driver.specs.of_moves.declared.phase.Ended.TheVariants.{Committed}
+use Rattle.mega_two_driver.specs.of_moves.declared.phase.Phase.{Phase}
+use Rattle.mega_two_driver.specs.of_moves.declared.phase.Phase.TheVariants.{Begins, Recovers}
 use Rattle.mega_two_driver.specs.declared.two.Two.{Two}
 use Rattle.mega_two_driver_laws.specs.Runs.{closes, shows_made, was}
 use Rattle.mega_two_turns.specs.Turns.{driven, ending, start}

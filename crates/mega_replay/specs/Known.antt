@@ -7,7 +7,7 @@ use Rattle.mega_heading.specs.Known.{AreParted, Follows, Passes, TakesHeader, To
 use Rattle.mega_words.specs.declared.command.Report.{Report}
 use Rattle.mega_tally.specs.declared.tally.Tally.{Tally}
 use Rattle.mega_transcript.specs.declared.item.Item.{Item}
-use Rattle.mega_promises.specs.Runs.{Happening, Standing}
+use Rattle.mega_shown_laws.specs.of_promises.Runs.{Happening, Standing}
 use Rattle.mega_world.specs.declared.world.World.{World}
 use Rattle.mega_replay.specs.Headings.{heading_of}
 use Rattle.mega_replay.specs.Running.{StandsAfter, Went}

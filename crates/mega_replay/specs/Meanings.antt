@@ -2,7 +2,7 @@
 use Rattle.mega_schema.specs.declared.schema.Schema.{Schema}
 use Rattle.mega_meanings.specs.BuiltIn.{built_in}
 use Rattle.mega_line_laws.specs.Meanings.{meaning_in}
-use Rattle.mega_tape_laws.specs.Writes.{Usage}
+use Rattle.mega_shown_laws.specs.of_tape_laws.Writes.{Usage}
 
 -- the handlers are those that the store brings
 abbrev pub usage : Schema → Usage

@@ -6,7 +6,7 @@ use Rattle.mega_io.specs.TextLines.{ended_lines, lines_of}
 use Rattle.mega_words.specs.declared.command.Report.{Report}
 use Rattle.mega_schedule.specs.declared.world_event.WorldEvent.{WorldEvent}
 use Rattle.mega_schedule.specs.Events.{event_of}
-use Rattle.mega_promises.specs.Runs.{Happening, Standing, refusal}
+use Rattle.mega_shown_laws.specs.of_promises.Runs.{Happening, Standing, refusal}
 use Rattle.mega_tally.specs.declared.tally.Tally.{Tally}
 use Rattle.mega_transcript.specs.Tape.{newest}
 use Rattle.mega_world.specs.Last.{IsPastLast as IsPastLastEvent}

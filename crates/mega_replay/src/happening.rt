@@ -4,13 +4,14 @@ ghost use Rattle.mega_meanings.specs.BuiltIn.{built_in};
 ghost use Rattle.mega_meanings.specs.Means.{Means};
 ghost use Rattle.mega_schedule.specs.Events.{event_of};
 ghost use Rattle.mega_transcript.specs.Lines.{HasLine};
-ghost use Rattle.mega_promises.specs.Runs.{Happening};
+ghost use Rattle.mega_shown_laws.specs.of_promises.Runs.{Happening};
 ghost use Rattle.mega_replay.specs.Running.{IsStanding, StandsAfter, Went, stood};
 ghost use Rattle.mega_replay.specs.Replaying.{IsRefused, IsPastLast};
 ghost use Rattle.mega_replay.specs.Stops.{IsEventStop, IsLineStop, IsWorldStop};
 
 use crate::status::Stop;
 use mega_cluster::Cluster;
+use mega_held::hold;
 use mega_meanings::QueueHandlers;
 use mega_schedule::{LineFault, WorldEvent, event};
 use mega_schema::Schema;
@@ -55,7 +56,10 @@ fn happen<H: QueueHandlers>(
     ensures handlers { H.meant handlers.new ≡ H.meant handlers.old }
 {
     match world.apply(alloc, handlers, event) {
-        Ok(added) => Ok(added),
+        Ok(added) => {
+            hold(added.items.as_slice());
+            Ok(added)
+        }
         Err(WorldFault::Refused { why }) => Err(Stop::Refused { line: number, why }),
         Err(WorldFault::Limit) => Err(Stop::Limit { line: number }),
         Err(WorldFault::NoMemory) => Err(Stop::NoMemory),

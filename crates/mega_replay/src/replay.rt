@@ -7,7 +7,7 @@ ghost use Rattle.mega_meanings.specs.BuiltIn.{built_in};
 ghost use Rattle.mega_meanings.specs.Means.{Means};
 ghost use Rattle.mega_transcript.specs.Tape.{newest};
 ghost use Rattle.mega_schedule.specs.Events.{event_of};
-ghost use Rattle.mega_promises.specs.Runs.{Happening};
+ghost use Rattle.mega_shown_laws.specs.of_promises.Runs.{Happening};
 ghost use Rattle.mega_replay.specs.Progress.{Writes, WritesFront};
 ghost use Rattle.mega_replay.specs.Running.{StandsAfter, IsStanding, stood};
 ghost use Rattle.mega_replay.specs.Replaying.{IsRefused, IsPastLast, text_at};

@@ -2,7 +2,7 @@
 use Rattle.std.proofs.Common.{◌≡◌, ◌⊎◌, inl, inr, ◌≤◌, ℕ, [], ◌∷◌, List, length, Option, None, Some, refl, subst, sym, ◌∙◌}
 use Rattle.mega_disk.specs.Images.{LeavesOnly}
 use Rattle.mega_disk.specs.VersionMaps.{Cleaned, SameVersions, Versions}
-use Rattle.mega_runs.specs.Chain.{records_of}
+use Rattle.mega_chain.specs.Chain.{records_of}
 use Rattle.mega_runs.specs.Opening.{first_bad}
 use Rattle.mega_runs.specs.Reads.{held_in, stored_of}
 

@@ -10,18 +10,18 @@ use Rattle.mega_runs.specs.declared.body.Run.{Run}
 use Rattle.mega_runs.specs.declared.index.Indexed.{Indexed}
 use Rattle.mega_runs.specs.declared.opening.Opened.{Opened}
 use Rattle.mega_runs.specs.Bodies.{run_text, IsRun, ascends, body_of}
-use Rattle.mega_runs.specs.Chain.{record_of, chain_of, first_record, records_of}
-use Rattle.mega_runs.specs.Rest.{IsAtRest, IsSettled}
+use Rattle.mega_chain.specs.Chain.{record_of, chain_of, first_record, records_of}
+use Rattle.mega_chain.specs.Rest.{IsAtRest, IsSettled}
 use Rattle.mega_runs.specs.Index.{versions_text, Stands, ArePlaced, IsOrderly, AreIndexed, Indexes, Indices, IsGrown}
 use Rattle.mega_runs.specs.Opening.{IsNextBody}
 use Rattle.mega_runs.specs.Reads.{Held, with_run, with_found, held_by, nothing, held_in, mark_in}
 use Rattle.mega_runs.specs.Fronts.{front_of, kept, kept_with, HoldsOr, Standing}
 use Rattle.mega_runs.specs.Spilling.{HoldsOldOrNew}
-use Rattle.mega_runs.proofs.Chains.{chain_push}
+use Rattle.mega_chain.proofs.Chains.{chain_push}
 use Rattle.mega_runs.proofs.Growing.{is_body, indexed_more}
-use Rattle.mega_runs.proofs.Records.{records_closed, first_whole}
+use Rattle.mega_chain.proofs.Records.{records_closed, first_whole}
 use Rattle.mega_runs.proofs.Spilled.{held_run, held_same, written_is_read}
-use Rattle.mega_runs.proofs.Written.{inside}
+use Rattle.mega_chain.proofs.Written.{inside}
 
 -- ---- what lies in front
 part_of_front : (l : List ℕ) (start n end : ℕ) → start + n ≤ end → take n (drop start (take end l)) ≡ take n (drop start l)

@@ -12,13 +12,13 @@ use Rattle.mega_runs.specs.declared.body.Version.{Version}
 use Rattle.mega_runs.specs.declared.index.Indexed.{Indexed}
 use Rattle.mega_runs.specs.Bodies.{kind_of, mark_text, run_at, run_text, IsRun, ascends, ordered, body_of}
 use Rattle.mega_runs.specs.BodyLaws.{run_codec}
-use Rattle.mega_runs.specs.Chain.{record_of, chain_of, first_record, records_of}
+use Rattle.mega_chain.specs.Chain.{record_of, chain_of, first_record, records_of}
 use Rattle.mega_runs.specs.declared.opening.Opened.{Opened}
 use Rattle.mega_runs.specs.Index.{versions_text, Stands, IsPlaced, ArePlaced, Indices, Indexes, IsGrown, IsReadTo}
 use Rattle.mega_runs.specs.Opening.{IsNextBody, bad_or, first_bad}
 use Rattle.mega_runs.specs.Reads.{Held, with_run, with_found, held_by, nothing, held_in, mark_in}
-use Rattle.mega_runs.proofs.Chains.{Reading, begun, chain_push, short_push, ends}
-use Rattle.mega_runs.proofs.Records.{records_more, records_none}
+use Rattle.mega_chain.proofs.Chains.{Reading, begun, chain_push, short_push, ends}
+use Rattle.mega_chain.proofs.Records.{records_more, records_none}
 use Rattle.mega_runs.proofs.Spilled.{held_more}
 
 -- a body that is a run is its spelling

@@ -1,5 +1,4 @@
 mod Blocks
-mod Chains
 mod Emptied
 mod Found
 mod Fronting
@@ -12,9 +11,5 @@ mod Nexts
 mod Order
 mod Outcomes
 mod Readable
-mod Records
-mod Repaired
 mod Showing
 mod Spilled
-mod Torn
-mod Written

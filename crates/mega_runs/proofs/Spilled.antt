@@ -6,9 +6,9 @@ use Rattle.mega_runs.specs.declared.body.Run.{Run}
 use Rattle.mega_runs.specs.Bodies.{run_at, run_text, IsRun, ascends, ordered, body_of}
 use Rattle.mega_base.specs.Codec.{IsText}
 use Rattle.mega_runs.specs.BodyLaws.{run_codec}
-use Rattle.mega_runs.specs.Chain.{records_of}
+use Rattle.mega_chain.specs.Chain.{records_of}
 use Rattle.mega_runs.specs.Reads.{Held, with_run, with_found, held_by, nothing, held_in}
-use Rattle.mega_runs.specs.Rest.{Appends}
+use Rattle.mega_chain.specs.Rest.{Appends}
 use Rattle.mega_runs.specs.Spilling.{HoldsOldOrNew}
 
 -- what is written is read

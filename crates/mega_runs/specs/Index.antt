@@ -7,9 +7,9 @@ use Rattle.mega_runs.specs.declared.index.Indexed.{Indexed}
 use Rattle.mega_runs.specs.declared.opening.Opened.{Opened}
 use Rattle.mega_runs.specs.declared.body.Mark.{Mark}
 use Rattle.mega_runs.specs.declared.body.Run.{Run}
-use Rattle.mega_runs.specs.Chain.{records_of}
+use Rattle.mega_chain.specs.Chain.{records_of}
 use Rattle.mega_runs.specs.Opening.{first_bad}
-use Rattle.mega_runs.specs.Rest.{IsRead}
+use Rattle.mega_chain.specs.Rest.{IsRead}
 use Rattle.mega_runs.specs.Reads.{Held, held_in, mark_in}
 use Rattle.mega_runs.specs.Bodies.{Spot, spot_of, version_text, IsVersion, ascends}
 

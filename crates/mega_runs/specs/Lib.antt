@@ -1,7 +1,6 @@
 pub mod Archives
 pub mod Bodies
 pub mod BodyLaws
-pub mod Chain
 pub mod Devices
 pub mod Durable
 pub mod Examples
@@ -13,7 +12,6 @@ pub mod Merging
 pub mod Opening
 pub mod Placed
 pub mod Reads
-pub mod Rest
 pub mod Scanning
 pub mod Sides
 pub mod Spilling

@@ -3,7 +3,7 @@ use Rattle.std.specs.Prelude.{◌≡◌, ◌<◌, ◌^◌, ◌+◌, ◌==◌, �
 use Rattle.std.specs.Int.{from_be_bytes, w64}
 use Rattle.mega_runs.specs.declared.body.Run.{Run}
 use Rattle.mega_runs.specs.Bodies.{body_of}
-use Rattle.mega_runs.specs.Chain.{record_of, first_record}
+use Rattle.mega_chain.specs.Chain.{record_of, first_record}
 
 -- the size of a body, from its gate and length, where it and the next gate lie within what is left behind them
 abbrev pub size_in : List ℕ → ℕ → Option ℕ

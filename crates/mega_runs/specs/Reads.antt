@@ -8,7 +8,7 @@ use Rattle.mega_runs.specs.declared.body.Version.{Version}
 use Rattle.mega_runs.specs.declared.body.Mark.{Mark}
 use Rattle.mega_runs.specs.declared.body.Run.{Run}
 use Rattle.mega_runs.specs.Bodies.{body_of}
-use Rattle.mega_runs.specs.Chain.{records_of}
+use Rattle.mega_chain.specs.Chain.{records_of}
 
 -- the version of this key and position
 abbrev pub is_version : List ℕ → ℕ → Version → Bool

@@ -1,10 +1,9 @@
-//! Writes a run behind a closed gate, and opens the gate once the run is on the disk.
-ghost use Rattle.std.specs.Prelude.{◌≡◌, ℕ, take, Err, OnErr, ◌+◌, ◌<◌, ◌≤◌, ◌^◌, ◌++◌, [], ◌∷◌, true, length, IfOk, OnOk};
+//! Writes a run behind the others, and keeps its index.
+ghost use Rattle.std.specs.Prelude.{◌≡◌, ℕ, take, Err, OnErr, ◌+◌, ◌<◌, ◌≤◌, ◌^◌, true, length, OnOk};
 ghost use Rattle.mega_base.specs.Causes.{Rose};
 ghost use Rattle.mega_disk.specs.Images.{LeavesOnly};
 ghost use Rattle.mega_disk.specs.Fuse.{LowersBy, MayBurn, Burns};
-ghost use Rattle.mega_runs.specs.Chain.{records_of, behind_gate as bytes_behind_gate};
-ghost use Rattle.mega_runs.specs.Rest.{IsSettled, Appends};
+ghost use Rattle.mega_chain.specs.Rest.{IsSettled};
 ghost use Rattle.mega_runs.specs.Bodies.{IsRun, ascends, run_text};
 ghost use Rattle.mega_runs.specs.Fronts.{Standing, front_of};
 ghost use Rattle.mega_runs.specs.Index.{IsAsBefore};
@@ -12,47 +11,12 @@ ghost use Rattle.mega_runs.specs.Reads.{held_in, with_run};
 ghost use Rattle.mega_runs.specs.Spilling.{HoldsOldOrNew};
 
 use crate::body::Run;
-use crate::device::write_through;
 use crate::lookup::refusal;
 use crate::opening::{Opened, add_index};
 use mega_base::NoMemory;
-use mega_disk::{Disk, DiskError, StoreError};
+use mega_chain::put_record;
+use mega_disk::{Disk, StoreError};
 use std::alloc::Global;
-
-/// Writes a body behind the closed gate at `at` and, once it is on the disk, opens the gate.
-pub(crate) fn put_record<D: Disk>(
-    alloc: Global,
-    disk: &mut D,
-    at: u64,
-    body: &[u8],
-) -> Result<(), DiskError>
-    requires settled { D.is_told ≡ true → IsSettled (D.seen disk.old) (D.may_leave disk.old) at }
-    requires room { at < 2 ^ 62 }
-    ensures added { D.is_told ≡ true → OnOk result (records_of (D.seen disk.new) ≡ records_of (D.seen disk.old) ++ body.now ∷ []) }
-    ensures settled { D.is_told ≡ true → OnOk result (IsSettled (D.seen disk.new) (D.may_leave disk.new) (at + 9 + length body.now)) }
-    ensures any_moment { D.is_told ≡ true → LeavesOnly D.moment D.left_since disk.old disk.new (Appends at body.now (D.seen disk.old)) }
-    ensures cause { result ≡ Err DiskError.Failed → Rose (D.faults disk.old) (D.faults disk.new) }
-    ensures later { D.faults disk.old ≤ D.faults disk.new }
-    ensures lowers { OnOk result (LowersBy 0 (D.fuse_left disk.old) (D.fuse_left disk.new)) }
-    ensures may_burn { MayBurn (D.fuse_left disk.old) (D.fuse_left disk.new) }
-    ensures burns { D.fails_by_fuse disk.old ≡ true → result ≡ Err DiskError.Failed → Burns (D.fuse_left disk.old) (D.fuse_left disk.new) }
-    ensures by_fuse { D.fails_by_fuse disk.old ≡ true → D.fails_by_fuse disk.new ≡ true }
-{
-    let record = behind_gate(alloc, body)?;
-    write_through(disk, at + 1, record.as_slice())?;
-    write_through(disk, at, &[1])
-}
-
-/// The bytes behind a run's gate: the length of its body, the body, and a closed gate for the next.
-fn behind_gate(alloc: Global, body: &[u8]) -> Result<Vec<u8>, NoMemory>
-    ensures { IfOk result (λ bytes. bytes.items ≡ bytes_behind_gate body.now) }
-{
-    let mut bytes = Vec::with_capacity(alloc, body.len() + 9)?;
-    bytes.extend_from_slice(&(body.len() as u64).to_be_bytes())?;
-    bytes.extend_from_slice(body)?;
-    bytes.push(0)?;
-    Ok(bytes)
-}
 
 /// Writes a run, whose body this is, behind the others, and keeps its index. A crash at any moment leaves what was held before, or
 /// that with the run.

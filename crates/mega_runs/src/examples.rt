@@ -1,7 +1,7 @@
 //! The first run of a small store, byte by byte, as the definitions have it.
 ghost use Rattle.std.specs.Prelude.{◌≡◌, ◌++◌, ◌∷◌, [], None, Some, length};
 ghost use Rattle.mega_runs.specs.Bodies.{body_of, run_text};
-ghost use Rattle.mega_runs.specs.Chain.{chain_of};
+ghost use Rattle.mega_chain.specs.Chain.{chain_of};
 ghost use Rattle.mega_runs.specs.Examples.{first_file, first_run, first_body, other_kind};
 
 /// One version and one mark, behind an open gate and before a closed one.

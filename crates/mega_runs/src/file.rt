@@ -4,7 +4,7 @@ ghost use Rattle.std.specs.List.{AllByRecursion-prop};
 ghost use Rattle.std.proofs.Props.{props};
 ghost use Rattle.mega_runs.specs.Fronts.{Standing};
 ghost use Rattle.mega_runs.specs.Placed.{ArePlaced-prop};
-ghost use Rattle.mega_runs.specs.Rest.{IsSettled};
+ghost use Rattle.mega_chain.specs.Rest.{IsSettled};
 
 use crate::among::{all_versions, found_in_runs};
 use crate::append::put_run;
@@ -41,14 +41,14 @@ impl<D: Disk> RunFile<D> {
     ghost use Rattle.mega_disk.specs.Fuse.{LowersBy, MayBurn, Burns, set_to};
     ghost use Rattle.mega_disk.specs.VersionMaps.{IsScan, mark_of};
     ghost use Rattle.mega_runs.specs.Bodies.{IsRun, ascends, run_text};
-    ghost use Rattle.mega_runs.specs.Chain.{records_of};
+    ghost use Rattle.mega_chain.specs.Chain.{records_of};
     ghost use Rattle.mega_runs.specs.Files.{disk_of, opened_of, is_spent};
     ghost use Rattle.mega_runs.specs.Finding.{found_among};
     ghost use Rattle.mega_runs.specs.Fronts.{kept, kept_with, HoldsOr};
     ghost use Rattle.mega_runs.specs.Merging.{all_merged};
     ghost use Rattle.mega_runs.specs.Opening.{first_bad};
     ghost use Rattle.mega_runs.specs.Reads.{held_in, layered, mark_in};
-    ghost use Rattle.mega_runs.specs.Rest.{HoldsAs};
+    ghost use Rattle.mega_chain.specs.Rest.{HoldsAs};
     ghost use Rattle.mega_runs.specs.Stores.{count_added, length_with};
 
     /// Opens a device that a crash may have left, reads its runs, and mends its end. A refusal hands the device back.

@@ -7,7 +7,6 @@ mod archive;
 mod body;
 mod cleaning;
 mod coding;
-mod device;
 mod ending;
 mod examples;
 mod file;

@@ -6,11 +6,11 @@ ghost use Rattle.mega_disk.specs.Images.{Only, Within, LeavesOnly};
 ghost use Rattle.mega_disk.specs.Fuse.{LowersBy, MayBurn, Burns};
 ghost use Rattle.mega_runs.specs.declared.body.Run.{Run as SomeRun};
 ghost use Rattle.mega_runs.specs.Bodies.{IsVersion, body_of};
-ghost use Rattle.mega_runs.specs.Chain.{records_of};
+ghost use Rattle.mega_chain.specs.Chain.{records_of};
 ghost use Rattle.mega_runs.specs.Opening.{IsNext, first_bad};
 ghost use Rattle.mega_runs.specs.Index.{Indices, Indexes, IsAsBefore, IsGrown, IsReadTo, versions_text};
 ghost use Rattle.mega_runs.specs.Reads.{held_in};
-ghost use Rattle.mega_runs.specs.Rest.{IsSettled, HoldsAs};
+ghost use Rattle.mega_chain.specs.Rest.{IsSettled, HoldsAs};
 
 use crate::body::{Mark, Run};
 use crate::coding::read_body;

@@ -32,11 +32,11 @@ impl<D: Disk> Runs<D> {
     ghost use Rattle.mega_disk.specs.Images.{LeavesOnly};
     ghost use Rattle.mega_disk.specs.Fuse.{LowersBy, MayBurn, Burns};
     ghost use Rattle.mega_disk.specs.VersionMaps.{SameVersions, Stored};
-    ghost use Rattle.mega_runs.specs.Chain.{records_of};
+    ghost use Rattle.mega_chain.specs.Chain.{records_of};
     ghost use Rattle.mega_runs.specs.Devices.{device_of};
     ghost use Rattle.mega_runs.specs.Opening.{first_bad};
     ghost use Rattle.mega_runs.specs.Reads.{held_in, stored_of};
-    ghost use Rattle.mega_runs.specs.Rest.{HoldsAs};
+    ghost use Rattle.mega_chain.specs.Rest.{HoldsAs};
 
     /// Opens a device that a crash may have left: its versions are those of its runs. A refusal hands the device back.
     pub fn open(alloc: Global, disk: D) -> Result<Runs<D>, (StoreError, D)>

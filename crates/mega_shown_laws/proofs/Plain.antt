@@ -36,7 +36,7 @@ use Rattle.mega_format_laws.specs.Rounds.{Each}
 use Rattle.mega_format_laws.proofs.Each.{all_of_each, each_of_all}
 use Rattle.mega_plain_laws.specs.Answers.{IsNamed, IsWord, shows_rows}
 use Rattle.mega_plain_laws.specs.Formed.{AreFormed, is_of_rows}
-use Rattle.mega_plain_laws.specs.Held.{HoldsCell, HoldsItem, HoldsResult, HoldsRows, HoldsTurn}
+use Rattle.mega_plain_laws.specs.of_held.Held.{HoldsCell, HoldsItem, HoldsResult, HoldsRows, HoldsTurn}
 use Rattle.mega_plain_laws.proofs.Plain.{items_plain}
 use Rattle.mega_plain_laws.proofs.Showing.{each_stands}
 use Rattle.mega_plain_laws.proofs.Turning.{AreWords}

@@ -88,7 +88,7 @@ pub fn keep_notes<R: Records>(
 }
 
 /// These as notes of the node.
-pub fn of_leases(alloc: Global, more: Items<OfLeases>) -> Result<Items<Note>, NoMemory>
+pub fn as_notes(alloc: Global, more: Items<OfLeases>) -> Result<Items<Note>, NoMemory>
     ensures { IfOk result (λ notes. map met_of notes ≡ map leases_met more) }
 {
     let mut notes = Items::new(alloc);
@@ -104,7 +104,7 @@ pub fn both(
 ) -> Result<Items<Note>, NoMemory>
     ensures { IfOk result (λ notes. map met_of notes ≡ map leases_met of_coordinator ++ map leases_met of_cell) }
 {
-    let mut notes = of_leases(alloc, of_coordinator)?;
+    let mut notes = as_notes(alloc, of_coordinator)?;
     add_of_leases(&mut notes, of_cell)?;
     Ok(notes)
 }

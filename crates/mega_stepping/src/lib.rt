@@ -21,7 +21,7 @@ pub use deciding::{Chosen, decides, decision, note_decision, tells_decision};
 pub use fetching::background;
 pub use hearing::all_hear;
 pub use joining::{add_sends, joined};
-pub use keeping::{both, keep_notes, of_leases, tell_all_sent};
+pub use keeping::{as_notes, both, keep_notes, tell_all_sent};
 pub use kinds::{has_rows, is_voter, kind_of, missing_kind};
 pub use mega_proposing;
 pub use mega_proposing::{mega_leases, mega_operations, mega_voter};

@@ -13,7 +13,7 @@ use mega_wire::{Body, Message};
 use std::alloc::Global;
 
 /// The numbers of so many nodes.
-#[tactic(auto, using(mega_proposing::proofs::of_leases::Ticked::one_cell_more))]
+#[tactic(auto, using(mega_leases::proofs::Ticked::one_cell_more))]
 pub fn nodes(alloc: Global, count: u8) -> Result<Items<u8>, NoMemory>
     ensures { IfOk result (λ made. made ≡ range_with_len 1 count) }
 {

@@ -4,7 +4,7 @@ use mega_base::{Bytes, Cell, Items, Position, Row, Value};
 use mega_disk::Versions;
 use mega_rows::VersionedRows;
 use std::alloc::Global;
-use std::test::Fail;
+use std::process::Abort;
 
 /// A version in the list that keeps everything: key, position and number, 0 for a deletion.
 #[derive(Drop)]
@@ -28,26 +28,26 @@ fn number_in(list: &[Kept], key: u8, at: u64) -> i32 {
 }
 
 /// A key of one or two bytes: key 0 is a prefix of key 1, and so on.
-fn key_bytes(alloc: Global, key: u8) -> Result<Bytes, Fail> {
+fn key_bytes(rt: &impl Abort, alloc: Global, key: u8) -> Bytes {
     let bytes = [b'a' + key / 2 % 8, b'b'];
     if key % 2 == 0 {
-        return Ok(Bytes::from_slice(alloc, &bytes[..1])?);
+        return Bytes::from_slice(alloc, &bytes[..1]).expect(rt, "refused");
     }
-    Ok(Bytes::from_slice(alloc, &bytes)?)
+    Bytes::from_slice(alloc, &bytes).expect(rt, "refused")
 }
 
 /// A row of one number.
-fn row_of(alloc: Global, number: i32) -> Result<Option<Row>, Fail> {
+fn row_of(rt: &impl Abort, alloc: Global, number: i32) -> Option<Row> {
     if number == 0 {
-        return Ok(None);
+        return None;
     }
-    let values = Items::from_vec(vec![in alloc; Value::Int32(number)]?);
+    let values = Items::from_vec(vec![in alloc; Value::Int32(number)].expect(rt, "refused"));
     let cell = Cell {
         property: 1,
         values,
     };
-    let cells = Items::from_vec(vec![in alloc; cell]?);
-    Ok(Some(Row { cells }))
+    let cells = Items::from_vec(vec![in alloc; cell].expect(rt, "refused"));
+    Some(Row { cells })
 }
 
 /// The number of a row, 0 for none.
@@ -66,21 +66,25 @@ fn number_of(row: Option<Row>) -> i32 {
 
 /// What a scan from one key to another gives, as one number.
 fn scanned(
+    rt: &impl Abort,
     alloc: Global,
     rows: &mut VersionedRows,
     from: u8,
     to: u8,
     at: u64,
-) -> Result<i64, Fail> {
-    let from = key_bytes(alloc, from)?;
-    let to = key_bytes(alloc, to)?;
+) -> i64 {
+    let from = key_bytes(rt, alloc, from);
+    let to = key_bytes(rt, alloc, to);
     let mut sum = 0i64;
-    for (_, row) in rows.scan(alloc, &from, &to, Position(at))? {
+    for (_, row) in rows
+        .scan(alloc, &from, &to, Position(at))
+        .expect(rt, "refused")
+    {
         sum = sum
             .wrapping_mul(31)
             .wrapping_add(i64::from(number_of(Some(row))));
     }
-    Ok(sum)
+    sum
 }
 
 /// The same of the list that keeps everything.
@@ -97,56 +101,59 @@ fn scanned_in(list: &[Kept], from: u8, to: u8, at: u64) -> i64 {
 
 /// One drawn call of the rows, and of the list; what they answer, as two numbers.
 fn call(
+    rt: &impl Abort,
     alloc: Global,
     draws: &mut Draws,
     rows: &mut VersionedRows,
     list: &mut Vec<Kept>,
     cleaned: &mut u64,
-) -> Result<(i64, i64), Fail> {
+) -> (i64, i64) {
     let key = draws.draw(12) as u8;
     let at = draws.draw(100);
-    let bytes = key_bytes(alloc, key)?;
+    let bytes = key_bytes(rt, alloc, key);
     match draws.draw(8) {
         0..=3 => {
             let number = draws.draw(1000) as i32;
-            rows.put(alloc, &bytes, Position(at), row_of(alloc, number)?)?;
-            list.push(Kept { key, at, number })?;
-            Ok((0, 0))
+            rows.put(alloc, &bytes, Position(at), row_of(rt, alloc, number))
+                .expect(rt, "refused");
+            list.push(Kept { key, at, number }).expect(rt, "refused");
+            (0, 0)
         }
         4 => {
-            let row = rows.latest(alloc, &bytes)?;
-            Ok((
+            let row = rows.latest(alloc, &bytes).expect(rt, "refused");
+            (
                 i64::from(number_of(row)),
                 i64::from(number_in(list.as_slice(), key, u64::MAX)),
-            ))
+            )
         }
         5 => {
             let to = draws.draw(12) as u8;
             let at = at.max(*cleaned);
-            Ok((
-                scanned(alloc, rows, key, to, at)?,
+            (
+                scanned(rt, alloc, rows, key, to, at),
                 scanned_in(list.as_slice(), key, to, at),
-            ))
+            )
         }
         6 if at % 8 == 0 => {
-            let end = key_bytes(alloc, draws.draw(12) as u8)?;
-            rows.clean(alloc, &bytes, &end, Position(at))?;
+            let end = key_bytes(rt, alloc, draws.draw(12) as u8);
+            rows.clean(alloc, &bytes, &end, Position(at))
+                .expect(rt, "refused");
             *cleaned = at.max(*cleaned);
-            Ok((0, 0))
+            (0, 0)
         }
         _ => {
             let at = at.max(*cleaned);
-            let row = rows.get(alloc, &bytes, Position(at))?;
-            Ok((
+            let row = rows.get(alloc, &bytes, Position(at)).expect(rt, "refused");
+            (
                 i64::from(number_of(row)),
                 i64::from(number_in(list.as_slice(), key, at)),
-            ))
+            )
         }
     }
 }
 
 #[test]
-fn ten_thousand_calls_beside_a_list_that_keeps_everything(rt: HostRuntime) -> Result<(), Fail> {
+fn ten_thousand_calls_beside_a_list_that_keeps_everything(rt: HostRuntime) {
     let alloc = rt.alloc();
     for seed in 1..=10u64 {
         let mut draws = Draws::new(seed);
@@ -154,9 +161,8 @@ fn ten_thousand_calls_beside_a_list_that_keeps_everything(rt: HostRuntime) -> Re
         let mut list = Vec::new(alloc);
         let mut cleaned = 0;
         for number in 0..1000u32 {
-            let (told, kept) = call(alloc, &mut draws, &mut rows, &mut list, &mut cleaned)?;
+            let (told, kept) = call(&rt, alloc, &mut draws, &mut rows, &mut list, &mut cleaned);
             assert_eq!(rt; told, kept, "call {number} of seed {seed}");
         }
     }
-    Ok(())
 }

@@ -5,7 +5,6 @@ use mega_entry::{Content, Entry, Write};
 use mega_replica::{StoredRows, after_portion, after_read, applied, writes_through};
 use mega_wal::{LogFault, Logs};
 use std::alloc::Global;
-use std::test::Fail;
 
 /// A write of an empty row, or a deletion.
 fn write(alloc: Global, key: &[u8], there: bool) -> Result<Write, NoMemory> {
@@ -52,37 +51,61 @@ fn decided(alloc: Global, group: &GroupId) -> Result<Logs<MemRecords>, LogFault>
 }
 
 #[test]
-fn entries_are_applied_when_all_their_writes_are_stored(rt: HostRuntime) -> Result<(), Fail> {
+fn entries_are_applied_when_all_their_writes_are_stored(rt: HostRuntime) {
     let alloc = rt.alloc();
     let group = GroupId {
-        key: Bytes::from_slice(alloc, b"g")?,
+        key: Bytes::from_slice(alloc, b"g").expect(&rt, "refused"),
     };
-    let logs = decided(alloc, &group)?;
+    let logs = decided(alloc, &group).expect(&rt, "refused");
     let mut stored = StoredRows::new(alloc, MemVersions::new(alloc));
     assert_eq!(rt; stored.applied(&group, &logs).0, 0);
-    stored.apply_some(alloc, &group, &logs, 1)?;
+    stored
+        .apply_some(alloc, &group, &logs, 1)
+        .expect(&rt, "refused");
     assert_eq!(rt; stored.applied(&group, &logs).0, 2);
-    stored.apply_some(alloc, &group, &logs, 1)?;
+    stored
+        .apply_some(alloc, &group, &logs, 1)
+        .expect(&rt, "refused");
     assert_eq!(rt; stored.applied(&group, &logs).0, 2);
-    stored.apply_through(alloc, &group, &logs, Position(3))?;
+    stored
+        .apply_through(alloc, &group, &logs, Position(3))
+        .expect(&rt, "refused");
     assert_eq!(rt; stored.applied(&group, &logs).0, 3);
-    Ok(())
 }
 
 #[test]
-fn a_row_stands_at_the_position_of_its_entry(rt: HostRuntime) -> Result<(), Fail> {
+fn a_row_stands_at_the_position_of_its_entry(rt: HostRuntime) {
     let alloc = rt.alloc();
     let group = GroupId {
-        key: Bytes::from_slice(alloc, b"g")?,
+        key: Bytes::from_slice(alloc, b"g").expect(&rt, "refused"),
     };
-    let logs = decided(alloc, &group)?;
+    let logs = decided(alloc, &group).expect(&rt, "refused");
     let mut stored = StoredRows::new(alloc, MemVersions::new(alloc));
-    stored.apply_through(alloc, &group, &logs, Position(3))?;
-    let key = Bytes::from_slice(alloc, b"a")?;
-    assert!(rt; stored.rows.get(alloc, &key, Position(0))?.is_none());
-    assert!(rt; stored.rows.get(alloc, &key, Position(2))?.is_some());
-    assert!(rt; stored.rows.get(alloc, &key, Position(3))?.is_none());
-    Ok(())
+    stored
+        .apply_through(alloc, &group, &logs, Position(3))
+        .expect(&rt, "refused");
+    let key = Bytes::from_slice(alloc, b"a").expect(&rt, "refused");
+    assert!(rt;
+        stored
+            .rows
+            .get(alloc, &key, Position(0))
+            .expect(&rt, "refused")
+            .is_none()
+    );
+    assert!(rt;
+        stored
+            .rows
+            .get(alloc, &key, Position(2))
+            .expect(&rt, "refused")
+            .is_some()
+    );
+    assert!(rt;
+        stored
+            .rows
+            .get(alloc, &key, Position(3))
+            .expect(&rt, "refused")
+            .is_none()
+    );
 }
 
 /// Entries with one, no and two deletions.
@@ -99,11 +122,10 @@ fn log(alloc: Global) -> Result<Items<Entry>, NoMemory> {
 }
 
 #[test]
-fn writes_are_counted(rt: HostRuntime) -> Result<(), Fail> {
-    let log = log(rt.alloc())?;
+fn writes_are_counted(rt: HostRuntime) {
+    let log = log(rt.alloc()).expect(&rt, "refused");
     assert_eq!(rt; applied(log.as_slice(), 2), 2);
     assert_eq!(rt; writes_through(3, log.as_slice()), Some(3));
     assert_eq!(rt; after_portion(5, log.as_slice(), 1), Some(3));
     assert_eq!(rt; after_read(1, log.as_slice(), 0), Some(1));
-    Ok(())
 }

@@ -133,7 +133,13 @@ impl Sweep {
             } else {
                 "no front"
             };
-            println!(rt; "{} call {}: status {}, {}", edge.word(), call, stopped.status, front)?;
+            println!(rt;
+                "{} call {}: status {}, {}",
+                edge.word(),
+                call,
+                stopped.status,
+                front
+            )?;
             if text.len() == wanted.len() && stopped.status == 0 {
                 return Ok(());
             }

@@ -1,6 +1,5 @@
 pub mod Alone
 pub mod Asked
-pub mod Behind
 pub mod Data
 pub mod Members
 pub mod Named

@@ -2,14 +2,14 @@
 use Rattle.std.proofs.Common.{◌≡◌, ℕ, Bool, true, false, List, length, Option, Some, None, if◌then◌else◌, refl}
 use Rattle.std.specs.Result.{result_ok}
 use Rattle.mega_syntax.specs.Names.{same}
-use Rattle.mega_two_driver.specs.declared.phase.Ended.TheVariants.{Open}
-use Rattle.mega_two_driver.specs.declared.phase.Phase.TheVariants.{Over}
+use Rattle.mega_two_moves.specs.declared.phase.Ended.TheVariants.{Open}
+use Rattle.mega_two_moves.specs.declared.phase.Phase.TheVariants.{Over}
 use Rattle.mega_two_driver.specs.declared.plan.Plan.{Plan}
-use Rattle.mega_two_driver.specs.declared.told.State.{State}
-use Rattle.mega_two_driver.specs.declared.told.Told.{Told}
-use Rattle.mega_two_driver.specs.declared.told.Told.TheVariants.{Done, Turned, Again, Lost, Refused, NoPlan, Stands, Held, Free}
+use Rattle.mega_two_moves.specs.declared.told.State.{State}
+use Rattle.mega_two_moves.specs.declared.told.Told.{Told}
+use Rattle.mega_two_moves.specs.declared.told.Told.TheVariants.{Done, Turned, Again, Lost, Refused, NoPlan, Stands, Held, Free}
 use Rattle.mega_two_driver.specs.declared.two.Two.{Two}
-use Rattle.mega_two_driver.specs.Moves.{moved, by_state}
+use Rattle.mega_two_moves.specs.Moves.{moved, by_state}
 use Rattle.mega_two_driver.specs.Rows.{plan_told, plan_line}
 use Rattle.mega_two_driver.specs.Begins.{plan_of}
 use Rattle.mega_two_driver.specs.Driver.{IsSound, two_in, moved_to, stepped, learned, read_plan, is_recovering, told_in, taken, lost}

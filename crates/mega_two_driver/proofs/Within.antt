@@ -1,14 +1,14 @@
 -- A change is always at one of its parts.
 use Rattle.std.proofs.Common.{◌≡◌, ℕ, ◌+◌, Bool, true, false, nat_lt, if◌then◌else◌, refl}
-use Rattle.mega_two_driver.specs.declared.phase.Ended.{Ended}
-use Rattle.mega_two_driver.specs.declared.phase.Ended.TheVariants.{Committed, Aborted, Used, Open}
-use Rattle.mega_two_driver.specs.declared.phase.Phase.{Phase}
-use Rattle.mega_two_driver.specs.declared.phase.Phase.TheVariants.{Begins, Prepares, Decides, Looks, Finishes, Checks, Recovers, Over}
-use Rattle.mega_two_driver.specs.declared.told.State.{State}
-use Rattle.mega_two_driver.specs.declared.told.State.TheVariants.{Undecided, Made, Dropped}
-use Rattle.mega_two_driver.specs.declared.told.Told.{Told}
-use Rattle.mega_two_driver.specs.declared.told.Told.TheVariants.{Done, Turned, Again, Lost, Refused, NoPlan, Stands, Held, Free}
-use Rattle.mega_two_driver.specs.Moves.{preparing, ending_of, finishing, by_state, planned, prepared, decided, looked, finished, checked, moved, is_within}
+use Rattle.mega_two_moves.specs.declared.phase.Ended.{Ended}
+use Rattle.mega_two_moves.specs.declared.phase.Ended.TheVariants.{Committed, Aborted, Used, Open}
+use Rattle.mega_two_moves.specs.declared.phase.Phase.{Phase}
+use Rattle.mega_two_moves.specs.declared.phase.Phase.TheVariants.{Begins, Prepares, Decides, Looks, Finishes, Checks, Recovers, Over}
+use Rattle.mega_two_moves.specs.declared.told.State.{State}
+use Rattle.mega_two_moves.specs.declared.told.State.TheVariants.{Undecided, Made, Dropped}
+use Rattle.mega_two_moves.specs.declared.told.Told.{Told}
+use Rattle.mega_two_moves.specs.declared.told.Told.TheVariants.{Done, Turned, Again, Lost, Refused, NoPlan, Stands, Held, Free}
+use Rattle.mega_two_moves.specs.Moves.{preparing, ending_of, finishing, by_state, planned, prepared, decided, looked, finished, checked, moved, is_within}
 
 prepares : (count i : ℕ) → is_within count (preparing count i) ≡ true
 prepares count i = by (nat_lt i count) refl

@@ -3,16 +3,16 @@ use Rattle.std.specs.Prelude.{◌≡◌, ℕ, if◌then◌else◌, Bool, true, f
 use Rattle.std.specs.Result.{result_ok}
 use Rattle.mega_syntax.specs.Names.{same}
 use Rattle.mega_schema.specs.declared.schema.Schema.{Schema}
-use Rattle.mega_two_driver.specs.declared.phase.Phase.{Phase}
-use Rattle.mega_two_driver.specs.declared.phase.Ended.TheVariants.{Open}
-use Rattle.mega_two_driver.specs.declared.phase.Phase.TheVariants.{Begins, Prepares, Decides, Looks, Finishes, Checks, Recovers, Over}
-use Rattle.mega_two_driver.specs.declared.told.State.{State}
-use Rattle.mega_two_driver.specs.declared.told.Told.{Told}
-use Rattle.mega_two_driver.specs.declared.told.Told.TheVariants.{Done, Turned, Again, Lost, Refused, NoPlan, Stands, Held, Free}
+use Rattle.mega_two_moves.specs.declared.phase.Phase.{Phase}
+use Rattle.mega_two_moves.specs.declared.phase.Ended.TheVariants.{Open}
+use Rattle.mega_two_moves.specs.declared.phase.Phase.TheVariants.{Begins, Prepares, Decides, Looks, Finishes, Checks, Recovers, Over}
+use Rattle.mega_two_moves.specs.declared.told.State.{State}
+use Rattle.mega_two_moves.specs.declared.told.Told.{Told}
+use Rattle.mega_two_moves.specs.declared.told.Told.TheVariants.{Done, Turned, Again, Lost, Refused, NoPlan, Stands, Held, Free}
 use Rattle.mega_two_driver.specs.declared.plan.PartRequests.{PartRequests}
 use Rattle.mega_two_driver.specs.declared.plan.Plan.{Plan}
 use Rattle.mega_two_driver.specs.declared.two.Two.{Two}
-use Rattle.mega_two_driver.specs.Moves.{moved, by_state, is_within}
+use Rattle.mega_two_moves.specs.Moves.{moved, by_state, is_within}
 use Rattle.mega_two_driver.specs.Words.{transaction_told}
 use Rattle.mega_two_driver.specs.Rows.{plan_told, lock_told, plan_line}
 use Rattle.mega_two_driver.specs.Lines.{is_name}

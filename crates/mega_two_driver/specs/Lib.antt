@@ -1,4 +1,3 @@
-pub mod Moves
 pub mod Words
 pub mod Rows
 pub mod Texts
@@ -8,3 +7,5 @@ pub mod Fits
 pub mod Begins
 pub mod Answers
 pub mod Driver
+pub use Rattle.mega_two_moves.specs as of_moves
+pub use Rattle.mega_two_moves.specs.Moves

@@ -7,9 +7,9 @@ use Rattle.serde_json.specs.Data.{Data}
 use Rattle.serde_json.specs.Find.{get, at, as_null, as_str, as_number, as_u64}
 use Rattle.serde_json.specs.Read.{read as read_json}
 use Rattle.mega_syntax.specs.Names.{same}
-use Rattle.mega_two_driver.specs.declared.told.State.TheVariants.{Undecided, Made, Dropped}
-use Rattle.mega_two_driver.specs.declared.told.Told.{Told}
-use Rattle.mega_two_driver.specs.declared.told.Told.TheVariants.{Again, NoPlan, Stands, Held, Free}
+use Rattle.mega_two_moves.specs.declared.told.State.TheVariants.{Undecided, Made, Dropped}
+use Rattle.mega_two_moves.specs.declared.told.Told.{Told}
+use Rattle.mega_two_moves.specs.declared.told.Told.TheVariants.{Again, NoPlan, Stands, Held, Free}
 use Rattle.mega_two_driver.specs.Words.{has_word, unread_told}
 
 -- the list of rows: a reply from its first bracket on

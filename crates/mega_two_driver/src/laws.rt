@@ -1,11 +1,11 @@
 //! What holds of each change, as contracts of functions that do nothing.
 
 ghost use Rattle.std.specs.Prelude.{◌≡◌, List, length, is_none, is_some, true, ℕ};
-ghost use Rattle.mega_two_driver.specs.declared.phase.Phase.{Phase};
+ghost use Rattle.mega_two_moves.specs.declared.phase.Phase.{Phase};
 ghost use Rattle.mega_two_driver.specs.declared.plan.Plan.{Plan};
 ghost use Rattle.mega_two_driver.specs.declared.two.Two.{Two};
 ghost use Rattle.mega_two_driver.specs.Driver.{IsSound, asked_in, lost, taken};
-ghost use Rattle.mega_two_driver.specs.Moves.{ended_in, is_within};
+ghost use Rattle.mega_two_moves.specs.Moves.{ended_in, is_within};
 
 /// A change that is at one of its parts stays so, whatever it takes.
 pub fn changes_stay_at_their_parts()

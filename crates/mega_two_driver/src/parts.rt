@@ -13,6 +13,7 @@ use crate::plan::PartRequests;
 use crate::texts::{look_text, transaction_text};
 use mega_base::{Bytes, NoMemory};
 use mega_schema::Schema;
+use mega_two_moves::finish_of;
 use serde_json::Value as Json;
 use std::alloc::Global;
 
@@ -198,10 +199,9 @@ fn finish_writes(
 {
     let lock = lock_delete(alloc, part)?;
     let end = end_put(alloc, schema, made, name, part)?;
-    let mut out = Bytes::new(alloc);
-    put_own_writes(alloc, made, part, &mut out)?;
-    out.extend_from_slice(lock.as_slice())?;
-    out.extend_from_slice(end.as_slice())?;
+    let mut own = Bytes::new(alloc);
+    put_own_writes(alloc, made, part, &mut own)?;
+    let out = finish_of(own, lock.as_slice(), end.as_slice())?;
     bracketed(alloc, out.as_slice())
 }
 

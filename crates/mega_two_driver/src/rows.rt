@@ -4,10 +4,10 @@ ghost use Rattle.std.specs.Option.{option_copied};
 ghost use Rattle.serde_json.specs.View.{view};
 ghost use Rattle.mega_two_driver.specs.Rows.{data_in, first_row, holder_told, line_digits, list_in, lock_row_told, lock_told, number_in, plan_line, plan_row_told, plan_told, row_or_null, rows_in, state_told, text_in};
 
-use crate::told::{State, Told};
 use crate::words::{has_word, same, unread_told};
 use hex::FromHexError;
 use mega_base::{Bytes, NoMemory};
+use mega_two_moves::{State, Told};
 use serde_json::Value as Json;
 use std::alloc::Global;
 

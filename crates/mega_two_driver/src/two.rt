@@ -5,20 +5,18 @@ ghost use Rattle.std.specs.Result.{result_ok};
 ghost use Rattle.mega_two_driver.specs.Answers.{GivesOrReason};
 ghost use Rattle.mega_two_driver.specs.Begins.{plan_of};
 ghost use Rattle.mega_two_driver.specs.Driver.{asked_in, asks, begun, decision, finish_of, learned, look_of, lost, prepare_of, read_plan, recovered, stepped, taken, told_in};
-ghost use Rattle.mega_two_driver.specs.Moves.{ended_in};
+ghost use Rattle.mega_two_moves.specs.Moves.{ended_in};
 
 use crate::begins::plan_of;
 use crate::checks::is_name;
 use crate::fault::TwoFault;
-use crate::moves::{by_state, ended_in, moved};
-use crate::phase::{Ended, Phase};
 use crate::plan::{PartRequests, Plan, plan_named};
 use crate::rows::{lock_told, plan_line, plan_told};
 use crate::tables::has_plans;
-use crate::told::{State, Told};
 use crate::words::{same, transaction_told};
 use mega_base::{Copied, NoMemory, Text};
 use mega_schema::Schema;
+use mega_two_moves::{Ended, Phase, State, Told, by_state, ended_in, moved};
 use std::alloc::Global;
 
 /// A change of several groups: its requests, and where it is.

@@ -3,7 +3,7 @@ ghost use Rattle.std.specs.Prelude.{◌≡◌};
 ghost use Rattle.mega_syntax.specs.Names.{same};
 ghost use Rattle.mega_two_driver.specs.Words.{has_word, is_again, is_closed, transaction_told, unread_told};
 
-use crate::told::Told;
+use mega_two_moves::Told;
 
 /// Whether the two texts are the same.
 pub(crate) fn same(text: &[u8], other: &[u8]) -> bool

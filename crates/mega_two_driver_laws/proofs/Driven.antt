@@ -7,13 +7,13 @@ use Rattle.mega_two.specs.World.{Text, same, Plan, Request, Reply, Event}
 use Rattle.mega_two.specs.World as world
 use Rattle.mega_two.specs.Driver.{Driver, parts_read, next, asks, Reached, goes_on}
 use Rattle.mega_two.specs.Driver as drivers
-use Rattle.mega_two_driver.specs.declared.phase.Ended.{Ended}
-use Rattle.mega_two_driver.specs.declared.phase.Ended.TheVariants.{Committed, Aborted, Used, Open}
-use Rattle.mega_two_driver.specs.declared.phase.Phase.{Phase}
-use Rattle.mega_two_driver.specs.declared.phase.Phase.TheVariants.{Begins, Prepares, Decides, Looks, Finishes, Checks, Recovers, Over}
-use Rattle.mega_two_driver.specs.declared.told.State.{State}
-use Rattle.mega_two_driver.specs.declared.told.Told.{Told}
-use Rattle.mega_two_driver.specs.declared.told.Told.TheVariants.{Done, Turned, Again, Lost, Refused, NoPlan, Stands, Held, Free}
+use Rattle.mega_two_driver.specs.of_moves.declared.phase.Ended.{Ended}
+use Rattle.mega_two_driver.specs.of_moves.declared.phase.Ended.TheVariants.{Committed, Aborted, Used, Open}
+use Rattle.mega_two_driver.specs.of_moves.declared.phase.Phase.{Phase}
+use Rattle.mega_two_driver.specs.of_moves.declared.phase.Phase.TheVariants.{Begins, Prepares, Decides, Looks, Finishes, Checks, Recovers, Over}
+use Rattle.mega_two_driver.specs.of_moves.declared.told.State.{State}
+use Rattle.mega_two_driver.specs.of_moves.declared.told.Told.{Told}
+use Rattle.mega_two_driver.specs.of_moves.declared.told.Told.TheVariants.{Done, Turned, Again, Lost, Refused, NoPlan, Stands, Held, Free}
 use Rattle.mega_two_driver.specs.Moves.{preparing, ending_of, finishing, by_state, planned, prepared, decided, looked, finished, checked, moved, is_within}
 use Rattle.mega_two_driver_laws.specs.Joined.{ending_in, phase_in, driver_in, state_in, plan_in, lock_in, told_in}
 

@@ -5,14 +5,14 @@ use Rattle.mega_two.specs.World.{Text, same, Plan, Request, Planning, Preparing,
 use Rattle.mega_two.specs.World as world
 use Rattle.mega_two.specs.Driver.{Driver, Ending, parts_read}
 use Rattle.mega_two.specs.Driver as drivers
-use Rattle.mega_two_driver.specs.declared.phase.Ended.{Ended}
-use Rattle.mega_two_driver.specs.declared.phase.Ended.TheVariants.{Committed, Aborted, Used, Open}
-use Rattle.mega_two_driver.specs.declared.phase.Phase.{Phase}
-use Rattle.mega_two_driver.specs.declared.phase.Phase.TheVariants.{Begins, Prepares, Decides, Looks, Finishes, Checks, Recovers, Over}
-use Rattle.mega_two_driver.specs.declared.told.State.{State}
-use Rattle.mega_two_driver.specs.declared.told.State.TheVariants.{Undecided, Made, Dropped}
-use Rattle.mega_two_driver.specs.declared.told.Told.{Told}
-use Rattle.mega_two_driver.specs.declared.told.Told.TheVariants.{Done, Turned, Again, Lost, Refused, NoPlan, Stands, Held, Free}
+use Rattle.mega_two_driver.specs.of_moves.declared.phase.Ended.{Ended}
+use Rattle.mega_two_driver.specs.of_moves.declared.phase.Ended.TheVariants.{Committed, Aborted, Used, Open}
+use Rattle.mega_two_driver.specs.of_moves.declared.phase.Phase.{Phase}
+use Rattle.mega_two_driver.specs.of_moves.declared.phase.Phase.TheVariants.{Begins, Prepares, Decides, Looks, Finishes, Checks, Recovers, Over}
+use Rattle.mega_two_driver.specs.of_moves.declared.told.State.{State}
+use Rattle.mega_two_driver.specs.of_moves.declared.told.State.TheVariants.{Undecided, Made, Dropped}
+use Rattle.mega_two_driver.specs.of_moves.declared.told.Told.{Told}
+use Rattle.mega_two_driver.specs.of_moves.declared.told.Told.TheVariants.{Done, Turned, Again, Lost, Refused, NoPlan, Stands, Held, Free}
 
 abbrev pub ending_in : Ended → Ending
 ending_in Committed = drivers.Committed

@@ -1,11 +1,11 @@
 -- A change that does not recover never begins to.
 use Rattle.std.proofs.Common.{◌≡◌, ℕ, ◌+◌, Bool, true, false, nat_lt, if◌then◌else◌, refl}
-use Rattle.mega_two_driver.specs.declared.phase.Phase.{Phase}
-use Rattle.mega_two_driver.specs.declared.phase.Phase.TheVariants.{Begins, Prepares, Decides, Looks, Finishes, Checks, Recovers, Over}
-use Rattle.mega_two_driver.specs.declared.told.State.{State}
-use Rattle.mega_two_driver.specs.declared.told.State.TheVariants.{Undecided, Made, Dropped}
-use Rattle.mega_two_driver.specs.declared.told.Told.{Told}
-use Rattle.mega_two_driver.specs.declared.told.Told.TheVariants.{Done, Turned, Again, Lost, Refused, NoPlan, Stands, Held, Free}
+use Rattle.mega_two_driver.specs.of_moves.declared.phase.Phase.{Phase}
+use Rattle.mega_two_driver.specs.of_moves.declared.phase.Phase.TheVariants.{Begins, Prepares, Decides, Looks, Finishes, Checks, Recovers, Over}
+use Rattle.mega_two_driver.specs.of_moves.declared.told.State.{State}
+use Rattle.mega_two_driver.specs.of_moves.declared.told.State.TheVariants.{Undecided, Made, Dropped}
+use Rattle.mega_two_driver.specs.of_moves.declared.told.Told.{Told}
+use Rattle.mega_two_driver.specs.of_moves.declared.told.Told.TheVariants.{Done, Turned, Again, Lost, Refused, NoPlan, Stands, Held, Free}
 use Rattle.mega_two_driver.specs.Moves.{preparing, ending_of, finishing, by_state, planned, prepared, decided, looked, finished, checked, moved}
 use Rattle.mega_two_driver.specs.Driver.{is_recovering}
 

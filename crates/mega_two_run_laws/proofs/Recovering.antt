@@ -3,13 +3,13 @@ use Rattle.std.proofs.Common.{◌≡◌, ℕ, Bool, true, false, List, [], ◌�
 use Rattle.std.specs.Result.{result_ok}
 use Rattle.mega_syntax.specs.Names.{same}
 use Rattle.mega_link.specs.Datagrams.{Datagram}
-use Rattle.mega_two_driver.specs.declared.phase.Ended.TheVariants.{Committed, Open}
-use Rattle.mega_two_driver.specs.declared.phase.Phase.{Phase}
-use Rattle.mega_two_driver.specs.declared.phase.Phase.TheVariants.{Recovers, Over}
+use Rattle.mega_two_driver.specs.of_moves.declared.phase.Ended.TheVariants.{Committed, Open}
+use Rattle.mega_two_driver.specs.of_moves.declared.phase.Phase.{Phase}
+use Rattle.mega_two_driver.specs.of_moves.declared.phase.Phase.TheVariants.{Recovers, Over}
 use Rattle.mega_two_driver.specs.declared.plan.Plan.{Plan}
-use Rattle.mega_two_driver.specs.declared.told.State.{State}
-use Rattle.mega_two_driver.specs.declared.told.Told.{Told}
-use Rattle.mega_two_driver.specs.declared.told.Told.TheVariants.{Done, Turned, Again, Lost, Refused, NoPlan, Stands, Held, Free}
+use Rattle.mega_two_driver.specs.of_moves.declared.told.State.{State}
+use Rattle.mega_two_driver.specs.of_moves.declared.told.Told.{Told}
+use Rattle.mega_two_driver.specs.of_moves.declared.told.Told.TheVariants.{Done, Turned, Again, Lost, Refused, NoPlan, Stands, Held, Free}
 use Rattle.mega_two_driver.specs.declared.two.Two.{Two}
 use Rattle.mega_two_driver.specs.Moves.{by_state, moved}
 use Rattle.mega_two_driver.specs.Rows.{plan_line, plan_told}

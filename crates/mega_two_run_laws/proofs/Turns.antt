@@ -1,13 +1,13 @@
 -- Where a change is after its turns, by what it was told in them.
 use Rattle.std.proofs.Common.{◌≡◌, ℕ, Bool, true, false, List, [], ◌∷◌, ◌++◌, length, Option, Some, None, if◌then◌else◌, refl, sym, ◌∙◌, ap, subst}
 use Rattle.mega_link.specs.Datagrams.{Datagram}
-use Rattle.mega_two_driver.specs.declared.phase.Ended.{Ended}
-use Rattle.mega_two_driver.specs.declared.phase.Ended.TheVariants.{Committed}
-use Rattle.mega_two_driver.specs.declared.phase.Phase.{Phase}
-use Rattle.mega_two_driver.specs.declared.phase.Phase.TheVariants.{Begins, Prepares, Decides, Looks, Finishes, Checks, Recovers, Over}
+use Rattle.mega_two_driver.specs.of_moves.declared.phase.Ended.{Ended}
+use Rattle.mega_two_driver.specs.of_moves.declared.phase.Ended.TheVariants.{Committed}
+use Rattle.mega_two_driver.specs.of_moves.declared.phase.Phase.{Phase}
+use Rattle.mega_two_driver.specs.of_moves.declared.phase.Phase.TheVariants.{Begins, Prepares, Decides, Looks, Finishes, Checks, Recovers, Over}
 use Rattle.mega_two_driver.specs.declared.plan.Plan.{Plan}
-use Rattle.mega_two_driver.specs.declared.told.Told.{Told}
-use Rattle.mega_two_driver.specs.declared.told.Told.TheVariants.{Lost}
+use Rattle.mega_two_driver.specs.of_moves.declared.told.Told.{Told}
+use Rattle.mega_two_driver.specs.of_moves.declared.told.Told.TheVariants.{Lost}
 use Rattle.mega_two_driver.specs.declared.two.Two.{Two}
 use Rattle.mega_two_driver.specs.Moves.{ended_in, moved}
 use Rattle.mega_two_driver.specs.Rows.{plan_told}

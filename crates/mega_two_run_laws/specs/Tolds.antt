@@ -1,8 +1,8 @@
 -- What a change is told in its turns, the newest first: that a request was lost, or what the reply to it tells.
 use Rattle.std.specs.Prelude.{ℕ, if◌then◌else◌, List, [], ◌∷◌, ◌++◌, Option, Some, None}
 use Rattle.mega_link.specs.Datagrams.{Datagram}
-use Rattle.mega_two_driver.specs.declared.told.Told.{Told}
-use Rattle.mega_two_driver.specs.declared.told.Told.TheVariants.{Lost}
+use Rattle.mega_two_driver.specs.of_moves.declared.told.Told.{Told}
+use Rattle.mega_two_driver.specs.of_moves.declared.told.Told.TheVariants.{Lost}
 use Rattle.mega_two_driver.specs.declared.two.Two.{Two}
 use Rattle.mega_two_driver.specs.Driver.{told_in}
 use Rattle.mega_two_turns.specs.declared.driving.Driving.{Driving}

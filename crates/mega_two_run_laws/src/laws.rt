@@ -2,8 +2,8 @@
 
 ghost use Rattle.std.specs.Prelude.{◌≡◌, ℕ, List, Option, Some, true, length, nat_lt};
 ghost use Rattle.mega_link.specs.Datagrams.{Datagram};
-ghost use Rattle.mega_two_driver.specs.declared.phase.Ended.TheVariants as endings;
-ghost use Rattle.mega_two_driver.specs.declared.phase.Phase.TheVariants as phases;
+ghost use Rattle.mega_two_driver.specs.of_moves.declared.phase.Ended.TheVariants as endings;
+ghost use Rattle.mega_two_driver.specs.of_moves.declared.phase.Phase.TheVariants as phases;
 ghost use Rattle.mega_two_driver.specs.declared.two.Two.{Two};
 ghost use Rattle.mega_two_driver_laws.specs.Runs.{closes, run, shows_made, was};
 ghost use Rattle.mega_two_turns.specs.Turns.{driven, ending, start};

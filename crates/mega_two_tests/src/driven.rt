@@ -5,12 +5,12 @@ use mega_base::Text;
 use mega_schema::{Schema, parse};
 use mega_two_driver::{Ended, Two, TwoFault};
 use std::alloc::Global;
-use std::test::Fail;
+use std::process::Abort;
 
 /// The schema of the samples.
-pub fn schema(alloc: Global) -> Result<Schema, Fail> {
-    let text = Text::from_str(alloc, samples::SCHEMA)?;
-    Ok(parse(alloc, &text)?)
+pub fn schema(rt: &impl Abort, alloc: Global) -> Schema {
+    let text = Text::from_str(alloc, samples::SCHEMA).expect(rt, "refused");
+    parse(alloc, &text).expect(rt, "refused")
 }
 
 /// The word of an end.
@@ -62,10 +62,10 @@ pub fn is_at(two: &Two, wanted: &str) -> bool {
 }
 
 /// The reason for which a line begins no change, 0 where it begins one, 255 where memory ran out.
-pub fn reason_of(alloc: Global, schema: &Schema, line: &str) -> Result<u8, Fail> {
+pub fn reason_of(alloc: Global, schema: &Schema, line: &str) -> u8 {
     match Two::begin(alloc, schema, line.as_bytes()) {
-        Ok(_) => Ok(0),
-        Err(TwoFault::Refused { reason }) => Ok(reason),
-        Err(TwoFault::NoMemory) => Ok(255),
+        Ok(_) => 0,
+        Err(TwoFault::Refused { reason }) => reason,
+        Err(TwoFault::NoMemory) => 255,
     }
 }

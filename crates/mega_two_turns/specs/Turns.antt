@@ -2,7 +2,7 @@
 use Rattle.std.specs.Prelude.{◌≡◌, ℕ, ◌+◌, ◌*◌, ◌≤◌, nat_le, if◌then◌else◌, Bool, true, List, [], ◌∷◌, ◌++◌, length, Option, Some, None, is_none, option_map}
 use Rattle.mega_link.specs.declared.peer.Peer.TheVariants.{Node}
 use Rattle.mega_link.specs.Datagrams.{Datagram}
-use Rattle.mega_two_driver.specs.declared.phase.Ended.{Ended}
+use Rattle.mega_two_driver.specs.of_moves.declared.phase.Ended.{Ended}
 use Rattle.mega_two_driver.specs.declared.two.Two.{Two}
 use Rattle.mega_two_driver.specs.Driver.{asks, taken, lost}
 use Rattle.mega_two_driver.specs.Moves.{ended_in}

@@ -1,7 +1,7 @@
 -- How a run of the word `two` ends: with a status, and a line that is the whole output; or it is cut off.
 use Rattle.std.specs.Prelude.{◌≡◌, ◌⊎◌, ℕ, ◌==◌, ◌||◌, Bool, List, ◌++◌, codes, decimal, Option, Some, None}
-use Rattle.mega_two_driver.specs.declared.phase.Ended.{Ended}
-use Rattle.mega_two_driver.specs.declared.phase.Ended.TheVariants as endings
+use Rattle.mega_two_driver.specs.of_moves.declared.phase.Ended.{Ended}
+use Rattle.mega_two_driver.specs.of_moves.declared.phase.Ended.TheVariants as endings
 use Rattle.mega_two_words.specs.declared.last.Last.{Last}
 use Rattle.mega_two_words.specs.declared.last.Last.TheVariants.{Header, Refused, Ended as EndedSo}
 use Rattle.mega_two_words.specs.declared.stop.Stop.{Stop}

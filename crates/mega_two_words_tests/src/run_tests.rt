@@ -9,31 +9,30 @@ use mega_two_words::run_two;
 use mega_wire::{Body, Message, encode};
 use std::alloc::Global;
 use std::process::Abort;
-use std::test::Fail;
 
 /// A source of texts, one behind the other.
-fn source(alloc: Global, texts: &[&str]) -> Result<MemSource, Fail> {
+fn source(rt: &impl Abort, alloc: Global, texts: &[&str]) -> MemSource {
     let mut bytes = Vec::new(alloc);
     for text in texts {
-        bytes.extend_from_slice(text.as_bytes())?;
+        bytes
+            .extend_from_slice(text.as_bytes())
+            .expect(rt, "refused");
     }
-    Ok(MemSource::new(bytes, Vec::new(alloc)))
+    MemSource::new(bytes, Vec::new(alloc))
 }
 
 /// The reply of node 1 to the first request.
-fn reply(alloc: Global, text: &str) -> Result<Bytes, Fail> {
-    let text = Bytes::from_slice(alloc, text.as_bytes())?;
+fn reply(rt: &impl Abort, alloc: Global, text: &str) -> Bytes {
+    let text = Bytes::from_slice(alloc, text.as_bytes()).expect(rt, "refused");
     let message = Message {
         from: 1,
         to: 0,
         body: Body::Reply { token: 1, text },
     };
-    if !is_message(&message) {
-        return Err(Fail::from("no message"));
-    }
+    assert!(rt; is_message(&message));
     let mut bytes = Bytes::new(alloc);
-    encode(&message, &mut bytes)?;
-    Ok(bytes)
+    encode(&message, &mut bytes).expect(rt, "refused");
+    bytes
 }
 
 /// Asserts the status and the output of a run of three turns, to which a reply comes.
@@ -44,22 +43,24 @@ fn check(
     recover: Option<&Text>,
     told: &str,
     wanted: (u8, &str),
-) -> Result<(), Fail> {
-    let mut input = source(alloc, texts)?;
+) {
+    let mut input = source(rt, alloc, texts);
     let mut out = MemSink::new(alloc, Vec::new(alloc));
-    let reply = reply(alloc, told)?;
-    let mut link = MemLink::new(alloc, vec![in alloc; Some((Peer::Node(NodeId(1)), reply))]?);
+    let reply = reply(rt, alloc, told);
+    let mut link = MemLink::new(
+        alloc,
+        vec![in alloc; Some((Peer::Node(NodeId(1)), reply))].expect(rt, "refused"),
+    );
     let mut clock = MemClock::new(Vec::new(alloc));
     let status = run_two(
         alloc, 1, 3, recover, &mut input, &mut out, &mut link, &mut clock,
     );
     assert_eq!(rt; status, wanted.0);
     assert_eq!(rt; out.bytes(), wanted.1.as_bytes());
-    Ok(())
 }
 
 #[test]
-fn a_change_ends_by_the_reply_that_comes(rt: HostRuntime) -> Result<(), Fail> {
+fn a_change_ends_by_the_reply_that_comes(rt: HostRuntime) {
     let alloc = rt.alloc();
     let texts = [samples::HEADER, samples::ADDRESSES, "---\n", samples::LINE];
     check(
@@ -69,7 +70,7 @@ fn a_change_ends_by_the_reply_that_comes(rt: HostRuntime) -> Result<(), Fail> {
         None,
         "turned check 0",
         (0, "two t1 used\n"),
-    )?;
+    );
     check(
         &rt,
         alloc,
@@ -77,9 +78,9 @@ fn a_change_ends_by_the_reply_that_comes(rt: HostRuntime) -> Result<(), Fail> {
         None,
         "committed 1 []",
         (0, "two t1 open\n"),
-    )?;
+    );
     let header = [samples::HEADER, samples::ADDRESSES];
-    let name = Text::from_str(alloc, "t2")?;
+    let name = Text::from_str(alloc, "t2").expect(&rt, "refused");
     check(
         &rt,
         alloc,
@@ -87,18 +88,16 @@ fn a_change_ends_by_the_reply_that_comes(rt: HostRuntime) -> Result<(), Fail> {
         Some(&name),
         "read 1 [null]",
         (0, "two t2 open\n"),
-    )?;
-    Ok(())
+    );
 }
 
 #[test]
-fn inputs_are_refused(rt: HostRuntime) -> Result<(), Fail> {
+fn inputs_are_refused(rt: HostRuntime) {
     let alloc = rt.alloc();
     let bare = [samples::HEADER, "---\n", samples::LINE];
-    check(&rt, alloc, &bare, None, "", (3, "header 8\n"))?;
+    check(&rt, alloc, &bare, None, "", (3, "header 8\n"));
     let unmarked = [samples::HEADER, samples::ADDRESSES];
-    check(&rt, alloc, &unmarked, None, "", (3, "header 9\n"))?;
+    check(&rt, alloc, &unmarked, None, "", (3, "header 9\n"));
     let none = [samples::HEADER, samples::ADDRESSES, "---\n"];
-    check(&rt, alloc, &none, None, "", (4, "refused 1 schedule 1\n"))?;
-    Ok(())
+    check(&rt, alloc, &none, None, "", (4, "refused 1 schedule 1\n"));
 }

@@ -5,20 +5,20 @@ use Rattle.std.proofs.lemmas.List.Elements.{All-append, All-cons, All-head, All-
 use Rattle.mega_base.specs.declared.names.Epoch.{Epoch}
 use Rattle.mega_base.specs.declared.names.GroupId.{GroupId}
 use Rattle.mega_cluster.specs.declared.cluster.Cluster.{Cluster}
-use Rattle.mega_leases.specs.Opening.{AreOwed}
+use Rattle.mega_places.specs.of_leases.Opening.{AreOwed}
 use Rattle.mega_wal.specs.History.{granted_of}
 use Rattle.mega_wal.specs.Kept.{slot_of}
-use Rattle.mega_rules.specs.Clock.{is_up, start_of}
-use Rattle.mega_rules.specs.Met.{Met, Starts, Crashes, Ticks, Begins, Takes, Sends, Unsends, Grants, Lapses, Counts, Forgets, Serves, Loses, Validates, Invalidates, Decides, Applies, Answers}
-use Rattle.mega_rules.specs.Logs.{groups_of, prefix_of}
-use Rattle.mega_rules.specs.Members.{has_rows}
-use Rattle.mega_rules.specs.Operations.{Setting}
-use Rattle.mega_rules.specs.Steps.{crashed, onto, start, start_note, start_notes}
-use Rattle.mega_voter.specs.Holding.{HoldsMet, is_no_start}
-use Rattle.mega_voter.proofs.Begun.{Beside, beside_more}
-use Rattle.mega_voter.proofs.Opened.{granted_without, slots_without}
-use Rattle.mega_voter.specs.Journal.{journal_of}
-use Rattle.mega_promises.specs.Runs.{Standing, after_append, cut_start, has_lapsed, is_kept, left_by, set_at, setting}
+use Rattle.mega_places.specs.of_voter.of_rules.Clock.{is_up, start_of}
+use Rattle.mega_places.specs.of_voter.of_rules.Met.{Met, Starts, Crashes, Ticks, Begins, Takes, Sends, Unsends, Grants, Lapses, Counts, Forgets, Serves, Loses, Validates, Invalidates, Decides, Applies, Answers}
+use Rattle.mega_places.specs.of_voter.of_rules.Logs.{groups_of, prefix_of}
+use Rattle.mega_places.specs.of_voter.of_rules.Members.{has_rows}
+use Rattle.mega_places.specs.of_voter.of_rules.Operations.{Setting}
+use Rattle.mega_places.specs.of_voter.of_rules.Steps.{crashed, onto, start, start_note, start_notes}
+use Rattle.mega_places.specs.of_voter.Holding.{HoldsMet, is_no_start}
+use Rattle.mega_places.proofs.of_voter.Begun.{Beside, beside_more}
+use Rattle.mega_places.proofs.of_voter.Opened.{granted_without, slots_without}
+use Rattle.mega_places.specs.of_voter.Journal.{journal_of}
+use Rattle.mega_places.specs.of_promises.Runs.{Standing, after_append, cut_start, has_lapsed, is_kept, left_by, set_at, setting}
 use Rattle.mega_places.specs.declared.fallen.Fallen.{Fallen}
 use Rattle.mega_places.specs.declared.place.Place.{Place}
 use Rattle.mega_places.specs.declared.place.Place.TheVariants.{Up, Down}

@@ -1,10 +1,10 @@
 -- What comes behind the items in hand comes behind all of the tape.
 use Rattle.std.proofs.Common.{◌≡◌, cond, Bool, true, false, List, [], ◌∷◌, ◌++◌, ap, ◌∙◌, sym, refl, append_assoc, append-nil}
 use Rattle.mega_cluster.specs.declared.cluster.Cluster.{Cluster}
-use Rattle.mega_transcript.specs.declared.item.Item.{Item}
-use Rattle.mega_transcript.specs.Tape.{newest, onto}
-use Rattle.mega_transcript.proofs.Tapes.{newest-append, onto-append}
-use Rattle.mega_promises.specs.Runs.{Standing}
+use Rattle.mega_places.specs.of_promises.of_transcript.declared.item.Item.{Item}
+use Rattle.mega_places.specs.of_promises.of_transcript.Tape.{newest, onto}
+use Rattle.mega_places.proofs.of_transcript.Tapes.{newest-append, onto-append}
+use Rattle.mega_places.specs.of_promises.Runs.{Standing}
 use Rattle.mega_world.specs.declared.world.World.{World}
 use Rattle.mega_world.specs.Stands.{IsAt, StandsWith}
 

@@ -3,20 +3,20 @@ use Rattle.std.proofs.Common.{◌≡◌, ℕ, ◌++◌, ◌∷◌, [], List, Opt
 use Rattle.mega_base.specs.declared.names.NodeId.{NodeId}
 use Rattle.mega_base.specs.declared.names.OpId.{OpId}
 use Rattle.mega_cluster.specs.declared.cluster.Cluster.{Cluster}
-use Rattle.mega_durable.specs.Standing.{IsPlacedAt, MayHappen}
-use Rattle.mega_handler.specs.Named.{Meaning, Meanings}
-use Rattle.mega_meanings.specs.Means.{Means}
-use Rattle.mega_outcome.specs.declared.request.Request.{Request}
-use Rattle.mega_schedule.specs.declared.world_event.WorldEvent.TheVariants.{Begin as BeginEvent, Deliver, Tick as TickEvent}
-use Rattle.mega_transcript.specs.declared.item.Item.{Item}
-use Rattle.mega_transcript.specs.declared.item.Item.TheVariants.{Begin as BeginItem, Tick as TickItem}
+use Rattle.mega_places.specs.of_durable.Standing.{IsPlacedAt, MayHappen}
+use Rattle.mega_places.specs.of_handler.Named.{Meaning, Meanings}
+use Rattle.mega_places.specs.of_meanings.Means.{Means}
+use Rattle.mega_places.specs.of_outcome.declared.request.Request.{Request}
+use Rattle.mega_places.specs.of_promises.of_schedule.declared.world_event.WorldEvent.TheVariants.{Begin as BeginEvent, Deliver, Tick as TickEvent}
+use Rattle.mega_places.specs.of_promises.of_transcript.declared.item.Item.{Item}
+use Rattle.mega_places.specs.of_promises.of_transcript.declared.item.Item.TheVariants.{Begin as BeginItem, Tick as TickItem}
 use Rattle.mega_wire.specs.declared.message.Message.{Message}
-use Rattle.mega_rules.specs.Members.{is_node}
-use Rattle.mega_rules.specs.Met.{Begins, Ticks}
-use Rattle.mega_rules.specs.Steps.{Begin, Event, Take, Tick, op_of, step}
-use Rattle.mega_promises.specs.Items.{number, shown}
-use Rattle.mega_promises.specs.Messages.{message_of}
-use Rattle.mega_promises.specs.Runs.{Standing, setting}
+use Rattle.mega_places.specs.of_voter.of_rules.Members.{is_node}
+use Rattle.mega_places.specs.of_voter.of_rules.Met.{Begins, Ticks}
+use Rattle.mega_places.specs.of_voter.of_rules.Steps.{Begin, Event, Take, Tick, op_of, step}
+use Rattle.mega_places.specs.of_promises.Items.{number, shown}
+use Rattle.mega_places.specs.of_promises.Messages.{message_of}
+use Rattle.mega_places.specs.of_promises.Runs.{Standing, setting}
 use Rattle.mega_places.specs.declared.mail.Mail.{Mail}
 use Rattle.mega_world.specs.declared.world.World.{World}
 use Rattle.mega_places.specs.Carries.{Carries}

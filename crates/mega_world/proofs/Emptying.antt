@@ -2,16 +2,16 @@
 use Rattle.std.proofs.Common.{◌≡◌, ℕ, ◌+◌, ◌-◌, ◌<◌, ◌≤◌, List, [], ◌∷◌, ◌++◌, Option, Some, None, refl, sym, ap, ◌∙◌, subst, suc, arith}
 use Rattle.std.specs.List.{All}
 use Rattle.mega_cluster.specs.declared.cluster.Cluster.{Cluster}
-use Rattle.mega_handler.specs.Named.{Meaning, Meanings}
-use Rattle.mega_meanings.proofs.Lasting.{means_still}
-use Rattle.mega_schedule.specs.declared.world_event.WorldEvent.TheVariants.{Deliver, Drain, Drop}
-use Rattle.mega_transcript.specs.declared.item.Item.{Item}
-use Rattle.mega_transcript.specs.declared.item.Item.TheVariants.{Cut, Dropped}
-use Rattle.mega_transcript.specs.Lines.{HasLine}
-use Rattle.mega_transcript.specs.Tape.{newest}
-use Rattle.mega_transcript.proofs.Tapes.{newest-append}
-use Rattle.mega_promises.specs.Messages.{next_delivery}
-use Rattle.mega_promises.specs.Runs.{Standing, after_event, by_fuse, delivered, drained, marked, up}
+use Rattle.mega_places.specs.of_handler.Named.{Meaning, Meanings}
+use Rattle.mega_places.proofs.of_meanings.Lasting.{means_still}
+use Rattle.mega_places.specs.of_promises.of_schedule.declared.world_event.WorldEvent.TheVariants.{Deliver, Drain, Drop}
+use Rattle.mega_places.specs.of_promises.of_transcript.declared.item.Item.{Item}
+use Rattle.mega_places.specs.of_promises.of_transcript.declared.item.Item.TheVariants.{Cut, Dropped}
+use Rattle.mega_places.specs.of_promises.of_transcript.Lines.{HasLine}
+use Rattle.mega_places.specs.of_promises.of_transcript.Tape.{newest}
+use Rattle.mega_places.proofs.of_transcript.Tapes.{newest-append}
+use Rattle.mega_places.specs.of_promises.Messages.{next_delivery}
+use Rattle.mega_places.specs.of_promises.Runs.{Standing, after_event, by_fuse, delivered, drained, marked, up}
 use Rattle.mega_places.specs.declared.place.Place.{Place}
 use Rattle.mega_places.specs.declared.safety.Safety.{Safety}
 use Rattle.mega_world.specs.declared.world.World.{World}

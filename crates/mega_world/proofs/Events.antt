@@ -1,16 +1,16 @@
 -- What a step that is whole shows, and where a drain goes on.
 use Rattle.std.proofs.Common.{◌≡◌, ℕ, ◌+◌, List, flat_map, Some, None, ap, zero, suc}
 use Rattle.mega_cluster.specs.declared.cluster.Cluster.{Cluster}
-use Rattle.mega_handler.specs.Named.{Meanings}
-use Rattle.mega_schedule.specs.declared.world_event.WorldEvent.TheVariants.{Deliver}
-use Rattle.mega_transcript.specs.declared.item.Item.{Item}
-use Rattle.mega_transcript.specs.declared.item.Item.TheVariants.{Cut as CutItem}
-use Rattle.mega_transcript.specs.Tape.{onto, sent_count}
-use Rattle.mega_rules.specs.Operations.{Node}
-use Rattle.mega_rules.specs.Steps.{Step}
-use Rattle.mega_promises.specs.Items.{numbered, shown}
-use Rattle.mega_promises.specs.Messages.{next_delivery}
-use Rattle.mega_promises.specs.Runs.{Standing, after_event, by_fuse, delivered, drained, marked, set_at, unless_none, up, whole_step, with_items}
+use Rattle.mega_places.specs.of_handler.Named.{Meanings}
+use Rattle.mega_places.specs.of_promises.of_schedule.declared.world_event.WorldEvent.TheVariants.{Deliver}
+use Rattle.mega_places.specs.of_promises.of_transcript.declared.item.Item.{Item}
+use Rattle.mega_places.specs.of_promises.of_transcript.declared.item.Item.TheVariants.{Cut as CutItem}
+use Rattle.mega_places.specs.of_promises.of_transcript.Tape.{onto, sent_count}
+use Rattle.mega_places.specs.of_voter.of_rules.Operations.{Node}
+use Rattle.mega_places.specs.of_voter.of_rules.Steps.{Step}
+use Rattle.mega_places.specs.of_promises.Items.{numbered, shown}
+use Rattle.mega_places.specs.of_promises.Messages.{next_delivery}
+use Rattle.mega_places.specs.of_promises.Runs.{Standing, after_event, by_fuse, delivered, drained, marked, set_at, unless_none, up, whole_step, with_items}
 use Rattle.mega_places.proofs.Plain.{with_step}
 
 -- what a whole step shows, oldest first in three pieces: the event's own items, the notes, and the messages with the next numbers

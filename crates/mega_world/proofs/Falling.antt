@@ -5,24 +5,24 @@ use Rattle.std.specs.List.{slice_get}
 use Rattle.mega_base.specs.declared.names.Epoch.{Epoch}
 use Rattle.mega_base.specs.declared.names.NodeId.{NodeId}
 use Rattle.mega_cluster.specs.declared.cluster.Cluster.{Cluster}
-use Rattle.mega_handler.specs.Named.{Meanings}
-use Rattle.mega_leases.specs.Opening.{AreOwed}
-use Rattle.mega_schedule.specs.declared.world_event.WorldEvent.TheVariants.{Crash as CrashEvent, Start as StartEvent}
-use Rattle.mega_transcript.specs.declared.item.Item.{Item}
-use Rattle.mega_transcript.specs.declared.item.Item.TheVariants.{Crash}
-use Rattle.mega_transcript.specs.Tape.{newest}
-use Rattle.mega_transcript.proofs.Tapes.{newest-append}
-use Rattle.mega_format_laws.specs.Nodes.{IsNode}
+use Rattle.mega_places.specs.of_handler.Named.{Meanings}
+use Rattle.mega_places.specs.of_leases.Opening.{AreOwed}
+use Rattle.mega_places.specs.of_promises.of_schedule.declared.world_event.WorldEvent.TheVariants.{Crash as CrashEvent, Start as StartEvent}
+use Rattle.mega_places.specs.of_promises.of_transcript.declared.item.Item.{Item}
+use Rattle.mega_places.specs.of_promises.of_transcript.declared.item.Item.TheVariants.{Crash}
+use Rattle.mega_places.specs.of_promises.of_transcript.Tape.{newest}
+use Rattle.mega_places.proofs.of_transcript.Tapes.{newest-append}
+use Rattle.mega_member_laws.specs.of_format_laws.Nodes.{IsNode}
 use Rattle.mega_member_laws.specs.Nodes.{StaysWithin}
-use Rattle.mega_rules.specs.Clock.{start_of}
-use Rattle.mega_rules.specs.Met.{Crashes, Met}
-use Rattle.mega_rules.specs.Operations.{Node as RuleNode}
-use Rattle.mega_rules.specs.Steps.{crashed, onto}
-use Rattle.mega_replica.specs.Following.{progress_at}
-use Rattle.mega_voter.specs.Holding.{HoldsMet}
-use Rattle.mega_voter.proofs.Holding.{told_recalled}
-use Rattle.mega_durable.proofs.Fallen.{crash_followed, crash_held, crash_recalled}
-use Rattle.mega_promises.specs.Runs.{Standing, after_event, by_fuse, crashes, has_lapsed, set_at}
+use Rattle.mega_places.specs.of_voter.of_rules.Clock.{start_of}
+use Rattle.mega_places.specs.of_voter.of_rules.Met.{Crashes, Met}
+use Rattle.mega_places.specs.of_voter.of_rules.Operations.{Node as RuleNode}
+use Rattle.mega_places.specs.of_voter.of_rules.Steps.{crashed, onto}
+use Rattle.mega_places.specs.of_voter.of_rules.of_replica.Following.{progress_at}
+use Rattle.mega_places.specs.of_voter.Holding.{HoldsMet}
+use Rattle.mega_places.proofs.of_voter.Holding.{told_recalled}
+use Rattle.mega_places.proofs.of_durable.Fallen.{crash_followed, crash_held, crash_recalled}
+use Rattle.mega_places.specs.of_promises.Runs.{Standing, after_event, by_fuse, crashes, has_lapsed, set_at}
 use Rattle.mega_places.specs.declared.member.Member.{Member}
 use Rattle.mega_places.specs.declared.place.Place.{Place}
 use Rattle.mega_places.specs.declared.place.Place.TheVariants.{Down, Up}

@@ -1,18 +1,18 @@
 -- What events lead to under fuses that fail at the append which they name.
 use Rattle.std.proofs.Common.{◌≡◌, ℕ, ◌∷◌, [], ◌&&◌, cond, true, false, List, Some, None, subst, sym, ap, ◌∙◌}
 use Rattle.mega_cluster.specs.declared.cluster.Cluster.{Cluster}
-use Rattle.mega_handler.specs.Named.{Meanings}
-use Rattle.mega_schedule.specs.declared.world_event.WorldEvent.TheVariants.{Deliver}
+use Rattle.mega_places.specs.of_handler.Named.{Meanings}
+use Rattle.mega_places.specs.of_promises.of_schedule.declared.world_event.WorldEvent.TheVariants.{Deliver}
 use Rattle.mega_wire.specs.declared.message.Message.{Message}
-use Rattle.mega_transcript.specs.declared.item.Item.{Item}
-use Rattle.mega_transcript.specs.declared.item.Item.TheVariants.{Crash, Taken}
-use Rattle.mega_transcript.specs.Tape.{onto}
-use Rattle.mega_rules.specs.Met.{Crashes}
-use Rattle.mega_rules.specs.Operations.{Node}
-use Rattle.mega_rules.specs.Steps.{Event, Take, step}
-use Rattle.mega_promises.specs.Items.{number, shown}
-use Rattle.mega_promises.specs.Messages.{message_of}
-use Rattle.mega_promises.specs.Runs.{CutByLog, Standing, Whole, after_event, appends, at_node, by_fuse, calls_of, cut_start, fate_by, fated, fated_start, handed, is_burning, left_by, met_in, replies_in, set_at, setting, start_calls, whole_step, with_items}
+use Rattle.mega_places.specs.of_promises.of_transcript.declared.item.Item.{Item}
+use Rattle.mega_places.specs.of_promises.of_transcript.declared.item.Item.TheVariants.{Crash, Taken}
+use Rattle.mega_places.specs.of_promises.of_transcript.Tape.{onto}
+use Rattle.mega_places.specs.of_voter.of_rules.Met.{Crashes}
+use Rattle.mega_places.specs.of_voter.of_rules.Operations.{Node}
+use Rattle.mega_places.specs.of_voter.of_rules.Steps.{Event, Take, step}
+use Rattle.mega_places.specs.of_promises.Items.{number, shown}
+use Rattle.mega_places.specs.of_promises.Messages.{message_of}
+use Rattle.mega_places.specs.of_promises.Runs.{CutByLog, Standing, Whole, after_event, appends, at_node, by_fuse, calls_of, cut_start, fate_by, fated, fated_start, handed, is_burning, left_by, met_in, replies_in, set_at, setting, start_calls, whole_step, with_items}
 use Rattle.mega_world.specs.Restarting.{started}
 use Rattle.mega_world.specs.declared.world.World.{World}
 use Rattle.mega_world.specs.Stands.{StandsWith}

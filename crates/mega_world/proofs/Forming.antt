@@ -2,24 +2,24 @@
 use Rattle.std.proofs.Common.{◌≡◌, ℕ, ◌+◌, ◌==◌, cond, Bool, true, false, List, [], ◌∷◌, flat_map, Some, sym, ◌∙◌, subst, arith}
 use Rattle.std.proofs.lemmas.Bool.Decides.{nat_tests}
 use Rattle.mega_cluster.specs.declared.cluster.Cluster.{Cluster}
-use Rattle.mega_handler.specs.Named.{Meanings}
+use Rattle.mega_places.specs.of_handler.Named.{Meanings}
 use Rattle.mega_wire.specs.declared.message.Message.{Message}
 use Rattle.mega_wire.specs.Messages.{IsMessage}
-use Rattle.mega_transcript.specs.declared.item.Item.{Item}
-use Rattle.mega_transcript.specs.declared.item.Item.TheVariants.{Sent}
-use Rattle.mega_transcript.specs.Tape.{onto, sent_count}
-use Rattle.mega_rules.specs.Members.{is_node}
-use Rattle.mega_rules.specs.Met.{Met}
-use Rattle.mega_rules.specs.Operations.{Node}
-use Rattle.mega_rules.specs.Steps.{Event, Step, step}
-use Rattle.mega_format_laws.specs.Histories.{IsCluster}
-use Rattle.mega_format_laws.specs.Nodes.{IsEvent, IsNode, IsStep}
-use Rattle.mega_format_laws.specs.Requests.{AreHandlers}
-use Rattle.mega_format_laws.specs.Rounds.{Each, IsMember}
-use Rattle.mega_format_laws.proofs.Whole.{whole_step as step_formed}
-use Rattle.mega_promises.specs.Items.{numbered, shown}
-use Rattle.mega_promises.specs.Messages.{message_of}
-use Rattle.mega_promises.specs.Runs.{Standing, set_at, setting, whole_step, with_items}
+use Rattle.mega_places.specs.of_promises.of_transcript.declared.item.Item.{Item}
+use Rattle.mega_places.specs.of_promises.of_transcript.declared.item.Item.TheVariants.{Sent}
+use Rattle.mega_places.specs.of_promises.of_transcript.Tape.{onto, sent_count}
+use Rattle.mega_places.specs.of_voter.of_rules.Members.{is_node}
+use Rattle.mega_places.specs.of_voter.of_rules.Met.{Met}
+use Rattle.mega_places.specs.of_voter.of_rules.Operations.{Node}
+use Rattle.mega_places.specs.of_voter.of_rules.Steps.{Event, Step, step}
+use Rattle.mega_member_laws.specs.of_format_laws.Histories.{IsCluster}
+use Rattle.mega_member_laws.specs.of_format_laws.Nodes.{IsEvent, IsNode, IsStep}
+use Rattle.mega_member_laws.specs.of_format_laws.Requests.{AreHandlers}
+use Rattle.mega_member_laws.specs.of_format_laws.Rounds.{Each, IsMember}
+use Rattle.mega_member_laws.proofs.of_format_laws.Whole.{whole_step as step_formed}
+use Rattle.mega_places.specs.of_promises.Items.{numbered, shown}
+use Rattle.mega_places.specs.of_promises.Messages.{message_of}
+use Rattle.mega_places.specs.of_promises.Runs.{Standing, set_at, setting, whole_step, with_items}
 use Rattle.mega_world.specs.Formed.{IsFormed}
 use Rattle.mega_places.proofs.Carrying.{notes_same}
 

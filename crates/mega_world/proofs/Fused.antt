@@ -5,8 +5,8 @@ use Rattle.std.specs.List.{slice_get}
 use Rattle.mega_cluster.specs.declared.cluster.Cluster.{Cluster}
 use Rattle.mega_disk.specs.declared.pair.Device.{Device}
 use Rattle.mega_disk.specs.declared.pair.Device.TheVariants.{Log, Data}
-use Rattle.mega_transcript.specs.declared.item.Item.{Item}
-use Rattle.mega_promises.specs.Runs.{Standing, fused, new_fuse, set_at}
+use Rattle.mega_places.specs.of_promises.of_transcript.declared.item.Item.{Item}
+use Rattle.mega_places.specs.of_promises.Runs.{Standing, fused, new_fuse, set_at}
 use Rattle.mega_places.specs.declared.place.Place.{Place}
 use Rattle.mega_places.specs.declared.place.Place.TheVariants.{Up, Down}
 use Rattle.mega_world.specs.declared.world.World.{World}

@@ -6,29 +6,29 @@ use Rattle.std.proofs.lemmas.List.Elements.{All-append, All-cons, All-nil}
 use Rattle.mega_base.specs.Codec.{IsBetween}
 use Rattle.mega_base.specs.declared.names.Epoch.{Epoch}
 use Rattle.mega_cluster.specs.declared.cluster.Cluster.{Cluster}
-use Rattle.mega_handler.specs.Named.{Meanings}
-use Rattle.mega_leases.specs.Taking.{IsByStranger, IsLate}
+use Rattle.mega_places.specs.of_handler.Named.{Meanings}
+use Rattle.mega_places.specs.of_leases.Taking.{IsByStranger, IsLate}
 use Rattle.mega_wire.specs.declared.message.Message.{Message}
 use Rattle.mega_wire.specs.declared.message.Body.{Body}
 use Rattle.mega_wire.specs.declared.message.Body.TheVariants.{Where, Top, Accept, Accepted, Refused, Prepare, Promise, Invalidate, Invalidated, Dead, Held, Unheld, Decide, Fetch, Have, HaveNot, Acquire, Granted, Past, Request as Requested, Reply}
 use Rattle.mega_wire.specs.Messages.{IsBody, greatest_from, kind_of, least_from}
-use Rattle.mega_transcript.specs.declared.item.Item.{Item}
-use Rattle.mega_transcript.specs.declared.item.Item.TheVariants.{Begin as BeginItem, Crash, Taken, Tick as TickItem}
-use Rattle.mega_transcript.specs.Lines.{HasLine}
-use Rattle.mega_transcript.specs.Tape.{newest, onto, sent_count}
-use Rattle.mega_transcript.proofs.Tapes.{newest-append, onto-append}
-use Rattle.mega_rules.specs.Members.{is_node}
-use Rattle.mega_rules.specs.Met.{Begins, Crashes, Met}
-use Rattle.mega_rules.specs.Operations.{Node as RuleNode, Setting}
-use Rattle.mega_rules.specs.Steps.{Begin, Event, Step as RuleStep, Take, Tick, crashed, op_of, onto as met_onto, step}
-use Rattle.mega_format_laws.specs.Histories.{IsItem, IsMet}
-use Rattle.mega_format_laws.specs.Nodes.{IsEvent, IsNode, IsStep}
+use Rattle.mega_places.specs.of_promises.of_transcript.declared.item.Item.{Item}
+use Rattle.mega_places.specs.of_promises.of_transcript.declared.item.Item.TheVariants.{Begin as BeginItem, Crash, Taken, Tick as TickItem}
+use Rattle.mega_places.specs.of_promises.of_transcript.Lines.{HasLine}
+use Rattle.mega_places.specs.of_promises.of_transcript.Tape.{newest, onto, sent_count}
+use Rattle.mega_places.proofs.of_transcript.Tapes.{newest-append, onto-append}
+use Rattle.mega_places.specs.of_voter.of_rules.Members.{is_node}
+use Rattle.mega_places.specs.of_voter.of_rules.Met.{Begins, Crashes, Met}
+use Rattle.mega_places.specs.of_voter.of_rules.Operations.{Node as RuleNode, Setting}
+use Rattle.mega_places.specs.of_voter.of_rules.Steps.{Begin, Event, Step as RuleStep, Take, Tick, crashed, op_of, onto as met_onto, step}
+use Rattle.mega_member_laws.specs.of_format_laws.Histories.{IsItem, IsMet}
+use Rattle.mega_member_laws.specs.of_format_laws.Nodes.{IsEvent, IsNode, IsStep}
 use Rattle.mega_member_laws.specs.Nodes.{EventWithin, ItemWithin, MetWithin, StaysWithin, StepWithin}
-use Rattle.mega_promises.specs.Items.{number, numbered, shown}
-use Rattle.mega_promises.specs.Messages.{is_unsafe, message_of}
-use Rattle.mega_promises.specs.Runs.{Standing, at_node, by_fuse, has_lapsed, is_kept, left_by, met_in, owes, replies_in, set_at, setting, whole_step, with_items}
-use Rattle.mega_durable.specs.of_core.of_stepping.declared.step.Step.{Step}
-use Rattle.mega_durable.specs.of_core.of_stepping.Notes.{met_of}
+use Rattle.mega_places.specs.of_promises.Items.{number, numbered, shown}
+use Rattle.mega_places.specs.of_promises.Messages.{is_unsafe, message_of}
+use Rattle.mega_places.specs.of_promises.Runs.{Standing, at_node, by_fuse, has_lapsed, is_kept, left_by, met_in, owes, replies_in, set_at, setting, whole_step, with_items}
+use Rattle.mega_places.specs.of_durable.of_core.of_stepping.declared.step.Step.{Step}
+use Rattle.mega_places.specs.of_durable.of_core.of_stepping.Notes.{met_of}
 use Rattle.mega_places.specs.declared.safety.Safety.{Safety}
 use Rattle.mega_places.specs.declared.stepping.Stepped.{Stepped}
 use Rattle.mega_places.specs.declared.stepping.Stepped.TheVariants as stepped

@@ -3,16 +3,16 @@ use Rattle.std.proofs.Common.{◌≡◌, ℕ, ◌-◌, ◌==◌, cond, true, fal
 use Rattle.std.specs.List.{All, cons_option}
 use Rattle.std.specs.Option.{option_to_list}
 use Rattle.std.proofs.lemmas.List.Elements.{All-cons, All-head, All-nil}
-use Rattle.mega_leases.specs.Opening.{AreOwed}
+use Rattle.mega_places.specs.of_leases.Opening.{AreOwed}
 use Rattle.mega_wal.specs.declared.item.JournalItem.{JournalItem}
 use Rattle.mega_wal.specs.History.{after_grant as granted_of, after_lapse as lapsed_of}
 use Rattle.mega_wal.specs.Items.{IsItem as IsKeptItem}
-use Rattle.mega_voter.specs.Journal.{item_in, item_of, journal_of}
-use Rattle.mega_voter.proofs.Told.{sent_fits}
-use Rattle.mega_rules.specs.Clock.{start_of}
-use Rattle.mega_rules.specs.Locks.{last_grant}
-use Rattle.mega_rules.specs.Met.{Met, Starts, Crashes, Ticks, Begins, Takes, Sends, Unsends, Grants, Lapses, Counts, Forgets, Serves, Loses, Validates, Invalidates, Decides, Applies, Answers}
-use Rattle.mega_format_laws.specs.Histories.{IsItem, IsMet}
+use Rattle.mega_places.specs.of_voter.Journal.{item_in, item_of, journal_of}
+use Rattle.mega_places.proofs.of_voter.Told.{sent_fits}
+use Rattle.mega_places.specs.of_voter.of_rules.Clock.{start_of}
+use Rattle.mega_places.specs.of_voter.of_rules.Locks.{last_grant}
+use Rattle.mega_places.specs.of_voter.of_rules.Met.{Met, Starts, Crashes, Ticks, Begins, Takes, Sends, Unsends, Grants, Lapses, Counts, Forgets, Serves, Loses, Validates, Invalidates, Decides, Applies, Answers}
+use Rattle.mega_member_laws.specs.of_format_laws.Histories.{IsItem, IsMet}
 
 -- ---- what a node met has texts on its log
 listed : (item : Option JournalItem) → All IsKeptItem (option_to_list item) → All IsKeptItem (cons_option item [])

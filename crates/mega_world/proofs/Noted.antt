@@ -5,20 +5,20 @@ use Rattle.std.specs.List.{All}
 use Rattle.std.proofs.lemmas.List.Elements.{All-cons, All-head, All-nil, All-tail}
 use Rattle.mega_cluster.specs.declared.cluster.Cluster.{Cluster}
 use Rattle.mega_wire.specs.declared.message.Message.{Message}
-use Rattle.mega_transcript.specs.declared.item.Item.{Item}
-use Rattle.mega_transcript.specs.declared.item.Item.TheVariants.{Sent}
-use Rattle.mega_transcript.specs.Lines.{HasLine}
-use Rattle.mega_transcript.specs.Tape.{newest, onto, sent_count}
-use Rattle.mega_transcript.proofs.Tapes.{onto-append}
-use Rattle.mega_rules.specs.Met.{Met}
-use Rattle.mega_rules.specs.Operations.{Node as RuleNode}
-use Rattle.mega_rules.specs.Steps.{onto as met_onto}
-use Rattle.mega_durable.specs.of_core.of_stepping.declared.note.Note.{Note}
-use Rattle.mega_durable.specs.of_core.of_stepping.declared.step.Step.{Step}
-use Rattle.mega_durable.specs.of_core.of_stepping.Notes.{met_of}
-use Rattle.mega_promises.specs.Items.{numbered, shown}
-use Rattle.mega_promises.specs.Messages.{is_unsafe}
-use Rattle.mega_promises.specs.Runs.{set_at, with_items}
+use Rattle.mega_places.specs.of_promises.of_transcript.declared.item.Item.{Item}
+use Rattle.mega_places.specs.of_promises.of_transcript.declared.item.Item.TheVariants.{Sent}
+use Rattle.mega_places.specs.of_promises.of_transcript.Lines.{HasLine}
+use Rattle.mega_places.specs.of_promises.of_transcript.Tape.{newest, onto, sent_count}
+use Rattle.mega_places.proofs.of_transcript.Tapes.{onto-append}
+use Rattle.mega_places.specs.of_voter.of_rules.Met.{Met}
+use Rattle.mega_places.specs.of_voter.of_rules.Operations.{Node as RuleNode}
+use Rattle.mega_places.specs.of_voter.of_rules.Steps.{onto as met_onto}
+use Rattle.mega_places.specs.of_durable.of_core.of_stepping.declared.note.Note.{Note}
+use Rattle.mega_places.specs.of_durable.of_core.of_stepping.declared.step.Step.{Step}
+use Rattle.mega_places.specs.of_durable.of_core.of_stepping.Notes.{met_of}
+use Rattle.mega_places.specs.of_promises.Items.{numbered, shown}
+use Rattle.mega_places.specs.of_promises.Messages.{is_unsafe}
+use Rattle.mega_places.specs.of_promises.Runs.{set_at, with_items}
 use Rattle.mega_places.specs.declared.safety.Lapse.{Lapse}
 use Rattle.mega_places.specs.declared.safety.Safety.{Safety}
 use Rattle.mega_world.specs.declared.world.World.{World}

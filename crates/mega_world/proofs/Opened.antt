@@ -6,25 +6,25 @@ use Rattle.std.specs.BTreeSet.{contains}
 use Rattle.std.specs.List.{range_with_len, slice_get}
 use Rattle.mega_base.specs.declared.names.Epoch.{Epoch}
 use Rattle.mega_cluster.specs.declared.cluster.Cluster.{Cluster}
-use Rattle.mega_handler.specs.Named.{Meanings}
-use Rattle.mega_transcript.specs.declared.item.Item.{Item}
-use Rattle.mega_transcript.specs.declared.item.Item.TheVariants.{Start}
-use Rattle.mega_transcript.specs.Tape.{newest}
-use Rattle.mega_transcript.proofs.Tapes.{newest-append}
-use Rattle.mega_rules.specs.Clock.{is_up, start_of}
-use Rattle.mega_rules.specs.Logs.{groups_of}
-use Rattle.mega_rules.specs.Members.{has_rows}
-use Rattle.mega_rules.specs.Met.{Starts}
-use Rattle.mega_rules.specs.Operations.{Node as RuleNode, Setting}
-use Rattle.mega_rules.specs.Steps.{onto, start, start_items, start_note, start_notes}
-use Rattle.mega_format_laws.specs.Histories.{IsCluster, IsMet}
-use Rattle.mega_format_laws.specs.Nodes.{IsNode}
-use Rattle.mega_format_laws.proofs.Steps.{started}
+use Rattle.mega_places.specs.of_handler.Named.{Meanings}
+use Rattle.mega_places.specs.of_promises.of_transcript.declared.item.Item.{Item}
+use Rattle.mega_places.specs.of_promises.of_transcript.declared.item.Item.TheVariants.{Start}
+use Rattle.mega_places.specs.of_promises.of_transcript.Tape.{newest}
+use Rattle.mega_places.proofs.of_transcript.Tapes.{newest-append}
+use Rattle.mega_places.specs.of_voter.of_rules.Clock.{is_up, start_of}
+use Rattle.mega_places.specs.of_voter.of_rules.Logs.{groups_of}
+use Rattle.mega_places.specs.of_voter.of_rules.Members.{has_rows}
+use Rattle.mega_places.specs.of_voter.of_rules.Met.{Starts}
+use Rattle.mega_places.specs.of_voter.of_rules.Operations.{Node as RuleNode, Setting}
+use Rattle.mega_places.specs.of_voter.of_rules.Steps.{onto, start, start_items, start_note, start_notes}
+use Rattle.mega_member_laws.specs.of_format_laws.Histories.{IsCluster, IsMet}
+use Rattle.mega_member_laws.specs.of_format_laws.Nodes.{IsNode}
+use Rattle.mega_member_laws.proofs.of_format_laws.Steps.{started}
 use Rattle.mega_member_laws.specs.Nodes.{MetWithin, StaysWithin}
 use Rattle.mega_member_laws.proofs.Steps.{first_started}
-use Rattle.mega_promises.specs.Items.{number, shown}
-use Rattle.mega_promises.specs.Messages.{is_unsafe, message_of}
-use Rattle.mega_promises.specs.Runs.{Whole, Standing, after_append, empty_node, fated_start, has_lapsed, nothing_yet, opening, set_at, setting, whole_start, with_items}
+use Rattle.mega_places.specs.of_promises.Items.{number, shown}
+use Rattle.mega_places.specs.of_promises.Messages.{is_unsafe, message_of}
+use Rattle.mega_places.specs.of_promises.Runs.{Whole, Standing, after_append, empty_node, fated_start, has_lapsed, nothing_yet, opening, set_at, setting, whole_start, with_items}
 use Rattle.mega_places.specs.declared.mail.Mail.{Mail}
 use Rattle.mega_places.specs.declared.safety.Lapse.{Lapse}
 use Rattle.mega_places.specs.declared.safety.Safety.{Safety}

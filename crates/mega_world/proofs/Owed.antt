@@ -2,18 +2,18 @@
 use Rattle.std.proofs.Common.{ℕ, cond, Bool, true, false, List, [], ◌∷◌, map, filter}
 use Rattle.mega_cluster.specs.declared.cluster.Cluster.{Cluster}
 use Rattle.mega_wire.specs.declared.message.Message.{Message}
-use Rattle.mega_rules.specs.Met.{Met, Unsends}
-use Rattle.mega_rules.specs.Steps.{Begin, Event, Step, Take, Tick}
-use Rattle.mega_format_laws.specs.Histories.{IsMet}
-use Rattle.mega_format_laws.specs.Histories.{IsItem}
-use Rattle.mega_format_laws.specs.Nodes.{IsEvent, IsStep}
-use Rattle.mega_format_laws.specs.Rounds.{AreMessages, IsMember}
-use Rattle.mega_format_laws.proofs.Each.{each_both, each_filter}
-use Rattle.mega_format_laws.proofs.Replies.{reply_formed}
+use Rattle.mega_places.specs.of_voter.of_rules.Met.{Met, Unsends}
+use Rattle.mega_places.specs.of_voter.of_rules.Steps.{Begin, Event, Step, Take, Tick}
+use Rattle.mega_member_laws.specs.of_format_laws.Histories.{IsMet}
+use Rattle.mega_member_laws.specs.of_format_laws.Histories.{IsItem}
+use Rattle.mega_member_laws.specs.of_format_laws.Nodes.{IsEvent, IsStep}
+use Rattle.mega_member_laws.specs.of_format_laws.Rounds.{AreMessages, IsMember}
+use Rattle.mega_member_laws.proofs.of_format_laws.Each.{each_both, each_filter}
+use Rattle.mega_member_laws.proofs.of_format_laws.Replies.{reply_formed}
 use Rattle.mega_member_laws.specs.Messages.{AreWithin, IsHere}
 use Rattle.mega_member_laws.specs.Nodes.{EventWithin, ItemWithin, MetWithin, StepWithin}
 use Rattle.mega_member_laws.proofs.Replies.{reply_within}
-use Rattle.mega_promises.specs.Runs.{is_durable, owes, replies_in}
+use Rattle.mega_places.specs.of_promises.Runs.{is_durable, owes, replies_in}
 
 unsent_formed : (replies : List Message) → AreMessages replies → IsMet (map Unsends replies)
 unsent_formed [] each = tt

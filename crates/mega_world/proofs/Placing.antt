@@ -1,16 +1,16 @@
 -- What a node decides by a message of the format has a position from 1 on.
 use Rattle.std.proofs.Common.{List, [], ◌∷◌, ◌++◌, map, Option, Some, None}
 use Rattle.mega_wire.specs.declared.message.Message.{Message}
-use Rattle.mega_rules.specs.Clock.{clock_of}
-use Rattle.mega_rules.specs.Met.{Met}
-use Rattle.mega_rules.specs.Operations.{Node, Now, Setting}
-use Rattle.mega_rules.specs.Steps.{Decision, Heard, Take, all_act, apply_notes, at_first, decision_note, first_settled, hears_message, if_new, news, onto, step, stored_after, taken, told_decision, told_notes}
-use Rattle.mega_rules.specs.Met.{Takes}
-use Rattle.mega_rules.specs.Replies.{reply_to}
-use Rattle.mega_node_laws.specs.Acted.{decision_in, or_settled}
-use Rattle.mega_node_laws.proofs.Ending.{taken_by}
-use Rattle.mega_format_laws.specs.Histories.{IsMet}
-use Rattle.mega_durable.specs.of_core.of_stepping.Placed.{IsPlaced}
+use Rattle.mega_places.specs.of_voter.of_rules.Clock.{clock_of}
+use Rattle.mega_places.specs.of_voter.of_rules.Met.{Met}
+use Rattle.mega_places.specs.of_voter.of_rules.Operations.{Node, Now, Setting}
+use Rattle.mega_places.specs.of_voter.of_rules.Steps.{Decision, Heard, Take, all_act, apply_notes, at_first, decision_note, first_settled, hears_message, if_new, news, onto, step, stored_after, taken, told_decision, told_notes}
+use Rattle.mega_places.specs.of_voter.of_rules.Met.{Takes}
+use Rattle.mega_places.specs.of_voter.of_rules.Replies.{reply_to}
+use Rattle.mega_places.specs.of_node_laws.Acted.{decision_in, or_settled}
+use Rattle.mega_places.proofs.of_node_laws.Ending.{taken_by}
+use Rattle.mega_member_laws.specs.of_format_laws.Histories.{IsMet}
+use Rattle.mega_places.specs.of_durable.of_core.of_stepping.Placed.{IsPlaced}
 
 front : (xs ys : List Met) → IsMet (xs ++ ys) → IsMet xs
 front [] ys each = tt

@@ -6,24 +6,24 @@ use Rattle.mega_base.specs.declared.names.GroupId.{GroupId}
 use Rattle.mega_base.specs.declared.names.Epoch.{Epoch}
 use Rattle.mega_base.specs.declared.names.NodeId.{NodeId}
 use Rattle.mega_cluster.specs.declared.cluster.Cluster.{Cluster}
-use Rattle.mega_handler.specs.Named.{Meanings}
-use Rattle.mega_schedule.specs.declared.world_event.WorldEvent.TheVariants.{Start as StartEvent}
-use Rattle.mega_transcript.specs.declared.item.Item.{Item}
-use Rattle.mega_transcript.specs.declared.item.Item.TheVariants.{Start}
-use Rattle.mega_transcript.specs.Lines.{HasLine}
-use Rattle.mega_transcript.specs.Tape.{newest}
-use Rattle.mega_format_laws.specs.Histories.{IsMet}
-use Rattle.mega_format_laws.specs.Nodes.{IsNode}
-use Rattle.mega_format_laws.proofs.Steps.{started as started_formed}
+use Rattle.mega_places.specs.of_handler.Named.{Meanings}
+use Rattle.mega_places.specs.of_promises.of_schedule.declared.world_event.WorldEvent.TheVariants.{Start as StartEvent}
+use Rattle.mega_places.specs.of_promises.of_transcript.declared.item.Item.{Item}
+use Rattle.mega_places.specs.of_promises.of_transcript.declared.item.Item.TheVariants.{Start}
+use Rattle.mega_places.specs.of_promises.of_transcript.Lines.{HasLine}
+use Rattle.mega_places.specs.of_promises.of_transcript.Tape.{newest}
+use Rattle.mega_member_laws.specs.of_format_laws.Histories.{IsMet}
+use Rattle.mega_member_laws.specs.of_format_laws.Nodes.{IsNode}
+use Rattle.mega_member_laws.proofs.of_format_laws.Steps.{started as started_formed}
 use Rattle.mega_member_laws.specs.Nodes.{MetWithin, StaysWithin}
 use Rattle.mega_member_laws.proofs.Steps.{started as started_within}
-use Rattle.mega_rules.specs.Logs.{groups_of, prefix_of}
-use Rattle.mega_rules.specs.Members.{has_rows}
-use Rattle.mega_rules.specs.Met.{Applies, Met, Starts}
-use Rattle.mega_rules.specs.Operations.{Node, Setting}
-use Rattle.mega_rules.specs.Steps.{onto, start, start_items, start_note, start_notes}
-use Rattle.mega_promises.specs.Items.{number, shown}
-use Rattle.mega_promises.specs.Runs.{Standing, after_event, by_fuse, has_lapsed, setting, with_items}
+use Rattle.mega_places.specs.of_voter.of_rules.Logs.{groups_of, prefix_of}
+use Rattle.mega_places.specs.of_voter.of_rules.Members.{has_rows}
+use Rattle.mega_places.specs.of_voter.of_rules.Met.{Applies, Met, Starts}
+use Rattle.mega_places.specs.of_voter.of_rules.Operations.{Node, Setting}
+use Rattle.mega_places.specs.of_voter.of_rules.Steps.{onto, start, start_items, start_note, start_notes}
+use Rattle.mega_places.specs.of_promises.Items.{number, shown}
+use Rattle.mega_places.specs.of_promises.Runs.{Standing, after_event, by_fuse, has_lapsed, setting, with_items}
 use Rattle.mega_places.specs.declared.place.Place.{Place}
 use Rattle.mega_world.specs.declared.restarting.Shown.{Shown}
 use Rattle.mega_world.specs.declared.world.World.{World}

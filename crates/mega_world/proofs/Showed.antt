@@ -7,20 +7,20 @@ use Rattle.std.proofs.lemmas.List.Elements.{All-cons, All-head, All-nil, All-tai
 use Rattle.mega_base.specs.declared.names.Epoch.{Epoch}
 use Rattle.mega_cluster.specs.declared.cluster.Cluster.{Cluster}
 use Rattle.mega_wire.specs.declared.message.Message.{Message}
-use Rattle.mega_transcript.specs.declared.item.Item.{Item}
-use Rattle.mega_transcript.specs.declared.item.Item.TheVariants.{Start, Unsent}
-use Rattle.mega_transcript.specs.Lines.{HasLine}
-use Rattle.mega_transcript.specs.Tape.{newest, onto}
-use Rattle.mega_transcript.proofs.Tapes.{newest-append, onto-append}
-use Rattle.mega_rules.specs.Met.{Met, Unsends}
-use Rattle.mega_rules.specs.Operations.{Node as RuleNode}
-use Rattle.mega_rules.specs.Steps.{onto as met_onto}
-use Rattle.mega_durable.specs.of_core.of_stepping.Notes.{met_of}
-use Rattle.mega_durable.specs.declared.cut.Cut.{Cut}
-use Rattle.mega_durable.specs.Replying.{owed_by}
-use Rattle.mega_promises.specs.Items.{number, shown}
-use Rattle.mega_promises.specs.Messages.{is_unsafe}
-use Rattle.mega_promises.specs.Runs.{has_lapsed, set_at, with_items}
+use Rattle.mega_places.specs.of_promises.of_transcript.declared.item.Item.{Item}
+use Rattle.mega_places.specs.of_promises.of_transcript.declared.item.Item.TheVariants.{Start, Unsent}
+use Rattle.mega_places.specs.of_promises.of_transcript.Lines.{HasLine}
+use Rattle.mega_places.specs.of_promises.of_transcript.Tape.{newest, onto}
+use Rattle.mega_places.proofs.of_transcript.Tapes.{newest-append, onto-append}
+use Rattle.mega_places.specs.of_voter.of_rules.Met.{Met, Unsends}
+use Rattle.mega_places.specs.of_voter.of_rules.Operations.{Node as RuleNode}
+use Rattle.mega_places.specs.of_voter.of_rules.Steps.{onto as met_onto}
+use Rattle.mega_places.specs.of_durable.of_core.of_stepping.Notes.{met_of}
+use Rattle.mega_places.specs.of_durable.declared.cut.Cut.{Cut}
+use Rattle.mega_places.specs.of_durable.Replying.{owed_by}
+use Rattle.mega_places.specs.of_promises.Items.{number, shown}
+use Rattle.mega_places.specs.of_promises.Messages.{is_unsafe}
+use Rattle.mega_places.specs.of_promises.Runs.{has_lapsed, set_at, with_items}
 use Rattle.mega_world.specs.declared.restarting.Shown.{Shown}
 use Rattle.mega_places.specs.declared.safety.Lapse.{Lapse}
 use Rattle.mega_world.specs.declared.world.World.{World}

@@ -1,17 +1,17 @@
 -- A run stays within its cluster.
 use Rattle.std.proofs.Common.{◌≡◌, ℕ, ◌+◌, ◌==◌, cond, Bool, true, false, List, flat_map}
 use Rattle.mega_cluster.specs.declared.cluster.Cluster.{Cluster}
-use Rattle.mega_handler.specs.Named.{Meanings}
-use Rattle.mega_transcript.specs.declared.item.Item.{Item}
-use Rattle.mega_transcript.specs.Tape.{onto, sent_count}
-use Rattle.mega_rules.specs.Members.{is_node}
-use Rattle.mega_rules.specs.Steps.{Event, Step, step}
+use Rattle.mega_places.specs.of_handler.Named.{Meanings}
+use Rattle.mega_places.specs.of_promises.of_transcript.declared.item.Item.{Item}
+use Rattle.mega_places.specs.of_promises.of_transcript.Tape.{onto, sent_count}
+use Rattle.mega_places.specs.of_voter.of_rules.Members.{is_node}
+use Rattle.mega_places.specs.of_voter.of_rules.Steps.{Event, Step, step}
 use Rattle.mega_member_laws.specs.Messages.{IsWithin}
 use Rattle.mega_member_laws.specs.Nodes.{EventWithin, StaysWithin, StepWithin}
 use Rattle.mega_member_laws.proofs.Steps.{step_within}
-use Rattle.mega_promises.specs.Items.{numbered, shown}
-use Rattle.mega_promises.specs.Messages.{message_of}
-use Rattle.mega_promises.specs.Runs.{Standing, set_at, setting, whole_step, with_items}
+use Rattle.mega_places.specs.of_promises.Items.{numbered, shown}
+use Rattle.mega_places.specs.of_promises.Messages.{message_of}
+use Rattle.mega_places.specs.of_promises.Runs.{Standing, set_at, setting, whole_step, with_items}
 use Rattle.mega_world.specs.Within.{RunsWithin}
 use Rattle.mega_world.proofs.Forming.{step_all}
 

@@ -1,21 +1,21 @@
 -- What the format of messages can hold, of a run and of an event.
 use Rattle.std.specs.Prelude.{◌≡◌, ◌≤◌, ℕ, zero, suc, List, Option, Some, None}
 use Rattle.mega_cluster.specs.declared.cluster.Cluster.{Cluster}
-use Rattle.mega_handler.specs.Named.{Meaning, Meanings}
-use Rattle.mega_meanings.specs.Means.{Means}
-use Rattle.mega_node_laws.specs.Acted.{acted_on}
-use Rattle.mega_node_laws.specs.Own.{HasOwnRows}
+use Rattle.mega_places.specs.of_handler.Named.{Meaning, Meanings}
+use Rattle.mega_places.specs.of_meanings.Means.{Means}
+use Rattle.mega_places.specs.of_node_laws.Acted.{acted_on}
+use Rattle.mega_places.specs.of_node_laws.Own.{HasOwnRows}
 use Rattle.mega_wire.specs.declared.message.Message.{Message}
 use Rattle.mega_wire.specs.Messages.{IsMessage}
-use Rattle.mega_schedule.specs.declared.world_event.WorldEvent.{WorldEvent}
-use Rattle.mega_schedule.specs.declared.world_event.WorldEvent.TheVariants.{Begin as BeginEvent, Deliver, Drain, Tick as TickEvent}
-use Rattle.mega_rules.specs.Logs.{log_of}
-use Rattle.mega_rules.specs.Steps.{Begin, Event, Take, Tick}
-use Rattle.mega_format_laws.specs.Histories.{IsClock, IsCluster, IsMet}
-use Rattle.mega_format_laws.specs.Nodes.{IsNode}
-use Rattle.mega_format_laws.specs.Requests.{AreHandlers, IsRequest}
-use Rattle.mega_promises.specs.Messages.{message_of, next_delivery}
-use Rattle.mega_promises.specs.Runs.{Standing, by_fuse, delivered, setting, up}
+use Rattle.mega_places.specs.of_promises.of_schedule.declared.world_event.WorldEvent.{WorldEvent}
+use Rattle.mega_places.specs.of_promises.of_schedule.declared.world_event.WorldEvent.TheVariants.{Begin as BeginEvent, Deliver, Drain, Tick as TickEvent}
+use Rattle.mega_places.specs.of_voter.of_rules.Logs.{log_of}
+use Rattle.mega_places.specs.of_voter.of_rules.Steps.{Begin, Event, Take, Tick}
+use Rattle.mega_member_laws.specs.of_format_laws.Histories.{IsClock, IsCluster, IsMet}
+use Rattle.mega_member_laws.specs.of_format_laws.Nodes.{IsNode}
+use Rattle.mega_member_laws.specs.of_format_laws.Requests.{AreHandlers, IsRequest}
+use Rattle.mega_places.specs.of_promises.Messages.{message_of, next_delivery}
+use Rattle.mega_places.specs.of_promises.Runs.{Standing, by_fuse, delivered, setting, up}
 
 -- the cluster, what its nodes met and owe and what they sent are of the format, and a lease is no longer than a header has it
 pub record IsFormed (c : Cluster) (now : Standing) : Type 0 where

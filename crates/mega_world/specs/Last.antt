@@ -2,9 +2,9 @@
 use Rattle.std.specs.Prelude.{◌≡◌, None}
 use Rattle.mega_cluster.specs.declared.cluster.Cluster.{Cluster}
 use Rattle.mega_base.specs.declared.names.NodeId.{NodeId}
-use Rattle.mega_schedule.specs.declared.world_event.WorldEvent.{WorldEvent}
-use Rattle.mega_schedule.specs.declared.world_event.WorldEvent.TheVariants.{Start as StartEvent}
-use Rattle.mega_promises.specs.Runs.{Standing, refusal}
+use Rattle.mega_places.specs.of_promises.of_schedule.declared.world_event.WorldEvent.{WorldEvent}
+use Rattle.mega_places.specs.of_promises.of_schedule.declared.world_event.WorldEvent.TheVariants.{Start as StartEvent}
+use Rattle.mega_places.specs.of_promises.Runs.{Standing, refusal}
 
 -- the start of a node that is down and whose log tells of 4,294,967,295 starts, the last number
 pub record IsPastLast (c : Cluster) (now : Standing) (event : WorldEvent) : Type 0 where

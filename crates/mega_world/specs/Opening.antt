@@ -1,12 +1,12 @@
 -- A cluster of which so many nodes were started for the first time, in order: its tape, and what stands in their places.
 use Rattle.std.specs.Prelude.{◌≡◌, ℕ, zero, suc, ◌+◌, List, [], ◌∷◌, slice_get, Some, None}
 use Rattle.mega_cluster.specs.declared.cluster.Cluster.{Cluster}
-use Rattle.mega_handler.specs.Named.{Meanings}
-use Rattle.mega_transcript.specs.declared.item.Item.{Item}
-use Rattle.mega_transcript.specs.declared.item.Item.TheVariants.{Start}
-use Rattle.mega_rules.specs.Steps.{start}
-use Rattle.mega_promises.specs.Items.{number}
-use Rattle.mega_promises.specs.Runs.{setting}
+use Rattle.mega_places.specs.of_handler.Named.{Meanings}
+use Rattle.mega_places.specs.of_promises.of_transcript.declared.item.Item.{Item}
+use Rattle.mega_places.specs.of_promises.of_transcript.declared.item.Item.TheVariants.{Start}
+use Rattle.mega_places.specs.of_voter.of_rules.Steps.{start}
+use Rattle.mega_places.specs.of_promises.Items.{number}
+use Rattle.mega_places.specs.of_promises.Runs.{setting}
 use Rattle.mega_places.specs.declared.member.Member.{Member}
 use Rattle.mega_places.specs.declared.place.Place.{Place}
 use Rattle.mega_places.specs.declared.place.Place.TheVariants.{Up, Down}

@@ -2,17 +2,17 @@
 use Rattle.std.specs.Prelude.{◌≡◌, ℕ, ◌+◌, ◌++◌, ◌∷◌, [], List, All, map}
 use Rattle.mega_base.specs.declared.names.Epoch.{Epoch}
 use Rattle.mega_cluster.specs.declared.cluster.Cluster.{Cluster}
-use Rattle.mega_transcript.specs.declared.item.Item.{Item}
-use Rattle.mega_transcript.specs.declared.item.Item.TheVariants.{Crash}
-use Rattle.mega_transcript.specs.Lines.{HasLine}
-use Rattle.mega_transcript.specs.Tape.{newest, sent_count}
-use Rattle.mega_rules.specs.Operations.{Node as RuleNode}
-use Rattle.mega_rules.specs.Steps.{onto}
-use Rattle.mega_durable.specs.of_core.of_stepping.declared.note.Note.{Note}
-use Rattle.mega_durable.specs.of_core.of_stepping.declared.step.Step.{Step}
-use Rattle.mega_durable.specs.of_core.of_stepping.Notes.{met_of}
-use Rattle.mega_promises.specs.Items.{number, numbered}
-use Rattle.mega_promises.specs.Runs.{has_lapsed, set_at, with_items}
+use Rattle.mega_places.specs.of_promises.of_transcript.declared.item.Item.{Item}
+use Rattle.mega_places.specs.of_promises.of_transcript.declared.item.Item.TheVariants.{Crash}
+use Rattle.mega_places.specs.of_promises.of_transcript.Lines.{HasLine}
+use Rattle.mega_places.specs.of_promises.of_transcript.Tape.{newest, sent_count}
+use Rattle.mega_places.specs.of_voter.of_rules.Operations.{Node as RuleNode}
+use Rattle.mega_places.specs.of_voter.of_rules.Steps.{onto}
+use Rattle.mega_places.specs.of_durable.of_core.of_stepping.declared.note.Note.{Note}
+use Rattle.mega_places.specs.of_durable.of_core.of_stepping.declared.step.Step.{Step}
+use Rattle.mega_places.specs.of_durable.of_core.of_stepping.Notes.{met_of}
+use Rattle.mega_places.specs.of_promises.Items.{number, numbered}
+use Rattle.mega_places.specs.of_promises.Runs.{has_lapsed, set_at, with_items}
 use Rattle.mega_places.specs.declared.stepping.Stepped.{Stepped}
 use Rattle.mega_places.specs.declared.stepping.Stepped.TheVariants as stepped
 use Rattle.mega_world.specs.declared.world.World.{World}

@@ -1,13 +1,13 @@
 -- How a world stands to a run of its cluster.
 use Rattle.std.specs.Prelude.{◌≡◌, ◌++◌, ℕ, List, Option, None}
 use Rattle.mega_cluster.specs.declared.cluster.Cluster.{Cluster}
-use Rattle.mega_handler.specs.Named.{Meaning, Meanings}
-use Rattle.mega_schedule.specs.declared.world_event.WorldEvent.{WorldEvent}
-use Rattle.mega_schedule.specs.declared.world_event.WorldEvent.TheVariants.{Deliver}
-use Rattle.mega_transcript.specs.declared.item.Item.{Item}
-use Rattle.mega_transcript.specs.Tape.{newest}
-use Rattle.mega_durable.specs.of_core.Served.{IsServed}
-use Rattle.mega_promises.specs.Runs.{Standing, refusal}
+use Rattle.mega_places.specs.of_handler.Named.{Meaning, Meanings}
+use Rattle.mega_places.specs.of_promises.of_schedule.declared.world_event.WorldEvent.{WorldEvent}
+use Rattle.mega_places.specs.of_promises.of_schedule.declared.world_event.WorldEvent.TheVariants.{Deliver}
+use Rattle.mega_places.specs.of_promises.of_transcript.declared.item.Item.{Item}
+use Rattle.mega_places.specs.of_promises.of_transcript.Tape.{newest}
+use Rattle.mega_places.specs.of_durable.of_core.Served.{IsServed}
+use Rattle.mega_places.specs.of_promises.Runs.{Standing, refusal}
 use Rattle.mega_world.specs.declared.world.World.{World}
 use Rattle.mega_places.specs.Carries.{Carries}
 use Rattle.mega_world.specs.Formed.{IsFormed, IsSound}

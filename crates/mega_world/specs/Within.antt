@@ -4,8 +4,8 @@ use Rattle.mega_cluster.specs.declared.cluster.Cluster.{Cluster}
 use Rattle.mega_wire.specs.declared.message.Message.{Message}
 use Rattle.mega_member_laws.specs.Messages.{IsWithin}
 use Rattle.mega_member_laws.specs.Nodes.{MetWithin, StaysWithin}
-use Rattle.mega_promises.specs.Messages.{message_of}
-use Rattle.mega_promises.specs.Runs.{Standing}
+use Rattle.mega_places.specs.of_promises.Messages.{message_of}
+use Rattle.mega_places.specs.of_promises.Runs.{Standing}
 
 -- each cell lives in a node, each node stays within the cluster with what it owes, and so does each message that was sent
 pub record RunsWithin (c : Cluster) (now : Standing) : Type 0 where

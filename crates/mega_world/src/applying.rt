@@ -2,11 +2,11 @@
 ghost use Rattle.std.specs.Prelude.{◌≡◌, [], ℕ, OnOk, IfOk, Err, Some, None, ◌++◌, List};
 ghost use Rattle.std.specs.Prelude.{All};
 ghost use Rattle.mega_cluster.specs.declared.cluster.Cluster.{Cluster};
-ghost use Rattle.mega_handler.specs.Named.{Meanings};
-ghost use Rattle.mega_transcript.specs.declared.item.Item.{Item as OnTape};
-ghost use Rattle.mega_transcript.specs.Lines.{HasLine};
-ghost use Rattle.mega_transcript.specs.Tape.{onto};
-ghost use Rattle.mega_promises.specs.Runs.{Standing, after_event, by_fuse, refusal};
+ghost use Rattle.mega_places.specs.of_handler.Named.{Meanings};
+ghost use Rattle.mega_places.specs.of_promises.of_transcript.declared.item.Item.{Item as OnTape};
+ghost use Rattle.mega_places.specs.of_promises.of_transcript.Lines.{HasLine};
+ghost use Rattle.mega_places.specs.of_promises.of_transcript.Tape.{onto};
+ghost use Rattle.mega_places.specs.of_promises.Runs.{Standing, after_event, by_fuse, refusal};
 ghost use Rattle.mega_places.specs.declared.fault.WorldFault.TheVariants.{Limit, Refused};
 ghost use Rattle.mega_world.specs.Formed.{IsSound};
 ghost use Rattle.mega_world.specs.Stands.{IsAt, MayCome, StandsWith};
@@ -14,10 +14,10 @@ ghost use Rattle.mega_world.specs.Last.{IsPastLast};
 
 use crate::world::World;
 use mega_base::Items;
-use mega_meanings::QueueHandlers;
 use mega_places::WorldFault;
-use mega_schedule::WorldEvent;
-use mega_transcript::Tape;
+use mega_places::mega_meanings::QueueHandlers;
+use mega_places::mega_schedule::WorldEvent;
+use mega_places::mega_transcript::Tape;
 use std::alloc::Global;
 
 impl World {

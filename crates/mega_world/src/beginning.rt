@@ -2,11 +2,11 @@
 ghost use Rattle.std.specs.Prelude.{◌≡◌, ◌≢◌, ◌≤◌, ℕ, List, length, IfNone, OnOk, Err, Some, None, true, false, ◌++◌};
 ghost use Rattle.std.specs.Prelude.{All};
 ghost use Rattle.mega_cluster.specs.declared.cluster.Cluster.{Cluster};
-ghost use Rattle.mega_handler.specs.Named.{Meanings};
-ghost use Rattle.mega_schedule.specs.declared.world_event.WorldEvent.TheVariants as event;
-ghost use Rattle.mega_transcript.specs.declared.item.Item.{Item as OnTape};
-ghost use Rattle.mega_transcript.specs.Lines.{HasLine};
-ghost use Rattle.mega_promises.specs.Runs.{Standing, after_event, by_fuse, is_empty, names_nothing, refusal};
+ghost use Rattle.mega_places.specs.of_handler.Named.{Meanings};
+ghost use Rattle.mega_places.specs.of_promises.of_schedule.declared.world_event.WorldEvent.TheVariants as event;
+ghost use Rattle.mega_places.specs.of_promises.of_transcript.declared.item.Item.{Item as OnTape};
+ghost use Rattle.mega_places.specs.of_promises.of_transcript.Lines.{HasLine};
+ghost use Rattle.mega_places.specs.of_promises.Runs.{Standing, after_event, by_fuse, is_empty, names_nothing, refusal};
 ghost use Rattle.mega_places.specs.declared.fault.WorldFault.TheVariants.{Limit, Refused};
 ghost use Rattle.mega_world.specs.Formed.{IsSound};
 ghost use Rattle.mega_places.specs.Members.{AreMembers, is_up_at};
@@ -14,10 +14,10 @@ ghost use Rattle.mega_world.specs.Stands.{StandsWith, IsDue, MayCome};
 
 use crate::world::World;
 use mega_base::{GroupId, NodeId, Text};
-use mega_meanings::QueueHandlers;
-use mega_outcome::Request;
+use mega_places::mega_meanings::QueueHandlers;
+use mega_places::mega_outcome::Request;
+use mega_places::mega_transcript::{Item, Tape};
 use mega_places::{Place, WorldFault, begin_at, is_node, is_up};
-use mega_transcript::{Item, Tape};
 use std::alloc::Global;
 
 /// Whether a group has an empty key.

@@ -2,13 +2,13 @@
 ghost use Rattle.std.specs.Prelude.{◌≡◌, ◌≢◌, ◌≤◌, ℕ, length, IfNone, IfSome, OnOk, Err, Some, None, true, ◌++◌, List};
 ghost use Rattle.std.specs.Prelude.{All};
 ghost use Rattle.mega_cluster.specs.declared.cluster.Cluster.{Cluster};
-ghost use Rattle.mega_handler.specs.Named.{Meanings};
-ghost use Rattle.mega_schedule.specs.declared.world_event.WorldEvent.TheVariants as event;
-ghost use Rattle.mega_transcript.specs.declared.item.Item.{Item as OnTape};
-ghost use Rattle.mega_transcript.specs.Lines.{HasLine};
-ghost use Rattle.mega_transcript.specs.Tape.{is_sent};
-ghost use Rattle.mega_promises.specs.Messages.{message_of};
-ghost use Rattle.mega_promises.specs.Runs.{Standing, after_event, by_fuse, refusal, up};
+ghost use Rattle.mega_places.specs.of_handler.Named.{Meanings};
+ghost use Rattle.mega_places.specs.of_promises.of_schedule.declared.world_event.WorldEvent.TheVariants as event;
+ghost use Rattle.mega_places.specs.of_promises.of_transcript.declared.item.Item.{Item as OnTape};
+ghost use Rattle.mega_places.specs.of_promises.of_transcript.Lines.{HasLine};
+ghost use Rattle.mega_places.specs.of_promises.of_transcript.Tape.{is_sent};
+ghost use Rattle.mega_places.specs.of_promises.Messages.{message_of};
+ghost use Rattle.mega_places.specs.of_promises.Runs.{Standing, after_event, by_fuse, refusal, up};
 ghost use Rattle.mega_places.specs.Carries.{Carries};
 ghost use Rattle.mega_places.specs.declared.fault.WorldFault.TheVariants.{Limit, Refused};
 ghost use Rattle.mega_world.specs.Formed.{IsSound};
@@ -16,9 +16,9 @@ ghost use Rattle.mega_places.specs.Members.{is_up_at};
 ghost use Rattle.mega_world.specs.Stands.{IsAllowed, StandsWith, MayCome};
 
 use crate::world::World;
-use mega_meanings::QueueHandlers;
+use mega_places::mega_meanings::QueueHandlers;
+use mega_places::mega_transcript::{Item, Tape};
 use mega_places::{Mail, Place, WorldFault, is_up, take_at};
-use mega_transcript::{Item, Tape};
 use mega_wire::Message;
 use std::alloc::Global;
 

@@ -2,17 +2,17 @@
 ghost use Rattle.std.specs.Prelude.{◌≡◌, ◌≢◌, ℕ, OnOk, Err, Some, None, ◌++◌, List};
 ghost use Rattle.std.specs.Prelude.{All};
 ghost use Rattle.mega_cluster.specs.declared.cluster.Cluster.{Cluster};
-ghost use Rattle.mega_handler.specs.Named.{Meanings};
-ghost use Rattle.mega_schedule.specs.declared.world_event.WorldEvent.TheVariants as event;
-ghost use Rattle.mega_transcript.specs.declared.item.Item.{Item as OnTape};
-ghost use Rattle.mega_transcript.specs.Lines.{HasLine};
-ghost use Rattle.mega_promises.specs.Runs.{Standing, after_event, by_fuse, refusal};
+ghost use Rattle.mega_places.specs.of_handler.Named.{Meanings};
+ghost use Rattle.mega_places.specs.of_promises.of_schedule.declared.world_event.WorldEvent.TheVariants as event;
+ghost use Rattle.mega_places.specs.of_promises.of_transcript.declared.item.Item.{Item as OnTape};
+ghost use Rattle.mega_places.specs.of_promises.of_transcript.Lines.{HasLine};
+ghost use Rattle.mega_places.specs.of_promises.Runs.{Standing, after_event, by_fuse, refusal};
 ghost use Rattle.mega_places.specs.declared.fault.WorldFault.TheVariants.{Limit, Refused};
 ghost use Rattle.mega_world.specs.Stands.{StandsWith};
 
 use crate::world::World;
 use mega_places::WorldFault;
-use mega_transcript::{Item, Tape};
+use mega_places::mega_transcript::{Item, Tape};
 
 impl World {
     /// The message of a number is never delivered from now on.

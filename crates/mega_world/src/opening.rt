@@ -1,13 +1,13 @@
 //! A world begins: all nodes start for the first time, with nothing on their devices.
 ghost use Rattle.std.specs.Prelude.{◌≡◌, ◌⊎◌, ◌≤◌, ◌<◌, ◌+◌, ◌^◌, ◌++◌, ◌∷◌, [], length, true, IfOk, OnOk, OnErr, Err};
 ghost use Rattle.std.specs.Prelude.{All};
-ghost use Rattle.mega_handler.specs.Named.{Meanings};
-ghost use Rattle.mega_transcript.specs.Lines.{HasLine};
-ghost use Rattle.mega_transcript.specs.Tape.{newest};
-ghost use Rattle.mega_durable.specs.of_core.Served.{IsServed};
-ghost use Rattle.mega_view.specs.Small.{IsSmall};
-ghost use Rattle.mega_rules.specs.Members.{is_node};
-ghost use Rattle.mega_promises.specs.Runs.{opening};
+ghost use Rattle.mega_places.specs.of_handler.Named.{Meanings};
+ghost use Rattle.mega_places.specs.of_promises.of_transcript.Lines.{HasLine};
+ghost use Rattle.mega_places.specs.of_promises.of_transcript.Tape.{newest};
+ghost use Rattle.mega_places.specs.of_durable.of_core.Served.{IsServed};
+ghost use Rattle.mega_places.specs.of_durable.of_view.Small.{IsSmall};
+ghost use Rattle.mega_places.specs.of_voter.of_rules.Members.{is_node};
+ghost use Rattle.mega_places.specs.of_promises.Runs.{opening};
 ghost use Rattle.mega_places.specs.declared.fault.WorldFault.TheVariants.{NoMemory as OutOfMemory};
 ghost use Rattle.mega_places.specs.declared.place.Place.TheVariants.{Up};
 ghost use Rattle.mega_world.specs.Opening.{AreStarted, IsFirst, first_starts};
@@ -17,8 +17,8 @@ use crate::world::World;
 use mega_base::{Copied, NoMemory, NodeId};
 use mega_cluster::Cluster;
 use mega_disk::MemRecords;
+use mega_places::mega_transcript::{Item, Tape};
 use mega_places::{Begun, Fallen, Mail, Member, Place, Remains, Safety, WorldFault};
-use mega_transcript::{Item, Tape};
 use std::alloc::Global;
 
 /// A node of a cluster at its first start, over logs and rows in memory that hold nothing.

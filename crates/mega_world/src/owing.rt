@@ -2,13 +2,13 @@
 ghost use Rattle.std.specs.Prelude.{◌≡◌, ◌+◌, ◌++◌, ◌∷◌, [], ℕ, List, OnOk, map, flat_map};
 ghost use Rattle.std.specs.Prelude.{All};
 ghost use Rattle.mega_cluster.specs.declared.cluster.Cluster.{Cluster};
-ghost use Rattle.mega_rules.specs.Met.{Unsends};
-ghost use Rattle.mega_rules.specs.Operations.{Node as RuleNode};
-ghost use Rattle.mega_durable.specs.of_core.of_stepping.Notes.{met_of};
-ghost use Rattle.mega_transcript.specs.declared.item.Item.{Item as OnTape};
-ghost use Rattle.mega_transcript.specs.Lines.{HasLine};
-ghost use Rattle.mega_transcript.specs.Tape.{newest};
-ghost use Rattle.mega_promises.specs.Items.{number, shown};
+ghost use Rattle.mega_places.specs.of_voter.of_rules.Met.{Unsends};
+ghost use Rattle.mega_places.specs.of_voter.of_rules.Operations.{Node as RuleNode};
+ghost use Rattle.mega_places.specs.of_durable.of_core.of_stepping.Notes.{met_of};
+ghost use Rattle.mega_places.specs.of_promises.of_transcript.declared.item.Item.{Item as OnTape};
+ghost use Rattle.mega_places.specs.of_promises.of_transcript.Lines.{HasLine};
+ghost use Rattle.mega_places.specs.of_promises.of_transcript.Tape.{newest};
+ghost use Rattle.mega_places.specs.of_promises.Items.{number, shown};
 ghost use Rattle.mega_places.specs.Kept.{owed_of};
 ghost use Rattle.mega_world.specs.Owing.{IsOwing, ShowsOwed, ShowsStart};
 ghost use Rattle.mega_world.specs.Shown.{notes_shown};
@@ -17,9 +17,9 @@ use crate::restarting::Shown;
 use crate::showing::put_all;
 use crate::world::World;
 use mega_base::{Items, NoMemory, NodeId};
-use mega_durable::Cut;
 use mega_places::keep_lapses;
-use mega_transcript::{Item, Tape};
+use mega_places::mega_durable::Cut;
+use mega_places::mega_transcript::{Item, Tape};
 use mega_wire::Message;
 
 /// Replies that were not sent come onto the tape.

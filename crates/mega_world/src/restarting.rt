@@ -2,13 +2,13 @@
 ghost use Rattle.std.specs.Prelude.{◌≡◌, ◌≢◌, ◌≤◌, ◌-◌, ℕ, List, length, set, IfNone, IfOk, IfSome, OnOk, Err, Option, Some, None, true, false, ◌++◌};
 ghost use Rattle.std.specs.Prelude.{All};
 ghost use Rattle.mega_cluster.specs.declared.cluster.Cluster.{Cluster as ClusterValue};
-ghost use Rattle.mega_durable.specs.of_core.Served.{IsServed};
-ghost use Rattle.mega_handler.specs.Named.{Meaning, Meanings};
-ghost use Rattle.mega_rules.specs.Members.{is_node};
-ghost use Rattle.mega_schedule.specs.declared.world_event.WorldEvent.TheVariants as event;
-ghost use Rattle.mega_transcript.specs.declared.item.Item.{Item as OnTape};
-ghost use Rattle.mega_transcript.specs.Lines.{HasLine};
-ghost use Rattle.mega_promises.specs.Runs.{Standing, after_event, by_fuse, refusal};
+ghost use Rattle.mega_places.specs.of_durable.of_core.Served.{IsServed};
+ghost use Rattle.mega_places.specs.of_handler.Named.{Meaning, Meanings};
+ghost use Rattle.mega_places.specs.of_voter.of_rules.Members.{is_node};
+ghost use Rattle.mega_places.specs.of_promises.of_schedule.declared.world_event.WorldEvent.TheVariants as event;
+ghost use Rattle.mega_places.specs.of_promises.of_transcript.declared.item.Item.{Item as OnTape};
+ghost use Rattle.mega_places.specs.of_promises.of_transcript.Lines.{HasLine};
+ghost use Rattle.mega_places.specs.of_promises.Runs.{Standing, after_event, by_fuse, refusal};
 ghost use Rattle.mega_places.specs.declared.fault.WorldFault.TheVariants.{Limit, Refused};
 ghost use Rattle.mega_base.specs.Names.{IsU32};
 ghost use Rattle.mega_places.specs.declared.place.Place.{Place as PlaceValue};
@@ -22,10 +22,12 @@ ghost use Rattle.mega_world.specs.Last.{IsPastLast};
 use crate::world::World;
 use mega_base::{Copied, Items, NodeId};
 use mega_cluster::Cluster;
-use mega_durable::Cut;
-use mega_durable::mega_core::mega_stepping::Note;
-use mega_places::{Begun, Fallen, NotBegun, Place, WorldFault, is_node, is_up, put_place, take_place};
-use mega_transcript::{Item, Tape};
+use mega_places::mega_durable::Cut;
+use mega_places::mega_durable::mega_core::mega_stepping::Note;
+use mega_places::mega_transcript::{Item, Tape};
+use mega_places::{
+    Begun, Fallen, NotBegun, Place, WorldFault, is_node, is_up, put_place, take_place,
+};
 use std::alloc::Global;
 
 /// What a start shows: its number, what it owed, and what it applied.

@@ -3,14 +3,14 @@
 ghost use Rattle.std.specs.Prelude.{◌≡◌, ◌+◌, ◌++◌, ◌∷◌, ◌||◌, [], ℕ, List, OnOk, if◌then◌else◌};
 ghost use Rattle.std.specs.Prelude.{All};
 ghost use Rattle.mega_cluster.specs.declared.cluster.Cluster.{Cluster};
-ghost use Rattle.mega_transcript.specs.declared.item.Item.{Item as OnTape};
-ghost use Rattle.mega_transcript.specs.declared.item.Item.TheVariants as item;
-ghost use Rattle.mega_transcript.specs.Lines.{HasLine};
-ghost use Rattle.mega_transcript.specs.Tape.{newest, sent_count};
-ghost use Rattle.mega_rules.specs.Operations.{Node as RuleNode};
-ghost use Rattle.mega_durable.specs.of_core.of_stepping.Notes.{met_of};
-ghost use Rattle.mega_promises.specs.Items.{numbered, shown};
-ghost use Rattle.mega_promises.specs.Runs.{with_items};
+ghost use Rattle.mega_places.specs.of_promises.of_transcript.declared.item.Item.{Item as OnTape};
+ghost use Rattle.mega_places.specs.of_promises.of_transcript.declared.item.Item.TheVariants as item;
+ghost use Rattle.mega_places.specs.of_promises.of_transcript.Lines.{HasLine};
+ghost use Rattle.mega_places.specs.of_promises.of_transcript.Tape.{newest, sent_count};
+ghost use Rattle.mega_places.specs.of_voter.of_rules.Operations.{Node as RuleNode};
+ghost use Rattle.mega_places.specs.of_durable.of_core.of_stepping.Notes.{met_of};
+ghost use Rattle.mega_places.specs.of_promises.Items.{numbered, shown};
+ghost use Rattle.mega_places.specs.of_promises.Runs.{with_items};
 ghost use Rattle.mega_places.specs.Carries.{Carries};
 ghost use Rattle.mega_places.specs.Lapses.{KnowsLeases};
 ghost use Rattle.mega_places.specs.Members.{AreMembers};
@@ -19,10 +19,10 @@ ghost use Rattle.mega_world.specs.Shown.{notes_shown};
 
 use crate::world::World;
 use mega_base::{Items, NoMemory, NodeId};
-use mega_durable::item_of;
-use mega_durable::mega_core::mega_stepping::{Note, Step};
+use mega_places::mega_durable::item_of;
+use mega_places::mega_durable::mega_core::mega_stepping::{Note, Step};
+use mega_places::mega_transcript::{Item, Tape};
 use mega_places::{Place, Safety, Stepped, breaks_first, keep_lapses};
-use mega_transcript::{Item, Tape};
 use std::alloc::Global;
 
 /// Tells that leases are not safe from the last item on, where it is the first to show that.

@@ -2,13 +2,13 @@
 ghost use Rattle.std.specs.Prelude.{◌≡◌, ◌≢◌, ◌≤◌, ℕ, length, IfNone, OnOk, Err, Some, None, true, ◌++◌, List};
 ghost use Rattle.std.specs.Prelude.{All};
 ghost use Rattle.mega_cluster.specs.declared.cluster.Cluster.{Cluster};
-ghost use Rattle.mega_handler.specs.Named.{Meanings};
-ghost use Rattle.mega_schedule.specs.declared.world_event.WorldEvent.TheVariants as event;
-ghost use Rattle.mega_transcript.specs.declared.item.Item.{Item as OnTape};
-ghost use Rattle.mega_transcript.specs.Lines.{HasLine};
-ghost use Rattle.mega_rules.specs.Clock.{clock_of};
-ghost use Rattle.mega_rules.specs.Operations.{Node as RuleNode};
-ghost use Rattle.mega_promises.specs.Runs.{Standing, after_event, by_fuse, refusal};
+ghost use Rattle.mega_places.specs.of_handler.Named.{Meanings};
+ghost use Rattle.mega_places.specs.of_promises.of_schedule.declared.world_event.WorldEvent.TheVariants as event;
+ghost use Rattle.mega_places.specs.of_promises.of_transcript.declared.item.Item.{Item as OnTape};
+ghost use Rattle.mega_places.specs.of_promises.of_transcript.Lines.{HasLine};
+ghost use Rattle.mega_places.specs.of_voter.of_rules.Clock.{clock_of};
+ghost use Rattle.mega_places.specs.of_voter.of_rules.Operations.{Node as RuleNode};
+ghost use Rattle.mega_places.specs.of_promises.Runs.{Standing, after_event, by_fuse, refusal};
 ghost use Rattle.mega_places.specs.declared.fault.WorldFault.TheVariants.{Limit, Refused};
 ghost use Rattle.mega_world.specs.Formed.{IsSound};
 ghost use Rattle.mega_places.specs.Members.{AreMembers, is_up_at};
@@ -16,9 +16,9 @@ ghost use Rattle.mega_world.specs.Stands.{StandsWith, IsDue, MayCome};
 
 use crate::world::World;
 use mega_base::NodeId;
-use mega_meanings::QueueHandlers;
+use mega_places::mega_meanings::QueueHandlers;
+use mega_places::mega_transcript::{Item, Tape};
 use mega_places::{Place, WorldFault, is_node, is_up, member_of, tick_at};
-use mega_transcript::{Item, Tape};
 use std::alloc::Global;
 
 /// The last time that the clock of a node showed in this start; 0 of a node that is down.

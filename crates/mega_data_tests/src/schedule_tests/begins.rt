@@ -5,7 +5,7 @@ use mega_base::Text;
 use mega_outcome::Request;
 use mega_schedule::{WorldEvent, event};
 use std::alloc::Global;
-use std::test::Fail;
+use std::process::Abort;
 
 /// Lines of operations, and behind an arrow the text with which each begins.
 const TEXTS: &str =
@@ -20,8 +20,8 @@ const TEXTS: &str =
 {"do":"txn","node":1,"group":["A",["\u00e9"]],"checks":[],"reads":[],"writes":[{"put":"A","row":{"\u00fc":1,"a":2,"B":3,"\u0001":"\b\f\n\r\t\u001F\"\\","":5,"aa":"\uD83D\uDE00","a":6}}],"sends":[]} => {"checks":[],"do":"txn","group":["A",["é"]],"node":1,"reads":[],"sends":[],"writes":[{"put":"A","row":{"":5,"\u0001":"\b\f\n\r\t\u001f\"\\","B":3,"a":6,"aa":"😀","ü":1}}]}"#;
 
 /// The request and the text of a line that begins an operation.
-pub fn begun(alloc: Global, line: &str) -> Result<(Request, Text), Fail> {
-    let schema = schema(alloc)?;
+pub fn begun(rt: &impl Abort, alloc: Global, line: &str) -> (Request, Text) {
+    let schema = schema(rt, alloc);
     match event(alloc, line.as_bytes(), 1, &schema) {
         Ok(
             WorldEvent::Begin {
@@ -29,18 +29,17 @@ pub fn begun(alloc: Global, line: &str) -> Result<(Request, Text), Fail> {
                 request,
                 text,
             },
-        ) => Ok((request, text)),
-        _ => Err(Fail::from("no operation begins")),
+        ) => (request, text),
+        _ => panic!(rt; "no operation begins"),
     }
 }
 
 #[test]
-fn the_text_of_a_begin_is_compact_with_keys_in_order(rt: HostRuntime) -> Result<(), Fail> {
+fn the_text_of_a_begin_is_compact_with_keys_in_order(rt: HostRuntime) {
     let alloc = rt.alloc();
     for row in TEXTS.lines() {
-        let (line, wanted) = row.split_once(" => ").ok_or("no arrow")?;
-        let (_request, text) = begun(alloc, line)?;
+        let (line, wanted) = row.split_once(" => ").expect(&rt, "no arrow");
+        let (_request, text) = begun(&rt, alloc, line);
         assert_eq!(rt; text.as_str(), wanted);
     }
-    Ok(())
 }

@@ -5,27 +5,20 @@ use mega_schedule::event;
 use mega_schema::Schema;
 use std::alloc::Global;
 use std::process::Abort;
-use std::test::Fail;
 
 /// A line, this byte behind it up to this length.
-fn padded(alloc: Global, line: &str, byte: u8, length: usize) -> Result<Vec<u8>, Fail> {
-    let mut padded = Vec::from_slice(alloc, line.as_bytes())?;
+fn padded(rt: &impl Abort, alloc: Global, line: &str, byte: u8, length: usize) -> Vec<u8> {
+    let mut padded = Vec::from_slice(alloc, line.as_bytes()).expect(rt, "refused");
     for _ in line.len()..length {
-        padded.push(byte)?;
+        padded.push(byte).expect(rt, "refused");
     }
-    Ok(padded)
+    padded
 }
 
 /// Asserts what is told of a line in the shortest and longest spelling, in the last place and behind it.
-fn check_ends(
-    rt: &impl Abort,
-    alloc: Global,
-    schema: &Schema,
-    own: u8,
-    line: &str,
-) -> Result<(), Fail> {
-    let longest = padded(alloc, line, b' ', 65_536)?;
-    let longer = padded(alloc, line, b'\r', 65_537)?;
+fn check_ends(rt: &impl Abort, alloc: Global, schema: &Schema, own: u8, line: &str) {
+    let longest = padded(rt, alloc, line, b' ', 65_536);
+    let longer = padded(rt, alloc, line, b'\r', 65_537);
     for (text, number, wanted) in [
         (line.as_bytes(), 1, own),
         (longest.as_slice(), 1_000_000, own),
@@ -37,59 +30,59 @@ fn check_ends(
         let told = reason(event(alloc, text, number, schema));
         assert_eq!(rt; told, wanted, "{line}, line {number}");
     }
-    Ok(())
 }
 
 #[test]
-fn long_lines_and_late_lines_are_refused_first(rt: HostRuntime) -> Result<(), Fail> {
+fn long_lines_and_late_lines_are_refused_first(rt: HostRuntime) {
     let alloc = rt.alloc();
-    let schema = schema(alloc)?;
+    let schema = schema(&rt, alloc);
     for row in lines::FAULTS.lines() {
-        let (own, line) = row.split_once(' ').ok_or("no reason")?;
-        let own = *own.as_bytes().first().ok_or("no digit")?;
-        check_ends(&rt, alloc, &schema, own.wrapping_sub(b'0'), line)?;
+        let (own, line) = row.split_once(' ').expect(&rt, "no reason");
+        let own = *own.as_bytes().first().expect(&rt, "no digit");
+        check_ends(&rt, alloc, &schema, own.wrapping_sub(b'0'), line);
     }
-    Ok(())
 }
 
 #[test]
-fn line_ends_count_to_the_length(rt: HostRuntime) -> Result<(), Fail> {
+fn line_ends_count_to_the_length(rt: HostRuntime) {
     let alloc = rt.alloc();
-    let schema = schema(alloc)?;
+    let schema = schema(&rt, alloc);
     for (length, wanted) in [(23, 0), (24, 0), (65_536, 0), (65_537, 7)] {
-        let line = padded(alloc, r#"{"do":"drain","most":1}"#, b'\r', length)?;
+        let line = padded(&rt, alloc, r#"{"do":"drain","most":1}"#, b'\r', length);
         let told = reason(event(alloc, line.as_slice(), 1, &schema));
         assert_eq!(rt; told, wanted, "{length} bytes");
     }
-    Ok(())
 }
 
 /// A line with a field too many, which holds so many lists or objects, one in the other.
-fn nested(alloc: Global, open: &str, close: &str, depth: usize) -> Result<Vec<u8>, Fail> {
-    let mut line = Vec::from_slice(alloc, br#"{"do":"drain","most":1,"more":"#)?;
+fn nested(rt: &impl Abort, alloc: Global, open: &str, close: &str, depth: usize) -> Vec<u8> {
+    let mut line = Vec::from_slice(alloc, br#"{"do":"drain","most":1,"more":"#).expect(
+        rt, "refused",
+    );
     for _ in 0..depth {
-        line.extend_from_slice(open.as_bytes())?;
+        line.extend_from_slice(open.as_bytes())
+            .expect(rt, "refused");
     }
-    line.push(b'1')?;
+    line.push(b'1').expect(rt, "refused");
     for _ in 0..depth {
-        line.extend_from_slice(close.as_bytes())?;
+        line.extend_from_slice(close.as_bytes())
+            .expect(rt, "refused");
     }
-    line.push(b'}')?;
-    Ok(line)
+    line.push(b'}').expect(rt, "refused");
+    line
 }
 
 #[test]
-fn what_nests_deeper_than_127_is_no_json(rt: HostRuntime) -> Result<(), Fail> {
+fn what_nests_deeper_than_127_is_no_json(rt: HostRuntime) {
     let alloc = rt.alloc();
-    let schema = schema(alloc)?;
+    let schema = schema(&rt, alloc);
     for (open, close) in [("[", "]"), (r#"{"a":"#, "}")] {
         for (depth, wanted) in [(1, 6), (126, 6), (127, 1), (128, 1), (10_000, 1)] {
-            let line = nested(alloc, open, close, depth)?;
+            let line = nested(&rt, alloc, open, close, depth);
             let told = reason(event(alloc, line.as_slice(), 1, &schema));
             assert_eq!(rt; told, wanted, "{depth} times {open}");
         }
     }
-    Ok(())
 }
 
 /// Asserts what is told of a line with this byte between two texts.
@@ -100,13 +93,13 @@ fn check_byte(
     around: (&str, &str),
     byte: u8,
     wanted: u8,
-) -> Result<(), Fail> {
-    let mut line = Vec::from_slice(alloc, around.0.as_bytes())?;
-    line.push(byte)?;
-    line.extend_from_slice(around.1.as_bytes())?;
+) {
+    let mut line = Vec::from_slice(alloc, around.0.as_bytes()).expect(rt, "refused");
+    line.push(byte).expect(rt, "refused");
+    line.extend_from_slice(around.1.as_bytes())
+        .expect(rt, "refused");
     let told = reason(event(alloc, line.as_slice(), 1, schema));
     assert_eq!(rt; told, wanted, "the byte {byte} behind {around:?}");
-    Ok(())
 }
 
 /// The bytes that stand for themselves in a text; no byte above them is a character of UTF-8 by itself.
@@ -119,9 +112,9 @@ fn is_white(byte: u8) -> bool {
 }
 
 #[test]
-fn each_byte_has_its_places(rt: HostRuntime) -> Result<(), Fail> {
+fn each_byte_has_its_places(rt: HostRuntime) {
     let alloc = rt.alloc();
-    let schema = schema(alloc)?;
+    let schema = schema(&rt, alloc);
     let name = (r#"{"do":"drain","most":1,""#, r#"":0}"#);
     let value = (r#"{"do":"find","node":1,"index":""#, r#"","values":[1]}"#);
     let between = (r#"{"do":"drain","#, r#""most":1}"#);
@@ -136,7 +129,7 @@ fn each_byte_has_its_places(rt: HostRuntime) -> Result<(), Fail> {
             name,
             byte,
             if in_texts { 6 } else { 1 },
-        )?;
+        );
         check_byte(
             &rt,
             alloc,
@@ -144,9 +137,8 @@ fn each_byte_has_its_places(rt: HostRuntime) -> Result<(), Fail> {
             value,
             byte,
             if in_texts { 0 } else { 1 },
-        )?;
-        check_byte(&rt, alloc, &schema, between, byte, elsewhere)?;
-        check_byte(&rt, alloc, &schema, behind, byte, elsewhere)?;
+        );
+        check_byte(&rt, alloc, &schema, between, byte, elsewhere);
+        check_byte(&rt, alloc, &schema, behind, byte, elsewhere);
     }
-    Ok(())
 }

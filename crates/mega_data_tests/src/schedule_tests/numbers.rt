@@ -3,7 +3,6 @@
 use super::{schema, tells};
 use std::alloc::Global;
 use std::process::Abort;
-use std::test::Fail;
 
 /// Numbers of no range here and what is no whole number, each behind the reason for which a line with it is refused.
 const OTHERS: &str = r#"5 -9223372036854775808
@@ -81,52 +80,51 @@ const INT64: &str = r#"4 -9223372036854775809
 1 -Infinity"#;
 
 /// Asserts what is told of each line with each of the numbers in the place of its mark.
-fn check(rt: &impl Abort, alloc: Global, numbers: &str, lines: &str) -> Result<(), Fail> {
-    let schema = schema(alloc)?;
+fn check(rt: &impl Abort, alloc: Global, numbers: &str, lines: &str) {
+    let schema = schema(rt, alloc);
     for line in lines.lines() {
-        let (front, back) = line.split_once('#').ok_or("no mark")?;
+        let (front, back) = line.split_once('#').expect(rt, "no mark");
         for row in numbers.lines() {
-            let (wanted, number) = row.split_once(' ').ok_or("no reason")?;
-            let line = format!(in alloc; "{front}{number}{back}")?;
-            tells(rt, alloc, &schema, wanted, line.as_str())?;
+            let (wanted, number) = row.split_once(' ').expect(rt, "no reason");
+            let line = format!(in alloc; "{front}{number}{back}").expect(rt, "refused");
+            tells(rt, alloc, &schema, wanted, line.as_str());
         }
     }
-    Ok(())
 }
 
 #[test]
-fn nodes_are_1_to_9(rt: HostRuntime) -> Result<(), Fail> {
-    check(&rt, rt.alloc(), "5 0\n0 1\n0 9\n5 10\n5 256\n5 257", NODES)?;
-    check(&rt, rt.alloc(), OTHERS, NODES)
+fn nodes_are_1_to_9(rt: HostRuntime) {
+    check(&rt, rt.alloc(), "5 0\n0 1\n0 9\n5 10\n5 256\n5 257", NODES);
+    check(&rt, rt.alloc(), OTHERS, NODES);
 }
 
 #[test]
-fn messages_and_moments_are_at_most_a_million_million(rt: HostRuntime) -> Result<(), Fail> {
+fn messages_and_moments_are_at_most_a_million_million(rt: HostRuntime) {
     let alloc = rt.alloc();
     let ends = "5 0\n0 1\n0 999999999999\n0 1000000000000\n5 1000000000001";
-    check(&rt, alloc, ends, MESSAGES)?;
-    check(&rt, alloc, OTHERS, MESSAGES)?;
+    check(&rt, alloc, ends, MESSAGES);
+    check(&rt, alloc, OTHERS, MESSAGES);
     let moments = r#"{"do":"tick","node":1,"now":#}"#;
     let ends = "5 -1\n0 0\n0 1\n0 999999999999\n0 1000000000000\n5 1000000000001";
-    check(&rt, alloc, ends, moments)?;
-    check(&rt, alloc, OTHERS, moments)
+    check(&rt, alloc, ends, moments);
+    check(&rt, alloc, OTHERS, moments);
 }
 
 #[test]
-fn calls_and_deliveries_are_at_most_a_million(rt: HostRuntime) -> Result<(), Fail> {
+fn calls_and_deliveries_are_at_most_a_million(rt: HostRuntime) {
     let alloc = rt.alloc();
     let drains = r#"{"do":"drain","most":#}"#;
-    check(&rt, alloc, "5 0\n0 1\n0 1000000\n5 1000001", drains)?;
-    check(&rt, alloc, OTHERS, drains)?;
+    check(&rt, alloc, "5 0\n0 1\n0 1000000\n5 1000001", drains);
+    check(&rt, alloc, OTHERS, drains);
     let calls = r#"{"do":"fuse","node":1,"calls":#,"image":0}"#;
-    check(&rt, alloc, "5 -1\n0 0\n0 1000000\n5 1000001", calls)?;
-    check(&rt, alloc, OTHERS, calls)?;
+    check(&rt, alloc, "5 -1\n0 0\n0 1000000\n5 1000001", calls);
+    check(&rt, alloc, OTHERS, calls);
     let images = r#"{"do":"fuse","node":1,"calls":0,"image":#,"device":"log"}"#;
-    check(&rt, alloc, "5 -1\n0 0\n0 1\n0 2\n5 3\n5 256", images)?;
-    check(&rt, alloc, OTHERS, images)
+    check(&rt, alloc, "5 -1\n0 0\n0 1\n0 2\n5 3\n5 256", images);
+    check(&rt, alloc, OTHERS, images);
 }
 
 #[test]
-fn values_are_int64s(rt: HostRuntime) -> Result<(), Fail> {
-    check(&rt, rt.alloc(), INT64, VALUES)
+fn values_are_int64s(rt: HostRuntime) {
+    check(&rt, rt.alloc(), INT64, VALUES);
 }

@@ -1,7 +1,6 @@
 //! What lines of operations ask for: names by their numbers, and values by the kinds of their places.
 
 use super::begins::begun;
-use std::test::Fail;
 
 /// Lines of operations, and behind an arrow what each asks for.
 const REQUESTS: &str =
@@ -29,13 +28,12 @@ const REQUESTS: &str =
  { "do" : "refresh", "node" : 2 } => Refresh"#;
 
 #[test]
-fn names_and_values_are_those_of_the_schema(rt: HostRuntime) -> Result<(), Fail> {
+fn names_and_values_are_those_of_the_schema(rt: HostRuntime) {
     let alloc = rt.alloc();
     for row in REQUESTS.lines() {
-        let (line, wanted) = row.split_once(" => ").ok_or("no arrow")?;
-        let (request, _text) = begun(alloc, line)?;
-        let told = format!(in alloc; "{request:?}")?;
+        let (line, wanted) = row.split_once(" => ").expect(&rt, "no arrow");
+        let (request, _text) = begun(&rt, alloc, line);
+        let told = format!(in alloc; "{request:?}").expect(&rt, "refused");
         assert_eq!(rt; told.as_str(), wanted);
     }
-    Ok(())
 }

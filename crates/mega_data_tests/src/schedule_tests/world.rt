@@ -3,7 +3,6 @@
 use super::schema;
 use mega_disk::Device;
 use mega_schedule::{WorldEvent, event};
-use std::test::Fail;
 
 /// Lines, and behind an arrow the numbers of their events; the device `data` is shown as 1.
 const EVENTS: &str = r#"{"do":"tick","node":9,"now":1000000000000} => tick [9, 1000000000000, 0, 0]
@@ -60,14 +59,15 @@ fn shown(event: WorldEvent) -> (&'static str, [u64; 4]) {
 }
 
 #[test]
-fn numbers_and_words_are_those_of_the_line(rt: HostRuntime) -> Result<(), Fail> {
+fn numbers_and_words_are_those_of_the_line(rt: HostRuntime) {
     let alloc = rt.alloc();
-    let schema = schema(alloc)?;
+    let schema = schema(&rt, alloc);
     for row in EVENTS.lines() {
-        let (line, wanted) = row.split_once(" => ").ok_or("no arrow")?;
-        let (word, numbers) = shown(event(alloc, line.as_bytes(), 1, &schema)?);
-        let told = format!(in alloc; "{word} {numbers:?}")?;
+        let (line, wanted) = row.split_once(" => ").expect(&rt, "no arrow");
+        let (word, numbers) = shown(event(alloc, line.as_bytes(), 1, &schema).expect(
+            &rt, "refused",
+        ));
+        let told = format!(in alloc; "{word} {numbers:?}").expect(&rt, "refused");
         assert_eq!(rt; told.as_str(), wanted);
     }
-    Ok(())
 }

@@ -1,9 +1,10 @@
 use Rattle.std.proofs.Common.{◌≡◌, ℕ, ◌+◌, ◌<◌, List, length, inl, sym, ◌∙◌, ap, subst, arith}
 use Rattle.mega_disk.specs.RecordLists.{IsBeforeOrAfter}
 use Rattle.mega_disk.proofs.Leaves.{weaker_leaves, then_leaves}
-use Rattle.mega_checkpoint.specs.Format.{list_of, offset}
-use Rattle.mega_checkpoint.specs.Places.{Puts}
-use Rattle.mega_checkpoint.proofs.Offsets.{inside}
+use Rattle.mega_areas.specs.Pages.{offset}
+use Rattle.mega_checkpoint.specs.Format.{list_of}
+use Rattle.mega_areas.specs.Places.{Puts}
+use Rattle.mega_areas.proofs.Offsets.{inside}
 use Rattle.mega_checkpoint.proofs.Rooms.{most_fit}
 use Rattle.mega_checkpoint.proofs.Adding.{length-behind, list_stays, before_or_after, added, added_rests, added_stays}
 use Rattle.mega_checkpoint.proofs.appending.add_to_area.Goals as goal

@@ -4,7 +4,8 @@ use Rattle.mega_disk.specs.Images.{Cut, Only}
 use Rattle.mega_disk.proofs.Leaves.{started, goes_on, then_leaves}
 use Rattle.mega_disk.proofs.Steps.{cut_same}
 use Rattle.mega_journal.proofs.Outcomes.{both_ok}
-use Rattle.mega_checkpoint.specs.Format.{is_areas, list_of}
+use Rattle.mega_areas.specs.Pages.{is_areas}
+use Rattle.mega_checkpoint.specs.Format.{list_of}
 use Rattle.mega_checkpoint.proofs.Plain.{cut_none}
 use Rattle.mega_checkpoint.proofs.Fresh.{cleared_list, cleared_held, torn_few}
 use Rattle.mega_checkpoint.proofs.chain.clear.Goals as goal

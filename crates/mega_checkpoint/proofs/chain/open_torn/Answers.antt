@@ -1,7 +1,8 @@
 use Rattle.std.proofs.Common.{rules, ◌≡◌, ◌<◌, List, [], ℕ, false, get_or, sym, ◌∙◌, subst}
 use Rattle.mega_disk.proofs.Leaves.{weaker_leaves}
 use Rattle.mega_disk.proofs.Steps.{cut_same}
-use Rattle.mega_checkpoint.specs.Format.{is_areas, list_of}
+use Rattle.mega_areas.specs.Pages.{is_areas}
+use Rattle.mega_checkpoint.specs.Format.{list_of}
 use Rattle.mega_checkpoint.proofs.Plain.{cut_none}
 use Rattle.mega_checkpoint.proofs.chain.open_torn.Goals as goal
 

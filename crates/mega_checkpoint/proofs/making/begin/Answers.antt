@@ -1,9 +1,10 @@
 use Rattle.std.proofs.Common.{◌≡◌, ℕ, ◌<◌, List, [], refl, sym, ◌∙◌, ap, subst, arith}
 use Rattle.mega_disk.proofs.Leaves.{started, weaker_leaves, then_leaves}
-use Rattle.mega_checkpoint.specs.declared.area.Area.TheVariants.{Odd}
-use Rattle.mega_checkpoint.specs.Format.{offset, list_of}
-use Rattle.mega_checkpoint.specs.Places.{Puts}
-use Rattle.mega_checkpoint.proofs.Offsets.{inside}
+use Rattle.mega_areas.specs.declared.area.Area.TheVariants.{Odd}
+use Rattle.mega_areas.specs.Pages.{offset}
+use Rattle.mega_checkpoint.specs.Format.{list_of}
+use Rattle.mega_areas.specs.Places.{Puts}
+use Rattle.mega_areas.proofs.Offsets.{inside}
 use Rattle.mega_checkpoint.proofs.Fronts.{list_idle}
 use Rattle.mega_checkpoint.proofs.Fresh.{idle_list, first_list, first_form, first_counts, first_number, first_other, first_rests}
 use Rattle.mega_checkpoint.proofs.making.begin.Goals as goal

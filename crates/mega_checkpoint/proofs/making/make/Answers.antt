@@ -2,9 +2,10 @@ use Rattle.std.proofs.Common.{◌≡◌, ◌≤◌, ℕ, List, [], ◌∷◌, ge
 use Rattle.mega_disk.specs.Images.{overwritten, Torn, Only}
 use Rattle.mega_disk.proofs.Leaves.{started, weaker_leaves, then_leaves}
 use Rattle.mega_journal.proofs.Outcomes.{both_ok}
-use Rattle.mega_checkpoint.specs.Format.{list_of, zero_bytes}
+use Rattle.mega_areas.specs.Pages.{zero_bytes}
+use Rattle.mega_checkpoint.specs.Format.{list_of}
 use Rattle.mega_checkpoint.specs.Held.{IsIdle}
-use Rattle.mega_checkpoint.proofs.Bytes.{torn_before}
+use Rattle.mega_areas.proofs.Bytes.{torn_before}
 use Rattle.mega_checkpoint.proofs.Fresh.{list_few, list_shut, length-zeros, zeros_at, over_end, over_few, made, made_torn, made_idle}
 use Rattle.mega_checkpoint.proofs.making.make.Goals as goal
 

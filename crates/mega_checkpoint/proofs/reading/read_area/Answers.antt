@@ -1,5 +1,5 @@
 use Rattle.std.proofs.Common.{◌≡◌, ◌-◌, ◌*◌, length, take, drop, ◌∙◌, ap, arith, length-take, length-drop}
-use Rattle.mega_checkpoint.specs.Format.{pages_in}
+use Rattle.mega_areas.specs.Pages.{pages_in}
 use Rattle.mega_checkpoint.proofs.Fronts.{length-space, pages_parted}
 use Rattle.mega_checkpoint.proofs.reading.read_area.Goals as goal
 

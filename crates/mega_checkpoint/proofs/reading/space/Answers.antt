@@ -1,6 +1,6 @@
 use Rattle.std.proofs.Common.{rules, ◌≡◌, ℕ, ◌+◌, ◌*◌, List, ◌++◌, ◌∙◌, ap}
 use Rattle.std.specs.Prelude.{slice_range}
-use Rattle.mega_checkpoint.specs.Format.{space}
+use Rattle.mega_areas.specs.Pages.{space}
 use Rattle.mega_checkpoint.proofs.Joined.{joined_more}
 use Rattle.mega_checkpoint.proofs.reading.space.Goals as goal
 

@@ -1,6 +1,6 @@
 use Rattle.std.proofs.Common.{◌≡◌, ◌-◌, ◌*◌, ◌≤◌, map, get_or}
 use Rattle.std.specs.List.{range_with_len}
-use Rattle.mega_checkpoint.specs.Format.{offset}
+use Rattle.mega_areas.specs.Pages.{offset}
 use Rattle.mega_checkpoint.proofs.reading.space.Given as goal
 
 abbrev pub invariant-loop-page : goal.invariant-loop-page

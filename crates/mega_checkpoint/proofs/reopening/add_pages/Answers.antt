@@ -1,11 +1,12 @@
 use Rattle.std.proofs.Common.{◌≡◌, ℕ, ◌+◌, ◌≤◌, List, length, sym, ◌∙◌, ap, subst, arith}
 use Rattle.mega_disk.proofs.Leaves.{started, weaker_leaves, goes_on}
-use Rattle.mega_checkpoint.specs.declared.area.Areas.{Areas}
-use Rattle.mega_checkpoint.specs.Format.{length_of_pages, list_of}
+use Rattle.mega_areas.specs.declared.area.Areas.{Areas}
+use Rattle.mega_areas.specs.Pages.{length_of_pages}
+use Rattle.mega_checkpoint.specs.Format.{list_of}
 use Rattle.mega_checkpoint.specs.Held.{HoldsAreas}
-use Rattle.mega_checkpoint.specs.Places.{AllKeep, Keeps}
+use Rattle.mega_areas.specs.Places.{AllKeep, Keeps}
 use Rattle.mega_checkpoint.proofs.Adding.{chain_stays, list_stays, put_keeps, stays}
-use Rattle.mega_checkpoint.proofs.Kept.{keeps_same}
+use Rattle.mega_areas.proofs.Kept.{keeps_same}
 use Rattle.mega_checkpoint.proofs.reopening.add_pages.Goals as goal
 
 -- with a further page of each

@@ -1,5 +1,6 @@
 use Rattle.std.proofs.Common.{sym, ◌∙◌, ap, arith}
-use Rattle.mega_checkpoint.specs.Format.{list_of, pages_in}
+use Rattle.mega_areas.specs.Pages.{pages_in}
+use Rattle.mega_checkpoint.specs.Format.{list_of}
 use Rattle.mega_checkpoint.proofs.Fronts.{list_counts, pages_whole}
 use Rattle.mega_checkpoint.proofs.reopening.open_area.Goals as goal
 

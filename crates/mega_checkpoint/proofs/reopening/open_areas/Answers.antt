@@ -1,6 +1,7 @@
 use Rattle.std.proofs.Common.{◌≡◌, List, ℕ, true, length, take, ◌∙◌, ap, subst}
 use Rattle.mega_disk.proofs.Leaves.{then_leaves}
-use Rattle.mega_checkpoint.specs.Format.{is_areas, length_of_pages, list_of, pages_in}
+use Rattle.mega_areas.specs.Pages.{is_areas, length_of_pages, pages_in}
+use Rattle.mega_checkpoint.specs.Format.{list_of}
 use Rattle.mega_checkpoint.proofs.Trimmed.{whole_list}
 use Rattle.mega_checkpoint.proofs.reopening.open_areas.Goals as goal
 

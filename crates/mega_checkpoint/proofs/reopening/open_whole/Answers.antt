@@ -1,7 +1,8 @@
 use Rattle.std.proofs.Common.{rules, ◌≡◌, List, [], ℕ, true, false, sym, ◌∙◌, ap}
 use Rattle.mega_disk.proofs.Leaves.{weaker_leaves}
-use Rattle.mega_checkpoint.specs.Format.{counts, is_areas, list_of}
-use Rattle.mega_checkpoint.specs.declared.area.Area.TheVariants.{Odd, Even}
+use Rattle.mega_areas.specs.Pages.{counts, is_areas}
+use Rattle.mega_checkpoint.specs.Format.{list_of}
+use Rattle.mega_areas.specs.declared.area.Area.TheVariants.{Odd, Even}
 use Rattle.mega_checkpoint.proofs.Fronts.{list_idle, neither}
 use Rattle.mega_checkpoint.proofs.reopening.open_whole.Goals as goal
 

@@ -3,10 +3,11 @@ use Rattle.std.proofs.lemmas.Result.{on_ok_weaker}
 use Rattle.mega_disk.specs.Images.{Only}
 use Rattle.mega_disk.proofs.Leaves.{weaker_leaves}
 use Rattle.mega_journal.proofs.Outcomes.{both_ok}
-use Rattle.mega_checkpoint.specs.Format.{chain_in, list_of, offset}
+use Rattle.mega_areas.specs.Pages.{chain_in, offset}
+use Rattle.mega_checkpoint.specs.Format.{list_of}
 use Rattle.mega_checkpoint.specs.Held.{HoldsAreas}
-use Rattle.mega_checkpoint.specs.Places.{Sets}
-use Rattle.mega_checkpoint.proofs.Offsets.{inside}
+use Rattle.mega_areas.specs.Places.{Sets}
+use Rattle.mega_areas.proofs.Offsets.{inside}
 use Rattle.mega_checkpoint.proofs.Plain.{shut_by, open_by}
 use Rattle.mega_checkpoint.proofs.Ended.{area_read, held_shut, held_closed, ended_list}
 use Rattle.mega_checkpoint.proofs.reopening.shut_area.Goals as goal

@@ -1,7 +1,8 @@
 use Rattle.std.proofs.Common.{◌≡◌, ℕ, List, true, length, ◌∙◌, ap, subst}
 use Rattle.mega_disk.specs.Images.{Cut}
 use Rattle.mega_disk.proofs.Leaves.{started, goes_on}
-use Rattle.mega_checkpoint.specs.Format.{is_areas, length_of_pages, list_of, pages_in}
+use Rattle.mega_areas.specs.Pages.{is_areas, length_of_pages, pages_in}
+use Rattle.mega_checkpoint.specs.Format.{list_of}
 use Rattle.mega_checkpoint.proofs.Trimmed.{cut_list}
 use Rattle.mega_checkpoint.proofs.reopening.trim.Goals as goal
 

@@ -1,11 +1,12 @@
 use Rattle.std.proofs.Common.{◌≡◌, ℕ, ◌+◌, ◌<◌, ◌^◌, List, length, true, inl, refl, sym, ◌∙◌, ap, subst, arith}
 use Rattle.mega_disk.specs.RecordLists.{IsOldOrReplaced}
 use Rattle.mega_disk.proofs.Leaves.{weaker_leaves, then_leaves}
-use Rattle.mega_checkpoint.specs.declared.area.Area.{Area}
-use Rattle.mega_checkpoint.specs.Format.{other_of, offset, is_open, generation_of, list_of, replacing}
+use Rattle.mega_areas.specs.declared.area.Area.{Area}
+use Rattle.mega_areas.specs.Pages.{other_of, offset, is_open, generation_of}
+use Rattle.mega_checkpoint.specs.Format.{list_of, replacing}
 use Rattle.mega_checkpoint.specs.Held.{HoldsAreas}
-use Rattle.mega_checkpoint.specs.Places.{Keeps, Puts, Sets}
-use Rattle.mega_checkpoint.proofs.Offsets.{inside}
+use Rattle.mega_areas.specs.Places.{Keeps, Puts, Sets}
+use Rattle.mega_areas.proofs.Offsets.{inside}
 use Rattle.mega_checkpoint.proofs.Rooms.{most_fit}
 use Rattle.mega_checkpoint.proofs.Fronts.{other_other}
 use Rattle.mega_checkpoint.proofs.Swapped.{length-replacing, beside, list_beside, gate_stays, old_or_replaced, replaced, opened, new_beside, new_number, new_rests}

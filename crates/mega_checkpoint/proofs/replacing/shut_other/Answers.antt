@@ -2,10 +2,10 @@ use Rattle.std.proofs.Common.{ℕ, ◌<◌, sym, ◌∙◌, subst, arith}
 use Rattle.std.proofs.lemmas.Result.{on_ok_weaker}
 use Rattle.mega_disk.proofs.Leaves.{weaker_leaves}
 use Rattle.mega_journal.proofs.Outcomes.{both_ok}
-use Rattle.mega_checkpoint.specs.declared.area.Area.{Area}
-use Rattle.mega_checkpoint.specs.Format.{offset}
-use Rattle.mega_checkpoint.specs.Places.{Sets}
-use Rattle.mega_checkpoint.proofs.Offsets.{inside}
+use Rattle.mega_areas.specs.declared.area.Area.{Area}
+use Rattle.mega_areas.specs.Pages.{offset}
+use Rattle.mega_areas.specs.Places.{Sets}
+use Rattle.mega_areas.proofs.Offsets.{inside}
 use Rattle.mega_checkpoint.proofs.Swapped.{set_list, set_shut, some_room, was_open}
 use Rattle.mega_checkpoint.proofs.replacing.shut_other.Goals as goal
 

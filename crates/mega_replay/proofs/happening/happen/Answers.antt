@@ -1,8 +1,11 @@
 use Rattle.std.proofs.Common.{ℕ, ◌≡◌, [], Some, None, Err, ap, append-nil, subst, sym, List}
+use Rattle.std.specs.List.{All}
+use Rattle.mega_held.specs.Held.{HoldsItem}
 use Rattle.mega_meanings.specs.BuiltIn.{built_in}
 use Rattle.mega_transcript.specs.declared.item.Item.{Item}
+use Rattle.mega_transcript.specs.Lines.{HasLine}
 use Rattle.mega_transcript.specs.Tape.{newest}
-use Rattle.mega_promises.specs.Runs.{refusal}
+use Rattle.mega_shown_laws.specs.of_promises.Runs.{refusal}
 use Rattle.mega_world.specs.Stands.{StandsWith}
 use Rattle.mega_replay.specs.Running.{stood}
 use Rattle.mega_replay.proofs.Running.{sound, went}
@@ -16,7 +19,17 @@ returns-in-Ok-clause-state g c done events after =
     let allowed = c.in-Ok.ensures.happens cluster (stood cluster events) after.here in
     let right = sound cluster done events number line c.args.event after.starts after.happen c.requires.spelled allowed c.requires.meant in
     went cluster number line events c.args.event c.apply.new.self c.in-Ok.added.items c.requires.spelled allowed (c.in-Ok.ensures.state cluster built_in (stood cluster events) after.here right)
-    (c.in-Ok.ensures.tape cluster built_in (stood cluster events) after.here right)
+    (c.in-Ok.ensures.tape cluster built_in (stood cluster events) after.here right) (subst (All HoldsItem) c.as_slice.ensures c.hold.ensures)
+
+pub hold-requires : goal.hold-requires
+hold-requires g c =
+    let cluster = c.args.cluster.now in
+    let done = c.requires.standing.0 in
+    let events = c.requires.standing.1 in
+    let after = c.requires.standing.2 in
+    let allowed = c.in-Ok.ensures.happens cluster (stood cluster events) after.here in
+    let right = sound cluster done events c.args.number c.args.line.now c.args.event after.starts after.happen c.requires.spelled allowed c.requires.meant in
+    subst (All HasLine) (sym c.as_slice.ensures) (c.in-Ok.ensures.lines cluster built_in (stood cluster events) after.here right)
 
 pub returns-in-Ok-clause-lines : goal.returns-in-Ok-clause-lines
 returns-in-Ok-clause-lines g c =

@@ -2,6 +2,7 @@ use Rattle.std.proofs.Common.{ap, sym, ◌∙◌}
 use Rattle.mega_transcript.specs.Tape.{newest}
 use Rattle.mega_replay.proofs.Texts.{newest_twice}
 use Rattle.mega_meanings.specs.BuiltIn.{built_in}
+use Rattle.mega_replay.proofs.Plain.{opening_held}
 use Rattle.mega_replay.proofs.Starts.{small, starts}
 use Rattle.mega_replay.proofs.opening.opened.Goals as goal
 
@@ -27,7 +28,7 @@ pub new-requires-clause-small : goal.new-requires-clause-small
 new-requires-clause-small c = small c.args.cluster.now c.requires.read
 
 pub returns-in-Ok-clause-state : goal.returns-in-Ok-clause-state
-returns-in-Ok-clause-state c = record { starts = starts c.args.cluster.now c.requires.read; happen = tt; here = c.in-Ok.ensures.state built_in }
+returns-in-Ok-clause-state c = record { starts = starts c.args.cluster.now c.requires.read; happen = tt; here = c.in-Ok.ensures.state built_in; held = opening_held c.args.cluster.now (starts c.args.cluster.now c.requires.read) }
 
 pub returns-in-Ok-clause-tape : goal.returns-in-Ok-clause-tape
 returns-in-Ok-clause-tape c = sym (newest_twice c.new.new.tape.items) ∙ ap newest (c.in-Ok.ensures.tape built_in)

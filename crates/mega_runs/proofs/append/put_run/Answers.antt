@@ -1,8 +1,8 @@
 use Rattle.std.proofs.Common.{ℕ, List, [], ◌∷◌, ◌++◌, sym, ◌∙◌, ap, subst, arith}
 use Rattle.mega_disk.proofs.Leaves.{weaker_leaves}
 use Rattle.mega_runs.specs.Fronts.{Standing}
-use Rattle.mega_runs.specs.Rest.{IsAtRest}
-use Rattle.mega_runs.specs.Chain.{records_of}
+use Rattle.mega_chain.specs.Rest.{IsAtRest}
+use Rattle.mega_chain.specs.Chain.{records_of}
 use Rattle.mega_runs.proofs.Fronting.{standing_front, standing_grown, held_grown}
 use Rattle.mega_runs.proofs.Spilled.{old_or_new}
 use Rattle.mega_runs.proofs.append.put_run.Goals as goal

@@ -1,7 +1,7 @@
 use Rattle.std.proofs.Common.{List, ℕ, refl, ◌∙◌, ap}
 use Rattle.mega_disk.proofs.Leaves.{then_leaves}
-use Rattle.mega_runs.specs.Chain.{records_of}
-use Rattle.mega_runs.specs.Rest.{HoldsAs}
+use Rattle.mega_chain.specs.Chain.{records_of}
+use Rattle.mega_chain.specs.Rest.{HoldsAs}
 use Rattle.mega_runs.proofs.opening.open_file.Goals as goal
 
 pub returns-in_err-close_end-clause-any_moment : goal.returns-in_err-close_end-clause-any_moment

@@ -7,7 +7,7 @@ use Rattle.mega_disk.specs.declared.versions.StoreError.TheVariants.{BadRecord}
 use Rattle.mega_runs.specs.declared.opening.Opened.{Opened}
 use Rattle.mega_disk.proofs.Leaves.{then_leaves}
 use Rattle.mega_runs.specs.Bodies.{body_of}
-use Rattle.mega_runs.specs.Chain.{first_record}
+use Rattle.mega_chain.specs.Chain.{first_record}
 use Rattle.mega_runs.specs.Index.{IsGrown}
 use Rattle.mega_runs.specs.Opening.{IsNext, IsNextBody}
 use Rattle.mega_runs.proofs.Growing.{goes_on_more, goes_on_ends, is_bad_here}

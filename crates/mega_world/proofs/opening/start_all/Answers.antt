@@ -1,10 +1,10 @@
 use Rattle.std.proofs.Common.{◌+◌, ◌∙◌, ap, length, subst, sym}
 use Rattle.std.specs.List.{All}
 use Rattle.std.proofs.lemmas.List.Elements.{All-push}
-use Rattle.mega_transcript.specs.declared.item.Item.TheVariants.{Start}
-use Rattle.mega_transcript.specs.Lines.{HasLine}
-use Rattle.mega_transcript.specs.Tape.{newest}
-use Rattle.mega_promises.specs.Items.{number}
+use Rattle.mega_places.specs.of_promises.of_transcript.declared.item.Item.TheVariants.{Start}
+use Rattle.mega_places.specs.of_promises.of_transcript.Lines.{HasLine}
+use Rattle.mega_places.specs.of_promises.of_transcript.Tape.{newest}
+use Rattle.mega_places.specs.of_promises.Items.{number}
 use Rattle.mega_world.specs.Opening.{AreStarted}
 use Rattle.mega_places.specs.declared.place.Place.TheVariants.{Up}
 use Rattle.mega_world.proofs.Opened.{length_last, started_more, starts_more}

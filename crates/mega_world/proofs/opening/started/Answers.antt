@@ -1,9 +1,9 @@
 use Rattle.std.proofs.Common.{◌≡◌, None, [], refl, subst, sym, true}
 use Rattle.mega_cluster.specs.declared.cluster.Cluster.{Cluster}
-use Rattle.mega_durable.specs.of_core.Served.{IsServed}
-use Rattle.mega_rules.specs.Members.{is_node}
-use Rattle.mega_rules.specs.Steps.{start}
-use Rattle.mega_promises.specs.Runs.{setting}
+use Rattle.mega_places.specs.of_durable.of_core.Served.{IsServed}
+use Rattle.mega_places.specs.of_voter.of_rules.Members.{is_node}
+use Rattle.mega_places.specs.of_voter.of_rules.Steps.{start}
+use Rattle.mega_places.specs.of_promises.Runs.{setting}
 use Rattle.mega_places.specs.declared.remains.Remains.TheVariants.{OnDisk}
 use Rattle.mega_places.specs.Kept.{IsFallen}
 use Rattle.mega_places.specs.Members.{IsMember}

@@ -1,7 +1,7 @@
 use Rattle.std.proofs.Common.{◌++◌, ◌∷◌, ◌∙◌, [], ap, append_assoc, sym, flat_map, map}
-use Rattle.mega_transcript.specs.declared.item.Item.TheVariants.{Unsent}
-use Rattle.mega_rules.specs.Met.{Unsends}
-use Rattle.mega_promises.specs.Items.{number, shown}
+use Rattle.mega_places.specs.of_promises.of_transcript.declared.item.Item.TheVariants.{Unsent}
+use Rattle.mega_places.specs.of_voter.of_rules.Met.{Unsends}
+use Rattle.mega_places.specs.of_promises.Items.{number, shown}
 use Rattle.mega_world.proofs.Showed.{unsent_last}
 use Rattle.mega_world.proofs.owing.put_unsent.Goals as goal
 

@@ -1,6 +1,6 @@
 use Rattle.std.proofs.Common.{◌≡◌, ◌++◌, flat_map, map}
-use Rattle.mega_rules.specs.Met.{Unsends}
-use Rattle.mega_promises.specs.Items.{shown}
+use Rattle.mega_places.specs.of_voter.of_rules.Met.{Unsends}
+use Rattle.mega_places.specs.of_promises.Items.{shown}
 use Rattle.mega_world.proofs.owing.put_unsent.Given as goal
 
 abbrev pub invariant-loop-message : goal.invariant-loop-message

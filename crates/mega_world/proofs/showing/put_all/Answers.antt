@@ -1,5 +1,5 @@
 use Rattle.std.proofs.Common.{◌++◌}
-use Rattle.mega_transcript.specs.Tape.{newest}
+use Rattle.mega_places.specs.of_promises.of_transcript.Tape.{newest}
 use Rattle.mega_world.proofs.Noted.{lined_first, lined_last, one_more}
 use Rattle.mega_world.proofs.showing.put_all.Goals as goal
 

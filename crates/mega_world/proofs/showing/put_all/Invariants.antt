@@ -1,11 +1,11 @@
 use Rattle.std.proofs.Common.{◌≡◌, ◌++◌, ℕ, List}
 use Rattle.std.specs.List.{All}
 use Rattle.mega_cluster.specs.declared.cluster.Cluster.{Cluster}
-use Rattle.mega_transcript.specs.declared.item.Item.{Item}
-use Rattle.mega_transcript.specs.Lines.{HasLine}
-use Rattle.mega_transcript.specs.Tape.{newest}
-use Rattle.mega_rules.specs.Operations.{Node as RuleNode}
-use Rattle.mega_promises.specs.Runs.{with_items}
+use Rattle.mega_places.specs.of_promises.of_transcript.declared.item.Item.{Item}
+use Rattle.mega_places.specs.of_promises.of_transcript.Lines.{HasLine}
+use Rattle.mega_places.specs.of_promises.of_transcript.Tape.{newest}
+use Rattle.mega_places.specs.of_voter.of_rules.Operations.{Node as RuleNode}
+use Rattle.mega_places.specs.of_promises.Runs.{with_items}
 use Rattle.mega_places.specs.Lapses.{KnowsLeases}
 use Rattle.mega_places.specs.Members.{AreMembers}
 use Rattle.mega_world.specs.Shown.{notes_shown}

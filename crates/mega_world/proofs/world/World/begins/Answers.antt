@@ -1,9 +1,9 @@
 use Rattle.std.proofs.Common.{[], ◌∷◌, ◌++◌, refl}
-use Rattle.mega_transcript.specs.declared.item.Item.TheVariants.{Begin as BeginItem}
-use Rattle.mega_rules.specs.Met.{Begins}
-use Rattle.mega_rules.specs.Steps.{Begin, op_of}
-use Rattle.mega_promises.specs.Items.{shown}
-use Rattle.mega_promises.specs.Runs.{setting}
+use Rattle.mega_places.specs.of_promises.of_transcript.declared.item.Item.TheVariants.{Begin as BeginItem}
+use Rattle.mega_places.specs.of_voter.of_rules.Met.{Begins}
+use Rattle.mega_places.specs.of_voter.of_rules.Steps.{Begin, op_of}
+use Rattle.mega_places.specs.of_promises.Items.{shown}
+use Rattle.mega_places.specs.of_promises.Runs.{setting}
 use Rattle.mega_world.proofs.Asked.{asked_built}
 use Rattle.mega_world.proofs.Behind.{behind}
 use Rattle.mega_world.proofs.Due.{begin_fit, begin_ready, may_happen}

@@ -1,5 +1,5 @@
 use Rattle.std.proofs.Common.{[], ◌∷◌, ◌++◌, refl}
-use Rattle.mega_transcript.specs.declared.item.Item.TheVariants.{Crash}
+use Rattle.mega_places.specs.of_promises.of_transcript.declared.item.Item.TheVariants.{Crash}
 use Rattle.mega_world.proofs.Behind.{behind}
 use Rattle.mega_world.proofs.Falling.{crashes_at}
 use Rattle.mega_world.proofs.world.World.crashes.Goals as goal

@@ -1,8 +1,8 @@
 use Rattle.std.proofs.Common.{◌-◌, ◌∙◌, List, ap, subst, sym}
 use Rattle.std.specs.List.{All}
 use Rattle.std.proofs.lemmas.List.Elements.{All-push}
-use Rattle.mega_transcript.specs.declared.item.Item.TheVariants.{Cut}
-use Rattle.mega_transcript.specs.Lines.{HasLine}
+use Rattle.mega_places.specs.of_promises.of_transcript.declared.item.Item.TheVariants.{Cut}
+use Rattle.mega_places.specs.of_promises.of_transcript.Lines.{HasLine}
 use Rattle.mega_places.specs.declared.place.Place.{Place}
 use Rattle.mega_places.specs.Members.{is_up_at}
 use Rattle.mega_world.proofs.Emptying.{drained_at, drained_cut, next_sound, none_left, reaches_next}

@@ -1,5 +1,5 @@
 use Rattle.std.proofs.Common.{[], ◌∷◌, ◌++◌, ◌≡◌, ◌∙◌, Some, ap, refl, sym}
-use Rattle.mega_transcript.specs.declared.item.Item.TheVariants.{Dropped}
+use Rattle.mega_places.specs.of_promises.of_transcript.declared.item.Item.TheVariants.{Dropped}
 use Rattle.mega_world.proofs.Behind.{behind}
 use Rattle.mega_world.proofs.Emptying.{dropped_at}
 use Rattle.mega_places.proofs.Finding.{drop_sent}

@@ -1,7 +1,7 @@
 use Rattle.std.proofs.Common.{refl, subst, sym}
 use Rattle.mega_disk.specs.declared.pair.Device.{Device}
 use Rattle.mega_disk.specs.declared.pair.Device.TheVariants.{Data, Log}
-use Rattle.mega_promises.specs.Runs.{fused}
+use Rattle.mega_places.specs.of_promises.Runs.{fused}
 use Rattle.mega_world.specs.declared.world.World.{World}
 use Rattle.mega_world.specs.Stands.{StandsWith}
 use Rattle.mega_world.proofs.Fused.{data_nodes, fused_at, log_nodes}

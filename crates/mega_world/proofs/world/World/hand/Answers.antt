@@ -1,6 +1,6 @@
 use Rattle.std.proofs.Common.{◌≡◌, ◌∷◌, ◌++◌, [], ◌∙◌, ◌≤◌, Err, List, ap, length, refl, subst, sym}
-use Rattle.mega_rules.specs.Steps.{Take}
-use Rattle.mega_transcript.specs.declared.item.Item.TheVariants.{Taken}
+use Rattle.mega_places.specs.of_voter.of_rules.Steps.{Take}
+use Rattle.mega_places.specs.of_promises.of_transcript.declared.item.Item.TheVariants.{Taken}
 use Rattle.mega_places.specs.declared.place.Place.{Place}
 use Rattle.mega_places.specs.Members.{is_up_at}
 use Rattle.mega_world.proofs.Behind.{behind}

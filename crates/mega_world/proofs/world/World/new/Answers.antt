@@ -1,4 +1,4 @@
-use Rattle.mega_promises.specs.Runs.{opening}
+use Rattle.mega_places.specs.of_promises.Runs.{opening}
 use Rattle.mega_world.proofs.Behind.{at_is}
 use Rattle.mega_world.proofs.Opened.{cells_few, opening_formed, opening_leases, opening_mail, opening_nodes, opening_tape, opening_within}
 use Rattle.mega_world.proofs.world.World.new.Goals as goal

@@ -1,9 +1,9 @@
 use Rattle.std.proofs.Common.{◌++◌, refl, sym, ◌+◌, subst}
 use Rattle.std.specs.List.{All}
 use Rattle.std.proofs.lemmas.List.Elements.{All-append}
-use Rattle.mega_transcript.specs.Lines.{HasLine}
-use Rattle.mega_transcript.specs.Tape.{newest, sent_count}
-use Rattle.mega_promises.specs.Items.{numbered}
+use Rattle.mega_places.specs.of_promises.of_transcript.Lines.{HasLine}
+use Rattle.mega_places.specs.of_promises.of_transcript.Tape.{newest, sent_count}
+use Rattle.mega_places.specs.of_promises.Items.{numbered}
 use Rattle.mega_places.specs.Members.{AreMembers}
 use Rattle.mega_world.proofs.Behind.{behind}
 use Rattle.mega_world.proofs.Noted.{kept_of, shown_whole}

@@ -1,10 +1,10 @@
 use Rattle.std.proofs.Common.{List, ◌++◌, flat_map, map, refl, subst, sym}
 use Rattle.std.specs.List.{All}
 use Rattle.std.proofs.lemmas.List.Elements.{All-append}
-use Rattle.mega_rules.specs.Met.{Unsends}
-use Rattle.mega_transcript.specs.Lines.{HasLine}
-use Rattle.mega_transcript.specs.Tape.{newest}
-use Rattle.mega_promises.specs.Items.{shown}
+use Rattle.mega_places.specs.of_voter.of_rules.Met.{Unsends}
+use Rattle.mega_places.specs.of_promises.of_transcript.Lines.{HasLine}
+use Rattle.mega_places.specs.of_promises.of_transcript.Tape.{newest}
+use Rattle.mega_places.specs.of_promises.Items.{shown}
 use Rattle.mega_places.specs.declared.place.Place.{Place}
 use Rattle.mega_world.specs.declared.world.World.{World}
 use Rattle.mega_places.specs.Kept.{owed_of}

@@ -1,9 +1,9 @@
 use Rattle.std.proofs.Common.{List, [], ◌∷◌, ◌++◌, refl, subst, sym}
 use Rattle.std.specs.List.{All}
 use Rattle.std.proofs.lemmas.List.Elements.{All-push}
-use Rattle.mega_transcript.specs.declared.item.Item.TheVariants.{Start}
-use Rattle.mega_transcript.specs.Lines.{HasLine}
-use Rattle.mega_promises.specs.Items.{number}
+use Rattle.mega_places.specs.of_promises.of_transcript.declared.item.Item.TheVariants.{Start}
+use Rattle.mega_places.specs.of_promises.of_transcript.Lines.{HasLine}
+use Rattle.mega_places.specs.of_promises.Items.{number}
 use Rattle.mega_places.specs.declared.place.Place.{Place}
 use Rattle.mega_places.specs.Members.{AreMembers}
 use Rattle.mega_world.proofs.Behind.{behind}

@@ -1,6 +1,6 @@
 use Rattle.std.proofs.Common.{[], ◌∷◌, ◌++◌, refl, subst, sym}
-use Rattle.mega_transcript.specs.declared.item.Item.TheVariants.{Crash}
-use Rattle.mega_promises.specs.Items.{number}
+use Rattle.mega_places.specs.of_promises.of_transcript.declared.item.Item.TheVariants.{Crash}
+use Rattle.mega_places.specs.of_promises.Items.{number}
 use Rattle.mega_places.specs.declared.stepping.Stepped.{Stepped}
 use Rattle.mega_world.specs.Showing.{ShowsStep}
 use Rattle.mega_world.proofs.Behind.{behind}

@@ -1,11 +1,11 @@
 use Rattle.std.proofs.Common.{◌≡◌, ◌∙◌, [], ◌∷◌, ◌++◌, refl, subst, sym, true}
 use Rattle.mega_cluster.specs.declared.cluster.Cluster.{Cluster}
-use Rattle.mega_durable.specs.of_core.Served.{IsServed}
-use Rattle.mega_rules.specs.Members.{is_node}
+use Rattle.mega_places.specs.of_durable.of_core.Served.{IsServed}
+use Rattle.mega_places.specs.of_voter.of_rules.Members.{is_node}
 use Rattle.mega_world.specs.declared.world.World.{World}
 use Rattle.mega_places.specs.Kept.{AreNodes}
 use Rattle.mega_world.specs.Restarting.{Opens, StaysDown, started}
-use Rattle.mega_transcript.specs.declared.item.Item.TheVariants.{Crash}
+use Rattle.mega_places.specs.of_promises.of_transcript.declared.item.Item.TheVariants.{Crash}
 use Rattle.mega_world.proofs.Behind.{behind}
 use Rattle.mega_world.proofs.Falling.{stayed_at}
 use Rattle.mega_world.proofs.Happening.{is_there}

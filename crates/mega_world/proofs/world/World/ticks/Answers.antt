@@ -1,7 +1,7 @@
 use Rattle.std.proofs.Common.{[], ◌∷◌, ◌++◌, refl}
-use Rattle.mega_rules.specs.Steps.{Tick}
-use Rattle.mega_transcript.specs.declared.item.Item.TheVariants.{Tick as TickItem}
-use Rattle.mega_promises.specs.Items.{number}
+use Rattle.mega_places.specs.of_voter.of_rules.Steps.{Tick}
+use Rattle.mega_places.specs.of_promises.of_transcript.declared.item.Item.TheVariants.{Tick as TickItem}
+use Rattle.mega_places.specs.of_promises.Items.{number}
 use Rattle.mega_world.proofs.Behind.{behind}
 use Rattle.mega_world.proofs.Due.{may_happen, tick_fit, tick_ready}
 use Rattle.mega_world.proofs.Happening.{came_at, came_lined, is_there, ticked_own}

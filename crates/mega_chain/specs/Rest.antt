@@ -1,0 +1,42 @@
+-- A file of runs between two calls.
+use Rattle.std.specs.Prelude.{◌≡◌, ◌≢◌, ◌<◌, ◌++◌, drop, None, ℕ, List, length, take, get_or, Bool, not, nat_lt, ◌==◌, ◌&&◌}
+use Rattle.mega_disk.specs.Images.{Only, Torn}
+use Rattle.mega_disk.specs.RecordLists.{IsBeforeOrAfter}
+use Rattle.mega_chain.specs.Chain.{chain_of, first_record, records_of, AreShort}
+
+-- the file is the chain of its records, and then a closed gate
+pub record IsAtRest (file : List ℕ) (end : ℕ) : Type 0 where
+  pub front : take end file ≡ chain_of (records_of file)
+  pub place : end ≡ length (chain_of (records_of file))
+  pub gate : get_or file end 1 ≢ 1
+  pub short : AreShort (records_of file)
+
+-- and all of it is on the disk
+pub record IsSettled (file : List ℕ) (may_leave : List ℕ → Type 0) (end : ℕ) : Type 0 where
+  pub at_rest : IsAtRest file end
+  pub durable : Only file may_leave
+
+-- the file holds the records of one of these images
+abbrev pub HoldsAs : (List ℕ → Type 0) → List ℕ → Type 0
+HoldsAs images file = (image : List ℕ) × images image × (records_of file ≡ records_of image)
+
+-- a file of more than one byte has a closed gate there
+abbrev pub is_shut : List ℕ → ℕ → Bool
+is_shut file end = nat_lt 1 (length file) && not (get_or file end 1 == 1)
+
+-- a file that was read up to its last gate
+pub record IsRead (file : List ℕ) (end : ℕ) : Type 0 where
+  pub place : end ≡ length (chain_of (records_of file))
+  pub spelled : file ≡ chain_of (records_of file) ++ drop end file
+  pub closed : first_record (drop end file) ≡ None
+  pub short : AreShort (records_of file)
+  pub behind : 0 < length file → end < length file
+
+-- each image has any bytes in this range, and is the file elsewhere
+abbrev pub AreTorn : ℕ → ℕ → List ℕ → (List ℕ → Type 0) → Type 0
+AreTorn at n file images = (image : List ℕ) → images image → Torn at n file image
+
+-- the file is as it was in front of the gate, and holds the records from before, with one more behind them or without it
+pub record Appends (at : ℕ) (body file image : List ℕ) : Type 0 where
+  pub front : take at image ≡ take at file
+  pub records : IsBeforeOrAfter (records_of file) body (records_of image)
