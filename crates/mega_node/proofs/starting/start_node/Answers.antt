@@ -22,7 +22,7 @@ returns-in-Ok-clause-started g c = λ log found opened.
       members = c.in-Ok.ensures.members;
       own = sym c.get.ensures.number;
       serving = λ h means. record {
-        at = record { up = c.in-Ok.ensures.state h (starts_of before) (met_of me before) [] may; means = means; told = refl; numbered = c.in-Ok.ensures.me ∙ c.get.ensures.number };
+        at = record { up = c.in-Ok.ensures.state h (starts_of before) (met_of me before) [] may; means = means; told = refl; whole = λ store. refl; numbered = c.in-Ok.ensures.me ∙ c.get.ensures.number };
         waits = refl;
       };
       lines = λ h. start_shown (setting c.args.cluster h me) before c.counted.result one.notes count (c.in-Ok.ensures.notes h (starts_of before) (met_of me before) [] may);
