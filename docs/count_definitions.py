@@ -3,7 +3,8 @@
 
     docs/count_definitions.py mega_promises.Runs.IsRun mega_promises.Promises.IsSerial ..
 
-A name is CRATE.MODULE.NAME. Each declaration that is reached by names counts once, with its signature.
+A name is CRATE.MODULE.NAME. Each declaration that is reached by names counts once, with its signature. The fields of a record and the local names of a
+`where` block are no names of their own: they are read through what declares them.
 """
 import os
 import re
@@ -16,6 +17,28 @@ PASSED_ON = re.compile(r"^\w+\.of_(\w+)")
 WORD = re.compile(r"[\w◌≡-]+(?:\.[\w-]+)*")
 
 
+BINDER = re.compile(r"[({] ?([\w' -]+?) : ")
+LAMBDA = re.compile(r"λ ([\w' -]+?)\. ")
+
+
+def bound_in(name, lines):
+    """The names that a declaration binds itself: parameters, variables of patterns and of λ, fields, local functions."""
+    bound = set()
+    for text in lines:
+        for names in BINDER.findall(text) + LAMBDA.findall(text):
+            bound.update(names.split())
+        field = re.match(r"(?:pub )?([\w-]+) : ", text)
+        if field and field.group(1) != name:
+            bound.add(field.group(1))
+        left, equals, _ = text.partition(" = ")
+        if equals and not left.startswith(("let ", "record")):
+            words = re.findall(r"[\w'-]+(?:\.[\w-]+)*", left)
+            bound.update(word for word in words[1:] if word[0].islower())
+            bound.update(word for word in words[:1] if word != name and word[0].islower())
+        bound.update(re.findall(r"let (\w+) = ", text))
+    return bound - {name}
+
+
 def path_of(module):
     crate, _, rest = module.partition(".")
     path = os.path.join(CRATES, crate, "specs", *rest.split(".")) + ".antt"
@@ -25,7 +48,7 @@ def path_of(module):
 class Module:
     def __init__(self, path):
         self.imports, self.declared, self.constructors = {}, {}, {}
-        name = None
+        name, is_data = None, False
         for line in open(path, encoding="utf-8"):
             line = line.rstrip()
             text = line.strip()
@@ -38,8 +61,9 @@ class Module:
                 head = HEAD.match(line)
                 name = head.group(1) if head else name
                 self.declared.setdefault(name, [])
-            elif re.match(r"(pub )?[\w-]+ :", text):
-                self.constructors.setdefault(text.removeprefix("pub ").split(" ")[0], name)
+                is_data = line.startswith(("data ", "pub data "))
+            elif is_data and re.match(r"[\w-]+ :", text):
+                self.constructors.setdefault(text.split(" ")[0], name)
             self.declared[name].append(text)
 
     def imported(self, line):
@@ -70,9 +94,10 @@ def main():
             continue
         seen.add((module, name))
         lines += len(found.declared[name])
+        bound = bound_in(name, found.declared[name])
         for text in found.declared[name]:
             for word in WORD.findall(text):
-                for part in {word, word.split(".")[0]}:
+                for part in {word, word.split(".")[0]} - bound:
                     if part in found.imports:
                         left.append(found.imports[part])
                     elif part in found.declared or part in found.constructors:

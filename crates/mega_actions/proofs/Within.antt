@@ -3,8 +3,8 @@ use Rattle.std.proofs.Common.{◌≡◌, ℕ, ◌+◌, suc, length, List, ap, sy
 use Rattle.mega_base.specs.declared.names.GroupId.{GroupId}
 use Rattle.mega_propose.specs.declared.round.Proposal.{Proposal}
 use Rattle.mega_read.specs.declared.reading.Reading.{Reading}
-use Rattle.mega_operations.specs.declared.kept.Kept.{Kept}
-use Rattle.mega_operations.specs.Whole.{whole}
+use Rattle.mega_finishing.specs.of_operations.declared.kept.Kept.{Kept}
+use Rattle.mega_finishing.specs.of_operations.Whole.{whole}
 use Rattle.mega_rules.specs.Logs.{decided, groups_of}
 use Rattle.mega_rules.specs.Operations.{Now, Operation, Promised, Proposes, Reads, Setting}
 use Rattle.mega_rules.specs.Acting.{acts, acts_within, goes_on, reads_on, unless_decided}

@@ -7,7 +7,8 @@ use Rattle.mega_rules.specs.Met.{Met}
 use Rattle.mega_rules.specs.Operations.{Setting}
 use Rattle.mega_replica.specs.Following.{progress_at}
 use Rattle.mega_actions.specs.declared.replica.Replica.{Replica}
-use Rattle.mega_actions.specs.Stands.{Stands, setting}
+use Rattle.mega_finishing.specs.Stands.{Stands}
+use Rattle.mega_finishing.specs.of_proposing.Settings.{setting}
 
 -- its node, with handlers
 abbrev pub setting_of : {R V : Type 0} → Replica R V → Meanings → Setting

@@ -1,19 +1,12 @@
-pub mod Deeds
-pub mod Working
-pub mod Completed
-pub mod Reaching
-pub mod Stands
 pub mod IsAt
-pub mod Servable
-pub mod Faults
-pub mod Sees
-pub mod Coming
-pub mod Showing
 pub mod Turns
-pub mod Pumping
-pub mod Asked
 pub mod Acted
 pub mod Later
-pub mod Indexing
-pub use Rattle.mega_marks.specs as of_marks
-pub use Rattle.mega_marks.specs.of_node_laws as of_node_laws
+pub use Rattle.mega_finishing.specs as of_finishing
+pub use Rattle.mega_finishing.specs.of_proposing as of_proposing
+pub use Rattle.mega_finishing.specs.of_voter as of_voter
+pub use Rattle.mega_finishing.specs.of_leases as of_leases
+pub use Rattle.mega_finishing.specs.of_operations as of_operations
+pub use Rattle.mega_finishing.specs.of_view as of_view
+pub use Rattle.mega_finishing.specs.of_marks as of_marks
+pub use Rattle.mega_finishing.specs.of_node_laws as of_node_laws

@@ -2,42 +2,40 @@
 ghost use Rattle.std.specs.Prelude.{◌≡◌, ◌≤◌, ◌+◌, ◌<◌, ◌^◌, nat_le, IfOk, OnOk, OnErr, Err, None, false, true};
 ghost use Rattle.mega_handler.specs.Named.{Meanings};
 ghost use Rattle.mega_meanings.specs.Means.{Means};
-ghost use Rattle.mega_marks.specs.of_node_laws.About.{IsAbout, IsOf};
-ghost use Rattle.mega_operations.specs.Whole.{whole};
-ghost use Rattle.mega_operations.specs.Phases.{promised_of};
+ghost use Rattle.mega_finishing.specs.of_node_laws.About.{IsAbout, IsOf};
+ghost use Rattle.mega_finishing.specs.of_operations.Whole.{whole};
+ghost use Rattle.mega_finishing.specs.of_operations.Phases.{promised_of};
 ghost use Rattle.mega_rules.specs.Clock.{clock_of};
 ghost use Rattle.mega_rules.specs.Logs.{decided, log_of, prefix_of};
-ghost use Rattle.mega_rules.specs.Operations.{Now, Operation as Open, Proposes, Reads};
+ghost use Rattle.mega_rules.specs.Operations.{Now, Proposes, Reads};
 ghost use Rattle.mega_rules.specs.Acting.{acts, acts_within, completes_read, finishes, goes_on, reader_of, reads_on, seeks_on, unless_decided};
 ghost use Rattle.mega_replica.specs.Applying.{applied};
 ghost use Rattle.mega_read.specs.Catching.{seeks};
 ghost use Rattle.mega_replica.specs.Faring.{Fares};
-ghost use Rattle.mega_actions.specs.declared.fault.ActFault.TheVariants.{NoMemory as OutOfMemory, Unserved};
-ghost use Rattle.mega_voter.specs.Telling.{Tells};
-ghost use Rattle.mega_actions.specs.Acted.{Acted, IsNextAsked};
-ghost use Rattle.mega_actions.specs.Servable.{is_open, is_pump};
+ghost use Rattle.mega_finishing.specs.declared.fault.ActFault.TheVariants.{NoMemory as OutOfMemory, Unserved};
+ghost use Rattle.mega_finishing.specs.of_voter.Telling.{Tells};
+ghost use Rattle.mega_actions.specs.Acted.{Acted};
+ghost use Rattle.mega_finishing.specs.Asked.{IsNextAsked};
+ghost use Rattle.mega_finishing.specs.of_proposing.Servable.{is_open, is_pump};
 ghost use Rattle.mega_actions.specs.Later.{later};
-ghost use Rattle.mega_actions.specs.Faults.{failed_by};
+ghost use Rattle.mega_finishing.specs.Faults.{failed_by};
 ghost use Rattle.mega_actions.specs.IsAt.{IsAt, setting_of};
-ghost use Rattle.mega_actions.specs.Deeds.{does};
-ghost use Rattle.mega_actions.specs.Reaching.{operation_of};
-ghost use Rattle.mega_actions.specs.Stands.{setting};
-ghost use Rattle.mega_actions.specs.Working.{work_of};
+ghost use Rattle.mega_finishing.specs.of_proposing.Deeds.{does};
+ghost use Rattle.mega_finishing.specs.of_proposing.Reaching.{operation_of};
+ghost use Rattle.mega_finishing.specs.of_proposing.Settings.{setting};
+ghost use Rattle.mega_finishing.specs.of_proposing.Working.{work_of};
 
-use crate::completing::{goes, reads_through};
-use crate::deed::{Deed, End};
-use crate::fault::ActFault;
-use crate::proposing::{Proposing, unless_decided};
-use crate::pumping::is_pump;
-use crate::reached::Reached;
 use crate::replica::Replica;
-use crate::work::Work;
 use mega_base::{GroupId, NoMemory, OpId, Position};
 use mega_disk::{Records, Versions};
+use mega_finishing::mega_operations::{Kept, Members, Operation, Phase};
+use mega_finishing::mega_proposing::{
+    Deed, End, Proposing, Reached, Work, is_pump, unless_decided,
+};
+use mega_finishing::mega_voter::Voter;
+use mega_finishing::{ActFault, goes, pumps, reads_through, takes};
 use mega_meanings::QueueHandlers;
-use mega_operations::{Kept, Members, Operation, Phase};
 use mega_read::Reading;
-use mega_voter::Voter;
 use std::alloc::Global;
 
 /// What a read comes to that seeks the least position that is not decided.
@@ -122,7 +120,7 @@ fn is_reached(through: u64, prefix: u64) -> bool
 
 impl<R: Records, V: Versions> Replica<R, V> {
     /// A pump whose read is complete goes on to what it asks; where it picks again, its operation comes back.
-    #[tactic(auto, using(crate::proofs::Refused::fares_unkept))]
+    #[tactic(auto, using(mega_finishing::proofs::Refused::fares_unkept))]
     fn pumps<H: QueueHandlers>(
         &mut self,
         alloc: Global,
@@ -142,15 +140,16 @@ impl<R: Records, V: Versions> Replica<R, V> {
         ensures indexed { self.new.indexed ≡ self.old.indexed }
         ensures built { result ≡ Err Unserved → ⊥ }
     {
-        let pumped = reached.pumps(
+        let pumped = pumps(
             alloc,
+            reached,
             &self.members,
             &self.voter,
             &self.leases,
             &mut self.rows,
             handlers,
         )?;
-        let next = work.takes(pumped)?;
+        let next = takes(work, pumped)?;
         Ok(next)
     }
 
@@ -230,7 +229,7 @@ impl<R: Records, V: Versions> Replica<R, V> {
     }
 
     /// An operation reads on.
-    #[tactic(auto, using(mega_replica::proofs::Fared::fares_here, crate::proofs::Refused::fares_unkept))]
+    #[tactic(auto, using(mega_replica::proofs::Fared::fares_here, mega_finishing::proofs::Refused::fares_unkept))]
     fn reads_on<H: QueueHandlers>(
         &mut self,
         alloc: Global,
@@ -286,7 +285,7 @@ impl<R: Records, V: Versions> Replica<R, V> {
 
     /// An operation acts once: one whose position is decided ends, and one that reads completes its read, or seeks what is not
     /// decided. A pump that picks again comes back, to act again in the same step.
-    #[tactic(auto, using(mega_replica::proofs::Fared::fares_here, crate::proofs::Refused::fares_unkept))]
+    #[tactic(auto, using(mega_replica::proofs::Fared::fares_here, mega_finishing::proofs::Refused::fares_unkept))]
     fn acts_once<H: QueueHandlers>(
         &mut self,
         alloc: Global,

@@ -2,61 +2,33 @@
 ghost use Rattle.std.specs.Prelude.{◌≡◌, IfOk, OnOk, Err, None, [], ◌∷◌, false, true};
 ghost use Rattle.mega_handler.specs.Named.{Meanings};
 ghost use Rattle.mega_meanings.specs.Means.{Means};
-ghost use Rattle.mega_leases.specs.Tells.{Tells as TellsLeases};
+ghost use Rattle.mega_finishing.specs.of_leases.Tells.{Tells as TellsLeases};
 ghost use Rattle.mega_rules.specs.Clock.{clock_of};
 ghost use Rattle.mega_rules.specs.Operations.{Now, Operation as Open};
 ghost use Rattle.mega_rules.specs.Acting.{read_begun};
-ghost use Rattle.mega_marks.specs.of_node_laws.About.{IsOf};
+ghost use Rattle.mega_finishing.specs.of_node_laws.About.{IsOf};
 ghost use Rattle.mega_rules.specs.Steps.{begins, new_operation};
 ghost use Rattle.mega_replica.specs.Faring.{Fares};
-ghost use Rattle.mega_voter.specs.Telling.{Tells};
-ghost use Rattle.mega_actions.specs.declared.fault.ActFault.TheVariants.{Unserved};
-ghost use Rattle.mega_actions.specs.Servable.{is_at_once, is_served, is_indexed, is_plain, is_pump};
-ghost use Rattle.mega_actions.specs.Indexing.{marks_then};
-ghost use Rattle.mega_marks.specs.AreMarked.{AreMarked, IsIndexed};
-ghost use Rattle.mega_actions.specs.Faults.{failed_by};
+ghost use Rattle.mega_finishing.specs.of_voter.Telling.{Tells};
+ghost use Rattle.mega_finishing.specs.declared.fault.ActFault.TheVariants.{Unserved};
+ghost use Rattle.mega_finishing.specs.of_proposing.Servable.{is_at_once, is_served, is_indexed, is_plain, is_pump};
+ghost use Rattle.mega_finishing.specs.Indexing.{marks_then};
+ghost use Rattle.mega_finishing.specs.of_marks.AreMarked.{AreMarked, IsIndexed};
+ghost use Rattle.mega_finishing.specs.Faults.{failed_by};
 ghost use Rattle.mega_actions.specs.IsAt.{IsAt, setting_of};
-ghost use Rattle.mega_actions.specs.Stands.{setting};
-ghost use Rattle.mega_actions.specs.Working.{work_of};
+ghost use Rattle.mega_finishing.specs.of_proposing.Working.{work_of};
 
-use crate::answering::{answer_now, group_asked, is_at_once, is_indexed};
-use crate::deed::{Deed, End};
-use crate::fault::ActFault;
-use crate::indexing::indexed_answer;
-use crate::pumping::{Pumped, is_entering, is_pump, picks};
 use crate::replica::Replica;
-use crate::work::Work;
 use mega_base::{Copied, GroupId, Items, NoMemory, OpId};
 use mega_disk::{Records, Versions};
-use mega_leases::Leases;
+use mega_finishing::mega_operations::{Heard, Kept, Operation, Phase};
+use mega_finishing::mega_proposing::{
+    Deed, End, Work, group_asked, is_at_once, is_indexed, is_pump, read_begun,
+};
+use mega_finishing::{ActFault, Pumped, answer_now, indexed_answer, is_entering, picks};
 use mega_meanings::QueueHandlers;
-use mega_operations::{Heard, Kept, Members, Operation, Phase};
 use mega_outcome::Request;
-use mega_read::local_read;
-use mega_voter::Voter;
 use std::alloc::Global;
-
-/// The current read with which an operation begins: local where the group is valid, and else a poll.
-fn read_begun<R: Records>(
-    alloc: Global,
-    members: &Members,
-    voter: &Voter<R>,
-    leases: &Leases,
-    op: OpId,
-    group: &GroupId,
-) -> Result<mega_read::Move, NoMemory>
-    ensures { IfOk result (λ made. (me : _) (h : Meanings) (now : Now) (o : Open) → o.id ≡ op → o.visited ≡ [] → Tells voter.now.logs.kept now.met → TellsLeases members.now me leases.now now.met →
-        made ≡ read_begun (setting members.now me h) now o group.now []) }
-{
-    let asked = Items::new(alloc);
-    if leases.is_valid(group) {
-        let top = voter.top(group).0;
-        return Ok(local_read(alloc, asked, top));
-    }
-    let who = members.reader(alloc, op, group)?;
-    let made = who.polled_read(alloc, leases.serves(), asked, leases.now())?;
-    Ok(made)
-}
 
 /// The group that a request reads and writes, where it is served.
 fn group_of(alloc: Global, request: &Request) -> Result<GroupId, ActFault>
@@ -93,7 +65,7 @@ struct FirstRead {
 impl<R: Records, V: Versions> Replica<R, V> {
     /// A request begins: a find in no group, a refresh, and a read or find that asks for no current rows are answered
     /// at once; any other reads its group, and goes on in the same step where that read is local.
-    #[tactic(auto, using(mega_replica::proofs::Fared::fares_here, crate::proofs::Refused::fares_apart))]
+    #[tactic(auto, using(mega_replica::proofs::Fared::fares_here, mega_finishing::proofs::Refused::fares_apart))]
     pub fn begins<H: QueueHandlers>(
         &mut self,
         alloc: Global,
@@ -152,7 +124,7 @@ impl<R: Records, V: Versions> Replica<R, V> {
     }
 
     /// A pump begins: it picks, and reads the group of that in the same step where that read is local.
-    #[tactic(auto, using(mega_replica::proofs::Fared::fares_here, crate::proofs::Refused::fares_apart))]
+    #[tactic(auto, using(mega_replica::proofs::Fared::fares_here, mega_finishing::proofs::Refused::fares_apart))]
     fn begins_pump<H: QueueHandlers>(
         &mut self,
         alloc: Global,
@@ -279,7 +251,7 @@ impl<R: Records, V: Versions> Replica<R, V> {
     }
 
     /// An operation begins with a current read of its group.
-    #[tactic(auto, using(mega_replica::proofs::Fared::fares_here, crate::proofs::Refused::fares_apart))]
+    #[tactic(auto, using(mega_replica::proofs::Fared::fares_here, mega_finishing::proofs::Refused::fares_apart))]
     fn begins_read<H: QueueHandlers>(
         &mut self,
         alloc: Global,

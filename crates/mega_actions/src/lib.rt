@@ -3,30 +3,10 @@
 #![tactic(auto)]
 
 mod acting;
-mod answering;
 mod beginning;
-mod came;
-mod completing;
-mod deed;
-mod entries;
-mod fault;
-mod finding;
-mod finishing;
-mod indexing;
-mod outcomes;
-mod proposing;
-mod pumping;
-mod reached;
 mod replica;
 mod turning;
-mod work;
 
-pub use answering::is_served;
-pub use came::Came;
-pub use deed::{Deed, End};
-pub use fault::ActFault;
-pub use mega_marks;
-pub use pumping::{Pumped, is_pump};
-pub use reached::Reached;
+pub use mega_finishing;
+pub use mega_finishing::{mega_leases, mega_marks, mega_operations, mega_proposing, mega_voter};
 pub use replica::Replica;
-pub use work::{Answered, Valid, Work};

@@ -1,10 +1,10 @@
 //! What a node keeps beside its open operations: its logs, its leases, its rows and its global indexes.
 use mega_disk::{Records, Versions};
-use mega_leases::Leases;
-use mega_marks::Indexed;
-use mega_operations::Members;
+use mega_finishing::mega_leases::Leases;
+use mega_finishing::mega_marks::Indexed;
+use mega_finishing::mega_operations::Members;
+use mega_finishing::mega_voter::Voter;
 use mega_replica::StoredRows;
-use mega_voter::Voter;
 
 /// What a node keeps beside its open operations: its cluster and number, its logs, its leases, its rows and its
 /// global indexes.

@@ -1,31 +1,30 @@
 //! Operations act one after another, each on what those before it left.
-ghost use Rattle.std.specs.Prelude.{◌≡◌, OnOk, Err, false, true, List, All, fold};
+ghost use Rattle.std.specs.Prelude.{◌≡◌, OnOk, Err, false, true, All, fold};
 ghost use Rattle.mega_handler.specs.Named.{Meanings};
 ghost use Rattle.mega_meanings.specs.Means.{Means};
-ghost use Rattle.mega_marks.specs.of_node_laws.About.{IsAbout};
+ghost use Rattle.mega_finishing.specs.of_node_laws.About.{IsAbout};
 ghost use Rattle.mega_rules.specs.Operations.{Now};
 ghost use Rattle.mega_rules.specs.Steps.{acts_in_turn, all_act, ticked};
 ghost use Rattle.mega_replica.specs.Faring.{Fares};
-ghost use Rattle.mega_actions.specs.declared.fault.ActFault.TheVariants.{Unserved};
-ghost use Rattle.mega_actions.specs.Servable.{is_open};
-ghost use Rattle.mega_actions.specs.Faults.{failed_by};
+ghost use Rattle.mega_finishing.specs.declared.fault.ActFault.TheVariants.{Unserved};
+ghost use Rattle.mega_finishing.specs.of_proposing.Servable.{is_open};
+ghost use Rattle.mega_finishing.specs.Faults.{failed_by};
 ghost use Rattle.mega_actions.specs.IsAt.{IsAt, setting_of};
 ghost use Rattle.mega_actions.specs.Turns.{IsServable, IsServableHeard, IsHeardAbout};
-ghost use Rattle.mega_actions.specs.Working.{work_of};
+ghost use Rattle.mega_finishing.specs.of_proposing.Working.{work_of};
 
-use crate::deed::{Deed, End};
-use crate::fault::ActFault;
 use crate::replica::Replica;
-use crate::work::Work;
 use mega_base::Items;
 use mega_disk::{Records, Versions};
+use mega_finishing::ActFault;
+use mega_finishing::mega_operations::{Heard, Operation};
+use mega_finishing::mega_proposing::{Deed, End, Work};
 use mega_meanings::QueueHandlers;
-use mega_operations::{Heard, Operation};
 use std::alloc::Global;
 
 impl<R: Records, V: Versions> Replica<R, V> {
     /// An operation acts that comes to something: what it sends for that goes out first.
-    #[tactic(auto, using(mega_replica::proofs::Fared::fares_here, crate::proofs::Refused::fares_unkept))]
+    #[tactic(auto, using(mega_replica::proofs::Fared::fares_here, mega_finishing::proofs::Refused::fares_unkept))]
     pub fn acts_in_turn<H: QueueHandlers>(
         &mut self,
         alloc: Global,
@@ -92,7 +91,7 @@ impl<R: Records, V: Versions> Replica<R, V> {
     }
 
     /// An operation at a tick: it ends where its patience has ended, and else does what is due.
-    #[tactic(auto, using(mega_replica::proofs::Fared::fares_here, crate::proofs::Refused::fares_unkept))]
+    #[tactic(auto, using(mega_replica::proofs::Fared::fares_here, mega_finishing::proofs::Refused::fares_unkept))]
     pub fn ticked<H: QueueHandlers>(
         &mut self,
         alloc: Global,

@@ -10,16 +10,16 @@ use Rattle.mega_outcome.specs.declared.request.Mode.TheVariants.{Current, Incons
 use Rattle.mega_outcome.specs.declared.request.ReadRequest.{ReadRequest}
 use Rattle.mega_outcome.specs.declared.request.Request.{Request}
 use Rattle.mega_outcome.specs.declared.request.Request.TheVariants.{Txn, Batch as BatchRequest, Read as ReadRequested, Find, PumpEnter, PumpHandle, Refresh}
-use Rattle.mega_read.specs.Catching.{falls_due, hears, site}
-use Rattle.mega_propose.specs.Rounds.{due, takes}
-use Rattle.mega_rules.specs.Acting.{applied_marks, begins_read, ends, goes_on, in_phase, read_answer, reader_of, sends_more}
-use Rattle.mega_rules.specs.Finding.{global_found, local_found}
-use Rattle.mega_rules.specs.Met.{Met}
-use Rattle.mega_rules.specs.Operations.{Node, Now, Operation, Phase, Proposes, Reads, Setting}
-use Rattle.mega_rules.specs.Steps.{acts_in_turn, all_act, applied_position, begins, does_due, find_begins, hears_message, is_out, last_answer, local_find_begins, new_operation, read_begins, refusal, snapshot_listed, snapshot_rows, stored_listed, stored_rows, ticked, unless_refused}
+use Rattle.mega_cause_laws.specs.of_run_laws.of_tape_laws.of_promises.of_rules.of_read.Catching.{falls_due, hears, site}
+use Rattle.mega_cause_laws.specs.of_run_laws.of_tape_laws.of_promises.of_rules.of_read.of_propose.Rounds.{due, takes}
+use Rattle.mega_cause_laws.specs.of_run_laws.of_tape_laws.of_promises.of_rules.Acting.{applied_marks, begins_read, ends, goes_on, in_phase, read_answer, reader_of, sends_more}
+use Rattle.mega_cause_laws.specs.of_run_laws.of_tape_laws.of_promises.of_rules.Finding.{global_found, local_found}
+use Rattle.mega_cause_laws.specs.of_run_laws.of_tape_laws.of_promises.of_rules.Met.{Met}
+use Rattle.mega_cause_laws.specs.of_run_laws.of_tape_laws.of_promises.of_rules.Operations.{Node, Now, Operation, Phase, Proposes, Reads, Setting}
+use Rattle.mega_cause_laws.specs.of_run_laws.of_tape_laws.of_promises.of_rules.Steps.{acts_in_turn, all_act, applied_position, begins, does_due, find_begins, hears_message, is_out, last_answer, local_find_begins, new_operation, read_begins, refusal, snapshot_listed, snapshot_rows, stored_listed, stored_rows, ticked, unless_refused}
 use Rattle.mega_wire.specs.declared.message.Message.{Message}
-use Rattle.mega_run_laws.specs.Vouched.{Each}
-use Rattle.mega_run_laws.proofs.Turns.{IsRising}
+use Rattle.mega_cause_laws.specs.of_run_laws.Vouched.{Each}
+use Rattle.mega_cause_laws.proofs.of_run_laws.Turns.{IsRising}
 use Rattle.mega_answer_laws.proofs.Reasons.{IsSound, SoundReads}
 use Rattle.mega_answer_laws.proofs.Walk.{Acting, Turn, acting_sends, acting_up, begins_read_it, ends_at, goes_on_it, picks_group_it, picks_message_it}
 

@@ -5,12 +5,12 @@ use Rattle.std.proofs.lemmas.List.{length-append}
 use Rattle.std.specs.List.{list_any}
 use Rattle.mega_base.specs.declared.names.GroupId.{GroupId}
 use Rattle.mega_entry.specs.declared.content.Content.{Content}
-use Rattle.mega_replica.specs.Applying.{applied, writes_of}
-use Rattle.mega_rules.specs.Logs.{decided, decided_from, first_of, groups_of, is_group_before, log_of, prefix_of, then_more, with_group}
-use Rattle.mega_rules.specs.Members.{has_rows}
-use Rattle.mega_rules.specs.Met.{Met, Applies, Decides}
-use Rattle.mega_rules.specs.Operations.{Setting}
-use Rattle.mega_rules.specs.Steps.{applied_at, apply_notes, start_notes}
+use Rattle.mega_cause_laws.specs.of_run_laws.of_tape_laws.of_promises.of_rules.of_replica.Applying.{applied, writes_of}
+use Rattle.mega_cause_laws.specs.of_run_laws.of_tape_laws.of_promises.of_rules.Logs.{decided, decided_from, first_of, groups_of, is_group_before, log_of, prefix_of, then_more, with_group}
+use Rattle.mega_cause_laws.specs.of_run_laws.of_tape_laws.of_promises.of_rules.Members.{has_rows}
+use Rattle.mega_cause_laws.specs.of_run_laws.of_tape_laws.of_promises.of_rules.Met.{Met, Applies, Decides}
+use Rattle.mega_cause_laws.specs.of_run_laws.of_tape_laws.of_promises.of_rules.Operations.{Setting}
+use Rattle.mega_cause_laws.specs.of_run_laws.of_tape_laws.of_promises.of_rules.Steps.{applied_at, apply_notes, start_notes}
 use Rattle.mega_wal.specs.Same.{same_group}
 use Rattle.mega_wal.proofs.Sames.{same_group_equal}
 use Rattle.mega_node_laws.proofs.Applied.{applied_more}

@@ -20,22 +20,22 @@ use Rattle.mega_outcome.specs.declared.request.ReadRequest.{ReadRequest}
 use Rattle.mega_outcome.specs.declared.request.Request.{Request}
 use Rattle.mega_outcome.specs.declared.request.Request.TheVariants.{Batch as BatchRequest, Find, PumpEnter, PumpHandle, Read as ReadRequested, Refresh, Txn}
 use Rattle.mega_schema.specs.declared.schema.Index.{Index}
-use Rattle.mega_transcript.specs.declared.item.Item.{Item}
-use Rattle.mega_transcript.specs.declared.item.Item.TheVariants.{Answer as AnswerItem}
-use Rattle.mega_promises.specs.Causes.{HasCause, IsCause, ShowsFind, ShowsLocal, ShowsRead, front, log_through}
-use Rattle.mega_promises.specs.Fresh.{find_over, read_over}
-use Rattle.mega_promises.specs.Promises.{asked_for, log_of, rows_shown}
-use Rattle.mega_promises.specs.Runs.{setting}
-use Rattle.mega_rules.specs.Acting.{rows_answer}
-use Rattle.mega_rules.specs.Finding.{find_answer, find_by, group_bytes, group_marks, local_found}
-use Rattle.mega_rules.specs.Logs.{log_of as log_met, prefix_of}
-use Rattle.mega_rules.specs.Met.{Met}
-use Rattle.mega_rules.specs.Queues.{next_to_enter, next_to_handle}
-use Rattle.mega_tape_laws.specs.Answers.{LawfulAnswers, MayCommit}
-use Rattle.mega_tape_laws.specs.Lawful.{Lawful}
-use Rattle.mega_tape_laws.specs.Writes.{IsFront, Usage}
-use Rattle.mega_tape_laws.proofs.Complete.{known_is_front}
-use Rattle.mega_run_laws.proofs.Owned.{KnowsAll, front_length, knows_front}
+use Rattle.mega_cause_laws.specs.of_run_laws.of_tape_laws.of_promises.of_transcript.declared.item.Item.{Item}
+use Rattle.mega_cause_laws.specs.of_run_laws.of_tape_laws.of_promises.of_transcript.declared.item.Item.TheVariants.{Answer as AnswerItem}
+use Rattle.mega_cause_laws.specs.of_run_laws.of_tape_laws.of_promises.Causes.{HasCause, IsCause, ShowsFind, ShowsLocal, ShowsRead, front, log_through}
+use Rattle.mega_cause_laws.specs.of_run_laws.of_tape_laws.of_promises.Fresh.{find_over, read_over}
+use Rattle.mega_cause_laws.specs.of_run_laws.of_tape_laws.of_promises.Promises.{asked_for, log_of, rows_shown}
+use Rattle.mega_cause_laws.specs.of_run_laws.of_tape_laws.of_promises.Runs.{setting}
+use Rattle.mega_cause_laws.specs.of_run_laws.of_tape_laws.of_promises.of_rules.Acting.{rows_answer}
+use Rattle.mega_cause_laws.specs.of_run_laws.of_tape_laws.of_promises.of_rules.Finding.{find_answer, find_by, group_bytes, group_marks, local_found}
+use Rattle.mega_cause_laws.specs.of_run_laws.of_tape_laws.of_promises.of_rules.Logs.{log_of as log_met, prefix_of}
+use Rattle.mega_cause_laws.specs.of_run_laws.of_tape_laws.of_promises.of_rules.Met.{Met}
+use Rattle.mega_cause_laws.specs.of_run_laws.of_tape_laws.of_promises.of_rules.Queues.{next_to_enter, next_to_handle}
+use Rattle.mega_cause_laws.specs.of_run_laws.of_tape_laws.Answers.{LawfulAnswers, MayCommit}
+use Rattle.mega_cause_laws.specs.of_run_laws.of_tape_laws.Lawful.{Lawful}
+use Rattle.mega_cause_laws.specs.of_run_laws.of_tape_laws.Writes.{IsFront, Usage}
+use Rattle.mega_cause_laws.proofs.of_run_laws.of_tape_laws.Complete.{known_is_front}
+use Rattle.mega_cause_laws.proofs.of_run_laws.Owned.{KnowsAll, front_length, knows_front}
 use Rattle.mega_cause_laws.specs.Told.{is_told}
 use Rattle.mega_cause_laws.proofs.Told.{told_causes}
 use Rattle.mega_answer_laws.proofs.Reasons.{FindMet, FullAt, IsMet, ReadMet, Within, logs_at}

@@ -23,47 +23,47 @@ use Rattle.mega_outcome.specs.declared.request.Request.TheVariants.{Batch as Bat
 use Rattle.mega_outcome.specs.declared.transaction.RowRef.{RowRef}
 use Rattle.mega_outcome.specs.Reads.{all_rows, read_rows}
 use Rattle.mega_schema.specs.declared.schema.Index.{Index}
-use Rattle.mega_replica.specs.Applying.{after_portion, applied, writes_of}
-use Rattle.mega_transcript.specs.declared.item.Item.{Item}
-use Rattle.mega_transcript.specs.declared.item.Item.TheVariants.{Answer as AnswerItem, Begin as BeginItem, Sent, Taken, Tick as TickItem}
-use Rattle.mega_transcript.specs.Tape.{sent_count}
-use Rattle.mega_promises.specs.Causes.{HasProposed, IsCause, IsOut}
-use Rattle.mega_promises.specs.Fresh.{read_over}
-use Rattle.mega_promises.specs.Items.{number, shown}
-use Rattle.mega_promises.specs.Moments.{began_on, clock_on, open_on}
-use Rattle.mega_promises.specs.Promises.{Stands, asked_for, rows_shown}
-use Rattle.mega_promises.specs.Runs.{Standing, setting, with_items}
+use Rattle.mega_cause_laws.specs.of_run_laws.of_tape_laws.of_promises.of_rules.of_replica.Applying.{after_portion, applied, writes_of}
+use Rattle.mega_cause_laws.specs.of_run_laws.of_tape_laws.of_promises.of_transcript.declared.item.Item.{Item}
+use Rattle.mega_cause_laws.specs.of_run_laws.of_tape_laws.of_promises.of_transcript.declared.item.Item.TheVariants.{Answer as AnswerItem, Begin as BeginItem, Sent, Taken, Tick as TickItem}
+use Rattle.mega_cause_laws.specs.of_run_laws.of_tape_laws.of_promises.of_transcript.Tape.{sent_count}
+use Rattle.mega_cause_laws.specs.of_run_laws.of_tape_laws.of_promises.Causes.{HasProposed, IsCause, IsOut}
+use Rattle.mega_cause_laws.specs.of_run_laws.of_tape_laws.of_promises.Fresh.{read_over}
+use Rattle.mega_cause_laws.specs.of_run_laws.of_tape_laws.of_promises.Items.{number, shown}
+use Rattle.mega_cause_laws.specs.of_run_laws.of_tape_laws.of_promises.Moments.{began_on, clock_on, open_on}
+use Rattle.mega_cause_laws.specs.of_run_laws.of_tape_laws.of_promises.Promises.{Stands, asked_for, rows_shown}
+use Rattle.mega_cause_laws.specs.of_run_laws.of_tape_laws.of_promises.Runs.{Standing, setting, with_items}
 use Rattle.mega_ballot.specs.Order.{zero_ballot}
 use Rattle.mega_wire.specs.declared.message.Message.{Message}
-use Rattle.mega_rules.specs.Acting.{applied_marks, ends, read_answer, rows_answer}
-use Rattle.mega_rules.specs.Clock.{begun_of, clock_of, last_number, start_of}
-use Rattle.mega_rules.specs.Coordinators.{acquires_at}
-use Rattle.mega_rules.specs.Finding.{find_answer, find_by, group_bytes, group_marks, local_found, refreshed_marks, rows_through}
-use Rattle.mega_rules.specs.Logs.{log_of}
-use Rattle.mega_rules.specs.Members.{has_rows, is_node, kind_of}
-use Rattle.mega_rules.specs.Met.{Met, Answers, Begins, Takes, Ticks}
-use Rattle.mega_rules.specs.Operations.{Node, Now, Operation, Phase, Proposes, Reads, Setting}
-use Rattle.mega_rules.specs.Replies.{reply_to}
-use Rattle.mega_rules.specs.Steps.{Begin, Decision, Heard, Step, Take, Tick, all_act, applied_position, is_worn, snapshot_listed, snapshot_rows, stored_listed, stored_rows, missing_kind, step_of, apply_notes, at_first, at_open, background, decision_note, first_settled, hears_message, if_new, lapse_notes, last_answer, lease_notes, new_operation, news, onto, op_of, portion_of, refusal, step, stored_after, taken, ticked, told_decision, told_notes, unless_missing, unless_refused}
+use Rattle.mega_cause_laws.specs.of_run_laws.of_tape_laws.of_promises.of_rules.Acting.{applied_marks, ends, read_answer, rows_answer}
+use Rattle.mega_cause_laws.specs.of_run_laws.of_tape_laws.of_promises.of_rules.Clock.{begun_of, clock_of, last_number, start_of}
+use Rattle.mega_cause_laws.specs.of_run_laws.of_tape_laws.of_promises.of_rules.Coordinators.{acquires_at}
+use Rattle.mega_cause_laws.specs.of_run_laws.of_tape_laws.of_promises.of_rules.Finding.{find_answer, find_by, group_bytes, group_marks, local_found, refreshed_marks, rows_through}
+use Rattle.mega_cause_laws.specs.of_run_laws.of_tape_laws.of_promises.of_rules.Logs.{log_of}
+use Rattle.mega_cause_laws.specs.of_run_laws.of_tape_laws.of_promises.of_rules.Members.{has_rows, is_node, kind_of}
+use Rattle.mega_cause_laws.specs.of_run_laws.of_tape_laws.of_promises.of_rules.Met.{Met, Answers, Begins, Takes, Ticks}
+use Rattle.mega_cause_laws.specs.of_run_laws.of_tape_laws.of_promises.of_rules.Operations.{Node, Now, Operation, Phase, Proposes, Reads, Setting}
+use Rattle.mega_cause_laws.specs.of_run_laws.of_tape_laws.of_promises.of_rules.Replies.{reply_to}
+use Rattle.mega_cause_laws.specs.of_run_laws.of_tape_laws.of_promises.of_rules.Steps.{Begin, Decision, Heard, Step, Take, Tick, all_act, applied_position, is_worn, snapshot_listed, snapshot_rows, stored_listed, stored_rows, missing_kind, step_of, apply_notes, at_first, at_open, background, decision_note, first_settled, hears_message, if_new, lapse_notes, last_answer, lease_notes, new_operation, news, onto, op_of, portion_of, refusal, step, stored_after, taken, ticked, told_decision, told_notes, unless_missing, unless_refused}
 use Rattle.mega_wal.specs.Same.{same_group, same_op}
 use Rattle.mega_wal.proofs.Sames.{same_op_equal, same_op_self}
 use Rattle.mega_node_laws.proofs.Applied.{portion_keeps, portion_within}
 use Rattle.mega_node_laws.proofs.Logs.{log_more_after, log_stays, same_self}
-use Rattle.mega_tape_laws.specs.Answers.{LawfulAnswers}
-use Rattle.mega_tape_laws.specs.Places.{In, Proposes as ProposesMove, move_of}
-use Rattle.mega_tape_laws.specs.Writes.{Usage}
-use Rattle.mega_tape_laws.proofs.Ballots.{number_self}
-use Rattle.mega_tape_laws.proofs.Lists.{kept}
-use Rattle.mega_tape_laws.proofs.Made.{proposed_here}
-use Rattle.mega_run_laws.specs.Vouched.{Each, sent}
-use Rattle.mega_run_laws.proofs.Answering.{with_answers}
-use Rattle.mega_run_laws.proofs.Opened.{at_place}
-use Rattle.mega_run_laws.proofs.Events.{onto_append}
-use Rattle.mega_run_laws.proofs.Owned.{KnowsAll, Mine, Users, began_asked}
-use Rattle.mega_run_laws.proofs.Standing.{Good}
-use Rattle.mega_run_laws.proofs.Stepping.{OtherThan}
-use Rattle.mega_run_laws.proofs.Turns.{Held, IsRising, each_on, each_zip, other_number}
-use Rattle.mega_run_laws.proofs.Written.{Unproposed}
+use Rattle.mega_cause_laws.specs.of_run_laws.of_tape_laws.Answers.{LawfulAnswers}
+use Rattle.mega_cause_laws.specs.of_run_laws.of_tape_laws.Places.{In, Proposes as ProposesMove, move_of}
+use Rattle.mega_cause_laws.specs.of_run_laws.of_tape_laws.Writes.{Usage}
+use Rattle.mega_cause_laws.proofs.of_run_laws.of_tape_laws.Ballots.{number_self}
+use Rattle.mega_cause_laws.proofs.of_run_laws.of_tape_laws.Lists.{kept}
+use Rattle.mega_cause_laws.proofs.of_run_laws.of_tape_laws.Made.{proposed_here}
+use Rattle.mega_cause_laws.specs.of_run_laws.Vouched.{Each, sent}
+use Rattle.mega_cause_laws.proofs.of_run_laws.Answering.{with_answers}
+use Rattle.mega_cause_laws.proofs.of_run_laws.Opened.{at_place}
+use Rattle.mega_cause_laws.proofs.of_run_laws.Events.{onto_append}
+use Rattle.mega_cause_laws.proofs.of_run_laws.Owned.{KnowsAll, Mine, Users, began_asked}
+use Rattle.mega_cause_laws.proofs.of_run_laws.Standing.{Good}
+use Rattle.mega_cause_laws.proofs.of_run_laws.Stepping.{OtherThan}
+use Rattle.mega_cause_laws.proofs.of_run_laws.Turns.{Held, IsRising, each_on, each_zip, other_number}
+use Rattle.mega_cause_laws.proofs.of_run_laws.Written.{Unproposed}
 use Rattle.mega_answer_laws.proofs.Acts.{AllActed, AtOnce, Began, Never, Opens, Outs, Spoken as SpokenIn, acted, all_heard, all_ticked, answered, begun_as, found_applied, found_globally, found_stored, read_applied, read_stored, refreshed, refused}
 use Rattle.mega_answer_laws.proofs.Reasons.{IsMet, Within}
 use Rattle.mega_answer_laws.specs.Answered.{is_placing}

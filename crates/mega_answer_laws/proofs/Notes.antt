@@ -12,16 +12,16 @@ use Rattle.mega_locks.specs.declared.asked.Asked.TheVariants.{Granted as AnswerG
 use Rattle.mega_locks.specs.History.{lapse_for, nodes as lock_nodes}
 use Rattle.mega_wire.specs.declared.message.Body.{Body}
 use Rattle.mega_wire.specs.declared.message.Body.TheVariants.{Acquire, Granted, Invalidate}
-use Rattle.mega_rules.specs.Met.{Met, Answers, Applies, Begins, Counts, Crashes, Decides, Forgets, Grants, Invalidates, Lapses, Loses, Serves, Starts, Ticks, Validates}
-use Rattle.mega_rules.specs.Coordinators.{coordinator_calls, counts_notes, forget_notes, grant_notes, is_cell_in, lost_note, tick_notes, tick_told}
-use Rattle.mega_rules.specs.Locks.{asked_for, cell_calls, grant_note, lapse_note, lapses_at}
-use Rattle.mega_rules.specs.Clock.{clock_of, start_of}
-use Rattle.mega_rules.specs.Logs.{groups_of, prefix_of}
-use Rattle.mega_rules.specs.Members.{cells, has_rows, is_full, keep_of}
-use Rattle.mega_rules.specs.Operations.{Setting}
-use Rattle.mega_rules.specs.Steps.{Decision, applied_at, apply_note, apply_notes, decision_note, lapse_notes, lease_notes, start_note, start_notes, told_notes}
-use Rattle.mega_run_laws.specs.Vouched.{Each}
-use Rattle.mega_run_laws.proofs.Silent.{IsSilent}
+use Rattle.mega_cause_laws.specs.of_run_laws.of_tape_laws.of_promises.of_rules.Met.{Met, Answers, Applies, Begins, Counts, Crashes, Decides, Forgets, Grants, Invalidates, Lapses, Loses, Serves, Starts, Ticks, Validates}
+use Rattle.mega_cause_laws.specs.of_run_laws.of_tape_laws.of_promises.of_rules.Coordinators.{coordinator_calls, counts_notes, forget_notes, grant_notes, is_cell_in, lost_note, tick_notes, tick_told}
+use Rattle.mega_cause_laws.specs.of_run_laws.of_tape_laws.of_promises.of_rules.Locks.{asked_for, cell_calls, grant_note, lapse_note, lapses_at}
+use Rattle.mega_cause_laws.specs.of_run_laws.of_tape_laws.of_promises.of_rules.Clock.{clock_of, start_of}
+use Rattle.mega_cause_laws.specs.of_run_laws.of_tape_laws.of_promises.of_rules.Logs.{groups_of, prefix_of}
+use Rattle.mega_cause_laws.specs.of_run_laws.of_tape_laws.of_promises.of_rules.Members.{cells, has_rows, is_full, keep_of}
+use Rattle.mega_cause_laws.specs.of_run_laws.of_tape_laws.of_promises.of_rules.Operations.{Setting}
+use Rattle.mega_cause_laws.specs.of_run_laws.of_tape_laws.of_promises.of_rules.Steps.{Decision, applied_at, apply_note, apply_notes, decision_note, lapse_notes, lease_notes, start_note, start_notes, told_notes}
+use Rattle.mega_cause_laws.specs.of_run_laws.Vouched.{Each}
+use Rattle.mega_cause_laws.proofs.of_run_laws.Silent.{IsSilent}
 use Rattle.mega_answer_laws.proofs.Ops.{Leaves}
 use Rattle.mega_answer_laws.proofs.Views.{IsMine, LeavesApplied, LeavesRest}
 use Rattle.mega_answer_laws.proofs.Walk.{IsValid, each_both}

@@ -7,12 +7,12 @@ use Rattle.mega_base.specs.declared.names.GroupId.{GroupId}
 use Rattle.mega_base.specs.declared.names.OpId.{OpId}
 use Rattle.mega_entry.specs.declared.content.Content.{Content}
 use Rattle.mega_outcome.specs.declared.answer.Mark.{Mark}
-use Rattle.mega_replica.specs.Applying.{applied}
-use Rattle.mega_rules.specs.Acting.{applied_in, applied_logs, applied_marks, mark_of}
-use Rattle.mega_rules.specs.Logs.{groups_of, log_of, prefix_of}
-use Rattle.mega_rules.specs.Met.{Met}
-use Rattle.mega_rules.specs.Operations.{Now}
-use Rattle.mega_rules.specs.Queues.{Log, Posted, enter_entry, entries_of, has_unhandled, is_named, is_short, names_entered, next_to_enter, next_to_handle, sent_in}
+use Rattle.mega_cause_laws.specs.of_run_laws.of_tape_laws.of_promises.of_rules.of_replica.Applying.{applied}
+use Rattle.mega_cause_laws.specs.of_run_laws.of_tape_laws.of_promises.of_rules.Acting.{applied_in, applied_logs, applied_marks, mark_of}
+use Rattle.mega_cause_laws.specs.of_run_laws.of_tape_laws.of_promises.of_rules.Logs.{groups_of, log_of, prefix_of}
+use Rattle.mega_cause_laws.specs.of_run_laws.of_tape_laws.of_promises.of_rules.Met.{Met}
+use Rattle.mega_cause_laws.specs.of_run_laws.of_tape_laws.of_promises.of_rules.Operations.{Now}
+use Rattle.mega_cause_laws.specs.of_run_laws.of_tape_laws.of_promises.of_rules.Queues.{Log, Posted, enter_entry, entries_of, has_unhandled, is_named, is_short, names_entered, next_to_enter, next_to_handle, sent_in}
 use Rattle.mega_wal.specs.Same.{same_group}
 use Rattle.mega_wal.proofs.Sames.{same_group_equal}
 use Rattle.mega_node_laws.specs.Deciding.{SameLogs}

@@ -25,23 +25,23 @@ use Rattle.mega_outcome.specs.declared.request.Request.{Request}
 use Rattle.mega_outcome.specs.declared.request.Request.TheVariants.{Find, Read as ReadRequested}
 use Rattle.mega_outcome.specs.declared.transaction.RowRef.{RowRef}
 use Rattle.mega_outcome.specs.Reads.{all_rows, read_rows}
-use Rattle.mega_replica.specs.Applying.{applied, stored_writes, writes_of, writes_through}
-use Rattle.mega_replica.proofs.Writing.{through-cons}
-use Rattle.mega_transcript.specs.declared.item.Item.{Item}
-use Rattle.mega_promises.specs.Causes.{IsCause, ShowsFind, ShowsLocal, ShowsRead, StoresSome, front, global_over, marked_at, rows_through as rows_on}
-use Rattle.mega_promises.specs.Fresh.{find_over, read_over}
-use Rattle.mega_promises.specs.Items.{number}
-use Rattle.mega_promises.specs.Moments.{applied_on, begun_on, open_on, refreshed_on}
-use Rattle.mega_promises.specs.Promises.{log_of}
-use Rattle.mega_promises.specs.Runs.{setting}
-use Rattle.mega_rules.specs.Acting.{applied_in, applied_marks, mark_of, read_answer, rows_answer}
-use Rattle.mega_rules.specs.Clock.{begun_of, last_number}
-use Rattle.mega_rules.specs.Finding.{find_by, global_found, local_found, refreshed_marks, rows_through as rows_met}
-use Rattle.mega_rules.specs.Logs.{groups_of, log_of as log_met, prefix_of}
-use Rattle.mega_rules.specs.Members.{has_rows, is_node, keeps_rows, kind_of}
-use Rattle.mega_rules.specs.Met.{Met, Begins}
-use Rattle.mega_rules.specs.Operations.{Node, Now, Setting}
-use Rattle.mega_rules.specs.Steps.{applied_at, applied_position, at_first, at_open, is_worn, missing_kind, refusal, snapshot_listed, snapshot_rows, stored_listed, stored_rows, unless_busy, unless_missing}
+use Rattle.mega_cause_laws.specs.of_run_laws.of_tape_laws.of_promises.of_rules.of_replica.Applying.{applied, stored_writes, writes_of, writes_through}
+use Rattle.mega_node_laws.proofs.of_replica.Writing.{through-cons}
+use Rattle.mega_cause_laws.specs.of_run_laws.of_tape_laws.of_promises.of_transcript.declared.item.Item.{Item}
+use Rattle.mega_cause_laws.specs.of_run_laws.of_tape_laws.of_promises.Causes.{IsCause, ShowsFind, ShowsLocal, ShowsRead, StoresSome, front, global_over, marked_at, rows_through as rows_on}
+use Rattle.mega_cause_laws.specs.of_run_laws.of_tape_laws.of_promises.Fresh.{find_over, read_over}
+use Rattle.mega_cause_laws.specs.of_run_laws.of_tape_laws.of_promises.Items.{number}
+use Rattle.mega_cause_laws.specs.of_run_laws.of_tape_laws.of_promises.Moments.{applied_on, begun_on, open_on, refreshed_on}
+use Rattle.mega_cause_laws.specs.of_run_laws.of_tape_laws.of_promises.Promises.{log_of}
+use Rattle.mega_cause_laws.specs.of_run_laws.of_tape_laws.of_promises.Runs.{setting}
+use Rattle.mega_cause_laws.specs.of_run_laws.of_tape_laws.of_promises.of_rules.Acting.{applied_in, applied_marks, mark_of, read_answer, rows_answer}
+use Rattle.mega_cause_laws.specs.of_run_laws.of_tape_laws.of_promises.of_rules.Clock.{begun_of, last_number}
+use Rattle.mega_cause_laws.specs.of_run_laws.of_tape_laws.of_promises.of_rules.Finding.{find_by, global_found, local_found, refreshed_marks, rows_through as rows_met}
+use Rattle.mega_cause_laws.specs.of_run_laws.of_tape_laws.of_promises.of_rules.Logs.{groups_of, log_of as log_met, prefix_of}
+use Rattle.mega_cause_laws.specs.of_run_laws.of_tape_laws.of_promises.of_rules.Members.{has_rows, is_node, keeps_rows, kind_of}
+use Rattle.mega_cause_laws.specs.of_run_laws.of_tape_laws.of_promises.of_rules.Met.{Met, Begins}
+use Rattle.mega_cause_laws.specs.of_run_laws.of_tape_laws.of_promises.of_rules.Operations.{Node, Now, Setting}
+use Rattle.mega_cause_laws.specs.of_run_laws.of_tape_laws.of_promises.of_rules.Steps.{applied_at, applied_position, at_first, at_open, is_worn, missing_kind, refusal, snapshot_listed, snapshot_rows, stored_listed, stored_rows, unless_busy, unless_missing}
 use Rattle.mega_wal.specs.Same.{same_group}
 use Rattle.mega_wal.proofs.Sames.{same_group_equal}
 use Rattle.mega_node_laws.proofs.Applied.{applied_within}

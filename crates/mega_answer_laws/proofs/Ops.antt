@@ -3,21 +3,21 @@ use Rattle.std.proofs.Common.{◌≡◌, inl, inr, ℕ, ◌+◌, ◌==◌, ◌&&
 use Rattle.mega_base.specs.declared.names.OpId.{OpId}
 use Rattle.mega_cluster.specs.declared.cluster.Cluster.{Cluster}
 use Rattle.mega_outcome.specs.declared.request.Request.{Request}
-use Rattle.mega_transcript.specs.declared.item.Item.{Item}
-use Rattle.mega_transcript.specs.declared.item.Item.TheVariants.{Answer, Apply, Begin, Counts as CountsItem, Crash, Decide, Forgets as ForgetsItem, Grant, Invalid, Lapse, Lost, Sent, Serving, Start, Tick, Unsafe, Unsent, Valid}
-use Rattle.mega_promises.specs.Items.{number, shown}
-use Rattle.mega_promises.specs.Messages.{is_unsafe}
-use Rattle.mega_promises.specs.Moments.{began_on, clock_on, open_on}
-use Rattle.mega_promises.specs.Promises.{Stands, asked_for}
-use Rattle.mega_promises.specs.Runs.{breaks, with_item, with_items}
-use Rattle.mega_rules.specs.Met.{Met, Starts, Crashes, Ticks, Begins, Takes, Sends, Unsends, Grants, Lapses, Counts, Forgets, Serves, Loses, Validates, Invalidates, Decides, Applies, Answers}
-use Rattle.mega_rules.specs.Operations.{Node}
+use Rattle.mega_cause_laws.specs.of_run_laws.of_tape_laws.of_promises.of_transcript.declared.item.Item.{Item}
+use Rattle.mega_cause_laws.specs.of_run_laws.of_tape_laws.of_promises.of_transcript.declared.item.Item.TheVariants.{Answer, Apply, Begin, Counts as CountsItem, Crash, Decide, Forgets as ForgetsItem, Grant, Invalid, Lapse, Lost, Sent, Serving, Start, Tick, Unsafe, Unsent, Valid}
+use Rattle.mega_cause_laws.specs.of_run_laws.of_tape_laws.of_promises.Items.{number, shown}
+use Rattle.mega_cause_laws.specs.of_run_laws.of_tape_laws.of_promises.Messages.{is_unsafe}
+use Rattle.mega_cause_laws.specs.of_run_laws.of_tape_laws.of_promises.Moments.{began_on, clock_on, open_on}
+use Rattle.mega_cause_laws.specs.of_run_laws.of_tape_laws.of_promises.Promises.{Stands, asked_for}
+use Rattle.mega_cause_laws.specs.of_run_laws.of_tape_laws.of_promises.Runs.{breaks, with_item, with_items}
+use Rattle.mega_cause_laws.specs.of_run_laws.of_tape_laws.of_promises.of_rules.Met.{Met, Starts, Crashes, Ticks, Begins, Takes, Sends, Unsends, Grants, Lapses, Counts, Forgets, Serves, Loses, Validates, Invalidates, Decides, Applies, Answers}
+use Rattle.mega_cause_laws.specs.of_run_laws.of_tape_laws.of_promises.of_rules.Operations.{Node}
 use Rattle.mega_wal.specs.Same.{same_op}
 use Rattle.mega_wal.proofs.Sames.{same_op_equal, same_op_self}
 use Rattle.mega_wire.specs.declared.message.Message.{Message}
-use Rattle.mega_tape_laws.specs.Places.{In}
-use Rattle.mega_run_laws.specs.Vouched.{Each, sent}
-use Rattle.mega_run_laws.proofs.Noted.{with_append}
+use Rattle.mega_cause_laws.specs.of_run_laws.of_tape_laws.Places.{In}
+use Rattle.mega_cause_laws.specs.of_run_laws.Vouched.{Each, sent}
+use Rattle.mega_cause_laws.proofs.of_run_laws.Noted.{with_append}
 
 -- an operation of a node is asked for, begun and open as before, and what stood stands
 pub record Beside (v : ℕ) (x : OpId) (old new : List Item) : Type 0 where

@@ -17,16 +17,16 @@ use Rattle.mega_outcome.specs.declared.request.Request.{Request}
 use Rattle.mega_outcome.specs.declared.request.Request.TheVariants.{Batch as BatchRequest, Find, PumpEnter, PumpHandle, Read as ReadRequested, Refresh, Txn}
 use Rattle.mega_outcome.specs.declared.transaction.RowRef.{RowRef}
 use Rattle.mega_outcome.specs.Reads.{all_rows, read_rows}
-use Rattle.mega_promises.specs.Promises.{rows_shown}
-use Rattle.mega_rules.specs.Acting.{read_answer, rows_answer}
-use Rattle.mega_rules.specs.Finding.{find_answer, find_by, group_bytes, group_marks, refreshed_marks, rows_through}
-use Rattle.mega_rules.specs.Logs.{log_of}
-use Rattle.mega_rules.specs.Members.{kind_of}
-use Rattle.mega_rules.specs.Met.{Met}
-use Rattle.mega_rules.specs.Operations.{Node, Now, Setting}
-use Rattle.mega_rules.specs.Steps.{applied_position, is_worn, missing_kind, snapshot_listed, snapshot_rows, stored_listed, stored_rows, unless_missing}
+use Rattle.mega_cause_laws.specs.of_run_laws.of_tape_laws.of_promises.Promises.{rows_shown}
+use Rattle.mega_cause_laws.specs.of_run_laws.of_tape_laws.of_promises.of_rules.Acting.{read_answer, rows_answer}
+use Rattle.mega_cause_laws.specs.of_run_laws.of_tape_laws.of_promises.of_rules.Finding.{find_answer, find_by, group_bytes, group_marks, refreshed_marks, rows_through}
+use Rattle.mega_cause_laws.specs.of_run_laws.of_tape_laws.of_promises.of_rules.Logs.{log_of}
+use Rattle.mega_cause_laws.specs.of_run_laws.of_tape_laws.of_promises.of_rules.Members.{kind_of}
+use Rattle.mega_cause_laws.specs.of_run_laws.of_tape_laws.of_promises.of_rules.Met.{Met}
+use Rattle.mega_cause_laws.specs.of_run_laws.of_tape_laws.of_promises.of_rules.Operations.{Node, Now, Setting}
+use Rattle.mega_cause_laws.specs.of_run_laws.of_tape_laws.of_promises.of_rules.Steps.{applied_position, is_worn, missing_kind, snapshot_listed, snapshot_rows, stored_listed, stored_rows, unless_missing}
 use Rattle.mega_schema.specs.declared.schema.Index.{Index}
-use Rattle.mega_tape_laws.proofs.Lists.{some_is}
+use Rattle.mega_cause_laws.proofs.of_run_laws.of_tape_laws.Lists.{some_is}
 use Rattle.mega_answer_laws.specs.Answered.{is_placing, may_propose}
 use Rattle.mega_answer_laws.proofs.Acts.{AtOnce, found_applied, found_globally, found_stored, read_applied, read_stored, refreshed, refused}
 use Rattle.mega_answer_laws.proofs.Reasons.{IsMet}

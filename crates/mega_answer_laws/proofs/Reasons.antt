@@ -13,12 +13,12 @@ use Rattle.mega_outcome.specs.declared.request.Mode.TheVariants.{Current}
 use Rattle.mega_outcome.specs.declared.request.ReadRequest.{ReadRequest}
 use Rattle.mega_outcome.specs.declared.request.Request.{Request}
 use Rattle.mega_outcome.specs.declared.request.Request.TheVariants.{Batch as BatchRequest, Find, PumpEnter, PumpHandle, Read as ReadRequested, Refresh, Txn}
-use Rattle.mega_promises.specs.Fresh.{find_over, read_over}
-use Rattle.mega_promises.specs.Promises.{group_written, is_write}
-use Rattle.mega_rules.specs.Logs.{log_of, prefix_of}
-use Rattle.mega_rules.specs.Met.{Met}
-use Rattle.mega_rules.specs.Queues.{Log, next_to_enter, next_to_handle}
-use Rattle.mega_rules.specs.Operations.{Phase, Promised, Proposes, Reads, Replies, Results, Setting}
+use Rattle.mega_cause_laws.specs.of_run_laws.of_tape_laws.of_promises.Fresh.{find_over, read_over}
+use Rattle.mega_cause_laws.specs.of_run_laws.of_tape_laws.of_promises.Promises.{group_written, is_write}
+use Rattle.mega_cause_laws.specs.of_run_laws.of_tape_laws.of_promises.of_rules.Logs.{log_of, prefix_of}
+use Rattle.mega_cause_laws.specs.of_run_laws.of_tape_laws.of_promises.of_rules.Met.{Met}
+use Rattle.mega_cause_laws.specs.of_run_laws.of_tape_laws.of_promises.of_rules.Queues.{Log, next_to_enter, next_to_handle}
+use Rattle.mega_cause_laws.specs.of_run_laws.of_tape_laws.of_promises.of_rules.Operations.{Phase, Promised, Proposes, Reads, Replies, Results, Setting}
 
 -- this holds of the first entries of a log that the node decided, through some position
 abbrev pub At : List Met → GroupId → (ℕ → List Content → Type 0) → Type 0

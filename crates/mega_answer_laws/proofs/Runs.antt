@@ -5,33 +5,33 @@ use Rattle.mega_cluster.specs.declared.cluster.Cluster.{Cluster}
 use Rattle.mega_disk.specs.declared.pair.Device.TheVariants.{Log, Data}
 use Rattle.mega_handler.specs.Named.{Meanings}
 use Rattle.mega_outcome.specs.declared.answer.Answer.{Answer}
-use Rattle.mega_schedule.specs.declared.world_event.WorldEvent.{WorldEvent}
-use Rattle.mega_schedule.specs.declared.world_event.WorldEvent.TheVariants.{Tick as TickEvent, Deliver, Drop, Drain, Crash as CrashEvent, Start as StartEvent, Fuse as FuseEvent, Begin as BeginEvent}
-use Rattle.mega_transcript.specs.declared.item.Item.{Item}
-use Rattle.mega_transcript.specs.declared.item.Item.TheVariants.{Answer as AnswerItem, Begin as BeginItem, Crash, Cut as CutItem, Dropped, Taken, Tick as TickItem}
-use Rattle.mega_transcript.specs.Tape.{is_sent, is_taken, sent_count}
+use Rattle.mega_cause_laws.specs.of_run_laws.of_tape_laws.of_promises.of_schedule.declared.world_event.WorldEvent.{WorldEvent}
+use Rattle.mega_cause_laws.specs.of_run_laws.of_tape_laws.of_promises.of_schedule.declared.world_event.WorldEvent.TheVariants.{Tick as TickEvent, Deliver, Drop, Drain, Crash as CrashEvent, Start as StartEvent, Fuse as FuseEvent, Begin as BeginEvent}
+use Rattle.mega_cause_laws.specs.of_run_laws.of_tape_laws.of_promises.of_transcript.declared.item.Item.{Item}
+use Rattle.mega_cause_laws.specs.of_run_laws.of_tape_laws.of_promises.of_transcript.declared.item.Item.TheVariants.{Answer as AnswerItem, Begin as BeginItem, Crash, Cut as CutItem, Dropped, Taken, Tick as TickItem}
+use Rattle.mega_cause_laws.specs.of_run_laws.of_tape_laws.of_promises.of_transcript.Tape.{is_sent, is_taken, sent_count}
 use Rattle.mega_wire.specs.declared.message.Message.{Message}
-use Rattle.mega_promises.specs.Causes.{HasCause}
-use Rattle.mega_promises.specs.Items.{number, numbered, shown}
-use Rattle.mega_promises.specs.Messages.{is_deliverable, is_dropped, message_of, next_delivery, receiver_up}
-use Rattle.mega_promises.specs.Moments.{StoodOn}
-use Rattle.mega_promises.specs.Promises.{Stands}
-use Rattle.mega_promises.specs.Runs.{Cuts, CutByData, CutByLog, Fate, Fuse, Happening, IsRun, Standing, Whole, after_event, delivered, drained, fate_by, fated, fated_start, goes_on, handed, is_kept, marked, met_in, nothing_yet, opening, owes, receiver_down, refusal, set_at, setting, start_calls, unless_none, unless_refused, up, whole_step, with_item, with_items}
-use Rattle.mega_rules.specs.Logs.{decided}
-use Rattle.mega_rules.specs.Members.{is_node, nodes}
-use Rattle.mega_rules.specs.Met.{Crashes, Met}
-use Rattle.mega_rules.specs.Operations.{Node}
-use Rattle.mega_rules.specs.Steps.{Begin, Event, Step, Take, Tick, crashed, op_of, start, step}
-use Rattle.mega_tape_laws.specs.Answers.{LawfulAnswers}
-use Rattle.mega_tape_laws.specs.Writes.{Usage}
-use Rattle.mega_tape_laws.proofs.Ballots.{number_is, number_self}
-use Rattle.mega_run_laws.specs.Usages.{Brought, Fits, IsMeant}
-use Rattle.mega_run_laws.specs.Vouched.{Each, sent}
-use Rattle.mega_run_laws.proofs.Noted.{tape_item, with_append, with_sent}
-use Rattle.mega_run_laws.proofs.Owned.{KnowsAll}
-use Rattle.mega_run_laws.proofs.Runs.{begin_good, both_true, crashes_good, fated_start_good, found, handed_good, marked_good, not_because, not_false, nothing_good, start_good, tick_good}
-use Rattle.mega_run_laws.proofs.Standing.{Good}
-use Rattle.mega_run_laws.proofs.Stepping.{OtherThan}
+use Rattle.mega_cause_laws.specs.of_run_laws.of_tape_laws.of_promises.Causes.{HasCause}
+use Rattle.mega_cause_laws.specs.of_run_laws.of_tape_laws.of_promises.Items.{number, numbered, shown}
+use Rattle.mega_cause_laws.specs.of_run_laws.of_tape_laws.of_promises.Messages.{is_deliverable, is_dropped, message_of, next_delivery, receiver_up}
+use Rattle.mega_cause_laws.specs.of_run_laws.of_tape_laws.of_promises.Moments.{StoodOn}
+use Rattle.mega_cause_laws.specs.of_run_laws.of_tape_laws.of_promises.Promises.{Stands}
+use Rattle.mega_cause_laws.specs.of_run_laws.of_tape_laws.of_promises.Runs.{Cuts, CutByData, CutByLog, Fate, Fuse, Happening, IsRun, Standing, Whole, after_event, delivered, drained, fate_by, fated, fated_start, goes_on, handed, is_kept, marked, met_in, nothing_yet, opening, owes, receiver_down, refusal, set_at, setting, start_calls, unless_none, unless_refused, up, whole_step, with_item, with_items}
+use Rattle.mega_cause_laws.specs.of_run_laws.of_tape_laws.of_promises.of_rules.Logs.{decided}
+use Rattle.mega_cause_laws.specs.of_run_laws.of_tape_laws.of_promises.of_rules.Members.{is_node, nodes}
+use Rattle.mega_cause_laws.specs.of_run_laws.of_tape_laws.of_promises.of_rules.Met.{Crashes, Met}
+use Rattle.mega_cause_laws.specs.of_run_laws.of_tape_laws.of_promises.of_rules.Operations.{Node}
+use Rattle.mega_cause_laws.specs.of_run_laws.of_tape_laws.of_promises.of_rules.Steps.{Begin, Event, Step, Take, Tick, crashed, op_of, start, step}
+use Rattle.mega_cause_laws.specs.of_run_laws.of_tape_laws.Answers.{LawfulAnswers}
+use Rattle.mega_cause_laws.specs.of_run_laws.of_tape_laws.Writes.{Usage}
+use Rattle.mega_cause_laws.proofs.of_run_laws.of_tape_laws.Ballots.{number_is, number_self}
+use Rattle.mega_cause_laws.specs.of_run_laws.Usages.{Brought, Fits, IsMeant}
+use Rattle.mega_cause_laws.specs.of_run_laws.Vouched.{Each, sent}
+use Rattle.mega_cause_laws.proofs.of_run_laws.Noted.{tape_item, with_append, with_sent}
+use Rattle.mega_cause_laws.proofs.of_run_laws.Owned.{KnowsAll}
+use Rattle.mega_cause_laws.proofs.of_run_laws.Runs.{begin_good, both_true, crashes_good, fated_start_good, found, handed_good, marked_good, not_because, not_false, nothing_good, start_good, tick_good}
+use Rattle.mega_cause_laws.proofs.of_run_laws.Standing.{Good}
+use Rattle.mega_cause_laws.proofs.of_run_laws.Stepping.{OtherThan}
 use Rattle.mega_answer_laws.specs.Answered.{IsAnswered}
 use Rattle.mega_answer_laws.proofs.Events.{Stepped, begin_own, begin_told, end_of, other_node, take_own, take_told, those_of, tick_own, tick_told}
 use Rattle.mega_answer_laws.proofs.Ops.{Beside}

@@ -5,26 +5,26 @@ use Rattle.mega_base.specs.declared.names.OpId.{OpId}
 use Rattle.mega_cluster.specs.declared.cluster.Cluster.{Cluster}
 use Rattle.mega_handler.specs.Named.{Meanings}
 use Rattle.mega_outcome.specs.declared.answer.Answer.{Answer}
-use Rattle.mega_replica.specs.Applying.{applied, writes_of}
-use Rattle.mega_transcript.specs.declared.item.Item.{Item}
-use Rattle.mega_transcript.specs.declared.item.Item.TheVariants.{Crash}
+use Rattle.mega_cause_laws.specs.of_run_laws.of_tape_laws.of_promises.of_rules.of_replica.Applying.{applied, writes_of}
+use Rattle.mega_cause_laws.specs.of_run_laws.of_tape_laws.of_promises.of_transcript.declared.item.Item.{Item}
+use Rattle.mega_cause_laws.specs.of_run_laws.of_tape_laws.of_promises.of_transcript.declared.item.Item.TheVariants.{Crash}
 use Rattle.mega_wire.specs.declared.message.Message.{Message}
-use Rattle.mega_promises.specs.Items.{number, shown}
-use Rattle.mega_promises.specs.Runs.{is_durable, owes, setting, with_items}
-use Rattle.mega_rules.specs.Finding.{refreshed_marks}
-use Rattle.mega_rules.specs.Logs.{log_of}
-use Rattle.mega_rules.specs.Members.{has_rows}
-use Rattle.mega_rules.specs.Met.{Met, Answers, Applies, Begins, Crashes, Decides, Grants, Lapses, Starts, Unsends}
-use Rattle.mega_rules.specs.Operations.{Node}
-use Rattle.mega_rules.specs.Steps.{Step, apply_all, crashed, onto, start, start_items, start_notes}
+use Rattle.mega_cause_laws.specs.of_run_laws.of_tape_laws.of_promises.Items.{number, shown}
+use Rattle.mega_cause_laws.specs.of_run_laws.of_tape_laws.of_promises.Runs.{is_durable, owes, setting, with_items}
+use Rattle.mega_cause_laws.specs.of_run_laws.of_tape_laws.of_promises.of_rules.Finding.{refreshed_marks}
+use Rattle.mega_cause_laws.specs.of_run_laws.of_tape_laws.of_promises.of_rules.Logs.{log_of}
+use Rattle.mega_cause_laws.specs.of_run_laws.of_tape_laws.of_promises.of_rules.Members.{has_rows}
+use Rattle.mega_cause_laws.specs.of_run_laws.of_tape_laws.of_promises.of_rules.Met.{Met, Answers, Applies, Begins, Crashes, Decides, Grants, Lapses, Starts, Unsends}
+use Rattle.mega_cause_laws.specs.of_run_laws.of_tape_laws.of_promises.of_rules.Operations.{Node}
+use Rattle.mega_cause_laws.specs.of_run_laws.of_tape_laws.of_promises.of_rules.Steps.{Step, apply_all, crashed, onto, start, start_items, start_notes}
 use Rattle.mega_node_laws.specs.Deciding.{SameLogs}
 use Rattle.mega_node_laws.proofs.Logs.{same_more, same_self}
-use Rattle.mega_tape_laws.proofs.Ballots.{number_self}
-use Rattle.mega_run_laws.specs.Vouched.{Each}
-use Rattle.mega_run_laws.proofs.Events.{onto_append}
-use Rattle.mega_run_laws.proofs.Silent.{IsSilent}
-use Rattle.mega_run_laws.proofs.Stepping.{OtherThan}
-use Rattle.mega_run_laws.proofs.Turns.{each_on}
+use Rattle.mega_cause_laws.proofs.of_run_laws.of_tape_laws.Ballots.{number_self}
+use Rattle.mega_cause_laws.specs.of_run_laws.Vouched.{Each}
+use Rattle.mega_cause_laws.proofs.of_run_laws.Events.{onto_append}
+use Rattle.mega_cause_laws.proofs.of_run_laws.Silent.{IsSilent}
+use Rattle.mega_cause_laws.proofs.of_run_laws.Stepping.{OtherThan}
+use Rattle.mega_cause_laws.proofs.of_run_laws.Turns.{each_on}
 use Rattle.mega_answer_laws.proofs.Applied.{applied_whole, start_told}
 use Rattle.mega_answer_laws.proofs.Reasons.{Within}
 use Rattle.mega_answer_laws.proofs.Notes.{IsApplied, applied_leaves, applied_mine, applied_silent, starts_applied}

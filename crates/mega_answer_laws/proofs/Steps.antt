@@ -9,37 +9,37 @@ use Rattle.mega_entry.specs.declared.content.Content.{Content}
 use Rattle.mega_handler.specs.Named.{Meanings}
 use Rattle.mega_outcome.specs.declared.answer.Answer.{Answer}
 use Rattle.mega_outcome.specs.declared.request.Request.{Request}
-use Rattle.mega_replica.specs.Applying.{applied, writes_of}
-use Rattle.mega_transcript.specs.declared.item.Item.{Item}
-use Rattle.mega_transcript.specs.declared.item.Item.TheVariants.{Answer as AnswerItem, Decide, Sent, Unsafe}
-use Rattle.mega_promises.specs.Causes.{HasCause, HasProposed, IsCause}
-use Rattle.mega_promises.specs.Items.{number, shown}
-use Rattle.mega_promises.specs.Messages.{is_unsafe}
-use Rattle.mega_promises.specs.Moments.{began_on, clock_on, open_on}
-use Rattle.mega_promises.specs.Promises.{Stands, asked_for}
-use Rattle.mega_promises.specs.Runs.{breaks, setting, with_item, with_items}
-use Rattle.mega_rules.specs.Finding.{refreshed_marks}
-use Rattle.mega_rules.specs.Logs.{log_of, prefix_of}
-use Rattle.mega_rules.specs.Members.{has_rows}
-use Rattle.mega_rules.specs.Met.{Met, Answers, Applies, Sends, Validates}
-use Rattle.mega_rules.specs.Operations.{Node, Now, Operation, Phase, Proposes, Reads}
-use Rattle.mega_rules.specs.Steps.{Step, applied_at, apply_notes, onto, step_of}
+use Rattle.mega_cause_laws.specs.of_run_laws.of_tape_laws.of_promises.of_rules.of_replica.Applying.{applied, writes_of}
+use Rattle.mega_cause_laws.specs.of_run_laws.of_tape_laws.of_promises.of_transcript.declared.item.Item.{Item}
+use Rattle.mega_cause_laws.specs.of_run_laws.of_tape_laws.of_promises.of_transcript.declared.item.Item.TheVariants.{Answer as AnswerItem, Decide, Sent, Unsafe}
+use Rattle.mega_cause_laws.specs.of_run_laws.of_tape_laws.of_promises.Causes.{HasCause, HasProposed, IsCause}
+use Rattle.mega_cause_laws.specs.of_run_laws.of_tape_laws.of_promises.Items.{number, shown}
+use Rattle.mega_cause_laws.specs.of_run_laws.of_tape_laws.of_promises.Messages.{is_unsafe}
+use Rattle.mega_cause_laws.specs.of_run_laws.of_tape_laws.of_promises.Moments.{began_on, clock_on, open_on}
+use Rattle.mega_cause_laws.specs.of_run_laws.of_tape_laws.of_promises.Promises.{Stands, asked_for}
+use Rattle.mega_cause_laws.specs.of_run_laws.of_tape_laws.of_promises.Runs.{breaks, setting, with_item, with_items}
+use Rattle.mega_cause_laws.specs.of_run_laws.of_tape_laws.of_promises.of_rules.Finding.{refreshed_marks}
+use Rattle.mega_cause_laws.specs.of_run_laws.of_tape_laws.of_promises.of_rules.Logs.{log_of, prefix_of}
+use Rattle.mega_cause_laws.specs.of_run_laws.of_tape_laws.of_promises.of_rules.Members.{has_rows}
+use Rattle.mega_cause_laws.specs.of_run_laws.of_tape_laws.of_promises.of_rules.Met.{Met, Answers, Applies, Sends, Validates}
+use Rattle.mega_cause_laws.specs.of_run_laws.of_tape_laws.of_promises.of_rules.Operations.{Node, Now, Operation, Phase, Proposes, Reads}
+use Rattle.mega_cause_laws.specs.of_run_laws.of_tape_laws.of_promises.of_rules.Steps.{Step, applied_at, apply_notes, onto, step_of}
 use Rattle.mega_wal.specs.Same.{same_op}
 use Rattle.mega_wal.proofs.Sames.{same_op_equal}
 use Rattle.mega_wire.specs.declared.message.Message.{Message}
 use Rattle.mega_node_laws.specs.Deciding.{SameLogs}
 use Rattle.mega_node_laws.proofs.Logs.{log_more_after, prefix_grows_after, same_self}
-use Rattle.mega_tape_laws.specs.Answers.{LawfulAnswers}
-use Rattle.mega_tape_laws.specs.Places.{In}
-use Rattle.mega_tape_laws.specs.Writes.{Usage}
-use Rattle.mega_tape_laws.proofs.Ballots.{number_self}
-use Rattle.mega_run_laws.specs.Vouched.{Each, sent}
-use Rattle.mega_run_laws.proofs.Answering.{with_answers}
-use Rattle.mega_run_laws.proofs.Events.{onto_append}
-use Rattle.mega_run_laws.proofs.Owned.{KnowsAll}
-use Rattle.mega_run_laws.proofs.Silent.{IsSilent, then_answers}
-use Rattle.mega_run_laws.proofs.Stepping.{OtherThan}
-use Rattle.mega_run_laws.proofs.Turns.{IsApart, each_on}
+use Rattle.mega_cause_laws.specs.of_run_laws.of_tape_laws.Answers.{LawfulAnswers}
+use Rattle.mega_cause_laws.specs.of_run_laws.of_tape_laws.Places.{In}
+use Rattle.mega_cause_laws.specs.of_run_laws.of_tape_laws.Writes.{Usage}
+use Rattle.mega_cause_laws.proofs.of_run_laws.of_tape_laws.Ballots.{number_self}
+use Rattle.mega_cause_laws.specs.of_run_laws.Vouched.{Each, sent}
+use Rattle.mega_cause_laws.proofs.of_run_laws.Answering.{with_answers}
+use Rattle.mega_cause_laws.proofs.of_run_laws.Events.{onto_append}
+use Rattle.mega_cause_laws.proofs.of_run_laws.Owned.{KnowsAll}
+use Rattle.mega_cause_laws.proofs.of_run_laws.Silent.{IsSilent, then_answers}
+use Rattle.mega_cause_laws.proofs.of_run_laws.Stepping.{OtherThan}
+use Rattle.mega_cause_laws.proofs.of_run_laws.Turns.{IsApart, each_on}
 use Rattle.mega_answer_laws.proofs.Applied.{applied_rises, apply_told}
 use Rattle.mega_answer_laws.proofs.Causes.{Knowing, cause_met}
 use Rattle.mega_answer_laws.specs.Answered.{is_placing, may_propose}

@@ -6,26 +6,26 @@ use Rattle.mega_cluster.specs.declared.cluster.Cluster.{Cluster}
 use Rattle.mega_outcome.specs.declared.answer.Answer.{Answer}
 use Rattle.mega_outcome.specs.declared.answer.Answer.TheVariants.{Refreshed}
 use Rattle.mega_outcome.specs.declared.answer.Mark.{Mark}
-use Rattle.mega_replica.specs.Applying.{writes_of}
-use Rattle.mega_transcript.specs.declared.item.Item.{Item}
-use Rattle.mega_promises.specs.Causes.{HasProposed}
-use Rattle.mega_promises.specs.Items.{number}
-use Rattle.mega_promises.specs.Moments.{began_on, open_on}
-use Rattle.mega_promises.specs.Promises.{Stands}
-use Rattle.mega_promises.specs.Runs.{Standing}
-use Rattle.mega_rules.specs.Finding.{marks_shown, refreshed_marks}
-use Rattle.mega_rules.specs.Logs.{decided, decided_from, first_of, log_of, prefix_of, then_more}
-use Rattle.mega_rules.specs.Members.{has_rows}
-use Rattle.mega_rules.specs.Met.{Met, Answers, Crashes, Decides, Grants, Lapses, Starts, Unsends}
-use Rattle.mega_rules.specs.Operations.{Node, Operation, Phase, Proposes, Reads}
-use Rattle.mega_rules.specs.Steps.{applied_at, onto}
+use Rattle.mega_cause_laws.specs.of_run_laws.of_tape_laws.of_promises.of_rules.of_replica.Applying.{writes_of}
+use Rattle.mega_cause_laws.specs.of_run_laws.of_tape_laws.of_promises.of_transcript.declared.item.Item.{Item}
+use Rattle.mega_cause_laws.specs.of_run_laws.of_tape_laws.of_promises.Causes.{HasProposed}
+use Rattle.mega_cause_laws.specs.of_run_laws.of_tape_laws.of_promises.Items.{number}
+use Rattle.mega_cause_laws.specs.of_run_laws.of_tape_laws.of_promises.Moments.{began_on, open_on}
+use Rattle.mega_cause_laws.specs.of_run_laws.of_tape_laws.of_promises.Promises.{Stands}
+use Rattle.mega_cause_laws.specs.of_run_laws.of_tape_laws.of_promises.Runs.{Standing}
+use Rattle.mega_cause_laws.specs.of_run_laws.of_tape_laws.of_promises.of_rules.Finding.{marks_shown, refreshed_marks}
+use Rattle.mega_cause_laws.specs.of_run_laws.of_tape_laws.of_promises.of_rules.Logs.{decided, decided_from, first_of, log_of, prefix_of, then_more}
+use Rattle.mega_cause_laws.specs.of_run_laws.of_tape_laws.of_promises.of_rules.Members.{has_rows}
+use Rattle.mega_cause_laws.specs.of_run_laws.of_tape_laws.of_promises.of_rules.Met.{Met, Answers, Crashes, Decides, Grants, Lapses, Starts, Unsends}
+use Rattle.mega_cause_laws.specs.of_run_laws.of_tape_laws.of_promises.of_rules.Operations.{Node, Operation, Phase, Proposes, Reads}
+use Rattle.mega_cause_laws.specs.of_run_laws.of_tape_laws.of_promises.of_rules.Steps.{applied_at, onto}
 use Rattle.mega_wal.specs.Same.{same_group}
 use Rattle.mega_node_laws.specs.Deciding.{SameLogs, is_decision}
 use Rattle.mega_node_laws.proofs.Logs.{log_stays, same_more}
-use Rattle.mega_tape_laws.specs.Places.{In}
-use Rattle.mega_run_laws.specs.Vouched.{Each}
-use Rattle.mega_run_laws.proofs.Events.{onto_length}
-use Rattle.mega_run_laws.proofs.Turns.{each_on}
+use Rattle.mega_cause_laws.specs.of_run_laws.of_tape_laws.Places.{In}
+use Rattle.mega_cause_laws.specs.of_run_laws.Vouched.{Each}
+use Rattle.mega_cause_laws.proofs.of_run_laws.Events.{onto_length}
+use Rattle.mega_cause_laws.proofs.of_run_laws.Turns.{each_on}
 use Rattle.mega_answer_laws.proofs.Reasons.{IsSound, Within}
 use Rattle.mega_answer_laws.proofs.Ops.{Beside}
 use Rattle.mega_answer_laws.proofs.Views.{Agrees, View, after, next, view}

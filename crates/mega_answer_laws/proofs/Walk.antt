@@ -25,22 +25,22 @@ use Rattle.mega_outcome.specs.declared.request.Request.TheVariants.{Txn, Batch a
 use Rattle.mega_outcome.specs.declared.transaction.RowRef.{RowRef}
 use Rattle.mega_outcome.specs.Outcome.{batch_outcome, entry_of_batch, entry_of_done, outcome}
 use Rattle.mega_outcome.specs.Reads.{all_rows, read_rows}
-use Rattle.mega_promises.specs.Fresh.{read_over}
-use Rattle.mega_promises.specs.Promises.{group_written, is_write, rows_shown}
-use Rattle.mega_propose.specs.Rounds.{asks}
-use Rattle.mega_read.specs.declared.reading.Reading.{Reading}
-use Rattle.mega_read.specs.declared.reading.Stage.{Stage}
-use Rattle.mega_read.specs.declared.reading.Stage.TheVariants.{Polling, Catching}
-use Rattle.mega_read.specs.Catching.{asked_by, seeks, site}
-use Rattle.mega_rules.specs.Clock.{clock_of}
-use Rattle.mega_rules.specs.Coordinators.{refused_at}
-use Rattle.mega_rules.specs.Finding.{local_found}
-use Rattle.mega_rules.specs.Logs.{decided, groups_of, log_of, prefix_of}
-use Rattle.mega_rules.specs.Met.{Met, Answers, Validates}
-use Rattle.mega_rules.specs.Queues.{Posted, enter_entry, is_named, names_entered, next_to_enter, next_to_handle, oldest_unhandled}
-use Rattle.mega_rules.specs.Operations.{Now, Operation, Phase, Promised, Proposes, Reads, Replies, Results, Setting}
-use Rattle.mega_rules.specs.Acting.{acts, acts_within, applied_logs, applied_marks, begins_read, committed, completes_read, ends, enters, finishes, goes_on, handles, handling, in_phase, is_taken, keeps, leader_after, listed_at, picks_group, picks_message, picks_to_enter, picks_to_handle, proposes, proposes_by, read_answer, read_begun, reader_of, reads_on, rows_answer, rows_at, sealed, sends_more, stored_with, table_rows, unless_decided, unless_full, validated_by, validates, verdict, visiting}
-use Rattle.mega_replica.specs.Applying.{after_read, writes_of}
+use Rattle.mega_cause_laws.specs.of_run_laws.of_tape_laws.of_promises.Fresh.{read_over}
+use Rattle.mega_cause_laws.specs.of_run_laws.of_tape_laws.of_promises.Promises.{group_written, is_write, rows_shown}
+use Rattle.mega_cause_laws.specs.of_run_laws.of_tape_laws.of_promises.of_rules.of_read.of_propose.Rounds.{asks}
+use Rattle.mega_cause_laws.specs.of_run_laws.of_tape_laws.of_promises.of_rules.of_read.declared.reading.Reading.{Reading}
+use Rattle.mega_cause_laws.specs.of_run_laws.of_tape_laws.of_promises.of_rules.of_read.declared.reading.Stage.{Stage}
+use Rattle.mega_cause_laws.specs.of_run_laws.of_tape_laws.of_promises.of_rules.of_read.declared.reading.Stage.TheVariants.{Polling, Catching}
+use Rattle.mega_cause_laws.specs.of_run_laws.of_tape_laws.of_promises.of_rules.of_read.Catching.{asked_by, seeks, site}
+use Rattle.mega_cause_laws.specs.of_run_laws.of_tape_laws.of_promises.of_rules.Clock.{clock_of}
+use Rattle.mega_cause_laws.specs.of_run_laws.of_tape_laws.of_promises.of_rules.Coordinators.{refused_at}
+use Rattle.mega_cause_laws.specs.of_run_laws.of_tape_laws.of_promises.of_rules.Finding.{local_found}
+use Rattle.mega_cause_laws.specs.of_run_laws.of_tape_laws.of_promises.of_rules.Logs.{decided, groups_of, log_of, prefix_of}
+use Rattle.mega_cause_laws.specs.of_run_laws.of_tape_laws.of_promises.of_rules.Met.{Met, Answers, Validates}
+use Rattle.mega_cause_laws.specs.of_run_laws.of_tape_laws.of_promises.of_rules.Queues.{Posted, enter_entry, is_named, names_entered, next_to_enter, next_to_handle, oldest_unhandled}
+use Rattle.mega_cause_laws.specs.of_run_laws.of_tape_laws.of_promises.of_rules.Operations.{Now, Operation, Phase, Promised, Proposes, Reads, Replies, Results, Setting}
+use Rattle.mega_cause_laws.specs.of_run_laws.of_tape_laws.of_promises.of_rules.Acting.{acts, acts_within, applied_logs, applied_marks, begins_read, committed, completes_read, ends, enters, finishes, goes_on, handles, handling, in_phase, is_taken, keeps, leader_after, listed_at, picks_group, picks_message, picks_to_enter, picks_to_handle, proposes, proposes_by, read_answer, read_begun, reader_of, reads_on, rows_answer, rows_at, sealed, sends_more, stored_with, table_rows, unless_decided, unless_full, validated_by, validates, verdict, visiting}
+use Rattle.mega_cause_laws.specs.of_run_laws.of_tape_laws.of_promises.of_rules.of_replica.Applying.{after_read, writes_of}
 use Rattle.mega_wal.specs.Same.{same_group, same_op, same_option}
 use Rattle.mega_wal.proofs.Sames.{same_group_equal, same_op_equal}
 use Rattle.mega_wire.specs.declared.message.Message.{Message}
@@ -48,9 +48,9 @@ use Rattle.mega_wire.specs.declared.message.Body.TheVariants.{Accept}
 use Rattle.mega_node_laws.specs.Deciding.{SameLogs}
 use Rattle.mega_node_laws.proofs.Applied.{read_keeps, read_within}
 use Rattle.mega_node_laws.proofs.Logs.{same_more}
-use Rattle.mega_tape_laws.specs.Places.{In}
-use Rattle.mega_run_laws.specs.Vouched.{Each}
-use Rattle.mega_run_laws.proofs.Turns.{IsApart, each_on, each_push, other_number}
+use Rattle.mega_cause_laws.specs.of_run_laws.of_tape_laws.Places.{In}
+use Rattle.mega_cause_laws.specs.of_run_laws.Vouched.{Each}
+use Rattle.mega_cause_laws.proofs.of_run_laws.Turns.{IsApart, each_on, each_push, other_number}
 use Rattle.mega_answer_laws.proofs.Reasons.{At, FullAt, IsMet, IsSound, SoundPromise, SoundReads}
 use Rattle.mega_answer_laws.proofs.Nothing.{nothing_to_enter, nothing_to_handle}
 

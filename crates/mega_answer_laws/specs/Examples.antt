@@ -3,12 +3,12 @@ use Rattle.std.specs.Prelude.{ℕ, List, [], ◌∷◌, map, Option, Some}
 use Rattle.mega_outcome.specs.declared.request.Mode.TheVariants.{Inconsistent, Snapshot}
 use Rattle.mega_outcome.specs.declared.request.Request.{Request}
 use Rattle.mega_outcome.specs.declared.request.Request.TheVariants.{PumpEnter, PumpHandle, Read, Refresh}
-use Rattle.mega_schedule.specs.declared.world_event.WorldEvent.{WorldEvent}
-use Rattle.mega_schedule.specs.declared.world_event.WorldEvent.TheVariants.{Begin}
-use Rattle.mega_rules.specs.Examples.{group, put}
-use Rattle.mega_promises.specs.Runs.{Happening}
-use Rattle.mega_promises.specs.Worked.{drain, happens, tick, user_101}
-use Rattle.mega_tape_laws.specs.Writes.{Usage}
+use Rattle.mega_cause_laws.specs.of_run_laws.of_tape_laws.of_promises.of_schedule.declared.world_event.WorldEvent.{WorldEvent}
+use Rattle.mega_cause_laws.specs.of_run_laws.of_tape_laws.of_promises.of_schedule.declared.world_event.WorldEvent.TheVariants.{Begin}
+use Rattle.mega_cause_laws.specs.of_run_laws.of_tape_laws.of_promises.of_rules.Examples.{group, put}
+use Rattle.mega_cause_laws.specs.of_run_laws.of_tape_laws.of_promises.Runs.{Happening}
+use Rattle.mega_cause_laws.specs.of_run_laws.of_tape_laws.of_promises.Worked.{drain, happens, tick, user_101}
+use Rattle.mega_cause_laws.specs.of_run_laws.of_tape_laws.Writes.{Usage}
 
 abbrev pub snapshot : Request
 snapshot = Read (record { mode = Snapshot; group = group; rows = user_101 ∷ [] })

@@ -2,10 +2,10 @@
 
 ghost use Rattle.std.specs.Prelude.{◌≡◌, [], ◌∷◌, reverse};
 ghost use Rattle.mega_outcome.specs.declared.answer.Answer.TheVariants.{NothingToDo, Refreshed, TimedOut};
-ghost use Rattle.mega_rules.specs.Examples.{cluster};
-ghost use Rattle.mega_promises.specs.Runs.{Whole, goes_on, opening};
-ghost use Rattle.mega_promises.specs.Worked.{answers, committed_at, first_mark, op, read_through, told};
-ghost use Rattle.mega_run_laws.specs.Usages.{Fits};
+ghost use Rattle.mega_cause_laws.specs.of_run_laws.of_tape_laws.of_promises.of_rules.Examples.{cluster};
+ghost use Rattle.mega_cause_laws.specs.of_run_laws.of_tape_laws.of_promises.Runs.{Whole, goes_on, opening};
+ghost use Rattle.mega_cause_laws.specs.of_run_laws.of_tape_laws.of_promises.Worked.{answers, committed_at, first_mark, op, read_through, told};
+ghost use Rattle.mega_cause_laws.specs.of_run_laws.Usages.{Fits};
 ghost use Rattle.mega_answer_laws.specs.Examples.{many_words, words};
 
 /// Texts of six lengths mean requests of six kinds, and these begin with them: the premise of the law can be met.

@@ -5,14 +5,14 @@ ghost use Rattle.mega_base.specs.declared.names.OpId.{OpId as Operation};
 ghost use Rattle.mega_cluster.specs.declared.cluster.Cluster.{Cluster};
 ghost use Rattle.mega_handler.specs.Named.{Meanings};
 ghost use Rattle.mega_outcome.specs.declared.answer.Answer.{Answer as Given};
-ghost use Rattle.mega_transcript.specs.declared.item.Item.{Item};
-ghost use Rattle.mega_transcript.specs.declared.item.Item.TheVariants.{Answer};
-ghost use Rattle.mega_promises.specs.Causes.{HasCause};
-ghost use Rattle.mega_promises.specs.Moments.{StoodOn};
-ghost use Rattle.mega_promises.specs.Runs.{Happening, IsRun};
-ghost use Rattle.mega_tape_laws.specs.Writes.{Usage};
-ghost use Rattle.mega_run_laws.specs.Usages.{Fits};
-ghost use Rattle.mega_run_laws.specs.Vouched.{Each};
+ghost use Rattle.mega_cause_laws.specs.of_run_laws.of_tape_laws.of_promises.of_transcript.declared.item.Item.{Item};
+ghost use Rattle.mega_cause_laws.specs.of_run_laws.of_tape_laws.of_promises.of_transcript.declared.item.Item.TheVariants.{Answer};
+ghost use Rattle.mega_cause_laws.specs.of_run_laws.of_tape_laws.of_promises.Causes.{HasCause};
+ghost use Rattle.mega_cause_laws.specs.of_run_laws.of_tape_laws.of_promises.Moments.{StoodOn};
+ghost use Rattle.mega_cause_laws.specs.of_run_laws.of_tape_laws.of_promises.Runs.{Happening, IsRun};
+ghost use Rattle.mega_cause_laws.specs.of_run_laws.of_tape_laws.Writes.{Usage};
+ghost use Rattle.mega_cause_laws.specs.of_run_laws.Usages.{Fits};
+ghost use Rattle.mega_cause_laws.specs.of_run_laws.Vouched.{Each};
 ghost use Rattle.mega_answer_laws.specs.Answered.{IsAnswered};
 
 /// In every run where each text means the request that begins with it, each answer has its cause on the tape before it: it was given in one of the run's events,

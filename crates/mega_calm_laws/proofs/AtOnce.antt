@@ -9,25 +9,25 @@ use Rattle.mega_entry.specs.declared.content.Enter.{Enter}
 use Rattle.mega_handler.specs.Named.{Meanings}
 use Rattle.mega_wire.specs.declared.message.Message.{Message}
 use Rattle.mega_outcome.specs.declared.request.Request.{Request}
-use Rattle.mega_propose.specs.declared.round.Round.TheVariants.{Asking}
-use Rattle.mega_read.specs.declared.reading.Move.{Move as ReadMove}
-use Rattle.mega_read.specs.declared.reading.Reading.{Reading}
-use Rattle.mega_read.specs.declared.reading.Stage.TheVariants.{Catching}
-use Rattle.mega_read.specs.Catching.{local_read, polled_read, seeks}
-use Rattle.mega_transcript.specs.declared.item.Item.TheVariants.{Answer as AnswerItem, Begin as BeginItem, Decide as DecideItem}
-use Rattle.mega_rules.specs.Acting.{acts as acts_now, acts_within, committed, completes_read, finishes, goes_on, leader_after, proposes, proposes_by, reader_of, seeks_on, sends_more, unless_decided}
-use Rattle.mega_rules.specs.Clock.{clock_of, is_up}
-use Rattle.mega_rules.specs.Coordinators.{serves_at}
-use Rattle.mega_rules.specs.Logs.{decided, decided_from, groups_of, log_of, prefix_of, then_more, top_of}
-use Rattle.mega_rules.specs.Members.{is_full, is_node, is_voter}
-use Rattle.mega_rules.specs.Met.{Met, Begins, Sends}
-use Rattle.mega_rules.specs.Operations.{Node, Now, Operation, Promised, Proposes, Reads, Setting}
-use Rattle.mega_rules.specs.Steps.{Begin, Step, apply_notes, at_first, at_open, begin_step, new_operation, onto, op_of, refusal, unless_refused}
-use Rattle.mega_rules.specs.Voting.{acts}
-use Rattle.mega_promises.specs.Calm.{IsCalm, begun, is_cut}
-use Rattle.mega_promises.specs.Items.{number, shown}
-use Rattle.mega_promises.specs.Promises.{Stands}
-use Rattle.mega_promises.specs.Runs.{Cuts, Standing, drained, set_at, setting, whole_step}
+use Rattle.mega_leased_laws.specs.of_run_laws.of_tape_laws.of_promises.of_rules.of_read.of_propose.declared.round.Round.TheVariants.{Asking}
+use Rattle.mega_leased_laws.specs.of_run_laws.of_tape_laws.of_promises.of_rules.of_read.declared.reading.Move.{Move as ReadMove}
+use Rattle.mega_leased_laws.specs.of_run_laws.of_tape_laws.of_promises.of_rules.of_read.declared.reading.Reading.{Reading}
+use Rattle.mega_leased_laws.specs.of_run_laws.of_tape_laws.of_promises.of_rules.of_read.declared.reading.Stage.TheVariants.{Catching}
+use Rattle.mega_leased_laws.specs.of_run_laws.of_tape_laws.of_promises.of_rules.of_read.Catching.{local_read, polled_read, seeks}
+use Rattle.mega_leased_laws.specs.of_run_laws.of_tape_laws.of_promises.of_transcript.declared.item.Item.TheVariants.{Answer as AnswerItem, Begin as BeginItem, Decide as DecideItem}
+use Rattle.mega_leased_laws.specs.of_run_laws.of_tape_laws.of_promises.of_rules.Acting.{acts as acts_now, acts_within, committed, completes_read, finishes, goes_on, leader_after, proposes, proposes_by, reader_of, seeks_on, sends_more, unless_decided}
+use Rattle.mega_leased_laws.specs.of_run_laws.of_tape_laws.of_promises.of_rules.Clock.{clock_of, is_up}
+use Rattle.mega_leased_laws.specs.of_run_laws.of_tape_laws.of_promises.of_rules.Coordinators.{serves_at}
+use Rattle.mega_leased_laws.specs.of_run_laws.of_tape_laws.of_promises.of_rules.Logs.{decided, decided_from, groups_of, log_of, prefix_of, then_more, top_of}
+use Rattle.mega_leased_laws.specs.of_run_laws.of_tape_laws.of_promises.of_rules.Members.{is_full, is_node, is_voter}
+use Rattle.mega_leased_laws.specs.of_run_laws.of_tape_laws.of_promises.of_rules.Met.{Met, Begins, Sends}
+use Rattle.mega_leased_laws.specs.of_run_laws.of_tape_laws.of_promises.of_rules.Operations.{Node, Now, Operation, Promised, Proposes, Reads, Setting}
+use Rattle.mega_leased_laws.specs.of_run_laws.of_tape_laws.of_promises.of_rules.Steps.{Begin, Step, apply_notes, at_first, at_open, begin_step, new_operation, onto, op_of, refusal, unless_refused}
+use Rattle.mega_leased_laws.specs.of_run_laws.of_tape_laws.of_promises.of_rules.Voting.{acts}
+use Rattle.mega_leased_laws.specs.of_run_laws.of_tape_laws.of_promises.Calm.{IsCalm, begun, is_cut}
+use Rattle.mega_leased_laws.specs.of_run_laws.of_tape_laws.of_promises.Items.{number, shown}
+use Rattle.mega_leased_laws.specs.of_run_laws.of_tape_laws.of_promises.Promises.{Stands}
+use Rattle.mega_leased_laws.specs.of_run_laws.of_tape_laws.of_promises.Runs.{Cuts, Standing, drained, set_at, setting, whole_step}
 use Rattle.mega_calm_laws.specs.Next.{IsNextAt, leader_behind}
 use Rattle.mega_calm_laws.specs.Proposed.{Asked, IsProposedAlone, asks_leader}
 use Rattle.mega_calm_laws.specs.Waiting.{IsNumbered}

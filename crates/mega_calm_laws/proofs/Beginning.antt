@@ -24,28 +24,28 @@ use Rattle.mega_outcome.specs.declared.transaction.RowRef.{RowRef}
 use Rattle.mega_outcome.specs.Places.{◌>>=◌, key_in}
 use Rattle.mega_outcome.specs.Reads.{all_reads, shown as shown_row}
 use Rattle.mega_schema.specs.declared.schema.Schema.{Schema}
-use Rattle.mega_propose.specs.Members.{is_majority, others}
-use Rattle.mega_read.specs.declared.reading.Move.{Move as ReadMove}
-use Rattle.mega_read.specs.declared.reading.Search.{Search}
-use Rattle.mega_read.specs.declared.reading.Stage.{Stage}
-use Rattle.mega_read.specs.declared.reading.Stage.TheVariants.{Polling, Catching}
-use Rattle.mega_read.specs.Catching.{local_read, polled_read}
-use Rattle.mega_transcript.specs.declared.item.Item.{Item}
-use Rattle.mega_transcript.specs.declared.item.Item.TheVariants.{Begin as BeginItem}
-use Rattle.mega_transcript.specs.Tape.{is_sent, is_taken, sent_count}
-use Rattle.mega_rules.specs.Acting.{goes_on, reader_of, rows_answer, sends_more}
-use Rattle.mega_rules.specs.Clock.{clock_of, next_number, start_of}
-use Rattle.mega_rules.specs.Coordinators.{serves_at, valid_at}
-use Rattle.mega_rules.specs.Logs.{decided, prefix_of, top_of}
-use Rattle.mega_rules.specs.Members.{is_full, is_node, is_voter, kind_of, runs, voters, votes}
-use Rattle.mega_rules.specs.Met.{Met, Answers, Begins, Sends}
-use Rattle.mega_rules.specs.Operations.{Node, Now, Reads, Setting}
-use Rattle.mega_rules.specs.Steps.{Begin, Step, apply_notes, at_first, at_open, begin_step, is_current, is_worn, missing_kind, new_operation, onto, op_of, read_begins, refusal, unless_missing, unless_refused}
-use Rattle.mega_promises.specs.Calm.{IsCalm, begun, is_cut}
-use Rattle.mega_promises.specs.Items.{numbered as numbered_from, shown}
-use Rattle.mega_promises.specs.Messages.{is_dropped}
-use Rattle.mega_promises.specs.Promises.{rows_shown}
-use Rattle.mega_promises.specs.Runs.{Cuts, Standing, delivered, drained, set_at, setting, whole_step}
+use Rattle.mega_leased_laws.specs.of_run_laws.of_tape_laws.of_promises.of_rules.of_read.of_propose.Members.{is_majority, others}
+use Rattle.mega_leased_laws.specs.of_run_laws.of_tape_laws.of_promises.of_rules.of_read.declared.reading.Move.{Move as ReadMove}
+use Rattle.mega_leased_laws.specs.of_run_laws.of_tape_laws.of_promises.of_rules.of_read.declared.reading.Search.{Search}
+use Rattle.mega_leased_laws.specs.of_run_laws.of_tape_laws.of_promises.of_rules.of_read.declared.reading.Stage.{Stage}
+use Rattle.mega_leased_laws.specs.of_run_laws.of_tape_laws.of_promises.of_rules.of_read.declared.reading.Stage.TheVariants.{Polling, Catching}
+use Rattle.mega_leased_laws.specs.of_run_laws.of_tape_laws.of_promises.of_rules.of_read.Catching.{local_read, polled_read}
+use Rattle.mega_leased_laws.specs.of_run_laws.of_tape_laws.of_promises.of_transcript.declared.item.Item.{Item}
+use Rattle.mega_leased_laws.specs.of_run_laws.of_tape_laws.of_promises.of_transcript.declared.item.Item.TheVariants.{Begin as BeginItem}
+use Rattle.mega_leased_laws.specs.of_run_laws.of_tape_laws.of_promises.of_transcript.Tape.{is_sent, is_taken, sent_count}
+use Rattle.mega_leased_laws.specs.of_run_laws.of_tape_laws.of_promises.of_rules.Acting.{goes_on, reader_of, rows_answer, sends_more}
+use Rattle.mega_leased_laws.specs.of_run_laws.of_tape_laws.of_promises.of_rules.Clock.{clock_of, next_number, start_of}
+use Rattle.mega_leased_laws.specs.of_run_laws.of_tape_laws.of_promises.of_rules.Coordinators.{serves_at, valid_at}
+use Rattle.mega_leased_laws.specs.of_run_laws.of_tape_laws.of_promises.of_rules.Logs.{decided, prefix_of, top_of}
+use Rattle.mega_leased_laws.specs.of_run_laws.of_tape_laws.of_promises.of_rules.Members.{is_full, is_node, is_voter, kind_of, runs, voters, votes}
+use Rattle.mega_leased_laws.specs.of_run_laws.of_tape_laws.of_promises.of_rules.Met.{Met, Answers, Begins, Sends}
+use Rattle.mega_leased_laws.specs.of_run_laws.of_tape_laws.of_promises.of_rules.Operations.{Node, Now, Reads, Setting}
+use Rattle.mega_leased_laws.specs.of_run_laws.of_tape_laws.of_promises.of_rules.Steps.{Begin, Step, apply_notes, at_first, at_open, begin_step, is_current, is_worn, missing_kind, new_operation, onto, op_of, read_begins, refusal, unless_missing, unless_refused}
+use Rattle.mega_leased_laws.specs.of_run_laws.of_tape_laws.of_promises.Calm.{IsCalm, begun, is_cut}
+use Rattle.mega_leased_laws.specs.of_run_laws.of_tape_laws.of_promises.Items.{numbered as numbered_from, shown}
+use Rattle.mega_leased_laws.specs.of_run_laws.of_tape_laws.of_promises.Messages.{is_dropped}
+use Rattle.mega_leased_laws.specs.of_run_laws.of_tape_laws.of_promises.Promises.{rows_shown}
+use Rattle.mega_leased_laws.specs.of_run_laws.of_tape_laws.of_promises.Runs.{Cuts, Standing, delivered, drained, set_at, setting, whole_step}
 use Rattle.mega_calm_laws.specs.Answered.{AllWaited, IsRead, IsReadOrAwaits, all_delivered}
 use Rattle.mega_calm_laws.specs.Stocked.{IsStocked}
 use Rattle.mega_calm_laws.specs.Waiting.{IsNumbered, Waits}

@@ -3,12 +3,12 @@ use Rattle.std.proofs.Common.{◌≡◌, ℕ, ◌≤◌, true, List, length}
 use Rattle.mega_base.specs.declared.names.GroupId.{GroupId}
 use Rattle.mega_cluster.specs.declared.cluster.Cluster.{Cluster}
 use Rattle.mega_handler.specs.Named.{Meanings}
-use Rattle.mega_rules.specs.Members.{is_full}
-use Rattle.mega_promises.specs.Calm.{IsCalmAt, IsCalmComplete}
-use Rattle.mega_promises.specs.Promises.{log_of}
-use Rattle.mega_promises.specs.Runs.{Cuts, Happening, Standing, goes_on, opening, setting}
-use Rattle.mega_run_laws.specs.Usages.{Fits}
-use Rattle.mega_tape_laws.specs.Writes.{Usage}
+use Rattle.mega_leased_laws.specs.of_run_laws.of_tape_laws.of_promises.of_rules.Members.{is_full}
+use Rattle.mega_leased_laws.specs.of_run_laws.of_tape_laws.of_promises.Calm.{IsCalmAt, IsCalmComplete}
+use Rattle.mega_leased_laws.specs.of_run_laws.of_tape_laws.of_promises.Promises.{log_of}
+use Rattle.mega_leased_laws.specs.of_run_laws.of_tape_laws.of_promises.Runs.{Cuts, Happening, Standing, goes_on, opening, setting}
+use Rattle.mega_leased_laws.specs.of_run_laws.Usages.{Fits}
+use Rattle.mega_leased_laws.specs.of_run_laws.of_tape_laws.Writes.{Usage}
 use Rattle.mega_calm_laws.specs.Ready.{IsReady}
 use Rattle.mega_calm_laws.specs.Waiting.{IsNumbered}
 use Rattle.mega_calm_laws.proofs.Beginning.{full_node, full_votes, read_answered, shows_rows}

@@ -5,13 +5,13 @@ use Rattle.std.proofs.lemmas.Bool.Decides.{nat_tests}
 use Rattle.mega_cluster.specs.declared.cluster.Cluster.{Cluster}
 use Rattle.mega_handler.specs.Named.{Meanings}
 use Rattle.mega_wire.specs.declared.message.Message.{Message}
-use Rattle.mega_transcript.specs.declared.item.Item.{Item}
-use Rattle.mega_transcript.specs.declared.item.Item.TheVariants.{Cut as CutItem, Taken}
-use Rattle.mega_transcript.specs.Tape.{is_taken, sent_count}
-use Rattle.mega_rules.specs.Steps.{Event, Step, Take, step}
-use Rattle.mega_promises.specs.Calm.{is_cut}
-use Rattle.mega_promises.specs.Messages.{is_deliverable, is_dropped, message_of, next_delivery, receiver_up}
-use Rattle.mega_promises.specs.Runs.{Calls, Cuts, CutByData, CutByLog, Fate, Fuse, Standing, Whole, AsItWas, Compacted, Recorded, after_append, appends, at_node, calls_of, delivered, drained, fated, handed, is_burning, marked, may_become, met_in, replies_in, setting, unless_none, up, whole_step}
+use Rattle.mega_leased_laws.specs.of_run_laws.of_tape_laws.of_promises.of_transcript.declared.item.Item.{Item}
+use Rattle.mega_leased_laws.specs.of_run_laws.of_tape_laws.of_promises.of_transcript.declared.item.Item.TheVariants.{Cut as CutItem, Taken}
+use Rattle.mega_leased_laws.specs.of_run_laws.of_tape_laws.of_promises.of_transcript.Tape.{is_taken, sent_count}
+use Rattle.mega_leased_laws.specs.of_run_laws.of_tape_laws.of_promises.of_rules.Steps.{Event, Step, Take, step}
+use Rattle.mega_leased_laws.specs.of_run_laws.of_tape_laws.of_promises.Calm.{is_cut}
+use Rattle.mega_leased_laws.specs.of_run_laws.of_tape_laws.of_promises.Messages.{is_deliverable, is_dropped, message_of, next_delivery, receiver_up}
+use Rattle.mega_leased_laws.specs.of_run_laws.of_tape_laws.of_promises.Runs.{Calls, Cuts, CutByData, CutByLog, Fate, Fuse, Standing, Whole, AsItWas, Compacted, Recorded, after_append, appends, at_node, calls_of, delivered, drained, fated, handed, is_burning, marked, may_become, met_in, replies_in, setting, unless_none, up, whole_step}
 use Rattle.mega_calm_laws.specs.Waiting.{Waits}
 use Rattle.mega_calm_laws.proofs.Mail.{number_is, some_is}
 

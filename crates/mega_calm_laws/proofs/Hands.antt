@@ -10,14 +10,14 @@ use Rattle.mega_outcome.specs.declared.answer.Done.{Done}
 use Rattle.mega_outcome.specs.declared.request.Request.TheVariants.{PumpEnter, PumpHandle, Txn}
 use Rattle.mega_outcome.specs.declared.transaction.Transaction.{Transaction}
 use Rattle.mega_outcome.specs.Outcome.{outcome}
-use Rattle.mega_transcript.specs.declared.item.Item.TheVariants.{Answer as AnswerItem, Decide as DecideItem}
-use Rattle.mega_rules.specs.Acting.{applied_logs}
-use Rattle.mega_rules.specs.Queues.{Posted, enter_entry, is_named, names_entered, next_to_enter, next_to_handle, oldest_unhandled}
-use Rattle.mega_rules.specs.Steps.{op_of}
-use Rattle.mega_promises.specs.Calm.{Ends, IsCalmAt, drained, first_now}
-use Rattle.mega_promises.specs.Items.{number}
-use Rattle.mega_promises.specs.Promises.{Stands, handled_by, log_of}
-use Rattle.mega_promises.specs.Runs.{Cuts, Happening, setting}
+use Rattle.mega_leased_laws.specs.of_run_laws.of_tape_laws.of_promises.of_transcript.declared.item.Item.TheVariants.{Answer as AnswerItem, Decide as DecideItem}
+use Rattle.mega_leased_laws.specs.of_run_laws.of_tape_laws.of_promises.of_rules.Acting.{applied_logs}
+use Rattle.mega_leased_laws.specs.of_run_laws.of_tape_laws.of_promises.of_rules.Queues.{Posted, enter_entry, is_named, names_entered, next_to_enter, next_to_handle, oldest_unhandled}
+use Rattle.mega_leased_laws.specs.of_run_laws.of_tape_laws.of_promises.of_rules.Steps.{op_of}
+use Rattle.mega_leased_laws.specs.of_run_laws.of_tape_laws.of_promises.Calm.{Ends, IsCalmAt, drained, first_now}
+use Rattle.mega_leased_laws.specs.of_run_laws.of_tape_laws.of_promises.Items.{number}
+use Rattle.mega_leased_laws.specs.of_run_laws.of_tape_laws.of_promises.Promises.{Stands, handled_by, log_of}
+use Rattle.mega_leased_laws.specs.of_run_laws.of_tape_laws.of_promises.Runs.{Cuts, Happening, setting}
 use Rattle.mega_calm_laws.specs.Next.{HasAtHand, IsNextAt, run_of}
 use Rattle.mega_calm_laws.proofs.Freeing.{run_free}
 use Rattle.mega_calm_laws.proofs.Numbering.{run_numbered}

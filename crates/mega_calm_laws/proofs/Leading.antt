@@ -33,46 +33,46 @@ use Rattle.mega_outcome.specs.declared.request.Request.{Request}
 use Rattle.mega_outcome.specs.declared.request.Request.TheVariants.{Txn, Batch, Read, Find, PumpEnter, PumpHandle, Refresh}
 use Rattle.mega_locks.specs.declared.asked.Asked.{Asked}
 use Rattle.mega_locks.specs.declared.asked.Asked.TheVariants as locks
-use Rattle.mega_propose.specs.Members.{others}
-use Rattle.mega_transcript.specs.declared.item.Item.{Item}
-use Rattle.mega_transcript.specs.declared.item.Item.TheVariants.{Begin as BeginItem, Crash, Cut as CutItem, Decide, Dropped, Sent, Taken, Tick as TickItem, Unsafe}
-use Rattle.mega_transcript.specs.Tape.{is_sent, is_taken, sent_count}
-use Rattle.mega_rules.specs.Acting.{ends, named_leader}
-use Rattle.mega_rules.specs.Clock.{clock_of, does_again, is_up, ticks_of}
-use Rattle.mega_rules.specs.Coordinators.{acquires_at}
-use Rattle.mega_rules.specs.Locks.{asked_for, held_answer, held_at, lock_answer}
-use Rattle.mega_rules.specs.Logs.{decided, groups_of, newest_of, prefix_of, top_of}
-use Rattle.mega_rules.specs.Members.{has_rows, is_cell, is_full, is_node, is_voter, kind_of, nodes, runs, voters}
-use Rattle.mega_rules.specs.Met.{Met, Begins, Crashes, Ticks}
-use Rattle.mega_rules.specs.Operations.{Node, Now, Operation, Setting}
-use Rattle.mega_rules.specs.Replies.{answer_to, fetched, reply_message, reply_to, where_served}
-use Rattle.mega_rules.specs.Steps.{Begin, Decision, Event, Heard, Step, Take, Tick, at_first, at_open, background, begin_step, begins, crashed, fetch_to, fetches_for, find_begins, first_settled, hears_message, if_new, is_current, is_worn, lapse_notes, lease_notes, local_find_begins, missing_kind, needs_full, new_operation, news, onto, op_of, portion_of, read_begins, refusal as begin_refusal, start, start_items, step, take_step, taken, tick_step, ticked, told_decision, told_notes, unless_missing, unless_refused}
-use Rattle.mega_rules.specs.Voting.{acts, promise_body, vote_body}
-use Rattle.mega_promises.specs.Items.{number, numbered, shown}
-use Rattle.mega_promises.specs.Messages.{is_deliverable, is_dropped, is_unsafe, message_of, next_delivery, receiver_up}
-use Rattle.mega_promises.specs.Promises.{Stands, first_decided, log_from, log_of, then_more}
-use Rattle.mega_promises.specs.Runs.{CutByData, CutByLog, Cuts, Fate, Fuse, Happening, Standing, Whole, after_event, breaks, calls_of, delivered, drained, fate_by, fated, fated_start, goes_on, handed, marked, met_in, new_fuse, nothing_yet, opening, receiver_down, refusal, replies_in, set_at, setting, start_calls, unless_none, unless_refused as unless_refused_event, up, whole_step, with_item, with_items}
-use Rattle.mega_run_laws.specs.Usages.{Brought, Fits as FitsUsage}
-use Rattle.mega_run_laws.specs.Vouched.{sent}
-use Rattle.mega_run_laws.proofs.Runs.{begin_good, both_true, crashes_good, fated_start_good, found, handed_good, marked_good, not_because, not_false, nothing_good, run_written, tick_good}
-use Rattle.mega_run_laws.proofs.Standing.{Good}
-use Rattle.mega_run_laws.proofs.Steps.{begun_next, stands_sent}
-use Rattle.mega_run_laws.proofs.Ticking.{ticked_next}
-use Rattle.mega_run_laws.proofs.Whole.{take_next}
-use Rattle.mega_tape_laws.specs.Lawful.{message}
-use Rattle.mega_tape_laws.specs.Places.{In, Place, Proposes, move_in, moves}
+use Rattle.mega_leased_laws.specs.of_run_laws.of_tape_laws.of_promises.of_rules.of_read.of_propose.Members.{others}
+use Rattle.mega_leased_laws.specs.of_run_laws.of_tape_laws.of_promises.of_transcript.declared.item.Item.{Item}
+use Rattle.mega_leased_laws.specs.of_run_laws.of_tape_laws.of_promises.of_transcript.declared.item.Item.TheVariants.{Begin as BeginItem, Crash, Cut as CutItem, Decide, Dropped, Sent, Taken, Tick as TickItem, Unsafe}
+use Rattle.mega_leased_laws.specs.of_run_laws.of_tape_laws.of_promises.of_transcript.Tape.{is_sent, is_taken, sent_count}
+use Rattle.mega_leased_laws.specs.of_run_laws.of_tape_laws.of_promises.of_rules.Acting.{ends, named_leader}
+use Rattle.mega_leased_laws.specs.of_run_laws.of_tape_laws.of_promises.of_rules.Clock.{clock_of, does_again, is_up, ticks_of}
+use Rattle.mega_leased_laws.specs.of_run_laws.of_tape_laws.of_promises.of_rules.Coordinators.{acquires_at}
+use Rattle.mega_leased_laws.specs.of_run_laws.of_tape_laws.of_promises.of_rules.Locks.{asked_for, held_answer, held_at, lock_answer}
+use Rattle.mega_leased_laws.specs.of_run_laws.of_tape_laws.of_promises.of_rules.Logs.{decided, groups_of, newest_of, prefix_of, top_of}
+use Rattle.mega_leased_laws.specs.of_run_laws.of_tape_laws.of_promises.of_rules.Members.{has_rows, is_cell, is_full, is_node, is_voter, kind_of, nodes, runs, voters}
+use Rattle.mega_leased_laws.specs.of_run_laws.of_tape_laws.of_promises.of_rules.Met.{Met, Begins, Crashes, Ticks}
+use Rattle.mega_leased_laws.specs.of_run_laws.of_tape_laws.of_promises.of_rules.Operations.{Node, Now, Operation, Setting}
+use Rattle.mega_leased_laws.specs.of_run_laws.of_tape_laws.of_promises.of_rules.Replies.{answer_to, fetched, reply_message, reply_to, where_served}
+use Rattle.mega_leased_laws.specs.of_run_laws.of_tape_laws.of_promises.of_rules.Steps.{Begin, Decision, Event, Heard, Step, Take, Tick, at_first, at_open, background, begin_step, begins, crashed, fetch_to, fetches_for, find_begins, first_settled, hears_message, if_new, is_current, is_worn, lapse_notes, lease_notes, local_find_begins, missing_kind, needs_full, new_operation, news, onto, op_of, portion_of, read_begins, refusal as begin_refusal, start, start_items, step, take_step, taken, tick_step, ticked, told_decision, told_notes, unless_missing, unless_refused}
+use Rattle.mega_leased_laws.specs.of_run_laws.of_tape_laws.of_promises.of_rules.Voting.{acts, promise_body, vote_body}
+use Rattle.mega_leased_laws.specs.of_run_laws.of_tape_laws.of_promises.Items.{number, numbered, shown}
+use Rattle.mega_leased_laws.specs.of_run_laws.of_tape_laws.of_promises.Messages.{is_deliverable, is_dropped, is_unsafe, message_of, next_delivery, receiver_up}
+use Rattle.mega_leased_laws.specs.of_run_laws.of_tape_laws.of_promises.Promises.{Stands, first_decided, log_from, log_of, then_more}
+use Rattle.mega_leased_laws.specs.of_run_laws.of_tape_laws.of_promises.Runs.{CutByData, CutByLog, Cuts, Fate, Fuse, Happening, Standing, Whole, after_event, breaks, calls_of, delivered, drained, fate_by, fated, fated_start, goes_on, handed, marked, met_in, new_fuse, nothing_yet, opening, receiver_down, refusal, replies_in, set_at, setting, start_calls, unless_none, unless_refused as unless_refused_event, up, whole_step, with_item, with_items}
+use Rattle.mega_leased_laws.specs.of_run_laws.Usages.{Brought, Fits as FitsUsage}
+use Rattle.mega_leased_laws.specs.of_run_laws.Vouched.{sent}
+use Rattle.mega_leased_laws.proofs.of_run_laws.Runs.{begin_good, both_true, crashes_good, fated_start_good, found, handed_good, marked_good, not_because, not_false, nothing_good, run_written, tick_good}
+use Rattle.mega_leased_laws.proofs.of_run_laws.Standing.{Good}
+use Rattle.mega_leased_laws.proofs.of_run_laws.Steps.{begun_next, stands_sent}
+use Rattle.mega_leased_laws.proofs.of_run_laws.Ticking.{ticked_next}
+use Rattle.mega_leased_laws.proofs.of_run_laws.Whole.{take_next}
+use Rattle.mega_leased_laws.specs.of_run_laws.of_tape_laws.Lawful.{message}
+use Rattle.mega_leased_laws.specs.of_run_laws.of_tape_laws.Places.{In, Place, Proposes, move_in, moves}
 use Rattle.mega_disk.specs.declared.pair.Device.TheVariants.{Log, Data}
 use Rattle.mega_member_laws.proofs.Histories.{ActsHere, acts_here}
-use Rattle.mega_schedule.specs.declared.world_event.WorldEvent.{WorldEvent}
-use Rattle.mega_schedule.specs.declared.world_event.WorldEvent.TheVariants.{Tick as TickEvent, Deliver, Drop, Drain, Crash as CrashEvent, Start as StartEvent, Fuse as FuseEvent, Begin as BeginEvent}
+use Rattle.mega_leased_laws.specs.of_run_laws.of_tape_laws.of_promises.of_schedule.declared.world_event.WorldEvent.{WorldEvent}
+use Rattle.mega_leased_laws.specs.of_run_laws.of_tape_laws.of_promises.of_schedule.declared.world_event.WorldEvent.TheVariants.{Tick as TickEvent, Deliver, Drop, Drain, Crash as CrashEvent, Start as StartEvent, Fuse as FuseEvent, Begin as BeginEvent}
 use Rattle.mega_schema.specs.declared.schema.Schema.{Schema}
-use Rattle.mega_run_laws.proofs.Noted.{tape_item, with_append, with_sent}
-use Rattle.mega_tape_laws.specs.Chosen.{Chosen}
-use Rattle.mega_tape_laws.specs.Writes.{OwnEntry, Usage, enters, fills, handles, runs as runs_one, runs_all}
-use Rattle.mega_tape_laws.proofs.Agreement.{decided_chosen}
-use Rattle.mega_tape_laws.proofs.Made.{vote_proposed}
-use Rattle.mega_tape_laws.proofs.Logs.{first_stands}
-use Rattle.mega_tape_laws.proofs.Origins.{Origin, origin}
+use Rattle.mega_leased_laws.proofs.of_run_laws.Noted.{tape_item, with_append, with_sent}
+use Rattle.mega_leased_laws.specs.of_run_laws.of_tape_laws.Chosen.{Chosen}
+use Rattle.mega_leased_laws.specs.of_run_laws.of_tape_laws.Writes.{OwnEntry, Usage, enters, fills, handles, runs as runs_one, runs_all}
+use Rattle.mega_leased_laws.proofs.of_run_laws.of_tape_laws.Agreement.{decided_chosen}
+use Rattle.mega_leased_laws.proofs.of_run_laws.of_tape_laws.Made.{vote_proposed}
+use Rattle.mega_leased_laws.proofs.of_run_laws.of_tape_laws.Logs.{first_stands}
+use Rattle.mega_leased_laws.proofs.of_run_laws.of_tape_laws.Origins.{Origin, origin}
 use Rattle.mega_calm_laws.specs.Ready.{HasLeader, leader_behind}
 use Rattle.mega_calm_laws.proofs.Beginning.{full_votes}
 use Rattle.mega_calm_laws.proofs.Mail.{Among, Each, IsPlain, each_both, notes_are_plain, number_is, some_is}

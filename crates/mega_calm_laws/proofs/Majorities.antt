@@ -1,7 +1,7 @@
 -- Two majorities of the voters meet, where the one is a list in which each stands once.
 use Rattle.std.proofs.Common.{◌≡◌, ◌⊎◌, inl, inr, ℕ, suc, ◌+◌, ◌*◌, ◌==◌, ◌||◌, ◌≤◌, ◌<◌, nat_lt, Bool, true, false, not, cond, List, [], ◌∷◌, ◌++◌, filter, length, refl, sym, ap, ◌∙◌, subst, arith}
 use Rattle.std.proofs.lemmas.Bool.Decides.{nat_tests}
-use Rattle.mega_propose.specs.Members.{has, is_majority, others}
+use Rattle.mega_leased_laws.specs.of_run_laws.of_tape_laws.of_promises.of_rules.of_read.of_propose.Members.{has, is_majority, others}
 use Rattle.mega_calm_laws.proofs.Mail.{Among, apart_turned, either_false, number_is, number_self}
 use Rattle.mega_calm_laws.proofs.Polls.{among_filter}
 

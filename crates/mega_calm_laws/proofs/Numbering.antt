@@ -5,18 +5,18 @@ use Rattle.mega_cluster.specs.declared.cluster.Cluster.{Cluster}
 use Rattle.mega_disk.specs.declared.pair.Device.TheVariants.{Log, Data}
 use Rattle.mega_handler.specs.Named.{Meanings}
 use Rattle.mega_wire.specs.declared.message.Message.{Message}
-use Rattle.mega_schedule.specs.declared.world_event.WorldEvent.{WorldEvent}
-use Rattle.mega_schedule.specs.declared.world_event.WorldEvent.TheVariants.{Tick as TickEvent, Deliver, Drop, Drain, Crash as CrashEvent, Start as StartEvent, Fuse as FuseEvent, Begin as BeginEvent}
-use Rattle.mega_transcript.specs.declared.item.Item.{Item}
-use Rattle.mega_transcript.specs.declared.item.Item.TheVariants.{Begin as BeginItem, Crash, Cut as CutItem, Taken, Tick as TickItem}
-use Rattle.mega_transcript.specs.Tape.{is_sent, sent_count}
-use Rattle.mega_rules.specs.Members.{nodes}
-use Rattle.mega_rules.specs.Met.{Met}
-use Rattle.mega_rules.specs.Operations.{Node}
-use Rattle.mega_rules.specs.Steps.{Begin, Event, Step, Take, Tick, crashed, op_of, start, start_items, step}
-use Rattle.mega_promises.specs.Items.{number, shown}
-use Rattle.mega_promises.specs.Messages.{message_of, next_delivery}
-use Rattle.mega_promises.specs.Runs.{Calls, Cuts, CutByData, CutByLog, Fate, Happening, Standing, Whole, after_event, at_node, because, calls_of, delivered, drained, fate_by, fated, fated_start, goes_on, handed, marked, met_in, nothing_yet, opening, refusal, replies_in, set_at, setting, start_calls, unless_none, unless_refused, up, with_item}
+use Rattle.mega_leased_laws.specs.of_run_laws.of_tape_laws.of_promises.of_schedule.declared.world_event.WorldEvent.{WorldEvent}
+use Rattle.mega_leased_laws.specs.of_run_laws.of_tape_laws.of_promises.of_schedule.declared.world_event.WorldEvent.TheVariants.{Tick as TickEvent, Deliver, Drop, Drain, Crash as CrashEvent, Start as StartEvent, Fuse as FuseEvent, Begin as BeginEvent}
+use Rattle.mega_leased_laws.specs.of_run_laws.of_tape_laws.of_promises.of_transcript.declared.item.Item.{Item}
+use Rattle.mega_leased_laws.specs.of_run_laws.of_tape_laws.of_promises.of_transcript.declared.item.Item.TheVariants.{Begin as BeginItem, Crash, Cut as CutItem, Taken, Tick as TickItem}
+use Rattle.mega_leased_laws.specs.of_run_laws.of_tape_laws.of_promises.of_transcript.Tape.{is_sent, sent_count}
+use Rattle.mega_leased_laws.specs.of_run_laws.of_tape_laws.of_promises.of_rules.Members.{nodes}
+use Rattle.mega_leased_laws.specs.of_run_laws.of_tape_laws.of_promises.of_rules.Met.{Met}
+use Rattle.mega_leased_laws.specs.of_run_laws.of_tape_laws.of_promises.of_rules.Operations.{Node}
+use Rattle.mega_leased_laws.specs.of_run_laws.of_tape_laws.of_promises.of_rules.Steps.{Begin, Event, Step, Take, Tick, crashed, op_of, start, start_items, step}
+use Rattle.mega_leased_laws.specs.of_run_laws.of_tape_laws.of_promises.Items.{number, shown}
+use Rattle.mega_leased_laws.specs.of_run_laws.of_tape_laws.of_promises.Messages.{message_of, next_delivery}
+use Rattle.mega_leased_laws.specs.of_run_laws.of_tape_laws.of_promises.Runs.{Calls, Cuts, CutByData, CutByLog, Fate, Happening, Standing, Whole, after_event, at_node, because, calls_of, delivered, drained, fate_by, fated, fated_start, goes_on, handed, marked, met_in, nothing_yet, opening, refusal, replies_in, set_at, setting, start_calls, unless_none, unless_refused, up, with_item}
 use Rattle.mega_calm_laws.specs.Waiting.{IsNumbered}
 use Rattle.mega_calm_laws.proofs.Mail.{none_numbered, notes_are_plain, numbered_cut, numbered_dropped, numbered_items, numbered_plain, numbered_step, numbered_taken}
 use Rattle.mega_calm_laws.proofs.Draining.{next_waits}

@@ -7,17 +7,17 @@ use Rattle.mega_index.specs.Rows.{after, no_rows}
 use Rattle.mega_outcome.specs.declared.request.Request.TheVariants.{Txn}
 use Rattle.mega_outcome.specs.Outcome.{outcome}
 use Rattle.mega_wal.specs.Acceptor.{Act, best}
-use Rattle.mega_transcript.specs.declared.item.Item.{Item}
-use Rattle.mega_transcript.specs.declared.item.Item.TheVariants.{Sent}
-use Rattle.mega_rules.specs.Clock.{is_up}
-use Rattle.mega_rules.specs.Examples.{cluster, entry_of, group}
-use Rattle.mega_rules.specs.Members.{is_node}
-use Rattle.mega_rules.specs.Steps.{is_worn}
-use Rattle.mega_rules.specs.Voting.{acts}
-use Rattle.mega_promises.specs.Calm.{Ends, IsCalm, IsCalmAt}
-use Rattle.mega_promises.specs.Promises.{Stands, log_of}
-use Rattle.mega_promises.specs.Runs.{by_fuse}
-use Rattle.mega_run_laws.specs.Vouched.{Each}
+use Rattle.mega_leased_laws.specs.of_run_laws.of_tape_laws.of_promises.of_transcript.declared.item.Item.{Item}
+use Rattle.mega_leased_laws.specs.of_run_laws.of_tape_laws.of_promises.of_transcript.declared.item.Item.TheVariants.{Sent}
+use Rattle.mega_leased_laws.specs.of_run_laws.of_tape_laws.of_promises.of_rules.Clock.{is_up}
+use Rattle.mega_leased_laws.specs.of_run_laws.of_tape_laws.of_promises.of_rules.Examples.{cluster, entry_of, group}
+use Rattle.mega_leased_laws.specs.of_run_laws.of_tape_laws.of_promises.of_rules.Members.{is_node}
+use Rattle.mega_leased_laws.specs.of_run_laws.of_tape_laws.of_promises.of_rules.Steps.{is_worn}
+use Rattle.mega_leased_laws.specs.of_run_laws.of_tape_laws.of_promises.of_rules.Voting.{acts}
+use Rattle.mega_leased_laws.specs.of_run_laws.of_tape_laws.of_promises.Calm.{Ends, IsCalm, IsCalmAt}
+use Rattle.mega_leased_laws.specs.of_run_laws.of_tape_laws.of_promises.Promises.{Stands, log_of}
+use Rattle.mega_leased_laws.specs.of_run_laws.of_tape_laws.of_promises.Runs.{by_fuse}
+use Rattle.mega_leased_laws.specs.of_run_laws.Vouched.{Each}
 use Rattle.mega_calm_laws.specs.Examples.{opened, put_user}
 use Rattle.mega_calm_laws.proofs.Mail.{IsPlain}
 use Rattle.mega_calm_laws.proofs.Polls.{voter_is_node}

@@ -13,16 +13,16 @@ use Rattle.mega_wire.specs.declared.message.Body.TheVariants.{Accept, Accepted, 
 use Rattle.mega_wal.specs.declared.answers.Voted.{Voted as AcceptAnswer}
 use Rattle.mega_wal.specs.declared.answers.Voted.TheVariants as vote
 use Rattle.mega_wal.specs.Acceptor.{accept_answer}
-use Rattle.mega_transcript.specs.declared.item.Item.TheVariants.{Taken}
-use Rattle.mega_rules.specs.Clock.{clock_of, is_up}
-use Rattle.mega_rules.specs.Logs.{decided, top_of}
-use Rattle.mega_rules.specs.Members.{is_node, is_voter}
-use Rattle.mega_rules.specs.Met.{Met, Sends, Takes}
-use Rattle.mega_rules.specs.Operations.{Node, Now, Setting}
-use Rattle.mega_rules.specs.Replies.{fetched, reply_message, reply_to, where_served}
-use Rattle.mega_rules.specs.Steps.{Decision, Heard, Step, Take, all_act, apply_notes, at_first, decision_note, hears_message, if_new, onto, step, stored_after, take_step, taken}
-use Rattle.mega_rules.specs.Voting.{acts as acts_met, vote_body}
-use Rattle.mega_promises.specs.Runs.{Standing, set_at, setting, whole_step}
+use Rattle.mega_leased_laws.specs.of_run_laws.of_tape_laws.of_promises.of_transcript.declared.item.Item.TheVariants.{Taken}
+use Rattle.mega_leased_laws.specs.of_run_laws.of_tape_laws.of_promises.of_rules.Clock.{clock_of, is_up}
+use Rattle.mega_leased_laws.specs.of_run_laws.of_tape_laws.of_promises.of_rules.Logs.{decided, top_of}
+use Rattle.mega_leased_laws.specs.of_run_laws.of_tape_laws.of_promises.of_rules.Members.{is_node, is_voter}
+use Rattle.mega_leased_laws.specs.of_run_laws.of_tape_laws.of_promises.of_rules.Met.{Met, Sends, Takes}
+use Rattle.mega_leased_laws.specs.of_run_laws.of_tape_laws.of_promises.of_rules.Operations.{Node, Now, Setting}
+use Rattle.mega_leased_laws.specs.of_run_laws.of_tape_laws.of_promises.of_rules.Replies.{fetched, reply_message, reply_to, where_served}
+use Rattle.mega_leased_laws.specs.of_run_laws.of_tape_laws.of_promises.of_rules.Steps.{Decision, Heard, Step, Take, all_act, apply_notes, at_first, decision_note, hears_message, if_new, onto, step, stored_after, take_step, taken}
+use Rattle.mega_leased_laws.specs.of_run_laws.of_tape_laws.of_promises.of_rules.Voting.{acts as acts_met, vote_body}
+use Rattle.mega_leased_laws.specs.of_run_laws.of_tape_laws.of_promises.Runs.{Standing, set_at, setting, whole_step}
 use Rattle.mega_calm_laws.specs.Waiting.{IsNumbered, Waits}
 use Rattle.mega_calm_laws.proofs.Mail.{apart_turned, Each, Mailed, each_of, mailed_step, mailed_taken}
 use Rattle.mega_calm_laws.proofs.Draining.{IsUnfused, unfused_after}

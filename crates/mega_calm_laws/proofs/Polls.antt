@@ -3,8 +3,8 @@ use Rattle.std.proofs.Common.{◌≡◌, ◌⊎◌, inl, inr, ℕ, zero, suc, �
 use Rattle.std.specs.List.{list_all, list_any, range_with_len}
 use Rattle.std.proofs.lemmas.Bool.Decides.{nat_tests}
 use Rattle.mega_cluster.specs.declared.cluster.Cluster.{Cluster}
-use Rattle.mega_propose.specs.Members.{has, is_majority, others}
-use Rattle.mega_rules.specs.Members.{is_node, is_voter, kind_of, nodes, voters, votes}
+use Rattle.mega_leased_laws.specs.of_run_laws.of_tape_laws.of_promises.of_rules.of_read.of_propose.Members.{has, is_majority, others}
+use Rattle.mega_leased_laws.specs.of_run_laws.of_tape_laws.of_promises.of_rules.Members.{is_node, is_voter, kind_of, nodes, voters, votes}
 use Rattle.mega_calm_laws.proofs.Mail.{Among, number_is, number_self}
 use Rattle.mega_calm_laws.proofs.Prefixes.{counted_most, counts_all}
 

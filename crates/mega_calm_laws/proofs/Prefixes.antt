@@ -5,9 +5,9 @@ use Rattle.std.proofs.lemmas.Bool.Decides.{nat_tests}
 use Rattle.mega_base.specs.declared.names.GroupId.{GroupId}
 use Rattle.mega_entry.specs.declared.content.Content.{Content}
 use Rattle.mega_wal.specs.Same.{same_group}
-use Rattle.mega_propose.specs.Members.{has}
-use Rattle.mega_rules.specs.Met.{Met, Decides}
-use Rattle.mega_rules.specs.Logs.{decided, decided_from, first_of, prefix_of, then_more}
+use Rattle.mega_leased_laws.specs.of_run_laws.of_tape_laws.of_promises.of_rules.of_read.of_propose.Members.{has}
+use Rattle.mega_leased_laws.specs.of_run_laws.of_tape_laws.of_promises.of_rules.Met.{Met, Decides}
+use Rattle.mega_leased_laws.specs.of_run_laws.of_tape_laws.of_promises.of_rules.Logs.{decided, decided_from, first_of, prefix_of, then_more}
 use Rattle.mega_calm_laws.proofs.Mail.{number_is}
 
 -- ---- how many numbers of a range pass a test

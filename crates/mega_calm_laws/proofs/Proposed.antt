@@ -6,12 +6,12 @@ use Rattle.mega_handler.specs.Named.{Meanings}
 use Rattle.mega_wal.specs.Same.{same_op, same_option}
 use Rattle.mega_wal.proofs.Sames.{same_op_self}
 use Rattle.mega_outcome.specs.declared.answer.Answer.TheVariants.{Conflict}
-use Rattle.mega_transcript.specs.declared.item.Item.TheVariants.{Answer as AnswerItem, Decide as DecideItem}
-use Rattle.mega_rules.specs.Acting.{committed, verdict}
-use Rattle.mega_rules.specs.Operations.{Operation}
-use Rattle.mega_promises.specs.Calm.{is_cut}
-use Rattle.mega_promises.specs.Promises.{Stands}
-use Rattle.mega_promises.specs.Runs.{Cuts, Standing, drained}
+use Rattle.mega_leased_laws.specs.of_run_laws.of_tape_laws.of_promises.of_transcript.declared.item.Item.TheVariants.{Answer as AnswerItem, Decide as DecideItem}
+use Rattle.mega_leased_laws.specs.of_run_laws.of_tape_laws.of_promises.of_rules.Acting.{committed, verdict}
+use Rattle.mega_leased_laws.specs.of_run_laws.of_tape_laws.of_promises.of_rules.Operations.{Operation}
+use Rattle.mega_leased_laws.specs.of_run_laws.of_tape_laws.of_promises.Calm.{is_cut}
+use Rattle.mega_leased_laws.specs.of_run_laws.of_tape_laws.of_promises.Promises.{Stands}
+use Rattle.mega_leased_laws.specs.of_run_laws.of_tape_laws.of_promises.Runs.{Cuts, Standing, drained}
 use Rattle.mega_calm_laws.specs.Proposed.{Asked, IsProposedAlone}
 use Rattle.mega_calm_laws.proofs.Beginning.{full_votes}
 use Rattle.mega_calm_laws.proofs.Proposing.{Alone, Finished, asks, asks_vote, ends_finished}

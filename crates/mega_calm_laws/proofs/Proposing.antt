@@ -15,31 +15,31 @@ use Rattle.mega_wire.specs.declared.message.Body.TheVariants.{Accept, Accepted, 
 use Rattle.mega_wal.specs.Same.{same_entry, same_group, same_op}
 use Rattle.mega_wal.proofs.Sames.{same_entry_self, same_group_equal, same_group_self, same_op_self}
 use Rattle.mega_outcome.specs.declared.request.Request.{Request}
-use Rattle.mega_propose.specs.declared.round.Move.{Move as RoundMove}
-use Rattle.mega_propose.specs.declared.round.Proposal.{Proposal}
-use Rattle.mega_propose.specs.declared.round.Round.{Round}
-use Rattle.mega_propose.specs.declared.round.Round.TheVariants.{Asking, Accepting, Covering, Settled}
-use Rattle.mega_propose.specs.declared.round.Site.{Site}
-use Rattle.mega_propose.specs.Members.{has, is_majority, others, with_node}
-use Rattle.mega_propose.specs.Rounds.{accepts, covers, first_cover, is_covered, is_free, is_here, is_sent, move, sees, settled, stays as stays_so}
-use Rattle.mega_read.specs.Catching.{site}
-use Rattle.mega_transcript.specs.declared.item.Item.{Item}
-use Rattle.mega_transcript.specs.declared.item.Item.TheVariants.{Answer as AnswerItem, Decide as DecideItem, Taken}
-use Rattle.mega_transcript.specs.Tape.{sent_count}
-use Rattle.mega_rules.specs.Acting.{acts_within, goes_on, reader_of, sends_more, unless_decided, verdict}
-use Rattle.mega_rules.specs.Clock.{clock_of, is_up}
-use Rattle.mega_rules.specs.Logs.{decided, first_of, groups_of, top_of}
-use Rattle.mega_rules.specs.Members.{full_nodes, is_full, is_node, is_voter, nodes, voters}
-use Rattle.mega_rules.specs.Met.{Met, Answers, Decides, Sends, Takes}
-use Rattle.mega_rules.specs.Operations.{Node, Now, Operation, Phase, Promised, Proposes, Setting}
-use Rattle.mega_rules.specs.Replies.{fetched, reply_message, reply_to, where_served}
-use Rattle.mega_rules.specs.Steps.{Decision, Heard, Step, Take, apply_notes, decide_to, decision_at, decision_note, first_settled, hears_message, if_new, news, onto, round_heard, step, take_step, taken}
-use Rattle.mega_rules.specs.Voting.{acts as acts_met, vote_body, voted}
-use Rattle.mega_promises.specs.Calm.{is_cut}
-use Rattle.mega_promises.specs.Items.{number, numbered}
-use Rattle.mega_promises.specs.Messages.{message_of}
-use Rattle.mega_promises.specs.Promises.{Stands}
-use Rattle.mega_promises.specs.Runs.{Cuts, Standing, drained, set_at, setting, whole_step}
+use Rattle.mega_leased_laws.specs.of_run_laws.of_tape_laws.of_promises.of_rules.of_read.of_propose.declared.round.Move.{Move as RoundMove}
+use Rattle.mega_leased_laws.specs.of_run_laws.of_tape_laws.of_promises.of_rules.of_read.of_propose.declared.round.Proposal.{Proposal}
+use Rattle.mega_leased_laws.specs.of_run_laws.of_tape_laws.of_promises.of_rules.of_read.of_propose.declared.round.Round.{Round}
+use Rattle.mega_leased_laws.specs.of_run_laws.of_tape_laws.of_promises.of_rules.of_read.of_propose.declared.round.Round.TheVariants.{Asking, Accepting, Covering, Settled}
+use Rattle.mega_leased_laws.specs.of_run_laws.of_tape_laws.of_promises.of_rules.of_read.of_propose.declared.round.Site.{Site}
+use Rattle.mega_leased_laws.specs.of_run_laws.of_tape_laws.of_promises.of_rules.of_read.of_propose.Members.{has, is_majority, others, with_node}
+use Rattle.mega_leased_laws.specs.of_run_laws.of_tape_laws.of_promises.of_rules.of_read.of_propose.Rounds.{accepts, covers, first_cover, is_covered, is_free, is_here, is_sent, move, sees, settled, stays as stays_so}
+use Rattle.mega_leased_laws.specs.of_run_laws.of_tape_laws.of_promises.of_rules.of_read.Catching.{site}
+use Rattle.mega_leased_laws.specs.of_run_laws.of_tape_laws.of_promises.of_transcript.declared.item.Item.{Item}
+use Rattle.mega_leased_laws.specs.of_run_laws.of_tape_laws.of_promises.of_transcript.declared.item.Item.TheVariants.{Answer as AnswerItem, Decide as DecideItem, Taken}
+use Rattle.mega_leased_laws.specs.of_run_laws.of_tape_laws.of_promises.of_transcript.Tape.{sent_count}
+use Rattle.mega_leased_laws.specs.of_run_laws.of_tape_laws.of_promises.of_rules.Acting.{acts_within, goes_on, reader_of, sends_more, unless_decided, verdict}
+use Rattle.mega_leased_laws.specs.of_run_laws.of_tape_laws.of_promises.of_rules.Clock.{clock_of, is_up}
+use Rattle.mega_leased_laws.specs.of_run_laws.of_tape_laws.of_promises.of_rules.Logs.{decided, first_of, groups_of, top_of}
+use Rattle.mega_leased_laws.specs.of_run_laws.of_tape_laws.of_promises.of_rules.Members.{full_nodes, is_full, is_node, is_voter, nodes, voters}
+use Rattle.mega_leased_laws.specs.of_run_laws.of_tape_laws.of_promises.of_rules.Met.{Met, Answers, Decides, Sends, Takes}
+use Rattle.mega_leased_laws.specs.of_run_laws.of_tape_laws.of_promises.of_rules.Operations.{Node, Now, Operation, Phase, Promised, Proposes, Setting}
+use Rattle.mega_leased_laws.specs.of_run_laws.of_tape_laws.of_promises.of_rules.Replies.{fetched, reply_message, reply_to, where_served}
+use Rattle.mega_leased_laws.specs.of_run_laws.of_tape_laws.of_promises.of_rules.Steps.{Decision, Heard, Step, Take, apply_notes, decide_to, decision_at, decision_note, first_settled, hears_message, if_new, news, onto, round_heard, step, take_step, taken}
+use Rattle.mega_leased_laws.specs.of_run_laws.of_tape_laws.of_promises.of_rules.Voting.{acts as acts_met, vote_body, voted}
+use Rattle.mega_leased_laws.specs.of_run_laws.of_tape_laws.of_promises.Calm.{is_cut}
+use Rattle.mega_leased_laws.specs.of_run_laws.of_tape_laws.of_promises.Items.{number, numbered}
+use Rattle.mega_leased_laws.specs.of_run_laws.of_tape_laws.of_promises.Messages.{message_of}
+use Rattle.mega_leased_laws.specs.of_run_laws.of_tape_laws.of_promises.Promises.{Stands}
+use Rattle.mega_leased_laws.specs.of_run_laws.of_tape_laws.of_promises.Runs.{Cuts, Standing, drained, set_at, setting, whole_step}
 use Rattle.mega_calm_laws.specs.Waiting.{IsAwaited, IsNumbered, Waits}
 use Rattle.mega_calm_laws.proofs.Mail.{Among, Each, Mailed, among_left, among_right, answer_stands, apart_turned, decision_stands, each_both, each_of, mailed_step, mailed_taken, number_is, number_self, some_is}
 use Rattle.mega_calm_laws.proofs.Draining.{Ends, IsUnfused, drain_ends, none_waits, unfused_after}

@@ -8,24 +8,24 @@ use Rattle.mega_coordinator.specs.declared.answers.NotValid.{NotValid}
 use Rattle.mega_handler.specs.Named.{Meanings}
 use Rattle.mega_wire.specs.declared.message.Message.{Message}
 use Rattle.mega_outcome.specs.declared.request.Request.{Request}
-use Rattle.mega_transcript.specs.declared.item.Item.TheVariants.{Begin as BeginItem, Taken}
-use Rattle.mega_transcript.specs.Tape.{is_sent, is_taken, sent_count}
+use Rattle.mega_leased_laws.specs.of_run_laws.of_tape_laws.of_promises.of_transcript.declared.item.Item.TheVariants.{Begin as BeginItem, Taken}
+use Rattle.mega_leased_laws.specs.of_run_laws.of_tape_laws.of_promises.of_transcript.Tape.{is_sent, is_taken, sent_count}
 use Rattle.mega_member_laws.specs.Messages.{IsWithin}
 use Rattle.mega_member_laws.proofs.Steps.{step_within}
-use Rattle.mega_rules.specs.Acting.{validated_by}
-use Rattle.mega_rules.specs.Clock.{clock_of, is_up}
-use Rattle.mega_rules.specs.Members.{is_node}
-use Rattle.mega_rules.specs.Met.{Met, Answers, Begins, Crashes, Sends, Starts, Takes, Validates}
-use Rattle.mega_rules.specs.Operations.{Node, Now, Setting}
-use Rattle.mega_rules.specs.Replies.{reply_to}
-use Rattle.mega_rules.specs.Steps.{Begin, Decision, Heard, Step, Take, all_act, apply_notes, at_first, at_open, begin_step, decision_note, first_settled, hears_message, if_new, new_operation, news, onto, op_of, refusal, step, stored_after, take_step, taken, told_decision, told_notes, unless_refused}
-use Rattle.mega_promises.specs.Calm.{IsCalm, begun, is_cut}
-use Rattle.mega_promises.specs.Items.{shown}
-use Rattle.mega_promises.specs.Messages.{is_dropped, message_of}
-use Rattle.mega_promises.specs.Runs.{Cuts, Standing, Whole, drained, set_at, setting, whole_step}
-use Rattle.mega_run_laws.specs.Vouched.{Each as EachSo}
-use Rattle.mega_run_laws.proofs.Events.{IsPlain, apply_plain, told_plain}
-use Rattle.mega_run_laws.proofs.Noting.{Lasts, all_act_it, begun_it}
+use Rattle.mega_leased_laws.specs.of_run_laws.of_tape_laws.of_promises.of_rules.Acting.{validated_by}
+use Rattle.mega_leased_laws.specs.of_run_laws.of_tape_laws.of_promises.of_rules.Clock.{clock_of, is_up}
+use Rattle.mega_leased_laws.specs.of_run_laws.of_tape_laws.of_promises.of_rules.Members.{is_node}
+use Rattle.mega_leased_laws.specs.of_run_laws.of_tape_laws.of_promises.of_rules.Met.{Met, Answers, Begins, Crashes, Sends, Starts, Takes, Validates}
+use Rattle.mega_leased_laws.specs.of_run_laws.of_tape_laws.of_promises.of_rules.Operations.{Node, Now, Setting}
+use Rattle.mega_leased_laws.specs.of_run_laws.of_tape_laws.of_promises.of_rules.Replies.{reply_to}
+use Rattle.mega_leased_laws.specs.of_run_laws.of_tape_laws.of_promises.of_rules.Steps.{Begin, Decision, Heard, Step, Take, all_act, apply_notes, at_first, at_open, begin_step, decision_note, first_settled, hears_message, if_new, new_operation, news, onto, op_of, refusal, step, stored_after, take_step, taken, told_decision, told_notes, unless_refused}
+use Rattle.mega_leased_laws.specs.of_run_laws.of_tape_laws.of_promises.Calm.{IsCalm, begun, is_cut}
+use Rattle.mega_leased_laws.specs.of_run_laws.of_tape_laws.of_promises.Items.{shown}
+use Rattle.mega_leased_laws.specs.of_run_laws.of_tape_laws.of_promises.Messages.{is_dropped, message_of}
+use Rattle.mega_leased_laws.specs.of_run_laws.of_tape_laws.of_promises.Runs.{Cuts, Standing, Whole, drained, set_at, setting, whole_step}
+use Rattle.mega_leased_laws.specs.of_run_laws.Vouched.{Each as EachSo}
+use Rattle.mega_leased_laws.proofs.of_run_laws.Events.{IsPlain, apply_plain, told_plain}
+use Rattle.mega_leased_laws.proofs.of_run_laws.Noting.{Lasts, all_act_it, begun_it}
 use Rattle.mega_calm_laws.specs.Waiting.{IsNumbered, Waits}
 use Rattle.mega_calm_laws.proofs.Mail.{Each, each_both, mailed_taken, numbered_plain, numbered_step}
 use Rattle.mega_calm_laws.proofs.Draining.{Ends, IsUnfused, at_node_whole, drain_ends, none_waits, unfused_after}

@@ -10,21 +10,21 @@ use Rattle.mega_outcome.specs.declared.answer.Answer.TheVariants.{Read as ReadAn
 use Rattle.mega_outcome.specs.declared.answer.Shown.{Shown}
 use Rattle.mega_outcome.specs.declared.request.ReadRequest.{ReadRequest}
 use Rattle.mega_outcome.specs.declared.request.Request.TheVariants.{Read as ReadRequested}
-use Rattle.mega_read.specs.declared.reading.Reader.{Reader}
-use Rattle.mega_read.specs.declared.reading.Reading.{Reading}
-use Rattle.mega_read.specs.declared.reading.Move.{Move as ReadMove}
-use Rattle.mega_read.specs.declared.reading.Search.{Search}
-use Rattle.mega_read.specs.declared.reading.Search.TheVariants.{Fetching, Filling}
-use Rattle.mega_read.specs.declared.reading.Stage.{Stage}
-use Rattle.mega_read.specs.declared.reading.Stage.TheVariants.{Polling, Catching}
-use Rattle.mega_read.specs.Catching.{asked_by, fetch_to, fetches, fills, helpers, is_position, move, searched, seeks, stays}
-use Rattle.mega_replica.specs.Applying.{after_read}
-use Rattle.mega_rules.specs.Met.{Met, Answers, Validates}
-use Rattle.mega_rules.specs.Clock.{clock_of}
-use Rattle.mega_rules.specs.Coordinators.{refused_at}
-use Rattle.mega_rules.specs.Logs.{groups_of, log_of, prefix_of}
-use Rattle.mega_rules.specs.Operations.{Now, Operation, Reads, Setting}
-use Rattle.mega_rules.specs.Acting.{acts, acts_within, completes_read, finishes, goes_on, listed_at, read_answer, reader_of, rows_at, seeks_on, stored_with, validated_by, validates}
+use Rattle.mega_leased_laws.specs.of_run_laws.of_tape_laws.of_promises.of_rules.of_read.declared.reading.Reader.{Reader}
+use Rattle.mega_leased_laws.specs.of_run_laws.of_tape_laws.of_promises.of_rules.of_read.declared.reading.Reading.{Reading}
+use Rattle.mega_leased_laws.specs.of_run_laws.of_tape_laws.of_promises.of_rules.of_read.declared.reading.Move.{Move as ReadMove}
+use Rattle.mega_leased_laws.specs.of_run_laws.of_tape_laws.of_promises.of_rules.of_read.declared.reading.Search.{Search}
+use Rattle.mega_leased_laws.specs.of_run_laws.of_tape_laws.of_promises.of_rules.of_read.declared.reading.Search.TheVariants.{Fetching, Filling}
+use Rattle.mega_leased_laws.specs.of_run_laws.of_tape_laws.of_promises.of_rules.of_read.declared.reading.Stage.{Stage}
+use Rattle.mega_leased_laws.specs.of_run_laws.of_tape_laws.of_promises.of_rules.of_read.declared.reading.Stage.TheVariants.{Polling, Catching}
+use Rattle.mega_leased_laws.specs.of_run_laws.of_tape_laws.of_promises.of_rules.of_read.Catching.{asked_by, fetch_to, fetches, fills, helpers, is_position, move, searched, seeks, stays}
+use Rattle.mega_leased_laws.specs.of_run_laws.of_tape_laws.of_promises.of_rules.of_replica.Applying.{after_read}
+use Rattle.mega_leased_laws.specs.of_run_laws.of_tape_laws.of_promises.of_rules.Met.{Met, Answers, Validates}
+use Rattle.mega_leased_laws.specs.of_run_laws.of_tape_laws.of_promises.of_rules.Clock.{clock_of}
+use Rattle.mega_leased_laws.specs.of_run_laws.of_tape_laws.of_promises.of_rules.Coordinators.{refused_at}
+use Rattle.mega_leased_laws.specs.of_run_laws.of_tape_laws.of_promises.of_rules.Logs.{groups_of, log_of, prefix_of}
+use Rattle.mega_leased_laws.specs.of_run_laws.of_tape_laws.of_promises.of_rules.Operations.{Now, Operation, Reads, Setting}
+use Rattle.mega_leased_laws.specs.of_run_laws.of_tape_laws.of_promises.of_rules.Acting.{acts, acts_within, completes_read, finishes, goes_on, listed_at, read_answer, reader_of, rows_at, seeks_on, stored_with, validated_by, validates}
 use Rattle.mega_calm_laws.proofs.Mail.{Each, each_both}
 use Rattle.mega_calm_laws.proofs.Noting.{IsStill}
 

@@ -10,26 +10,26 @@ use Rattle.mega_wire.specs.declared.message.Body.{Body}
 use Rattle.mega_wire.specs.declared.message.Body.TheVariants.{Accepted, Promise}
 use Rattle.mega_wal.specs.Acceptor.{Promised, Voted}
 use Rattle.mega_wal.specs.Same.{same_group}
-use Rattle.mega_transcript.specs.declared.item.Item.{Item}
-use Rattle.mega_transcript.specs.declared.item.Item.TheVariants.{Decide}
-use Rattle.mega_propose.specs.Members.{is_majority}
-use Rattle.mega_rules.specs.Coordinators.{valid_at}
-use Rattle.mega_rules.specs.Logs.{accepted_at, decided, top_of}
-use Rattle.mega_rules.specs.Members.{is_full, is_voter, voters}
-use Rattle.mega_rules.specs.Met.{Met, Decides, Sends, Unsends}
-use Rattle.mega_rules.specs.Voting.{act_if, act_in, acts as acts_met}
-use Rattle.mega_promises.specs.Calm.{IsCalmAt}
-use Rattle.mega_promises.specs.Items.{number}
-use Rattle.mega_promises.specs.Promises.{first_decided, log_from, log_of, or_else, then_more}
-use Rattle.mega_promises.specs.Runs.{Cuts, Happening, Standing}
-use Rattle.mega_run_laws.specs.Usages.{Fits}
-use Rattle.mega_run_laws.proofs.Standing.{Good}
-use Rattle.mega_tape_laws.specs.Chosen.{Chosen}
-use Rattle.mega_tape_laws.specs.Places.{In, count}
-use Rattle.mega_tape_laws.specs.Writes.{Usage}
-use Rattle.mega_tape_laws.proofs.Agreement.{decided_chosen}
-use Rattle.mega_tape_laws.proofs.Lists.{from_cons}
-use Rattle.mega_tape_laws.proofs.Logs.{Decided, first_stands, shown_first}
+use Rattle.mega_leased_laws.specs.of_run_laws.of_tape_laws.of_promises.of_transcript.declared.item.Item.{Item}
+use Rattle.mega_leased_laws.specs.of_run_laws.of_tape_laws.of_promises.of_transcript.declared.item.Item.TheVariants.{Decide}
+use Rattle.mega_leased_laws.specs.of_run_laws.of_tape_laws.of_promises.of_rules.of_read.of_propose.Members.{is_majority}
+use Rattle.mega_leased_laws.specs.of_run_laws.of_tape_laws.of_promises.of_rules.Coordinators.{valid_at}
+use Rattle.mega_leased_laws.specs.of_run_laws.of_tape_laws.of_promises.of_rules.Logs.{accepted_at, decided, top_of}
+use Rattle.mega_leased_laws.specs.of_run_laws.of_tape_laws.of_promises.of_rules.Members.{is_full, is_voter, voters}
+use Rattle.mega_leased_laws.specs.of_run_laws.of_tape_laws.of_promises.of_rules.Met.{Met, Decides, Sends, Unsends}
+use Rattle.mega_leased_laws.specs.of_run_laws.of_tape_laws.of_promises.of_rules.Voting.{act_if, act_in, acts as acts_met}
+use Rattle.mega_leased_laws.specs.of_run_laws.of_tape_laws.of_promises.Calm.{IsCalmAt}
+use Rattle.mega_leased_laws.specs.of_run_laws.of_tape_laws.of_promises.Items.{number}
+use Rattle.mega_leased_laws.specs.of_run_laws.of_tape_laws.of_promises.Promises.{first_decided, log_from, log_of, or_else, then_more}
+use Rattle.mega_leased_laws.specs.of_run_laws.of_tape_laws.of_promises.Runs.{Cuts, Happening, Standing}
+use Rattle.mega_leased_laws.specs.of_run_laws.Usages.{Fits}
+use Rattle.mega_leased_laws.proofs.of_run_laws.Standing.{Good}
+use Rattle.mega_leased_laws.specs.of_run_laws.of_tape_laws.Chosen.{Chosen}
+use Rattle.mega_leased_laws.specs.of_run_laws.of_tape_laws.Places.{In, count}
+use Rattle.mega_leased_laws.specs.of_run_laws.of_tape_laws.Writes.{Usage}
+use Rattle.mega_leased_laws.proofs.of_run_laws.of_tape_laws.Agreement.{decided_chosen}
+use Rattle.mega_leased_laws.proofs.of_run_laws.of_tape_laws.Lists.{from_cons}
+use Rattle.mega_leased_laws.proofs.of_run_laws.of_tape_laws.Logs.{Decided, first_stands, shown_first}
 use Rattle.mega_leased_laws.proofs.Tops.{run_fresh}
 use Rattle.mega_calm_laws.specs.Next.{run_of}
 use Rattle.mega_calm_laws.specs.Ready.{IsReady, knows_end, leader_behind}

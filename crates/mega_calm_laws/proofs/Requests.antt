@@ -13,25 +13,25 @@ use Rattle.mega_outcome.specs.declared.answer.Done.{Done}
 use Rattle.mega_outcome.specs.declared.request.Request.TheVariants.{PumpEnter, PumpHandle, Txn}
 use Rattle.mega_outcome.specs.declared.transaction.Transaction.{Transaction}
 use Rattle.mega_outcome.specs.Outcome.{entry_of_done, outcome}
-use Rattle.mega_read.specs.declared.reading.Reading.{Reading}
-use Rattle.mega_read.specs.declared.reading.Search.{Search}
-use Rattle.mega_read.specs.declared.reading.Stage.TheVariants.{Catching}
-use Rattle.mega_read.specs.Catching.{asked_by}
-use Rattle.mega_replica.specs.Applying.{applied_log}
-use Rattle.mega_transcript.specs.declared.item.Item.TheVariants.{Answer as AnswerItem, Decide as DecideItem}
-use Rattle.mega_rules.specs.Acting.{applied_logs, ends, enters, goes_on, handles, handling, listed_at, picks_group, picks_message, picks_to_enter, proposes, rows_at, sealed, table_rows}
-use Rattle.mega_rules.specs.Clock.{clock_of, next_number, start_of}
-use Rattle.mega_rules.specs.Coordinators.{valid_at}
-use Rattle.mega_rules.specs.Logs.{groups_of, log_of}
-use Rattle.mega_rules.specs.Members.{is_full}
-use Rattle.mega_rules.specs.Met.{Met, Begins}
-use Rattle.mega_rules.specs.Operations.{Node, Now, Operation, Replies, Setting}
-use Rattle.mega_rules.specs.Queues.{Log, Posted, enter_entry, is_named, names_entered, next_to_enter, next_to_handle, oldest_unhandled}
-use Rattle.mega_rules.specs.Steps.{new_operation, op_of, unless_refused}
-use Rattle.mega_promises.specs.Calm.{IsCalmAt, begun, first_now, is_cut}
-use Rattle.mega_promises.specs.Items.{number}
-use Rattle.mega_promises.specs.Promises.{Stands, handled_by}
-use Rattle.mega_promises.specs.Runs.{Cuts, Standing, drained, setting}
+use Rattle.mega_leased_laws.specs.of_run_laws.of_tape_laws.of_promises.of_rules.of_read.declared.reading.Reading.{Reading}
+use Rattle.mega_leased_laws.specs.of_run_laws.of_tape_laws.of_promises.of_rules.of_read.declared.reading.Search.{Search}
+use Rattle.mega_leased_laws.specs.of_run_laws.of_tape_laws.of_promises.of_rules.of_read.declared.reading.Stage.TheVariants.{Catching}
+use Rattle.mega_leased_laws.specs.of_run_laws.of_tape_laws.of_promises.of_rules.of_read.Catching.{asked_by}
+use Rattle.mega_leased_laws.specs.of_run_laws.of_tape_laws.of_promises.of_rules.of_replica.Applying.{applied_log}
+use Rattle.mega_leased_laws.specs.of_run_laws.of_tape_laws.of_promises.of_transcript.declared.item.Item.TheVariants.{Answer as AnswerItem, Decide as DecideItem}
+use Rattle.mega_leased_laws.specs.of_run_laws.of_tape_laws.of_promises.of_rules.Acting.{applied_logs, ends, enters, goes_on, handles, handling, listed_at, picks_group, picks_message, picks_to_enter, proposes, rows_at, sealed, table_rows}
+use Rattle.mega_leased_laws.specs.of_run_laws.of_tape_laws.of_promises.of_rules.Clock.{clock_of, next_number, start_of}
+use Rattle.mega_leased_laws.specs.of_run_laws.of_tape_laws.of_promises.of_rules.Coordinators.{valid_at}
+use Rattle.mega_leased_laws.specs.of_run_laws.of_tape_laws.of_promises.of_rules.Logs.{groups_of, log_of}
+use Rattle.mega_leased_laws.specs.of_run_laws.of_tape_laws.of_promises.of_rules.Members.{is_full}
+use Rattle.mega_leased_laws.specs.of_run_laws.of_tape_laws.of_promises.of_rules.Met.{Met, Begins}
+use Rattle.mega_leased_laws.specs.of_run_laws.of_tape_laws.of_promises.of_rules.Operations.{Node, Now, Operation, Replies, Setting}
+use Rattle.mega_leased_laws.specs.of_run_laws.of_tape_laws.of_promises.of_rules.Queues.{Log, Posted, enter_entry, is_named, names_entered, next_to_enter, next_to_handle, oldest_unhandled}
+use Rattle.mega_leased_laws.specs.of_run_laws.of_tape_laws.of_promises.of_rules.Steps.{new_operation, op_of, unless_refused}
+use Rattle.mega_leased_laws.specs.of_run_laws.of_tape_laws.of_promises.Calm.{IsCalmAt, begun, first_now, is_cut}
+use Rattle.mega_leased_laws.specs.of_run_laws.of_tape_laws.of_promises.Items.{number}
+use Rattle.mega_leased_laws.specs.of_run_laws.of_tape_laws.of_promises.Promises.{Stands, handled_by}
+use Rattle.mega_leased_laws.specs.of_run_laws.of_tape_laws.of_promises.Runs.{Cuts, Standing, drained, setting}
 use Rattle.mega_calm_laws.specs.Ready.{IsReady}
 use Rattle.mega_calm_laws.specs.Stocked.{IsStocked}
 use Rattle.mega_calm_laws.specs.Waiting.{IsNumbered}

@@ -6,19 +6,19 @@ use Rattle.mega_cluster.specs.declared.cluster.Cluster.{Cluster}
 use Rattle.mega_entry.specs.declared.content.Content.{Content}
 use Rattle.mega_wire.specs.declared.message.Message.{Message}
 use Rattle.mega_wal.specs.Same.{same_group}
-use Rattle.mega_propose.specs.Members.{has, is_majority}
-use Rattle.mega_read.specs.declared.reading.Search.TheVariants.{Fetching, Filling}
-use Rattle.mega_read.specs.declared.reading.Stage.{Stage}
-use Rattle.mega_read.specs.declared.reading.Stage.TheVariants.{Polling, Catching}
-use Rattle.mega_transcript.specs.declared.item.Item.{Item}
-use Rattle.mega_rules.specs.Clock.{is_up}
-use Rattle.mega_rules.specs.Logs.{decided, decided_from, first_of, then_more, top_of}
-use Rattle.mega_rules.specs.Members.{is_node, is_voter, voters}
-use Rattle.mega_rules.specs.Met.{Met, Takes, Validates}
-use Rattle.mega_rules.specs.Operations.{Node}
-use Rattle.mega_rules.specs.Steps.{Decision, decision_note, if_new, onto}
-use Rattle.mega_rules.specs.Voting.{acts as acts_met}
-use Rattle.mega_promises.specs.Runs.{set_at}
+use Rattle.mega_leased_laws.specs.of_run_laws.of_tape_laws.of_promises.of_rules.of_read.of_propose.Members.{has, is_majority}
+use Rattle.mega_leased_laws.specs.of_run_laws.of_tape_laws.of_promises.of_rules.of_read.declared.reading.Search.TheVariants.{Fetching, Filling}
+use Rattle.mega_leased_laws.specs.of_run_laws.of_tape_laws.of_promises.of_rules.of_read.declared.reading.Stage.{Stage}
+use Rattle.mega_leased_laws.specs.of_run_laws.of_tape_laws.of_promises.of_rules.of_read.declared.reading.Stage.TheVariants.{Polling, Catching}
+use Rattle.mega_leased_laws.specs.of_run_laws.of_tape_laws.of_promises.of_transcript.declared.item.Item.{Item}
+use Rattle.mega_leased_laws.specs.of_run_laws.of_tape_laws.of_promises.of_rules.Clock.{is_up}
+use Rattle.mega_leased_laws.specs.of_run_laws.of_tape_laws.of_promises.of_rules.Logs.{decided, decided_from, first_of, then_more, top_of}
+use Rattle.mega_leased_laws.specs.of_run_laws.of_tape_laws.of_promises.of_rules.Members.{is_node, is_voter, voters}
+use Rattle.mega_leased_laws.specs.of_run_laws.of_tape_laws.of_promises.of_rules.Met.{Met, Takes, Validates}
+use Rattle.mega_leased_laws.specs.of_run_laws.of_tape_laws.of_promises.of_rules.Operations.{Node}
+use Rattle.mega_leased_laws.specs.of_run_laws.of_tape_laws.of_promises.of_rules.Steps.{Decision, decision_note, if_new, onto}
+use Rattle.mega_leased_laws.specs.of_run_laws.of_tape_laws.of_promises.of_rules.Voting.{acts as acts_met}
+use Rattle.mega_leased_laws.specs.of_run_laws.of_tape_laws.of_promises.Runs.{set_at}
 use Rattle.mega_calm_laws.specs.Waiting.{IsAwaited}
 use Rattle.mega_calm_laws.proofs.Alone.{Held, TopAwaited, fetch_at, have_from, have_not_from, top_from, where_to}
 use Rattle.mega_calm_laws.proofs.Mail.{apart_below, number_is, some_is}

@@ -4,18 +4,18 @@ use Rattle.mega_cluster.specs.declared.cluster.Cluster.{Cluster}
 use Rattle.mega_disk.specs.declared.pair.Device.TheVariants.{Log, Data}
 use Rattle.mega_handler.specs.Named.{Meanings}
 use Rattle.mega_wire.specs.declared.message.Message.{Message}
-use Rattle.mega_schedule.specs.declared.world_event.WorldEvent.{WorldEvent}
-use Rattle.mega_schedule.specs.declared.world_event.WorldEvent.TheVariants.{Tick as TickEvent, Deliver, Drop, Drain, Crash as CrashEvent, Start as StartEvent, Fuse as FuseEvent, Begin as BeginEvent}
-use Rattle.mega_transcript.specs.declared.item.Item.TheVariants.{Cut as CutItem, Dropped}
-use Rattle.mega_transcript.specs.Tape.{is_sent, is_taken}
-use Rattle.mega_rules.specs.Members.{is_node, nodes}
-use Rattle.mega_promises.specs.Messages.{is_deliverable, is_dropped, message_of, next_delivery, receiver_up}
-use Rattle.mega_promises.specs.Runs.{Cuts, Happening, Standing, Whole, after_event, delivered, drained, fate_by, fated_start, goes_on, handed, marked, nothing_yet, opening, receiver_down, refusal, start_calls, unless_none, unless_refused, up}
-use Rattle.mega_run_laws.specs.Usages.{Brought}
-use Rattle.mega_run_laws.proofs.Noted.{tape_item}
-use Rattle.mega_run_laws.proofs.Owned.{Users}
-use Rattle.mega_run_laws.proofs.Runs.{begin_good, both_true, crashes_good, fated_start_good, found, handed_good, marked_good, not_because, not_false, nothing_good, tick_good}
-use Rattle.mega_run_laws.proofs.Standing.{Good}
+use Rattle.mega_leased_laws.specs.of_run_laws.of_tape_laws.of_promises.of_schedule.declared.world_event.WorldEvent.{WorldEvent}
+use Rattle.mega_leased_laws.specs.of_run_laws.of_tape_laws.of_promises.of_schedule.declared.world_event.WorldEvent.TheVariants.{Tick as TickEvent, Deliver, Drop, Drain, Crash as CrashEvent, Start as StartEvent, Fuse as FuseEvent, Begin as BeginEvent}
+use Rattle.mega_leased_laws.specs.of_run_laws.of_tape_laws.of_promises.of_transcript.declared.item.Item.TheVariants.{Cut as CutItem, Dropped}
+use Rattle.mega_leased_laws.specs.of_run_laws.of_tape_laws.of_promises.of_transcript.Tape.{is_sent, is_taken}
+use Rattle.mega_leased_laws.specs.of_run_laws.of_tape_laws.of_promises.of_rules.Members.{is_node, nodes}
+use Rattle.mega_leased_laws.specs.of_run_laws.of_tape_laws.of_promises.Messages.{is_deliverable, is_dropped, message_of, next_delivery, receiver_up}
+use Rattle.mega_leased_laws.specs.of_run_laws.of_tape_laws.of_promises.Runs.{Cuts, Happening, Standing, Whole, after_event, delivered, drained, fate_by, fated_start, goes_on, handed, marked, nothing_yet, opening, receiver_down, refusal, start_calls, unless_none, unless_refused, up}
+use Rattle.mega_leased_laws.specs.of_run_laws.Usages.{Brought}
+use Rattle.mega_leased_laws.proofs.of_run_laws.Noted.{tape_item}
+use Rattle.mega_leased_laws.proofs.of_run_laws.Owned.{Users}
+use Rattle.mega_leased_laws.proofs.of_run_laws.Runs.{begin_good, both_true, crashes_good, fated_start_good, found, handed_good, marked_good, not_because, not_false, nothing_good, tick_good}
+use Rattle.mega_leased_laws.proofs.of_run_laws.Standing.{Good}
 
 -- of any events, whatever was meant
 abbrev pub anybody : Users

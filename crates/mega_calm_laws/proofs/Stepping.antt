@@ -6,11 +6,11 @@ use Rattle.mega_entry.specs.declared.content.Content.{Content}
 use Rattle.mega_wire.specs.declared.message.Message.{Message}
 use Rattle.mega_wire.specs.declared.message.Body.{Body}
 use Rattle.mega_wire.specs.declared.message.Body.TheVariants.{Accept, Accepted, Decide, Fetch, Have, HaveNot, Refused, Top, Where}
-use Rattle.mega_rules.specs.Met.{Met, Sends, Takes}
-use Rattle.mega_rules.specs.Clock.{clock_of}
-use Rattle.mega_rules.specs.Operations.{Node, Now, Setting}
-use Rattle.mega_rules.specs.Replies.{reply_to}
-use Rattle.mega_rules.specs.Steps.{Decision, Heard, Step, all_act, apply_notes, at_first, decision_note, first_settled, hears_message, if_new, news, onto, stored_after, take_step, taken}
+use Rattle.mega_leased_laws.specs.of_run_laws.of_tape_laws.of_promises.of_rules.Met.{Met, Sends, Takes}
+use Rattle.mega_leased_laws.specs.of_run_laws.of_tape_laws.of_promises.of_rules.Clock.{clock_of}
+use Rattle.mega_leased_laws.specs.of_run_laws.of_tape_laws.of_promises.of_rules.Operations.{Node, Now, Setting}
+use Rattle.mega_leased_laws.specs.of_run_laws.of_tape_laws.of_promises.of_rules.Replies.{reply_to}
+use Rattle.mega_leased_laws.specs.of_run_laws.of_tape_laws.of_promises.of_rules.Steps.{Decision, Heard, Step, all_act, apply_notes, at_first, decision_note, first_settled, hears_message, if_new, news, onto, stored_after, take_step, taken}
 use Rattle.mega_calm_laws.proofs.Mail.{Among, Each, among_right}
 use Rattle.mega_calm_laws.proofs.Noting.{IsNoVote, IsStill, SameLogs, applies_still, logs_then, onto_append, sends_still, still_onto, still_one}
 use Rattle.mega_calm_laws.proofs.Reading.{append_none}

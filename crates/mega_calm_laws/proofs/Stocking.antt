@@ -13,25 +13,25 @@ use Rattle.mega_wire.specs.declared.message.Body.{Body}
 use Rattle.mega_wire.specs.declared.message.Body.TheVariants.{Accepted}
 use Rattle.mega_wal.specs.Acceptor.{Act, Promised, Vote, Voted, best, greater_vote, is_ballot_below}
 use Rattle.mega_wal.specs.Same.{same_group}
-use Rattle.mega_transcript.specs.declared.item.Item.TheVariants.{Decide}
-use Rattle.mega_rules.specs.Logs.{accepted_at, decided, first_of, top_of}
-use Rattle.mega_rules.specs.Members.{is_voter, voters}
-use Rattle.mega_rules.specs.Met.{Met, Decides, Sends, Unsends}
-use Rattle.mega_rules.specs.Voting.{act_if, act_in, acts as acts_met}
-use Rattle.mega_promises.specs.Calm.{IsCalm}
-use Rattle.mega_promises.specs.Items.{number}
-use Rattle.mega_promises.specs.Promises.{Stands}
-use Rattle.mega_promises.specs.Runs.{Cuts, Happening, Standing, goes_on, opening}
-use Rattle.mega_tape_laws.specs.Chosen.{Chosen}
-use Rattle.mega_tape_laws.specs.Places.{In, IsMajority, Place, acts, count}
-use Rattle.mega_tape_laws.specs.Writes.{AreWritten, Usage}
-use Rattle.mega_tape_laws.proofs.Agreement.{decided_chosen}
-use Rattle.mega_tape_laws.proofs.Made.{vote_proposed}
-use Rattle.mega_tape_laws.proofs.Origins.{Origin, origin}
-use Rattle.mega_run_laws.specs.Usages.{Fits}
-use Rattle.mega_run_laws.proofs.Owned.{Users}
-use Rattle.mega_run_laws.proofs.Runs.{run_written}
-use Rattle.mega_run_laws.proofs.Standing.{Good}
+use Rattle.mega_leased_laws.specs.of_run_laws.of_tape_laws.of_promises.of_transcript.declared.item.Item.TheVariants.{Decide}
+use Rattle.mega_leased_laws.specs.of_run_laws.of_tape_laws.of_promises.of_rules.Logs.{accepted_at, decided, first_of, top_of}
+use Rattle.mega_leased_laws.specs.of_run_laws.of_tape_laws.of_promises.of_rules.Members.{is_voter, voters}
+use Rattle.mega_leased_laws.specs.of_run_laws.of_tape_laws.of_promises.of_rules.Met.{Met, Decides, Sends, Unsends}
+use Rattle.mega_leased_laws.specs.of_run_laws.of_tape_laws.of_promises.of_rules.Voting.{act_if, act_in, acts as acts_met}
+use Rattle.mega_leased_laws.specs.of_run_laws.of_tape_laws.of_promises.Calm.{IsCalm}
+use Rattle.mega_leased_laws.specs.of_run_laws.of_tape_laws.of_promises.Items.{number}
+use Rattle.mega_leased_laws.specs.of_run_laws.of_tape_laws.of_promises.Promises.{Stands}
+use Rattle.mega_leased_laws.specs.of_run_laws.of_tape_laws.of_promises.Runs.{Cuts, Happening, Standing, goes_on, opening}
+use Rattle.mega_leased_laws.specs.of_run_laws.of_tape_laws.Chosen.{Chosen}
+use Rattle.mega_leased_laws.specs.of_run_laws.of_tape_laws.Places.{In, IsMajority, Place, acts, count}
+use Rattle.mega_leased_laws.specs.of_run_laws.of_tape_laws.Writes.{AreWritten, Usage}
+use Rattle.mega_leased_laws.proofs.of_run_laws.of_tape_laws.Agreement.{decided_chosen}
+use Rattle.mega_leased_laws.proofs.of_run_laws.of_tape_laws.Made.{vote_proposed}
+use Rattle.mega_leased_laws.proofs.of_run_laws.of_tape_laws.Origins.{Origin, origin}
+use Rattle.mega_leased_laws.specs.of_run_laws.Usages.{Fits}
+use Rattle.mega_leased_laws.proofs.of_run_laws.Owned.{Users}
+use Rattle.mega_leased_laws.proofs.of_run_laws.Runs.{run_written}
+use Rattle.mega_leased_laws.proofs.of_run_laws.Standing.{Good}
 use Rattle.mega_calm_laws.specs.Stocked.{IsKnown, IsStocked}
 use Rattle.mega_calm_laws.proofs.Mail.{Among, number_is, number_self}
 use Rattle.mega_calm_laws.proofs.Polls.{voter_of}

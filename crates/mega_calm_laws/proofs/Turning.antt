@@ -9,19 +9,19 @@ use Rattle.mega_wire.specs.declared.message.Message.{Message}
 use Rattle.mega_wire.specs.declared.message.Body.{Body}
 use Rattle.mega_wire.specs.declared.message.Body.TheVariants.{Accepted, Have, Promise}
 use Rattle.mega_outcome.specs.declared.request.Request.{Request}
-use Rattle.mega_read.specs.declared.reading.Search.{Search}
-use Rattle.mega_read.specs.declared.reading.Search.TheVariants.{Fetching, Filling}
-use Rattle.mega_read.specs.declared.reading.Stage.{Stage}
-use Rattle.mega_read.specs.declared.reading.Stage.TheVariants.{Polling, Catching}
-use Rattle.mega_read.specs.Catching.{fetch_to, helpers}
-use Rattle.mega_rules.specs.Acting.{sends_more}
-use Rattle.mega_rules.specs.Clock.{clock_of}
-use Rattle.mega_rules.specs.Logs.{prefix_of}
-use Rattle.mega_rules.specs.Met.{Met, Sends, Takes}
-use Rattle.mega_rules.specs.Operations.{Node, Now, Operation, Promised, Setting}
-use Rattle.mega_rules.specs.Replies.{reply_to}
-use Rattle.mega_rules.specs.Steps.{Decision, Heard, Step, decision_note, first_settled, hears_message, if_new, onto, take_step, taken}
-use Rattle.mega_rules.specs.Voting.{acts as acts_met}
+use Rattle.mega_leased_laws.specs.of_run_laws.of_tape_laws.of_promises.of_rules.of_read.declared.reading.Search.{Search}
+use Rattle.mega_leased_laws.specs.of_run_laws.of_tape_laws.of_promises.of_rules.of_read.declared.reading.Search.TheVariants.{Fetching, Filling}
+use Rattle.mega_leased_laws.specs.of_run_laws.of_tape_laws.of_promises.of_rules.of_read.declared.reading.Stage.{Stage}
+use Rattle.mega_leased_laws.specs.of_run_laws.of_tape_laws.of_promises.of_rules.of_read.declared.reading.Stage.TheVariants.{Polling, Catching}
+use Rattle.mega_leased_laws.specs.of_run_laws.of_tape_laws.of_promises.of_rules.of_read.Catching.{fetch_to, helpers}
+use Rattle.mega_leased_laws.specs.of_run_laws.of_tape_laws.of_promises.of_rules.Acting.{sends_more}
+use Rattle.mega_leased_laws.specs.of_run_laws.of_tape_laws.of_promises.of_rules.Clock.{clock_of}
+use Rattle.mega_leased_laws.specs.of_run_laws.of_tape_laws.of_promises.of_rules.Logs.{prefix_of}
+use Rattle.mega_leased_laws.specs.of_run_laws.of_tape_laws.of_promises.of_rules.Met.{Met, Sends, Takes}
+use Rattle.mega_leased_laws.specs.of_run_laws.of_tape_laws.of_promises.of_rules.Operations.{Node, Now, Operation, Promised, Setting}
+use Rattle.mega_leased_laws.specs.of_run_laws.of_tape_laws.of_promises.of_rules.Replies.{reply_to}
+use Rattle.mega_leased_laws.specs.of_run_laws.of_tape_laws.of_promises.of_rules.Steps.{Decision, Heard, Step, decision_note, first_settled, hears_message, if_new, onto, take_step, taken}
+use Rattle.mega_leased_laws.specs.of_run_laws.of_tape_laws.of_promises.of_rules.Voting.{acts as acts_met}
 use Rattle.mega_calm_laws.proofs.Mail.{Each, each_both}
 use Rattle.mega_calm_laws.proofs.Noting.{IsNoVote, IsStill, SameLogs}
 use Rattle.mega_calm_laws.proofs.Over.{met_is, noted, noted_on}

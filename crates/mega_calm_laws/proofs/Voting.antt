@@ -12,13 +12,13 @@ use Rattle.mega_wal.specs.declared.answers.Voted.TheVariants as vote
 use Rattle.mega_wal.specs.Acceptor.{Act, Vote, Voted, accept_answer, answer_beside, best, greater_ballot, greater_vote, is_ballot_below, is_same_ballot, shown}
 use Rattle.mega_wal.specs.Same.{same_group}
 use Rattle.mega_wal.proofs.Sames.{same_entry_self, same_group_self}
-use Rattle.mega_rules.specs.Clock.{is_up}
-use Rattle.mega_rules.specs.Logs.{decided, first_of, groups_of}
-use Rattle.mega_rules.specs.Members.{has_rows}
-use Rattle.mega_rules.specs.Met.{Met, Answers, Applies, Sends, Takes, Validates}
-use Rattle.mega_rules.specs.Operations.{Setting}
-use Rattle.mega_rules.specs.Steps.{Decision, applied_at, apply_note, apply_notes, decision_note, if_new, onto}
-use Rattle.mega_rules.specs.Voting.{act_if, act_in, acts as acts_met}
+use Rattle.mega_leased_laws.specs.of_run_laws.of_tape_laws.of_promises.of_rules.Clock.{is_up}
+use Rattle.mega_leased_laws.specs.of_run_laws.of_tape_laws.of_promises.of_rules.Logs.{decided, first_of, groups_of}
+use Rattle.mega_leased_laws.specs.of_run_laws.of_tape_laws.of_promises.of_rules.Members.{has_rows}
+use Rattle.mega_leased_laws.specs.of_run_laws.of_tape_laws.of_promises.of_rules.Met.{Met, Answers, Applies, Sends, Takes, Validates}
+use Rattle.mega_leased_laws.specs.of_run_laws.of_tape_laws.of_promises.of_rules.Operations.{Setting}
+use Rattle.mega_leased_laws.specs.of_run_laws.of_tape_laws.of_promises.of_rules.Steps.{Decision, applied_at, apply_note, apply_notes, decision_note, if_new, onto}
+use Rattle.mega_leased_laws.specs.of_run_laws.of_tape_laws.of_promises.of_rules.Voting.{act_if, act_in, acts as acts_met}
 use Rattle.mega_calm_laws.proofs.Mail.{Each, each_both, number_self}
 
 -- ---- a voter

@@ -6,21 +6,21 @@ use Rattle.mega_cluster.specs.declared.cluster.Cluster.{Cluster}
 use Rattle.mega_entry.specs.declared.content.Content.{Content}
 use Rattle.mega_handler.specs.Named.{Meanings}
 use Rattle.mega_wal.specs.Acceptor.{Voted}
-use Rattle.mega_transcript.specs.declared.item.Item.{Item}
-use Rattle.mega_rules.specs.Logs.{decided, decided_from, log_of as log_at, prefix_of, then_more}
-use Rattle.mega_rules.specs.Members.{is_voter}
-use Rattle.mega_rules.specs.Met.{Met}
-use Rattle.mega_promises.specs.Calm.{IsCalmAt}
-use Rattle.mega_promises.specs.Promises.{first_decided, log_from, log_of, then_more as then_shown}
-use Rattle.mega_promises.specs.Runs.{Cuts, Happening, Standing, goes_on, opening}
-use Rattle.mega_run_laws.proofs.Owned.{Users}
-use Rattle.mega_run_laws.proofs.Standing.{Good}
-use Rattle.mega_tape_laws.specs.Chosen.{Chosen}
-use Rattle.mega_tape_laws.specs.Places.{In}
-use Rattle.mega_tape_laws.specs.Writes.{IsFront, Knows}
-use Rattle.mega_tape_laws.proofs.Agreement.{decided_chosen}
-use Rattle.mega_tape_laws.proofs.Complete.{known_is_front}
-use Rattle.mega_tape_laws.proofs.Logs.{Decided, first_stands}
+use Rattle.mega_leased_laws.specs.of_run_laws.of_tape_laws.of_promises.of_transcript.declared.item.Item.{Item}
+use Rattle.mega_leased_laws.specs.of_run_laws.of_tape_laws.of_promises.of_rules.Logs.{decided, decided_from, log_of as log_at, prefix_of, then_more}
+use Rattle.mega_leased_laws.specs.of_run_laws.of_tape_laws.of_promises.of_rules.Members.{is_voter}
+use Rattle.mega_leased_laws.specs.of_run_laws.of_tape_laws.of_promises.of_rules.Met.{Met}
+use Rattle.mega_leased_laws.specs.of_run_laws.of_tape_laws.of_promises.Calm.{IsCalmAt}
+use Rattle.mega_leased_laws.specs.of_run_laws.of_tape_laws.of_promises.Promises.{first_decided, log_from, log_of, then_more as then_shown}
+use Rattle.mega_leased_laws.specs.of_run_laws.of_tape_laws.of_promises.Runs.{Cuts, Happening, Standing, goes_on, opening}
+use Rattle.mega_leased_laws.proofs.of_run_laws.Owned.{Users}
+use Rattle.mega_leased_laws.proofs.of_run_laws.Standing.{Good}
+use Rattle.mega_leased_laws.specs.of_run_laws.of_tape_laws.Chosen.{Chosen}
+use Rattle.mega_leased_laws.specs.of_run_laws.of_tape_laws.Places.{In}
+use Rattle.mega_leased_laws.specs.of_run_laws.of_tape_laws.Writes.{IsFront, Knows}
+use Rattle.mega_leased_laws.proofs.of_run_laws.of_tape_laws.Agreement.{decided_chosen}
+use Rattle.mega_leased_laws.proofs.of_run_laws.of_tape_laws.Complete.{known_is_front}
+use Rattle.mega_leased_laws.proofs.of_run_laws.of_tape_laws.Logs.{Decided, first_stands}
 use Rattle.mega_calm_laws.proofs.Freeing.{Unspoken, acts_none}
 use Rattle.mega_calm_laws.proofs.Standings.{anybody, run_good}
 use Rattle.mega_calm_laws.proofs.Stocking.{majority_voter, place}

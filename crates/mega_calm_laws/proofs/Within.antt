@@ -8,18 +8,18 @@ use Rattle.mega_member_laws.specs.Messages.{AreWithin, IsWithin}
 use Rattle.mega_member_laws.specs.Nodes.{EventWithin, ItemWithin, MetWithin, StaysWithin, StepWithin}
 use Rattle.mega_member_laws.proofs.Replies.{reply_within}
 use Rattle.mega_member_laws.proofs.Steps.{crash_within, started, step_within}
-use Rattle.mega_schedule.specs.declared.world_event.WorldEvent.{WorldEvent}
-use Rattle.mega_schedule.specs.declared.world_event.WorldEvent.TheVariants.{Tick as TickEvent, Deliver, Drop, Drain, Crash as CrashEvent, Start as StartEvent, Fuse as FuseEvent, Begin as BeginEvent}
-use Rattle.mega_transcript.specs.declared.item.Item.{Item}
-use Rattle.mega_transcript.specs.declared.item.Item.TheVariants.{Begin as BeginItem, Cut as CutItem, Dropped, Taken, Tick as TickItem}
-use Rattle.mega_transcript.specs.Tape.{sent_count}
-use Rattle.mega_rules.specs.Members.{is_node, nodes}
-use Rattle.mega_rules.specs.Met.{Met, Crashes, Unsends}
-use Rattle.mega_rules.specs.Operations.{Node}
-use Rattle.mega_rules.specs.Steps.{Begin, Event, Step, Take, Tick, crashed, op_of, start, start_items, step}
-use Rattle.mega_promises.specs.Items.{number, shown}
-use Rattle.mega_promises.specs.Messages.{message_of, next_delivery}
-use Rattle.mega_promises.specs.Runs.{Calls, Cuts, CutByData, CutByLog, Fate, Happening, Standing, Whole, after_event, at_node, because, calls_of, delivered, drained, fate_by, fated, fated_start, goes_on, handed, is_durable, is_kept, marked, met_in, nothing_yet, opening, owes, refusal, replies_in, set_at, setting, start_calls, unless_none, unless_refused, up, with_item, with_items}
+use Rattle.mega_leased_laws.specs.of_run_laws.of_tape_laws.of_promises.of_schedule.declared.world_event.WorldEvent.{WorldEvent}
+use Rattle.mega_leased_laws.specs.of_run_laws.of_tape_laws.of_promises.of_schedule.declared.world_event.WorldEvent.TheVariants.{Tick as TickEvent, Deliver, Drop, Drain, Crash as CrashEvent, Start as StartEvent, Fuse as FuseEvent, Begin as BeginEvent}
+use Rattle.mega_leased_laws.specs.of_run_laws.of_tape_laws.of_promises.of_transcript.declared.item.Item.{Item}
+use Rattle.mega_leased_laws.specs.of_run_laws.of_tape_laws.of_promises.of_transcript.declared.item.Item.TheVariants.{Begin as BeginItem, Cut as CutItem, Dropped, Taken, Tick as TickItem}
+use Rattle.mega_leased_laws.specs.of_run_laws.of_tape_laws.of_promises.of_transcript.Tape.{sent_count}
+use Rattle.mega_leased_laws.specs.of_run_laws.of_tape_laws.of_promises.of_rules.Members.{is_node, nodes}
+use Rattle.mega_leased_laws.specs.of_run_laws.of_tape_laws.of_promises.of_rules.Met.{Met, Crashes, Unsends}
+use Rattle.mega_leased_laws.specs.of_run_laws.of_tape_laws.of_promises.of_rules.Operations.{Node}
+use Rattle.mega_leased_laws.specs.of_run_laws.of_tape_laws.of_promises.of_rules.Steps.{Begin, Event, Step, Take, Tick, crashed, op_of, start, start_items, step}
+use Rattle.mega_leased_laws.specs.of_run_laws.of_tape_laws.of_promises.Items.{number, shown}
+use Rattle.mega_leased_laws.specs.of_run_laws.of_tape_laws.of_promises.Messages.{message_of, next_delivery}
+use Rattle.mega_leased_laws.specs.of_run_laws.of_tape_laws.of_promises.Runs.{Calls, Cuts, CutByData, CutByLog, Fate, Happening, Standing, Whole, after_event, at_node, because, calls_of, delivered, drained, fate_by, fated, fated_start, goes_on, handed, is_durable, is_kept, marked, met_in, nothing_yet, opening, owes, refusal, replies_in, set_at, setting, start_calls, unless_none, unless_refused, up, with_item, with_items}
 use Rattle.mega_calm_laws.proofs.Mail.{Among, crash_shown, message_items, message_step, notes_are_plain}
 
 pub record StaysIn (c : Cluster) (now : Standing) : Type 0 where

@@ -4,9 +4,9 @@ use Rattle.mega_outcome.specs.declared.request.Mode.TheVariants.{Current}
 use Rattle.mega_outcome.specs.declared.request.ReadRequest.{ReadRequest}
 use Rattle.mega_outcome.specs.declared.transaction.Change.TheVariants.{Put}
 use Rattle.mega_outcome.specs.declared.transaction.Transaction.{Transaction}
-use Rattle.mega_rules.specs.Examples.{cluster, group, user}
-use Rattle.mega_promises.specs.Runs.{Standing, by_fuse}
-use Rattle.mega_promises.specs.Worked.{crash, drain, happens, put_at, start, user_101}
+use Rattle.mega_leased_laws.specs.of_run_laws.of_tape_laws.of_promises.of_rules.Examples.{cluster, group, user}
+use Rattle.mega_leased_laws.specs.of_run_laws.of_tape_laws.of_promises.Runs.{Standing, by_fuse}
+use Rattle.mega_leased_laws.specs.of_run_laws.of_tape_laws.of_promises.Worked.{crash, drain, happens, put_at, start, user_101}
 use Rattle.mega_calm_laws.specs.Next.{run_of}
 
 -- the cluster as it has opened, with no handlers

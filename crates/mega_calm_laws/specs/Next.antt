@@ -3,13 +3,13 @@ use Rattle.std.specs.Prelude.{◌≡◌, ℕ, zero, suc, ◌+◌, ◌≤◌, tru
 use Rattle.mega_base.specs.declared.names.GroupId.{GroupId}
 use Rattle.mega_cluster.specs.declared.cluster.Cluster.{Cluster}
 use Rattle.mega_handler.specs.Named.{Meanings}
-use Rattle.mega_rules.specs.Acting.{named_leader}
-use Rattle.mega_rules.specs.Coordinators.{valid_at}
-use Rattle.mega_rules.specs.Logs.{decided, prefix_of, top_of}
-use Rattle.mega_rules.specs.Members.{is_node, is_voter, voters}
-use Rattle.mega_rules.specs.Met.{Met}
-use Rattle.mega_rules.specs.Voting.{acts}
-use Rattle.mega_promises.specs.Runs.{Cuts, Happening, Standing, goes_on, opening}
+use Rattle.mega_leased_laws.specs.of_run_laws.of_tape_laws.of_promises.of_rules.Acting.{named_leader}
+use Rattle.mega_leased_laws.specs.of_run_laws.of_tape_laws.of_promises.of_rules.Coordinators.{valid_at}
+use Rattle.mega_leased_laws.specs.of_run_laws.of_tape_laws.of_promises.of_rules.Logs.{decided, prefix_of, top_of}
+use Rattle.mega_leased_laws.specs.of_run_laws.of_tape_laws.of_promises.of_rules.Members.{is_node, is_voter, voters}
+use Rattle.mega_leased_laws.specs.of_run_laws.of_tape_laws.of_promises.of_rules.Met.{Met}
+use Rattle.mega_leased_laws.specs.of_run_laws.of_tape_laws.of_promises.of_rules.Voting.{acts}
+use Rattle.mega_leased_laws.specs.of_run_laws.of_tape_laws.of_promises.Runs.{Cuts, Happening, Standing, goes_on, opening}
 
 -- the leader behind a position: the node that the entry there names, and the lowest voter for the first
 abbrev pub leader_behind : Cluster → List Met → GroupId → ℕ → Option ℕ

@@ -7,13 +7,13 @@ use Rattle.mega_cluster.specs.declared.cluster.Cluster.{Cluster}
 use Rattle.mega_entry.specs.declared.content.Content.{Content}
 use Rattle.mega_wire.specs.declared.message.Message.{Message}
 use Rattle.mega_wire.specs.declared.message.Body.TheVariants.{Accept}
-use Rattle.mega_propose.specs.declared.round.Round.TheVariants.{Asking}
-use Rattle.mega_rules.specs.Clock.{is_up}
-use Rattle.mega_rules.specs.Logs.{decided}
-use Rattle.mega_rules.specs.Members.{is_full, is_node, is_voter}
-use Rattle.mega_rules.specs.Operations.{Operation, Promised, Proposes}
-use Rattle.mega_rules.specs.Voting.{acts}
-use Rattle.mega_promises.specs.Runs.{Standing}
+use Rattle.mega_leased_laws.specs.of_run_laws.of_tape_laws.of_promises.of_rules.of_read.of_propose.declared.round.Round.TheVariants.{Asking}
+use Rattle.mega_leased_laws.specs.of_run_laws.of_tape_laws.of_promises.of_rules.Clock.{is_up}
+use Rattle.mega_leased_laws.specs.of_run_laws.of_tape_laws.of_promises.of_rules.Logs.{decided}
+use Rattle.mega_leased_laws.specs.of_run_laws.of_tape_laws.of_promises.of_rules.Members.{is_full, is_node, is_voter}
+use Rattle.mega_leased_laws.specs.of_run_laws.of_tape_laws.of_promises.of_rules.Operations.{Operation, Promised, Proposes}
+use Rattle.mega_leased_laws.specs.of_run_laws.of_tape_laws.of_promises.of_rules.Voting.{acts}
+use Rattle.mega_leased_laws.specs.of_run_laws.of_tape_laws.of_promises.Runs.{Standing}
 use Rattle.mega_calm_laws.specs.Waiting.{IsAwaited, IsNumbered, Waits}
 
 -- the leader is asked to accept an entry at ballot zero

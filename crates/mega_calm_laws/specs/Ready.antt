@@ -3,13 +3,13 @@ use Rattle.std.specs.Prelude.{◌≡◌, ℕ, zero, suc, ◌+◌, ◌≤◌, Boo
 use Rattle.mega_base.specs.declared.names.GroupId.{GroupId}
 use Rattle.mega_cluster.specs.declared.cluster.Cluster.{Cluster}
 use Rattle.mega_entry.specs.declared.content.Content.{Content}
-use Rattle.mega_propose.specs.Members.{is_majority}
-use Rattle.mega_rules.specs.Acting.{named_leader}
-use Rattle.mega_rules.specs.Coordinators.{valid_at}
-use Rattle.mega_rules.specs.Logs.{decided, top_of}
-use Rattle.mega_rules.specs.Members.{is_node, is_voter, voters}
-use Rattle.mega_rules.specs.Voting.{acts}
-use Rattle.mega_promises.specs.Runs.{Standing}
+use Rattle.mega_leased_laws.specs.of_run_laws.of_tape_laws.of_promises.of_rules.of_read.of_propose.Members.{is_majority}
+use Rattle.mega_leased_laws.specs.of_run_laws.of_tape_laws.of_promises.of_rules.Acting.{named_leader}
+use Rattle.mega_leased_laws.specs.of_run_laws.of_tape_laws.of_promises.of_rules.Coordinators.{valid_at}
+use Rattle.mega_leased_laws.specs.of_run_laws.of_tape_laws.of_promises.of_rules.Logs.{decided, top_of}
+use Rattle.mega_leased_laws.specs.of_run_laws.of_tape_laws.of_promises.of_rules.Members.{is_node, is_voter, voters}
+use Rattle.mega_leased_laws.specs.of_run_laws.of_tape_laws.of_promises.of_rules.Voting.{acts}
+use Rattle.mega_leased_laws.specs.of_run_laws.of_tape_laws.of_promises.Runs.{Standing}
 
 -- the leader of the position behind a log: the node that its last entry names, and of position 1 the lowest voter
 abbrev pub leader_behind : Cluster → List Content → ℕ → Option ℕ

@@ -3,9 +3,9 @@ use Rattle.std.specs.Prelude.{◌≡◌, ℕ, ◌≤◌, true, Some}
 use Rattle.mega_base.specs.declared.names.GroupId.{GroupId}
 use Rattle.mega_cluster.specs.declared.cluster.Cluster.{Cluster}
 use Rattle.mega_entry.specs.declared.content.Content.{Content}
-use Rattle.mega_rules.specs.Logs.{decided, top_of}
-use Rattle.mega_rules.specs.Members.{is_voter}
-use Rattle.mega_promises.specs.Runs.{Standing}
+use Rattle.mega_leased_laws.specs.of_run_laws.of_tape_laws.of_promises.of_rules.Logs.{decided, top_of}
+use Rattle.mega_leased_laws.specs.of_run_laws.of_tape_laws.of_promises.of_rules.Members.{is_voter}
+use Rattle.mega_leased_laws.specs.of_run_laws.of_tape_laws.of_promises.Runs.{Standing}
 
 -- some voter decided a position
 pub record IsKnown (c : Cluster) (now : Standing) (group : GroupId) (n : ℕ) : Type 0 where

@@ -1,9 +1,9 @@
 -- A message waits on a tape: it was sent, and was neither taken nor dropped.
 use Rattle.std.specs.Prelude.{◌≡◌, ℕ, ◌≤◌, ◌<◌, false, List, Some}
 use Rattle.mega_wire.specs.declared.message.Message.{Message}
-use Rattle.mega_transcript.specs.declared.item.Item.{Item}
-use Rattle.mega_transcript.specs.Tape.{is_taken, sent_count}
-use Rattle.mega_promises.specs.Messages.{is_dropped, message_of}
+use Rattle.mega_leased_laws.specs.of_run_laws.of_tape_laws.of_promises.of_transcript.declared.item.Item.{Item}
+use Rattle.mega_leased_laws.specs.of_run_laws.of_tape_laws.of_promises.of_transcript.Tape.{is_taken, sent_count}
+use Rattle.mega_leased_laws.specs.of_run_laws.of_tape_laws.of_promises.Messages.{is_dropped, message_of}
 
 pub record Waits (tape : List Item) (number : ℕ) (message : Message) : Type 0 where
   pub above : 1 ≤ number

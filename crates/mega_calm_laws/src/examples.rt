@@ -4,11 +4,11 @@ ghost use Rattle.std.specs.Prelude.{◌≡◌, [], ◌∷◌, map, reverse, Some
 ghost use Rattle.mega_index.specs.Rows.{after, no_rows};
 ghost use Rattle.mega_outcome.specs.declared.request.Request.TheVariants.{Read, Txn};
 ghost use Rattle.mega_outcome.specs.Outcome.{outcome};
-ghost use Rattle.mega_rules.specs.Examples.{cluster, entry_of, group, user};
-ghost use Rattle.mega_promises.specs.Calm.{Ends, IsCalm, IsCalmAt};
-ghost use Rattle.mega_promises.specs.Promises.{log_of, rows_shown};
-ghost use Rattle.mega_promises.specs.Runs.{by_fuse};
-ghost use Rattle.mega_promises.specs.Worked.{answers, committed_at, crashes, op, told};
+ghost use Rattle.mega_leased_laws.specs.of_run_laws.of_tape_laws.of_promises.of_rules.Examples.{cluster, entry_of, group, user};
+ghost use Rattle.mega_leased_laws.specs.of_run_laws.of_tape_laws.of_promises.Calm.{Ends, IsCalm, IsCalmAt};
+ghost use Rattle.mega_leased_laws.specs.of_run_laws.of_tape_laws.of_promises.Promises.{log_of, rows_shown};
+ghost use Rattle.mega_leased_laws.specs.of_run_laws.of_tape_laws.of_promises.Runs.{by_fuse};
+ghost use Rattle.mega_leased_laws.specs.of_run_laws.of_tape_laws.of_promises.Worked.{answers, committed_at, crashes, op, told};
 ghost use Rattle.mega_calm_laws.specs.Examples.{opened, put_user, started_again, user_read, whole_read};
 
 /// Three nodes that have opened stand calm, and a current read that begins there meets the premises: its drain is not cut, and its rows fit.

@@ -19,18 +19,18 @@ use Rattle.mega_outcome.specs.declared.request.Request.{Request}
 use Rattle.mega_outcome.specs.declared.request.Request.TheVariants.{Batch as BatchRequest, Find, PumpEnter, PumpHandle, Read as ReadRequested, Refresh, Txn}
 use Rattle.mega_outcome.specs.declared.transaction.Transaction.{Transaction}
 use Rattle.mega_outcome.specs.Outcome.{batch_outcome, outcome}
-use Rattle.mega_transcript.specs.declared.item.Item.{Item}
-use Rattle.mega_transcript.specs.declared.item.Item.TheVariants.{Answer as AnswerItem, Decide}
-use Rattle.mega_rules.specs.Acting.{rows_answer}
-use Rattle.mega_rules.specs.Steps.{is_current}
-use Rattle.mega_promises.specs.Causes.{AreTurned, HasCause, HasReplies, HasResults, IsCause, IsTurned, ShowsRead, front}
-use Rattle.mega_promises.specs.Moments.{StoodOn}
-use Rattle.mega_promises.specs.Promises.{Stands, asked_for, group_written, is_write, log_of, rows_shown}
-use Rattle.mega_promises.specs.Runs.{Happening, IsRun}
-use Rattle.mega_tape_laws.specs.Answers.{AreAnswered, HasCause as IsLawful, LawfulAnswers, MayCommitAll, MayConflict, MayRead, MayTurn, MayTurnAll, Replied, ShowsFront, of_pump, of_read, of_transaction, of_write}
-use Rattle.mega_tape_laws.specs.Lawful.{Lawful}
-use Rattle.mega_tape_laws.specs.Writes.{IsFront, Usage}
-use Rattle.mega_tape_laws.proofs.Complete.{known_is_front}
+use Rattle.mega_run_laws.specs.of_tape_laws.of_promises.of_transcript.declared.item.Item.{Item}
+use Rattle.mega_run_laws.specs.of_tape_laws.of_promises.of_transcript.declared.item.Item.TheVariants.{Answer as AnswerItem, Decide}
+use Rattle.mega_run_laws.specs.of_tape_laws.of_promises.of_rules.Acting.{rows_answer}
+use Rattle.mega_run_laws.specs.of_tape_laws.of_promises.of_rules.Steps.{is_current}
+use Rattle.mega_run_laws.specs.of_tape_laws.of_promises.Causes.{AreTurned, HasCause, HasReplies, HasResults, IsCause, IsTurned, ShowsRead, front}
+use Rattle.mega_run_laws.specs.of_tape_laws.of_promises.Moments.{StoodOn}
+use Rattle.mega_run_laws.specs.of_tape_laws.of_promises.Promises.{Stands, asked_for, group_written, is_write, log_of, rows_shown}
+use Rattle.mega_run_laws.specs.of_tape_laws.of_promises.Runs.{Happening, IsRun}
+use Rattle.mega_run_laws.specs.of_tape_laws.Answers.{AreAnswered, HasCause as IsLawful, LawfulAnswers, MayCommitAll, MayConflict, MayRead, MayTurn, MayTurnAll, Replied, ShowsFront, of_pump, of_read, of_transaction, of_write}
+use Rattle.mega_run_laws.specs.of_tape_laws.Lawful.{Lawful}
+use Rattle.mega_run_laws.specs.of_tape_laws.Writes.{IsFront, Usage}
+use Rattle.mega_run_laws.proofs.of_tape_laws.Complete.{known_is_front}
 use Rattle.mega_run_laws.specs.Usages.{Fits}
 use Rattle.mega_run_laws.proofs.Runs.{run_answered}
 use Rattle.mega_cause_laws.specs.Told.{is_told}

@@ -4,7 +4,7 @@ use Rattle.mega_outcome.specs.declared.answer.Answer.{Answer}
 use Rattle.mega_outcome.specs.declared.answer.Answer.TheVariants as answers
 use Rattle.mega_outcome.specs.declared.request.Request.{Request}
 use Rattle.mega_outcome.specs.declared.request.Request.TheVariants as requests
-use Rattle.mega_rules.specs.Steps.{is_current}
+use Rattle.mega_run_laws.specs.of_tape_laws.of_promises.of_rules.Steps.{is_current}
 
 abbrev pub is_transaction : Request → Bool
 is_transaction (requests.Txn transaction) = true

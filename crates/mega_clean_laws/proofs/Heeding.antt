@@ -17,34 +17,34 @@ use Rattle.mega_outcome.specs.declared.request.Request.{Request}
 use Rattle.mega_outcome.specs.declared.request.Request.TheVariants.{Txn, Batch as BatchRequest, Read as ReadRequested, Find, PumpEnter, PumpHandle, Refresh}
 use Rattle.mega_outcome.specs.declared.transaction.RowRef.{RowRef}
 use Rattle.mega_outcome.specs.Reads.{all_rows, read_rows}
-use Rattle.mega_read.specs.Catching.{site}
-use Rattle.mega_transcript.specs.declared.item.Item.{Item}
+use Rattle.mega_fresh_laws.specs.of_leased_laws.of_settled_laws.of_run_laws.of_tape_laws.of_promises.of_rules.of_read.Catching.{site}
+use Rattle.mega_fresh_laws.specs.of_leased_laws.of_settled_laws.of_run_laws.of_tape_laws.of_promises.of_transcript.declared.item.Item.{Item}
 use Rattle.mega_wire.specs.declared.message.Message.{Message}
 use Rattle.mega_wire.specs.declared.message.Body.{Body}
 use Rattle.mega_wire.specs.declared.message.Body.TheVariants.{Accept}
-use Rattle.mega_promises.specs.Promises.{asked_for}
-use Rattle.mega_rules.specs.Members.{is_full}
-use Rattle.mega_rules.specs.Met.{Met}
-use Rattle.mega_rules.specs.Queues.{next_to_enter, next_to_handle}
-use Rattle.mega_rules.specs.Operations.{Now, Operation, Phase, Proposes, Reads, Setting}
-use Rattle.mega_rules.specs.Acting.{applied_logs, begins_read, ends, goes_on, read_answer, reader_of, rows_answer, sends_more}
-use Rattle.mega_rules.specs.Steps.{Heard, acts_in_turn, all_act, begins, does_due, find_begins, hears_message, is_current, is_out, last_answer, local_find_begins, new_operation, read_begins, ticked, unless_refused}
-use Rattle.mega_tape_laws.specs.Lawful.{Lawful, message}
-use Rattle.mega_tape_laws.specs.Places.{Took}
-use Rattle.mega_tape_laws.specs.Polls.{ArePolls}
-use Rattle.mega_tape_laws.specs.Writes.{Usage}
-use Rattle.mega_run_laws.specs.Vouched.{Each}
-use Rattle.mega_run_laws.proofs.Turns.{Known}
+use Rattle.mega_fresh_laws.specs.of_leased_laws.of_settled_laws.of_run_laws.of_tape_laws.of_promises.Promises.{asked_for}
+use Rattle.mega_fresh_laws.specs.of_leased_laws.of_settled_laws.of_run_laws.of_tape_laws.of_promises.of_rules.Members.{is_full}
+use Rattle.mega_fresh_laws.specs.of_leased_laws.of_settled_laws.of_run_laws.of_tape_laws.of_promises.of_rules.Met.{Met}
+use Rattle.mega_fresh_laws.specs.of_leased_laws.of_settled_laws.of_run_laws.of_tape_laws.of_promises.of_rules.Queues.{next_to_enter, next_to_handle}
+use Rattle.mega_fresh_laws.specs.of_leased_laws.of_settled_laws.of_run_laws.of_tape_laws.of_promises.of_rules.Operations.{Now, Operation, Phase, Proposes, Reads, Setting}
+use Rattle.mega_fresh_laws.specs.of_leased_laws.of_settled_laws.of_run_laws.of_tape_laws.of_promises.of_rules.Acting.{applied_logs, begins_read, ends, goes_on, read_answer, reader_of, rows_answer, sends_more}
+use Rattle.mega_fresh_laws.specs.of_leased_laws.of_settled_laws.of_run_laws.of_tape_laws.of_promises.of_rules.Steps.{Heard, acts_in_turn, all_act, begins, does_due, find_begins, hears_message, is_current, is_out, last_answer, local_find_begins, new_operation, read_begins, ticked, unless_refused}
+use Rattle.mega_fresh_laws.specs.of_leased_laws.of_settled_laws.of_run_laws.of_tape_laws.Lawful.{Lawful, message}
+use Rattle.mega_fresh_laws.specs.of_leased_laws.of_settled_laws.of_run_laws.of_tape_laws.Places.{Took}
+use Rattle.mega_fresh_laws.specs.of_leased_laws.of_settled_laws.of_run_laws.of_tape_laws.Polls.{ArePolls}
+use Rattle.mega_fresh_laws.specs.of_leased_laws.of_settled_laws.of_run_laws.of_tape_laws.Writes.{Usage}
+use Rattle.mega_fresh_laws.specs.of_leased_laws.of_settled_laws.of_run_laws.Vouched.{Each}
+use Rattle.mega_fresh_laws.proofs.of_leased_laws.of_settled_laws.of_run_laws.Turns.{Known}
 use Rattle.mega_clean_laws.specs.Reaching.{Reaches, IsReachingAnswer, IsProposed}
 use Rattle.mega_fresh_laws.proofs.Accepts.{Zero, ZeroBody, due_zero, falls_due_never, hears_never, takes_zero}
 use Rattle.mega_clean_laws.proofs.Through.{PhaseReaching, due_reaching, hears_reaching}
 use Rattle.mega_fresh_laws.proofs.Through.{Of, PhaseAbove}
 use Rattle.mega_base.specs.declared.values.NodeKind.{NodeKind}
 use Rattle.mega_outcome.specs.declared.answer.Answer.TheVariants.{Busy, NotHere, TimedOut, Unknown, Worn}
-use Rattle.mega_propose.specs.declared.round.Site.{Site}
+use Rattle.mega_fresh_laws.specs.of_leased_laws.of_settled_laws.of_run_laws.of_tape_laws.of_promises.of_rules.of_read.of_propose.declared.round.Site.{Site}
 use Rattle.mega_index.specs.Fits.{numbered}
-use Rattle.mega_rules.specs.Finding.{group_bytes, group_marks, refreshed_marks, rows_through}
-use Rattle.mega_rules.specs.Steps.{applied_position, needs_full, snapshot_listed, stored_listed, unless_missing}
+use Rattle.mega_fresh_laws.specs.of_leased_laws.of_settled_laws.of_run_laws.of_tape_laws.of_promises.of_rules.Finding.{group_bytes, group_marks, refreshed_marks, rows_through}
+use Rattle.mega_fresh_laws.specs.of_leased_laws.of_settled_laws.of_run_laws.of_tape_laws.of_promises.of_rules.Steps.{applied_position, needs_full, snapshot_listed, stored_listed, unless_missing}
 use Rattle.mega_clean_laws.proofs.Acting.{Acting, Begins, Locals, answers_more, begins_read_it, found_reaching, goes_on_it, never_reaching, picks_group_it, picks_message_it, rows_reaching, sends_acting, some_same}
 
 clash_of : {X : Type 0} (t : Bool) → t ≡ true → t ≡ false → X

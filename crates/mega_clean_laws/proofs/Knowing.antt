@@ -8,31 +8,31 @@ use Rattle.mega_base.specs.declared.names.Position.{Position}
 use Rattle.mega_cluster.specs.declared.cluster.Cluster.{Cluster}
 use Rattle.mega_entry.specs.declared.content.Content.{Content}
 use Rattle.mega_handler.specs.Named.{Meanings}
-use Rattle.mega_transcript.specs.declared.item.Item.{Item}
-use Rattle.mega_transcript.specs.declared.item.Item.TheVariants.{Crash, Decide}
-use Rattle.mega_transcript.specs.Tape.{sent_count}
+use Rattle.mega_fresh_laws.specs.of_leased_laws.of_settled_laws.of_run_laws.of_tape_laws.of_promises.of_transcript.declared.item.Item.{Item}
+use Rattle.mega_fresh_laws.specs.of_leased_laws.of_settled_laws.of_run_laws.of_tape_laws.of_promises.of_transcript.declared.item.Item.TheVariants.{Crash, Decide}
+use Rattle.mega_fresh_laws.specs.of_leased_laws.of_settled_laws.of_run_laws.of_tape_laws.of_promises.of_transcript.Tape.{sent_count}
 use Rattle.mega_wal.specs.Same.{same_group}
 use Rattle.mega_wal.proofs.Sames.{same_group_equal}
 use Rattle.mega_wire.specs.declared.message.Message.{Message}
-use Rattle.mega_promises.specs.Items.{number, shown}
-use Rattle.mega_promises.specs.Promises.{Stands}
-use Rattle.mega_promises.specs.Runs.{Cuts, Happening, IsRun, Standing, goes_on, met_in, opening, set_at, setting, with_items}
-use Rattle.mega_rules.specs.Logs.{decided, first_of, log_of}
-use Rattle.mega_rules.specs.Met.{Met, Starts, Crashes, Ticks, Begins, Takes, Sends, Unsends, Grants, Lapses, Counts, Forgets, Serves, Loses, Validates, Invalidates, Decides, Applies, Answers}
-use Rattle.mega_rules.specs.Operations.{Node, Setting}
-use Rattle.mega_rules.specs.Steps.{Begin, Event, Step, Take, Tick, crashed, onto, start, start_items, step}
-use Rattle.mega_tape_laws.specs.Writes.{Usage}
-use Rattle.mega_tape_laws.proofs.Ballots.{number_is}
-use Rattle.mega_tape_laws.proofs.Lists.{some_is}
-use Rattle.mega_run_laws.specs.Usages.{Fits}
-use Rattle.mega_run_laws.proofs.Noted.{with_append}
-use Rattle.mega_run_laws.proofs.Prefixes.{IsDecided, prefix_decided}
-use Rattle.mega_run_laws.proofs.Turns.{Known}
-use Rattle.mega_settled_laws.specs.Covering.{Earlier}
-use Rattle.mega_settled_laws.proofs.Tapes.{earlier_stood, items_later, sent_later, then_later}
-use Rattle.mega_leased_laws.proofs.Cells.{by_node}
-use Rattle.mega_leased_laws.proofs.Forms.{down, stepped}
-use Rattle.mega_leased_laws.proofs.Told.{step_met}
+use Rattle.mega_fresh_laws.specs.of_leased_laws.of_settled_laws.of_run_laws.of_tape_laws.of_promises.Items.{number, shown}
+use Rattle.mega_fresh_laws.specs.of_leased_laws.of_settled_laws.of_run_laws.of_tape_laws.of_promises.Promises.{Stands}
+use Rattle.mega_fresh_laws.specs.of_leased_laws.of_settled_laws.of_run_laws.of_tape_laws.of_promises.Runs.{Cuts, Happening, IsRun, Standing, goes_on, met_in, opening, set_at, setting, with_items}
+use Rattle.mega_fresh_laws.specs.of_leased_laws.of_settled_laws.of_run_laws.of_tape_laws.of_promises.of_rules.Logs.{decided, first_of, log_of}
+use Rattle.mega_fresh_laws.specs.of_leased_laws.of_settled_laws.of_run_laws.of_tape_laws.of_promises.of_rules.Met.{Met, Starts, Crashes, Ticks, Begins, Takes, Sends, Unsends, Grants, Lapses, Counts, Forgets, Serves, Loses, Validates, Invalidates, Decides, Applies, Answers}
+use Rattle.mega_fresh_laws.specs.of_leased_laws.of_settled_laws.of_run_laws.of_tape_laws.of_promises.of_rules.Operations.{Node, Setting}
+use Rattle.mega_fresh_laws.specs.of_leased_laws.of_settled_laws.of_run_laws.of_tape_laws.of_promises.of_rules.Steps.{Begin, Event, Step, Take, Tick, crashed, onto, start, start_items, step}
+use Rattle.mega_fresh_laws.specs.of_leased_laws.of_settled_laws.of_run_laws.of_tape_laws.Writes.{Usage}
+use Rattle.mega_fresh_laws.proofs.of_leased_laws.of_settled_laws.of_run_laws.of_tape_laws.Ballots.{number_is}
+use Rattle.mega_fresh_laws.proofs.of_leased_laws.of_settled_laws.of_run_laws.of_tape_laws.Lists.{some_is}
+use Rattle.mega_fresh_laws.specs.of_leased_laws.of_settled_laws.of_run_laws.Usages.{Fits}
+use Rattle.mega_fresh_laws.proofs.of_leased_laws.of_settled_laws.of_run_laws.Noted.{with_append}
+use Rattle.mega_fresh_laws.proofs.of_leased_laws.of_settled_laws.of_run_laws.Prefixes.{IsDecided, prefix_decided}
+use Rattle.mega_fresh_laws.proofs.of_leased_laws.of_settled_laws.of_run_laws.Turns.{Known}
+use Rattle.mega_fresh_laws.specs.of_leased_laws.of_settled_laws.Covering.{Earlier}
+use Rattle.mega_fresh_laws.proofs.of_leased_laws.of_settled_laws.Tapes.{earlier_stood, items_later, sent_later, then_later}
+use Rattle.mega_fresh_laws.proofs.of_leased_laws.Cells.{by_node}
+use Rattle.mega_fresh_laws.proofs.of_leased_laws.Forms.{down, stepped}
+use Rattle.mega_fresh_laws.proofs.of_leased_laws.Told.{step_met}
 use Rattle.mega_fresh_laws.specs.Covering.{before_begin}
 use Rattle.mega_fresh_laws.proofs.Meant.{Stays, run_stays}
 use Rattle.mega_clean_laws.specs.Reaching.{Reaches, applied_by}

@@ -6,21 +6,21 @@ use Rattle.mega_base.specs.declared.names.OpId.{OpId}
 use Rattle.mega_cluster.specs.declared.cluster.Cluster.{Cluster}
 use Rattle.std.proofs.Common.{Option}
 use Rattle.mega_outcome.specs.declared.request.Request.{Request}
-use Rattle.mega_read.specs.declared.reading.Reading.{Reading}
-use Rattle.mega_read.specs.declared.reading.Stage.{Stage}
-use Rattle.mega_read.specs.declared.reading.Stage.TheVariants.{Polling, Catching}
-use Rattle.mega_read.specs.Catching.{falls_due, hears, polled_read, seeks}
-use Rattle.mega_transcript.specs.declared.item.Item.{Item}
-use Rattle.mega_transcript.specs.declared.item.Item.TheVariants.{Decide}
+use Rattle.mega_fresh_laws.specs.of_leased_laws.of_settled_laws.of_run_laws.of_tape_laws.of_promises.of_rules.of_read.declared.reading.Reading.{Reading}
+use Rattle.mega_fresh_laws.specs.of_leased_laws.of_settled_laws.of_run_laws.of_tape_laws.of_promises.of_rules.of_read.declared.reading.Stage.{Stage}
+use Rattle.mega_fresh_laws.specs.of_leased_laws.of_settled_laws.of_run_laws.of_tape_laws.of_promises.of_rules.of_read.declared.reading.Stage.TheVariants.{Polling, Catching}
+use Rattle.mega_fresh_laws.specs.of_leased_laws.of_settled_laws.of_run_laws.of_tape_laws.of_promises.of_rules.of_read.Catching.{falls_due, hears, polled_read, seeks}
+use Rattle.mega_fresh_laws.specs.of_leased_laws.of_settled_laws.of_run_laws.of_tape_laws.of_promises.of_transcript.declared.item.Item.{Item}
+use Rattle.mega_fresh_laws.specs.of_leased_laws.of_settled_laws.of_run_laws.of_tape_laws.of_promises.of_transcript.declared.item.Item.TheVariants.{Decide}
 use Rattle.mega_wire.specs.declared.message.Body.{Body}
-use Rattle.mega_rules.specs.Members.{is_full}
-use Rattle.mega_rules.specs.Operations.{Phase, Proposes, Reads}
-use Rattle.mega_tape_laws.specs.Lawful.{Lawful, message}
-use Rattle.mega_tape_laws.specs.Places.{Took}
-use Rattle.mega_tape_laws.specs.Polls.{ArePolls, IsPolled}
-use Rattle.mega_tape_laws.proofs.Polled.{polled_above}
-use Rattle.mega_run_laws.proofs.Reading.{who}
-use Rattle.mega_leased_laws.proofs.Polls.{tops_on}
+use Rattle.mega_fresh_laws.specs.of_leased_laws.of_settled_laws.of_run_laws.of_tape_laws.of_promises.of_rules.Members.{is_full}
+use Rattle.mega_fresh_laws.specs.of_leased_laws.of_settled_laws.of_run_laws.of_tape_laws.of_promises.of_rules.Operations.{Phase, Proposes, Reads}
+use Rattle.mega_fresh_laws.specs.of_leased_laws.of_settled_laws.of_run_laws.of_tape_laws.Lawful.{Lawful, message}
+use Rattle.mega_fresh_laws.specs.of_leased_laws.of_settled_laws.of_run_laws.of_tape_laws.Places.{Took}
+use Rattle.mega_fresh_laws.specs.of_leased_laws.of_settled_laws.of_run_laws.of_tape_laws.Polls.{ArePolls, IsPolled}
+use Rattle.mega_fresh_laws.proofs.of_leased_laws.of_settled_laws.of_run_laws.of_tape_laws.Polled.{polled_above}
+use Rattle.mega_fresh_laws.proofs.of_leased_laws.of_settled_laws.of_run_laws.Reading.{who}
+use Rattle.mega_fresh_laws.proofs.of_leased_laws.Polls.{tops_on}
 use Rattle.mega_fresh_laws.proofs.Moments.{Onward}
 use Rattle.mega_fresh_laws.proofs.Through.{Of, StageThrough, begun_before, due_through, hears_through, polled_begins, seeks_through}
 use Rattle.mega_clean_laws.specs.Reaching.{Reaches}

@@ -6,11 +6,11 @@ use Rattle.mega_base.specs.declared.names.GroupId.{GroupId}
 use Rattle.mega_entry.specs.declared.content.Content.{Content}
 use Rattle.mega_replica.specs.Applying.{applied}
 use Rattle.mega_wal.specs.Same.{same_group}
-use Rattle.mega_rules.specs.Logs.{accepted_at, decided, first_of, log_of, top_of}
-use Rattle.mega_rules.specs.Met.{Met, Decides, Sends, Unsends}
-use Rattle.mega_rules.specs.Steps.{applied_at}
-use Rattle.mega_run_laws.proofs.Prefixes.{prefix_decided}
-use Rattle.mega_leased_laws.proofs.Tops.{then_most}
+use Rattle.mega_fresh_laws.specs.of_leased_laws.of_settled_laws.of_run_laws.of_tape_laws.of_promises.of_rules.Logs.{accepted_at, decided, first_of, log_of, top_of}
+use Rattle.mega_fresh_laws.specs.of_leased_laws.of_settled_laws.of_run_laws.of_tape_laws.of_promises.of_rules.Met.{Met, Decides, Sends, Unsends}
+use Rattle.mega_fresh_laws.specs.of_leased_laws.of_settled_laws.of_run_laws.of_tape_laws.of_promises.of_rules.Steps.{applied_at}
+use Rattle.mega_fresh_laws.proofs.of_leased_laws.of_settled_laws.of_run_laws.Prefixes.{prefix_decided}
+use Rattle.mega_fresh_laws.proofs.of_leased_laws.Tops.{then_most}
 
 pub applied_least : (log : List Content) (stored : ℕ) → applied log stored ≤ length log
 applied_least [] stored = omega arith

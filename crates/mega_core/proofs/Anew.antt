@@ -1,7 +1,7 @@
 -- A node at any start: what it met then, how far it has applied, and that it is the node of the rules.
-use Rattle.std.proofs.Common.{◌≡◌, ℕ, ◌+◌, ◌==◌, ◌<◌, ◌≤◌, ◌&&◌, ◌||◌, max, min, nat_lt, Bool, true, false, cond, List, [], ◌∷◌, ◌++◌, map, flat_map, length, refl, sym, ap, subst, ◌∙◌, arith}
+use Rattle.std.proofs.Common.{◌≡◌, ℕ, ◌+◌, ◌==◌, ◌<◌, ◌≤◌, ◌&&◌, ◌||◌, max, min, nat_lt, Bool, true, false, cond, List, [], ◌∷◌, ◌++◌, flat_map, length, refl, sym, ap, subst, ◌∙◌, arith}
 use Rattle.std.specs.List.{All, list_all}
-use Rattle.std.specs.Prelude.{take, sum_by}
+use Rattle.std.specs.Prelude.{sum_by}
 use Rattle.std.proofs.lemmas.List.{append_assoc, length-append, take_all}
 use Rattle.std.proofs.lemmas.List.Sums.{sum_by-cons}
 use Rattle.std.proofs.lemmas.List.Elements.{All-append, All-cons, All-head, All-nil, All-tail, All-weaker}
@@ -18,11 +18,11 @@ use Rattle.mega_wal.specs.Kept.{slot_of}
 use Rattle.mega_wal.specs.Same.{same_group}
 use Rattle.mega_wal.proofs.Greatest.{marks_same}
 use Rattle.mega_wal.proofs.Sames.{same_group_equal}
-use Rattle.mega_leases.specs.declared.leases.Leases.{Leases}
-use Rattle.mega_leases.specs.Opening.{AreOwed, is_owed}
-use Rattle.mega_leases.specs.Tells.{Tells as TellsLeases}
+use Rattle.mega_stepping.specs.of_leases.declared.leases.Leases.{Leases}
+use Rattle.mega_stepping.specs.of_leases.Opening.{AreOwed, is_owed}
+use Rattle.mega_stepping.specs.of_leases.Tells.{Tells as TellsLeases}
 use Rattle.mega_replica.specs.declared.progress.Progress.{Progress}
-use Rattle.mega_replica.specs.Applying.{after_read, writes_of, writes_through}
+use Rattle.mega_replica.specs.Applying.{after_read, writes_of}
 use Rattle.mega_replica.specs.Following.{Follows}
 use Rattle.mega_replica.specs.Stored.{entries_from, log_in, stored_with}
 use Rattle.mega_replica.proofs.Places.{place_total}
@@ -30,26 +30,26 @@ use Rattle.mega_rules.specs.Clock.{begun_of, last_number}
 use Rattle.mega_rules.specs.Locks.{last_grant}
 use Rattle.mega_rules.specs.Logs.{groups_of, log_of, prefix_of}
 use Rattle.mega_rules.specs.Members.{has_rows, is_node}
-use Rattle.mega_rules.specs.Met.{Met, Applies, Begins, Decides, Grants, Lapses, Starts, Unsends}
+use Rattle.mega_rules.specs.Met.{Met, Applies, Begins, Grants, Lapses, Starts}
 use Rattle.mega_rules.specs.Operations.{Setting}
 use Rattle.mega_rules.specs.Steps.{apply_all, onto, start, start_items, start_note, start_notes}
-use Rattle.mega_voter.specs.Holding.{Agrees, GoesOn, Recalls, is_no_start}
-use Rattle.mega_voter.specs.Journal.{journal_of, without_starts}
-use Rattle.mega_voter.specs.Telling.{Tells}
-use Rattle.mega_voter.proofs.Begun.{start_goes_on}
-use Rattle.mega_voter.proofs.Opened.{granted_without, slots_without}
+use Rattle.mega_stepping.specs.of_voter.Holding.{Agrees, GoesOn, Recalls, is_no_start}
+use Rattle.mega_stepping.specs.of_voter.Journal.{journal_of, without_starts}
+use Rattle.mega_stepping.specs.of_voter.Telling.{Tells}
+use Rattle.mega_stepping.proofs.of_voter.Begun.{start_goes_on}
+use Rattle.mega_stepping.proofs.of_voter.Opened.{granted_without, slots_without}
 use Rattle.mega_actions.specs.of_node_laws.About.{IsAbout}
 use Rattle.mega_actions.proofs.of_node_laws.Ending.{onto_append}
 use Rattle.mega_actions.proofs.of_node_laws.Logs.{log_after, log_is}
 use Rattle.mega_actions.specs.of_marks.declared.indexed.Indexed.{Indexed}
 use Rattle.mega_actions.specs.of_marks.AreMarked.{IsIndexed}
-use Rattle.mega_actions.specs.Stands.{setting}
+use Rattle.mega_actions.specs.of_proposing.Settings.{setting}
 use Rattle.mega_actions.specs.Turns.{IsServable}
 use Rattle.mega_core.specs.Represents.{Represents}
-use Rattle.mega_view.specs.Small.{IsSmall}
+use Rattle.mega_actions.specs.of_view.Small.{IsSmall}
 use Rattle.mega_core.specs.Restarting.{HaveFollowed, applied_at_start}
 use Rattle.mega_core.proofs.Alike.{IsApart, all_apart_alike, alike_tells}
-use Rattle.mega_core.proofs.Groups.{has, no_log}
+use Rattle.mega_stepping.proofs.Groups.{has, no_log}
 use Rattle.mega_core.proofs.Silent.{IsMute, IsQuiet, mute_begun, mute_told, mute_undecided}
 
 -- ---- what is owed

@@ -14,10 +14,10 @@ use Rattle.mega_rules.specs.Clock.{clock_of}
 use Rattle.mega_rules.specs.Logs.{log_of}
 use Rattle.mega_rules.specs.Operations.{Node, Now, Operation, Setting}
 use Rattle.mega_rules.specs.Steps.{Begin, Step, begin_step, new_operation, onto, op_of, refusal, unless_refused}
-use Rattle.mega_voter.specs.Telling.{Tells}
-use Rattle.mega_voter.proofs.Told.{silent_told}
-use Rattle.mega_leases.specs.declared.leases.Leases.{Leases}
-use Rattle.mega_leases.proofs.Shown.{apart}
+use Rattle.mega_stepping.specs.of_voter.Telling.{Tells}
+use Rattle.mega_stepping.proofs.of_voter.Told.{silent_told}
+use Rattle.mega_stepping.specs.of_leases.declared.leases.Leases.{Leases}
+use Rattle.mega_stepping.proofs.of_leases.Shown.{apart}
 use Rattle.mega_replica.specs.declared.progress.Progress.{Progress}
 use Rattle.mega_actions.specs.of_node_laws.About.{IsAbout}
 use Rattle.mega_actions.specs.of_node_laws.Own.{HasOwnRows}
@@ -28,15 +28,15 @@ use Rattle.mega_rules.specs.Finding.{refreshed_marks}
 use Rattle.mega_actions.specs.of_marks.declared.indexed.Indexed.{Indexed}
 use Rattle.mega_actions.specs.of_marks.AreMarked.{AreMarked, IsIndexed}
 use Rattle.mega_actions.proofs.of_marks.Growing.{marked_after}
-use Rattle.mega_actions.specs.Servable.{is_served}
-use Rattle.mega_actions.specs.Stands.{Stands}
+use Rattle.mega_actions.specs.of_proposing.Servable.{is_served}
+use Rattle.mega_actions.specs.of_finishing.Stands.{Stands}
 use Rattle.mega_actions.specs.Turns.{IsServable}
-use Rattle.mega_actions.specs.Working.{work_of}
-use Rattle.mega_actions.specs.declared.work.Work.{Work}
+use Rattle.mega_actions.specs.of_proposing.Working.{work_of}
+use Rattle.mega_actions.specs.of_proposing.declared.work.Work.{Work}
 use Rattle.mega_core.specs.Acted.{Acted, HasActed, IsEnd, IsValidate, ended}
 use Rattle.mega_core.specs.Beginning.{at_begin, has_begun, marks_unless}
 use Rattle.mega_core.specs.Kind.{FitsKind}
-use Rattle.mega_core.specs.Positions.{Keeps}
+use Rattle.mega_stepping.specs.Positions.{Keeps}
 use Rattle.mega_core.specs.Represents.{Represents}
 use Rattle.mega_core.proofs.Fitting.{begin_fits}
 use Rattle.mega_core.proofs.Quiet.{begun_marks, refusal_plain}

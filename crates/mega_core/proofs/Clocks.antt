@@ -12,11 +12,11 @@ use Rattle.mega_rules.specs.Coordinators.{acquires_at}
 use Rattle.mega_rules.specs.Logs.{groups_of, log_of}
 use Rattle.mega_rules.specs.Operations.{Node, Now, Operation, Setting}
 use Rattle.mega_rules.specs.Steps.{Step, Tick, at_first, background, lapse_notes, lease_notes, onto, portion_of, step, ticked}
-use Rattle.mega_voter.specs.Telling.{Tells}
-use Rattle.mega_leases.specs.declared.leases.Leases.{Leases}
-use Rattle.mega_leases.specs.declared.note.Note.{Note}
-use Rattle.mega_leases.specs.declared.note.Note.TheVariants as note
-use Rattle.mega_leases.specs.Notes.{met_of}
+use Rattle.mega_stepping.specs.of_voter.Telling.{Tells}
+use Rattle.mega_stepping.specs.of_leases.declared.leases.Leases.{Leases}
+use Rattle.mega_stepping.specs.of_leases.declared.note.Note.{Note}
+use Rattle.mega_stepping.specs.of_leases.declared.note.Note.TheVariants as note
+use Rattle.mega_stepping.specs.of_leases.Notes.{met_of}
 use Rattle.mega_replica.specs.declared.progress.Progress.{Progress}
 use Rattle.mega_actions.specs.of_node_laws.About.{IsAbout}
 use Rattle.mega_actions.specs.of_node_laws.Acted.{acted_on}
@@ -27,10 +27,10 @@ use Rattle.mega_actions.proofs.of_node_laws.Sent.{step_may}
 use Rattle.mega_rules.specs.Finding.{refreshed_marks}
 use Rattle.mega_actions.specs.of_marks.declared.indexed.Indexed.{Indexed}
 use Rattle.mega_actions.specs.of_marks.AreMarked.{AreMarked}
-use Rattle.mega_actions.specs.Stands.{Stands}
+use Rattle.mega_actions.specs.of_finishing.Stands.{Stands}
 use Rattle.mega_actions.specs.Turns.{IsServable}
-use Rattle.mega_actions.specs.Working.{work_of}
-use Rattle.mega_actions.specs.declared.work.Work.{Work}
+use Rattle.mega_actions.specs.of_proposing.Working.{work_of}
+use Rattle.mega_actions.specs.of_proposing.declared.work.Work.{Work}
 use Rattle.mega_core.specs.Acted.{HasActed, IsEnd, IsValidate, ended}
 use Rattle.mega_core.specs.Kind.{FitsKind}
 use Rattle.mega_core.specs.Represents.{Represents}

@@ -3,11 +3,11 @@ use Rattle.std.proofs.Common.{◌≡◌, refl, subst, sym}
 use Rattle.std.specs.Prelude.{Option, None}
 use Rattle.mega_disk.specs.declared.versions.StoreError.{StoreError}
 use Rattle.mega_disk.specs.declared.versions.Versions.{Ghosts}
-use Rattle.mega_leases.specs.declared.fault.TakeFault.{TakeFault}
-use Rattle.mega_leases.specs.declared.fault.TakeFault.TheVariants as take
-use Rattle.mega_actions.specs.declared.fault.ActFault.{ActFault}
-use Rattle.mega_actions.specs.declared.fault.ActFault.TheVariants as act
-use Rattle.mega_actions.specs.Faults.{of_store as act_store}
+use Rattle.mega_stepping.specs.of_leases.declared.fault.TakeFault.{TakeFault}
+use Rattle.mega_stepping.specs.of_leases.declared.fault.TakeFault.TheVariants as take
+use Rattle.mega_actions.specs.of_finishing.declared.fault.ActFault.{ActFault}
+use Rattle.mega_actions.specs.of_finishing.declared.fault.ActFault.TheVariants as act
+use Rattle.mega_actions.specs.of_finishing.Faults.{of_store as act_store}
 use Rattle.mega_replica.specs.Faring.{Fares}
 use Rattle.mega_replica.proofs.Fared.{fares_here}
 use Rattle.mega_core.specs.Faults.{fault_of, of_store, taking_fault_of}

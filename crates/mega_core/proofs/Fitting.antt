@@ -1,9 +1,8 @@
 -- A step leaves what the kind of its node has.
-use Rattle.std.proofs.Common.{◌≡◌, ℕ, Bool, true, false, cond, List, [], map, fold, Option, Some, None, refl, sym, ap, ◌∙◌}
+use Rattle.std.proofs.Common.{◌≡◌, ℕ, true, false, List, [], map, fold, Option, Some, None, refl, ap, ◌∙◌}
 use Rattle.mega_base.specs.declared.names.GroupId.{GroupId}
 use Rattle.mega_base.specs.declared.names.OpId.{OpId}
 use Rattle.mega_cluster.specs.declared.cluster.Cluster.{Cluster}
-use Rattle.mega_wal.specs.Same.{same_group}
 use Rattle.mega_wire.specs.declared.message.Message.{Message}
 use Rattle.mega_outcome.specs.declared.answer.Answer.{Answer}
 use Rattle.mega_outcome.specs.declared.request.FindRequest.{FindRequest}
@@ -12,38 +11,23 @@ use Rattle.mega_outcome.specs.declared.request.Mode.TheVariants.{Current, Snapsh
 use Rattle.mega_outcome.specs.declared.request.ReadRequest.{ReadRequest}
 use Rattle.mega_outcome.specs.declared.request.Request.{Request}
 use Rattle.mega_outcome.specs.declared.request.Request.TheVariants.{Txn, Batch, Read, Find, PumpEnter, PumpHandle, Refresh}
-use Rattle.mega_replica.specs.Applying.{after_portion}
-use Rattle.mega_rules.specs.Met.{Met}
 use Rattle.mega_rules.specs.Clock.{clock_of}
-use Rattle.mega_rules.specs.Logs.{log_of}
 use Rattle.mega_rules.specs.Members.{has_rows, is_full, is_node}
 use Rattle.mega_rules.specs.Operations.{Node, Now, Operation, Setting}
-use Rattle.mega_rules.specs.Steps.{Decision, Take, Tick, all_act, at_first, begins, find_begins, hears_message, is_current, local_find_begins, needs_full, new_operation, op_of, portion_of, read_begins, refusal, stored_after, ticked, unless_refused}
+use Rattle.mega_rules.specs.Steps.{Take, Tick, all_act, at_first, begins, find_begins, hears_message, is_current, local_find_begins, needs_full, new_operation, op_of, portion_of, read_begins, refusal, stored_after, ticked, unless_refused}
 use Rattle.mega_actions.specs.of_node_laws.Acted.{acted_on, decision_in}
-use Rattle.mega_view.specs.Small.{IsSmall}
+use Rattle.mega_actions.specs.of_view.Small.{IsSmall}
 use Rattle.mega_core.specs.Beginning.{at_begin, has_begun}
 use Rattle.mega_core.specs.Kind.{FitsKind}
 use Rattle.mega_core.specs.Taking.{has_taken}
 use Rattle.mega_core.specs.Ticking.{has_ticked}
+use Rattle.mega_stepping.proofs.Portions.{portion_bare, stored_bare}
 use Rattle.mega_core.proofs.Roles.{bare_is_other, brief_where_served}
 
 -- what is said of a node that is not full holds of one without rows
 fits : (c : Cluster) (me : ℕ) (open_ones : List Operation) (stored : GroupId → ℕ) → is_node c me ≡ true → IsSmall c.schema
     → (is_full c me ≡ false → open_ones ≡ []) → (is_full c me ≡ false → has_rows c me ≡ false → (group : GroupId) → stored group ≡ 0) → FitsKind c me open_ones stored
 fits c me open_ones stored member small idle bare = record { member = member; small = small; idle = idle; bare = λ none group. bare (bare_is_other c me none) none group }
-
--- ---- portions of a node without rows
-
-pub portion_bare : (s : Setting) (met : List Met) (stored : GroupId → ℕ) (group : GroupId) → has_rows s.cluster s.me ≡ false → portion_of s met stored group ≡ 0
-portion_bare s met stored group none = ap (λ (t : Bool). cond t (after_portion s.cluster.apply (log_of met group) (stored group)) 0) none
-
-pub stored_bare : (s : Setting) (met : List Met) (stored : GroupId → ℕ) (d : Option Decision) → has_rows s.cluster s.me ≡ false → ((group : GroupId) → stored group ≡ 0) → (group : GroupId) → stored_after s met stored d group ≡ 0
-stored_bare s met stored None none bare group = bare group
-stored_bare s met stored (Some d) none bare group = by (same_group d.group group)
-  where
-    by : (t : Bool) → cond t (portion_of s met stored group) (stored group) ≡ 0
-    by true = portion_bare s met stored group none
-    by false = bare group
 
 -- ---- the steps
 

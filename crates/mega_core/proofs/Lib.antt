@@ -1,11 +1,6 @@
-pub mod Left
-pub mod Sent
-pub mod Staged
 pub mod Roles
 pub mod Replied
-pub mod Portions
 pub mod Fitting
-pub mod Groups
 pub mod Alike
 pub mod Silent
 pub mod Walking
@@ -22,5 +17,5 @@ pub mod Watched
 pub mod Anew
 pub mod Quiet
 pub mod Unshown
-pub mod Unheard
+pub use Rattle.mega_stepping.proofs as of_stepping
 pub use Rattle.mega_actions.proofs.of_node_laws as of_node_laws

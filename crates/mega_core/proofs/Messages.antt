@@ -22,10 +22,10 @@ use Rattle.mega_rules.specs.Logs.{decided, log_of}
 use Rattle.mega_rules.specs.Operations.{Node, Now, Operation, Setting}
 use Rattle.mega_rules.specs.Replies.{reply_to}
 use Rattle.mega_rules.specs.Steps.{Decision, Heard, Step, Take, all_act, at_first, decision_note, first_settled, hears_message, if_new, news, onto, step, stored_after, taken, told_decision, told_notes}
-use Rattle.mega_voter.specs.Telling.{Tells}
-use Rattle.mega_leases.specs.declared.leases.Leases.{Leases}
-use Rattle.mega_leases.specs.Tells.{Tells as TellsLeases}
-use Rattle.mega_leases.proofs.Shown.{apart}
+use Rattle.mega_stepping.specs.of_voter.Telling.{Tells}
+use Rattle.mega_stepping.specs.of_leases.declared.leases.Leases.{Leases}
+use Rattle.mega_stepping.specs.of_leases.Tells.{Tells as TellsLeases}
+use Rattle.mega_stepping.proofs.of_leases.Shown.{apart}
 use Rattle.mega_replica.specs.declared.progress.Progress.{Progress}
 use Rattle.mega_replica.specs.Following.{Follows}
 use Rattle.mega_actions.specs.of_node_laws.Acted.{acted_on, decision_in, or_settled}
@@ -38,19 +38,20 @@ use Rattle.mega_actions.specs.of_node_laws.About.{IsAbout}
 use Rattle.mega_rules.specs.Finding.{refreshed_marks}
 use Rattle.mega_actions.specs.of_marks.declared.indexed.Indexed.{Indexed}
 use Rattle.mega_actions.specs.of_marks.AreMarked.{AreMarked}
-use Rattle.mega_actions.specs.Stands.{Stands}
+use Rattle.mega_actions.specs.of_finishing.Stands.{Stands}
 use Rattle.mega_actions.specs.Turns.{IsServable, IsServableHeard, IsHeardAbout}
-use Rattle.mega_actions.specs.Working.{work_of}
-use Rattle.mega_actions.specs.declared.work.Work.{Work}
+use Rattle.mega_actions.specs.of_proposing.Working.{work_of}
+use Rattle.mega_actions.specs.of_proposing.declared.work.Work.{Work}
 use Rattle.mega_core.specs.Acted.{HasActed, IsEnd, IsValidate, ended}
 use Rattle.mega_core.specs.Kind.{FitsKind}
 use Rattle.mega_core.specs.Represents.{Represents}
-use Rattle.mega_view.specs.Small.{IsSmall}
+use Rattle.mega_actions.specs.of_view.Small.{IsSmall}
 use Rattle.mega_core.proofs.Fitting.{take_fits}
 use Rattle.mega_core.proofs.Quiet.{all_act_it}
 use Rattle.mega_core.proofs.Unshown.{acted_marked, decision_unshown, told_unshown}
 use Rattle.mega_core.proofs.Walked.{all_acted, all_heard_built, all_served, heard_about}
-use Rattle.mega_core.specs.Taking.{has_taken, news_by}
+use Rattle.mega_core.specs.Taking.{has_taken}
+use Rattle.mega_stepping.specs.News.{news_by}
 
 -- ---- what is told decides nothing, and begins nothing
 

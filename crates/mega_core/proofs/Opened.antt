@@ -10,18 +10,18 @@ use Rattle.mega_rules.specs.Met.{Starts}
 use Rattle.mega_rules.specs.Logs.{log_of}
 use Rattle.mega_rules.specs.Members.{has_rows, is_node}
 use Rattle.mega_rules.specs.Steps.{apply_all, onto, start}
-use Rattle.mega_voter.specs.Telling.{Tells}
-use Rattle.mega_leases.specs.declared.leases.Leases.{Leases}
-use Rattle.mega_leases.specs.Tells.{Tells as TellsLeases}
+use Rattle.mega_stepping.specs.of_voter.Telling.{Tells}
+use Rattle.mega_stepping.specs.of_leases.declared.leases.Leases.{Leases}
+use Rattle.mega_stepping.specs.of_leases.Tells.{Tells as TellsLeases}
 use Rattle.mega_replica.specs.declared.progress.Progress.{Progress}
 use Rattle.mega_replica.specs.Following.{Follows}
 use Rattle.mega_actions.specs.of_node_laws.About.{IsAbout}
 use Rattle.mega_actions.specs.of_marks.declared.indexed.Indexed.{Indexed}
 use Rattle.mega_actions.specs.of_marks.AreMarked.{IsIndexed}
-use Rattle.mega_actions.specs.Stands.{setting}
+use Rattle.mega_actions.specs.of_proposing.Settings.{setting}
 use Rattle.mega_actions.specs.Turns.{IsServable}
 use Rattle.mega_core.specs.Represents.{Represents}
-use Rattle.mega_view.specs.Small.{IsSmall}
+use Rattle.mega_actions.specs.of_view.Small.{IsSmall}
 
 pub started : (c : Cluster) (me : ℕ) (h : Meanings) (kept : Kept) (leases : Leases) (indexed : Indexed) (version : Versions) (progress : GroupId → Progress)
     → is_node c me ≡ true → IsSmall c.schema → Tells kept (Starts 1 ∷ []) → TellsLeases c me leases (Starts 1 ∷ []) → Follows version progress (log_of (Starts 1 ∷ [])) (λ group. 0) → IsIndexed c.schema indexed (start (setting c me h) 1 [] []).met

@@ -1,7 +1,7 @@
 -- A step is not served only where what an operation asks is not.
 use Rattle.std.proofs.Common.{◌≡◌, refl}
-use Rattle.mega_actions.specs.declared.fault.ActFault.{ActFault}
-use Rattle.mega_actions.specs.declared.fault.ActFault.TheVariants as act
+use Rattle.mega_actions.specs.of_finishing.declared.fault.ActFault.{ActFault}
+use Rattle.mega_actions.specs.of_finishing.declared.fault.ActFault.TheVariants as act
 use Rattle.mega_core.specs.declared.fault.StepFault.TheVariants as fault
 use Rattle.mega_core.specs.Faults.{fault_of}
 

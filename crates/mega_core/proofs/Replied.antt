@@ -8,8 +8,8 @@ use Rattle.mega_rules.specs.Logs.{decided, top_of}
 use Rattle.mega_rules.specs.Members.{is_voter}
 use Rattle.mega_rules.specs.Replies.{answer_to, fetched, where_served}
 use Rattle.mega_rules.specs.Voting.{acts, prepared, voted}
-use Rattle.mega_leases.specs.Taking.{reply_of}
-use Rattle.mega_core.specs.Taking.{or_reply, vote_reply}
+use Rattle.mega_stepping.specs.of_leases.Taking.{reply_of}
+use Rattle.mega_stepping.specs.Replying.{or_reply, vote_reply}
 
 served : (t : Bool) (body : Body) → or_reply (cond t (Some body) None) None ≡ where_served t body
 served true body = refl

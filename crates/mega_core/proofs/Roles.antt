@@ -6,12 +6,11 @@ use Rattle.std.proofs.lemmas.Option.{slice_get-get_or}
 use Rattle.mega_base.specs.declared.values.NodeKind.{NodeKind}
 use Rattle.mega_base.specs.declared.values.NodeKind.TheVariants.{Full, Witness, Read}
 use Rattle.mega_cluster.specs.declared.cluster.Cluster.{Cluster}
-use Rattle.mega_outcome.specs.declared.answer.Answer.{Answer}
-use Rattle.mega_outcome.specs.declared.answer.Answer.TheVariants.{NotHere, Worn}
+use Rattle.mega_outcome.specs.declared.answer.Answer.TheVariants.{Worn}
 use Rattle.mega_outcome.specs.declared.request.Request.{Request}
 use Rattle.mega_rules.specs.Members.{has_rows, is_full, is_node, keeps_rows, kind_of, runs}
 use Rattle.mega_rules.specs.Operations.{Node, Operation, Setting}
-use Rattle.mega_rules.specs.Steps.{is_worn, missing_kind, needs_full, refusal, unless_busy, unless_missing}
+use Rattle.mega_rules.specs.Steps.{is_worn, missing_kind, needs_full, refusal, unless_missing}
 
 first_of : (a b : Bool) → (a && b) ≡ true → a ≡ true
 first_of true b h = refl

@@ -4,6 +4,7 @@ use Rattle.std.specs.List.{All}
 use Rattle.std.proofs.lemmas.List.Elements.{All-append, All-cons, All-head, All-nil, All-tail, All-weaker}
 use Rattle.mega_base.specs.declared.names.GroupId.{GroupId}
 use Rattle.mega_wire.specs.declared.message.Message.{Message}
+use Rattle.mega_wal.specs.declared.item.JournalItem.{JournalItem}
 use Rattle.mega_wal.specs.declared.kept.Kept.{Kept}
 use Rattle.mega_rules.specs.Met.{Met, Answers, Applies, Sends, Validates}
 use Rattle.mega_rules.specs.Members.{has_rows}
@@ -11,11 +12,13 @@ use Rattle.mega_rules.specs.Clock.{begun_of}
 use Rattle.mega_rules.specs.Logs.{groups_of}
 use Rattle.mega_rules.specs.Operations.{Setting}
 use Rattle.mega_rules.specs.Steps.{applied_at, apply_note, apply_notes, onto}
-use Rattle.mega_voter.specs.Journal.{item_of}
-use Rattle.mega_voter.specs.Telling.{Tells}
-use Rattle.mega_voter.proofs.Told.{silent_told}
+use Rattle.mega_stepping.specs.of_voter.Journal.{item_of}
+use Rattle.mega_stepping.specs.of_voter.Telling.{Tells}
+use Rattle.mega_stepping.proofs.of_voter.Told.{silent_told}
 use Rattle.mega_actions.specs.of_node_laws.Deciding.{IsNoDecision}
 use Rattle.mega_core.specs.Acted.{IsEnd, IsValidate}
+use Rattle.mega_stepping.specs.Staging.{Stages}
+use Rattle.mega_stepping.proofs.Staged.{silent_staged}
 use Rattle.mega_core.proofs.Alike.{IsApart}
 
 -- nothing of it is kept
@@ -90,3 +93,9 @@ sent_apart (m ∷ sends) = All-cons IsApart (Sends m) (map Sends sends) refl (se
 pub sent_undecided : (sends : List Message) → All IsNoDecision (map Sends sends)
 sent_undecided [] = All-nil IsNoDecision
 sent_undecided (m ∷ sends) = All-cons IsNoDecision (Sends m) (map Sends sends) refl (sent_undecided sends)
+
+-- ---- what is not kept
+pub mute_staged : (staged : List JournalItem) (before items met : List Met) → All IsMute items → Stages staged before met → Stages staged before (onto items met)
+mute_staged staged before [] met mute h = h
+mute_staged staged before (one ∷ items) met mute h =
+    mute_staged staged before items (one ∷ met) (All-tail IsMute one items mute) (silent_staged staged before met one ((All-head IsMute one items mute).unkept met) h)

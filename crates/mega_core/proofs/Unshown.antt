@@ -16,7 +16,7 @@ use Rattle.mega_coordinator.specs.declared.answers.Counted.{Counted}
 use Rattle.mega_coordinator.specs.declared.answers.Counted.TheVariants.{No, Yes, Serving}
 use Rattle.mega_rules.specs.Met.{Met, Answers, Applies, Begins, Counts, Crashes, Decides, Forgets, Grants, Invalidates, Lapses, Loses, Sends, Serves, Starts, Takes, Ticks, Unsends, Validates}
 use Rattle.mega_rules.specs.Clock.{clock_of, start_of}
-use Rattle.mega_leases.specs.Opening.{AreOwed, is_owed}
+use Rattle.mega_stepping.specs.of_leases.Opening.{AreOwed, is_owed}
 use Rattle.mega_rules.specs.Logs.{groups_of, prefix_of}
 use Rattle.mega_rules.specs.Members.{cells, has_rows, is_full, keep_of}
 use Rattle.mega_rules.specs.Locks.{asked_for, cell_calls, grant_note, lapse_note, lapses_at}

@@ -22,16 +22,16 @@ use Rattle.mega_actions.specs.of_node_laws.About.{group_in}
 use Rattle.mega_actions.specs.of_node_laws.Acted.{acted_on, decision_in, or_settled}
 use Rattle.mega_actions.proofs.of_node_laws.Applied.{applied_within}
 use Rattle.mega_actions.proofs.of_node_laws.Logs.{groups_after, log_after, log_stays, other_log}
-use Rattle.mega_actions.specs.Servable.{is_served, is_pump}
+use Rattle.mega_actions.specs.of_proposing.Servable.{is_served, is_pump}
 use Rattle.mega_actions.specs.Turns.{IsServable}
-use Rattle.mega_core.specs.declared.applying.Before.{Before}
+use Rattle.mega_stepping.specs.declared.applying.Before.{Before}
 use Rattle.mega_core.specs.Acted.{Acted, IsValidate}
 use Rattle.mega_core.specs.Beginning.{at_begin, has_begun}
-use Rattle.mega_core.specs.Positions.{before_at, note_since}
+use Rattle.mega_stepping.specs.Positions.{before_at, note_since}
 use Rattle.mega_core.specs.Taking.{has_taken}
 use Rattle.mega_core.specs.Ticking.{has_ticked}
-use Rattle.mega_core.specs.Touching.{asked_groups, begun_by, begun_groups, behind, is_behind, named, reaches, roams, told_groups, touched, with_reach}
-use Rattle.mega_core.proofs.Groups.{all_noted, has, has_with, no_log, none_applied, since_is}
+use Rattle.mega_stepping.specs.Touching.{asked_groups, begun_by, begun_groups, behind, is_behind, named, reaches, roams, told_groups, touched, with_reach}
+use Rattle.mega_stepping.proofs.Groups.{all_noted, has, has_with, no_log, none_applied, since_is}
 use Rattle.mega_core.proofs.Messages.{plain_undecided, told_on, told_plain}
 use Rattle.mega_core.proofs.Silent.{IsMute, mute_undecided, validate_mute}
 use Rattle.mega_core.proofs.Walked.{all_heard_built}

@@ -7,7 +7,7 @@ use Rattle.mega_rules.specs.Operations.{Node, Now, Setting}
 use Rattle.mega_outcome.specs.declared.answer.Answer.{Answer}
 use Rattle.mega_outcome.specs.declared.answer.Mark.{Mark}
 use Rattle.mega_rules.specs.Finding.{refreshed_marks}
-use Rattle.mega_actions.specs.Indexing.{marks_then}
+use Rattle.mega_actions.specs.of_finishing.Indexing.{marks_then}
 use Rattle.mega_rules.specs.Steps.{at_first, at_open, new_operation, op_of, refusal, unless_refused}
 
 -- before it is refused or goes on

@@ -2,10 +2,10 @@
 use Rattle.std.specs.Prelude.{Result, Ok, Err, Option, Some, None}
 use Rattle.mega_disk.specs.declared.versions.StoreError.{StoreError}
 use Rattle.mega_disk.specs.declared.versions.StoreError.TheVariants as store
-use Rattle.mega_actions.specs.declared.fault.ActFault.{ActFault}
-use Rattle.mega_actions.specs.declared.fault.ActFault.TheVariants as act
-use Rattle.mega_leases.specs.declared.fault.TakeFault.{TakeFault}
-use Rattle.mega_leases.specs.declared.fault.TakeFault.TheVariants as take
+use Rattle.mega_actions.specs.of_finishing.declared.fault.ActFault.{ActFault}
+use Rattle.mega_actions.specs.of_finishing.declared.fault.ActFault.TheVariants as act
+use Rattle.mega_stepping.specs.of_leases.declared.fault.TakeFault.{TakeFault}
+use Rattle.mega_stepping.specs.of_leases.declared.fault.TakeFault.TheVariants as take
 use Rattle.mega_core.specs.declared.fault.StepFault.{StepFault}
 use Rattle.mega_core.specs.declared.fault.StepFault.TheVariants as step
 

@@ -4,7 +4,7 @@ use Rattle.mega_base.specs.declared.names.GroupId.{GroupId}
 use Rattle.mega_cluster.specs.declared.cluster.Cluster.{Cluster}
 use Rattle.mega_rules.specs.Members.{has_rows, is_full, is_node}
 use Rattle.mega_rules.specs.Operations.{Operation}
-use Rattle.mega_view.specs.Small.{IsSmall}
+use Rattle.mega_actions.specs.of_view.Small.{IsSmall}
 
 -- a node of its cluster, whose schema is one that a text can declare; at one that is not full no operation is open, and one without rows
 -- has stored nothing

@@ -1,20 +1,15 @@
-pub mod Notes
 pub mod Served
 pub mod Kind
 pub mod Represents
-pub mod Placed
-pub mod Positions
-pub mod Touching
-pub mod Hearing
 pub mod Made
 pub mod Acted
 pub mod Beginning
 pub mod Taking
 pub mod Faults
 pub mod Ticking
-pub mod Staging
 pub mod Restarting
 pub mod Standing
 pub mod Unshown
+pub use Rattle.mega_stepping.specs as of_stepping
 pub use Rattle.mega_actions.specs as of_actions
 pub use Rattle.mega_actions.specs.of_node_laws as of_node_laws

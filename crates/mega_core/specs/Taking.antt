@@ -1,46 +1,23 @@
 -- What taking a message comes to, part by part.
-use Rattle.std.specs.Prelude.{◌≡◌, ◌++◌, List, [], map, Option, Some, None}
+use Rattle.std.specs.Prelude.{◌≡◌, ◌++◌, map}
 use Rattle.mega_base.specs.declared.names.GroupId.{GroupId}
 use Rattle.mega_disk.specs.VersionMaps.{Versions}
 use Rattle.mega_wal.specs.declared.kept.Kept.{Kept}
 use Rattle.mega_wire.specs.declared.message.Message.{Message}
-use Rattle.mega_wire.specs.declared.message.Body.{Body}
-use Rattle.mega_wire.specs.declared.message.Body.TheVariants.{Where, Top, Accept, Prepare, Fetch}
-use Rattle.mega_rules.specs.Met.{Met}
 use Rattle.mega_rules.specs.Clock.{clock_of}
-use Rattle.mega_rules.specs.Logs.{decided, top_of}
 use Rattle.mega_rules.specs.Operations.{Node, Now, Setting}
-use Rattle.mega_rules.specs.Replies.{fetched, reply_to}
-use Rattle.mega_rules.specs.Steps.{Decision, Take, all_act, at_first, decision_note, hears_message, news, stored_after, told_decision, told_notes}
-use Rattle.mega_rules.specs.Voting.{acts, prepared, voted}
-use Rattle.mega_leases.specs.declared.leases.Leases.{Leases}
+use Rattle.mega_rules.specs.Replies.{reply_to}
+use Rattle.mega_rules.specs.Steps.{Take, all_act, at_first, decision_note, hears_message, stored_after, told_decision, told_notes}
+use Rattle.mega_stepping.specs.of_leases.declared.leases.Leases.{Leases}
 use Rattle.mega_replica.specs.declared.progress.Progress.{Progress}
 use Rattle.mega_actions.specs.of_node_laws.Acted.{acted_on, decision_in}
-use Rattle.mega_actions.specs.Stands.{Stands}
+use Rattle.mega_actions.specs.of_finishing.Stands.{Stands}
 use Rattle.mega_core.specs.declared.taking.Taken.{Taken}
-use Rattle.mega_core.specs.Notes.{met_of}
+use Rattle.mega_stepping.specs.Notes.{met_of}
 use Rattle.mega_handler.specs.Named.{Meanings}
 use Rattle.mega_replica.specs.Following.{progress_at}
 use Rattle.mega_actions.specs.declared.replica.Replica.{Replica}
 use Rattle.mega_actions.specs.IsAt.{setting_of}
-
--- the reply of a voter
-abbrev pub vote_reply : List Met → Body → Option Body
-vote_reply met (Where op group) = Some (Top op group (record { 0 = top_of met group }))
-vote_reply met (Accept op group position ballot entry) = Some (voted (acts met group position.0) op group position ballot entry)
-vote_reply met (Prepare op group position ballot) = Some (prepared (acts met group position.0) op group position ballot)
-vote_reply met (Fetch op group position) = Some (fetched op group position (decided met group position.0))
-vote_reply met _ = None
-
--- the first reply, or else the other
-abbrev pub or_reply : Option Body → Option Body → Option Body
-or_reply (Some body) other = Some body
-or_reply None other = other
-
--- what is told of a decision to all other nodes: nothing where the message told it
-abbrev pub news_by : Setting → Option Decision → Option Decision → List Message
-news_by s None d = news s d
-news_by s (Some told) d = []
 
 -- a message is taken: what is noted, sent and heard by then, what the operations act on, and what is kept
 pub record HasTaken (s : Setting) (t : Setting) (made : Taken) (kept : Kept) (leases : Leases) (version : Versions) (progress : GroupId → Progress) (node : Node) (m : Message) : Type 0 where

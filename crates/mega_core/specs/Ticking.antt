@@ -1,30 +1,23 @@
 -- What a tick comes to, part by part.
 use Rattle.std.specs.Prelude.{◌≡◌, ◌++◌, ℕ, map, fold}
 use Rattle.mega_base.specs.declared.names.GroupId.{GroupId}
-use Rattle.mega_base.specs.declared.names.OpId.{OpId}
 use Rattle.mega_disk.specs.VersionMaps.{Versions}
 use Rattle.mega_wal.specs.declared.kept.Kept.{Kept}
-use Rattle.mega_wire.specs.declared.message.Message.{Message}
-use Rattle.mega_wire.specs.declared.message.Body.TheVariants.{Fetch}
 use Rattle.mega_rules.specs.Clock.{begun_of}
 use Rattle.mega_rules.specs.Coordinators.{acquires_at}
 use Rattle.mega_rules.specs.Logs.{groups_of, log_of}
 use Rattle.mega_rules.specs.Operations.{Node, Now, Setting}
 use Rattle.mega_rules.specs.Steps.{Tick, at_first, background, lapse_notes, lease_notes, portion_of, ticked}
-use Rattle.mega_leases.specs.declared.leases.Leases.{Leases}
+use Rattle.mega_stepping.specs.of_leases.declared.leases.Leases.{Leases}
 use Rattle.mega_replica.specs.declared.progress.Progress.{Progress}
 use Rattle.mega_actions.specs.of_node_laws.Acted.{acted_on}
-use Rattle.mega_actions.specs.Stands.{Stands}
+use Rattle.mega_actions.specs.of_finishing.Stands.{Stands}
 use Rattle.mega_core.specs.declared.ticking.Ticked.{Ticked}
-use Rattle.mega_core.specs.Notes.{met_of}
+use Rattle.mega_stepping.specs.Notes.{met_of}
 use Rattle.mega_handler.specs.Named.{Meanings}
 use Rattle.mega_replica.specs.Following.{progress_at}
 use Rattle.mega_actions.specs.declared.replica.Replica.{Replica}
 use Rattle.mega_actions.specs.IsAt.{setting_of}
-
--- a node is asked for the entry at a position
-abbrev pub fetch_message : OpId → ℕ → GroupId → ℕ → ℕ → Message
-fetch_message op me group n to = record { from = me; to = to; body = Fetch op group (record { 0 = n }) }
 
 -- a tick: what is noted, and sent before and behind what the operations send, what these act on, and what is kept
 pub record HasTicked (s : Setting) (t : Setting) (made : Ticked) (kept : Kept) (leases : Leases) (version : Versions) (progress : GroupId → Progress) (node : Node) (now : ℕ) : Type 0 where

@@ -1,62 +1,24 @@
 //! A step ends: its notes and messages in their order, and what is sent told to the voter.
 ghost use Rattle.std.specs.Prelude.{◌≡◌, ◌++◌, ◌∷◌, List, map, flat_map, IfOk, OnOk};
 ghost use Rattle.mega_handler.specs.Named.{Meanings};
-ghost use Rattle.mega_rules.specs.Met.{Met, Sends};
+ghost use Rattle.mega_rules.specs.Met.{Met};
 ghost use Rattle.mega_rules.specs.Operations.{Node as RuleNode, Now};
 ghost use Rattle.mega_rules.specs.Steps.{apply_notes, onto};
 ghost use Rattle.mega_actions.specs.of_node_laws.Sending.{MaySend};
-ghost use Rattle.mega_voter.specs.Telling.{IsAnswer, Tells};
 ghost use Rattle.mega_actions.specs.IsAt.{setting_of};
 ghost use Rattle.mega_core.specs.Acted.{ActedAt, ended};
 ghost use Rattle.mega_core.specs.Made.{MadeAt};
-ghost use Rattle.mega_core.specs.Notes.{met_of};
-ghost use Rattle.mega_core.specs.Positions.{note_since};
-ghost use Rattle.mega_core.specs.Staging.{Stages};
+ghost use Rattle.mega_stepping.specs.Notes.{met_of};
+ghost use Rattle.mega_stepping.specs.Positions.{note_since};
+ghost use Rattle.mega_stepping.specs.Staging.{Stages};
 
-use crate::applying::{Before, apply_notes};
-use crate::joining::{add_sends, joined};
 use crate::node::Node;
-use crate::note::Note;
-use crate::step::Step;
-use mega_actions::Work;
+use mega_actions::mega_proposing::Work;
 use mega_base::{Items, NoMemory};
 use mega_disk::{Records, Versions};
-use mega_voter::Voter;
+use mega_stepping::{Before, Note, Step, add_sends, apply_notes, joined};
 use mega_wire::Message;
 use std::alloc::Global;
-
-/// Tells the voter of a message that its node sends.
-#[tactic(auto, using(crate::proofs::Staged::sending_staged))]
-fn tell_sent<R: Records>(
-    alloc: Global,
-    voter: &mut Voter<R>,
-    message: &Message,
-) -> Result<(), NoMemory>
-    ensures kept { OnOk result ((met : List Met) → IsAnswer met message.now.body → Tells voter.old.logs.kept met → Tells voter.new.logs.kept (Sends message.now ∷ met)) }
-    ensures staged { OnOk result ((before met : List Met) → IsAnswer met message.now.body → Tells voter.old.logs.kept met → Stages voter.old.logs.staged.items before met → Stages voter.new.logs.staged.items before (Sends message.now ∷ met)) }
-    ensures records { voter.new.logs.records ≡ voter.old.logs.records }
-{
-    match voter.sent(alloc, message) {
-        Ok(()) => Ok(()),
-        Err(_) => Err(NoMemory),
-    }
-}
-
-/// Tells the voter of all messages that its node sends in a step.
-fn tell_all_sent<R: Records>(
-    alloc: Global,
-    voter: &mut Voter<R>,
-    sends: &[Message],
-) -> Result<(), NoMemory>
-    ensures kept { OnOk result ((met : List Met) → MaySend met sends.now → Tells voter.old.logs.kept met → Tells voter.new.logs.kept (onto (map Sends sends.now) met)) }
-    ensures staged { OnOk result ((before met : List Met) → MaySend met sends.now → Tells voter.old.logs.kept met → Stages voter.old.logs.staged.items before met → Stages voter.new.logs.staged.items before (onto (map Sends sends.now) met)) }
-    ensures records { voter.new.logs.records ≡ voter.old.logs.records }
-{
-    for message in sends {
-        tell_sent(alloc, voter, message)?;
-    }
-    Ok(())
-}
 
 /// What is sent in a step: what it opens with, what the operations send, and what it closes with.
 fn all_sends(

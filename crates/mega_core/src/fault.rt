@@ -2,9 +2,9 @@
 ghost use Rattle.std.specs.Prelude.{◌≡◌};
 ghost use Rattle.mega_core.specs.Faults.{fault_of, taking_fault_of};
 
-use mega_actions::ActFault;
+use mega_actions::mega_finishing::ActFault;
 use mega_base::NoMemory;
-use mega_leases::TakeFault;
+use mega_stepping::mega_leases::TakeFault;
 
 /// Why a node did not step. After any of these it is not used again.
 #[derive(Clone, Copy, PartialEq, Eq, Debug, Drop)]

@@ -2,30 +2,21 @@
 //! (Lamport 2001; CIDR 2011).
 #![tactic(auto)]
 
-mod applying;
 mod beginning;
-mod deciding;
 mod ending;
 mod fault;
-mod hearing;
-mod joining;
-mod kinds;
 mod node;
-mod note;
-mod replying;
 mod restarting;
 mod starting;
-mod step;
 mod taking;
 mod telling;
 mod ticking;
-mod touching;
+mod watching;
 
 pub use fault::StepFault;
 pub use mega_actions;
+pub use mega_stepping;
 pub use node::Node;
-pub use note::Note;
 pub use restarting::{RestartFault, Restarted};
-pub use step::Step;
 pub use taking::Taken;
 pub use ticking::Ticked;

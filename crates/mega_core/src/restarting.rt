@@ -4,8 +4,8 @@
 ghost use Rattle.std.specs.Prelude.{◌≡◌, ◌⊎◌, ◌<◌, ◌+◌, ◌++◌, ◌∷◌, [], ℕ, List, map, flat_map, max, nat_lt, if◌then◌else◌, true, IfOk, OnOk, OnErr, Err};
 ghost use Rattle.mega_base.specs.declared.names.GroupId.{GroupId as Group};
 ghost use Rattle.mega_handler.specs.Named.{Meanings};
-ghost use Rattle.mega_leases.specs.Opening.{AreOwed};
-ghost use Rattle.mega_leases.specs.Tells.{Tells as TellsLeases};
+ghost use Rattle.mega_stepping.specs.of_leases.Opening.{AreOwed};
+ghost use Rattle.mega_stepping.specs.of_leases.Tells.{Tells as TellsLeases};
 ghost use Rattle.mega_locks.specs.History.{nodes};
 ghost use Rattle.mega_replica.specs.Following.{Follows, progress_at};
 ghost use Rattle.mega_replica.specs.Stored.{stored_with};
@@ -14,28 +14,27 @@ ghost use Rattle.mega_rules.specs.Logs.{groups_of, log_of, prefix_of};
 ghost use Rattle.mega_rules.specs.Members.{has_rows, is_node};
 ghost use Rattle.mega_rules.specs.Met.{Applies, Met, Starts};
 ghost use Rattle.mega_rules.specs.Steps.{apply_all, onto, start, start_note, start_notes};
-ghost use Rattle.mega_voter.specs.Holding.{Recalls};
-ghost use Rattle.mega_voter.specs.Telling.{Tells};
+ghost use Rattle.mega_stepping.specs.of_voter.Holding.{Recalls};
+ghost use Rattle.mega_stepping.specs.of_voter.Telling.{Tells};
 ghost use Rattle.mega_wal.specs.declared.item.JournalItem.TheVariants.{Start as StartItem};
-ghost use Rattle.mega_actions.specs.Stands.{setting};
+ghost use Rattle.mega_actions.specs.of_proposing.Settings.{setting};
 ghost use Rattle.mega_core.specs.declared.restarting.RestartFault.TheVariants.{NoMemory as OutOfMemory, StartsFull};
-ghost use Rattle.mega_core.specs.Notes.{met_of};
+ghost use Rattle.mega_stepping.specs.Notes.{met_of};
 ghost use Rattle.mega_core.specs.Restarting.{HaveFollowed, applied_at_start};
 ghost use Rattle.mega_core.specs.Served.{IsServed};
 ghost use Rattle.mega_core.specs.Standing.{StandsFor};
 
-use crate::kinds::has_rows;
 use crate::node::Node;
-use crate::note::Note;
 use mega_actions::Replica;
 use mega_actions::mega_marks::Indexed;
-use mega_base::{Copied, Epoch, GroupId, Items, NoMemory, NodeId};
+use mega_base::{Epoch, GroupId, Items, NoMemory, NodeId};
 use mega_cluster::Cluster;
 use mega_disk::{Records, Versions};
-use mega_leases::Leases;
-use mega_operations::Members;
 use mega_replica::StoredRows;
-use mega_voter::Voter;
+use mega_stepping::mega_leases::Leases;
+use mega_stepping::mega_operations::Members;
+use mega_stepping::mega_voter::Voter;
+use mega_stepping::{Note, has_rows};
 use std::alloc::Global;
 
 /// The greatest count of starts.

@@ -1,8 +1,8 @@
 //! The parts of a node at its first start.
 ghost use Rattle.std.specs.Prelude.{◌≡◌, ◌⊎◌, ◌≤◌, ◌∷◌, [], IfOk, OnOk, OnErr, Err};
-ghost use Rattle.mega_leases.specs.Tells.{Tells as TellsLeases};
+ghost use Rattle.mega_stepping.specs.of_leases.Tells.{Tells as TellsLeases};
 ghost use Rattle.mega_rules.specs.Met.{Starts};
-ghost use Rattle.mega_voter.specs.Telling.{Tells};
+ghost use Rattle.mega_stepping.specs.of_voter.Telling.{Tells};
 ghost use Rattle.mega_wal.specs.Kept.{Represents as Holds};
 ghost use Rattle.mega_core.specs.declared.fault.StepFault.TheVariants.{NoMemory, Unserved};
 ghost use Rattle.mega_core.specs.Served.{IsServed};
@@ -11,9 +11,9 @@ use crate::fault::StepFault;
 use mega_base::NodeId;
 use mega_cluster::Cluster;
 use mega_disk::Records;
-use mega_leases::Leases;
-use mega_operations::Members;
-use mega_voter::Voter;
+use mega_stepping::mega_leases::Leases;
+use mega_stepping::mega_operations::Members;
+use mega_stepping::mega_voter::Voter;
 use mega_wal::Logs;
 use std::alloc::Global;
 

@@ -7,7 +7,7 @@ use Rattle.mega_disk.specs.declared.versions.Versions.{Ghosts as Rows}
 use Rattle.mega_replica.specs.Faring.{Fares}
 use Rattle.mega_replica.specs.declared.rows.StoredRows.{StoredRows}
 use Rattle.mega_core.specs.declared.fault.StepFault.{StepFault}
-use Rattle.mega_core.specs.declared.step.Step.{Step}
+use Rattle.mega_core.specs.of_stepping.declared.step.Step.{Step}
 use Rattle.mega_wal.specs.declared.answers.LogFault.{LogFault}
 use Rattle.mega_wal.specs.declared.answers.LogFault.TheVariants.{BadRecord, DiskFault, Full, NoMemory, Spent}
 use Rattle.mega_rules.specs.Met.{Met}

@@ -19,12 +19,12 @@ use Rattle.mega_leases.specs.Opening.{AreOwed}
 use Rattle.mega_core.specs.of_node_laws.Acted.{acted_on, own_item}
 use Rattle.mega_core.specs.of_node_laws.Own.{HasOwnRows}
 use Rattle.mega_core.specs.declared.node.Node.{Node}
-use Rattle.mega_core.specs.declared.note.Note.{Note}
-use Rattle.mega_core.specs.declared.step.Step.{Step}
-use Rattle.mega_core.specs.Notes.{met_of}
-use Rattle.mega_core.specs.Staging.{Stages}
+use Rattle.mega_core.specs.of_stepping.declared.note.Note.{Note}
+use Rattle.mega_core.specs.of_stepping.declared.step.Step.{Step}
+use Rattle.mega_core.specs.of_stepping.Notes.{met_of}
+use Rattle.mega_core.specs.of_stepping.Staging.{Stages}
 use Rattle.mega_core.specs.Standing.{StandsFor}
-use Rattle.mega_core.proofs.Staged.{nothing_staged}
+use Rattle.mega_core.proofs.of_stepping.Staged.{nothing_staged}
 use Rattle.mega_promises.specs.Runs.{is_durable, owes, replies_in}
 use Rattle.mega_voter.specs.Faring.{LogFares}
 use Rattle.mega_durable.specs.declared.cut.Cut.{Cut}

@@ -17,9 +17,9 @@ use Rattle.mega_voter.specs.Holding.{HoldsMet, Recalls}
 use Rattle.mega_voter.specs.Journal.{journal_of}
 use Rattle.mega_core.specs.of_node_laws.Acted.{acted_on, decision_in}
 use Rattle.mega_core.specs.of_node_laws.Own.{HasOwnRows}
-use Rattle.mega_core.specs.of_actions.Stands.{setting}
+use Rattle.mega_core.specs.of_actions.of_proposing.Settings.{setting}
 use Rattle.mega_core.specs.declared.node.Node.{Node}
-use Rattle.mega_core.specs.Placed.{IsPlaced}
+use Rattle.mega_core.specs.of_stepping.Placed.{IsPlaced}
 use Rattle.mega_core.specs.Restarting.{HaveFollowed}
 use Rattle.mega_core.specs.Standing.{StandsFor}
 use Rattle.mega_durable.specs.declared.down.Down.{Down}

@@ -1,12 +1,12 @@
 //! What a step that is cut off leaves for the next start to tell.
 ghost use Rattle.std.specs.Prelude.{◌≡◌, filter, map, take};
 ghost use Rattle.mega_leases.specs.Notes.{met_of as leases_met};
-ghost use Rattle.mega_core.specs.Notes.{met_of};
+ghost use Rattle.mega_core.specs.of_stepping.Notes.{met_of};
 ghost use Rattle.mega_promises.specs.Runs.{is_durable};
 
 use mega_base::Items;
-use mega_core::mega_actions::{Answered, Valid};
-use mega_core::{Note, Step};
+use mega_core::mega_actions::mega_proposing::{Answered, Valid};
+use mega_core::mega_stepping::{Note, Step};
 use mega_wire::Message;
 
 /// What the next start owes of a step that was cut off, where the step's record was kept: its grants, lapses and decision,

@@ -11,7 +11,8 @@ ghost use Rattle.mega_durable.specs.Stepped.{AtStep};
 
 use crate::cut::handed_back;
 use crate::fault::UpFault;
-use mega_core::{Node, Step};
+use mega_core::Node;
+use mega_core::mega_stepping::Step;
 use mega_disk::{Records, Versions};
 use mega_formed::are_items;
 use mega_voter::Voter;

@@ -2,10 +2,10 @@
 ghost use Rattle.std.specs.Prelude.{◌≡◌, ◌∷◌, []};
 ghost use Rattle.mega_promises.specs.Items.{shown};
 ghost use Rattle.mega_leases.specs.Notes.{met_of as leases_met};
-ghost use Rattle.mega_core.specs.Notes.{met_of};
+ghost use Rattle.mega_core.specs.of_stepping.Notes.{met_of};
 
 use mega_base::{NodeId, Position};
-use mega_core::Note;
+use mega_core::mega_stepping::Note;
 use mega_transcript::Item;
 
 /// The item that shows what a node's cell or coordinator notes.

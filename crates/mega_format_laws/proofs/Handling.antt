@@ -17,8 +17,8 @@ use Rattle.mega_index.specs.LocalWrites.{index_writes}
 use Rattle.mega_index.specs.Rows.{Listed, Rows, list_after, row_under, written}
 use Rattle.mega_handler.specs.Effects.{Effect, entry_handling, handle_entry, handled}
 use Rattle.mega_handler.specs.Named.{Meaning, Meanings, effect, effect_by, meaning_of, same_name}
-use Rattle.mega_rules.specs.Acting.{handling, table_rows}
-use Rattle.mega_rules.specs.Operations.{Setting}
+use Rattle.mega_voter.specs.of_rules.Acting.{handling, table_rows}
+use Rattle.mega_voter.specs.of_rules.Operations.{Setting}
 use Rattle.mega_format_laws.specs.Rounds.{Each, IsSender, IsShort}
 use Rattle.mega_format_laws.specs.Requests.{AreHandlers, AreListed, IsEntered, IsQueued, IsRowed, IsSpelledRow}
 use Rattle.mega_format_laws.proofs.Each.{each_both, each_filter, either}

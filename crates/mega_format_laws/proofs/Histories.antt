@@ -14,11 +14,11 @@ use Rattle.mega_wire.specs.declared.message.Body.TheVariants.{Accepted, Promise}
 use Rattle.mega_wire.specs.Messages.{IsBody}
 use Rattle.mega_wal.specs.Acceptor.{Act, Promised, Vote, Voted, best, greater_ballot, greater_vote, is_ballot_below, shown}
 use Rattle.mega_wal.specs.Same.{same_group}
-use Rattle.mega_rules.specs.Met.{Met, Starts, Ticks, Sends, Unsends, Decides}
-use Rattle.mega_rules.specs.Members.{full_nodes, is_full, is_voter, nodes, voters}
-use Rattle.mega_rules.specs.Clock.{clock_of, start_of}
-use Rattle.mega_rules.specs.Voting.{act_if, act_in, act_made, acts, made_of}
-use Rattle.mega_rules.specs.Logs.{accepted_at, decided, decided_from, first_of, groups_of, is_group_before, log_of, newest_of, prefix_of, then_more, top_of, with_group}
+use Rattle.mega_voter.specs.of_rules.Met.{Met, Starts, Ticks, Sends, Unsends, Decides}
+use Rattle.mega_voter.specs.of_rules.Members.{full_nodes, is_full, is_voter, nodes, voters}
+use Rattle.mega_voter.specs.of_rules.Clock.{clock_of, start_of}
+use Rattle.mega_voter.specs.of_rules.Voting.{act_if, act_in, act_made, acts, made_of}
+use Rattle.mega_voter.specs.of_rules.Logs.{accepted_at, decided, decided_from, first_of, groups_of, is_group_before, log_of, newest_of, prefix_of, then_more, top_of, with_group}
 use Rattle.mega_format_laws.specs.Rounds.{Each, IsMember, IsPlace, IsShort, IsVote}
 use Rattle.mega_format_laws.specs.Reads.{IsTop}
 use Rattle.mega_format_laws.specs.Histories.{IsClock, IsCluster, IsItem, IsMet}

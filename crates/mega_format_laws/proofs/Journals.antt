@@ -8,8 +8,8 @@ use Rattle.mega_wire.specs.declared.message.Body.TheVariants.{Accepted, Promise}
 use Rattle.mega_wire.specs.Messages.{IsBody}
 use Rattle.mega_wal.specs.declared.item.JournalItem.{JournalItem}
 use Rattle.mega_wal.specs.Items.{IsItem as IsJournalItem}
-use Rattle.mega_rules.specs.Met.{Met, Starts, Sends, Unsends, Grants, Lapses, Decides}
-use Rattle.mega_rules.specs.Clock.{start_of}
+use Rattle.mega_voter.specs.of_rules.Met.{Met, Starts, Sends, Unsends, Grants, Lapses, Decides}
+use Rattle.mega_voter.specs.of_rules.Clock.{start_of}
 use Rattle.mega_voter.specs.Journal.{item_in, item_of, items_in, journal_of}
 use Rattle.mega_format_laws.specs.Rounds.{Each}
 use Rattle.mega_format_laws.specs.Histories.{IsItem, IsMet}

@@ -21,10 +21,10 @@ use Rattle.mega_locks.specs.Rule.{after_answer, after_lapse as lapsed, answer, a
 use Rattle.mega_coordinator.specs.declared.lease.Lease.{Lease}
 use Rattle.mega_coordinator.specs.Lease.{counts, next_count, next_lease, past_ends, tick_ends}
 use Rattle.mega_coordinator.specs.History.{Call as Told, Ticks as TickTold, Grants as GrantTold, Passes, epoch_after, lease_of}
-use Rattle.mega_rules.specs.Met.{Met, Starts, Ticks, Takes, Grants, Lapses}
-use Rattle.mega_rules.specs.Members.{is_cell, keep_of}
-use Rattle.mega_rules.specs.Clock.{clock_of, is_opening}
-use Rattle.mega_rules.specs.Locks.{asked_for, asked_in, cell_calls, grant_note, if_opening, lapse_note, lapses_at, last_grant, reopening, reopenings}
+use Rattle.mega_voter.specs.of_rules.Met.{Met, Starts, Ticks, Takes, Grants, Lapses}
+use Rattle.mega_voter.specs.of_rules.Members.{is_cell, keep_of}
+use Rattle.mega_voter.specs.of_rules.Clock.{clock_of, is_opening}
+use Rattle.mega_voter.specs.of_rules.Locks.{asked_for, asked_in, cell_calls, grant_note, if_opening, lapse_note, lapses_at, last_grant, reopening, reopenings}
 use Rattle.mega_format_laws.specs.Rounds.{Each, IsMember}
 use Rattle.mega_format_laws.specs.Histories.{IsItem, IsMet}
 use Rattle.mega_format_laws.proofs.Each.{each_both, each_flat, either}

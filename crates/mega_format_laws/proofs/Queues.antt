@@ -10,11 +10,11 @@ use Rattle.mega_entry.specs.declared.content.Content.{Content}
 use Rattle.mega_entry.specs.declared.content.Enter.{Enter}
 use Rattle.mega_entry.specs.declared.content.Send.{Send}
 use Rattle.mega_entry.specs.Entries.{IsEnter, IsName, IsSend, IsWrite, enter_text, entry_text}
-use Rattle.mega_replica.specs.Applying.{applied}
-use Rattle.mega_rules.specs.Logs.{groups_of, log_of}
-use Rattle.mega_rules.specs.Operations.{Now}
-use Rattle.mega_rules.specs.Queues.{Log, Posted, enter_entry, entered_in, entries_of, handled_in, has_unhandled, is_named, is_short, names_entered, next_to_enter, next_to_handle, oldest_unhandled, posted, sent_from, sent_in, waits_to_enter}
-use Rattle.mega_rules.specs.Acting.{applied_in, applied_logs}
+use Rattle.mega_voter.specs.of_rules.of_replica.Applying.{applied}
+use Rattle.mega_voter.specs.of_rules.Logs.{groups_of, log_of}
+use Rattle.mega_voter.specs.of_rules.Operations.{Now}
+use Rattle.mega_voter.specs.of_rules.Queues.{Log, Posted, enter_entry, entered_in, entries_of, handled_in, has_unhandled, is_named, is_short, names_entered, next_to_enter, next_to_handle, oldest_unhandled, posted, sent_from, sent_in, waits_to_enter}
+use Rattle.mega_voter.specs.of_rules.Acting.{applied_in, applied_logs}
 use Rattle.mega_format_laws.specs.Rounds.{Each, IsSender, IsShort}
 use Rattle.mega_format_laws.specs.Histories.{IsMet}
 use Rattle.mega_format_laws.specs.Requests.{IsEntered}

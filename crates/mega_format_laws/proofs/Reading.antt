@@ -7,16 +7,16 @@ use Rattle.mega_wire.specs.declared.message.Body.{Body}
 use Rattle.mega_wire.specs.declared.message.Body.TheVariants.{Top, HaveNot}
 use Rattle.mega_wire.specs.Messages.{IsMessage, IsBody}
 use Rattle.mega_wal.specs.Same.{same_group, same_op}
-use Rattle.mega_propose.specs.Members.{has, is_majority, with_node, without}
-use Rattle.mega_propose.specs.declared.round.Move.{Move as RoundMove}
-use Rattle.mega_propose.specs.Rounds.{completes, due, is_due, settled, takes}
-use Rattle.mega_read.specs.declared.reading.Reader.{Reader}
-use Rattle.mega_read.specs.declared.reading.Search.TheVariants.{Fetching, Filling}
-use Rattle.mega_read.specs.declared.reading.Stage.{Stage}
-use Rattle.mega_read.specs.declared.reading.Stage.TheVariants.{Polling, Catching}
-use Rattle.mega_read.specs.declared.reading.Reading.{Reading}
-use Rattle.mega_read.specs.declared.reading.Move.{Move}
-use Rattle.mega_read.specs.Catching.{asked_by, denied, falls_due, fetch_to, fetches, filled, fills, first_reading, hears, helpers, is_position, local_read, move, no_op, polled_read, read_settled, searched, seeks, settled_there, site, stays, topped, where_to}
+use Rattle.mega_voter.specs.of_rules.of_read.of_propose.Members.{has, is_majority, with_node, without}
+use Rattle.mega_voter.specs.of_rules.of_read.of_propose.declared.round.Move.{Move as RoundMove}
+use Rattle.mega_voter.specs.of_rules.of_read.of_propose.Rounds.{completes, due, is_due, settled, takes}
+use Rattle.mega_voter.specs.of_rules.of_read.declared.reading.Reader.{Reader}
+use Rattle.mega_voter.specs.of_rules.of_read.declared.reading.Search.TheVariants.{Fetching, Filling}
+use Rattle.mega_voter.specs.of_rules.of_read.declared.reading.Stage.{Stage}
+use Rattle.mega_voter.specs.of_rules.of_read.declared.reading.Stage.TheVariants.{Polling, Catching}
+use Rattle.mega_voter.specs.of_rules.of_read.declared.reading.Reading.{Reading}
+use Rattle.mega_voter.specs.of_rules.of_read.declared.reading.Move.{Move}
+use Rattle.mega_voter.specs.of_rules.of_read.Catching.{asked_by, denied, falls_due, fetch_to, fetches, filled, fills, first_reading, hears, helpers, is_position, local_read, move, no_op, polled_read, read_settled, searched, seeks, settled_there, site, stays, topped, where_to}
 use Rattle.mega_format_laws.specs.Rounds.{Each, IsMember, IsMove, IsPlace, IsShort, IsSite}
 use Rattle.mega_format_laws.specs.Reads.{IsReader, IsReading, IsReadMove, IsStage, IsTop}
 use Rattle.mega_format_laws.proofs.Each.{each_filter, each_map, either}

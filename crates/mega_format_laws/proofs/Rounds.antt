@@ -11,14 +11,14 @@ use Rattle.mega_wire.specs.declared.message.Body.{Body}
 use Rattle.mega_wire.specs.declared.message.Body.TheVariants.{Accept, Accepted, Refused, Prepare, Promise, Invalidated, Unheld}
 use Rattle.mega_wire.specs.Messages.{IsMessage, IsBody}
 use Rattle.mega_wal.specs.Acceptor.{is_ballot_below}
-use Rattle.mega_propose.specs.Members.{has, is_majority, others, with_node}
-use Rattle.mega_propose.specs.declared.round.Cover.{Cover}
-use Rattle.mega_propose.specs.declared.round.Report.{Report}
-use Rattle.mega_propose.specs.declared.round.Round.{Round}
-use Rattle.mega_propose.specs.declared.round.Site.{Site}
-use Rattle.mega_propose.specs.declared.round.Proposal.{Proposal}
-use Rattle.mega_propose.specs.declared.round.Round.TheVariants.{Asking, Preparing, Accepting, Covering, Settled, Waiting}
-use Rattle.mega_propose.specs.Rounds.{accept_to, accepted, accepts, asks, cell_numbers, completes, covers, dead_to, due, first_cover, greater_vote, greatest_vote, invalidate_to, invalidated, is_covered, is_due, is_here, is_sent, last_round, move, next_ballot, picked, prepare_to, prepares, presses, promised, proposes, refused, same_ballot, sees, settled, stays, takes, uncovered, unheld, vote_round, with_accepted, with_cell, with_invalidated}
+use Rattle.mega_voter.specs.of_rules.of_read.of_propose.Members.{has, is_majority, others, with_node}
+use Rattle.mega_voter.specs.of_rules.of_read.of_propose.declared.round.Cover.{Cover}
+use Rattle.mega_voter.specs.of_rules.of_read.of_propose.declared.round.Report.{Report}
+use Rattle.mega_voter.specs.of_rules.of_read.of_propose.declared.round.Round.{Round}
+use Rattle.mega_voter.specs.of_rules.of_read.of_propose.declared.round.Site.{Site}
+use Rattle.mega_voter.specs.of_rules.of_read.of_propose.declared.round.Proposal.{Proposal}
+use Rattle.mega_voter.specs.of_rules.of_read.of_propose.declared.round.Round.TheVariants.{Asking, Preparing, Accepting, Covering, Settled, Waiting}
+use Rattle.mega_voter.specs.of_rules.of_read.of_propose.Rounds.{accept_to, accepted, accepts, asks, cell_numbers, completes, covers, dead_to, due, first_cover, greater_vote, greatest_vote, invalidate_to, invalidated, is_covered, is_due, is_here, is_sent, last_round, move, next_ballot, picked, prepare_to, prepares, presses, promised, proposes, refused, same_ballot, sees, settled, stays, takes, uncovered, unheld, vote_round, with_accepted, with_cell, with_invalidated}
 use Rattle.mega_format_laws.specs.Rounds.{AreMessages, Each, IsMember, IsMove, IsProposal, IsReport, IsRound, IsShort, IsSite, IsVote}
 use Rattle.mega_format_laws.proofs.Each.{each_both, each_filter, each_flat, each_map, either}
 

@@ -1,6 +1,6 @@
 -- Steps, with what operations propose of their own.
-use Rattle.mega_rules.specs.Operations.{Node, Setting}
-use Rattle.mega_rules.specs.Steps.{Event, step}
+use Rattle.mega_voter.specs.of_rules.Operations.{Node, Setting}
+use Rattle.mega_voter.specs.of_rules.Steps.{Event, step}
 use Rattle.mega_format_laws.specs.Nodes.{IsEvent, IsNode, IsSetting, IsStep}
 use Rattle.mega_format_laws.proofs.Acting.{AreOutcomes}
 use Rattle.mega_format_laws.proofs.Batches.{batch_short}

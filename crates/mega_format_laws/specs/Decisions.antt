@@ -2,7 +2,7 @@
 use Rattle.std.specs.Prelude.{Option}
 use Rattle.mega_base.specs.Codec.{IsOption}
 use Rattle.mega_base.specs.Names.{IsGroup}
-use Rattle.mega_rules.specs.Steps.{Decision}
+use Rattle.mega_voter.specs.of_rules.Steps.{Decision}
 use Rattle.mega_format_laws.specs.Rounds.{IsPlace, IsShort}
 
 pub record IsDecision (d : Decision) : Type 0 where

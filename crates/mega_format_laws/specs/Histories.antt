@@ -4,7 +4,7 @@ use Rattle.mega_base.specs.Codec.{IsBetween}
 use Rattle.mega_base.specs.Names.{IsEpoch, IsGroup, IsU32}
 use Rattle.mega_cluster.specs.declared.cluster.Cluster.{Cluster}
 use Rattle.mega_wire.specs.Messages.{IsMessage}
-use Rattle.mega_rules.specs.Met.{Met, Starts, Crashes, Ticks, Begins, Takes, Sends, Unsends, Grants, Lapses, Counts, Forgets, Serves, Loses, Validates, Invalidates, Decides, Applies, Answers}
+use Rattle.mega_voter.specs.of_rules.Met.{Met, Starts, Crashes, Ticks, Begins, Takes, Sends, Unsends, Grants, Lapses, Counts, Forgets, Serves, Loses, Validates, Invalidates, Decides, Applies, Answers}
 use Rattle.mega_format_laws.specs.Rounds.{Each, IsMember, IsPlace, IsShort}
 
 -- at most nine nodes, five cells and a million positions, as the rules of headers have it

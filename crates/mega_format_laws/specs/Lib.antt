@@ -4,3 +4,4 @@ pub mod Histories
 pub mod Decisions
 pub mod Requests
 pub mod Nodes
+pub use Rattle.mega_voter.specs.of_rules as of_rules

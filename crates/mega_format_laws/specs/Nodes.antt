@@ -4,9 +4,9 @@ use Rattle.mega_base.specs.Names.{IsGroup}
 use Rattle.mega_base.specs.declared.names.OpId.{OpId}
 use Rattle.mega_entry.specs.declared.content.Enter.{Enter}
 use Rattle.mega_wire.specs.Messages.{IsMessage}
-use Rattle.mega_rules.specs.Operations.{Node, Now, Operation, Phase, Proposes, Reads, Setting}
-use Rattle.mega_rules.specs.Queues.{enter_entry}
-use Rattle.mega_rules.specs.Steps.{Event, Begin, Step, Take, Tick}
+use Rattle.mega_voter.specs.of_rules.Operations.{Node, Now, Operation, Phase, Proposes, Reads, Setting}
+use Rattle.mega_voter.specs.of_rules.Queues.{enter_entry}
+use Rattle.mega_voter.specs.of_rules.Steps.{Event, Begin, Step, Take, Tick}
 use Rattle.mega_format_laws.specs.Rounds.{AreMessages, Each, IsMember, IsPlace, IsProposal, IsSender, IsShort}
 use Rattle.mega_format_laws.specs.Reads.{IsReading}
 use Rattle.mega_format_laws.specs.Histories.{IsClock, IsCluster, IsMet}

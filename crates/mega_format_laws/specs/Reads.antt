@@ -1,13 +1,13 @@
 -- What the message format can hold, of a current read of a group.
 use Rattle.std.specs.Prelude.{ℕ, ◌≤◌, Option, Some, None}
 use Rattle.mega_base.specs.Names.{IsGroup}
-use Rattle.mega_read.specs.declared.reading.Reader.{Reader}
-use Rattle.mega_read.specs.declared.reading.Search.{Search}
-use Rattle.mega_read.specs.declared.reading.Search.TheVariants.{Fetching, Filling}
-use Rattle.mega_read.specs.declared.reading.Stage.{Stage}
-use Rattle.mega_read.specs.declared.reading.Stage.TheVariants.{Polling, Catching}
-use Rattle.mega_read.specs.declared.reading.Reading.{Reading}
-use Rattle.mega_read.specs.declared.reading.Move.{Move}
+use Rattle.mega_voter.specs.of_rules.of_read.declared.reading.Reader.{Reader}
+use Rattle.mega_voter.specs.of_rules.of_read.declared.reading.Search.{Search}
+use Rattle.mega_voter.specs.of_rules.of_read.declared.reading.Search.TheVariants.{Fetching, Filling}
+use Rattle.mega_voter.specs.of_rules.of_read.declared.reading.Stage.{Stage}
+use Rattle.mega_voter.specs.of_rules.of_read.declared.reading.Stage.TheVariants.{Polling, Catching}
+use Rattle.mega_voter.specs.of_rules.of_read.declared.reading.Reading.{Reading}
+use Rattle.mega_voter.specs.of_rules.of_read.declared.reading.Move.{Move}
 use Rattle.mega_format_laws.specs.Rounds.{AreMessages, Each, IsMember, IsPlace, IsProposal, IsSender}
 
 pub record IsReader (who : Reader) : Type 0 where

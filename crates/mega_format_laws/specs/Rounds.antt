@@ -10,12 +10,12 @@ use Rattle.mega_entry.specs.declared.content.Content.{Content}
 use Rattle.mega_entry.specs.Entries.{IsEntry, entry_text}
 use Rattle.mega_wire.specs.declared.message.Message.{Message}
 use Rattle.mega_wire.specs.Messages.{IsMessage}
-use Rattle.mega_propose.specs.declared.round.Site.{Site}
-use Rattle.mega_propose.specs.declared.round.Report.{Report}
-use Rattle.mega_propose.specs.declared.round.Round.{Round}
-use Rattle.mega_propose.specs.declared.round.Round.TheVariants.{Asking, Preparing, Accepting, Covering, Settled, Waiting}
-use Rattle.mega_propose.specs.declared.round.Proposal.{Proposal}
-use Rattle.mega_propose.specs.declared.round.Move.{Move}
+use Rattle.mega_voter.specs.of_rules.of_read.of_propose.declared.round.Site.{Site}
+use Rattle.mega_voter.specs.of_rules.of_read.of_propose.declared.round.Report.{Report}
+use Rattle.mega_voter.specs.of_rules.of_read.of_propose.declared.round.Round.{Round}
+use Rattle.mega_voter.specs.of_rules.of_read.of_propose.declared.round.Round.TheVariants.{Asking, Preparing, Accepting, Covering, Settled, Waiting}
+use Rattle.mega_voter.specs.of_rules.of_read.of_propose.declared.round.Proposal.{Proposal}
+use Rattle.mega_voter.specs.of_rules.of_read.of_propose.declared.round.Move.{Move}
 
 -- each of a list is so
 abbrev pub Each : {X : Type 0} → (X → Type 0) → List X → Type 0

@@ -8,19 +8,19 @@ use Rattle.mega_cluster.specs.declared.cluster.Cluster.{Cluster}
 use Rattle.mega_entry.specs.declared.content.Content.{Content}
 use Rattle.mega_handler.specs.Named.{Meanings}
 use Rattle.mega_wire.specs.declared.message.Body.TheVariants.{Top}
-use Rattle.mega_transcript.specs.declared.item.Item.{Item}
-use Rattle.mega_transcript.specs.declared.item.Item.TheVariants.{Decide, Sent}
-use Rattle.mega_promises.specs.Promises.{Stands}
-use Rattle.mega_promises.specs.Runs.{Happening, IsRun}
-use Rattle.mega_tape_laws.specs.Chosen.{Chosen}
-use Rattle.mega_tape_laws.specs.Lawful.{Lawful, message}
-use Rattle.mega_tape_laws.specs.Places.{Place}
-use Rattle.mega_tape_laws.specs.Polls.{ArePolls, IsPolled}
-use Rattle.mega_tape_laws.proofs.Agreement.{decided_chosen}
-use Rattle.mega_tape_laws.proofs.Majorities.{Shared, meet}
-use Rattle.mega_run_laws.proofs.Runs.{run_lawful, run_polls}
-use Rattle.mega_settled_laws.specs.Covering.{Earlier}
-use Rattle.mega_settled_laws.proofs.Tapes.{lawful_before}
+use Rattle.mega_leased_laws.specs.of_settled_laws.of_run_laws.of_tape_laws.of_promises.of_transcript.declared.item.Item.{Item}
+use Rattle.mega_leased_laws.specs.of_settled_laws.of_run_laws.of_tape_laws.of_promises.of_transcript.declared.item.Item.TheVariants.{Decide, Sent}
+use Rattle.mega_leased_laws.specs.of_settled_laws.of_run_laws.of_tape_laws.of_promises.Promises.{Stands}
+use Rattle.mega_leased_laws.specs.of_settled_laws.of_run_laws.of_tape_laws.of_promises.Runs.{Happening, IsRun}
+use Rattle.mega_leased_laws.specs.of_settled_laws.of_run_laws.of_tape_laws.Chosen.{Chosen}
+use Rattle.mega_leased_laws.specs.of_settled_laws.of_run_laws.of_tape_laws.Lawful.{Lawful, message}
+use Rattle.mega_leased_laws.specs.of_settled_laws.of_run_laws.of_tape_laws.Places.{Place}
+use Rattle.mega_leased_laws.specs.of_settled_laws.of_run_laws.of_tape_laws.Polls.{ArePolls, IsPolled}
+use Rattle.mega_leased_laws.proofs.of_settled_laws.of_run_laws.of_tape_laws.Agreement.{decided_chosen}
+use Rattle.mega_leased_laws.proofs.of_settled_laws.of_run_laws.of_tape_laws.Majorities.{Shared, meet}
+use Rattle.mega_leased_laws.proofs.of_settled_laws.of_run_laws.Runs.{run_lawful, run_polls}
+use Rattle.mega_leased_laws.specs.of_settled_laws.Covering.{Earlier}
+use Rattle.mega_leased_laws.proofs.of_settled_laws.Tapes.{lawful_before}
 use Rattle.mega_leased_laws.specs.of_valid_laws.Leases.{has_polled}
 use Rattle.mega_leased_laws.proofs.of_valid_laws.Joint.{told_above}
 

@@ -2,11 +2,11 @@
 use Rattle.std.proofs.Common.{◌≤◌, List, length}
 use Rattle.mega_cluster.specs.declared.cluster.Cluster.{Cluster}
 use Rattle.mega_handler.specs.Named.{Meanings}
-use Rattle.mega_transcript.specs.declared.item.Item.{Item}
-use Rattle.mega_promises.specs.Fresh.{IsFresh}
-use Rattle.mega_promises.specs.Runs.{Happening, IsRun}
-use Rattle.mega_tape_laws.specs.Writes.{Usage}
-use Rattle.mega_run_laws.specs.Usages.{Fits}
+use Rattle.mega_leased_laws.specs.of_settled_laws.of_run_laws.of_tape_laws.of_promises.of_transcript.declared.item.Item.{Item}
+use Rattle.mega_leased_laws.specs.of_settled_laws.of_run_laws.of_tape_laws.of_promises.Fresh.{IsFresh}
+use Rattle.mega_leased_laws.specs.of_settled_laws.of_run_laws.of_tape_laws.of_promises.Runs.{Happening, IsRun}
+use Rattle.mega_leased_laws.specs.of_settled_laws.of_run_laws.of_tape_laws.Writes.{Usage}
+use Rattle.mega_leased_laws.specs.of_settled_laws.of_run_laws.Usages.{Fits}
 use Rattle.mega_fresh_laws.proofs.Polled as polled
 use Rattle.mega_fresh_laws.proofs.Promised as promised
 

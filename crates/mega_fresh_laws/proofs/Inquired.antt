@@ -6,38 +6,38 @@ use Rattle.mega_ballot.specs.Order.{zero_ballot}
 use Rattle.mega_cluster.specs.declared.cluster.Cluster.{Cluster}
 use Rattle.mega_handler.specs.Named.{Meanings}
 use Rattle.mega_outcome.specs.declared.request.Request.{Request}
-use Rattle.mega_transcript.specs.declared.item.Item.{Item}
-use Rattle.mega_transcript.specs.declared.item.Item.TheVariants.{Crash, Sent, Unsafe}
-use Rattle.mega_transcript.specs.Tape.{sent_count}
+use Rattle.mega_leased_laws.specs.of_settled_laws.of_run_laws.of_tape_laws.of_promises.of_transcript.declared.item.Item.{Item}
+use Rattle.mega_leased_laws.specs.of_settled_laws.of_run_laws.of_tape_laws.of_promises.of_transcript.declared.item.Item.TheVariants.{Crash, Sent, Unsafe}
+use Rattle.mega_leased_laws.specs.of_settled_laws.of_run_laws.of_tape_laws.of_promises.of_transcript.Tape.{sent_count}
 use Rattle.mega_wire.specs.declared.message.Message.{Message}
 use Rattle.mega_wire.specs.declared.message.Body.{Body}
 use Rattle.mega_wire.specs.declared.message.Body.TheVariants.{Accept, Where}
-use Rattle.mega_promises.specs.Fresh.{proposes}
-use Rattle.mega_promises.specs.Items.{number, shown}
-use Rattle.mega_promises.specs.Messages.{is_unsafe}
-use Rattle.mega_promises.specs.Promises.{Stands}
-use Rattle.mega_promises.specs.Runs.{Cuts, Happening, IsRun, Standing, breaks, goes_on, met_in, opening, set_at, setting, with_item, with_items}
-use Rattle.mega_rules.specs.Clock.{begun_of, clock_of, last_number, start_of}
-use Rattle.mega_rules.specs.Coordinators.{acquires_at}
-use Rattle.mega_rules.specs.Members.{kind_of}
-use Rattle.mega_rules.specs.Met.{Met, Begins, Takes, Ticks}
-use Rattle.mega_rules.specs.Operations.{Node, Now, Operation, Setting}
-use Rattle.mega_rules.specs.Replies.{reply_to}
-use Rattle.mega_rules.specs.Steps.{Begin, Decision, Event, Heard as HeardBy, Step, Take, Tick, all_act, at_first, at_open, background, begin_step, crashed, decision_note, first_settled, hears_message, if_new, is_worn, lapse_notes, lease_notes, missing_kind, new_operation, news, onto, op_of, portion_of, refusal, start, start_items, step, stored_after, taken, tick_step, ticked, told_decision, told_notes, unless_missing, unless_refused}
-use Rattle.mega_tape_laws.specs.Lawful.{message}
-use Rattle.mega_tape_laws.specs.Places.{In, Place, Proposes as ProposesMove, Took, move_of, moves}
-use Rattle.mega_tape_laws.specs.Writes.{Usage}
-use Rattle.mega_tape_laws.proofs.Lists.{kept as in_kept}
-use Rattle.mega_tape_laws.proofs.Made.{proposed_here}
-use Rattle.mega_run_laws.specs.Usages.{Fits}
-use Rattle.mega_run_laws.specs.Vouched.{Each, sent}
-use Rattle.mega_run_laws.proofs.Owned.{Mine}
-use Rattle.mega_run_laws.proofs.Runs.{IsMark}
-use Rattle.mega_run_laws.proofs.Sending.{took_on}
-use Rattle.mega_run_laws.proofs.Standing.{Good}
-use Rattle.mega_run_laws.proofs.Steps.{never_asked, never_moved}
-use Rattle.mega_run_laws.proofs.Turns.{Held, IsRising, each_on, each_zip, sent_append}
-use Rattle.mega_settled_laws.proofs.Tapes.{IsSilent, each_both, notes_silent}
+use Rattle.mega_leased_laws.specs.of_settled_laws.of_run_laws.of_tape_laws.of_promises.Fresh.{proposes}
+use Rattle.mega_leased_laws.specs.of_settled_laws.of_run_laws.of_tape_laws.of_promises.Items.{number, shown}
+use Rattle.mega_leased_laws.specs.of_settled_laws.of_run_laws.of_tape_laws.of_promises.Messages.{is_unsafe}
+use Rattle.mega_leased_laws.specs.of_settled_laws.of_run_laws.of_tape_laws.of_promises.Promises.{Stands}
+use Rattle.mega_leased_laws.specs.of_settled_laws.of_run_laws.of_tape_laws.of_promises.Runs.{Cuts, Happening, IsRun, Standing, breaks, goes_on, met_in, opening, set_at, setting, with_item, with_items}
+use Rattle.mega_leased_laws.specs.of_settled_laws.of_run_laws.of_tape_laws.of_promises.of_rules.Clock.{begun_of, clock_of, last_number, start_of}
+use Rattle.mega_leased_laws.specs.of_settled_laws.of_run_laws.of_tape_laws.of_promises.of_rules.Coordinators.{acquires_at}
+use Rattle.mega_leased_laws.specs.of_settled_laws.of_run_laws.of_tape_laws.of_promises.of_rules.Members.{kind_of}
+use Rattle.mega_leased_laws.specs.of_settled_laws.of_run_laws.of_tape_laws.of_promises.of_rules.Met.{Met, Begins, Takes, Ticks}
+use Rattle.mega_leased_laws.specs.of_settled_laws.of_run_laws.of_tape_laws.of_promises.of_rules.Operations.{Node, Now, Operation, Setting}
+use Rattle.mega_leased_laws.specs.of_settled_laws.of_run_laws.of_tape_laws.of_promises.of_rules.Replies.{reply_to}
+use Rattle.mega_leased_laws.specs.of_settled_laws.of_run_laws.of_tape_laws.of_promises.of_rules.Steps.{Begin, Decision, Event, Heard as HeardBy, Step, Take, Tick, all_act, at_first, at_open, background, begin_step, crashed, decision_note, first_settled, hears_message, if_new, is_worn, lapse_notes, lease_notes, missing_kind, new_operation, news, onto, op_of, portion_of, refusal, start, start_items, step, stored_after, taken, tick_step, ticked, told_decision, told_notes, unless_missing, unless_refused}
+use Rattle.mega_leased_laws.specs.of_settled_laws.of_run_laws.of_tape_laws.Lawful.{message}
+use Rattle.mega_leased_laws.specs.of_settled_laws.of_run_laws.of_tape_laws.Places.{In, Place, Proposes as ProposesMove, Took, move_of, moves}
+use Rattle.mega_leased_laws.specs.of_settled_laws.of_run_laws.of_tape_laws.Writes.{Usage}
+use Rattle.mega_leased_laws.proofs.of_settled_laws.of_run_laws.of_tape_laws.Lists.{kept as in_kept}
+use Rattle.mega_leased_laws.proofs.of_settled_laws.of_run_laws.of_tape_laws.Made.{proposed_here}
+use Rattle.mega_leased_laws.specs.of_settled_laws.of_run_laws.Usages.{Fits}
+use Rattle.mega_leased_laws.specs.of_settled_laws.of_run_laws.Vouched.{Each, sent}
+use Rattle.mega_leased_laws.proofs.of_settled_laws.of_run_laws.Owned.{Mine}
+use Rattle.mega_leased_laws.proofs.of_settled_laws.of_run_laws.Runs.{IsMark}
+use Rattle.mega_leased_laws.proofs.of_settled_laws.of_run_laws.Sending.{took_on}
+use Rattle.mega_leased_laws.proofs.of_settled_laws.of_run_laws.Standing.{Good}
+use Rattle.mega_leased_laws.proofs.of_settled_laws.of_run_laws.Steps.{never_asked, never_moved}
+use Rattle.mega_leased_laws.proofs.of_settled_laws.of_run_laws.Turns.{Held, IsRising, each_on, each_zip, sent_append}
+use Rattle.mega_leased_laws.proofs.of_settled_laws.Tapes.{IsSilent, each_both, notes_silent}
 use Rattle.mega_leased_laws.specs.of_valid_laws.Leases.{has_polled}
 use Rattle.mega_leased_laws.specs.Items.{Are}
 use Rattle.mega_leased_laws.proofs.Cells.{by_node, occurs_own}

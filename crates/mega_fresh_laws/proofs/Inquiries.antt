@@ -12,18 +12,18 @@ use Rattle.mega_wire.specs.declared.message.Body.{Body}
 use Rattle.mega_wire.specs.declared.message.Body.TheVariants.{Accept, Where}
 use Rattle.mega_wal.specs.Same.{same_group, same_op}
 use Rattle.mega_wal.proofs.Sames.{same_op_self}
-use Rattle.mega_transcript.specs.declared.item.Item.{Item}
-use Rattle.mega_transcript.specs.declared.item.Item.TheVariants.{Sent, Unsafe}
-use Rattle.mega_promises.specs.Fresh.{proposes}
-use Rattle.mega_promises.specs.Messages.{is_unsafe}
-use Rattle.mega_promises.specs.Promises.{Stands}
-use Rattle.mega_promises.specs.Runs.{breaks, with_item, with_items}
-use Rattle.mega_rules.specs.Operations.{Node}
-use Rattle.mega_tape_laws.specs.Polls.{IsPolled}
-use Rattle.mega_run_laws.specs.Vouched.{Each, sent}
-use Rattle.mega_run_laws.proofs.Sending.{Stood}
-use Rattle.mega_run_laws.proofs.Turns.{each_on}
-use Rattle.mega_settled_laws.proofs.Tapes.{IsSilent}
+use Rattle.mega_leased_laws.specs.of_settled_laws.of_run_laws.of_tape_laws.of_promises.of_transcript.declared.item.Item.{Item}
+use Rattle.mega_leased_laws.specs.of_settled_laws.of_run_laws.of_tape_laws.of_promises.of_transcript.declared.item.Item.TheVariants.{Sent, Unsafe}
+use Rattle.mega_leased_laws.specs.of_settled_laws.of_run_laws.of_tape_laws.of_promises.Fresh.{proposes}
+use Rattle.mega_leased_laws.specs.of_settled_laws.of_run_laws.of_tape_laws.of_promises.Messages.{is_unsafe}
+use Rattle.mega_leased_laws.specs.of_settled_laws.of_run_laws.of_tape_laws.of_promises.Promises.{Stands}
+use Rattle.mega_leased_laws.specs.of_settled_laws.of_run_laws.of_tape_laws.of_promises.Runs.{breaks, with_item, with_items}
+use Rattle.mega_leased_laws.specs.of_settled_laws.of_run_laws.of_tape_laws.of_promises.of_rules.Operations.{Node}
+use Rattle.mega_leased_laws.specs.of_settled_laws.of_run_laws.of_tape_laws.Polls.{IsPolled}
+use Rattle.mega_leased_laws.specs.of_settled_laws.of_run_laws.Vouched.{Each, sent}
+use Rattle.mega_leased_laws.proofs.of_settled_laws.of_run_laws.Sending.{Stood}
+use Rattle.mega_leased_laws.proofs.of_settled_laws.of_run_laws.Turns.{each_on}
+use Rattle.mega_leased_laws.proofs.of_settled_laws.Tapes.{IsSilent}
 use Rattle.mega_leased_laws.specs.of_valid_laws.Leases.{asks_end, has_polled}
 use Rattle.mega_leased_laws.specs.Items.{Are}
 use Rattle.mega_leased_laws.proofs.Asking.{either_false, first_false, second_false}

@@ -5,28 +5,28 @@ use Rattle.std.specs.List.{range_with_len}
 use Rattle.mega_cluster.specs.declared.cluster.Cluster.{Cluster}
 use Rattle.mega_disk.specs.declared.pair.Device.TheVariants.{Log, Data}
 use Rattle.mega_handler.specs.Named.{Meanings}
-use Rattle.mega_schedule.specs.declared.world_event.WorldEvent.{WorldEvent}
-use Rattle.mega_schedule.specs.declared.world_event.WorldEvent.TheVariants.{Tick as TickEvent, Deliver, Drop, Drain, Crash as CrashEvent, Start as StartEvent, Fuse as FuseEvent, Begin as BeginEvent}
-use Rattle.mega_transcript.specs.declared.item.Item.{Item}
-use Rattle.mega_transcript.specs.declared.item.Item.TheVariants.{Begin as BeginItem, Crash, Cut as CutItem, Dropped, Taken, Tick as TickItem}
-use Rattle.mega_transcript.specs.Tape.{is_sent, is_taken, sent_count}
+use Rattle.mega_leased_laws.specs.of_settled_laws.of_run_laws.of_tape_laws.of_promises.of_schedule.declared.world_event.WorldEvent.{WorldEvent}
+use Rattle.mega_leased_laws.specs.of_settled_laws.of_run_laws.of_tape_laws.of_promises.of_schedule.declared.world_event.WorldEvent.TheVariants.{Tick as TickEvent, Deliver, Drop, Drain, Crash as CrashEvent, Start as StartEvent, Fuse as FuseEvent, Begin as BeginEvent}
+use Rattle.mega_leased_laws.specs.of_settled_laws.of_run_laws.of_tape_laws.of_promises.of_transcript.declared.item.Item.{Item}
+use Rattle.mega_leased_laws.specs.of_settled_laws.of_run_laws.of_tape_laws.of_promises.of_transcript.declared.item.Item.TheVariants.{Begin as BeginItem, Crash, Cut as CutItem, Dropped, Taken, Tick as TickItem}
+use Rattle.mega_leased_laws.specs.of_settled_laws.of_run_laws.of_tape_laws.of_promises.of_transcript.Tape.{is_sent, is_taken, sent_count}
 use Rattle.mega_wire.specs.declared.message.Message.{Message}
-use Rattle.mega_promises.specs.Items.{number, numbered, shown}
-use Rattle.mega_promises.specs.Messages.{is_deliverable, is_dropped, message_of, next_delivery, receiver_up}
-use Rattle.mega_promises.specs.Runs.{Cuts, CutByData, CutByLog, Fate, Happening, IsRun, Standing, Whole, after_event, calls_of, delivered, drained, fate_by, fated, fated_start, goes_on, handed, marked, met_in, nothing_yet, opening, receiver_down, refusal, replies_in, set_at, setting, start_calls, unless_none, unless_refused, up, whole_step, with_item, with_items}
-use Rattle.mega_rules.specs.Clock.{is_up}
-use Rattle.mega_rules.specs.Members.{is_node, nodes}
-use Rattle.mega_rules.specs.Operations.{Node}
-use Rattle.mega_rules.specs.Steps.{Begin, Event, Step, Take, Tick, crashed, op_of, start, start_items, step}
-use Rattle.mega_tape_laws.specs.Writes.{Usage}
-use Rattle.mega_run_laws.specs.Usages.{Brought, Fits, FitsOne, IsMeant}
-use Rattle.mega_run_laws.specs.Vouched.{sent}
-use Rattle.mega_run_laws.proofs.Noted.{tape_item, with_append, with_sent}
-use Rattle.mega_run_laws.proofs.Owned.{Users}
-use Rattle.mega_run_laws.proofs.Runs.{IsMark, begin_good, both_true, crashes_good, fated_start_good, found, handed_good, marked_good, not_because, not_false, nothing_good, start_good, tick_good}
-use Rattle.mega_run_laws.proofs.Standing.{Good}
-use Rattle.mega_run_laws.proofs.Steps.{stands_sent}
-use Rattle.mega_run_laws.proofs.Turns.{each_push}
+use Rattle.mega_leased_laws.specs.of_settled_laws.of_run_laws.of_tape_laws.of_promises.Items.{number, numbered, shown}
+use Rattle.mega_leased_laws.specs.of_settled_laws.of_run_laws.of_tape_laws.of_promises.Messages.{is_deliverable, is_dropped, message_of, next_delivery, receiver_up}
+use Rattle.mega_leased_laws.specs.of_settled_laws.of_run_laws.of_tape_laws.of_promises.Runs.{Cuts, CutByData, CutByLog, Fate, Happening, IsRun, Standing, Whole, after_event, calls_of, delivered, drained, fate_by, fated, fated_start, goes_on, handed, marked, met_in, nothing_yet, opening, receiver_down, refusal, replies_in, set_at, setting, start_calls, unless_none, unless_refused, up, whole_step, with_item, with_items}
+use Rattle.mega_leased_laws.specs.of_settled_laws.of_run_laws.of_tape_laws.of_promises.of_rules.Clock.{is_up}
+use Rattle.mega_leased_laws.specs.of_settled_laws.of_run_laws.of_tape_laws.of_promises.of_rules.Members.{is_node, nodes}
+use Rattle.mega_leased_laws.specs.of_settled_laws.of_run_laws.of_tape_laws.of_promises.of_rules.Operations.{Node}
+use Rattle.mega_leased_laws.specs.of_settled_laws.of_run_laws.of_tape_laws.of_promises.of_rules.Steps.{Begin, Event, Step, Take, Tick, crashed, op_of, start, start_items, step}
+use Rattle.mega_leased_laws.specs.of_settled_laws.of_run_laws.of_tape_laws.Writes.{Usage}
+use Rattle.mega_leased_laws.specs.of_settled_laws.of_run_laws.Usages.{Brought, Fits, FitsOne, IsMeant}
+use Rattle.mega_leased_laws.specs.of_settled_laws.of_run_laws.Vouched.{sent}
+use Rattle.mega_leased_laws.proofs.of_settled_laws.of_run_laws.Noted.{tape_item, with_append, with_sent}
+use Rattle.mega_leased_laws.proofs.of_settled_laws.of_run_laws.Owned.{Users}
+use Rattle.mega_leased_laws.proofs.of_settled_laws.of_run_laws.Runs.{IsMark, begin_good, both_true, crashes_good, fated_start_good, found, handed_good, marked_good, not_because, not_false, nothing_good, start_good, tick_good}
+use Rattle.mega_leased_laws.proofs.of_settled_laws.of_run_laws.Standing.{Good}
+use Rattle.mega_leased_laws.proofs.of_settled_laws.of_run_laws.Steps.{stands_sent}
+use Rattle.mega_leased_laws.proofs.of_settled_laws.of_run_laws.Turns.{each_push}
 use Rattle.mega_leased_laws.proofs.Forms.{Occurs, down, stepped}
 
 -- whoever uses a store so that texts mean their requests

@@ -11,39 +11,39 @@ use Rattle.mega_coordinator.specs.Laws.{ValidatedAbove}
 use Rattle.mega_coordinator.proofs.Validity.{validated_above}
 use Rattle.mega_entry.specs.declared.content.Content.{Content}
 use Rattle.mega_handler.specs.Named.{Meanings}
-use Rattle.mega_transcript.specs.declared.item.Item.{Item}
-use Rattle.mega_transcript.specs.declared.item.Item.TheVariants.{Begin as BeginItem, Decide, Sent, Unsafe}
-use Rattle.mega_transcript.specs.Tape.{sent_count}
+use Rattle.mega_leased_laws.specs.of_settled_laws.of_run_laws.of_tape_laws.of_promises.of_transcript.declared.item.Item.{Item}
+use Rattle.mega_leased_laws.specs.of_settled_laws.of_run_laws.of_tape_laws.of_promises.of_transcript.declared.item.Item.TheVariants.{Begin as BeginItem, Decide, Sent, Unsafe}
+use Rattle.mega_leased_laws.specs.of_settled_laws.of_run_laws.of_tape_laws.of_promises.of_transcript.Tape.{sent_count}
 use Rattle.mega_wal.specs.Acceptor.{Voted}
 use Rattle.mega_wal.specs.Same.{same_op}
 use Rattle.mega_wire.specs.declared.message.Message.{Message}
 use Rattle.mega_wire.specs.declared.message.Body.TheVariants.{Accepted}
-use Rattle.mega_promises.specs.Items.{number, shown}
-use Rattle.mega_promises.specs.Messages.{is_unsafe}
-use Rattle.mega_promises.specs.Promises.{Stands}
-use Rattle.mega_promises.specs.Runs.{Cuts, IsRun, Standing, breaks, goes_on, met_in, opening, set_at, setting, whole_step, with_item, with_items}
-use Rattle.mega_rules.specs.Clock.{is_up, start_of}
-use Rattle.mega_rules.specs.Coordinators.{coordinator_calls, valid_at}
-use Rattle.mega_rules.specs.Logs.{top_of}
-use Rattle.mega_rules.specs.Members.{is_full}
-use Rattle.mega_rules.specs.Met.{Met, Starts, Crashes, Ticks, Begins, Takes, Sends, Unsends, Grants, Lapses, Counts, Forgets, Serves, Loses, Validates, Invalidates, Decides, Applies, Answers}
-use Rattle.mega_rules.specs.Operations.{Node, Setting}
-use Rattle.mega_rules.specs.Steps.{Event, Step, onto, step}
-use Rattle.mega_tape_laws.specs.Lawful.{message}
-use Rattle.mega_tape_laws.specs.Places.{In}
-use Rattle.mega_tape_laws.specs.Polls.{ArePolls}
-use Rattle.mega_tape_laws.specs.Settled.{IsCellMajority}
-use Rattle.mega_tape_laws.specs.Writes.{Usage}
-use Rattle.mega_run_laws.specs.Vouched.{Each, sent}
-use Rattle.mega_run_laws.proofs.Events.{onto_append}
-use Rattle.mega_run_laws.proofs.Noted.{with_append}
-use Rattle.mega_run_laws.proofs.Runs.{run_polls}
-use Rattle.mega_run_laws.proofs.Silent.{flat_append}
-use Rattle.mega_run_laws.proofs.Standing.{Good}
-use Rattle.mega_run_laws.proofs.Turns.{each_on}
-use Rattle.mega_settled_laws.specs.Covering.{Earlier, WasCovered}
-use Rattle.mega_settled_laws.proofs.Behind.{run_decided}
-use Rattle.mega_settled_laws.proofs.Tapes.{IsSilent, earlier_stood, items_later, notes_silent, now_is, one_later, sent_later, then_later}
+use Rattle.mega_leased_laws.specs.of_settled_laws.of_run_laws.of_tape_laws.of_promises.Items.{number, shown}
+use Rattle.mega_leased_laws.specs.of_settled_laws.of_run_laws.of_tape_laws.of_promises.Messages.{is_unsafe}
+use Rattle.mega_leased_laws.specs.of_settled_laws.of_run_laws.of_tape_laws.of_promises.Promises.{Stands}
+use Rattle.mega_leased_laws.specs.of_settled_laws.of_run_laws.of_tape_laws.of_promises.Runs.{Cuts, IsRun, Standing, breaks, goes_on, met_in, opening, set_at, setting, whole_step, with_item, with_items}
+use Rattle.mega_leased_laws.specs.of_settled_laws.of_run_laws.of_tape_laws.of_promises.of_rules.Clock.{is_up, start_of}
+use Rattle.mega_leased_laws.specs.of_settled_laws.of_run_laws.of_tape_laws.of_promises.of_rules.Coordinators.{coordinator_calls, valid_at}
+use Rattle.mega_leased_laws.specs.of_settled_laws.of_run_laws.of_tape_laws.of_promises.of_rules.Logs.{top_of}
+use Rattle.mega_leased_laws.specs.of_settled_laws.of_run_laws.of_tape_laws.of_promises.of_rules.Members.{is_full}
+use Rattle.mega_leased_laws.specs.of_settled_laws.of_run_laws.of_tape_laws.of_promises.of_rules.Met.{Met, Starts, Crashes, Ticks, Begins, Takes, Sends, Unsends, Grants, Lapses, Counts, Forgets, Serves, Loses, Validates, Invalidates, Decides, Applies, Answers}
+use Rattle.mega_leased_laws.specs.of_settled_laws.of_run_laws.of_tape_laws.of_promises.of_rules.Operations.{Node, Setting}
+use Rattle.mega_leased_laws.specs.of_settled_laws.of_run_laws.of_tape_laws.of_promises.of_rules.Steps.{Event, Step, onto, step}
+use Rattle.mega_leased_laws.specs.of_settled_laws.of_run_laws.of_tape_laws.Lawful.{message}
+use Rattle.mega_leased_laws.specs.of_settled_laws.of_run_laws.of_tape_laws.Places.{In}
+use Rattle.mega_leased_laws.specs.of_settled_laws.of_run_laws.of_tape_laws.Polls.{ArePolls}
+use Rattle.mega_leased_laws.specs.of_settled_laws.of_run_laws.of_tape_laws.Settled.{IsCellMajority}
+use Rattle.mega_leased_laws.specs.of_settled_laws.of_run_laws.of_tape_laws.Writes.{Usage}
+use Rattle.mega_leased_laws.specs.of_settled_laws.of_run_laws.Vouched.{Each, sent}
+use Rattle.mega_leased_laws.proofs.of_settled_laws.of_run_laws.Events.{onto_append}
+use Rattle.mega_leased_laws.proofs.of_settled_laws.of_run_laws.Noted.{with_append}
+use Rattle.mega_leased_laws.proofs.of_settled_laws.of_run_laws.Runs.{run_polls}
+use Rattle.mega_leased_laws.proofs.of_settled_laws.of_run_laws.Silent.{flat_append}
+use Rattle.mega_leased_laws.proofs.of_settled_laws.of_run_laws.Standing.{Good}
+use Rattle.mega_leased_laws.proofs.of_settled_laws.of_run_laws.Turns.{each_on}
+use Rattle.mega_leased_laws.specs.of_settled_laws.Covering.{Earlier, WasCovered}
+use Rattle.mega_leased_laws.proofs.of_settled_laws.Behind.{run_decided}
+use Rattle.mega_leased_laws.proofs.of_settled_laws.Tapes.{IsSilent, earlier_stood, items_later, notes_silent, now_is, one_later, sent_later, then_later}
 use Rattle.mega_leased_laws.specs.of_valid_laws.Leases.{AreLeased, HasAtLeast, IsHeld, accepted, counted_on, decided, serving_on, valid_on}
 use Rattle.mega_leased_laws.proofs.of_valid_laws.Folds.{IsOwn}
 use Rattle.mega_leased_laws.proofs.of_valid_laws.Joint.{valid_has, vote_heard}

@@ -20,26 +20,26 @@ use Rattle.mega_outcome.specs.declared.request.Request.{Request}
 use Rattle.mega_outcome.specs.declared.request.Request.TheVariants.{Batch as BatchRequest, Find, PumpEnter, PumpHandle, Read as ReadRequested, Txn}
 use Rattle.mega_outcome.specs.declared.transaction.Transaction.{Transaction}
 use Rattle.mega_outcome.specs.Outcome.{batch_outcome, entry_of_done, outcome}
-use Rattle.mega_transcript.specs.declared.item.Item.{Item}
-use Rattle.mega_transcript.specs.declared.item.Item.TheVariants.{Answer as AnswerItem, Begin, Decide, Unsafe}
+use Rattle.mega_leased_laws.specs.of_settled_laws.of_run_laws.of_tape_laws.of_promises.of_transcript.declared.item.Item.{Item}
+use Rattle.mega_leased_laws.specs.of_settled_laws.of_run_laws.of_tape_laws.of_promises.of_transcript.declared.item.Item.TheVariants.{Answer as AnswerItem, Begin, Decide, Unsafe}
 use Rattle.mega_wal.specs.Same.{same_op}
 use Rattle.mega_wal.proofs.Sames.{same_op_equal, same_op_self}
-use Rattle.mega_promises.specs.Fresh.{IsSafeAt, ReadsThrough, WasDecided, find_over, is_shown, proposes, read_over}
-use Rattle.mega_promises.specs.Messages.{is_unsafe}
-use Rattle.mega_promises.specs.Promises.{Stands, StoodBefore, asked_for, comes_to, group_written, is_write, log_of}
-use Rattle.mega_promises.specs.Runs.{Happening, IsRun}
-use Rattle.mega_rules.specs.Steps.{is_current}
-use Rattle.mega_tape_laws.specs.Answers.{AreAnswered, IsAnswered}
-use Rattle.mega_tape_laws.specs.Lawful.{Lawful, message}
-use Rattle.mega_tape_laws.specs.Places.{Proposes, move_of}
-use Rattle.mega_tape_laws.specs.Writes.{AreWritten, IsFront, IsNamed, IsWritten, OwnEntry, Usage, enters, fills, handles, has_begun, runs, runs_all}
-use Rattle.mega_tape_laws.proofs.Complete.{known_is_front}
-use Rattle.mega_tape_laws.proofs.Lists.{kept, some_is}
-use Rattle.mega_tape_laws.proofs.Made.{proposed_here}
-use Rattle.mega_tape_laws.proofs.Origins.{Origin, id_is, origin}
-use Rattle.mega_run_laws.specs.Usages.{Fits}
-use Rattle.mega_run_laws.proofs.Runs.{run_answered, run_lawful, run_written}
-use Rattle.mega_settled_laws.proofs.Tapes.{written_before}
+use Rattle.mega_leased_laws.specs.of_settled_laws.of_run_laws.of_tape_laws.of_promises.Fresh.{IsSafeAt, ReadsThrough, WasDecided, find_over, is_shown, proposes, read_over}
+use Rattle.mega_leased_laws.specs.of_settled_laws.of_run_laws.of_tape_laws.of_promises.Messages.{is_unsafe}
+use Rattle.mega_leased_laws.specs.of_settled_laws.of_run_laws.of_tape_laws.of_promises.Promises.{Stands, StoodBefore, asked_for, comes_to, group_written, is_write, log_of}
+use Rattle.mega_leased_laws.specs.of_settled_laws.of_run_laws.of_tape_laws.of_promises.Runs.{Happening, IsRun}
+use Rattle.mega_leased_laws.specs.of_settled_laws.of_run_laws.of_tape_laws.of_promises.of_rules.Steps.{is_current}
+use Rattle.mega_leased_laws.specs.of_settled_laws.of_run_laws.of_tape_laws.Answers.{AreAnswered, IsAnswered}
+use Rattle.mega_leased_laws.specs.of_settled_laws.of_run_laws.of_tape_laws.Lawful.{Lawful, message}
+use Rattle.mega_leased_laws.specs.of_settled_laws.of_run_laws.of_tape_laws.Places.{Proposes, move_of}
+use Rattle.mega_leased_laws.specs.of_settled_laws.of_run_laws.of_tape_laws.Writes.{AreWritten, IsFront, IsNamed, IsWritten, OwnEntry, Usage, enters, fills, handles, has_begun, runs, runs_all}
+use Rattle.mega_leased_laws.proofs.of_settled_laws.of_run_laws.of_tape_laws.Complete.{known_is_front}
+use Rattle.mega_leased_laws.proofs.of_settled_laws.of_run_laws.of_tape_laws.Lists.{kept, some_is}
+use Rattle.mega_leased_laws.proofs.of_settled_laws.of_run_laws.of_tape_laws.Made.{proposed_here}
+use Rattle.mega_leased_laws.proofs.of_settled_laws.of_run_laws.of_tape_laws.Origins.{Origin, id_is, origin}
+use Rattle.mega_leased_laws.specs.of_settled_laws.of_run_laws.Usages.{Fits}
+use Rattle.mega_leased_laws.proofs.of_settled_laws.of_run_laws.Runs.{run_answered, run_lawful, run_written}
+use Rattle.mega_leased_laws.proofs.of_settled_laws.Tapes.{written_before}
 use Rattle.mega_leased_laws.specs.Items.{Are}
 use Rattle.mega_fresh_laws.specs.Covering.{Answered, Covers, IsFreshAnswer, IsFreshItem, ReadOver, before_begin}
 use Rattle.mega_fresh_laws.proofs.Moments.{NoBegin, onward_item}

@@ -5,38 +5,38 @@ use Rattle.mega_base.specs.declared.names.OpId.{OpId}
 use Rattle.mega_cluster.specs.declared.cluster.Cluster.{Cluster}
 use Rattle.mega_entry.specs.declared.content.Content.{Content}
 use Rattle.mega_handler.specs.Named.{Meanings}
-use Rattle.mega_transcript.specs.declared.item.Item.{Item}
-use Rattle.mega_transcript.specs.declared.item.Item.TheVariants.{Answer as AnswerItem, Begin as BeginItem, Crash, Decide, Sent, Taken, Tick as TickItem}
-use Rattle.mega_transcript.specs.Tape.{sent_count}
+use Rattle.mega_leased_laws.specs.of_settled_laws.of_run_laws.of_tape_laws.of_promises.of_transcript.declared.item.Item.{Item}
+use Rattle.mega_leased_laws.specs.of_settled_laws.of_run_laws.of_tape_laws.of_promises.of_transcript.declared.item.Item.TheVariants.{Answer as AnswerItem, Begin as BeginItem, Crash, Decide, Sent, Taken, Tick as TickItem}
+use Rattle.mega_leased_laws.specs.of_settled_laws.of_run_laws.of_tape_laws.of_promises.of_transcript.Tape.{sent_count}
 use Rattle.mega_wal.specs.Same.{same_group, same_op}
 use Rattle.mega_wal.proofs.Sames.{same_group_equal, same_op_equal, same_op_self}
 use Rattle.mega_wire.specs.declared.message.Message.{Message}
-use Rattle.mega_promises.specs.Items.{number, numbered, shown}
-use Rattle.mega_promises.specs.Promises.{Stands, asked_for}
-use Rattle.mega_promises.specs.Runs.{Cuts, Happening, IsRun, Standing, met_in, set_at, setting, whole_step, with_item, with_items}
-use Rattle.mega_rules.specs.Clock.{begun_of, is_up, start_of}
-use Rattle.mega_rules.specs.Logs.{decided, first_of}
-use Rattle.mega_rules.specs.Met.{Met, Starts, Crashes, Ticks, Begins, Takes, Sends, Unsends, Grants, Lapses, Counts, Forgets, Serves, Loses, Validates, Invalidates, Decides, Applies, Answers}
-use Rattle.mega_rules.specs.Operations.{Node, Operation, Setting}
-use Rattle.mega_rules.specs.Steps.{Begin, Event, Step, Take, Tick, crashed, lapse_notes, lease_notes, onto, op_of, start, start_items, start_notes, step}
-use Rattle.mega_tape_laws.specs.Lawful.{Lawful, message}
-use Rattle.mega_tape_laws.specs.Polls.{ArePolls}
-use Rattle.mega_tape_laws.specs.Writes.{IsNamed, Usage, has_begun}
-use Rattle.mega_tape_laws.proofs.Ballots.{number_is}
-use Rattle.mega_tape_laws.proofs.Lists.{some_is}
-use Rattle.mega_run_laws.specs.Usages.{Fits}
-use Rattle.mega_run_laws.specs.Vouched.{Each, sent}
-use Rattle.mega_run_laws.proofs.Events.{IsPlain, lapses_plain, lease_plain, told_plain}
-use Rattle.mega_run_laws.proofs.Noted.{with_append, with_sent}
-use Rattle.mega_run_laws.proofs.Owned.{Mine, began_asked}
-use Rattle.mega_run_laws.proofs.Runs.{IsMark, run_lawful, run_polls, starts_plain}
-use Rattle.mega_run_laws.proofs.Sending.{took_on}
-use Rattle.mega_run_laws.proofs.Silent.{flat_append}
-use Rattle.mega_run_laws.proofs.Standing.{Good, Owes}
-use Rattle.mega_run_laws.proofs.Steps.{never_begun}
-use Rattle.mega_run_laws.proofs.Turns.{Held, Known, each_on, each_zip}
-use Rattle.mega_settled_laws.specs.Covering.{Earlier}
-use Rattle.mega_settled_laws.proofs.Tapes.{each_both, earlier_stood, items_later, lawful_before, polls_before, sent_later, then_later}
+use Rattle.mega_leased_laws.specs.of_settled_laws.of_run_laws.of_tape_laws.of_promises.Items.{number, numbered, shown}
+use Rattle.mega_leased_laws.specs.of_settled_laws.of_run_laws.of_tape_laws.of_promises.Promises.{Stands, asked_for}
+use Rattle.mega_leased_laws.specs.of_settled_laws.of_run_laws.of_tape_laws.of_promises.Runs.{Cuts, Happening, IsRun, Standing, met_in, set_at, setting, whole_step, with_item, with_items}
+use Rattle.mega_leased_laws.specs.of_settled_laws.of_run_laws.of_tape_laws.of_promises.of_rules.Clock.{begun_of, is_up, start_of}
+use Rattle.mega_leased_laws.specs.of_settled_laws.of_run_laws.of_tape_laws.of_promises.of_rules.Logs.{decided, first_of}
+use Rattle.mega_leased_laws.specs.of_settled_laws.of_run_laws.of_tape_laws.of_promises.of_rules.Met.{Met, Starts, Crashes, Ticks, Begins, Takes, Sends, Unsends, Grants, Lapses, Counts, Forgets, Serves, Loses, Validates, Invalidates, Decides, Applies, Answers}
+use Rattle.mega_leased_laws.specs.of_settled_laws.of_run_laws.of_tape_laws.of_promises.of_rules.Operations.{Node, Operation, Setting}
+use Rattle.mega_leased_laws.specs.of_settled_laws.of_run_laws.of_tape_laws.of_promises.of_rules.Steps.{Begin, Event, Step, Take, Tick, crashed, lapse_notes, lease_notes, onto, op_of, start, start_items, start_notes, step}
+use Rattle.mega_leased_laws.specs.of_settled_laws.of_run_laws.of_tape_laws.Lawful.{Lawful, message}
+use Rattle.mega_leased_laws.specs.of_settled_laws.of_run_laws.of_tape_laws.Polls.{ArePolls}
+use Rattle.mega_leased_laws.specs.of_settled_laws.of_run_laws.of_tape_laws.Writes.{IsNamed, Usage, has_begun}
+use Rattle.mega_leased_laws.proofs.of_settled_laws.of_run_laws.of_tape_laws.Ballots.{number_is}
+use Rattle.mega_leased_laws.proofs.of_settled_laws.of_run_laws.of_tape_laws.Lists.{some_is}
+use Rattle.mega_leased_laws.specs.of_settled_laws.of_run_laws.Usages.{Fits}
+use Rattle.mega_leased_laws.specs.of_settled_laws.of_run_laws.Vouched.{Each, sent}
+use Rattle.mega_leased_laws.proofs.of_settled_laws.of_run_laws.Events.{IsPlain, lapses_plain, lease_plain, told_plain}
+use Rattle.mega_leased_laws.proofs.of_settled_laws.of_run_laws.Noted.{with_append, with_sent}
+use Rattle.mega_leased_laws.proofs.of_settled_laws.of_run_laws.Owned.{Mine, began_asked}
+use Rattle.mega_leased_laws.proofs.of_settled_laws.of_run_laws.Runs.{IsMark, run_lawful, run_polls, starts_plain}
+use Rattle.mega_leased_laws.proofs.of_settled_laws.of_run_laws.Sending.{took_on}
+use Rattle.mega_leased_laws.proofs.of_settled_laws.of_run_laws.Silent.{flat_append}
+use Rattle.mega_leased_laws.proofs.of_settled_laws.of_run_laws.Standing.{Good, Owes}
+use Rattle.mega_leased_laws.proofs.of_settled_laws.of_run_laws.Steps.{never_begun}
+use Rattle.mega_leased_laws.proofs.of_settled_laws.of_run_laws.Turns.{Held, Known, each_on, each_zip}
+use Rattle.mega_leased_laws.specs.of_settled_laws.Covering.{Earlier}
+use Rattle.mega_leased_laws.proofs.of_settled_laws.Tapes.{each_both, earlier_stood, items_later, lawful_before, polls_before, sent_later, then_later}
 use Rattle.mega_leased_laws.proofs.of_valid_laws.Folds.{IsOwn}
 use Rattle.mega_leased_laws.specs.Items.{Are}
 use Rattle.mega_leased_laws.proofs.Cells.{by_node, occurs_own}

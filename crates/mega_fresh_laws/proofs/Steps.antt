@@ -8,30 +8,30 @@ use Rattle.mega_cluster.specs.declared.cluster.Cluster.{Cluster}
 use Rattle.mega_outcome.specs.declared.answer.Answer.{Answer}
 use Rattle.mega_outcome.specs.declared.answer.Answer.TheVariants.{Worn}
 use Rattle.mega_outcome.specs.declared.request.Request.{Request}
-use Rattle.mega_transcript.specs.declared.item.Item.{Item}
+use Rattle.mega_leased_laws.specs.of_settled_laws.of_run_laws.of_tape_laws.of_promises.of_transcript.declared.item.Item.{Item}
 use Rattle.mega_wire.specs.declared.message.Message.{Message}
 use Rattle.mega_wire.specs.declared.message.Body.{Body}
 use Rattle.mega_wire.specs.declared.message.Body.TheVariants.{Accept}
-use Rattle.mega_promises.specs.Promises.{asked_for}
-use Rattle.mega_promises.specs.Runs.{met_in}
-use Rattle.mega_rules.specs.Clock.{clock_of}
-use Rattle.mega_rules.specs.Coordinators.{acquires_at}
-use Rattle.mega_rules.specs.Logs.{groups_of}
-use Rattle.mega_rules.specs.Members.{has_rows, is_full, is_node, kind_of, runs}
-use Rattle.mega_rules.specs.Met.{Met, Applies, Begins, Takes, Ticks}
-use Rattle.mega_rules.specs.Operations.{Node, Now, Operation, Setting}
-use Rattle.mega_rules.specs.Replies.{reply_to}
-use Rattle.mega_rules.specs.Steps.{Begin, Decision, Event, Heard as HeardBy, Step, Take, Tick, all_act, applied_at, apply_note, apply_notes, at_first, at_open, background, begin_step, decision_note, first_settled, hears_message, if_new, is_worn, lapse_notes, lease_notes, missing_kind, needs_full, new_operation, news, onto, op_of, portion_of, refusal, step, stored_after, taken, tick_step, ticked, told_decision, told_notes, unless_missing, unless_refused}
-use Rattle.mega_tape_laws.specs.Lawful.{Lawful, message}
-use Rattle.mega_tape_laws.specs.Places.{In, Took}
-use Rattle.mega_tape_laws.specs.Polls.{ArePolls}
-use Rattle.mega_tape_laws.specs.Writes.{Usage}
-use Rattle.mega_run_laws.specs.Vouched.{Each}
-use Rattle.mega_run_laws.proofs.Events.{onto_append}
-use Rattle.mega_run_laws.proofs.Owned.{NoAccept}
-use Rattle.mega_run_laws.proofs.Turns.{Known, each_on}
-use Rattle.mega_run_laws.proofs.Whole.{in_left, in_right}
-use Rattle.mega_settled_laws.proofs.Tapes.{each_both}
+use Rattle.mega_leased_laws.specs.of_settled_laws.of_run_laws.of_tape_laws.of_promises.Promises.{asked_for}
+use Rattle.mega_leased_laws.specs.of_settled_laws.of_run_laws.of_tape_laws.of_promises.Runs.{met_in}
+use Rattle.mega_leased_laws.specs.of_settled_laws.of_run_laws.of_tape_laws.of_promises.of_rules.Clock.{clock_of}
+use Rattle.mega_leased_laws.specs.of_settled_laws.of_run_laws.of_tape_laws.of_promises.of_rules.Coordinators.{acquires_at}
+use Rattle.mega_leased_laws.specs.of_settled_laws.of_run_laws.of_tape_laws.of_promises.of_rules.Logs.{groups_of}
+use Rattle.mega_leased_laws.specs.of_settled_laws.of_run_laws.of_tape_laws.of_promises.of_rules.Members.{has_rows, is_full, is_node, kind_of, runs}
+use Rattle.mega_leased_laws.specs.of_settled_laws.of_run_laws.of_tape_laws.of_promises.of_rules.Met.{Met, Applies, Begins, Takes, Ticks}
+use Rattle.mega_leased_laws.specs.of_settled_laws.of_run_laws.of_tape_laws.of_promises.of_rules.Operations.{Node, Now, Operation, Setting}
+use Rattle.mega_leased_laws.specs.of_settled_laws.of_run_laws.of_tape_laws.of_promises.of_rules.Replies.{reply_to}
+use Rattle.mega_leased_laws.specs.of_settled_laws.of_run_laws.of_tape_laws.of_promises.of_rules.Steps.{Begin, Decision, Event, Heard as HeardBy, Step, Take, Tick, all_act, applied_at, apply_note, apply_notes, at_first, at_open, background, begin_step, decision_note, first_settled, hears_message, if_new, is_worn, lapse_notes, lease_notes, missing_kind, needs_full, new_operation, news, onto, op_of, portion_of, refusal, step, stored_after, taken, tick_step, ticked, told_decision, told_notes, unless_missing, unless_refused}
+use Rattle.mega_leased_laws.specs.of_settled_laws.of_run_laws.of_tape_laws.Lawful.{Lawful, message}
+use Rattle.mega_leased_laws.specs.of_settled_laws.of_run_laws.of_tape_laws.Places.{In, Took}
+use Rattle.mega_leased_laws.specs.of_settled_laws.of_run_laws.of_tape_laws.Polls.{ArePolls}
+use Rattle.mega_leased_laws.specs.of_settled_laws.of_run_laws.of_tape_laws.Writes.{Usage}
+use Rattle.mega_leased_laws.specs.of_settled_laws.of_run_laws.Vouched.{Each}
+use Rattle.mega_leased_laws.proofs.of_settled_laws.of_run_laws.Events.{onto_append}
+use Rattle.mega_leased_laws.proofs.of_settled_laws.of_run_laws.Owned.{NoAccept}
+use Rattle.mega_leased_laws.proofs.of_settled_laws.of_run_laws.Turns.{Known, each_on}
+use Rattle.mega_leased_laws.proofs.of_settled_laws.of_run_laws.Whole.{in_left, in_right}
+use Rattle.mega_leased_laws.proofs.of_settled_laws.Tapes.{each_both}
 use Rattle.mega_leased_laws.proofs.Validating.{NoRequest, Plain, acquires_plain, background_plain, news_plain, reply_plain}
 use Rattle.mega_fresh_laws.specs.Covering.{IsProposed}
 use Rattle.mega_fresh_laws.proofs.Through.{PhaseFresh}

@@ -11,24 +11,24 @@ use Rattle.mega_entry.specs.declared.content.Content.{Content}
 use Rattle.mega_wal.specs.Same.{same_group}
 use Rattle.mega_wal.proofs.Orders.{is_group_is}
 use Rattle.mega_wire.specs.declared.message.Message.{Message}
-use Rattle.mega_transcript.specs.declared.item.Item.{Item}
-use Rattle.mega_transcript.specs.declared.item.Item.TheVariants.{Valid}
-use Rattle.mega_promises.specs.Items.{number, shown}
-use Rattle.mega_promises.specs.Runs.{with_items}
-use Rattle.mega_rules.specs.Clock.{clock_of, start_of}
-use Rattle.mega_rules.specs.Coordinators.{coordinator_calls, valid_at, validated}
-use Rattle.mega_rules.specs.Logs.{groups_of}
-use Rattle.mega_rules.specs.Members.{has_rows}
-use Rattle.mega_rules.specs.Met.{Met, Answers, Applies, Begins, Decides, Sends, Validates}
-use Rattle.mega_rules.specs.Operations.{Node, Now, Setting}
-use Rattle.mega_rules.specs.Acting.{validated_by}
-use Rattle.mega_rules.specs.Steps.{Begin, Decision, Event, Heard, Step, Take, Tick, all_act, applied_at, apply_note, apply_notes, at_first, at_open, decision_note, first_settled, hears_message, if_new, lapse_notes, lease_notes, new_operation, news, onto, op_of, portion_of, refusal, step, stored_after, taken, told_decision, told_notes}
-use Rattle.mega_rules.specs.Replies.{reply_to}
-use Rattle.mega_tape_laws.specs.Places.{In}
-use Rattle.mega_tape_laws.proofs.Ballots.{number_self}
-use Rattle.mega_run_laws.specs.Vouched.{Each}
-use Rattle.mega_run_laws.proofs.Noting.{Lasts, all_act_it, begun_it, ticked_it}
-use Rattle.mega_settled_laws.proofs.Tapes.{each_both}
+use Rattle.mega_leased_laws.specs.of_settled_laws.of_run_laws.of_tape_laws.of_promises.of_transcript.declared.item.Item.{Item}
+use Rattle.mega_leased_laws.specs.of_settled_laws.of_run_laws.of_tape_laws.of_promises.of_transcript.declared.item.Item.TheVariants.{Valid}
+use Rattle.mega_leased_laws.specs.of_settled_laws.of_run_laws.of_tape_laws.of_promises.Items.{number, shown}
+use Rattle.mega_leased_laws.specs.of_settled_laws.of_run_laws.of_tape_laws.of_promises.Runs.{with_items}
+use Rattle.mega_leased_laws.specs.of_settled_laws.of_run_laws.of_tape_laws.of_promises.of_rules.Clock.{clock_of, start_of}
+use Rattle.mega_leased_laws.specs.of_settled_laws.of_run_laws.of_tape_laws.of_promises.of_rules.Coordinators.{coordinator_calls, valid_at, validated}
+use Rattle.mega_leased_laws.specs.of_settled_laws.of_run_laws.of_tape_laws.of_promises.of_rules.Logs.{groups_of}
+use Rattle.mega_leased_laws.specs.of_settled_laws.of_run_laws.of_tape_laws.of_promises.of_rules.Members.{has_rows}
+use Rattle.mega_leased_laws.specs.of_settled_laws.of_run_laws.of_tape_laws.of_promises.of_rules.Met.{Met, Answers, Applies, Begins, Decides, Sends, Validates}
+use Rattle.mega_leased_laws.specs.of_settled_laws.of_run_laws.of_tape_laws.of_promises.of_rules.Operations.{Node, Now, Setting}
+use Rattle.mega_leased_laws.specs.of_settled_laws.of_run_laws.of_tape_laws.of_promises.of_rules.Acting.{validated_by}
+use Rattle.mega_leased_laws.specs.of_settled_laws.of_run_laws.of_tape_laws.of_promises.of_rules.Steps.{Begin, Decision, Event, Heard, Step, Take, Tick, all_act, applied_at, apply_note, apply_notes, at_first, at_open, decision_note, first_settled, hears_message, if_new, lapse_notes, lease_notes, new_operation, news, onto, op_of, portion_of, refusal, step, stored_after, taken, told_decision, told_notes}
+use Rattle.mega_leased_laws.specs.of_settled_laws.of_run_laws.of_tape_laws.of_promises.of_rules.Replies.{reply_to}
+use Rattle.mega_leased_laws.specs.of_settled_laws.of_run_laws.of_tape_laws.Places.{In}
+use Rattle.mega_leased_laws.proofs.of_settled_laws.of_run_laws.of_tape_laws.Ballots.{number_self}
+use Rattle.mega_leased_laws.specs.of_settled_laws.of_run_laws.Vouched.{Each}
+use Rattle.mega_leased_laws.proofs.of_settled_laws.of_run_laws.Noting.{Lasts, all_act_it, begun_it, ticked_it}
+use Rattle.mega_leased_laws.proofs.of_settled_laws.Tapes.{each_both}
 use Rattle.mega_leased_laws.specs.of_valid_laws.Leases.{valid_on}
 use Rattle.mega_leased_laws.proofs.Notes.{front_apart, fronts}
 use Rattle.mega_fresh_laws.proofs.Steps.{decision_in, front_of}

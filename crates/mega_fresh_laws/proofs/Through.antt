@@ -6,32 +6,32 @@ use Rattle.mega_base.specs.declared.names.OpId.{OpId}
 use Rattle.mega_cluster.specs.declared.cluster.Cluster.{Cluster}
 use Rattle.mega_outcome.specs.declared.request.Request.{Request}
 use Rattle.mega_outcome.specs.declared.request.Request.TheVariants.{Batch as BatchRequest, Find, Read as ReadRequested, Txn}
-use Rattle.mega_propose.specs.declared.round.Round.{Round}
-use Rattle.mega_propose.specs.declared.round.Round.TheVariants.{Preparing}
-use Rattle.mega_read.specs.declared.reading.Reading.{Reading}
-use Rattle.mega_read.specs.declared.reading.Search.{Search}
-use Rattle.mega_read.specs.declared.reading.Search.TheVariants.{Fetching, Filling}
-use Rattle.mega_read.specs.declared.reading.Stage.{Stage}
-use Rattle.mega_read.specs.declared.reading.Stage.TheVariants.{Polling, Catching}
-use Rattle.mega_read.specs.Catching.{falls_due, hears, polled_read, seeks}
-use Rattle.mega_transcript.specs.declared.item.Item.{Item}
-use Rattle.mega_transcript.specs.declared.item.Item.TheVariants.{Begin, Decide}
+use Rattle.mega_leased_laws.specs.of_settled_laws.of_run_laws.of_tape_laws.of_promises.of_rules.of_read.of_propose.declared.round.Round.{Round}
+use Rattle.mega_leased_laws.specs.of_settled_laws.of_run_laws.of_tape_laws.of_promises.of_rules.of_read.of_propose.declared.round.Round.TheVariants.{Preparing}
+use Rattle.mega_leased_laws.specs.of_settled_laws.of_run_laws.of_tape_laws.of_promises.of_rules.of_read.declared.reading.Reading.{Reading}
+use Rattle.mega_leased_laws.specs.of_settled_laws.of_run_laws.of_tape_laws.of_promises.of_rules.of_read.declared.reading.Search.{Search}
+use Rattle.mega_leased_laws.specs.of_settled_laws.of_run_laws.of_tape_laws.of_promises.of_rules.of_read.declared.reading.Search.TheVariants.{Fetching, Filling}
+use Rattle.mega_leased_laws.specs.of_settled_laws.of_run_laws.of_tape_laws.of_promises.of_rules.of_read.declared.reading.Stage.{Stage}
+use Rattle.mega_leased_laws.specs.of_settled_laws.of_run_laws.of_tape_laws.of_promises.of_rules.of_read.declared.reading.Stage.TheVariants.{Polling, Catching}
+use Rattle.mega_leased_laws.specs.of_settled_laws.of_run_laws.of_tape_laws.of_promises.of_rules.of_read.Catching.{falls_due, hears, polled_read, seeks}
+use Rattle.mega_leased_laws.specs.of_settled_laws.of_run_laws.of_tape_laws.of_promises.of_transcript.declared.item.Item.{Item}
+use Rattle.mega_leased_laws.specs.of_settled_laws.of_run_laws.of_tape_laws.of_promises.of_transcript.declared.item.Item.TheVariants.{Begin, Decide}
 use Rattle.mega_wal.specs.Same.{same_op}
 use Rattle.mega_wal.proofs.Sames.{same_op_equal}
 use Rattle.mega_wire.specs.declared.message.Body.{Body}
-use Rattle.mega_promises.specs.Promises.{Stands, StoodBefore}
-use Rattle.mega_rules.specs.Members.{is_full}
-use Rattle.mega_rules.specs.Met.{Met}
-use Rattle.mega_rules.specs.Operations.{Phase, Proposes, Reads}
-use Rattle.mega_tape_laws.specs.Lawful.{Lawful, message}
-use Rattle.mega_tape_laws.specs.Places.{Took}
-use Rattle.mega_tape_laws.specs.Polls.{ArePolls, IsPolled}
-use Rattle.mega_tape_laws.specs.Writes.{no_op_by}
-use Rattle.mega_tape_laws.proofs.Polled.{polled_above}
-use Rattle.mega_run_laws.specs.Vouched.{Knows}
-use Rattle.mega_run_laws.proofs.Opened.{Backed, at_place}
-use Rattle.mega_run_laws.proofs.Owned.{Plain}
-use Rattle.mega_run_laws.proofs.Reading.{who}
+use Rattle.mega_leased_laws.specs.of_settled_laws.of_run_laws.of_tape_laws.of_promises.Promises.{Stands, StoodBefore}
+use Rattle.mega_leased_laws.specs.of_settled_laws.of_run_laws.of_tape_laws.of_promises.of_rules.Members.{is_full}
+use Rattle.mega_leased_laws.specs.of_settled_laws.of_run_laws.of_tape_laws.of_promises.of_rules.Met.{Met}
+use Rattle.mega_leased_laws.specs.of_settled_laws.of_run_laws.of_tape_laws.of_promises.of_rules.Operations.{Phase, Proposes, Reads}
+use Rattle.mega_leased_laws.specs.of_settled_laws.of_run_laws.of_tape_laws.Lawful.{Lawful, message}
+use Rattle.mega_leased_laws.specs.of_settled_laws.of_run_laws.of_tape_laws.Places.{Took}
+use Rattle.mega_leased_laws.specs.of_settled_laws.of_run_laws.of_tape_laws.Polls.{ArePolls, IsPolled}
+use Rattle.mega_leased_laws.specs.of_settled_laws.of_run_laws.of_tape_laws.Writes.{no_op_by}
+use Rattle.mega_leased_laws.proofs.of_settled_laws.of_run_laws.of_tape_laws.Polled.{polled_above}
+use Rattle.mega_leased_laws.specs.of_settled_laws.of_run_laws.Vouched.{Knows}
+use Rattle.mega_leased_laws.proofs.of_settled_laws.of_run_laws.Opened.{Backed, at_place}
+use Rattle.mega_leased_laws.proofs.of_settled_laws.of_run_laws.Owned.{Plain}
+use Rattle.mega_leased_laws.proofs.of_settled_laws.of_run_laws.Reading.{who}
 use Rattle.mega_leased_laws.proofs.Polls.{StagePolls, Tops, due_polls, hears_polls, no_tops, seeks_polls, tops_on}
 use Rattle.mega_fresh_laws.specs.Covering.{Covers, before_begin}
 use Rattle.mega_fresh_laws.proofs.Accepts.{IsAbove, SearchAbove, StageAbove}

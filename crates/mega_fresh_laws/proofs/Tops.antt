@@ -10,21 +10,21 @@ use Rattle.mega_wal.specs.Same.{same_group}
 use Rattle.mega_wal.proofs.Sames.{same_group_self}
 use Rattle.mega_wire.specs.declared.message.Body.{Body}
 use Rattle.mega_wire.specs.declared.message.Body.TheVariants.{Accepted, Promise}
-use Rattle.mega_transcript.specs.declared.item.Item.{Item}
-use Rattle.mega_transcript.specs.declared.item.Item.TheVariants.{Answer, Apply, Begin, Counts as CountsItem, Crash, Decide, Forgets as ForgetsItem, Grant, Invalid, Lapse as LapseItem, Lost as LostItem, Serving, Start, Tick, Unsafe, Unsent, Valid}
-use Rattle.mega_promises.specs.Items.{number, shown}
-use Rattle.mega_promises.specs.Messages.{is_unsafe}
-use Rattle.mega_promises.specs.Promises.{Stands}
-use Rattle.mega_promises.specs.Runs.{breaks, with_item, with_items}
-use Rattle.mega_rules.specs.Met.{Met, Starts, Crashes, Ticks, Begins, Takes, Sends, Unsends, Grants, Lapses, Counts, Forgets, Serves, Loses, Validates, Invalidates, Decides, Applies, Answers}
-use Rattle.mega_rules.specs.Logs.{accepted_at, top_of}
-use Rattle.mega_rules.specs.Operations.{Node}
-use Rattle.mega_rules.specs.Steps.{onto}
-use Rattle.mega_rules.specs.Voting.{act_if, act_in, acts}
-use Rattle.mega_tape_laws.specs.Places.{In}
-use Rattle.mega_tape_laws.proofs.Ballots.{number_is}
-use Rattle.mega_tape_laws.proofs.Lists.{from_cons}
-use Rattle.mega_run_laws.proofs.Noted.{with_append}
+use Rattle.mega_leased_laws.specs.of_settled_laws.of_run_laws.of_tape_laws.of_promises.of_transcript.declared.item.Item.{Item}
+use Rattle.mega_leased_laws.specs.of_settled_laws.of_run_laws.of_tape_laws.of_promises.of_transcript.declared.item.Item.TheVariants.{Answer, Apply, Begin, Counts as CountsItem, Crash, Decide, Forgets as ForgetsItem, Grant, Invalid, Lapse as LapseItem, Lost as LostItem, Serving, Start, Tick, Unsafe, Unsent, Valid}
+use Rattle.mega_leased_laws.specs.of_settled_laws.of_run_laws.of_tape_laws.of_promises.Items.{number, shown}
+use Rattle.mega_leased_laws.specs.of_settled_laws.of_run_laws.of_tape_laws.of_promises.Messages.{is_unsafe}
+use Rattle.mega_leased_laws.specs.of_settled_laws.of_run_laws.of_tape_laws.of_promises.Promises.{Stands}
+use Rattle.mega_leased_laws.specs.of_settled_laws.of_run_laws.of_tape_laws.of_promises.Runs.{breaks, with_item, with_items}
+use Rattle.mega_leased_laws.specs.of_settled_laws.of_run_laws.of_tape_laws.of_promises.of_rules.Met.{Met, Starts, Crashes, Ticks, Begins, Takes, Sends, Unsends, Grants, Lapses, Counts, Forgets, Serves, Loses, Validates, Invalidates, Decides, Applies, Answers}
+use Rattle.mega_leased_laws.specs.of_settled_laws.of_run_laws.of_tape_laws.of_promises.of_rules.Logs.{accepted_at, top_of}
+use Rattle.mega_leased_laws.specs.of_settled_laws.of_run_laws.of_tape_laws.of_promises.of_rules.Operations.{Node}
+use Rattle.mega_leased_laws.specs.of_settled_laws.of_run_laws.of_tape_laws.of_promises.of_rules.Steps.{onto}
+use Rattle.mega_leased_laws.specs.of_settled_laws.of_run_laws.of_tape_laws.of_promises.of_rules.Voting.{act_if, act_in, acts}
+use Rattle.mega_leased_laws.specs.of_settled_laws.of_run_laws.of_tape_laws.Places.{In}
+use Rattle.mega_leased_laws.proofs.of_settled_laws.of_run_laws.of_tape_laws.Ballots.{number_is}
+use Rattle.mega_leased_laws.proofs.of_settled_laws.of_run_laws.of_tape_laws.Lists.{from_cons}
+use Rattle.mega_leased_laws.proofs.of_settled_laws.of_run_laws.Noted.{with_append}
 use Rattle.mega_leased_laws.proofs.Tops.{max_first, then_most, top_onto}
 
 both : (a b : Bool) → (a && b) ≡ true → (a ≡ true) × (b ≡ true)

@@ -1,2 +1,3 @@
 pub mod Covering
 pub mod Stale
+pub use Rattle.mega_leased_laws.specs as of_leased_laws

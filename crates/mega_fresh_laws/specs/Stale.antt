@@ -1,9 +1,9 @@
 -- A schedule by which a local read is stale, as leases are not safe.
 use Rattle.std.specs.Prelude.{List, [], ◌∷◌, ◌++◌, map}
 use Rattle.mega_outcome.specs.declared.request.Mode.TheVariants.{Current}
-use Rattle.mega_schedule.specs.declared.world_event.WorldEvent.{WorldEvent}
-use Rattle.mega_schedule.specs.declared.world_event.WorldEvent.TheVariants.{Deliver}
-use Rattle.mega_promises.specs.Worked.{drain, put_at, read_at, tick}
+use Rattle.mega_leased_laws.specs.of_settled_laws.of_run_laws.of_tape_laws.of_promises.of_schedule.declared.world_event.WorldEvent.{WorldEvent}
+use Rattle.mega_leased_laws.specs.of_settled_laws.of_run_laws.of_tape_laws.of_promises.of_schedule.declared.world_event.WorldEvent.TheVariants.{Deliver}
+use Rattle.mega_leased_laws.specs.of_settled_laws.of_run_laws.of_tape_laws.of_promises.Worked.{drain, put_at, read_at, tick}
 
 -- node 1 holds its locks and a valid group, and its clock stands still, while those of cells 2 and 3 run on until its locks lapse there; node 2 puts, all of
 -- whose messages to node 1 stay on their way, and then node 1 reads

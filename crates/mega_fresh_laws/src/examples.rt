@@ -2,9 +2,9 @@
 
 ghost use Rattle.std.specs.Prelude.{◌≡◌, false, true, [], ◌∷◌, reverse};
 ghost use Rattle.mega_outcome.specs.declared.request.Mode.TheVariants.{Current};
-ghost use Rattle.mega_promises.specs.Messages.{is_unsafe};
+ghost use Rattle.mega_leased_laws.specs.of_settled_laws.of_run_laws.of_tape_laws.of_promises.Messages.{is_unsafe};
 ghost use Rattle.mega_fresh_laws.specs.Stale.{stale};
-ghost use Rattle.mega_promises.specs.Worked.{answers, committed_at, drain, op, put_at, read_at, read_through, run, tick, told};
+ghost use Rattle.mega_leased_laws.specs.of_settled_laws.of_run_laws.of_tape_laws.of_promises.Worked.{answers, committed_at, drain, op, put_at, read_at, read_through, run, tick, told};
 
 /// A group is valid at node 1 by its put's read. Node 2 puts, and node 1 accepts that; so a current read of node 1 is local, while leases are safe, and shows the
 /// put of node 2.

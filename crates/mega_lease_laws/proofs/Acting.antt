@@ -6,16 +6,16 @@ use Rattle.mega_base.specs.declared.names.Epoch.{Epoch}
 use Rattle.mega_cluster.specs.declared.cluster.Cluster.{Cluster}
 use Rattle.mega_coordinator.specs.History.{Call, Ticks as Told, counted_cells, epoch_after, serving}
 use Rattle.mega_wire.specs.declared.message.Message.{Message}
-use Rattle.mega_propose.specs.Members.{others}
-use Rattle.mega_read.specs.Catching.{site}
-use Rattle.mega_rules.specs.Met.{Met}
-use Rattle.mega_rules.specs.Members.{has_rows, is_full, nodes, voters}
-use Rattle.mega_rules.specs.Clock.{does_again, start_of, ticks_of}
-use Rattle.mega_rules.specs.Logs.{groups_of, newest_of, prefix_of}
-use Rattle.mega_rules.specs.Coordinators.{acquire_to, acquires, acquires_at, asked_cells, coordinator_calls}
-use Rattle.mega_rules.specs.Operations.{Operation, Phase, Proposes, Reads, Setting}
-use Rattle.mega_rules.specs.Acting.{reader_of}
-use Rattle.mega_rules.specs.Steps.{Decision, background, decide_to, does_due, fetch_to, fetches_for, hears_message, news}
+use Rattle.mega_run_laws.specs.of_tape_laws.of_promises.of_rules.of_read.of_propose.Members.{others}
+use Rattle.mega_run_laws.specs.of_tape_laws.of_promises.of_rules.of_read.Catching.{site}
+use Rattle.mega_run_laws.specs.of_tape_laws.of_promises.of_rules.Met.{Met}
+use Rattle.mega_run_laws.specs.of_tape_laws.of_promises.of_rules.Members.{has_rows, is_full, nodes, voters}
+use Rattle.mega_run_laws.specs.of_tape_laws.of_promises.of_rules.Clock.{does_again, start_of, ticks_of}
+use Rattle.mega_run_laws.specs.of_tape_laws.of_promises.of_rules.Logs.{groups_of, newest_of, prefix_of}
+use Rattle.mega_run_laws.specs.of_tape_laws.of_promises.of_rules.Coordinators.{acquire_to, acquires, acquires_at, asked_cells, coordinator_calls}
+use Rattle.mega_run_laws.specs.of_tape_laws.of_promises.of_rules.Operations.{Operation, Phase, Proposes, Reads, Setting}
+use Rattle.mega_run_laws.specs.of_tape_laws.of_promises.of_rules.Acting.{reader_of}
+use Rattle.mega_run_laws.specs.of_tape_laws.of_promises.of_rules.Steps.{Decision, background, decide_to, does_due, fetch_to, fetches_for, hears_message, news}
 use Rattle.mega_lease_laws.specs.Questions.{Asks}
 use Rattle.mega_lease_laws.proofs.Rounds.{due_ask, none, of_each, takes_ask, to_each}
 use Rattle.mega_lease_laws.proofs.Reading.{falls_due_ask, hears_ask}

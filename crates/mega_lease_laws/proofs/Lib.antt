@@ -4,3 +4,4 @@ pub mod Acting
 pub mod Lasting
 pub mod Telling
 pub mod Behind
+pub use Rattle.mega_run_laws.proofs as of_run_laws

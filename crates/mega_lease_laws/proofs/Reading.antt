@@ -5,15 +5,15 @@ use Rattle.mega_base.specs.declared.names.Epoch.{Epoch}
 use Rattle.mega_wire.specs.declared.message.Body.{Body}
 use Rattle.mega_wire.specs.declared.message.Body.TheVariants.{Top, HaveNot}
 use Rattle.mega_wal.specs.Same.{same_group, same_op}
-use Rattle.mega_propose.specs.Members.{has, is_majority, with_node, without}
-use Rattle.mega_propose.specs.Rounds.{is_due}
-use Rattle.mega_read.specs.declared.reading.Reader.{Reader}
-use Rattle.mega_read.specs.declared.reading.Search.TheVariants.{Fetching, Filling}
-use Rattle.mega_read.specs.declared.reading.Stage.{Stage}
-use Rattle.mega_read.specs.declared.reading.Stage.TheVariants.{Polling, Catching}
-use Rattle.mega_read.specs.declared.reading.Reading.{Reading}
-use Rattle.mega_read.specs.declared.reading.Move.{Move}
-use Rattle.mega_read.specs.Catching.{asked_by, denied, falls_due, fetch_to, fetches, fills, hears, helpers, is_position, local_read, move, no_op, polled_read, searched, seeks, site, topped, where_to}
+use Rattle.mega_run_laws.specs.of_tape_laws.of_promises.of_rules.of_read.of_propose.Members.{has, is_majority, with_node, without}
+use Rattle.mega_run_laws.specs.of_tape_laws.of_promises.of_rules.of_read.of_propose.Rounds.{is_due}
+use Rattle.mega_run_laws.specs.of_tape_laws.of_promises.of_rules.of_read.declared.reading.Reader.{Reader}
+use Rattle.mega_run_laws.specs.of_tape_laws.of_promises.of_rules.of_read.declared.reading.Search.TheVariants.{Fetching, Filling}
+use Rattle.mega_run_laws.specs.of_tape_laws.of_promises.of_rules.of_read.declared.reading.Stage.{Stage}
+use Rattle.mega_run_laws.specs.of_tape_laws.of_promises.of_rules.of_read.declared.reading.Stage.TheVariants.{Polling, Catching}
+use Rattle.mega_run_laws.specs.of_tape_laws.of_promises.of_rules.of_read.declared.reading.Reading.{Reading}
+use Rattle.mega_run_laws.specs.of_tape_laws.of_promises.of_rules.of_read.declared.reading.Move.{Move}
+use Rattle.mega_run_laws.specs.of_tape_laws.of_promises.of_rules.of_read.Catching.{asked_by, denied, falls_due, fetch_to, fetches, fills, hears, helpers, is_position, local_read, move, no_op, polled_read, searched, seeks, site, topped, where_to}
 use Rattle.mega_lease_laws.specs.Questions.{Asks}
 use Rattle.mega_lease_laws.proofs.Rounds.{completes_ask, due_ask, none, takes_ask, to_each}
 

@@ -21,19 +21,19 @@ use Rattle.mega_wal.specs.Acceptor.{accept_answer, promise_answer}
 use Rattle.mega_wire.specs.declared.message.Message.{Message}
 use Rattle.mega_wire.specs.declared.message.Body.{Body}
 use Rattle.mega_wire.specs.declared.message.Body.TheVariants.{Where, Top, Accept, Prepare, Invalidate, Invalidated, Dead, Fetch, Acquire}
-use Rattle.mega_rules.specs.Met.{Met, Begins, Invalidates, Takes, Ticks}
-use Rattle.mega_rules.specs.Clock.{clock_of}
-use Rattle.mega_rules.specs.Coordinators.{acquires_at}
-use Rattle.mega_rules.specs.Locks.{asked_for, held_answer, held_at, lock_answer}
-use Rattle.mega_rules.specs.Logs.{decided, top_of}
-use Rattle.mega_rules.specs.Members.{is_cell, is_full, is_voter}
-use Rattle.mega_rules.specs.Operations.{Node, Now, Operation, Setting}
-use Rattle.mega_rules.specs.Acting.{validated_by}
-use Rattle.mega_rules.specs.Replies.{answer_to, fetched, reply_message, reply_to, where_served}
-use Rattle.mega_rules.specs.Steps.{Begin, Decision, Event, Heard, Take, Tick, all_act, apply_notes, at_first, at_open, background, begin_step, decision_note, first_settled, hears_message, if_new, lapse_notes, lease_notes, new_operation, news, onto, op_of, portion_of, refusal, step, stored_after, take_step, taken, tick_step, ticked, told_decision, told_notes}
-use Rattle.mega_rules.specs.Voting.{acts, prepared, promise_body, vote_body, voted}
+use Rattle.mega_run_laws.specs.of_tape_laws.of_promises.of_rules.Met.{Met, Begins, Invalidates, Takes, Ticks}
+use Rattle.mega_run_laws.specs.of_tape_laws.of_promises.of_rules.Clock.{clock_of}
+use Rattle.mega_run_laws.specs.of_tape_laws.of_promises.of_rules.Coordinators.{acquires_at}
+use Rattle.mega_run_laws.specs.of_tape_laws.of_promises.of_rules.Locks.{asked_for, held_answer, held_at, lock_answer}
+use Rattle.mega_run_laws.specs.of_tape_laws.of_promises.of_rules.Logs.{decided, top_of}
+use Rattle.mega_run_laws.specs.of_tape_laws.of_promises.of_rules.Members.{is_cell, is_full, is_voter}
+use Rattle.mega_run_laws.specs.of_tape_laws.of_promises.of_rules.Operations.{Node, Now, Operation, Setting}
+use Rattle.mega_run_laws.specs.of_tape_laws.of_promises.of_rules.Acting.{validated_by}
+use Rattle.mega_run_laws.specs.of_tape_laws.of_promises.of_rules.Replies.{answer_to, fetched, reply_message, reply_to, where_served}
+use Rattle.mega_run_laws.specs.of_tape_laws.of_promises.of_rules.Steps.{Begin, Decision, Event, Heard, Take, Tick, all_act, apply_notes, at_first, at_open, background, begin_step, decision_note, first_settled, hears_message, if_new, lapse_notes, lease_notes, new_operation, news, onto, op_of, portion_of, refusal, step, stored_after, take_step, taken, tick_step, ticked, told_decision, told_notes}
+use Rattle.mega_run_laws.specs.of_tape_laws.of_promises.of_rules.Voting.{acts, prepared, promise_body, vote_body, voted}
 use Rattle.mega_node_laws.proofs.Ending.{taken_by}
-use Rattle.mega_tape_laws.specs.Places.{In}
+use Rattle.mega_run_laws.specs.of_tape_laws.Places.{In}
 use Rattle.mega_run_laws.proofs.Whole.{in_left}
 use Rattle.mega_lease_laws.specs.Questions.{Asks, is_question}
 use Rattle.mega_lease_laws.proofs.Acting.{Acquires, acquires_are, background_asks, hears_message_asks, news_ask}

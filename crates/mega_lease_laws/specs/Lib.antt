@@ -1,1 +1,2 @@
 pub mod Questions
+pub use Rattle.mega_run_laws.specs as of_run_laws

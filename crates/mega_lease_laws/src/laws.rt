@@ -7,12 +7,12 @@ ghost use Rattle.mega_base.specs.declared.names.Position.{Position as Index};
 ghost use Rattle.mega_cluster.specs.declared.cluster.Cluster.{Cluster};
 ghost use Rattle.mega_handler.specs.Named.{Meanings};
 ghost use Rattle.mega_wire.specs.declared.message.Body.TheVariants.{Invalidated};
-ghost use Rattle.mega_transcript.specs.declared.item.Item.{Item};
-ghost use Rattle.mega_transcript.specs.declared.item.Item.TheVariants.{Invalid, Sent};
-ghost use Rattle.mega_promises.specs.Items.{number};
-ghost use Rattle.mega_promises.specs.Promises.{Stands, StoodBefore};
-ghost use Rattle.mega_promises.specs.Runs.{Happening, IsRun};
-ghost use Rattle.mega_tape_laws.specs.Lawful.{Heard, message};
+ghost use Rattle.mega_run_laws.specs.of_tape_laws.of_promises.of_transcript.declared.item.Item.{Item};
+ghost use Rattle.mega_run_laws.specs.of_tape_laws.of_promises.of_transcript.declared.item.Item.TheVariants.{Invalid, Sent};
+ghost use Rattle.mega_run_laws.specs.of_tape_laws.of_promises.Items.{number};
+ghost use Rattle.mega_run_laws.specs.of_tape_laws.of_promises.Promises.{Stands, StoodBefore};
+ghost use Rattle.mega_run_laws.specs.of_tape_laws.of_promises.Runs.{Happening, IsRun};
+ghost use Rattle.mega_run_laws.specs.of_tape_laws.Lawful.{Heard, message};
 
 /// In every run a node that tells that a group is invalid at its coordinator noted it before, for the same position (CIDR 2011, coordinators). So
 /// where an operation heard of it, the node's `invalid` stands on the tape.

@@ -21,21 +21,21 @@ use Rattle.mega_wal.specs.History.{after_grant, after_lapse}
 use Rattle.mega_wire.specs.declared.message.Message.{Message}
 use Rattle.mega_wire.specs.declared.message.Body.{Body}
 use Rattle.mega_wire.specs.declared.message.Body.TheVariants.{Acquire, Dead, Granted as GrantedBody, Unheld, Held as HeldBody, Where, Accept, Prepare, Fetch, Invalidate}
-use Rattle.mega_transcript.specs.declared.item.Item.{Item}
-use Rattle.mega_transcript.specs.declared.item.Item.TheVariants.{Answer as AnswerItem, Apply, Begin as BeginItem, Counts as CountsItem, Crash, Cut as CutItem, Decide as DecideItem, Dropped, Forgets as ForgetsItem, Grant, Invalid, Lapse, Lost, Sent, Serving, Start, Taken, Tick as TickItem, Unsent, Valid}
-use Rattle.mega_transcript.specs.Tape.{sent_count}
-use Rattle.mega_promises.specs.Items.{number, shown}
-use Rattle.mega_promises.specs.Promises.{Stands}
-use Rattle.mega_promises.specs.Runs.{Happening, IsRun, Standing, is_durable, met_in, nothing_yet, owes, replies_in, set_at, setting, with_item, with_items}
-use Rattle.mega_rules.specs.Met.{Met, Starts, Crashes, Ticks, Begins, Takes, Sends, Unsends, Grants, Lapses, Counts, Forgets, Serves, Loses, Validates, Invalidates, Decides, Applies, Answers}
-use Rattle.mega_rules.specs.Clock.{clock_of, is_opening, is_up, start_of}
-use Rattle.mega_rules.specs.Coordinators.{coordinator_calls, counts_notes, forget_notes, grant_notes, is_cell_in, lost_note, tick_told}
-use Rattle.mega_rules.specs.Locks.{asked_for, cell_calls, grant_note, lapse_note, held_answer, held_at, lapses_at, last_grant, reopenings}
-use Rattle.mega_rules.specs.Members.{cells, is_cell, is_full, is_node, keep_of}
-use Rattle.mega_rules.specs.Operations.{Node, Setting}
-use Rattle.mega_rules.specs.Logs.{decided, top_of}
-use Rattle.mega_rules.specs.Replies.{answer_to, fetched, where_served}
-use Rattle.mega_rules.specs.Voting.{acts, prepared, promise_body, vote_body, voted}
+use Rattle.mega_lease_laws.specs.of_run_laws.of_tape_laws.of_promises.of_transcript.declared.item.Item.{Item}
+use Rattle.mega_lease_laws.specs.of_run_laws.of_tape_laws.of_promises.of_transcript.declared.item.Item.TheVariants.{Answer as AnswerItem, Apply, Begin as BeginItem, Counts as CountsItem, Crash, Cut as CutItem, Decide as DecideItem, Dropped, Forgets as ForgetsItem, Grant, Invalid, Lapse, Lost, Sent, Serving, Start, Taken, Tick as TickItem, Unsent, Valid}
+use Rattle.mega_lease_laws.specs.of_run_laws.of_tape_laws.of_promises.of_transcript.Tape.{sent_count}
+use Rattle.mega_lease_laws.specs.of_run_laws.of_tape_laws.of_promises.Items.{number, shown}
+use Rattle.mega_lease_laws.specs.of_run_laws.of_tape_laws.of_promises.Promises.{Stands}
+use Rattle.mega_lease_laws.specs.of_run_laws.of_tape_laws.of_promises.Runs.{Happening, IsRun, Standing, is_durable, met_in, nothing_yet, owes, replies_in, set_at, setting, with_item, with_items}
+use Rattle.mega_lease_laws.specs.of_run_laws.of_tape_laws.of_promises.of_rules.Met.{Met, Starts, Crashes, Ticks, Begins, Takes, Sends, Unsends, Grants, Lapses, Counts, Forgets, Serves, Loses, Validates, Invalidates, Decides, Applies, Answers}
+use Rattle.mega_lease_laws.specs.of_run_laws.of_tape_laws.of_promises.of_rules.Clock.{clock_of, is_opening, is_up, start_of}
+use Rattle.mega_lease_laws.specs.of_run_laws.of_tape_laws.of_promises.of_rules.Coordinators.{coordinator_calls, counts_notes, forget_notes, grant_notes, is_cell_in, lost_note, tick_told}
+use Rattle.mega_lease_laws.specs.of_run_laws.of_tape_laws.of_promises.of_rules.Locks.{asked_for, cell_calls, grant_note, lapse_note, held_answer, held_at, lapses_at, last_grant, reopenings}
+use Rattle.mega_lease_laws.specs.of_run_laws.of_tape_laws.of_promises.of_rules.Members.{cells, is_cell, is_full, is_node, keep_of}
+use Rattle.mega_lease_laws.specs.of_run_laws.of_tape_laws.of_promises.of_rules.Operations.{Node, Setting}
+use Rattle.mega_lease_laws.specs.of_run_laws.of_tape_laws.of_promises.of_rules.Logs.{decided, top_of}
+use Rattle.mega_lease_laws.specs.of_run_laws.of_tape_laws.of_promises.of_rules.Replies.{answer_to, fetched, where_served}
+use Rattle.mega_lease_laws.specs.of_run_laws.of_tape_laws.of_promises.of_rules.Voting.{acts, prepared, promise_body, vote_body, voted}
 use Rattle.mega_wal.specs.Acceptor.{accept_answer, promise_answer}
 use Rattle.mega_wal.specs.declared.answers.Promised.{Promised as PromiseAnswer}
 use Rattle.mega_wal.specs.declared.answers.Promised.TheVariants as promise
@@ -44,21 +44,21 @@ use Rattle.mega_wal.specs.declared.answers.Voted.TheVariants as vote
 use Rattle.mega_base.specs.declared.names.Position.{Position}
 use Rattle.mega_ballot.specs.declared.ballot.Ballot.{Ballot}
 use Rattle.mega_entry.specs.declared.content.Content.{Content}
-use Rattle.mega_rules.specs.Locks.{lock_answer}
+use Rattle.mega_lease_laws.specs.of_run_laws.of_tape_laws.of_promises.of_rules.Locks.{lock_answer}
 use Rattle.mega_wire.specs.declared.message.Body.TheVariants.{Top, Invalidated}
-use Rattle.mega_rules.specs.Members.{is_voter, has_rows}
-use Rattle.mega_rules.specs.Logs.{groups_of, prefix_of}
-use Rattle.mega_rules.specs.Steps.{start_note}
-use Rattle.mega_rules.specs.Steps.{Begin, Event, Step, Take, Tick, crashed, lapse_notes, lease_notes, onto, start, start_items, start_notes, step, told_notes}
-use Rattle.mega_tape_laws.specs.Places.{In}
-use Rattle.mega_tape_laws.specs.Lawful.{message}
-use Rattle.mega_tape_laws.proofs.Ballots.{number_is, number_self}
-use Rattle.mega_tape_laws.proofs.Lists.{some_is}
-use Rattle.mega_run_laws.specs.Vouched.{Each, sent}
-use Rattle.mega_run_laws.proofs.Events.{onto_append}
-use Rattle.mega_run_laws.proofs.Runs.{IsMark, nobody}
-use Rattle.mega_run_laws.proofs.Standing.{Good}
-use Rattle.mega_run_laws.proofs.Turns.{each_on}
+use Rattle.mega_lease_laws.specs.of_run_laws.of_tape_laws.of_promises.of_rules.Members.{is_voter, has_rows}
+use Rattle.mega_lease_laws.specs.of_run_laws.of_tape_laws.of_promises.of_rules.Logs.{groups_of, prefix_of}
+use Rattle.mega_lease_laws.specs.of_run_laws.of_tape_laws.of_promises.of_rules.Steps.{start_note}
+use Rattle.mega_lease_laws.specs.of_run_laws.of_tape_laws.of_promises.of_rules.Steps.{Begin, Event, Step, Take, Tick, crashed, lapse_notes, lease_notes, onto, start, start_items, start_notes, step, told_notes}
+use Rattle.mega_lease_laws.specs.of_run_laws.of_tape_laws.Places.{In}
+use Rattle.mega_lease_laws.specs.of_run_laws.of_tape_laws.Lawful.{message}
+use Rattle.mega_lease_laws.proofs.of_run_laws.of_tape_laws.Ballots.{number_is, number_self}
+use Rattle.mega_lease_laws.proofs.of_run_laws.of_tape_laws.Lists.{some_is}
+use Rattle.mega_lease_laws.specs.of_run_laws.Vouched.{Each, sent}
+use Rattle.mega_lease_laws.proofs.of_run_laws.Events.{onto_append}
+use Rattle.mega_lease_laws.proofs.of_run_laws.Runs.{IsMark, nobody}
+use Rattle.mega_lease_laws.proofs.of_run_laws.Standing.{Good}
+use Rattle.mega_lease_laws.proofs.of_run_laws.Turns.{each_on}
 use Rattle.mega_valid_laws.specs.of_settled_laws.Covering.{Earlier}
 use Rattle.mega_valid_laws.proofs.of_settled_laws.Tapes.{IsSilent as SilentItem, each_both, earlier_stood, items_later, notes_silent, now_is, one_later, then_later}
 use Rattle.mega_lease_laws.specs.Questions.{Asks as IsAsking, is_question}

@@ -34,30 +34,30 @@ use Rattle.mega_wal.specs.declared.answers.Voted.TheVariants as vote
 use Rattle.mega_wire.specs.declared.message.Message.{Message}
 use Rattle.mega_wire.specs.declared.message.Body.{Body}
 use Rattle.mega_wire.specs.declared.message.Body.TheVariants.{Accept, Acquire, Dead, Fetch, Granted as GrantedBody, Invalidate, Invalidated, Past, Prepare, Top, Where}
-use Rattle.mega_transcript.specs.declared.item.Item.{Item}
-use Rattle.mega_transcript.specs.declared.item.Item.TheVariants.{Apply as ApplyItem, Counts as CountsItem, Crash, Cut as CutItem, Decide as DecideItem, Dropped, Grant, Lapse as LapseItem, Sent, Serving as ServingItem, Start, Unsafe, Unsent as UnsentItem}
-use Rattle.mega_transcript.specs.Tape.{sent_count}
-use Rattle.mega_promises.specs.Items.{number, shown}
-use Rattle.mega_promises.specs.Messages.{is_unsafe}
-use Rattle.mega_promises.specs.Promises.{Stands}
-use Rattle.mega_promises.specs.Runs.{Happening, IsRun, Standing, breaks, is_durable, met_in, nothing_yet, owes, replies_in, set_at, setting, with_item, with_items}
-use Rattle.mega_rules.specs.Met.{Met, Starts, Crashes, Ticks, Begins, Takes, Sends, Unsends, Grants, Lapses, Counts, Forgets, Serves, Loses, Validates, Invalidates, Decides, Applies, Answers}
-use Rattle.mega_rules.specs.Clock.{clock_of, is_up, start_of}
-use Rattle.mega_rules.specs.Coordinators.{coordinator_calls, counts_notes, forget_notes, grant_notes, is_cell_in, lost_note, tick_notes, tick_told}
-use Rattle.mega_rules.specs.Locks.{asked_for, cell_calls, grant_note, held_answer, held_at, lapse_note, lapses_at, last_grant, lock_answer}
-use Rattle.mega_rules.specs.Logs.{decided, top_of}
-use Rattle.mega_rules.specs.Members.{cells, is_cell, is_full, is_voter, keep_of}
-use Rattle.mega_rules.specs.Operations.{Node, Setting}
-use Rattle.mega_rules.specs.Replies.{answer_to, fetched, where_served}
-use Rattle.mega_rules.specs.Steps.{Begin, Event, Step, Take, Tick, crashed, lapse_notes, lease_notes, onto, start, start_notes, step, told_notes}
-use Rattle.mega_rules.specs.Voting.{acts, prepared, promise_body, vote_body, voted}
-use Rattle.mega_tape_laws.specs.Lawful.{message}
-use Rattle.mega_tape_laws.proofs.Ballots.{number_is}
-use Rattle.mega_tape_laws.proofs.Lists.{some_is}
-use Rattle.mega_run_laws.specs.Vouched.{Each, sent}
-use Rattle.mega_run_laws.proofs.Events.{onto_append}
-use Rattle.mega_run_laws.proofs.Runs.{IsMark}
-use Rattle.mega_run_laws.proofs.Turns.{each_on}
+use Rattle.mega_lease_laws.specs.of_run_laws.of_tape_laws.of_promises.of_transcript.declared.item.Item.{Item}
+use Rattle.mega_lease_laws.specs.of_run_laws.of_tape_laws.of_promises.of_transcript.declared.item.Item.TheVariants.{Apply as ApplyItem, Counts as CountsItem, Crash, Cut as CutItem, Decide as DecideItem, Dropped, Grant, Lapse as LapseItem, Sent, Serving as ServingItem, Start, Unsafe, Unsent as UnsentItem}
+use Rattle.mega_lease_laws.specs.of_run_laws.of_tape_laws.of_promises.of_transcript.Tape.{sent_count}
+use Rattle.mega_lease_laws.specs.of_run_laws.of_tape_laws.of_promises.Items.{number, shown}
+use Rattle.mega_lease_laws.specs.of_run_laws.of_tape_laws.of_promises.Messages.{is_unsafe}
+use Rattle.mega_lease_laws.specs.of_run_laws.of_tape_laws.of_promises.Promises.{Stands}
+use Rattle.mega_lease_laws.specs.of_run_laws.of_tape_laws.of_promises.Runs.{Happening, IsRun, Standing, breaks, is_durable, met_in, nothing_yet, owes, replies_in, set_at, setting, with_item, with_items}
+use Rattle.mega_lease_laws.specs.of_run_laws.of_tape_laws.of_promises.of_rules.Met.{Met, Starts, Crashes, Ticks, Begins, Takes, Sends, Unsends, Grants, Lapses, Counts, Forgets, Serves, Loses, Validates, Invalidates, Decides, Applies, Answers}
+use Rattle.mega_lease_laws.specs.of_run_laws.of_tape_laws.of_promises.of_rules.Clock.{clock_of, is_up, start_of}
+use Rattle.mega_lease_laws.specs.of_run_laws.of_tape_laws.of_promises.of_rules.Coordinators.{coordinator_calls, counts_notes, forget_notes, grant_notes, is_cell_in, lost_note, tick_notes, tick_told}
+use Rattle.mega_lease_laws.specs.of_run_laws.of_tape_laws.of_promises.of_rules.Locks.{asked_for, cell_calls, grant_note, held_answer, held_at, lapse_note, lapses_at, last_grant, lock_answer}
+use Rattle.mega_lease_laws.specs.of_run_laws.of_tape_laws.of_promises.of_rules.Logs.{decided, top_of}
+use Rattle.mega_lease_laws.specs.of_run_laws.of_tape_laws.of_promises.of_rules.Members.{cells, is_cell, is_full, is_voter, keep_of}
+use Rattle.mega_lease_laws.specs.of_run_laws.of_tape_laws.of_promises.of_rules.Operations.{Node, Setting}
+use Rattle.mega_lease_laws.specs.of_run_laws.of_tape_laws.of_promises.of_rules.Replies.{answer_to, fetched, where_served}
+use Rattle.mega_lease_laws.specs.of_run_laws.of_tape_laws.of_promises.of_rules.Steps.{Begin, Event, Step, Take, Tick, crashed, lapse_notes, lease_notes, onto, start, start_notes, step, told_notes}
+use Rattle.mega_lease_laws.specs.of_run_laws.of_tape_laws.of_promises.of_rules.Voting.{acts, prepared, promise_body, vote_body, voted}
+use Rattle.mega_lease_laws.specs.of_run_laws.of_tape_laws.Lawful.{message}
+use Rattle.mega_lease_laws.proofs.of_run_laws.of_tape_laws.Ballots.{number_is}
+use Rattle.mega_lease_laws.proofs.of_run_laws.of_tape_laws.Lists.{some_is}
+use Rattle.mega_lease_laws.specs.of_run_laws.Vouched.{Each, sent}
+use Rattle.mega_lease_laws.proofs.of_run_laws.Events.{onto_append}
+use Rattle.mega_lease_laws.proofs.of_run_laws.Runs.{IsMark}
+use Rattle.mega_lease_laws.proofs.of_run_laws.Turns.{each_on}
 use Rattle.mega_valid_laws.specs.of_settled_laws.Covering.{Earlier}
 use Rattle.mega_valid_laws.proofs.of_settled_laws.Tapes.{IsSilent, each_both, earlier_stood, items_later, notes_silent, now_is, one_later, then_later}
 use Rattle.mega_lease_laws.specs.Questions.{is_question}

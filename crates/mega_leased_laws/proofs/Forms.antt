@@ -2,20 +2,20 @@
 use Rattle.std.proofs.Common.{◌≡◌, ℕ, ◌+◌, ◌<◌, Bool, true, false, cond, List, [], ◌∷◌, ◌++◌, flat_map, refl, sym, ap, ◌∙◌, subst, arith}
 use Rattle.mega_cluster.specs.declared.cluster.Cluster.{Cluster}
 use Rattle.mega_handler.specs.Named.{Meanings}
-use Rattle.mega_transcript.specs.declared.item.Item.{Item}
-use Rattle.mega_transcript.specs.declared.item.Item.TheVariants.{Begin as BeginItem, Crash, Sent, Taken, Tick as TickItem}
-use Rattle.mega_transcript.specs.Tape.{sent_count}
-use Rattle.mega_promises.specs.Items.{number, numbered, shown}
-use Rattle.mega_promises.specs.Promises.{Stands}
-use Rattle.mega_promises.specs.Runs.{CutByData, CutByLog, Fate, Happening, IsRun, Standing, Whole, calls_of, fate_by, fated, fated_start, goes_on, is_kept, met_in, nothing_yet, opening, owes, replies_in, set_at, setting, whole_step, with_item, with_items}
-use Rattle.mega_rules.specs.Met.{Met}
-use Rattle.mega_rules.specs.Clock.{is_up, start_of}
-use Rattle.mega_rules.specs.Operations.{Node, Setting}
-use Rattle.mega_rules.specs.Steps.{Begin, Event, Step, Take, Tick, crashed, op_of, start, start_items, step}
-use Rattle.mega_run_laws.specs.Vouched.{sent}
-use Rattle.mega_run_laws.proofs.Noted.{with_append, with_sent}
-use Rattle.mega_run_laws.proofs.Runs.{IsMark, Keeps, nobody, run_keeps}
-use Rattle.mega_run_laws.proofs.Standing.{Good}
+use Rattle.mega_lease_laws.specs.of_run_laws.of_tape_laws.of_promises.of_transcript.declared.item.Item.{Item}
+use Rattle.mega_lease_laws.specs.of_run_laws.of_tape_laws.of_promises.of_transcript.declared.item.Item.TheVariants.{Begin as BeginItem, Crash, Sent, Taken, Tick as TickItem}
+use Rattle.mega_lease_laws.specs.of_run_laws.of_tape_laws.of_promises.of_transcript.Tape.{sent_count}
+use Rattle.mega_lease_laws.specs.of_run_laws.of_tape_laws.of_promises.Items.{number, numbered, shown}
+use Rattle.mega_lease_laws.specs.of_run_laws.of_tape_laws.of_promises.Promises.{Stands}
+use Rattle.mega_lease_laws.specs.of_run_laws.of_tape_laws.of_promises.Runs.{CutByData, CutByLog, Fate, Happening, IsRun, Standing, Whole, calls_of, fate_by, fated, fated_start, goes_on, is_kept, met_in, nothing_yet, opening, owes, replies_in, set_at, setting, whole_step, with_item, with_items}
+use Rattle.mega_lease_laws.specs.of_run_laws.of_tape_laws.of_promises.of_rules.Met.{Met}
+use Rattle.mega_lease_laws.specs.of_run_laws.of_tape_laws.of_promises.of_rules.Clock.{is_up, start_of}
+use Rattle.mega_lease_laws.specs.of_run_laws.of_tape_laws.of_promises.of_rules.Operations.{Node, Setting}
+use Rattle.mega_lease_laws.specs.of_run_laws.of_tape_laws.of_promises.of_rules.Steps.{Begin, Event, Step, Take, Tick, crashed, op_of, start, start_items, step}
+use Rattle.mega_lease_laws.specs.of_run_laws.Vouched.{sent}
+use Rattle.mega_lease_laws.proofs.of_run_laws.Noted.{with_append, with_sent}
+use Rattle.mega_lease_laws.proofs.of_run_laws.Runs.{IsMark, Keeps, nobody, run_keeps}
+use Rattle.mega_lease_laws.proofs.of_run_laws.Standing.{Good}
 
 -- what the tape shows of an event at a node
 abbrev pub Occurs : List Item → Setting → List Met → Item → Event → Type 0

@@ -11,16 +11,16 @@ use Rattle.mega_coordinator.specs.Laws.{ValidatedAbove}
 use Rattle.mega_coordinator.proofs.Validity.{validated_above}
 use Rattle.mega_entry.specs.declared.content.Content.{Content}
 use Rattle.mega_handler.specs.Named.{Meanings}
-use Rattle.mega_transcript.specs.declared.item.Item.{Item}
-use Rattle.mega_transcript.specs.declared.item.Item.TheVariants.{Decide}
-use Rattle.mega_promises.specs.Messages.{is_unsafe}
-use Rattle.mega_promises.specs.Promises.{Stands}
-use Rattle.mega_promises.specs.Runs.{Happening, IsRun, Standing, goes_on, has_lapsed, opening}
-use Rattle.mega_rules.specs.Clock.{is_up, start_of}
-use Rattle.mega_rules.specs.Coordinators.{coordinator_calls, serves_at, valid_at}
-use Rattle.mega_rules.specs.Members.{full_nodes, is_full, nodes}
-use Rattle.mega_tape_laws.specs.Places.{In}
-use Rattle.mega_run_laws.proofs.Runs.{run_keeps, run_polls}
+use Rattle.mega_lease_laws.specs.of_run_laws.of_tape_laws.of_promises.of_transcript.declared.item.Item.{Item}
+use Rattle.mega_lease_laws.specs.of_run_laws.of_tape_laws.of_promises.of_transcript.declared.item.Item.TheVariants.{Decide}
+use Rattle.mega_lease_laws.specs.of_run_laws.of_tape_laws.of_promises.Messages.{is_unsafe}
+use Rattle.mega_lease_laws.specs.of_run_laws.of_tape_laws.of_promises.Promises.{Stands}
+use Rattle.mega_lease_laws.specs.of_run_laws.of_tape_laws.of_promises.Runs.{Happening, IsRun, Standing, goes_on, has_lapsed, opening}
+use Rattle.mega_lease_laws.specs.of_run_laws.of_tape_laws.of_promises.of_rules.Clock.{is_up, start_of}
+use Rattle.mega_lease_laws.specs.of_run_laws.of_tape_laws.of_promises.of_rules.Coordinators.{coordinator_calls, serves_at, valid_at}
+use Rattle.mega_lease_laws.specs.of_run_laws.of_tape_laws.of_promises.of_rules.Members.{full_nodes, is_full, nodes}
+use Rattle.mega_lease_laws.specs.of_run_laws.of_tape_laws.Places.{In}
+use Rattle.mega_lease_laws.proofs.of_run_laws.Runs.{run_keeps, run_polls}
 use Rattle.mega_valid_laws.proofs.of_settled_laws.Behind.{run_decided}
 use Rattle.mega_valid_laws.specs.Leases.{HasAtLeast, IsHeld, counted_on, serving_on}
 use Rattle.mega_valid_laws.specs.Showing.{serving_met}

@@ -5,9 +5,9 @@ use Rattle.mega_handler.specs.Named.{Meanings}
 use Rattle.mega_wire.specs.declared.message.Message.{Message}
 use Rattle.mega_wire.specs.declared.message.Body.{Body}
 use Rattle.mega_wire.specs.declared.message.Body.TheVariants.{Invalidate, Invalidated, Unheld}
-use Rattle.mega_transcript.specs.declared.item.Item.{Item}
-use Rattle.mega_transcript.specs.declared.item.Item.TheVariants.{Counts, Grant, Sent, Serving, Valid}
-use Rattle.mega_promises.specs.Runs.{Happening, IsRun}
+use Rattle.mega_lease_laws.specs.of_run_laws.of_tape_laws.of_promises.of_transcript.declared.item.Item.{Item}
+use Rattle.mega_lease_laws.specs.of_run_laws.of_tape_laws.of_promises.of_transcript.declared.item.Item.TheVariants.{Counts, Grant, Sent, Serving, Valid}
+use Rattle.mega_lease_laws.specs.of_run_laws.of_tape_laws.of_promises.Runs.{Happening, IsRun}
 use Rattle.mega_valid_laws.specs.Leases.{AreLeased, IsLeased, MaySay}
 use Rattle.mega_leased_laws.specs.Cells.{Frees, IsFreed}
 use Rattle.mega_leased_laws.specs.Invalidations.{IsObeyed, IsPressed, Obeys, Presses}

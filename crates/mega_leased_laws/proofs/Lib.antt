@@ -20,3 +20,5 @@ pub mod Safety
 pub mod Held
 pub mod Tops
 pub use Rattle.mega_valid_laws.proofs as of_valid_laws
+pub use Rattle.mega_valid_laws.proofs.of_settled_laws as of_settled_laws
+pub use Rattle.mega_lease_laws.proofs.of_run_laws as of_run_laws

@@ -12,13 +12,13 @@ use Rattle.mega_locks.specs.Rule.{after_answer, after_lapse as lock_lapsed, answ
 use Rattle.mega_locks.specs.History.{Call, Reopens, lock_of, nodes}
 use Rattle.mega_locks.proofs.Marks.{same_is, same_self}
 use Rattle.mega_wal.specs.History.{after_grant, after_lapse, is_epoch_below, is_same_epoch}
-use Rattle.mega_rules.specs.Met.{Met, Starts, Crashes, Ticks, Begins, Takes, Unsends, Grants, Lapses, Decides, Applies}
-use Rattle.mega_rules.specs.Clock.{is_opening}
-use Rattle.mega_rules.specs.Locks.{cell_calls, lapse_note, last_grant, reopening, reopenings}
-use Rattle.mega_rules.specs.Steps.{onto}
-use Rattle.mega_tape_laws.specs.Places.{In}
-use Rattle.mega_tape_laws.proofs.Ballots.{number_is, number_self}
-use Rattle.mega_run_laws.specs.Vouched.{Each}
+use Rattle.mega_lease_laws.specs.of_run_laws.of_tape_laws.of_promises.of_rules.Met.{Met, Starts, Crashes, Ticks, Begins, Takes, Unsends, Grants, Lapses, Decides, Applies}
+use Rattle.mega_lease_laws.specs.of_run_laws.of_tape_laws.of_promises.of_rules.Clock.{is_opening}
+use Rattle.mega_lease_laws.specs.of_run_laws.of_tape_laws.of_promises.of_rules.Locks.{cell_calls, lapse_note, last_grant, reopening, reopenings}
+use Rattle.mega_lease_laws.specs.of_run_laws.of_tape_laws.of_promises.of_rules.Steps.{onto}
+use Rattle.mega_lease_laws.specs.of_run_laws.of_tape_laws.Places.{In}
+use Rattle.mega_lease_laws.proofs.of_run_laws.of_tape_laws.Ballots.{number_is, number_self}
+use Rattle.mega_lease_laws.specs.of_run_laws.Vouched.{Each}
 use Rattle.mega_valid_laws.proofs.Orders.{below_self}
 
 -- what is kept is the last grant

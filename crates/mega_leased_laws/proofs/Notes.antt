@@ -6,17 +6,17 @@ use Rattle.mega_base.specs.declared.names.GroupId.{GroupId}
 use Rattle.mega_coordinator.specs.declared.answers.NotValid.{NotValid}
 use Rattle.mega_wire.specs.declared.message.Message.{Message}
 use Rattle.mega_wire.specs.declared.message.Body.{Body}
-use Rattle.mega_rules.specs.Met.{Met, Answers, Applies, Begins, Decides, Takes, Ticks, Validates}
-use Rattle.mega_rules.specs.Clock.{clock_of}
-use Rattle.mega_rules.specs.Coordinators.{acquires_at}
-use Rattle.mega_rules.specs.Logs.{groups_of}
-use Rattle.mega_rules.specs.Members.{has_rows}
-use Rattle.mega_rules.specs.Operations.{Node, Now, Setting}
-use Rattle.mega_rules.specs.Acting.{validated_by}
-use Rattle.mega_rules.specs.Replies.{answer_to, reply_message, reply_to}
-use Rattle.mega_rules.specs.Steps.{Begin, Decision, Event, Heard, Step, Take, Tick, all_act, applied_at, apply_note, apply_notes, at_first, at_open, background, decision_note, first_settled, hears_message, if_new, lapse_notes, lease_notes, new_operation, news, onto, op_of, portion_of, refusal, step, stored_after, taken, ticked, told_decision, told_notes, unless_refused}
-use Rattle.mega_run_laws.specs.Vouched.{Each}
-use Rattle.mega_run_laws.proofs.Noting.{Lasts, all_act_it, begun_it, ticked_it}
+use Rattle.mega_lease_laws.specs.of_run_laws.of_tape_laws.of_promises.of_rules.Met.{Met, Answers, Applies, Begins, Decides, Takes, Ticks, Validates}
+use Rattle.mega_lease_laws.specs.of_run_laws.of_tape_laws.of_promises.of_rules.Clock.{clock_of}
+use Rattle.mega_lease_laws.specs.of_run_laws.of_tape_laws.of_promises.of_rules.Coordinators.{acquires_at}
+use Rattle.mega_lease_laws.specs.of_run_laws.of_tape_laws.of_promises.of_rules.Logs.{groups_of}
+use Rattle.mega_lease_laws.specs.of_run_laws.of_tape_laws.of_promises.of_rules.Members.{has_rows}
+use Rattle.mega_lease_laws.specs.of_run_laws.of_tape_laws.of_promises.of_rules.Operations.{Node, Now, Setting}
+use Rattle.mega_lease_laws.specs.of_run_laws.of_tape_laws.of_promises.of_rules.Acting.{validated_by}
+use Rattle.mega_lease_laws.specs.of_run_laws.of_tape_laws.of_promises.of_rules.Replies.{answer_to, reply_message, reply_to}
+use Rattle.mega_lease_laws.specs.of_run_laws.of_tape_laws.of_promises.of_rules.Steps.{Begin, Decision, Event, Heard, Step, Take, Tick, all_act, applied_at, apply_note, apply_notes, at_first, at_open, background, decision_note, first_settled, hears_message, if_new, lapse_notes, lease_notes, new_operation, news, onto, op_of, portion_of, refusal, step, stored_after, taken, ticked, told_decision, told_notes, unless_refused}
+use Rattle.mega_lease_laws.specs.of_run_laws.Vouched.{Each}
+use Rattle.mega_lease_laws.proofs.of_run_laws.Noting.{Lasts, all_act_it, begun_it, ticked_it}
 use Rattle.mega_valid_laws.proofs.of_settled_laws.Tapes.{each_both}
 use Rattle.mega_lease_laws.specs.Questions.{Asks}
 use Rattle.mega_lease_laws.proofs.Acting.{Acquires, acquires_are, background_asks, news_ask}

@@ -7,27 +7,27 @@ use Rattle.mega_base.specs.declared.names.GroupId.{GroupId}
 use Rattle.mega_base.specs.declared.names.OpId.{OpId}
 use Rattle.mega_base.specs.declared.names.Position.{Position}
 use Rattle.mega_cluster.specs.declared.cluster.Cluster.{Cluster}
-use Rattle.mega_propose.specs.Members.{has, is_majority, with_node}
-use Rattle.mega_propose.specs.Rounds.{is_due}
-use Rattle.mega_read.specs.declared.reading.Move.{Move as ReadMove}
-use Rattle.mega_read.specs.declared.reading.Reading.{Reading}
-use Rattle.mega_read.specs.declared.reading.Search.TheVariants.{Fetching, Filling}
-use Rattle.mega_read.specs.declared.reading.Stage.{Stage}
-use Rattle.mega_read.specs.declared.reading.Stage.TheVariants.{Polling, Catching}
-use Rattle.mega_read.specs.Catching.{asked_by, falls_due, fetch_to, fills, hears, helpers, is_position, local_read, move, polled_read, searched, seeks, topped}
+use Rattle.mega_lease_laws.specs.of_run_laws.of_tape_laws.of_promises.of_rules.of_read.of_propose.Members.{has, is_majority, with_node}
+use Rattle.mega_lease_laws.specs.of_run_laws.of_tape_laws.of_promises.of_rules.of_read.of_propose.Rounds.{is_due}
+use Rattle.mega_lease_laws.specs.of_run_laws.of_tape_laws.of_promises.of_rules.of_read.declared.reading.Move.{Move as ReadMove}
+use Rattle.mega_lease_laws.specs.of_run_laws.of_tape_laws.of_promises.of_rules.of_read.declared.reading.Reading.{Reading}
+use Rattle.mega_lease_laws.specs.of_run_laws.of_tape_laws.of_promises.of_rules.of_read.declared.reading.Search.TheVariants.{Fetching, Filling}
+use Rattle.mega_lease_laws.specs.of_run_laws.of_tape_laws.of_promises.of_rules.of_read.declared.reading.Stage.{Stage}
+use Rattle.mega_lease_laws.specs.of_run_laws.of_tape_laws.of_promises.of_rules.of_read.declared.reading.Stage.TheVariants.{Polling, Catching}
+use Rattle.mega_lease_laws.specs.of_run_laws.of_tape_laws.of_promises.of_rules.of_read.Catching.{asked_by, falls_due, fetch_to, fills, hears, helpers, is_position, local_read, move, polled_read, searched, seeks, topped}
 use Rattle.mega_wal.specs.Same.{same_group, same_op}
 use Rattle.mega_wal.proofs.Sames.{same_group_equal, same_op_equal}
 use Rattle.mega_wire.specs.declared.message.Body.{Body}
 use Rattle.mega_wire.specs.declared.message.Body.TheVariants.{HaveNot, Top}
-use Rattle.mega_transcript.specs.declared.item.Item.{Item}
-use Rattle.mega_rules.specs.Members.{voters}
-use Rattle.mega_tape_laws.specs.Lawful.{Heard, message}
-use Rattle.mega_tape_laws.specs.Places.{Took, count}
-use Rattle.mega_tape_laws.specs.Polls.{IsPolled}
-use Rattle.mega_tape_laws.proofs.Ballots.{number_is, number_self}
-use Rattle.mega_run_laws.proofs.Counted.{count_more, majority_is}
-use Rattle.mega_run_laws.proofs.Reading.{who}
-use Rattle.mega_run_laws.proofs.Sending.{Stood, took_on}
+use Rattle.mega_lease_laws.specs.of_run_laws.of_tape_laws.of_promises.of_transcript.declared.item.Item.{Item}
+use Rattle.mega_lease_laws.specs.of_run_laws.of_tape_laws.of_promises.of_rules.Members.{voters}
+use Rattle.mega_lease_laws.specs.of_run_laws.of_tape_laws.Lawful.{Heard, message}
+use Rattle.mega_lease_laws.specs.of_run_laws.of_tape_laws.Places.{Took, count}
+use Rattle.mega_lease_laws.specs.of_run_laws.of_tape_laws.Polls.{IsPolled}
+use Rattle.mega_lease_laws.proofs.of_run_laws.of_tape_laws.Ballots.{number_is, number_self}
+use Rattle.mega_lease_laws.proofs.of_run_laws.Counted.{count_more, majority_is}
+use Rattle.mega_lease_laws.proofs.of_run_laws.Reading.{who}
+use Rattle.mega_lease_laws.proofs.of_run_laws.Sending.{Stood, took_on}
 
 both : (a b : Bool) → (a && b) ≡ true → (a ≡ true) × (b ≡ true)
 both true b h = (refl, h)

@@ -18,23 +18,23 @@ use Rattle.mega_locks.specs.declared.asked.Asked.{Asked}
 use Rattle.mega_locks.specs.declared.asked.Asked.TheVariants.{Granted, Renewed, Taken as TakenBy, Over}
 use Rattle.mega_outcome.specs.declared.answer.Answer.{Answer}
 use Rattle.mega_outcome.specs.declared.request.Request.{Request}
-use Rattle.mega_propose.specs.Members.{has, is_majority, others, with_node, without}
-use Rattle.mega_propose.specs.declared.round.Cover.{Cover}
-use Rattle.mega_propose.specs.declared.round.Move.{Move as RoundMove}
-use Rattle.mega_propose.specs.declared.round.Proposal.{Proposal}
-use Rattle.mega_propose.specs.declared.round.Report.{Report}
-use Rattle.mega_propose.specs.declared.round.Round.{Round}
-use Rattle.mega_propose.specs.declared.round.Round.TheVariants.{Asking, Preparing, Accepting, Covering, Settled, Waiting}
-use Rattle.mega_propose.specs.declared.round.Site.{Site}
-use Rattle.mega_propose.specs.Rounds.{accept_to, accepted, asks, cell_numbers, completes, dead_to, due, greatest_vote, invalidate_to, invalidated, is_due, is_here, is_sent, last_round, next_ballot, picked, prepare_to, prepares, presses, promised, refused, same_ballot, takes, uncovered, unheld, vote_round}
-use Rattle.mega_read.specs.declared.reading.Move.{Move as ReadMove}
-use Rattle.mega_read.specs.declared.reading.Reading.{Reading}
-use Rattle.mega_read.specs.declared.reading.Search.{Search}
-use Rattle.mega_read.specs.declared.reading.Search.TheVariants.{Fetching, Filling}
-use Rattle.mega_read.specs.declared.reading.Stage.{Stage}
-use Rattle.mega_read.specs.declared.reading.Stage.TheVariants.{Polling, Catching}
-use Rattle.mega_read.specs.declared.reading.Reader.{Reader}
-use Rattle.mega_read.specs.Catching.{asked_by, falls_due, fetch_to, fetches, fills, hears, helpers, is_position, local_read, move, no_op, polled_read, searched, seeks, site, where_to}
+use Rattle.mega_lease_laws.specs.of_run_laws.of_tape_laws.of_promises.of_rules.of_read.of_propose.Members.{has, is_majority, others, with_node, without}
+use Rattle.mega_lease_laws.specs.of_run_laws.of_tape_laws.of_promises.of_rules.of_read.of_propose.declared.round.Cover.{Cover}
+use Rattle.mega_lease_laws.specs.of_run_laws.of_tape_laws.of_promises.of_rules.of_read.of_propose.declared.round.Move.{Move as RoundMove}
+use Rattle.mega_lease_laws.specs.of_run_laws.of_tape_laws.of_promises.of_rules.of_read.of_propose.declared.round.Proposal.{Proposal}
+use Rattle.mega_lease_laws.specs.of_run_laws.of_tape_laws.of_promises.of_rules.of_read.of_propose.declared.round.Report.{Report}
+use Rattle.mega_lease_laws.specs.of_run_laws.of_tape_laws.of_promises.of_rules.of_read.of_propose.declared.round.Round.{Round}
+use Rattle.mega_lease_laws.specs.of_run_laws.of_tape_laws.of_promises.of_rules.of_read.of_propose.declared.round.Round.TheVariants.{Asking, Preparing, Accepting, Covering, Settled, Waiting}
+use Rattle.mega_lease_laws.specs.of_run_laws.of_tape_laws.of_promises.of_rules.of_read.of_propose.declared.round.Site.{Site}
+use Rattle.mega_lease_laws.specs.of_run_laws.of_tape_laws.of_promises.of_rules.of_read.of_propose.Rounds.{accept_to, accepted, asks, cell_numbers, completes, dead_to, due, greatest_vote, invalidate_to, invalidated, is_due, is_here, is_sent, last_round, next_ballot, picked, prepare_to, prepares, presses, promised, refused, same_ballot, takes, uncovered, unheld, vote_round}
+use Rattle.mega_lease_laws.specs.of_run_laws.of_tape_laws.of_promises.of_rules.of_read.declared.reading.Move.{Move as ReadMove}
+use Rattle.mega_lease_laws.specs.of_run_laws.of_tape_laws.of_promises.of_rules.of_read.declared.reading.Reading.{Reading}
+use Rattle.mega_lease_laws.specs.of_run_laws.of_tape_laws.of_promises.of_rules.of_read.declared.reading.Search.{Search}
+use Rattle.mega_lease_laws.specs.of_run_laws.of_tape_laws.of_promises.of_rules.of_read.declared.reading.Search.TheVariants.{Fetching, Filling}
+use Rattle.mega_lease_laws.specs.of_run_laws.of_tape_laws.of_promises.of_rules.of_read.declared.reading.Stage.{Stage}
+use Rattle.mega_lease_laws.specs.of_run_laws.of_tape_laws.of_promises.of_rules.of_read.declared.reading.Stage.TheVariants.{Polling, Catching}
+use Rattle.mega_lease_laws.specs.of_run_laws.of_tape_laws.of_promises.of_rules.of_read.declared.reading.Reader.{Reader}
+use Rattle.mega_lease_laws.specs.of_run_laws.of_tape_laws.of_promises.of_rules.of_read.Catching.{asked_by, falls_due, fetch_to, fetches, fills, hears, helpers, is_position, local_read, move, no_op, polled_read, searched, seeks, site, where_to}
 use Rattle.mega_wal.specs.Acceptor.{Vote, accept_answer, promise_answer}
 use Rattle.mega_wal.specs.Same.{same_group, same_op}
 use Rattle.mega_wal.specs.declared.answers.Promised.{Promised as PromiseAnswer}
@@ -44,29 +44,29 @@ use Rattle.mega_wal.specs.declared.answers.Voted.TheVariants as vote
 use Rattle.mega_wire.specs.declared.message.Message.{Message}
 use Rattle.mega_wire.specs.declared.message.Body.{Body}
 use Rattle.mega_wire.specs.declared.message.Body.TheVariants.{Accept, Accepted, Acquire, Dead, Fetch, HaveNot, Invalidate, Invalidated, Prepare, Promise, Refused, Top, Unheld, Where}
-use Rattle.mega_transcript.specs.declared.item.Item.{Item}
-use Rattle.mega_transcript.specs.declared.item.Item.TheVariants.{Sent}
-use Rattle.mega_transcript.specs.Tape.{sent_count}
-use Rattle.mega_promises.specs.Items.{shown}
-use Rattle.mega_promises.specs.Runs.{Happening, IsRun, Standing, set_at, setting, with_items}
-use Rattle.mega_rules.specs.Met.{Met, Begins, Takes, Ticks}
-use Rattle.mega_rules.specs.Clock.{begun_of, clock_of, does_again, start_of, ticks_of}
-use Rattle.mega_rules.specs.Coordinators.{acquires_at, refused_at, serves_at, valid_at}
-use Rattle.mega_rules.specs.Locks.{asked_for, held_answer, held_at, lock_answer}
-use Rattle.mega_rules.specs.Logs.{decided, groups_of, newest_of, prefix_of, top_of}
-use Rattle.mega_rules.specs.Members.{has_rows, is_cell, is_full, is_voter, nodes, voters}
-use Rattle.mega_rules.specs.Operations.{Node, Now, Operation, Phase, Proposes, Reads, Setting}
-use Rattle.mega_rules.specs.Acting.{completes_read, ends, is_visited, read_begun, reader_of, sends_more, validated_by}
-use Rattle.mega_rules.specs.Replies.{answer_to, fetched, reply_message, reply_to, where_served}
-use Rattle.mega_rules.specs.Steps.{Begin, Decision, Event, Heard, Step, Take, Tick, acts_in_turn, all_act, at_first, at_open, background, decide_to, decision_note, does_due, fetch_to as background_fetch, fetches_for, first_settled, hears_message, if_new, is_out, lapse_notes, last_answer, lease_notes, new_operation, news, onto, op_of, portion_of, refusal, start, start_items, step, stored_after, taken, ticked, told_decision, told_notes, unless_refused}
-use Rattle.mega_rules.specs.Voting.{acts as acts_met, prepared, promise_body, vote_body, voted}
-use Rattle.mega_tape_laws.specs.Places.{Place}
-use Rattle.mega_tape_laws.proofs.Lists.{some_is}
-use Rattle.mega_run_laws.specs.Vouched.{Chosen as HeardChosen, Each, Knows, Vouched, sent}
-use Rattle.mega_run_laws.proofs.Opened.{Backed, BackedStage, at_place}
-use Rattle.mega_run_laws.proofs.Runs.{IsMark, nobody}
-use Rattle.mega_run_laws.proofs.Standing.{Good}
-use Rattle.mega_run_laws.proofs.Turns.{Held, each_on}
+use Rattle.mega_lease_laws.specs.of_run_laws.of_tape_laws.of_promises.of_transcript.declared.item.Item.{Item}
+use Rattle.mega_lease_laws.specs.of_run_laws.of_tape_laws.of_promises.of_transcript.declared.item.Item.TheVariants.{Sent}
+use Rattle.mega_lease_laws.specs.of_run_laws.of_tape_laws.of_promises.of_transcript.Tape.{sent_count}
+use Rattle.mega_lease_laws.specs.of_run_laws.of_tape_laws.of_promises.Items.{shown}
+use Rattle.mega_lease_laws.specs.of_run_laws.of_tape_laws.of_promises.Runs.{Happening, IsRun, Standing, set_at, setting, with_items}
+use Rattle.mega_lease_laws.specs.of_run_laws.of_tape_laws.of_promises.of_rules.Met.{Met, Begins, Takes, Ticks}
+use Rattle.mega_lease_laws.specs.of_run_laws.of_tape_laws.of_promises.of_rules.Clock.{begun_of, clock_of, does_again, start_of, ticks_of}
+use Rattle.mega_lease_laws.specs.of_run_laws.of_tape_laws.of_promises.of_rules.Coordinators.{acquires_at, refused_at, serves_at, valid_at}
+use Rattle.mega_lease_laws.specs.of_run_laws.of_tape_laws.of_promises.of_rules.Locks.{asked_for, held_answer, held_at, lock_answer}
+use Rattle.mega_lease_laws.specs.of_run_laws.of_tape_laws.of_promises.of_rules.Logs.{decided, groups_of, newest_of, prefix_of, top_of}
+use Rattle.mega_lease_laws.specs.of_run_laws.of_tape_laws.of_promises.of_rules.Members.{has_rows, is_cell, is_full, is_voter, nodes, voters}
+use Rattle.mega_lease_laws.specs.of_run_laws.of_tape_laws.of_promises.of_rules.Operations.{Node, Now, Operation, Phase, Proposes, Reads, Setting}
+use Rattle.mega_lease_laws.specs.of_run_laws.of_tape_laws.of_promises.of_rules.Acting.{completes_read, ends, is_visited, read_begun, reader_of, sends_more, validated_by}
+use Rattle.mega_lease_laws.specs.of_run_laws.of_tape_laws.of_promises.of_rules.Replies.{answer_to, fetched, reply_message, reply_to, where_served}
+use Rattle.mega_lease_laws.specs.of_run_laws.of_tape_laws.of_promises.of_rules.Steps.{Begin, Decision, Event, Heard, Step, Take, Tick, acts_in_turn, all_act, at_first, at_open, background, decide_to, decision_note, does_due, fetch_to as background_fetch, fetches_for, first_settled, hears_message, if_new, is_out, lapse_notes, last_answer, lease_notes, new_operation, news, onto, op_of, portion_of, refusal, start, start_items, step, stored_after, taken, ticked, told_decision, told_notes, unless_refused}
+use Rattle.mega_lease_laws.specs.of_run_laws.of_tape_laws.of_promises.of_rules.Voting.{acts as acts_met, prepared, promise_body, vote_body, voted}
+use Rattle.mega_lease_laws.specs.of_run_laws.of_tape_laws.Places.{Place}
+use Rattle.mega_lease_laws.proofs.of_run_laws.of_tape_laws.Lists.{some_is}
+use Rattle.mega_lease_laws.specs.of_run_laws.Vouched.{Chosen as HeardChosen, Each, Knows, Vouched, sent}
+use Rattle.mega_lease_laws.proofs.of_run_laws.Opened.{Backed, BackedStage, at_place}
+use Rattle.mega_lease_laws.proofs.of_run_laws.Runs.{IsMark, nobody}
+use Rattle.mega_lease_laws.proofs.of_run_laws.Standing.{Good}
+use Rattle.mega_lease_laws.proofs.of_run_laws.Turns.{Held, each_on}
 use Rattle.mega_valid_laws.specs.of_settled_laws.Covering.{Earlier}
 use Rattle.mega_valid_laws.proofs.of_settled_laws.Tapes.{IsSilent, each_both, items_later, notes_silent, now_is, one_later, then_later}
 use Rattle.mega_valid_laws.proofs.of_settled_laws.Walk.{Walks, begun_it, goes_on_it}

@@ -8,12 +8,12 @@ use Rattle.mega_coordinator.specs.History.{Call, Ticks as TickCall, Grants as Gr
 use Rattle.mega_coordinator.specs.Laws.{endings}
 use Rattle.mega_coordinator.proofs.Epochs.{epoch_counts, serves_alone}
 use Rattle.mega_wal.specs.History.{is_epoch_below}
-use Rattle.mega_tape_laws.proofs.Lists.{some_is}
-use Rattle.mega_rules.specs.Met.{Met, Starts, Crashes, Ticks, Begins, Takes, Sends, Unsends, Grants, Lapses, Counts, Forgets, Serves, Loses, Validates, Invalidates, Decides, Applies, Answers}
-use Rattle.mega_rules.specs.Clock.{clock_of, start_of}
-use Rattle.mega_rules.specs.Coordinators.{coordinator_calls, told_by, validated}
-use Rattle.mega_rules.specs.Steps.{onto}
-use Rattle.mega_run_laws.specs.Vouched.{Each}
+use Rattle.mega_lease_laws.proofs.of_run_laws.of_tape_laws.Lists.{some_is}
+use Rattle.mega_lease_laws.specs.of_run_laws.of_tape_laws.of_promises.of_rules.Met.{Met, Starts, Crashes, Ticks, Begins, Takes, Sends, Unsends, Grants, Lapses, Counts, Forgets, Serves, Loses, Validates, Invalidates, Decides, Applies, Answers}
+use Rattle.mega_lease_laws.specs.of_run_laws.of_tape_laws.of_promises.of_rules.Clock.{clock_of, start_of}
+use Rattle.mega_lease_laws.specs.of_run_laws.of_tape_laws.of_promises.of_rules.Coordinators.{coordinator_calls, told_by, validated}
+use Rattle.mega_lease_laws.specs.of_run_laws.of_tape_laws.of_promises.of_rules.Steps.{onto}
+use Rattle.mega_lease_laws.specs.of_run_laws.Vouched.{Each}
 use Rattle.mega_valid_laws.proofs.Orders.{below_of}
 
 abbrev pub ended : Cluster → List Met → ℕ

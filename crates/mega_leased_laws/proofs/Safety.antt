@@ -9,24 +9,24 @@ use Rattle.mega_coordinator.specs.Laws.{epoch_at}
 use Rattle.mega_coordinator.proofs.Epochs.{epoch_counts}
 use Rattle.mega_handler.specs.Named.{Meanings}
 use Rattle.mega_wire.specs.declared.message.Message.{Message}
-use Rattle.mega_transcript.specs.declared.item.Item.{Item}
-use Rattle.mega_transcript.specs.declared.item.Item.TheVariants.{Answer, Apply, Begin as BeginItem, Counts as CountsItem, Crash, Cut as CutItem, Decide, Dropped, Forgets as ForgetsItem, Grant, Invalid, Lapse, Lost, Sent, Serving, Start, Taken, Tick as TickItem, Unsafe, Unsent, Valid}
-use Rattle.mega_transcript.specs.Tape.{sent_count}
-use Rattle.mega_promises.specs.Items.{number, shown}
-use Rattle.mega_promises.specs.Messages.{is_unsafe}
-use Rattle.mega_promises.specs.Promises.{Stands}
-use Rattle.mega_promises.specs.Runs.{Standing, breaks, counts_cell, has_lapsed, met_in, nothing_yet, same_epoch, set_at, setting, with_item, with_items}
-use Rattle.mega_rules.specs.Met.{Met, Starts, Crashes, Ticks, Begins, Takes, Sends, Unsends, Grants, Lapses, Counts, Forgets, Serves, Loses, Validates, Invalidates, Decides, Applies, Answers}
-use Rattle.mega_rules.specs.Clock.{is_up, start_of}
-use Rattle.mega_rules.specs.Coordinators.{coordinator_calls}
-use Rattle.mega_rules.specs.Members.{is_full}
-use Rattle.mega_rules.specs.Operations.{Node, Setting}
-use Rattle.mega_rules.specs.Steps.{Begin, Event, Step, Take, Tick, crashed, onto, start, start_items, start_notes, step}
-use Rattle.mega_tape_laws.proofs.Ballots.{number_is, number_self}
-use Rattle.mega_run_laws.specs.Vouched.{Each, sent}
-use Rattle.mega_run_laws.proofs.Events.{onto_append}
-use Rattle.mega_run_laws.proofs.Runs.{IsMark}
-use Rattle.mega_run_laws.proofs.Turns.{each_on}
+use Rattle.mega_lease_laws.specs.of_run_laws.of_tape_laws.of_promises.of_transcript.declared.item.Item.{Item}
+use Rattle.mega_lease_laws.specs.of_run_laws.of_tape_laws.of_promises.of_transcript.declared.item.Item.TheVariants.{Answer, Apply, Begin as BeginItem, Counts as CountsItem, Crash, Cut as CutItem, Decide, Dropped, Forgets as ForgetsItem, Grant, Invalid, Lapse, Lost, Sent, Serving, Start, Taken, Tick as TickItem, Unsafe, Unsent, Valid}
+use Rattle.mega_lease_laws.specs.of_run_laws.of_tape_laws.of_promises.of_transcript.Tape.{sent_count}
+use Rattle.mega_lease_laws.specs.of_run_laws.of_tape_laws.of_promises.Items.{number, shown}
+use Rattle.mega_lease_laws.specs.of_run_laws.of_tape_laws.of_promises.Messages.{is_unsafe}
+use Rattle.mega_lease_laws.specs.of_run_laws.of_tape_laws.of_promises.Promises.{Stands}
+use Rattle.mega_lease_laws.specs.of_run_laws.of_tape_laws.of_promises.Runs.{Standing, breaks, counts_cell, has_lapsed, met_in, nothing_yet, same_epoch, set_at, setting, with_item, with_items}
+use Rattle.mega_lease_laws.specs.of_run_laws.of_tape_laws.of_promises.of_rules.Met.{Met, Starts, Crashes, Ticks, Begins, Takes, Sends, Unsends, Grants, Lapses, Counts, Forgets, Serves, Loses, Validates, Invalidates, Decides, Applies, Answers}
+use Rattle.mega_lease_laws.specs.of_run_laws.of_tape_laws.of_promises.of_rules.Clock.{is_up, start_of}
+use Rattle.mega_lease_laws.specs.of_run_laws.of_tape_laws.of_promises.of_rules.Coordinators.{coordinator_calls}
+use Rattle.mega_lease_laws.specs.of_run_laws.of_tape_laws.of_promises.of_rules.Members.{is_full}
+use Rattle.mega_lease_laws.specs.of_run_laws.of_tape_laws.of_promises.of_rules.Operations.{Node, Setting}
+use Rattle.mega_lease_laws.specs.of_run_laws.of_tape_laws.of_promises.of_rules.Steps.{Begin, Event, Step, Take, Tick, crashed, onto, start, start_items, start_notes, step}
+use Rattle.mega_lease_laws.proofs.of_run_laws.of_tape_laws.Ballots.{number_is, number_self}
+use Rattle.mega_lease_laws.specs.of_run_laws.Vouched.{Each, sent}
+use Rattle.mega_lease_laws.proofs.of_run_laws.Events.{onto_append}
+use Rattle.mega_lease_laws.proofs.of_run_laws.Runs.{IsMark}
+use Rattle.mega_lease_laws.proofs.of_run_laws.Turns.{each_on}
 use Rattle.mega_valid_laws.proofs.of_settled_laws.Tapes.{each_both}
 use Rattle.mega_valid_laws.specs.Leases.{counted_on}
 use Rattle.mega_valid_laws.proofs.Folds.{IsOwn, IsOwnNote, Told, with_told}

@@ -4,8 +4,8 @@ use Rattle.mega_cluster.specs.declared.cluster.Cluster.{Cluster}
 use Rattle.mega_wire.specs.declared.message.Message.{Message}
 use Rattle.mega_wire.specs.declared.message.Body.{Body}
 use Rattle.mega_wire.specs.declared.message.Body.TheVariants.{Invalidate, Invalidated}
-use Rattle.mega_transcript.specs.declared.item.Item.{Item}
-use Rattle.mega_transcript.specs.declared.item.Item.TheVariants.{Sent}
+use Rattle.mega_lease_laws.specs.of_run_laws.of_tape_laws.of_promises.of_transcript.declared.item.Item.{Item}
+use Rattle.mega_lease_laws.specs.of_run_laws.of_tape_laws.of_promises.of_transcript.declared.item.Item.TheVariants.{Sent}
 use Rattle.mega_valid_laws.specs.Leases.{MayObey, WasChosen}
 
 -- a node that says that it is invalidated noted so behind the question

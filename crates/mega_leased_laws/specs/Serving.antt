@@ -2,9 +2,9 @@
 use Rattle.std.specs.Prelude.{◌≡◌, false, List, None, Some}
 use Rattle.mega_base.specs.declared.names.Epoch.{Epoch}
 use Rattle.mega_wal.specs.History.{is_epoch_below}
-use Rattle.mega_transcript.specs.declared.item.Item.{Item}
-use Rattle.mega_transcript.specs.declared.item.Item.TheVariants.{Counts, Grant, Serving}
-use Rattle.mega_promises.specs.Promises.{Stands}
+use Rattle.mega_lease_laws.specs.of_run_laws.of_tape_laws.of_promises.of_transcript.declared.item.Item.{Item}
+use Rattle.mega_lease_laws.specs.of_run_laws.of_tape_laws.of_promises.of_transcript.declared.item.Item.TheVariants.{Counts, Grant, Serving}
+use Rattle.mega_lease_laws.specs.of_run_laws.of_tape_laws.of_promises.Promises.{Stands}
 use Rattle.mega_valid_laws.specs.Leases.{MayServe, serving_on}
 
 -- no epoch is granted above one that serves; a cell is counted that granted the epoch, while none serves; and an epoch serves once, with none above it

@@ -24,21 +24,21 @@ use Rattle.mega_outcome.specs.declared.answer.Turn.{Turn}
 use Rattle.mega_outcome.specs.declared.request.Request.{Request}
 use Rattle.mega_outcome.specs.declared.request.Request.TheVariants.{Txn, Batch, Read as ReadRequested, Find, PumpEnter, PumpHandle, Refresh}
 use Rattle.mega_outcome.specs.Outcome.{batch_outcome, entry_of_batch, entry_of_done, outcome}
-use Rattle.mega_propose.specs.declared.round.Move.{Move as RoundMove}
-use Rattle.mega_propose.specs.Rounds.{asks}
-use Rattle.mega_read.specs.declared.reading.Reading.{Reading}
-use Rattle.mega_read.specs.declared.reading.Stage.{Stage}
-use Rattle.mega_read.specs.declared.reading.Stage.TheVariants.{Polling, Catching}
-use Rattle.mega_read.specs.declared.reading.Move.{Move as ReadMove}
-use Rattle.mega_read.specs.Catching.{asked_by, local_read, polled_read, seeks, site}
-use Rattle.mega_rules.specs.Met.{Answers, Validates}
-use Rattle.mega_rules.specs.Members.{voters}
-use Rattle.mega_rules.specs.Clock.{clock_of}
-use Rattle.mega_rules.specs.Logs.{decided, groups_of, log_of, prefix_of, top_of}
-use Rattle.mega_rules.specs.Coordinators.{refused_at, serves_at, valid_at}
-use Rattle.mega_rules.specs.Queues.{Posted, enter_entry, is_named, names_entered, next_to_enter, next_to_handle, oldest_unhandled}
-use Rattle.mega_rules.specs.Operations.{Now, Operation, Phase, Promised, Proposes, Reads, Replies, Results, Setting}
-use Rattle.mega_rules.specs.Acting.{acts, acts_within, applied_logs, batch_sealed, begins_read, completes_read, ends, enters, finishes, goes_on, handles, handling, has_nothing, in_phase, is_taken, is_visited, keeps, leader_after, listed_at, named_leader, picks_group, picks_message, picks_to_enter, picks_to_handle, proposes, proposes_by, proposes_there, read_begun, reader_of, reads_group, reads_on, rows_at, sealed, seeks_on, sends_more, table_rows, unless_decided, unless_full, validated_by, validates, verdict, visiting}
+use Rattle.mega_format_laws.specs.of_rules.of_read.of_propose.declared.round.Move.{Move as RoundMove}
+use Rattle.mega_format_laws.specs.of_rules.of_read.of_propose.Rounds.{asks}
+use Rattle.mega_format_laws.specs.of_rules.of_read.declared.reading.Reading.{Reading}
+use Rattle.mega_format_laws.specs.of_rules.of_read.declared.reading.Stage.{Stage}
+use Rattle.mega_format_laws.specs.of_rules.of_read.declared.reading.Stage.TheVariants.{Polling, Catching}
+use Rattle.mega_format_laws.specs.of_rules.of_read.declared.reading.Move.{Move as ReadMove}
+use Rattle.mega_format_laws.specs.of_rules.of_read.Catching.{asked_by, local_read, polled_read, seeks, site}
+use Rattle.mega_format_laws.specs.of_rules.Met.{Answers, Validates}
+use Rattle.mega_format_laws.specs.of_rules.Members.{voters}
+use Rattle.mega_format_laws.specs.of_rules.Clock.{clock_of}
+use Rattle.mega_format_laws.specs.of_rules.Logs.{decided, groups_of, log_of, prefix_of, top_of}
+use Rattle.mega_format_laws.specs.of_rules.Coordinators.{refused_at, serves_at, valid_at}
+use Rattle.mega_format_laws.specs.of_rules.Queues.{Posted, enter_entry, is_named, names_entered, next_to_enter, next_to_handle, oldest_unhandled}
+use Rattle.mega_format_laws.specs.of_rules.Operations.{Now, Operation, Phase, Promised, Proposes, Reads, Replies, Results, Setting}
+use Rattle.mega_format_laws.specs.of_rules.Acting.{acts, acts_within, applied_logs, batch_sealed, begins_read, completes_read, ends, enters, finishes, goes_on, handles, handling, has_nothing, in_phase, is_taken, is_visited, keeps, leader_after, listed_at, named_leader, picks_group, picks_message, picks_to_enter, picks_to_handle, proposes, proposes_by, proposes_there, read_begun, reader_of, reads_group, reads_on, rows_at, sealed, seeks_on, sends_more, table_rows, unless_decided, unless_full, validated_by, validates, verdict, visiting}
 use Rattle.mega_format_laws.specs.Rounds.{Each}
 use Rattle.mega_format_laws.proofs.Each.{each_both, either}
 use Rattle.mega_member_laws.specs.Messages.{AreWithin, IsHere, IsWithin, NamesHere}

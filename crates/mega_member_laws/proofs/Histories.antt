@@ -10,9 +10,9 @@ use Rattle.mega_wire.specs.declared.message.Body.{Body}
 use Rattle.mega_wire.specs.declared.message.Body.TheVariants.{Accepted, Promise}
 use Rattle.mega_wal.specs.Acceptor.{Act, Promised, Vote, Voted, best, greater_vote, is_ballot_below}
 use Rattle.mega_wal.specs.Same.{same_group}
-use Rattle.mega_rules.specs.Met.{Met, Sends, Unsends, Decides}
-use Rattle.mega_rules.specs.Voting.{act_if, act_in, act_made, acts, made_of}
-use Rattle.mega_rules.specs.Logs.{decided, first_of}
+use Rattle.mega_format_laws.specs.of_rules.Met.{Met, Sends, Unsends, Decides}
+use Rattle.mega_format_laws.specs.of_rules.Voting.{act_if, act_in, act_made, acts, made_of}
+use Rattle.mega_format_laws.specs.of_rules.Logs.{decided, first_of}
 use Rattle.mega_format_laws.specs.Rounds.{Each}
 use Rattle.mega_format_laws.proofs.Each.{either}
 use Rattle.mega_member_laws.specs.Messages.{CarriesHere, NamesHere, VotesHere}

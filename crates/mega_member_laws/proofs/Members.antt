@@ -5,7 +5,7 @@ use Rattle.std.specs.List.{range_with_len}
 use Rattle.std.proofs.lemmas.Bool.Decides.{nat_tests}
 use Rattle.mega_base.specs.Codec.{IsOption}
 use Rattle.mega_cluster.specs.declared.cluster.Cluster.{Cluster}
-use Rattle.mega_rules.specs.Members.{cells, full_nodes, is_full, is_voter, nodes, voters}
+use Rattle.mega_format_laws.specs.of_rules.Members.{cells, full_nodes, is_full, is_voter, nodes, voters}
 use Rattle.mega_format_laws.specs.Rounds.{Each}
 use Rattle.mega_format_laws.proofs.Each.{each_both, each_filter}
 use Rattle.mega_member_laws.specs.Messages.{IsHere}

@@ -23,17 +23,17 @@ use Rattle.mega_wal.specs.declared.answers.Voted.TheVariants as vote
 use Rattle.mega_locks.specs.declared.asked.Asked.{Asked}
 use Rattle.mega_locks.specs.declared.asked.Asked.TheVariants as lock
 use Rattle.mega_coordinator.specs.History.{Call as Told, Ticks as TickTold, counted_cells, epoch_after, serving}
-use Rattle.mega_propose.specs.Members.{others}
-use Rattle.mega_rules.specs.Met.{Met}
-use Rattle.mega_rules.specs.Members.{cells, has_rows, is_cell, is_full, is_voter, nodes, voters}
-use Rattle.mega_rules.specs.Clock.{does_again, start_of, ticks_of}
-use Rattle.mega_rules.specs.Voting.{acts, prepared, promise_body, vote_body, voted}
-use Rattle.mega_rules.specs.Logs.{decided, groups_of, newest_of, prefix_of, top_of}
-use Rattle.mega_rules.specs.Locks.{asked_for, held_answer, held_at, lock_answer}
-use Rattle.mega_rules.specs.Coordinators.{acquire_to, acquires, acquires_at, asked_cells, coordinator_calls, is_cell_in}
-use Rattle.mega_rules.specs.Replies.{answer_to, fetched, reply_message, reply_to, where_served}
-use Rattle.mega_rules.specs.Operations.{Setting}
-use Rattle.mega_rules.specs.Steps.{Decision, background, decide_to, fetch_to, fetches_for, news}
+use Rattle.mega_format_laws.specs.of_rules.of_read.of_propose.Members.{others}
+use Rattle.mega_format_laws.specs.of_rules.Met.{Met}
+use Rattle.mega_format_laws.specs.of_rules.Members.{cells, has_rows, is_cell, is_full, is_voter, nodes, voters}
+use Rattle.mega_format_laws.specs.of_rules.Clock.{does_again, start_of, ticks_of}
+use Rattle.mega_format_laws.specs.of_rules.Voting.{acts, prepared, promise_body, vote_body, voted}
+use Rattle.mega_format_laws.specs.of_rules.Logs.{decided, groups_of, newest_of, prefix_of, top_of}
+use Rattle.mega_format_laws.specs.of_rules.Locks.{asked_for, held_answer, held_at, lock_answer}
+use Rattle.mega_format_laws.specs.of_rules.Coordinators.{acquire_to, acquires, acquires_at, asked_cells, coordinator_calls, is_cell_in}
+use Rattle.mega_format_laws.specs.of_rules.Replies.{answer_to, fetched, reply_message, reply_to, where_served}
+use Rattle.mega_format_laws.specs.of_rules.Operations.{Setting}
+use Rattle.mega_format_laws.specs.of_rules.Steps.{Decision, background, decide_to, fetch_to, fetches_for, news}
 use Rattle.mega_format_laws.specs.Rounds.{Each}
 use Rattle.mega_format_laws.proofs.Each.{each_filter, each_map, either}
 use Rattle.mega_member_laws.specs.Messages.{AreWithin, CarriesHere, IsHere, IsWithin, NamesHere, VotesHere}

@@ -23,18 +23,18 @@ use Rattle.mega_outcome.specs.declared.request.Request.{Request}
 use Rattle.mega_outcome.specs.declared.request.Request.TheVariants.{Txn, Batch, Read, Find, PumpEnter, PumpHandle, Refresh}
 use Rattle.mega_outcome.specs.declared.request.ReadRequest.{ReadRequest}
 use Rattle.mega_outcome.specs.declared.request.FindRequest.{FindRequest}
-use Rattle.mega_propose.specs.Rounds.{settled}
-use Rattle.mega_read.specs.Catching.{read_settled, site}
-use Rattle.mega_rules.specs.Met.{Met, Starts, Ticks, Begins, Takes, Sends, Counts, Serves, Invalidates, Applies}
-use Rattle.mega_rules.specs.Members.{cells, has_rows, is_full, keep_of}
-use Rattle.mega_rules.specs.Clock.{clock_of, start_of}
-use Rattle.mega_rules.specs.Logs.{decided, groups_of, prefix_of}
-use Rattle.mega_rules.specs.Locks.{asked_for, cell_calls, grant_note, lapse_note, lapses_at}
-use Rattle.mega_rules.specs.Coordinators.{acquires_at, coordinator_calls, counts_notes, forget_notes, grant_notes, is_cell_in, lost_note, tick_notes, tick_told}
-use Rattle.mega_rules.specs.Replies.{reply_to}
-use Rattle.mega_rules.specs.Operations.{Node, Now, Operation, Phase, Proposes, Reads, Setting}
-use Rattle.mega_rules.specs.Acting.{ends, goes_on, reader_of, sends_more}
-use Rattle.mega_rules.specs.Steps.{Begin, Decision, Event, Heard, Step, Take, Tick, acts_in_turn, all_act, applied_at, apply_note, apply_notes, at_first, at_open, background, begin_step, begins, decision_at, decision_note, does_due, find_begins, first_settled, hears_message, if_new, is_out, last_answer, lapse_notes, lease_notes, local_find_begins, new_operation, news, onto, op_of, portion_of, read_begins, read_decision, refusal, crashed, settled_by, start, start_items, start_note, start_notes, step, step_of, stored_after, take_step, taken, tick_step, ticked, told_decision, told_notes, unless_refused}
+use Rattle.mega_format_laws.specs.of_rules.of_read.of_propose.Rounds.{settled}
+use Rattle.mega_format_laws.specs.of_rules.of_read.Catching.{read_settled, site}
+use Rattle.mega_format_laws.specs.of_rules.Met.{Met, Starts, Ticks, Begins, Takes, Sends, Counts, Serves, Invalidates, Applies}
+use Rattle.mega_format_laws.specs.of_rules.Members.{cells, has_rows, is_full, keep_of}
+use Rattle.mega_format_laws.specs.of_rules.Clock.{clock_of, start_of}
+use Rattle.mega_format_laws.specs.of_rules.Logs.{decided, groups_of, prefix_of}
+use Rattle.mega_format_laws.specs.of_rules.Locks.{asked_for, cell_calls, grant_note, lapse_note, lapses_at}
+use Rattle.mega_format_laws.specs.of_rules.Coordinators.{acquires_at, coordinator_calls, counts_notes, forget_notes, grant_notes, is_cell_in, lost_note, tick_notes, tick_told}
+use Rattle.mega_format_laws.specs.of_rules.Replies.{reply_to}
+use Rattle.mega_format_laws.specs.of_rules.Operations.{Node, Now, Operation, Phase, Proposes, Reads, Setting}
+use Rattle.mega_format_laws.specs.of_rules.Acting.{ends, goes_on, reader_of, sends_more}
+use Rattle.mega_format_laws.specs.of_rules.Steps.{Begin, Decision, Event, Heard, Step, Take, Tick, acts_in_turn, all_act, applied_at, apply_note, apply_notes, at_first, at_open, background, begin_step, begins, decision_at, decision_note, does_due, find_begins, first_settled, hears_message, if_new, is_out, last_answer, lapse_notes, lease_notes, local_find_begins, new_operation, news, onto, op_of, portion_of, read_begins, read_decision, refusal, crashed, settled_by, start, start_items, start_note, start_notes, step, step_of, stored_after, take_step, taken, tick_step, ticked, told_decision, told_notes, unless_refused}
 use Rattle.mega_format_laws.specs.Rounds.{Each}
 use Rattle.mega_format_laws.proofs.Each.{each_both, each_fold, each_map, either}
 use Rattle.mega_member_laws.specs.Messages.{AreWithin, CarriesHere, IsHere, IsWithin, NamesHere}

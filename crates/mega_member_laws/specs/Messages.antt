@@ -7,7 +7,7 @@ use Rattle.mega_entry.specs.declared.content.Content.{Content}
 use Rattle.mega_wire.specs.declared.message.Message.{Message}
 use Rattle.mega_wire.specs.declared.message.Body.{Body}
 use Rattle.mega_wire.specs.declared.message.Body.TheVariants.{Where, Top, Accept, Accepted, Refused, Prepare, Promise, Invalidate, Invalidated, Dead, Held, Unheld, Decide, Fetch, Have, HaveNot, Acquire, Granted, Past, Request, Reply}
-use Rattle.mega_rules.specs.Members.{is_node}
+use Rattle.mega_format_laws.specs.of_rules.Members.{is_node}
 use Rattle.mega_format_laws.specs.Rounds.{Each}
 
 -- a node of the cluster

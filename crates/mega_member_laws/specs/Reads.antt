@@ -1,13 +1,13 @@
 -- A current read whose messages stay within its cluster.
 use Rattle.std.specs.Prelude.{◌≤◌, length, Option, Some, None}
 use Rattle.mega_cluster.specs.declared.cluster.Cluster.{Cluster}
-use Rattle.mega_read.specs.declared.reading.Reader.{Reader}
-use Rattle.mega_read.specs.declared.reading.Search.{Search}
-use Rattle.mega_read.specs.declared.reading.Search.TheVariants.{Fetching, Filling}
-use Rattle.mega_read.specs.declared.reading.Stage.{Stage}
-use Rattle.mega_read.specs.declared.reading.Stage.TheVariants.{Polling, Catching}
-use Rattle.mega_read.specs.declared.reading.Reading.{Reading}
-use Rattle.mega_read.specs.declared.reading.Move.{Move}
+use Rattle.mega_format_laws.specs.of_rules.of_read.declared.reading.Reader.{Reader}
+use Rattle.mega_format_laws.specs.of_rules.of_read.declared.reading.Search.{Search}
+use Rattle.mega_format_laws.specs.of_rules.of_read.declared.reading.Search.TheVariants.{Fetching, Filling}
+use Rattle.mega_format_laws.specs.of_rules.of_read.declared.reading.Stage.{Stage}
+use Rattle.mega_format_laws.specs.of_rules.of_read.declared.reading.Stage.TheVariants.{Polling, Catching}
+use Rattle.mega_format_laws.specs.of_rules.of_read.declared.reading.Reading.{Reading}
+use Rattle.mega_format_laws.specs.of_rules.of_read.declared.reading.Move.{Move}
 use Rattle.mega_format_laws.specs.Rounds.{Each}
 use Rattle.mega_member_laws.specs.Messages.{AreWithin, IsHere}
 use Rattle.mega_member_laws.specs.Rounds.{ProposalWithin}

@@ -1,12 +1,12 @@
 -- A round whose messages stay within its cluster.
 use Rattle.std.specs.Prelude.{◌≤◌, length}
 use Rattle.mega_cluster.specs.declared.cluster.Cluster.{Cluster}
-use Rattle.mega_propose.specs.declared.round.Site.{Site}
-use Rattle.mega_propose.specs.declared.round.Report.{Report}
-use Rattle.mega_propose.specs.declared.round.Round.{Round}
-use Rattle.mega_propose.specs.declared.round.Round.TheVariants.{Asking, Preparing, Accepting, Covering, Settled, Waiting}
-use Rattle.mega_propose.specs.declared.round.Proposal.{Proposal}
-use Rattle.mega_propose.specs.declared.round.Move.{Move}
+use Rattle.mega_format_laws.specs.of_rules.of_read.of_propose.declared.round.Site.{Site}
+use Rattle.mega_format_laws.specs.of_rules.of_read.of_propose.declared.round.Report.{Report}
+use Rattle.mega_format_laws.specs.of_rules.of_read.of_propose.declared.round.Round.{Round}
+use Rattle.mega_format_laws.specs.of_rules.of_read.of_propose.declared.round.Round.TheVariants.{Asking, Preparing, Accepting, Covering, Settled, Waiting}
+use Rattle.mega_format_laws.specs.of_rules.of_read.of_propose.declared.round.Proposal.{Proposal}
+use Rattle.mega_format_laws.specs.of_rules.of_read.of_propose.declared.round.Move.{Move}
 use Rattle.mega_format_laws.specs.Rounds.{Each}
 use Rattle.mega_member_laws.specs.Messages.{AreWithin, IsHere, NamesHere, VotesHere}
 

@@ -4,10 +4,10 @@ ghost use Rattle.std.specs.Prelude.{◌≡◌, ◌≤◌, ℕ, List, [], length,
 ghost use Rattle.mega_cluster.specs.declared.cluster.Cluster.{Cluster};
 ghost use Rattle.mega_cluster.specs.Header.{read_of};
 ghost use Rattle.mega_wire.specs.declared.message.Message.{Message};
-ghost use Rattle.mega_rules.specs.Met.{Met};
-ghost use Rattle.mega_rules.specs.Operations.{Node, Setting};
-ghost use Rattle.mega_rules.specs.Replies.{reply_to};
-ghost use Rattle.mega_rules.specs.Steps.{Event, crashed, start, step};
+ghost use Rattle.mega_format_laws.specs.of_rules.Met.{Met};
+ghost use Rattle.mega_format_laws.specs.of_rules.Operations.{Node, Setting};
+ghost use Rattle.mega_format_laws.specs.of_rules.Replies.{reply_to};
+ghost use Rattle.mega_format_laws.specs.of_rules.Steps.{Event, crashed, start, step};
 ghost use Rattle.mega_member_laws.specs.Messages.{AreWithin, IsHere, IsWithin};
 ghost use Rattle.mega_member_laws.specs.Nodes.{EventWithin, MetWithin, StaysWithin, StepWithin};
 

@@ -2,8 +2,8 @@
 use Rattle.std.proofs.Common.{◌≡◌, ℕ, ◌+◌, ◌<◌, false, true, List, [], ◌∷◌, None, Option, map, subst, sym, ◌∙◌}
 use Rattle.std.specs.Prelude.{flat_map}
 use Rattle.mega_cluster.specs.declared.cluster.Cluster.{Cluster}
-use Rattle.mega_server.specs.of_core.declared.note.Note.{Note}
-use Rattle.mega_server.specs.of_core.Notes.{met_of as notes_met}
+use Rattle.mega_server.specs.of_core.of_stepping.declared.note.Note.{Note}
+use Rattle.mega_server.specs.of_core.of_stepping.Notes.{met_of as notes_met}
 use Rattle.mega_server.specs.of_core.Restarting.{HaveFollowed}
 use Rattle.mega_disk.specs.declared.records.Records.{Ghosts}
 use Rattle.mega_disk.specs.VersionMaps.{Versions}

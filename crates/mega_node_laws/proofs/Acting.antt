@@ -5,8 +5,8 @@ use Rattle.mega_base.specs.declared.names.Epoch.{Epoch}
 use Rattle.mega_cluster.specs.declared.cluster.Cluster.{Cluster}
 use Rattle.mega_coordinator.specs.History.{Call, Ticks as Told, counted_cells, epoch_after, serving}
 use Rattle.mega_wire.specs.declared.message.Message.{Message}
-use Rattle.mega_propose.specs.Members.{others}
-use Rattle.mega_read.specs.Catching.{site}
+use Rattle.mega_voter.specs.of_read.of_propose.Members.{others}
+use Rattle.mega_voter.specs.of_read.Catching.{site}
 use Rattle.mega_voter.specs.of_rules.Met.{Met}
 use Rattle.mega_voter.specs.of_rules.Members.{has_rows, is_full, nodes, voters}
 use Rattle.mega_voter.specs.of_rules.Clock.{does_again, start_of, ticks_of}

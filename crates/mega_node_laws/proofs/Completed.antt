@@ -6,7 +6,7 @@ use Rattle.mega_coordinator.specs.declared.answers.NotValid.{NotValid}
 use Rattle.mega_entry.specs.declared.content.Content.{Content}
 use Rattle.mega_wal.specs.Same.{same_group}
 use Rattle.mega_wal.proofs.Sames.{same_group_equal, same_group_self}
-use Rattle.mega_read.specs.declared.reading.Reading.{Reading}
+use Rattle.mega_voter.specs.of_read.declared.reading.Reading.{Reading}
 use Rattle.mega_replica.specs.Applying.{after_read, applied}
 use Rattle.mega_voter.specs.of_rules.Met.{Validates}
 use Rattle.mega_voter.specs.of_rules.Logs.{log_of, prefix_of}

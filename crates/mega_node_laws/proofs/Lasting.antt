@@ -20,12 +20,12 @@ use Rattle.mega_outcome.specs.declared.request.ReadRequest.{ReadRequest}
 use Rattle.mega_outcome.specs.declared.request.Request.{Request}
 use Rattle.mega_outcome.specs.declared.request.Request.TheVariants.{Txn, Batch as BatchRequest, Read as ReadRequested, Find, PumpEnter, PumpHandle, Refresh}
 use Rattle.mega_outcome.specs.Outcome.{batch_outcome, entry_of_batch, entry_of_done, outcome}
-use Rattle.mega_propose.specs.Rounds.{asks}
-use Rattle.mega_read.specs.declared.reading.Reading.{Reading}
-use Rattle.mega_read.specs.declared.reading.Stage.{Stage}
-use Rattle.mega_read.specs.declared.reading.Stage.TheVariants.{Polling, Catching}
-use Rattle.mega_read.specs.declared.reading.Move.{Move as ReadMove}
-use Rattle.mega_read.specs.Catching.{asked_by, local_read, polled_read, site, seeks}
+use Rattle.mega_voter.specs.of_read.of_propose.Rounds.{asks}
+use Rattle.mega_voter.specs.of_read.declared.reading.Reading.{Reading}
+use Rattle.mega_voter.specs.of_read.declared.reading.Stage.{Stage}
+use Rattle.mega_voter.specs.of_read.declared.reading.Stage.TheVariants.{Polling, Catching}
+use Rattle.mega_voter.specs.of_read.declared.reading.Move.{Move as ReadMove}
+use Rattle.mega_voter.specs.of_read.Catching.{asked_by, local_read, polled_read, site, seeks}
 use Rattle.mega_voter.specs.of_rules.Clock.{clock_of}
 use Rattle.mega_voter.specs.of_rules.Logs.{decided, groups_of, log_of, prefix_of, top_of}
 use Rattle.mega_voter.specs.of_rules.Coordinators.{refused_at, serves_at, valid_at}

@@ -11,3 +11,4 @@ pub mod Told
 pub mod Ending
 pub mod Completed
 pub mod Sent
+pub use Rattle.mega_replica.proofs as of_replica

@@ -9,14 +9,14 @@ use Rattle.mega_wire.specs.declared.message.Message.{Message}
 use Rattle.mega_wire.specs.declared.message.Body.{Body}
 use Rattle.mega_wire.specs.declared.message.Body.TheVariants.{Accept, Accepted, Refused, Prepare, Promise, Invalidated, Unheld}
 use Rattle.mega_wal.specs.Same.{same_op}
-use Rattle.mega_propose.specs.Members.{has, is_majority, others}
-use Rattle.mega_propose.specs.declared.round.Site.{Site}
-use Rattle.mega_propose.specs.declared.round.Report.{Report}
-use Rattle.mega_propose.specs.declared.round.Round.{Round}
-use Rattle.mega_propose.specs.declared.round.Round.TheVariants.{Asking, Preparing, Accepting, Covering, Settled, Waiting}
-use Rattle.mega_propose.specs.declared.round.Proposal.{Proposal}
-use Rattle.mega_propose.specs.declared.round.Move.{Move}
-use Rattle.mega_propose.specs.Rounds.{accept_to, accepted, asks, cell_numbers, completes, dead_to, due, greatest_vote, invalidate_to, invalidated, is_due, is_here, is_sent, last_round, next_ballot, picked, prepare_to, prepares, presses, promised, proposes, refused, same_ballot, takes, uncovered, unheld, vote_round}
+use Rattle.mega_voter.specs.of_read.of_propose.Members.{has, is_majority, others}
+use Rattle.mega_voter.specs.of_read.of_propose.declared.round.Site.{Site}
+use Rattle.mega_voter.specs.of_read.of_propose.declared.round.Report.{Report}
+use Rattle.mega_voter.specs.of_read.of_propose.declared.round.Round.{Round}
+use Rattle.mega_voter.specs.of_read.of_propose.declared.round.Round.TheVariants.{Asking, Preparing, Accepting, Covering, Settled, Waiting}
+use Rattle.mega_voter.specs.of_read.of_propose.declared.round.Proposal.{Proposal}
+use Rattle.mega_voter.specs.of_read.of_propose.declared.round.Move.{Move}
+use Rattle.mega_voter.specs.of_read.of_propose.Rounds.{accept_to, accepted, asks, cell_numbers, completes, dead_to, due, greatest_vote, invalidate_to, invalidated, is_due, is_here, is_sent, last_round, next_ballot, picked, prepare_to, prepares, presses, promised, proposes, refused, same_ballot, takes, uncovered, unheld, vote_round}
 use Rattle.mega_node_laws.specs.Asking.{Asks}
 
 pub none : All Asks []

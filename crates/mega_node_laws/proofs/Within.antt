@@ -4,7 +4,7 @@ use Rattle.std.specs.List.{All}
 use Rattle.std.proofs.lemmas.List.Elements.{All-append, All-push, All-weaker}
 use Rattle.mega_base.specs.declared.names.GroupId.{GroupId}
 use Rattle.mega_coordinator.specs.declared.answers.NotValid.{NotValid}
-use Rattle.mega_read.specs.declared.reading.Reading.{Reading}
+use Rattle.mega_voter.specs.of_read.declared.reading.Reading.{Reading}
 use Rattle.mega_voter.specs.of_rules.Met.{Met, Validates}
 use Rattle.mega_voter.specs.of_rules.Operations.{Now, Operation, Setting}
 use Rattle.mega_voter.specs.of_rules.Acting.{completes_read, goes_on, validated_by}

@@ -12,7 +12,7 @@ use Rattle.mega_handler.specs.Named.{Meaning, Meanings}
 use Rattle.mega_wire.specs.declared.message.Body.{Body}
 use Rattle.mega_voter.specs.Holding.{HoldsMet}
 use Rattle.mega_voter.specs.Telling.{Tells}
-use Rattle.mega_durable.specs.of_actions.Stands.{setting as at_node}
+use Rattle.mega_durable.specs.of_actions.of_proposing.Settings.{setting as at_node}
 use Rattle.mega_leases.specs.Opening.{AreOwed}
 use Rattle.mega_leases.specs.Taking.{IsLate}
 use Rattle.mega_rules.specs.Clock.{begun_of, start_of}
@@ -22,8 +22,8 @@ use Rattle.mega_rules.specs.Steps.{Event, op_of, step}
 use Rattle.mega_replica.specs.Following.{progress_at}
 use Rattle.mega_node_laws.specs.Acted.{own_item}
 use Rattle.mega_durable.specs.of_core.declared.node.Node.{Node}
-use Rattle.mega_durable.specs.of_core.declared.step.Step.{Step}
-use Rattle.mega_durable.specs.of_core.Notes.{met_of}
+use Rattle.mega_durable.specs.of_core.of_stepping.declared.step.Step.{Step}
+use Rattle.mega_durable.specs.of_core.of_stepping.Notes.{met_of}
 use Rattle.mega_durable.specs.of_core.Represents.{Represents}
 use Rattle.mega_durable.specs.of_core.Standing.{StandsFor}
 use Rattle.mega_durable.specs.declared.cut.Cut.{Cut}

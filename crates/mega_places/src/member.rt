@@ -16,7 +16,7 @@ use crate::log_fuse::{LogFuse, after_append};
 use crate::not_made::NotMade;
 use mega_base::Text;
 use mega_disk::MemRecords;
-use mega_durable::mega_core::Step;
+use mega_durable::mega_core::mega_stepping::Step;
 use mega_durable::{Up, UpFault};
 use mega_meanings::QueueHandlers;
 use mega_outcome::Request;

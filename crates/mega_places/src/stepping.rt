@@ -23,7 +23,7 @@ use crate::not_made::NotMade;
 use crate::place::Place;
 use crate::places::cut_down;
 use mega_base::{NodeId, OpId, Text};
-use mega_durable::mega_core::Step;
+use mega_durable::mega_core::mega_stepping::Step;
 use mega_meanings::QueueHandlers;
 use mega_outcome::Request;
 use mega_wire::Message;

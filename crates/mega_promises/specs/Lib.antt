@@ -13,3 +13,7 @@ pub mod Served
 pub mod Records
 pub mod Worked
 pub use Rattle.mega_rules.specs as of_rules
+pub use Rattle.mega_transcript.specs as of_transcript
+pub use Rattle.mega_schedule.specs as of_schedule
+pub use Rattle.mega_rules.specs.of_read as of_read
+pub use Rattle.mega_rules.specs.of_replica as of_replica

@@ -9,21 +9,21 @@ use Rattle.mega_handler.specs.Named.{Meanings}
 use Rattle.mega_wal.specs.Same.{same_group}
 use Rattle.mega_wal.proofs.Sames.{same_group_equal}
 use Rattle.mega_outcome.specs.declared.request.Request.{Request}
-use Rattle.mega_schedule.specs.declared.world_event.WorldEvent.{WorldEvent}
-use Rattle.mega_schedule.specs.declared.world_event.WorldEvent.TheVariants.{Tick as TickEvent, Deliver, Drop, Drain, Crash as CrashEvent, Start as StartEvent, Fuse as FuseEvent, Begin as BeginEvent}
-use Rattle.mega_transcript.specs.declared.item.Item.{Item}
-use Rattle.mega_transcript.specs.declared.item.Item.TheVariants.{Cut as CutItem, Decide, Dropped, Taken, Unsafe}
-use Rattle.mega_transcript.specs.Tape.{sent_count}
-use Rattle.mega_rules.specs.Met.{Met, Crashes, Ticks, Begins, Takes, Sends, Decides}
-use Rattle.mega_rules.specs.Members.{nodes}
-use Rattle.mega_rules.specs.Logs.{decided, first_of}
-use Rattle.mega_rules.specs.Operations.{Node}
-use Rattle.mega_rules.specs.Steps.{Begin, Step, Take, Tick, onto, op_of, start_items, step}
-use Rattle.mega_promises.specs.Items.{number, numbered, shown}
-use Rattle.mega_promises.specs.Messages.{is_unsafe, message_of, next_delivery}
-use Rattle.mega_promises.specs.Promises.{Stands}
-use Rattle.mega_promises.specs.Runs.{Calls, CutByData, CutByLog, Cuts, Fate, Fuse, Happening, Left, Standing, Whole, after_event, at_node, breaks, calls_of, crashes, cut_step, delivered, drained, fate_by, fated, fated_start, goes_on, handed, is_kept, marked, nothing_yet, opening, owes, refusal, replies_in, set_at, setting, start_calls, unless_none, unless_refused, up, whole_start, whole_step, with_item, with_items}
-use Rattle.mega_tape_laws.specs.Places.{In}
+use Rattle.mega_run_laws.specs.of_tape_laws.of_promises.of_schedule.declared.world_event.WorldEvent.{WorldEvent}
+use Rattle.mega_run_laws.specs.of_tape_laws.of_promises.of_schedule.declared.world_event.WorldEvent.TheVariants.{Tick as TickEvent, Deliver, Drop, Drain, Crash as CrashEvent, Start as StartEvent, Fuse as FuseEvent, Begin as BeginEvent}
+use Rattle.mega_run_laws.specs.of_tape_laws.of_promises.of_transcript.declared.item.Item.{Item}
+use Rattle.mega_run_laws.specs.of_tape_laws.of_promises.of_transcript.declared.item.Item.TheVariants.{Cut as CutItem, Decide, Dropped, Taken, Unsafe}
+use Rattle.mega_run_laws.specs.of_tape_laws.of_promises.of_transcript.Tape.{sent_count}
+use Rattle.mega_run_laws.specs.of_tape_laws.of_promises.of_rules.Met.{Met, Crashes, Ticks, Begins, Takes, Sends, Decides}
+use Rattle.mega_run_laws.specs.of_tape_laws.of_promises.of_rules.Members.{nodes}
+use Rattle.mega_run_laws.specs.of_tape_laws.of_promises.of_rules.Logs.{decided, first_of}
+use Rattle.mega_run_laws.specs.of_tape_laws.of_promises.of_rules.Operations.{Node}
+use Rattle.mega_run_laws.specs.of_tape_laws.of_promises.of_rules.Steps.{Begin, Step, Take, Tick, onto, op_of, start_items, step}
+use Rattle.mega_run_laws.specs.of_tape_laws.of_promises.Items.{number, numbered, shown}
+use Rattle.mega_run_laws.specs.of_tape_laws.of_promises.Messages.{is_unsafe, message_of, next_delivery}
+use Rattle.mega_run_laws.specs.of_tape_laws.of_promises.Promises.{Stands}
+use Rattle.mega_run_laws.specs.of_tape_laws.of_promises.Runs.{Calls, CutByData, CutByLog, Cuts, Fate, Fuse, Happening, Left, Standing, Whole, after_event, at_node, breaks, calls_of, crashes, cut_step, delivered, drained, fate_by, fated, fated_start, goes_on, handed, is_kept, marked, nothing_yet, opening, owes, refusal, replies_in, set_at, setting, start_calls, unless_none, unless_refused, up, whole_start, whole_step, with_item, with_items}
+use Rattle.mega_run_laws.specs.of_tape_laws.Places.{In}
 use Rattle.mega_node_laws.proofs.Ending.{step_met}
 use Rattle.mega_run_laws.proofs.Sending.{Stood}
 use Rattle.mega_run_laws.proofs.Standing.{sends_on}

@@ -4,10 +4,10 @@ use Rattle.std.specs.List.{find, range_with_len}
 use Rattle.mega_cluster.specs.declared.cluster.Cluster.{Cluster}
 use Rattle.mega_wire.specs.declared.message.Message.{Message}
 use Rattle.mega_handler.specs.Named.{Meanings}
-use Rattle.mega_schedule.specs.declared.world_event.WorldEvent.TheVariants.{Deliver}
-use Rattle.mega_transcript.specs.Tape.{is_sent, is_taken, sent_count}
-use Rattle.mega_promises.specs.Messages.{is_deliverable, is_dropped, message_of, next_delivery, receiver_up}
-use Rattle.mega_promises.specs.Runs.{Cuts, Standing, because, delivered, drained, goes_on, receiver_down, refusal, unless_none, unless_refused, up}
+use Rattle.mega_run_laws.specs.of_tape_laws.of_promises.of_schedule.declared.world_event.WorldEvent.TheVariants.{Deliver}
+use Rattle.mega_run_laws.specs.of_tape_laws.of_promises.of_transcript.Tape.{is_sent, is_taken, sent_count}
+use Rattle.mega_run_laws.specs.of_tape_laws.of_promises.Messages.{is_deliverable, is_dropped, message_of, next_delivery, receiver_up}
+use Rattle.mega_run_laws.specs.of_tape_laws.of_promises.Runs.{Cuts, Standing, because, delivered, drained, goes_on, receiver_down, refusal, unless_none, unless_refused, up}
 
 found_in : (p : ℕ → Bool) (a n k : ℕ) → find p (range_with_len a n) ≡ Some k → (p k ≡ true) × (a ≤ k) × (k < a + n)
 found_in p a zero k h = absurd (cc)

@@ -12,13 +12,13 @@ use Rattle.mega_keys.specs.Reading.{root_at}
 use Rattle.mega_index.specs.Cells.{key_values}
 use Rattle.mega_index.specs.Fits.{numbered, key_of, group_bytes_of, properties_fit, has_place, long_key, indexes_of, row_fits}
 use Rattle.mega_index.specs.Entries.{local_in, local_entries}
-use Rattle.mega_tape_laws.specs.Indexed.{IsDeclared}
-use Rattle.mega_tape_laws.proofs.Placed.{under}
-use Rattle.mega_tape_laws.proofs.Spelled.{AreOf}
-use Rattle.mega_tape_laws.proofs.RowKeys.{IsKeyOf, both, key_spelt, of_front, group_of_key, of_ok}
-use Rattle.mega_tape_laws.proofs.IndexKeys.{entry_key}
-use Rattle.mega_tape_laws.proofs.IndexKept.{table_least}
-use Rattle.mega_tape_laws.proofs.IndexEntries.{InLocal, local_from}
+use Rattle.mega_run_laws.specs.of_tape_laws.Indexed.{IsDeclared}
+use Rattle.mega_run_laws.proofs.of_tape_laws.Placed.{under}
+use Rattle.mega_run_laws.proofs.of_tape_laws.Spelled.{AreOf}
+use Rattle.mega_run_laws.proofs.of_tape_laws.RowKeys.{IsKeyOf, both, key_spelt, of_front, group_of_key, of_ok}
+use Rattle.mega_run_laws.proofs.of_tape_laws.IndexKeys.{entry_key}
+use Rattle.mega_run_laws.proofs.of_tape_laws.IndexKept.{table_least}
+use Rattle.mega_run_laws.proofs.of_tape_laws.IndexEntries.{InLocal, local_from}
 use Rattle.mega_row_laws.proofs.Reading.{ReadParts, differ, neither, one_numbered, read_parts, root_of, root_reread, same_first}
 
 -- ---- the key of an index entry

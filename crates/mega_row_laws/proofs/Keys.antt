@@ -9,12 +9,12 @@ use Rattle.mega_keys.specs.Spelling.{spell_all, scattered, scatter_of, root_part
 use Rattle.mega_index.specs.Fits.{numbered, group_of, key_of}
 use Rattle.mega_index.specs.Entries.{local_entries}
 use Rattle.mega_outcome.specs.Places.{key_in, key_in_table}
-use Rattle.mega_tape_laws.specs.Indexed.{IsDeclared}
-use Rattle.mega_tape_laws.proofs.Placed.{under}
-use Rattle.mega_tape_laws.proofs.Spelled.{Alike, SameKinds, same_kinds, values_split, alike_head}
-use Rattle.mega_tape_laws.proofs.RowKeys.{IsKeyOf, group_spelt, key_spelt, of_front}
-use Rattle.mega_tape_laws.proofs.Replacing.{key_in_at}
-use Rattle.mega_tape_laws.proofs.RootKeys.{one_table, no_entry}
+use Rattle.mega_run_laws.specs.of_tape_laws.Indexed.{IsDeclared}
+use Rattle.mega_run_laws.proofs.of_tape_laws.Placed.{under}
+use Rattle.mega_run_laws.proofs.of_tape_laws.Spelled.{Alike, SameKinds, same_kinds, values_split, alike_head}
+use Rattle.mega_run_laws.proofs.of_tape_laws.RowKeys.{IsKeyOf, group_spelt, key_spelt, of_front}
+use Rattle.mega_run_laws.proofs.of_tape_laws.Replacing.{key_in_at}
+use Rattle.mega_run_laws.proofs.of_tape_laws.RootKeys.{one_table, no_entry}
 use Rattle.mega_row_laws.proofs.Reading.{one_numbered, read_one_group, read_one_table}
 
 -- a key of a group: key values of the group spell it, it is read as a row key of the group, or an index entry of a row stands under it

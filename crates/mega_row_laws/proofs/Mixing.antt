@@ -5,7 +5,7 @@ use Rattle.mega_index.specs.Rows.{no_rows}
 use Rattle.mega_outcome.specs.Changes.{all_changes}
 use Rattle.mega_outcome.specs.Places.{key_in}
 use Rattle.mega_outcome.specs.declared.transaction.Change.TheVariants.{Put}
-use Rattle.mega_tape_laws.specs.Indexed.{IsDeclared}
+use Rattle.mega_run_laws.specs.of_tape_laws.Indexed.{IsDeclared}
 use Rattle.mega_row_laws.specs.Examples.{mixed, of_photo, of_user, photo, photos, shared, tag, tags}
 
 pub photo_names : key_in mixed of_user.key 0 1 photo ≡ Ok shared

@@ -8,19 +8,19 @@ use Rattle.mega_entry.specs.declared.content.Write.{Write}
 use Rattle.mega_schema.specs.declared.schema.Schema.{Schema}
 use Rattle.mega_handler.specs.Named.{Meanings}
 use Rattle.mega_index.specs.Rows.{same_key}
-use Rattle.mega_replica.specs.Applying.{writes_of}
-use Rattle.mega_replica.specs.Stored.{GroupLogs, last_write}
-use Rattle.mega_transcript.specs.declared.item.Item.{Item}
-use Rattle.mega_rules.specs.Met.{Met}
-use Rattle.mega_rules.specs.Logs.{decided, decided_from, log_of, then_more}
-use Rattle.mega_promises.specs.Items.{number}
-use Rattle.mega_promises.specs.Promises.{log_of as tape_log}
-use Rattle.mega_promises.specs.Runs.{Cuts, Happening, goes_on, opening}
+use Rattle.mega_run_laws.specs.of_tape_laws.of_promises.of_rules.of_replica.Applying.{writes_of}
+use Rattle.mega_run_laws.specs.of_tape_laws.of_promises.of_rules.of_replica.Stored.{GroupLogs, last_write}
+use Rattle.mega_run_laws.specs.of_tape_laws.of_promises.of_transcript.declared.item.Item.{Item}
+use Rattle.mega_run_laws.specs.of_tape_laws.of_promises.of_rules.Met.{Met}
+use Rattle.mega_run_laws.specs.of_tape_laws.of_promises.of_rules.Logs.{decided, decided_from, log_of, then_more}
+use Rattle.mega_run_laws.specs.of_tape_laws.of_promises.Items.{number}
+use Rattle.mega_run_laws.specs.of_tape_laws.of_promises.Promises.{log_of as tape_log}
+use Rattle.mega_run_laws.specs.of_tape_laws.of_promises.Runs.{Cuts, Happening, goes_on, opening}
 use Rattle.mega_node_laws.specs.Own.{HasOwnRows}
-use Rattle.mega_tape_laws.specs.Indexed.{IsDeclared}
-use Rattle.mega_tape_laws.specs.Writes.{LawfulWrites, Usage}
-use Rattle.mega_tape_laws.proofs.Placed.{not_key}
-use Rattle.mega_tape_laws.proofs.Serial.{decide_origin, own_entry}
+use Rattle.mega_run_laws.specs.of_tape_laws.Indexed.{IsDeclared}
+use Rattle.mega_run_laws.specs.of_tape_laws.Writes.{LawfulWrites, Usage}
+use Rattle.mega_run_laws.proofs.of_tape_laws.Placed.{not_key}
+use Rattle.mega_run_laws.proofs.of_tape_laws.Serial.{decide_origin, own_entry}
 use Rattle.mega_run_laws.specs.Usages.{Fits}
 use Rattle.mega_run_laws.specs.Vouched.{Each}
 use Rattle.mega_run_laws.proofs.Events.{each_append}

@@ -15,9 +15,9 @@ use Rattle.mega_keys.specs.Reading.{◌>>=◌, values_at, byte_at, marks_at, agr
 use Rattle.mega_keys.proofs.Takes.{bind_ok, ok_parts}
 use Rattle.mega_keys.proofs.Keys.{byte_takes}
 use Rattle.mega_index.specs.Fits.{numbered, key_of}
-use Rattle.mega_tape_laws.specs.Indexed.{IsDeclared}
-use Rattle.mega_tape_laws.proofs.Spelled.{AreOf, RereadAll, values_pass, values_reread, alike_head}
-use Rattle.mega_tape_laws.proofs.RowKeys.{IsKeyOf, group_spelt, key_spelt, of_front}
+use Rattle.mega_run_laws.specs.of_tape_laws.Indexed.{IsDeclared}
+use Rattle.mega_run_laws.proofs.of_tape_laws.Spelled.{AreOf, RereadAll, values_pass, values_reread, alike_head}
+use Rattle.mega_run_laws.proofs.of_tape_laws.RowKeys.{IsKeyOf, group_spelt, key_spelt, of_front}
 
 -- ---- what reading a key tells of its bytes
 

@@ -7,24 +7,24 @@ use Rattle.mega_disk.specs.declared.pair.Device.TheVariants.{Log}
 use Rattle.mega_wire.specs.declared.message.Message.{Message}
 use Rattle.mega_handler.specs.Named.{Meanings}
 use Rattle.mega_outcome.specs.declared.request.Request.{Request}
-use Rattle.mega_schedule.specs.declared.world_event.WorldEvent.{WorldEvent}
-use Rattle.mega_schedule.specs.declared.world_event.WorldEvent.TheVariants.{Tick as TickEvent, Deliver, Drop, Drain, Crash as CrashEvent, Start as StartEvent, Fuse as FuseEvent, Begin as BeginEvent}
-use Rattle.mega_transcript.specs.declared.item.Item.{Item}
-use Rattle.mega_transcript.specs.declared.item.Item.TheVariants.{Taken}
-use Rattle.mega_rules.specs.Met.{Met, Begins, Ticks}
-use Rattle.mega_rules.specs.Members.{is_node}
-use Rattle.mega_rules.specs.Logs.{log_of}
-use Rattle.mega_rules.specs.Steps.{Begin, Event, Step, Take, Tick, op_of, step}
-use Rattle.mega_promises.specs.Items.{shown}
-use Rattle.mega_promises.specs.Messages.{message_of}
-use Rattle.mega_promises.specs.Runs.{Cuts, Happening, Standing, Whole, after_event, at_node, because, fused, goes_on, handed, is_burning, new_fuse, opening, receiver_down, refusal, setting, unless_refused, whole_step}
+use Rattle.mega_run_laws.specs.of_tape_laws.of_promises.of_schedule.declared.world_event.WorldEvent.{WorldEvent}
+use Rattle.mega_run_laws.specs.of_tape_laws.of_promises.of_schedule.declared.world_event.WorldEvent.TheVariants.{Tick as TickEvent, Deliver, Drop, Drain, Crash as CrashEvent, Start as StartEvent, Fuse as FuseEvent, Begin as BeginEvent}
+use Rattle.mega_run_laws.specs.of_tape_laws.of_promises.of_transcript.declared.item.Item.{Item}
+use Rattle.mega_run_laws.specs.of_tape_laws.of_promises.of_transcript.declared.item.Item.TheVariants.{Taken}
+use Rattle.mega_run_laws.specs.of_tape_laws.of_promises.of_rules.Met.{Met, Begins, Ticks}
+use Rattle.mega_run_laws.specs.of_tape_laws.of_promises.of_rules.Members.{is_node}
+use Rattle.mega_run_laws.specs.of_tape_laws.of_promises.of_rules.Logs.{log_of}
+use Rattle.mega_run_laws.specs.of_tape_laws.of_promises.of_rules.Steps.{Begin, Event, Step, Take, Tick, op_of, step}
+use Rattle.mega_run_laws.specs.of_tape_laws.of_promises.Items.{shown}
+use Rattle.mega_run_laws.specs.of_tape_laws.of_promises.Messages.{message_of}
+use Rattle.mega_run_laws.specs.of_tape_laws.of_promises.Runs.{Cuts, Happening, Standing, Whole, after_event, at_node, because, fused, goes_on, handed, is_burning, new_fuse, opening, receiver_down, refusal, setting, unless_refused, whole_step}
 use Rattle.mega_node_laws.specs.Acted.{acted_on}
 use Rattle.mega_node_laws.specs.Own.{HasOwnRows}
 use Rattle.mega_node_laws.proofs.Ending.{step_ends}
 use Rattle.mega_node_laws.proofs.Owned.{owned_of_same_logs}
-use Rattle.mega_tape_laws.specs.Indexed.{IsDeclared}
-use Rattle.mega_tape_laws.specs.Writes.{Usage}
-use Rattle.mega_tape_laws.proofs.Ballots.{number_self}
+use Rattle.mega_run_laws.specs.of_tape_laws.Indexed.{IsDeclared}
+use Rattle.mega_run_laws.specs.of_tape_laws.Writes.{Usage}
+use Rattle.mega_run_laws.proofs.of_tape_laws.Ballots.{number_self}
 use Rattle.mega_run_laws.specs.Usages.{Fits, FitsOne}
 use Rattle.mega_run_laws.proofs.Events.{each_append}
 use Rattle.mega_row_laws.proofs.Nodes.{node_owns}

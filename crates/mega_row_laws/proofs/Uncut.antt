@@ -4,18 +4,18 @@ use Rattle.mega_cluster.specs.declared.cluster.Cluster.{Cluster}
 use Rattle.mega_disk.specs.declared.pair.Device.TheVariants.{Log, Data}
 use Rattle.mega_wire.specs.declared.message.Message.{Message}
 use Rattle.mega_handler.specs.Named.{Meanings}
-use Rattle.mega_schedule.specs.declared.world_event.WorldEvent.{WorldEvent}
-use Rattle.mega_schedule.specs.declared.world_event.WorldEvent.TheVariants.{Tick as TickEvent, Deliver, Drop, Drain, Crash as CrashEvent, Start as StartEvent, Fuse as FuseEvent, Begin as BeginEvent}
-use Rattle.mega_transcript.specs.declared.item.Item.{Item}
-use Rattle.mega_transcript.specs.declared.item.Item.TheVariants.{Cut as CutItem, Taken, Unsafe}
-use Rattle.mega_transcript.specs.Tape.{sent_count}
-use Rattle.mega_rules.specs.Met.{Met, Begins, Crashes, Starts, Ticks}
-use Rattle.mega_rules.specs.Members.{is_node, nodes}
-use Rattle.mega_rules.specs.Operations.{Node}
-use Rattle.mega_rules.specs.Steps.{Begin, Event, Step, Take, Tick, onto, op_of, start, start_items, start_notes, step}
-use Rattle.mega_promises.specs.Items.{numbered, shown}
-use Rattle.mega_promises.specs.Messages.{is_unsafe, message_of, next_delivery}
-use Rattle.mega_promises.specs.Runs.{AsItWas, Calls, CutByData, CutByLog, Cuts, Fate, Fuse, Happening, Standing, Whole, after_append, after_event, appends, at_node, because, breaks, calls_of, delivered, drained, fate_by, fate_of, fated, fated_start, goes_on, handed, is_burning, is_kept, marked, met_in, new_fuse, nothing_yet, opening, refusal, replies_in, set_at, setting, start_calls, unless_none, unless_refused, up, whole_step, with_item, with_items}
+use Rattle.mega_run_laws.specs.of_tape_laws.of_promises.of_schedule.declared.world_event.WorldEvent.{WorldEvent}
+use Rattle.mega_run_laws.specs.of_tape_laws.of_promises.of_schedule.declared.world_event.WorldEvent.TheVariants.{Tick as TickEvent, Deliver, Drop, Drain, Crash as CrashEvent, Start as StartEvent, Fuse as FuseEvent, Begin as BeginEvent}
+use Rattle.mega_run_laws.specs.of_tape_laws.of_promises.of_transcript.declared.item.Item.{Item}
+use Rattle.mega_run_laws.specs.of_tape_laws.of_promises.of_transcript.declared.item.Item.TheVariants.{Cut as CutItem, Taken, Unsafe}
+use Rattle.mega_run_laws.specs.of_tape_laws.of_promises.of_transcript.Tape.{sent_count}
+use Rattle.mega_run_laws.specs.of_tape_laws.of_promises.of_rules.Met.{Met, Begins, Crashes, Starts, Ticks}
+use Rattle.mega_run_laws.specs.of_tape_laws.of_promises.of_rules.Members.{is_node, nodes}
+use Rattle.mega_run_laws.specs.of_tape_laws.of_promises.of_rules.Operations.{Node}
+use Rattle.mega_run_laws.specs.of_tape_laws.of_promises.of_rules.Steps.{Begin, Event, Step, Take, Tick, onto, op_of, start, start_items, start_notes, step}
+use Rattle.mega_run_laws.specs.of_tape_laws.of_promises.Items.{numbered, shown}
+use Rattle.mega_run_laws.specs.of_tape_laws.of_promises.Messages.{is_unsafe, message_of, next_delivery}
+use Rattle.mega_run_laws.specs.of_tape_laws.of_promises.Runs.{AsItWas, Calls, CutByData, CutByLog, Cuts, Fate, Fuse, Happening, Standing, Whole, after_append, after_event, appends, at_node, because, breaks, calls_of, delivered, drained, fate_by, fate_of, fated, fated_start, goes_on, handed, is_burning, is_kept, marked, met_in, new_fuse, nothing_yet, opening, refusal, replies_in, set_at, setting, start_calls, unless_none, unless_refused, up, whole_step, with_item, with_items}
 
 -- ---- a step that nothing cuts
 

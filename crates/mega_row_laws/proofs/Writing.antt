@@ -27,14 +27,14 @@ use Rattle.mega_outcome.specs.Checks.{all_checks}
 use Rattle.mega_outcome.specs.Reads.{all_reads}
 use Rattle.mega_outcome.specs.Changes.{all_changes, change}
 use Rattle.mega_outcome.specs.Outcome.{all_sends, batch_length, first_change, first_read, first_send, left_out, longest, no_batch, outcome_in, taken, unless_large, with_next, with_result}
-use Rattle.mega_transcript.specs.declared.item.Item.{Item}
-use Rattle.mega_rules.specs.Acting.{table_rows}
-use Rattle.mega_tape_laws.specs.Indexed.{IsDeclared}
-use Rattle.mega_tape_laws.specs.Places.{In}
-use Rattle.mega_tape_laws.specs.Writes.{OwnEntry, Usage, enters, fills, handles, runs, runs_all}
-use Rattle.mega_tape_laws.proofs.Placed.{key_apart, under}
-use Rattle.mega_tape_laws.proofs.RowKeys.{IsKeyOf, OfTable, Standing, group_is, group_of_key, of_ok, of_table, standing}
-use Rattle.mega_tape_laws.proofs.Replacing.{bind_turn, change_replaces}
+use Rattle.mega_run_laws.specs.of_tape_laws.of_promises.of_transcript.declared.item.Item.{Item}
+use Rattle.mega_run_laws.specs.of_tape_laws.of_promises.of_rules.Acting.{table_rows}
+use Rattle.mega_run_laws.specs.of_tape_laws.Indexed.{IsDeclared}
+use Rattle.mega_run_laws.specs.of_tape_laws.Places.{In}
+use Rattle.mega_run_laws.specs.of_tape_laws.Writes.{OwnEntry, Usage, enters, fills, handles, runs, runs_all}
+use Rattle.mega_run_laws.proofs.of_tape_laws.Placed.{key_apart, under}
+use Rattle.mega_run_laws.proofs.of_tape_laws.RowKeys.{IsKeyOf, OfTable, Standing, group_is, group_of_key, of_ok, of_table, standing}
+use Rattle.mega_run_laws.proofs.of_tape_laws.Replacing.{bind_turn, change_replaces}
 use Rattle.mega_run_laws.specs.Vouched.{Each}
 use Rattle.mega_run_laws.proofs.Events.{each_append}
 use Rattle.mega_run_laws.proofs.Turns.{each_on}

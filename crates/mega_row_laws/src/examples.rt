@@ -1,16 +1,16 @@
 //! What the laws are about, and why they ask for a schema that was declared, as contracts of functions that do nothing.
 
 ghost use Rattle.std.specs.Prelude.{◌≡◌, [], ◌∷◌, None, Some, Ok, map};
-ghost use Rattle.mega_schedule.specs.declared.world_event.WorldEvent.TheVariants.{Deliver};
+ghost use Rattle.mega_run_laws.specs.of_tape_laws.of_promises.of_schedule.declared.world_event.WorldEvent.TheVariants.{Deliver};
 ghost use Rattle.mega_index.specs.Rows.{no_rows};
 ghost use Rattle.mega_outcome.specs.Changes.{all_changes};
 ghost use Rattle.mega_outcome.specs.Places.{key_in};
 ghost use Rattle.mega_outcome.specs.declared.transaction.Change.TheVariants.{Put};
-ghost use Rattle.mega_promises.specs.Runs.{Whole, goes_on, opening, refusal};
-ghost use Rattle.mega_promises.specs.Worked.{happens, put_at};
-ghost use Rattle.mega_tape_laws.specs.Examples.{asks_put};
-ghost use Rattle.mega_tape_laws.specs.IndexExamples.{named_cluster};
-ghost use Rattle.mega_tape_laws.specs.Indexed.{IsDeclared};
+ghost use Rattle.mega_run_laws.specs.of_tape_laws.of_promises.Runs.{Whole, goes_on, opening, refusal};
+ghost use Rattle.mega_run_laws.specs.of_tape_laws.of_promises.Worked.{happens, put_at};
+ghost use Rattle.mega_run_laws.specs.of_tape_laws.Examples.{asks_put};
+ghost use Rattle.mega_run_laws.specs.of_tape_laws.IndexExamples.{named_cluster};
+ghost use Rattle.mega_run_laws.specs.of_tape_laws.Indexed.{IsDeclared};
 ghost use Rattle.mega_run_laws.specs.Usages.{Fits};
 ghost use Rattle.mega_row_laws.specs.Examples.{mixed, of_photo, of_user, photo, shared, tag};
 

@@ -6,17 +6,17 @@ ghost use Rattle.mega_cluster.specs.declared.cluster.Cluster.{Cluster};
 ghost use Rattle.mega_wire.specs.declared.message.Message.{Message};
 ghost use Rattle.mega_handler.specs.Named.{Meanings};
 ghost use Rattle.mega_outcome.specs.declared.request.Request.{Request};
-ghost use Rattle.mega_schedule.specs.declared.world_event.WorldEvent.TheVariants.{Begin as BeginEvent, Deliver, Tick as TickEvent};
-ghost use Rattle.mega_transcript.specs.declared.item.Item.{Item};
-ghost use Rattle.mega_rules.specs.Logs.{log_of};
-ghost use Rattle.mega_rules.specs.Steps.{Begin, Take, Tick};
-ghost use Rattle.mega_promises.specs.Messages.{message_of, next_delivery};
-ghost use Rattle.mega_promises.specs.Promises.{log_of as tape_log};
-ghost use Rattle.mega_promises.specs.Runs.{Cuts, Happening, IsRun, Standing, drained, goes_on, opening, refusal, setting, up};
+ghost use Rattle.mega_run_laws.specs.of_tape_laws.of_promises.of_schedule.declared.world_event.WorldEvent.TheVariants.{Begin as BeginEvent, Deliver, Tick as TickEvent};
+ghost use Rattle.mega_run_laws.specs.of_tape_laws.of_promises.of_transcript.declared.item.Item.{Item};
+ghost use Rattle.mega_run_laws.specs.of_tape_laws.of_promises.of_rules.Logs.{log_of};
+ghost use Rattle.mega_run_laws.specs.of_tape_laws.of_promises.of_rules.Steps.{Begin, Take, Tick};
+ghost use Rattle.mega_run_laws.specs.of_tape_laws.of_promises.Messages.{message_of, next_delivery};
+ghost use Rattle.mega_run_laws.specs.of_tape_laws.of_promises.Promises.{log_of as tape_log};
+ghost use Rattle.mega_run_laws.specs.of_tape_laws.of_promises.Runs.{Cuts, Happening, IsRun, Standing, drained, goes_on, opening, refusal, setting, up};
 ghost use Rattle.mega_node_laws.specs.Acted.{acted_on};
 ghost use Rattle.mega_node_laws.specs.Own.{HasOwnRows};
-ghost use Rattle.mega_tape_laws.specs.Indexed.{IsDeclared};
-ghost use Rattle.mega_tape_laws.specs.Writes.{Usage};
+ghost use Rattle.mega_run_laws.specs.of_tape_laws.Indexed.{IsDeclared};
+ghost use Rattle.mega_run_laws.specs.of_tape_laws.Writes.{Usage};
 ghost use Rattle.mega_run_laws.specs.Usages.{Fits, FitsOne};
 
 /// In every run the rows that items of a group can name are written by that group's own entries alone, and these leave rows of its tables

@@ -13,3 +13,4 @@ pub mod Acting
 pub mod Steps
 pub mod Examples
 pub use Rattle.mega_replica.specs as of_replica
+pub use Rattle.mega_read.specs as of_read

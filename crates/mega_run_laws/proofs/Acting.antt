@@ -11,8 +11,8 @@ use Rattle.mega_entry.specs.declared.content.Content.{Content}
 use Rattle.mega_entry.specs.declared.content.Enter.{Enter}
 use Rattle.mega_wire.specs.declared.message.Message.{Message}
 use Rattle.mega_handler.specs.Named.{has}
-use Rattle.mega_transcript.specs.declared.item.Item.{Item}
-use Rattle.mega_transcript.specs.declared.item.Item.TheVariants.{Decide}
+use Rattle.mega_tape_laws.specs.of_transcript.declared.item.Item.{Item}
+use Rattle.mega_tape_laws.specs.of_transcript.declared.item.Item.TheVariants.{Decide}
 use Rattle.mega_tape_laws.specs.of_promises.Items.{number}
 use Rattle.mega_tape_laws.specs.of_promises.Promises.{Stands, asked_for, handled_by}
 use Rattle.mega_outcome.specs.declared.transaction.Transaction.{Transaction}
@@ -24,15 +24,15 @@ use Rattle.mega_outcome.specs.declared.answer.Turn.{Turn as TurnedBy}
 use Rattle.mega_outcome.specs.declared.request.Request.{Request}
 use Rattle.mega_outcome.specs.declared.request.Request.TheVariants.{Txn, Batch as BatchRequest, Read as ReadRequested, Find, PumpEnter, PumpHandle, Refresh}
 use Rattle.mega_outcome.specs.Outcome.{batch_outcome, entry_of_batch, entry_of_done, outcome}
-use Rattle.mega_propose.specs.declared.round.Move.{Move as RoundMove}
-use Rattle.mega_propose.specs.Rounds.{asks}
-use Rattle.mega_read.specs.declared.reading.Move.{Move as ReadMove}
-use Rattle.mega_read.specs.declared.reading.Reading.{Reading}
-use Rattle.mega_read.specs.declared.reading.Search.{Search}
-use Rattle.mega_read.specs.declared.reading.Stage.{Stage}
-use Rattle.mega_read.specs.declared.reading.Search.TheVariants.{Fetching, Filling}
-use Rattle.mega_read.specs.declared.reading.Stage.TheVariants.{Polling, Catching}
-use Rattle.mega_read.specs.Catching.{asked_by, local_read, polled_read, seeks}
+use Rattle.mega_tape_laws.specs.of_read.of_propose.declared.round.Move.{Move as RoundMove}
+use Rattle.mega_tape_laws.specs.of_read.of_propose.Rounds.{asks}
+use Rattle.mega_tape_laws.specs.of_read.declared.reading.Move.{Move as ReadMove}
+use Rattle.mega_tape_laws.specs.of_read.declared.reading.Reading.{Reading}
+use Rattle.mega_tape_laws.specs.of_read.declared.reading.Search.{Search}
+use Rattle.mega_tape_laws.specs.of_read.declared.reading.Stage.{Stage}
+use Rattle.mega_tape_laws.specs.of_read.declared.reading.Search.TheVariants.{Fetching, Filling}
+use Rattle.mega_tape_laws.specs.of_read.declared.reading.Stage.TheVariants.{Polling, Catching}
+use Rattle.mega_tape_laws.specs.of_read.Catching.{asked_by, local_read, polled_read, seeks}
 use Rattle.mega_tape_laws.specs.of_rules.Met.{Met, Validates}
 use Rattle.mega_tape_laws.specs.of_rules.Members.{voters}
 use Rattle.mega_tape_laws.specs.of_rules.Clock.{clock_of}

@@ -8,8 +8,8 @@ use Rattle.mega_wire.specs.declared.message.Body.{Body}
 use Rattle.mega_wire.specs.declared.message.Body.TheVariants.{Accept}
 use Rattle.mega_wal.specs.Same.{same_op}
 use Rattle.mega_wal.proofs.Sames.{same_op_equal}
-use Rattle.mega_transcript.specs.declared.item.Item.{Item}
-use Rattle.mega_transcript.specs.declared.item.Item.TheVariants.{Answer as AnswerItem, Sent}
+use Rattle.mega_tape_laws.specs.of_transcript.declared.item.Item.{Item}
+use Rattle.mega_tape_laws.specs.of_transcript.declared.item.Item.TheVariants.{Answer as AnswerItem, Sent}
 use Rattle.mega_tape_laws.specs.of_promises.Items.{shown}
 use Rattle.mega_tape_laws.specs.of_promises.Promises.{is_negative}
 use Rattle.mega_tape_laws.specs.of_promises.Runs.{with_items}

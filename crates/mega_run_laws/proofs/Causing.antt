@@ -21,8 +21,8 @@ use Rattle.mega_outcome.specs.declared.request.FindRequest.{FindRequest}
 use Rattle.mega_outcome.specs.declared.transaction.RowRef.{RowRef}
 use Rattle.mega_wal.specs.Same.{same_op, same_option}
 use Rattle.mega_wal.proofs.Sames.{same_op_equal, same_op_self}
-use Rattle.mega_transcript.specs.declared.item.Item.{Item}
-use Rattle.mega_transcript.specs.declared.item.Item.TheVariants.{Decide}
+use Rattle.mega_tape_laws.specs.of_transcript.declared.item.Item.{Item}
+use Rattle.mega_tape_laws.specs.of_transcript.declared.item.Item.TheVariants.{Decide}
 use Rattle.mega_tape_laws.specs.of_promises.Promises.{Stands, asked_for, rows_shown}
 use Rattle.mega_tape_laws.specs.of_rules.Acting.{committed, read_answer, rows_answer, verdict}
 use Rattle.mega_tape_laws.specs.of_rules.Finding.{find_answer, find_by}

@@ -8,10 +8,10 @@ use Rattle.mega_entry.specs.declared.content.Content.{Content}
 use Rattle.mega_base.specs.declared.names.OpId.{OpId}
 use Rattle.mega_wire.specs.declared.message.Body.TheVariants.{Accepted, Promise}
 use Rattle.mega_wal.specs.Acceptor.{Vote, is_ballot_below}
-use Rattle.mega_transcript.specs.declared.item.Item.{Item}
-use Rattle.mega_propose.specs.Members.{has, is_majority, with_node}
-use Rattle.mega_propose.specs.declared.round.Report.{Report}
-use Rattle.mega_propose.specs.Rounds.{greater_vote, greatest_vote, picked}
+use Rattle.mega_tape_laws.specs.of_transcript.declared.item.Item.{Item}
+use Rattle.mega_tape_laws.specs.of_read.of_propose.Members.{has, is_majority, with_node}
+use Rattle.mega_tape_laws.specs.of_read.of_propose.declared.round.Report.{Report}
+use Rattle.mega_tape_laws.specs.of_read.of_propose.Rounds.{greater_vote, greatest_vote, picked}
 use Rattle.mega_tape_laws.specs.of_rules.Members.{voters}
 use Rattle.mega_tape_laws.specs.Places.{Place, count}
 use Rattle.mega_tape_laws.specs.Lawful.{Carries, Heard, greatest, own}

@@ -10,16 +10,16 @@ use Rattle.mega_outcome.specs.declared.request.Request.{Request}
 use Rattle.mega_wire.specs.declared.message.Message.{Message}
 use Rattle.mega_wire.specs.declared.message.Body.{Body}
 use Rattle.mega_wire.specs.declared.message.Body.TheVariants.{Accepted, Decide, Have}
-use Rattle.mega_transcript.specs.declared.item.Item.{Item}
-use Rattle.mega_transcript.specs.declared.item.Item.TheVariants.{Sent, Taken}
+use Rattle.mega_tape_laws.specs.of_transcript.declared.item.Item.{Item}
+use Rattle.mega_tape_laws.specs.of_transcript.declared.item.Item.TheVariants.{Sent, Taken}
 use Rattle.mega_tape_laws.specs.of_promises.Promises.{Stands}
-use Rattle.mega_propose.specs.declared.round.Proposal.{Proposal}
-use Rattle.mega_propose.specs.Rounds.{settled as settled_in}
-use Rattle.mega_read.specs.declared.reading.Reading.{Reading}
-use Rattle.mega_read.specs.declared.reading.Stage.{Stage}
-use Rattle.mega_read.specs.declared.reading.Search.TheVariants.{Fetching, Filling}
-use Rattle.mega_read.specs.declared.reading.Stage.TheVariants.{Polling, Catching}
-use Rattle.mega_read.specs.Catching.{read_settled, settled_there}
+use Rattle.mega_tape_laws.specs.of_read.of_propose.declared.round.Proposal.{Proposal}
+use Rattle.mega_tape_laws.specs.of_read.of_propose.Rounds.{settled as settled_in}
+use Rattle.mega_tape_laws.specs.of_read.declared.reading.Reading.{Reading}
+use Rattle.mega_tape_laws.specs.of_read.declared.reading.Stage.{Stage}
+use Rattle.mega_tape_laws.specs.of_read.declared.reading.Search.TheVariants.{Fetching, Filling}
+use Rattle.mega_tape_laws.specs.of_read.declared.reading.Stage.TheVariants.{Polling, Catching}
+use Rattle.mega_tape_laws.specs.of_read.Catching.{read_settled, settled_there}
 use Rattle.mega_tape_laws.specs.of_rules.Met.{Met}
 use Rattle.mega_tape_laws.specs.of_rules.Logs.{decided}
 use Rattle.mega_tape_laws.specs.of_rules.Operations.{Operation, Phase, Proposes, Reads, Setting}

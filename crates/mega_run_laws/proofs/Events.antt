@@ -13,8 +13,8 @@ use Rattle.mega_locks.specs.declared.asked.Asked.TheVariants.{Granted as AnswerG
 use Rattle.mega_wire.specs.declared.message.Message.{Message}
 use Rattle.mega_wire.specs.declared.message.Body.{Body}
 use Rattle.mega_wire.specs.declared.message.Body.TheVariants.{Accept, Accepted, Promise, Acquire, Granted, Invalidate, Top}
-use Rattle.mega_transcript.specs.declared.item.Item.{Item}
-use Rattle.mega_transcript.specs.declared.item.Item.TheVariants.{Decide}
+use Rattle.mega_tape_laws.specs.of_transcript.declared.item.Item.{Item}
+use Rattle.mega_tape_laws.specs.of_transcript.declared.item.Item.TheVariants.{Decide}
 use Rattle.mega_tape_laws.specs.of_rules.Met.{Met, Sends, Grants, Lapses, Counts, Forgets, Serves, Loses, Validates, Invalidates, Applies, Answers}
 use Rattle.mega_tape_laws.specs.of_rules.Coordinators.{coordinator_calls, counts_notes, is_cell_in, tick_told, forget_notes, grant_notes, lost_note, tick_notes}
 use Rattle.mega_tape_laws.specs.of_rules.Locks.{asked_for, cell_calls, grant_note, lapse_note, lapses_at}

@@ -3,8 +3,8 @@ use Rattle.std.proofs.Common.{◌≡◌, ℕ, Bool, true, false, if◌then◌els
 use Rattle.mega_base.specs.declared.names.OpId.{OpId}
 use Rattle.mega_outcome.specs.declared.request.Request.{Request}
 use Rattle.mega_wal.specs.Same.{same_op}
-use Rattle.mega_transcript.specs.declared.item.Item.{Item}
-use Rattle.mega_transcript.specs.declared.item.Item.TheVariants.{Start, Unsent, Tick, Begin, Taken, Dropped, Sent, Grant, Lapse, Counts, Forgets, Serving, Lost, Valid, Invalid, Decide, Apply, Answer, Crash, Cut, Unsafe}
+use Rattle.mega_tape_laws.specs.of_transcript.declared.item.Item.{Item}
+use Rattle.mega_tape_laws.specs.of_transcript.declared.item.Item.TheVariants.{Start, Unsent, Tick, Begin, Taken, Dropped, Sent, Grant, Lapse, Counts, Forgets, Serving, Lost, Valid, Invalid, Decide, Apply, Answer, Crash, Cut, Unsafe}
 use Rattle.mega_tape_laws.specs.of_promises.Promises.{asked_for}
 use Rattle.mega_tape_laws.specs.Indexed.{AsksValues}
 use Rattle.mega_run_laws.specs.Usages.{MeansValues}

@@ -8,8 +8,8 @@ use Rattle.mega_entry.specs.declared.content.Content.{Content}
 use Rattle.mega_wire.specs.declared.message.Message.{Message}
 use Rattle.mega_wal.specs.Same.{same_group}
 use Rattle.mega_wal.proofs.Sames.{same_group_equal}
-use Rattle.mega_transcript.specs.declared.item.Item.{Item}
-use Rattle.mega_transcript.specs.declared.item.Item.TheVariants.{Sent, Unsafe, Decide, Grant, Lapse, Counts as CountsItem, Forgets as ForgetsItem, Serving, Lost, Valid, Invalid, Apply, Answer as AnswerItem}
+use Rattle.mega_tape_laws.specs.of_transcript.declared.item.Item.{Item}
+use Rattle.mega_tape_laws.specs.of_transcript.declared.item.Item.TheVariants.{Sent, Unsafe, Decide, Grant, Lapse, Counts as CountsItem, Forgets as ForgetsItem, Serving, Lost, Valid, Invalid, Apply, Answer as AnswerItem}
 use Rattle.mega_tape_laws.specs.of_promises.Items.{number, numbered, shown}
 use Rattle.mega_tape_laws.specs.of_promises.Messages.{is_unsafe}
 use Rattle.mega_tape_laws.specs.of_promises.Promises.{Stands}

@@ -20,10 +20,10 @@ use Rattle.mega_outcome.specs.declared.request.Request.TheVariants.{Txn, Batch a
 use Rattle.mega_outcome.specs.declared.request.ReadRequest.{ReadRequest}
 use Rattle.mega_outcome.specs.declared.request.FindRequest.{FindRequest}
 use Rattle.mega_outcome.specs.Outcome.{batch_outcome, entry_of_batch, entry_of_done, outcome}
-use Rattle.mega_read.specs.declared.reading.Reading.{Reading}
-use Rattle.mega_read.specs.declared.reading.Stage.{Stage}
-use Rattle.mega_read.specs.declared.reading.Stage.TheVariants.{Polling, Catching}
-use Rattle.mega_read.specs.Catching.{asked_by}
+use Rattle.mega_tape_laws.specs.of_read.declared.reading.Reading.{Reading}
+use Rattle.mega_tape_laws.specs.of_read.declared.reading.Stage.{Stage}
+use Rattle.mega_tape_laws.specs.of_read.declared.reading.Stage.TheVariants.{Polling, Catching}
+use Rattle.mega_tape_laws.specs.of_read.Catching.{asked_by}
 use Rattle.mega_tape_laws.specs.of_rules.Logs.{decided, groups_of, log_of, prefix_of}
 use Rattle.mega_tape_laws.specs.of_rules.Coordinators.{refused_at}
 use Rattle.mega_tape_laws.specs.of_rules.Queues.{Posted, enter_entry, is_named, names_entered, next_to_enter, next_to_handle, oldest_unhandled}

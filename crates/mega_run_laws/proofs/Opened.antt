@@ -8,15 +8,15 @@ use Rattle.mega_wire.specs.declared.message.Body.{Body}
 use Rattle.mega_wire.specs.declared.message.Body.TheVariants.{Accept, Accepted, Prepare, Promise, Top, Where}
 use Rattle.mega_wal.specs.Same.{same_group, same_op}
 use Rattle.mega_wal.proofs.Sames.{same_group_equal}
-use Rattle.mega_transcript.specs.declared.item.Item.{Item}
-use Rattle.mega_propose.specs.declared.round.Round.{Round}
-use Rattle.mega_propose.specs.declared.round.Proposal.{Proposal}
-use Rattle.mega_propose.specs.declared.round.Move.{Move as RoundMove}
-use Rattle.mega_propose.specs.declared.round.Round.TheVariants.{Asking, Preparing, Accepting, Covering, Settled, Waiting}
-use Rattle.mega_read.specs.declared.reading.Search.{Search}
-use Rattle.mega_read.specs.declared.reading.Stage.{Stage}
-use Rattle.mega_read.specs.declared.reading.Search.TheVariants.{Fetching, Filling}
-use Rattle.mega_read.specs.declared.reading.Stage.TheVariants.{Polling, Catching}
+use Rattle.mega_tape_laws.specs.of_transcript.declared.item.Item.{Item}
+use Rattle.mega_tape_laws.specs.of_read.of_propose.declared.round.Round.{Round}
+use Rattle.mega_tape_laws.specs.of_read.of_propose.declared.round.Proposal.{Proposal}
+use Rattle.mega_tape_laws.specs.of_read.of_propose.declared.round.Move.{Move as RoundMove}
+use Rattle.mega_tape_laws.specs.of_read.of_propose.declared.round.Round.TheVariants.{Asking, Preparing, Accepting, Covering, Settled, Waiting}
+use Rattle.mega_tape_laws.specs.of_read.declared.reading.Search.{Search}
+use Rattle.mega_tape_laws.specs.of_read.declared.reading.Stage.{Stage}
+use Rattle.mega_tape_laws.specs.of_read.declared.reading.Search.TheVariants.{Fetching, Filling}
+use Rattle.mega_tape_laws.specs.of_read.declared.reading.Stage.TheVariants.{Polling, Catching}
 use Rattle.mega_tape_laws.specs.of_rules.Met.{Met}
 use Rattle.mega_tape_laws.specs.of_rules.Logs.{prefix_of}
 use Rattle.mega_tape_laws.specs.of_rules.Operations.{Phase, Proposes, Reads}

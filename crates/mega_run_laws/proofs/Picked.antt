@@ -5,8 +5,8 @@ use Rattle.mega_base.specs.declared.names.GroupId.{GroupId}
 use Rattle.mega_base.specs.declared.names.OpId.{OpId}
 use Rattle.mega_entry.specs.declared.content.Content.{Content}
 use Rattle.mega_entry.specs.declared.content.Send.{Send}
-use Rattle.mega_transcript.specs.declared.item.Item.{Item}
-use Rattle.mega_replica.specs.Applying.{applied}
+use Rattle.mega_tape_laws.specs.of_transcript.declared.item.Item.{Item}
+use Rattle.mega_tape_laws.specs.of_replica.Applying.{applied}
 use Rattle.mega_tape_laws.specs.of_rules.Logs.{groups_of, log_of}
 use Rattle.mega_tape_laws.specs.of_rules.Queues.{Log, Posted, next_to_enter, posted, sent_from, sent_in, waits_to_enter}
 use Rattle.mega_tape_laws.specs.of_rules.Operations.{Now}

@@ -9,19 +9,19 @@ use Rattle.mega_cluster.specs.declared.cluster.Cluster.{Cluster}
 use Rattle.mega_wire.specs.declared.message.Body.{Body}
 use Rattle.mega_wire.specs.declared.message.Body.TheVariants.{Top, HaveNot}
 use Rattle.mega_wal.specs.Same.{same_group, same_op}
-use Rattle.mega_transcript.specs.declared.item.Item.{Item}
-use Rattle.mega_transcript.specs.declared.item.Item.TheVariants.{Sent}
-use Rattle.mega_propose.specs.Members.{has, is_majority, with_node, without}
-use Rattle.mega_propose.specs.declared.round.Move.{Move as RoundMove}
-use Rattle.mega_propose.specs.Rounds.{completes, due, is_due, takes}
-use Rattle.mega_read.specs.declared.reading.Move.{Move as ReadMove}
-use Rattle.mega_read.specs.declared.reading.Reader.{Reader}
-use Rattle.mega_read.specs.declared.reading.Reading.{Reading}
-use Rattle.mega_read.specs.declared.reading.Search.{Search}
-use Rattle.mega_read.specs.declared.reading.Stage.{Stage}
-use Rattle.mega_read.specs.declared.reading.Search.TheVariants.{Fetching, Filling}
-use Rattle.mega_read.specs.declared.reading.Stage.TheVariants.{Polling, Catching}
-use Rattle.mega_read.specs.Catching.{asked_by, denied, falls_due, fetch_to, fetches, filled, fills, hears, helpers, local_read, move, no_op, polled_read, seeks, stays, topped, where_to}
+use Rattle.mega_tape_laws.specs.of_transcript.declared.item.Item.{Item}
+use Rattle.mega_tape_laws.specs.of_transcript.declared.item.Item.TheVariants.{Sent}
+use Rattle.mega_tape_laws.specs.of_read.of_propose.Members.{has, is_majority, with_node, without}
+use Rattle.mega_tape_laws.specs.of_read.of_propose.declared.round.Move.{Move as RoundMove}
+use Rattle.mega_tape_laws.specs.of_read.of_propose.Rounds.{completes, due, is_due, takes}
+use Rattle.mega_tape_laws.specs.of_read.declared.reading.Move.{Move as ReadMove}
+use Rattle.mega_tape_laws.specs.of_read.declared.reading.Reader.{Reader}
+use Rattle.mega_tape_laws.specs.of_read.declared.reading.Reading.{Reading}
+use Rattle.mega_tape_laws.specs.of_read.declared.reading.Search.{Search}
+use Rattle.mega_tape_laws.specs.of_read.declared.reading.Stage.{Stage}
+use Rattle.mega_tape_laws.specs.of_read.declared.reading.Search.TheVariants.{Fetching, Filling}
+use Rattle.mega_tape_laws.specs.of_read.declared.reading.Stage.TheVariants.{Polling, Catching}
+use Rattle.mega_tape_laws.specs.of_read.Catching.{asked_by, denied, falls_due, fetch_to, fetches, filled, fills, hears, helpers, local_read, move, no_op, polled_read, seeks, stays, topped, where_to}
 use Rattle.mega_tape_laws.specs.of_rules.Met.{Met}
 use Rattle.mega_tape_laws.specs.of_rules.Members.{full_nodes, voters}
 use Rattle.mega_tape_laws.specs.of_rules.Logs.{prefix_of}

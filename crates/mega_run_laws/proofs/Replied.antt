@@ -15,7 +15,7 @@ use Rattle.mega_wal.specs.declared.answers.Voted.TheVariants as vote
 use Rattle.mega_wal.specs.Acceptor.{accept_answer, answer_beside, best, is_ballot_below, is_same_ballot, promise_answer, shown}
 use Rattle.mega_wal.specs.Same.{same_op}
 use Rattle.mega_wal.proofs.Sames.{same_op_equal}
-use Rattle.mega_transcript.specs.declared.item.Item.{Item}
+use Rattle.mega_tape_laws.specs.of_transcript.declared.item.Item.{Item}
 use Rattle.mega_locks.specs.declared.asked.Asked.{Asked}
 use Rattle.mega_locks.specs.declared.asked.Asked.TheVariants.{Granted as AnswerGranted, Renewed, Taken, Over}
 use Rattle.mega_base.specs.declared.names.Epoch.{Epoch}

@@ -6,14 +6,14 @@ use Rattle.mega_cluster.specs.declared.cluster.Cluster.{Cluster}
 use Rattle.mega_handler.specs.Named.{Meanings}
 use Rattle.mega_outcome.specs.declared.request.Request.{Request}
 use Rattle.mega_wire.specs.declared.message.Message.{Message}
-use Rattle.mega_schedule.specs.declared.world_event.WorldEvent.{WorldEvent}
-use Rattle.mega_schedule.specs.declared.world_event.WorldEvent.TheVariants.{Tick as TickEvent, Deliver, Drop, Drain, Crash as CrashEvent, Start as StartEvent, Fuse as FuseEvent, Begin as BeginEvent}
-use Rattle.mega_transcript.specs.declared.item.Item.{Item}
-use Rattle.mega_transcript.specs.declared.item.Item.TheVariants.{Sent, Taken, Dropped, Start, Tick as TickItem, Begin as BeginItem, Crash, Cut as CutItem}
+use Rattle.mega_tape_laws.specs.of_schedule.declared.world_event.WorldEvent.{WorldEvent}
+use Rattle.mega_tape_laws.specs.of_schedule.declared.world_event.WorldEvent.TheVariants.{Tick as TickEvent, Deliver, Drop, Drain, Crash as CrashEvent, Start as StartEvent, Fuse as FuseEvent, Begin as BeginEvent}
+use Rattle.mega_tape_laws.specs.of_transcript.declared.item.Item.{Item}
+use Rattle.mega_tape_laws.specs.of_transcript.declared.item.Item.TheVariants.{Sent, Taken, Dropped, Start, Tick as TickItem, Begin as BeginItem, Crash, Cut as CutItem}
 use Rattle.mega_tape_laws.specs.of_promises.Items.{number, shown}
 use Rattle.mega_tape_laws.specs.of_promises.Messages.{is_deliverable, is_dropped, message_of, next_delivery, receiver_up}
 use Rattle.mega_tape_laws.specs.of_promises.Runs.{Calls, CutByData, CutByLog, Cuts, Fate, Fuse, Happening, IsRun, Left, Standing, Whole, after_event, at_node, because, calls_of, crashes, cut_start, cut_step, delivered, drained, fate_by, fated, fated_start, goes_on, handed, is_durable, is_kept, log_fuse_after, marked, new_fuse, nothing_yet, opening, owes, receiver_down, records_left, refusal, set_at, setting, start_calls, started_records, unless_none, unless_refused, up, whole_start, whole_step, with_item, with_items}
-use Rattle.mega_transcript.specs.Tape.{is_sent, is_taken}
+use Rattle.mega_tape_laws.specs.of_transcript.Tape.{is_sent, is_taken}
 use Rattle.mega_tape_laws.specs.of_rules.Met.{Met, Answers, Applies, Begins, Crashes, Starts, Takes, Ticks, Unsends}
 use Rattle.mega_tape_laws.specs.of_rules.Members.{has_rows, is_node, nodes}
 use Rattle.mega_tape_laws.specs.of_rules.Clock.{is_up, start_of}

@@ -10,14 +10,14 @@ use Rattle.mega_wire.specs.declared.message.Body.{Body}
 use Rattle.mega_wire.specs.declared.message.Body.TheVariants.{Accept, Accepted, Refused, Prepare, Promise, Invalidated, Unheld}
 use Rattle.mega_wal.specs.Acceptor.{Promised as PromisedAct, Vote}
 use Rattle.mega_wal.specs.Same.{same_op}
-use Rattle.mega_transcript.specs.declared.item.Item.{Item}
-use Rattle.mega_propose.specs.Members.{has, is_majority, others}
-use Rattle.mega_propose.specs.declared.round.Report.{Report}
-use Rattle.mega_propose.specs.declared.round.Round.{Round}
-use Rattle.mega_propose.specs.declared.round.Proposal.{Proposal}
-use Rattle.mega_propose.specs.declared.round.Move.{Move as RoundMove}
-use Rattle.mega_propose.specs.declared.round.Round.TheVariants.{Asking, Preparing, Accepting, Covering, Settled, Waiting}
-use Rattle.mega_propose.specs.Rounds.{accept_to, accepted, asks, completes, cell_numbers, dead_to, due, greatest_vote, invalidate_to, invalidated, is_due, is_here, is_sent, last_round, next_ballot, picked, prepare_to, prepares, promised, refused, same_ballot, takes, uncovered, unheld, vote_round}
+use Rattle.mega_tape_laws.specs.of_transcript.declared.item.Item.{Item}
+use Rattle.mega_tape_laws.specs.of_read.of_propose.Members.{has, is_majority, others}
+use Rattle.mega_tape_laws.specs.of_read.of_propose.declared.round.Report.{Report}
+use Rattle.mega_tape_laws.specs.of_read.of_propose.declared.round.Round.{Round}
+use Rattle.mega_tape_laws.specs.of_read.of_propose.declared.round.Proposal.{Proposal}
+use Rattle.mega_tape_laws.specs.of_read.of_propose.declared.round.Move.{Move as RoundMove}
+use Rattle.mega_tape_laws.specs.of_read.of_propose.declared.round.Round.TheVariants.{Asking, Preparing, Accepting, Covering, Settled, Waiting}
+use Rattle.mega_tape_laws.specs.of_read.of_propose.Rounds.{accept_to, accepted, asks, completes, cell_numbers, dead_to, due, greatest_vote, invalidate_to, invalidated, is_due, is_here, is_sent, last_round, next_ballot, picked, prepare_to, prepares, promised, refused, same_ballot, takes, uncovered, unheld, vote_round}
 use Rattle.mega_tape_laws.specs.of_rules.Members.{voters}
 use Rattle.mega_tape_laws.specs.Places.{In, Place, Proposes, Took, acts, moves}
 use Rattle.mega_tape_laws.specs.Lawful.{Heard, Lawful, message}

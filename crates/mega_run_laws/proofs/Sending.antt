@@ -13,11 +13,11 @@ use Rattle.mega_wire.specs.declared.message.Body.TheVariants.{Accept, Accepted, 
 use Rattle.mega_wal.specs.Acceptor.{Act}
 use Rattle.mega_wal.specs.Same.{same_group, same_op}
 use Rattle.mega_wal.proofs.Sames.{same_group_self, same_op_self}
-use Rattle.mega_transcript.specs.declared.item.Item.{Item}
-use Rattle.mega_transcript.specs.declared.item.Item.TheVariants.{Sent}
+use Rattle.mega_tape_laws.specs.of_transcript.declared.item.Item.{Item}
+use Rattle.mega_tape_laws.specs.of_transcript.declared.item.Item.TheVariants.{Sent}
 use Rattle.mega_tape_laws.specs.of_promises.Promises.{Stands}
-use Rattle.mega_propose.specs.Members.{has}
-use Rattle.mega_propose.specs.Rounds.{accept_to, prepare_to}
+use Rattle.mega_tape_laws.specs.of_read.of_propose.Members.{has}
+use Rattle.mega_tape_laws.specs.of_read.of_propose.Rounds.{accept_to, prepare_to}
 use Rattle.mega_tape_laws.specs.of_rules.Voting.{act_in}
 use Rattle.mega_tape_laws.specs.Places.{IsAbove, Move, Place, Prepares, Proposes, Took, acts, is_move_at, move_if, move_in, moves, newest}
 use Rattle.mega_tape_laws.specs.Lawful.{Heard, IsOwn, Lawful, Leads, Picked, lowest, named, spreads, picks, raises, repeats, resends}

@@ -8,8 +8,8 @@ use Rattle.mega_wire.specs.declared.message.Message.{Message}
 use Rattle.mega_wire.specs.declared.message.Body.{Body}
 use Rattle.mega_wire.specs.declared.message.Body.TheVariants.{Accepted, Promise, Refused}
 use Rattle.mega_wal.specs.Acceptor.{Act, accept_answer, promise_answer}
-use Rattle.mega_transcript.specs.declared.item.Item.{Item}
-use Rattle.mega_transcript.specs.declared.item.Item.TheVariants.{Sent}
+use Rattle.mega_tape_laws.specs.of_transcript.declared.item.Item.{Item}
+use Rattle.mega_tape_laws.specs.of_transcript.declared.item.Item.TheVariants.{Sent}
 use Rattle.mega_tape_laws.specs.of_promises.Runs.{Standing}
 use Rattle.mega_tape_laws.specs.of_rules.Met.{Answers, Met, Sends, Unsends}
 use Rattle.mega_tape_laws.specs.of_rules.Clock.{begun_of, is_up, last_number, start_of}

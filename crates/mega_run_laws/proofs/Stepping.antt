@@ -5,7 +5,7 @@ use Rattle.mega_base.specs.declared.names.GroupId.{GroupId}
 use Rattle.mega_base.specs.declared.names.OpId.{OpId}
 use Rattle.mega_cluster.specs.declared.cluster.Cluster.{Cluster}
 use Rattle.mega_wire.specs.declared.message.Message.{Message}
-use Rattle.mega_transcript.specs.declared.item.Item.{Item}
+use Rattle.mega_tape_laws.specs.of_transcript.declared.item.Item.{Item}
 use Rattle.mega_tape_laws.specs.of_promises.Items.{shown}
 use Rattle.mega_tape_laws.specs.of_promises.Runs.{Fuse, Standing, set_at, with_items}
 use Rattle.mega_tape_laws.specs.of_rules.Met.{Begins, Met, Sends}

@@ -6,9 +6,9 @@ use Rattle.mega_base.specs.declared.values.NodeKind.{NodeKind}
 use Rattle.mega_cluster.specs.declared.cluster.Cluster.{Cluster}
 use Rattle.mega_outcome.specs.declared.request.Request.{Request}
 use Rattle.mega_wire.specs.declared.message.Message.{Message}
-use Rattle.mega_transcript.specs.declared.item.Item.{Item}
-use Rattle.mega_transcript.specs.declared.item.Item.TheVariants.{Sent, Begin}
-use Rattle.mega_transcript.specs.Tape.{sent_count}
+use Rattle.mega_tape_laws.specs.of_transcript.declared.item.Item.{Item}
+use Rattle.mega_tape_laws.specs.of_transcript.declared.item.Item.TheVariants.{Sent, Begin}
+use Rattle.mega_tape_laws.specs.of_transcript.Tape.{sent_count}
 use Rattle.mega_tape_laws.specs.of_promises.Items.{numbered, shown}
 use Rattle.mega_tape_laws.specs.of_promises.Promises.{Stands}
 use Rattle.mega_tape_laws.specs.of_promises.Runs.{Standing, log_fuse_after, records_after, appends, set_at, whole_step, with_item, with_items}

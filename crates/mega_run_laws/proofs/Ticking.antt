@@ -3,12 +3,12 @@ use Rattle.std.proofs.Common.{◌≡◌, inr, ℕ, ◌+◌, ◌&&◌, nat_lt, Bo
 use Rattle.mega_base.specs.declared.names.OpId.{OpId}
 use Rattle.mega_cluster.specs.declared.cluster.Cluster.{Cluster}
 use Rattle.mega_wire.specs.declared.message.Message.{Message}
-use Rattle.mega_transcript.specs.declared.item.Item.{Item}
-use Rattle.mega_transcript.specs.declared.item.Item.TheVariants.{Tick}
-use Rattle.mega_transcript.specs.Tape.{sent_count}
+use Rattle.mega_tape_laws.specs.of_transcript.declared.item.Item.{Item}
+use Rattle.mega_tape_laws.specs.of_transcript.declared.item.Item.TheVariants.{Tick}
+use Rattle.mega_tape_laws.specs.of_transcript.Tape.{sent_count}
 use Rattle.mega_tape_laws.specs.of_promises.Items.{number, shown}
 use Rattle.mega_tape_laws.specs.of_promises.Runs.{Standing, with_items}
-use Rattle.mega_propose.specs.Members.{others}
+use Rattle.mega_tape_laws.specs.of_read.of_propose.Members.{others}
 use Rattle.mega_tape_laws.specs.of_rules.Met.{Met, Ticks}
 use Rattle.mega_tape_laws.specs.of_rules.Members.{has_rows, is_full, voters}
 use Rattle.mega_tape_laws.specs.of_rules.Clock.{begun_of, does_again, ticks_of, is_up, start_of}

@@ -17,7 +17,7 @@ use Rattle.mega_wal.specs.declared.answers.Voted.{Voted as AcceptAnswer}
 use Rattle.mega_wal.specs.declared.answers.Voted.TheVariants as vote
 use Rattle.mega_wal.specs.Acceptor.{Promised, Voted, accept_answer, promise_answer}
 use Rattle.mega_wal.specs.Same.{same_group}
-use Rattle.mega_transcript.specs.declared.item.Item.{Item}
+use Rattle.mega_tape_laws.specs.of_transcript.declared.item.Item.{Item}
 use Rattle.mega_locks.specs.declared.asked.Asked.{Asked}
 use Rattle.mega_locks.specs.declared.asked.Asked.TheVariants.{Granted as AnswerGranted, Renewed, Taken, Over}
 use Rattle.mega_tape_laws.specs.of_rules.Met.{Met, Sends, Unsends, Decides}

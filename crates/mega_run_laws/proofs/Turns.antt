@@ -13,8 +13,8 @@ use Rattle.mega_wire.specs.declared.message.Body.TheVariants.{Accept, Accepted, 
 use Rattle.mega_wal.specs.Acceptor.{Act}
 use Rattle.mega_wal.specs.Same.{same_group, same_op}
 use Rattle.mega_wal.proofs.Sames.{same_op_equal}
-use Rattle.mega_transcript.specs.declared.item.Item.{Item}
-use Rattle.mega_transcript.specs.declared.item.Item.TheVariants.{Sent, Decide}
+use Rattle.mega_tape_laws.specs.of_transcript.declared.item.Item.{Item}
+use Rattle.mega_tape_laws.specs.of_transcript.declared.item.Item.TheVariants.{Sent, Decide}
 use Rattle.mega_tape_laws.specs.of_promises.Items.{number}
 use Rattle.mega_tape_laws.specs.of_promises.Promises.{Stands}
 use Rattle.mega_tape_laws.specs.of_rules.Met.{Answers, Met}

@@ -7,14 +7,14 @@ use Rattle.mega_cluster.specs.declared.cluster.Cluster.{Cluster}
 use Rattle.mega_entry.specs.declared.content.Content.{Content}
 use Rattle.mega_wire.specs.declared.message.Message.{Message}
 use Rattle.mega_wire.specs.declared.message.Body.{Body}
-use Rattle.mega_transcript.specs.declared.item.Item.{Item}
-use Rattle.mega_transcript.specs.declared.item.Item.TheVariants.{Sent, Taken, Decide, Unsafe}
-use Rattle.mega_transcript.specs.Tape.{sent_count}
+use Rattle.mega_tape_laws.specs.of_transcript.declared.item.Item.{Item}
+use Rattle.mega_tape_laws.specs.of_transcript.declared.item.Item.TheVariants.{Sent, Taken, Decide, Unsafe}
+use Rattle.mega_tape_laws.specs.of_transcript.Tape.{sent_count}
 use Rattle.mega_tape_laws.specs.of_promises.Items.{number, shown}
 use Rattle.mega_tape_laws.specs.of_promises.Promises.{Stands}
 use Rattle.mega_tape_laws.specs.of_promises.Runs.{Standing, breaks, with_item, with_items}
 use Rattle.mega_tape_laws.specs.of_promises.Messages.{is_unsafe}
-use Rattle.mega_propose.specs.Members.{others}
+use Rattle.mega_tape_laws.specs.of_read.of_propose.Members.{others}
 use Rattle.mega_tape_laws.specs.of_rules.Met.{Met, Starts, Crashes, Decides, Takes}
 use Rattle.mega_tape_laws.specs.of_rules.Members.{nodes}
 use Rattle.mega_tape_laws.specs.of_rules.Clock.{begun_of, clock_of, is_up, start_of}

@@ -8,8 +8,8 @@ use Rattle.mega_entry.specs.declared.content.Content.{Content}
 use Rattle.mega_wire.specs.declared.message.Message.{Message}
 use Rattle.mega_wire.specs.declared.message.Body.{Body}
 use Rattle.mega_wire.specs.declared.message.Body.TheVariants.{Accept, Prepare}
-use Rattle.mega_transcript.specs.declared.item.Item.{Item}
-use Rattle.mega_transcript.specs.declared.item.Item.TheVariants.{Sent}
+use Rattle.mega_tape_laws.specs.of_transcript.declared.item.Item.{Item}
+use Rattle.mega_tape_laws.specs.of_transcript.declared.item.Item.TheVariants.{Sent}
 use Rattle.mega_tape_laws.specs.Places.{In, Move, Place, Prepares, Proposes, is_move_at, move_in, moves}
 use Rattle.mega_tape_laws.specs.Writes.{AreWritten, MaySay, MayWrite, OwnEntry, Usage, again, enters, fills, handles, own, runs, runs_all}
 use Rattle.mega_tape_laws.proofs.Lists.{from_cons, in_tail}

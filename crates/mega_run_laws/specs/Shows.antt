@@ -2,8 +2,8 @@
 use Rattle.std.specs.Prelude.{◌≡◌, ℕ, List, Some}
 use Rattle.mega_base.specs.declared.names.GroupId.{GroupId}
 use Rattle.mega_entry.specs.declared.content.Content.{Content}
-use Rattle.mega_transcript.specs.declared.item.Item.{Item}
-use Rattle.mega_transcript.specs.declared.item.Item.TheVariants.{Decide}
+use Rattle.mega_tape_laws.specs.of_transcript.declared.item.Item.{Item}
+use Rattle.mega_tape_laws.specs.of_transcript.declared.item.Item.TheVariants.{Decide}
 use Rattle.mega_tape_laws.specs.of_promises.Items.{number}
 use Rattle.mega_tape_laws.specs.of_promises.Promises.{Stands}
 use Rattle.mega_tape_laws.specs.of_rules.Met.{Met}

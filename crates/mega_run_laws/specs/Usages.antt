@@ -2,9 +2,9 @@
 -- each event are those of some moment.
 use Rattle.std.specs.Prelude.{◌≡◌, ℕ, List, Option, Some}
 use Rattle.mega_handler.specs.Named.{Meanings}
-use Rattle.mega_schedule.specs.declared.world_event.WorldEvent.{WorldEvent}
-use Rattle.mega_schedule.specs.declared.world_event.WorldEvent.TheVariants.{Begin}
-use Rattle.mega_transcript.specs.declared.item.Item.{Item}
+use Rattle.mega_tape_laws.specs.of_schedule.declared.world_event.WorldEvent.{WorldEvent}
+use Rattle.mega_tape_laws.specs.of_schedule.declared.world_event.WorldEvent.TheVariants.{Begin}
+use Rattle.mega_tape_laws.specs.of_transcript.declared.item.Item.{Item}
 use Rattle.mega_tape_laws.specs.of_promises.Runs.{Happening}
 use Rattle.mega_outcome.specs.declared.request.Request.{Request}
 use Rattle.mega_tape_laws.specs.Indexed.{AsksValues}

@@ -9,15 +9,15 @@ use Rattle.mega_wire.specs.declared.message.Message.{Message}
 use Rattle.mega_wire.specs.declared.message.Body.{Body}
 use Rattle.mega_wire.specs.declared.message.Body.TheVariants.{Accept, Accepted, Prepare, Promise, Top, Where}
 use Rattle.mega_wal.specs.Acceptor.{Vote}
-use Rattle.mega_transcript.specs.declared.item.Item.{Item}
-use Rattle.mega_transcript.specs.declared.item.Item.TheVariants.{Sent}
-use Rattle.mega_propose.specs.Members.{has}
-use Rattle.mega_propose.specs.declared.round.Site.{Site}
-use Rattle.mega_propose.specs.declared.round.Report.{Report}
-use Rattle.mega_propose.specs.declared.round.Round.{Round}
-use Rattle.mega_propose.specs.declared.round.Proposal.{Proposal}
-use Rattle.mega_propose.specs.declared.round.Move.{Move as RoundMove}
-use Rattle.mega_propose.specs.declared.round.Round.TheVariants.{Asking, Preparing, Accepting, Covering, Settled, Waiting}
+use Rattle.mega_tape_laws.specs.of_transcript.declared.item.Item.{Item}
+use Rattle.mega_tape_laws.specs.of_transcript.declared.item.Item.TheVariants.{Sent}
+use Rattle.mega_tape_laws.specs.of_read.of_propose.Members.{has}
+use Rattle.mega_tape_laws.specs.of_read.of_propose.declared.round.Site.{Site}
+use Rattle.mega_tape_laws.specs.of_read.of_propose.declared.round.Report.{Report}
+use Rattle.mega_tape_laws.specs.of_read.of_propose.declared.round.Round.{Round}
+use Rattle.mega_tape_laws.specs.of_read.of_propose.declared.round.Proposal.{Proposal}
+use Rattle.mega_tape_laws.specs.of_read.of_propose.declared.round.Move.{Move as RoundMove}
+use Rattle.mega_tape_laws.specs.of_read.of_propose.declared.round.Round.TheVariants.{Asking, Preparing, Accepting, Covering, Settled, Waiting}
 use Rattle.mega_tape_laws.specs.of_rules.Members.{full_nodes, voters}
 use Rattle.mega_tape_laws.specs.Places.{IsMajority, Move, Place, Prepares, count, moves, newest, round_of}
 use Rattle.mega_tape_laws.specs.Lawful.{Heard, IsOwn, Lawful, Leads}

@@ -1,8 +1,8 @@
 //! Runs that the laws are about, as contracts of functions that do nothing.
 
 ghost use Rattle.std.specs.Prelude.{◌≡◌, true, [], ◌∷◌, Some, codes, map, take};
-ghost use Rattle.mega_schedule.specs.declared.world_event.WorldEvent.TheVariants.{Deliver, Drain};
-ghost use Rattle.mega_transcript.specs.declared.item.Item.TheVariants.{Answer, Begin};
+ghost use Rattle.mega_tape_laws.specs.of_schedule.declared.world_event.WorldEvent.TheVariants.{Deliver, Drain};
+ghost use Rattle.mega_tape_laws.specs.of_transcript.declared.item.Item.TheVariants.{Answer, Begin};
 ghost use Rattle.mega_tape_laws.specs.of_rules.Coordinators.{serves_at, valid_at};
 ghost use Rattle.mega_tape_laws.specs.of_rules.Examples.{cluster, group};
 ghost use Rattle.mega_tape_laws.specs.of_promises.Worked.{Serves, Valid, drain, epoch, happens, marks, op, put_at, read_through};

@@ -5,7 +5,7 @@ ghost use Rattle.mega_base.specs.declared.names.GroupId.{GroupId as Group};
 ghost use Rattle.mega_cluster.specs.declared.cluster.Cluster.{Cluster};
 ghost use Rattle.mega_handler.specs.Named.{Meanings};
 ghost use Rattle.mega_index.specs.Rows.{list_after};
-ghost use Rattle.mega_transcript.specs.declared.item.Item.{Item};
+ghost use Rattle.mega_tape_laws.specs.of_transcript.declared.item.Item.{Item};
 ghost use Rattle.mega_tape_laws.specs.of_promises.Promises.{log_of};
 ghost use Rattle.mega_tape_laws.specs.of_promises.Runs.{Happening, IsRun};
 ghost use Rattle.mega_tape_laws.specs.Indexed.{AreRows, IsDeclared, IsIndexed};

@@ -6,7 +6,7 @@ ghost use Rattle.mega_server.specs.Forming.{notes_shown};
 
 use mega_base::Items;
 use mega_durable::item_of;
-use mega_durable::mega_core::{Note, Step};
+use mega_durable::mega_core::mega_stepping::{Note, Step};
 use mega_formed::{is_entry, is_message};
 use mega_serve::{Made, NodeFault};
 use mega_transcript::Item;

@@ -8,8 +8,8 @@ use Rattle.mega_entry.specs.declared.content.Content.{Content}
 use Rattle.mega_handler.specs.Named.{Meanings}
 use Rattle.mega_outcome.specs.declared.answer.Answer.{Answer}
 use Rattle.mega_outcome.specs.declared.answer.Answer.TheVariants.{Batched, Committed}
-use Rattle.mega_transcript.specs.declared.item.Item.{Item}
-use Rattle.mega_transcript.specs.declared.item.Item.TheVariants.{Answer as AnswerItem, Decide}
+use Rattle.mega_run_laws.specs.of_transcript.declared.item.Item.{Item}
+use Rattle.mega_run_laws.specs.of_transcript.declared.item.Item.TheVariants.{Answer as AnswerItem, Decide}
 use Rattle.mega_run_laws.specs.of_promises.Moments.{StoodOn}
 use Rattle.mega_run_laws.specs.of_promises.Promises.{Stands}
 use Rattle.mega_run_laws.specs.of_promises.Runs.{Happening, IsRun}

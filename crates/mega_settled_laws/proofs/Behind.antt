@@ -6,8 +6,8 @@ use Rattle.mega_cluster.specs.declared.cluster.Cluster.{Cluster}
 use Rattle.mega_entry.specs.declared.content.Content.{Content}
 use Rattle.mega_handler.specs.Named.{Meanings}
 use Rattle.mega_wire.specs.declared.message.Body.TheVariants.{Decide as Tell, Have}
-use Rattle.mega_transcript.specs.declared.item.Item.{Item}
-use Rattle.mega_transcript.specs.declared.item.Item.TheVariants.{Decide, Sent}
+use Rattle.mega_run_laws.specs.of_transcript.declared.item.Item.{Item}
+use Rattle.mega_run_laws.specs.of_transcript.declared.item.Item.TheVariants.{Decide, Sent}
 use Rattle.mega_run_laws.specs.of_promises.Items.{number}
 use Rattle.mega_run_laws.specs.of_promises.Moments.{StoodOn}
 use Rattle.mega_run_laws.specs.of_promises.Promises.{Stands}

@@ -9,3 +9,4 @@ pub mod Runs
 pub mod Behind
 pub mod Answering
 pub use Rattle.mega_run_laws.proofs as of_run_laws
+pub use Rattle.mega_run_laws.proofs.of_tape_laws as of_tape_laws

@@ -9,20 +9,20 @@ use Rattle.mega_entry.specs.declared.content.Content.{Content}
 use Rattle.mega_wire.specs.declared.message.Body.{Body}
 use Rattle.mega_wire.specs.declared.message.Body.TheVariants.{Top, HaveNot}
 use Rattle.mega_wal.specs.Same.{same_group, same_op}
-use Rattle.mega_transcript.specs.declared.item.Item.{Item}
-use Rattle.mega_propose.specs.Members.{has, is_majority, joined, with_node, without}
-use Rattle.mega_propose.specs.declared.round.Round.{Round}
-use Rattle.mega_propose.specs.declared.round.Round.TheVariants.{Asking, Preparing, Accepting, Covering, Settled, Waiting}
-use Rattle.mega_propose.specs.declared.round.Move.{Move as RoundMove}
-use Rattle.mega_propose.specs.Rounds.{completes, due, is_due, takes, told_in}
-use Rattle.mega_read.specs.declared.reading.Reading.{Reading}
-use Rattle.mega_read.specs.declared.reading.Search.{Search}
-use Rattle.mega_read.specs.declared.reading.Search.TheVariants.{Fetching, Filling}
-use Rattle.mega_read.specs.declared.reading.Stage.{Stage}
-use Rattle.mega_read.specs.declared.reading.Stage.TheVariants.{Polling, Catching}
-use Rattle.mega_read.specs.declared.reading.Move.{Move as ReadMove}
-use Rattle.mega_read.specs.Catching.{asked_by, denied, falls_due, fetch_to, fills, hears, helpers, is_position, local_read, move, no_op, polled_read, search_told, searched, seeks, topped, where_to}
-use Rattle.mega_rules.specs.Members.{voters}
+use Rattle.mega_run_laws.specs.of_transcript.declared.item.Item.{Item}
+use Rattle.mega_run_laws.specs.of_rules.of_read.of_propose.Members.{has, is_majority, joined, with_node, without}
+use Rattle.mega_run_laws.specs.of_rules.of_read.of_propose.declared.round.Round.{Round}
+use Rattle.mega_run_laws.specs.of_rules.of_read.of_propose.declared.round.Round.TheVariants.{Asking, Preparing, Accepting, Covering, Settled, Waiting}
+use Rattle.mega_run_laws.specs.of_rules.of_read.of_propose.declared.round.Move.{Move as RoundMove}
+use Rattle.mega_run_laws.specs.of_rules.of_read.of_propose.Rounds.{completes, due, is_due, takes, told_in}
+use Rattle.mega_run_laws.specs.of_rules.of_read.declared.reading.Reading.{Reading}
+use Rattle.mega_run_laws.specs.of_rules.of_read.declared.reading.Search.{Search}
+use Rattle.mega_run_laws.specs.of_rules.of_read.declared.reading.Search.TheVariants.{Fetching, Filling}
+use Rattle.mega_run_laws.specs.of_rules.of_read.declared.reading.Stage.{Stage}
+use Rattle.mega_run_laws.specs.of_rules.of_read.declared.reading.Stage.TheVariants.{Polling, Catching}
+use Rattle.mega_run_laws.specs.of_rules.of_read.declared.reading.Move.{Move as ReadMove}
+use Rattle.mega_run_laws.specs.of_rules.of_read.Catching.{asked_by, denied, falls_due, fetch_to, fills, hears, helpers, is_position, local_read, move, no_op, polled_read, search_told, searched, seeks, topped, where_to}
+use Rattle.mega_run_laws.specs.of_rules.Members.{voters}
 use Rattle.mega_run_laws.specs.of_tape_laws.Places.{Took}
 use Rattle.mega_run_laws.specs.of_tape_laws.Lawful.{message}
 use Rattle.mega_run_laws.specs.Vouched.{Each, here}

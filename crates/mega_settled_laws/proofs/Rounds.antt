@@ -11,18 +11,18 @@ use Rattle.mega_wire.specs.declared.message.Body.{Body}
 use Rattle.mega_wire.specs.declared.message.Body.TheVariants.{Accept, Accepted, Refused, Prepare, Promise, Invalidated, Unheld}
 use Rattle.mega_wal.specs.Same.{same_entry, same_op}
 use Rattle.mega_wal.proofs.Sames.{same_entry_equal, same_op_equal}
-use Rattle.mega_transcript.specs.declared.item.Item.{Item}
+use Rattle.mega_run_laws.specs.of_transcript.declared.item.Item.{Item}
 use Rattle.mega_run_laws.specs.of_promises.Items.{number}
-use Rattle.mega_propose.specs.Members.{has, is_majority, others, with_node}
-use Rattle.mega_propose.specs.declared.round.Cover.{Cover}
-use Rattle.mega_propose.specs.declared.round.Free.{Free}
-use Rattle.mega_propose.specs.declared.round.Report.{Report}
-use Rattle.mega_propose.specs.declared.round.Round.{Round}
-use Rattle.mega_propose.specs.declared.round.Round.TheVariants.{Asking, Preparing, Accepting, Covering, Settled, Waiting}
-use Rattle.mega_propose.specs.declared.round.Proposal.{Proposal}
-use Rattle.mega_propose.specs.declared.round.Move.{Move as RoundMove}
-use Rattle.mega_propose.specs.Rounds.{accept_to, accepted, accepts, asks, cell_numbers, completes, covers, dead_to, due, first_cover, greatest_vote, invalidate_to, invalidated, is_covered, is_due, is_here, is_same_free, is_sent, last_round, next_ballot, picked, prepare_to, prepares, promised, proposes, refused, same_ballot, stays, takes, tells, uncovered, unheld, vote_round, with_accepted, with_cell, with_invalidated}
-use Rattle.mega_rules.specs.Members.{full_nodes, voters}
+use Rattle.mega_run_laws.specs.of_rules.of_read.of_propose.Members.{has, is_majority, others, with_node}
+use Rattle.mega_run_laws.specs.of_rules.of_read.of_propose.declared.round.Cover.{Cover}
+use Rattle.mega_run_laws.specs.of_rules.of_read.of_propose.declared.round.Free.{Free}
+use Rattle.mega_run_laws.specs.of_rules.of_read.of_propose.declared.round.Report.{Report}
+use Rattle.mega_run_laws.specs.of_rules.of_read.of_propose.declared.round.Round.{Round}
+use Rattle.mega_run_laws.specs.of_rules.of_read.of_propose.declared.round.Round.TheVariants.{Asking, Preparing, Accepting, Covering, Settled, Waiting}
+use Rattle.mega_run_laws.specs.of_rules.of_read.of_propose.declared.round.Proposal.{Proposal}
+use Rattle.mega_run_laws.specs.of_rules.of_read.of_propose.declared.round.Move.{Move as RoundMove}
+use Rattle.mega_run_laws.specs.of_rules.of_read.of_propose.Rounds.{accept_to, accepted, accepts, asks, cell_numbers, completes, covers, dead_to, due, first_cover, greatest_vote, invalidate_to, invalidated, is_covered, is_due, is_here, is_same_free, is_sent, last_round, next_ballot, picked, prepare_to, prepares, promised, proposes, refused, same_ballot, stays, takes, tells, uncovered, unheld, vote_round, with_accepted, with_cell, with_invalidated}
+use Rattle.mega_run_laws.specs.of_rules.Members.{full_nodes, voters}
 use Rattle.mega_run_laws.specs.of_tape_laws.Places.{IsMajority, Place, Took, count}
 use Rattle.mega_run_laws.specs.of_tape_laws.Lawful.{Heard, message}
 use Rattle.mega_run_laws.proofs.of_tape_laws.Ballots.{clash, number_is, number_self}

@@ -14,19 +14,19 @@ use Rattle.mega_wire.specs.declared.message.Body.{Body}
 use Rattle.mega_wire.specs.declared.message.Body.TheVariants.{Dead, Unheld}
 use Rattle.mega_wal.specs.Same.{same_op}
 use Rattle.mega_wal.proofs.Sames.{same_op_equal, same_op_self}
-use Rattle.mega_transcript.specs.declared.item.Item.{Item}
-use Rattle.mega_transcript.specs.declared.item.Item.TheVariants.{Begin as BeginItem, Crash, Decide, Dropped, Cut as CutItem, Sent, Taken, Tick as TickItem, Unsafe}
-use Rattle.mega_transcript.specs.Tape.{sent_count}
+use Rattle.mega_run_laws.specs.of_transcript.declared.item.Item.{Item}
+use Rattle.mega_run_laws.specs.of_transcript.declared.item.Item.TheVariants.{Begin as BeginItem, Crash, Decide, Dropped, Cut as CutItem, Sent, Taken, Tick as TickItem, Unsafe}
+use Rattle.mega_run_laws.specs.of_transcript.Tape.{sent_count}
 use Rattle.mega_run_laws.specs.of_promises.Items.{number, numbered, shown}
 use Rattle.mega_run_laws.specs.of_promises.Messages.{is_unsafe}
 use Rattle.mega_run_laws.specs.of_promises.Promises.{Stands}
 use Rattle.mega_run_laws.specs.of_promises.Runs.{Calls, CutByData, CutByLog, Fate, Fuse, Happening, IsRun, Left, Standing, Whole, at_node, breaks, calls_of, cut_step, fate_by, fated, fated_start, is_durable, is_kept, marked, nothing_yet, owes, set_at, setting, whole_step, with_item, with_items}
-use Rattle.mega_rules.specs.Met.{Met, Starts, Crashes, Ticks, Begins, Takes, Sends, Unsends, Grants, Lapses, Counts, Forgets, Serves, Loses, Validates, Invalidates, Decides, Applies, Answers}
-use Rattle.mega_rules.specs.Clock.{begun_of, is_up, last_number, start_of}
-use Rattle.mega_rules.specs.Members.{kind_of}
-use Rattle.mega_rules.specs.Operations.{Node, Operation, Setting}
-use Rattle.mega_rules.specs.Replies.{reply_to}
-use Rattle.mega_rules.specs.Steps.{Begin, Step, Take, Tick, crashed, is_worn, missing_kind, onto, op_of, refusal, start, start_items, start_notes, step, unless_missing}
+use Rattle.mega_run_laws.specs.of_rules.Met.{Met, Starts, Crashes, Ticks, Begins, Takes, Sends, Unsends, Grants, Lapses, Counts, Forgets, Serves, Loses, Validates, Invalidates, Decides, Applies, Answers}
+use Rattle.mega_run_laws.specs.of_rules.Clock.{begun_of, is_up, last_number, start_of}
+use Rattle.mega_run_laws.specs.of_rules.Members.{kind_of}
+use Rattle.mega_run_laws.specs.of_rules.Operations.{Node, Operation, Setting}
+use Rattle.mega_run_laws.specs.of_rules.Replies.{reply_to}
+use Rattle.mega_run_laws.specs.of_rules.Steps.{Begin, Step, Take, Tick, crashed, is_worn, missing_kind, onto, op_of, refusal, start, start_items, start_notes, step, unless_missing}
 use Rattle.mega_run_laws.specs.of_tape_laws.Lawful.{message}
 use Rattle.mega_run_laws.specs.of_tape_laws.Places.{Place}
 use Rattle.mega_run_laws.specs.of_tape_laws.Writes.{has_begun}

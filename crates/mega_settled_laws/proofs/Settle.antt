@@ -12,26 +12,26 @@ use Rattle.mega_outcome.specs.declared.request.Request.{Request}
 use Rattle.mega_wire.specs.declared.message.Message.{Message}
 use Rattle.mega_wire.specs.declared.message.Body.{Body}
 use Rattle.mega_wire.specs.declared.message.Body.TheVariants.{Unheld, Decide as Tell, Have}
-use Rattle.mega_transcript.specs.declared.item.Item.{Item}
-use Rattle.mega_transcript.specs.declared.item.Item.TheVariants.{Sent}
+use Rattle.mega_run_laws.specs.of_transcript.declared.item.Item.{Item}
+use Rattle.mega_run_laws.specs.of_transcript.declared.item.Item.TheVariants.{Sent}
 use Rattle.mega_run_laws.specs.of_promises.Items.{number}
 use Rattle.mega_run_laws.specs.of_promises.Promises.{Stands}
-use Rattle.mega_propose.specs.Members.{has}
-use Rattle.mega_propose.specs.declared.round.Cover.{Cover}
-use Rattle.mega_propose.specs.declared.round.Free.{Free}
-use Rattle.mega_propose.specs.declared.round.Proposal.{Proposal}
-use Rattle.mega_propose.specs.declared.round.Round.{Round}
-use Rattle.mega_propose.specs.declared.round.Round.TheVariants.{Asking, Preparing, Accepting, Covering, Settled, Waiting}
-use Rattle.mega_propose.specs.Rounds.{is_covered, is_free, is_same_free, settled}
-use Rattle.mega_propose.specs.Members.{is_majority}
-use Rattle.mega_read.specs.declared.reading.Reading.{Reading}
-use Rattle.mega_read.specs.declared.reading.Search.TheVariants.{Fetching, Filling}
-use Rattle.mega_read.specs.declared.reading.Stage.{Stage}
-use Rattle.mega_read.specs.declared.reading.Stage.TheVariants.{Polling, Catching}
-use Rattle.mega_read.specs.Catching.{read_settled, settled_there}
-use Rattle.mega_rules.specs.Members.{cells, full_nodes, is_cell}
-use Rattle.mega_rules.specs.Operations.{Operation, Phase, Proposes, Reads, Setting}
-use Rattle.mega_rules.specs.Steps.{Decision, Heard, decision_at, first_settled, hears_message, read_decision, settled_by}
+use Rattle.mega_run_laws.specs.of_rules.of_read.of_propose.Members.{has}
+use Rattle.mega_run_laws.specs.of_rules.of_read.of_propose.declared.round.Cover.{Cover}
+use Rattle.mega_run_laws.specs.of_rules.of_read.of_propose.declared.round.Free.{Free}
+use Rattle.mega_run_laws.specs.of_rules.of_read.of_propose.declared.round.Proposal.{Proposal}
+use Rattle.mega_run_laws.specs.of_rules.of_read.of_propose.declared.round.Round.{Round}
+use Rattle.mega_run_laws.specs.of_rules.of_read.of_propose.declared.round.Round.TheVariants.{Asking, Preparing, Accepting, Covering, Settled, Waiting}
+use Rattle.mega_run_laws.specs.of_rules.of_read.of_propose.Rounds.{is_covered, is_free, is_same_free, settled}
+use Rattle.mega_run_laws.specs.of_rules.of_read.of_propose.Members.{is_majority}
+use Rattle.mega_run_laws.specs.of_rules.of_read.declared.reading.Reading.{Reading}
+use Rattle.mega_run_laws.specs.of_rules.of_read.declared.reading.Search.TheVariants.{Fetching, Filling}
+use Rattle.mega_run_laws.specs.of_rules.of_read.declared.reading.Stage.{Stage}
+use Rattle.mega_run_laws.specs.of_rules.of_read.declared.reading.Stage.TheVariants.{Polling, Catching}
+use Rattle.mega_run_laws.specs.of_rules.of_read.Catching.{read_settled, settled_there}
+use Rattle.mega_run_laws.specs.of_rules.Members.{cells, full_nodes, is_cell}
+use Rattle.mega_run_laws.specs.of_rules.Operations.{Operation, Phase, Proposes, Reads, Setting}
+use Rattle.mega_run_laws.specs.of_rules.Steps.{Decision, Heard, decision_at, first_settled, hears_message, read_decision, settled_by}
 use Rattle.mega_run_laws.specs.of_tape_laws.Places.{In, Place, Took, count}
 use Rattle.mega_run_laws.specs.of_tape_laws.Lawful.{message}
 use Rattle.mega_run_laws.proofs.of_tape_laws.Ballots.{number_is, number_self}

@@ -13,7 +13,7 @@ use Rattle.mega_entry.specs.declared.content.Content.{Content}
 use Rattle.mega_locks.specs.declared.asked.Asked.{Asked}
 use Rattle.mega_locks.specs.declared.asked.Asked.TheVariants.{Granted as Grant, Renewed, Taken as TakenBy, Over}
 use Rattle.mega_outcome.specs.declared.request.Request.{Request}
-use Rattle.mega_propose.specs.Members.{others}
+use Rattle.mega_run_laws.specs.of_rules.of_read.of_propose.Members.{others}
 use Rattle.mega_wal.specs.Acceptor.{accept_answer, promise_answer}
 use Rattle.mega_wal.specs.declared.answers.Promised.{Promised as PromiseAnswer}
 use Rattle.mega_wal.specs.declared.answers.Promised.TheVariants as promise
@@ -22,18 +22,18 @@ use Rattle.mega_wal.specs.declared.answers.Voted.TheVariants as vote
 use Rattle.mega_wire.specs.declared.message.Message.{Message}
 use Rattle.mega_wire.specs.declared.message.Body.{Body}
 use Rattle.mega_wire.specs.declared.message.Body.TheVariants.{Where, Top, Accept, Prepare, Invalidate, Invalidated, Dead, Unheld, Fetch, Acquire, Decide as Tell, Have}
-use Rattle.mega_transcript.specs.declared.item.Item.{Item}
-use Rattle.mega_rules.specs.Met.{Met, Begins, Decides, Takes, Ticks, Validates, Answers}
-use Rattle.mega_rules.specs.Clock.{clock_of, does_again, start_of, ticks_of}
-use Rattle.mega_rules.specs.Coordinators.{acquire_to, acquires, acquires_at, asked_cells, coordinator_calls}
-use Rattle.mega_rules.specs.Locks.{asked_for, held_answer, held_at, lock_answer}
-use Rattle.mega_rules.specs.Logs.{decided, groups_of, newest_of, prefix_of, top_of}
-use Rattle.mega_rules.specs.Members.{has_rows, is_cell, is_full, is_voter, nodes, voters}
-use Rattle.mega_rules.specs.Operations.{Node, Now, Operation, Setting}
-use Rattle.mega_rules.specs.Acting.{validated_by}
-use Rattle.mega_rules.specs.Replies.{answer_to, fetched, reply_message, reply_to, where_served}
-use Rattle.mega_rules.specs.Steps.{Decision, Heard, Step, all_act, apply_notes, at_first, at_open, background, begin_step, decide_to, decision_note, fetch_to, fetches_for, first_settled, hears_message, if_new, lapse_notes, lease_notes, new_operation, news, onto, op_of, portion_of, refusal, stored_after, take_step, taken, tick_step, ticked, told_decision, told_notes, unless_refused}
-use Rattle.mega_rules.specs.Voting.{acts, prepared, promise_body, vote_body, voted}
+use Rattle.mega_run_laws.specs.of_transcript.declared.item.Item.{Item}
+use Rattle.mega_run_laws.specs.of_rules.Met.{Met, Begins, Decides, Takes, Ticks, Validates, Answers}
+use Rattle.mega_run_laws.specs.of_rules.Clock.{clock_of, does_again, start_of, ticks_of}
+use Rattle.mega_run_laws.specs.of_rules.Coordinators.{acquire_to, acquires, acquires_at, asked_cells, coordinator_calls}
+use Rattle.mega_run_laws.specs.of_rules.Locks.{asked_for, held_answer, held_at, lock_answer}
+use Rattle.mega_run_laws.specs.of_rules.Logs.{decided, groups_of, newest_of, prefix_of, top_of}
+use Rattle.mega_run_laws.specs.of_rules.Members.{has_rows, is_cell, is_full, is_voter, nodes, voters}
+use Rattle.mega_run_laws.specs.of_rules.Operations.{Node, Now, Operation, Setting}
+use Rattle.mega_run_laws.specs.of_rules.Acting.{validated_by}
+use Rattle.mega_run_laws.specs.of_rules.Replies.{answer_to, fetched, reply_message, reply_to, where_served}
+use Rattle.mega_run_laws.specs.of_rules.Steps.{Decision, Heard, Step, all_act, apply_notes, at_first, at_open, background, begin_step, decide_to, decision_note, fetch_to, fetches_for, first_settled, hears_message, if_new, lapse_notes, lease_notes, new_operation, news, onto, op_of, portion_of, refusal, stored_after, take_step, taken, tick_step, ticked, told_decision, told_notes, unless_refused}
+use Rattle.mega_run_laws.specs.of_rules.Voting.{acts, prepared, promise_body, vote_body, voted}
 use Rattle.mega_run_laws.specs.of_tape_laws.Lawful.{message}
 use Rattle.mega_run_laws.specs.of_tape_laws.Places.{Took}
 use Rattle.mega_run_laws.specs.of_tape_laws.Writes.{has_begun}

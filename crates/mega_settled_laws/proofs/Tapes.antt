@@ -6,15 +6,15 @@ use Rattle.mega_wire.specs.declared.message.Message.{Message}
 use Rattle.mega_wire.specs.declared.message.Body.{Body}
 use Rattle.mega_wire.specs.declared.message.Body.TheVariants.{Dead, Unheld}
 use Rattle.mega_wal.specs.Same.{same_op}
-use Rattle.mega_transcript.specs.declared.item.Item.{Item}
-use Rattle.mega_transcript.specs.declared.item.Item.TheVariants.{Sent, Unsafe}
+use Rattle.mega_run_laws.specs.of_transcript.declared.item.Item.{Item}
+use Rattle.mega_run_laws.specs.of_transcript.declared.item.Item.TheVariants.{Sent, Unsafe}
 use Rattle.mega_run_laws.specs.of_promises.Items.{shown}
 use Rattle.mega_run_laws.specs.of_promises.Messages.{is_unsafe}
 use Rattle.mega_run_laws.specs.of_promises.Promises.{Stands}
 use Rattle.mega_run_laws.specs.of_promises.Runs.{breaks, with_item, with_items}
-use Rattle.mega_propose.specs.Members.{has, joined, without}
-use Rattle.mega_rules.specs.Met.{Met, Starts, Crashes, Ticks, Begins, Takes, Sends, Unsends, Grants, Lapses, Counts, Forgets, Serves, Loses, Validates, Invalidates, Decides, Applies, Answers}
-use Rattle.mega_rules.specs.Operations.{Node}
+use Rattle.mega_run_laws.specs.of_rules.of_read.of_propose.Members.{has, joined, without}
+use Rattle.mega_run_laws.specs.of_rules.Met.{Met, Starts, Crashes, Ticks, Begins, Takes, Sends, Unsends, Grants, Lapses, Counts, Forgets, Serves, Loses, Validates, Invalidates, Decides, Applies, Answers}
+use Rattle.mega_run_laws.specs.of_rules.Operations.{Node}
 use Rattle.mega_schema.specs.declared.schema.Schema.{Schema}
 use Rattle.mega_run_laws.specs.of_tape_laws.Answers.{AreAnswered}
 use Rattle.mega_run_laws.specs.of_tape_laws.Lawful.{Lawful}

@@ -12,21 +12,21 @@ use Rattle.mega_wire.specs.declared.message.Body.{Body}
 use Rattle.mega_wire.specs.declared.message.Body.TheVariants.{Dead, Unheld}
 use Rattle.mega_wal.specs.Same.{same_op}
 use Rattle.mega_wal.proofs.Sames.{same_op_equal}
-use Rattle.mega_transcript.specs.declared.item.Item.{Item}
-use Rattle.mega_propose.specs.Members.{has}
-use Rattle.mega_propose.specs.Rounds.{asks}
-use Rattle.mega_read.specs.declared.reading.Reading.{Reading}
-use Rattle.mega_read.specs.declared.reading.Search.{Search}
-use Rattle.mega_read.specs.declared.reading.Stage.TheVariants.{Catching}
-use Rattle.mega_read.specs.declared.reading.Move.{Move as ReadMove}
-use Rattle.mega_read.specs.Catching.{asked_by, local_read, polled_read, seeks, site}
-use Rattle.mega_rules.specs.Clock.{clock_of}
-use Rattle.mega_rules.specs.Coordinators.{refused_at, serves_at, valid_at}
-use Rattle.mega_rules.specs.Logs.{top_of}
-use Rattle.mega_rules.specs.Members.{is_cell}
-use Rattle.mega_rules.specs.Operations.{Now, Operation, Phase, Proposes, Reads, Setting}
-use Rattle.mega_rules.specs.Acting.{completes_read, ends, in_phase, is_visited, keeps, read_begun, reader_of, sends_more, validated_by}
-use Rattle.mega_rules.specs.Steps.{Heard, acts_in_turn, all_act, does_due, hears_message, is_out, last_answer, new_operation, ticked, unless_refused}
+use Rattle.mega_run_laws.specs.of_transcript.declared.item.Item.{Item}
+use Rattle.mega_run_laws.specs.of_rules.of_read.of_propose.Members.{has}
+use Rattle.mega_run_laws.specs.of_rules.of_read.of_propose.Rounds.{asks}
+use Rattle.mega_run_laws.specs.of_rules.of_read.declared.reading.Reading.{Reading}
+use Rattle.mega_run_laws.specs.of_rules.of_read.declared.reading.Search.{Search}
+use Rattle.mega_run_laws.specs.of_rules.of_read.declared.reading.Stage.TheVariants.{Catching}
+use Rattle.mega_run_laws.specs.of_rules.of_read.declared.reading.Move.{Move as ReadMove}
+use Rattle.mega_run_laws.specs.of_rules.of_read.Catching.{asked_by, local_read, polled_read, seeks, site}
+use Rattle.mega_run_laws.specs.of_rules.Clock.{clock_of}
+use Rattle.mega_run_laws.specs.of_rules.Coordinators.{refused_at, serves_at, valid_at}
+use Rattle.mega_run_laws.specs.of_rules.Logs.{top_of}
+use Rattle.mega_run_laws.specs.of_rules.Members.{is_cell}
+use Rattle.mega_run_laws.specs.of_rules.Operations.{Now, Operation, Phase, Proposes, Reads, Setting}
+use Rattle.mega_run_laws.specs.of_rules.Acting.{completes_read, ends, in_phase, is_visited, keeps, read_begun, reader_of, sends_more, validated_by}
+use Rattle.mega_run_laws.specs.of_rules.Steps.{Heard, acts_in_turn, all_act, does_due, hears_message, is_out, last_answer, new_operation, ticked, unless_refused}
 use Rattle.mega_run_laws.specs.of_tape_laws.Places.{Took}
 use Rattle.mega_run_laws.specs.of_tape_laws.Lawful.{message}
 use Rattle.mega_run_laws.specs.of_tape_laws.Writes.{has_begun}

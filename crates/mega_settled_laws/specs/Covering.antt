@@ -14,12 +14,12 @@ use Rattle.mega_wal.specs.Same.{same_op}
 use Rattle.mega_outcome.specs.declared.answer.Answer.TheVariants.{Batched, Committed}
 use Rattle.mega_outcome.specs.declared.answer.Shown.{Shown}
 use Rattle.mega_outcome.specs.declared.answer.Turn.{Turn}
-use Rattle.mega_transcript.specs.declared.item.Item.{Item}
-use Rattle.mega_transcript.specs.declared.item.Item.TheVariants.{Answer as AnswerItem, Decide, Sent}
+use Rattle.mega_run_laws.specs.of_transcript.declared.item.Item.{Item}
+use Rattle.mega_run_laws.specs.of_transcript.declared.item.Item.TheVariants.{Answer as AnswerItem, Decide, Sent}
 use Rattle.mega_run_laws.specs.of_promises.Items.{number}
 use Rattle.mega_run_laws.specs.of_promises.Moments.{StoodOn}
 use Rattle.mega_run_laws.specs.of_promises.Promises.{Stands}
-use Rattle.mega_rules.specs.Members.{full_nodes}
+use Rattle.mega_run_laws.specs.of_rules.Members.{full_nodes}
 use Rattle.mega_run_laws.specs.of_tape_laws.Lawful.{Heard}
 use Rattle.mega_run_laws.specs.of_tape_laws.Places.{In, IsMajority, Place}
 use Rattle.mega_run_laws.specs.of_tape_laws.Settled.{IsCellMajority}

@@ -11,8 +11,8 @@ use Rattle.mega_cluster.specs.declared.cluster.Cluster.{Cluster}
 use Rattle.mega_entry.specs.declared.content.Content.{Content}
 use Rattle.mega_wire.specs.declared.message.Body.TheVariants.{Accept, Accepted, Have, Decide as Tell}
 use Rattle.mega_wal.specs.Acceptor.{Voted}
-use Rattle.mega_transcript.specs.declared.item.Item.{Item}
-use Rattle.mega_transcript.specs.declared.item.Item.TheVariants.{Decide, Sent}
+use Rattle.mega_promises.specs.of_transcript.declared.item.Item.{Item}
+use Rattle.mega_promises.specs.of_transcript.declared.item.Item.TheVariants.{Decide, Sent}
 use Rattle.mega_promises.specs.Items.{number}
 use Rattle.mega_promises.specs.Promises.{Agree, Stands}
 use Rattle.mega_tape_laws.specs.Places.{In, Place, Proposes, act_of, acts, move_of, moves}

@@ -23,8 +23,8 @@ use Rattle.mega_outcome.specs.declared.transaction.Transaction.{Transaction}
 use Rattle.mega_outcome.specs.Outcome.{batch_outcome, outcome}
 use Rattle.mega_wal.specs.Same.{same_op}
 use Rattle.mega_wal.proofs.Sames.{same_op_self}
-use Rattle.mega_transcript.specs.declared.item.Item.{Item}
-use Rattle.mega_transcript.specs.declared.item.Item.TheVariants.{Answer as AnswerItem, Begin, Decide, Sent}
+use Rattle.mega_promises.specs.of_transcript.declared.item.Item.{Item}
+use Rattle.mega_promises.specs.of_transcript.declared.item.Item.TheVariants.{Answer as AnswerItem, Begin, Decide, Sent}
 use Rattle.mega_promises.specs.of_rules.Steps.{is_current}
 use Rattle.mega_promises.specs.Promises.{IsSerial, Stands, asked_for, group_written, is_negative, is_write, log_of, rows_shown}
 use Rattle.mega_tape_laws.specs.Places.{In, Place, Prepares, Proposes, is_move_at, move_in, move_of, moves}

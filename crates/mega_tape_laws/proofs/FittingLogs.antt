@@ -11,7 +11,7 @@ use Rattle.mega_index.specs.Fitted.{table_of, is_kept, kept_write, fitted_writes
 use Rattle.mega_index.specs.LocalWrites.{index_writes}
 use Rattle.mega_outcome.specs.declared.transaction.Transaction.{Transaction}
 use Rattle.mega_outcome.specs.Outcome.{first_change}
-use Rattle.mega_transcript.specs.declared.item.Item.{Item}
+use Rattle.mega_promises.specs.of_transcript.declared.item.Item.{Item}
 use Rattle.mega_promises.specs.Promises.{log_of}
 use Rattle.mega_tape_laws.specs.Writes.{LawfulWrites, Usage}
 use Rattle.mega_tape_laws.specs.Indexed.{IsDeclared}

@@ -7,7 +7,7 @@ use Rattle.mega_index.specs.Rows.{row_under, no_rows, after, list_after}
 use Rattle.mega_index.specs.Fits.{stands_in}
 use Rattle.mega_outcome.specs.declared.transaction.Transaction.{Transaction}
 use Rattle.mega_outcome.specs.Outcome.{first_change}
-use Rattle.mega_transcript.specs.declared.item.Item.{Item}
+use Rattle.mega_promises.specs.of_transcript.declared.item.Item.{Item}
 use Rattle.mega_promises.specs.Promises.{log_of}
 use Rattle.mega_tape_laws.specs.Writes.{LawfulWrites, Usage}
 use Rattle.mega_tape_laws.specs.Indexed.{AllPutValues, AreRows, AskValues, IsDeclared, IsIndexed, PutValues}

@@ -13,8 +13,8 @@ use Rattle.mega_index.specs.Fitted.{table_of}
 use Rattle.mega_outcome.specs.declared.request.Request.{Request}
 use Rattle.mega_outcome.specs.declared.transaction.Change.TheVariants.{Put}
 use Rattle.mega_outcome.specs.Changes.{all_changes}
-use Rattle.mega_transcript.specs.declared.item.Item.{Item}
-use Rattle.mega_transcript.specs.declared.item.Item.TheVariants.{Begin}
+use Rattle.mega_promises.specs.of_transcript.declared.item.Item.{Item}
+use Rattle.mega_promises.specs.of_transcript.declared.item.Item.TheVariants.{Begin}
 use Rattle.mega_wal.specs.Same.{same_op}
 use Rattle.mega_promises.specs.of_rules.Acting.{table_rows}
 use Rattle.mega_promises.specs.of_rules.Examples.{group, put, user, users}
@@ -27,8 +27,8 @@ use Rattle.mega_entry.specs.declared.content.Content.{Content}
 use Rattle.mega_wire.specs.declared.message.Body.TheVariants.{Accepted}
 use Rattle.mega_index.specs.Rows.{after, list_after}
 use Rattle.mega_outcome.specs.Outcome.{outcome}
-use Rattle.mega_transcript.specs.declared.item.Item.TheVariants.{Taken}
-use Rattle.mega_transcript.specs.Tape.{newest}
+use Rattle.mega_promises.specs.of_transcript.declared.item.Item.TheVariants.{Taken}
+use Rattle.mega_promises.specs.of_transcript.Tape.{newest}
 use Rattle.mega_promises.specs.of_rules.Examples.{op_of}
 use Rattle.mega_promises.specs.Promises.{log_of}
 use Rattle.mega_tape_laws.specs.Places.{IsMajority}

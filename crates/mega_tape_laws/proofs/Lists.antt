@@ -3,7 +3,7 @@ use Rattle.std.proofs.Common.{◌≡◌, ◌⊎◌, inl, inr, List, [], ◌∷�
 use Rattle.std.specs.Prelude.{filter_map}
 use Rattle.std.specs.List.{cons_option}
 use Rattle.mega_cluster.specs.declared.cluster.Cluster.{Cluster}
-use Rattle.mega_transcript.specs.declared.item.Item.{Item}
+use Rattle.mega_promises.specs.of_transcript.declared.item.Item.{Item}
 use Rattle.mega_promises.specs.Promises.{Stands}
 use Rattle.mega_tape_laws.specs.Places.{In}
 use Rattle.mega_tape_laws.specs.Lawful.{Allowed, Lawful}

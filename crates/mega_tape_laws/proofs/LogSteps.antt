@@ -24,7 +24,7 @@ use Rattle.mega_outcome.specs.Checks.{all_checks}
 use Rattle.mega_outcome.specs.Reads.{all_reads}
 use Rattle.mega_outcome.specs.Changes.{all_changes}
 use Rattle.mega_outcome.specs.Outcome.{all_sends, longest, unless_large, first_read, first_change, first_send, outcome_in, no_batch, left_out, taken, batch_length, with_result, with_next}
-use Rattle.mega_transcript.specs.declared.item.Item.{Item}
+use Rattle.mega_promises.specs.of_transcript.declared.item.Item.{Item}
 use Rattle.mega_promises.specs.of_rules.Acting.{table_rows}
 use Rattle.mega_promises.specs.Promises.{asked_for, log_of}
 use Rattle.mega_tape_laws.specs.Writes.{LawfulWrites, OwnEntry, Usage, enters, fills, handles, runs, runs_all}

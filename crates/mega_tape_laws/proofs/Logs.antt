@@ -6,8 +6,8 @@ use Rattle.mega_base.specs.declared.names.Position.{Position}
 use Rattle.mega_cluster.specs.declared.cluster.Cluster.{Cluster}
 use Rattle.mega_entry.specs.declared.content.Content.{Content}
 use Rattle.mega_wal.specs.Same.{same_group}
-use Rattle.mega_transcript.specs.declared.item.Item.{Item}
-use Rattle.mega_transcript.specs.declared.item.Item.TheVariants.{Decide}
+use Rattle.mega_promises.specs.of_transcript.declared.item.Item.{Item}
+use Rattle.mega_promises.specs.of_transcript.declared.item.Item.TheVariants.{Decide}
 use Rattle.mega_promises.specs.Promises.{Stands, first_decided, or_else}
 use Rattle.mega_tape_laws.specs.Lawful.{Lawful}
 use Rattle.mega_tape_laws.proofs.Lists.{some_is}

@@ -14,8 +14,8 @@ use Rattle.mega_wal.specs.Acceptor.{Act, Promised, Voted, Vote}
 use Rattle.mega_wal.specs.Same.{same_group, same_op}
 use Rattle.mega_wal.proofs.Sames.{same_group_equal, same_group_self, same_op_equal, same_op_self}
 use Rattle.mega_promises.specs.of_rules.Voting.{act_if, act_in}
-use Rattle.mega_transcript.specs.declared.item.Item.{Item}
-use Rattle.mega_transcript.specs.declared.item.Item.TheVariants.{Sent, Unsent}
+use Rattle.mega_promises.specs.of_transcript.declared.item.Item.{Item}
+use Rattle.mega_promises.specs.of_transcript.declared.item.Item.TheVariants.{Sent, Unsent}
 use Rattle.mega_tape_laws.specs.Places.{In, Move, Place, Prepares, Proposes, Took, act_from, act_of, acts, is_move_at, move_if, move_in, move_of, moves}
 use Rattle.mega_tape_laws.specs.Lawful.{Allowed, Lawful, MayAccept, MayMake, MayPrepare, MayPropose, MaySend, asks, message, picks, raises, repeats, resends, spreads}
 use Rattle.mega_tape_laws.proofs.Ballots.{number_is, number_self}

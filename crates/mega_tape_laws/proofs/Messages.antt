@@ -13,7 +13,7 @@ use Rattle.mega_handler.specs.Named.{Meanings}
 use Rattle.mega_wal.specs.Same.{same_group, same_name}
 use Rattle.mega_wal.proofs.Sames.{same_group_self}
 use Rattle.mega_promises.specs.of_rules.Queues.{entered_in, handled_in, is_named, names_entered, oldest_unhandled}
-use Rattle.mega_transcript.specs.declared.item.Item.{Item}
+use Rattle.mega_promises.specs.of_transcript.declared.item.Item.{Item}
 use Rattle.mega_promises.specs.Promises.{handled_by, log_of}
 use Rattle.mega_tape_laws.specs.Writes.{LawfulWrites, OwnEntry, Usage, enters, fills, handles, runs, runs_all}
 use Rattle.mega_tape_laws.proofs.Ballots.{clash, number_self}

@@ -12,8 +12,8 @@ use Rattle.mega_handler.specs.Named.{Meanings}
 use Rattle.mega_outcome.specs.declared.request.Request.{Request}
 use Rattle.mega_wal.specs.Same.{same_op}
 use Rattle.mega_wal.proofs.Sames.{same_op_equal}
-use Rattle.mega_transcript.specs.declared.item.Item.{Item}
-use Rattle.mega_transcript.specs.declared.item.Item.TheVariants.{Begin, Sent}
+use Rattle.mega_promises.specs.of_transcript.declared.item.Item.{Item}
+use Rattle.mega_promises.specs.of_transcript.declared.item.Item.TheVariants.{Begin, Sent}
 use Rattle.mega_promises.specs.Promises.{asked_for, handled_by}
 use Rattle.mega_tape_laws.specs.Places.{In, Move, Place, Prepares, Proposes, is_move_at, move_in, move_of, moves}
 use Rattle.mega_tape_laws.specs.Writes.{AreWritten, IsNamed, IsWritten, Knows, MaySay, MayWrite, OwnEntry, Usage, again, enters, fills, handles, has_begun, own, runs, runs_all}

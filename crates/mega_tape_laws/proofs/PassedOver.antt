@@ -7,9 +7,9 @@ use Rattle.mega_entry.specs.declared.content.Content.{Content}
 use Rattle.mega_wire.specs.declared.message.Body.{Body}
 use Rattle.mega_wire.specs.declared.message.Body.TheVariants.{Promise}
 use Rattle.mega_wal.specs.Acceptor.{Promised, Vote}
-use Rattle.mega_transcript.specs.declared.item.Item.{Item}
-use Rattle.mega_transcript.specs.declared.item.Item.TheVariants.{Sent}
-use Rattle.mega_transcript.specs.Tape.{newest}
+use Rattle.mega_promises.specs.of_transcript.declared.item.Item.{Item}
+use Rattle.mega_promises.specs.of_transcript.declared.item.Item.TheVariants.{Sent}
+use Rattle.mega_promises.specs.of_transcript.Tape.{newest}
 use Rattle.mega_promises.specs.of_rules.Examples.{cluster, entry_of, group, op_of}
 use Rattle.mega_tape_laws.specs.Places.{In, Prepares, Proposes, acts}
 use Rattle.mega_tape_laws.specs.Lawful.{Carries, Heard, Lawful, MayPropose, Picked, asks, greatest, message, own, picks, repeats, spreads}

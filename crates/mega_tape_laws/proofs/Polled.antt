@@ -10,8 +10,8 @@ use Rattle.mega_entry.specs.declared.content.Content.{Content}
 use Rattle.mega_wire.specs.declared.message.Body.TheVariants.{Top, Where}
 use Rattle.mega_wal.specs.Acceptor.{Voted}
 use Rattle.mega_wal.specs.Same.{same_op}
-use Rattle.mega_transcript.specs.declared.item.Item.{Item}
-use Rattle.mega_transcript.specs.declared.item.Item.TheVariants.{Begin, Decide, Sent}
+use Rattle.mega_promises.specs.of_transcript.declared.item.Item.{Item}
+use Rattle.mega_promises.specs.of_transcript.declared.item.Item.TheVariants.{Begin, Decide, Sent}
 use Rattle.mega_promises.specs.Promises.{Stands, StoodBefore}
 use Rattle.mega_tape_laws.specs.Lawful.{Lawful, message}
 use Rattle.mega_tape_laws.specs.Places.{In, IsMajority, Place, act_of, acts}

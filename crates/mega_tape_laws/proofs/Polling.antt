@@ -8,7 +8,7 @@ use Rattle.mega_wire.specs.declared.message.Body.TheVariants.{Top}
 use Rattle.mega_wal.specs.Acceptor.{Voted}
 use Rattle.mega_promises.specs.of_rules.Voting.{act_if}
 use Rattle.mega_promises.specs.of_rules.Examples.{cluster, entry_of, group, op_of}
-use Rattle.mega_transcript.specs.Tape.{newest}
+use Rattle.mega_promises.specs.of_transcript.Tape.{newest}
 use Rattle.mega_tape_laws.specs.Examples.{asks_put, first, polled}
 use Rattle.mega_tape_laws.specs.Lawful.{Heard}
 use Rattle.mega_tape_laws.specs.Places.{In}

@@ -5,9 +5,9 @@ use Rattle.mega_ballot.specs.Order.{zero_ballot}
 use Rattle.mega_entry.specs.declared.content.Content.{Content}
 use Rattle.mega_wire.specs.declared.message.Body.TheVariants.{Accepted, Decide as Tell}
 use Rattle.mega_outcome.specs.declared.answer.Answer.TheVariants.{Committed}
-use Rattle.mega_transcript.specs.declared.item.Item.{Item}
-use Rattle.mega_transcript.specs.declared.item.Item.TheVariants.{Answer, Begin, Decide, Sent, Taken}
-use Rattle.mega_transcript.specs.Tape.{newest}
+use Rattle.mega_promises.specs.of_transcript.declared.item.Item.{Item}
+use Rattle.mega_promises.specs.of_transcript.declared.item.Item.TheVariants.{Answer, Begin, Decide, Sent, Taken}
+use Rattle.mega_promises.specs.of_transcript.Tape.{newest}
 use Rattle.mega_promises.specs.Items.{number}
 use Rattle.mega_outcome.specs.declared.request.Request.TheVariants.{Txn}
 use Rattle.mega_promises.specs.Promises.{Stands}

@@ -8,7 +8,7 @@ use Rattle.mega_cluster.specs.declared.cluster.Cluster.{Cluster}
 use Rattle.mega_entry.specs.declared.content.Content.{Content}
 use Rattle.mega_wire.specs.declared.message.Body.TheVariants.{Promise}
 use Rattle.mega_wal.specs.Acceptor.{Promised, Voted, Vote}
-use Rattle.mega_transcript.specs.declared.item.Item.{Item}
+use Rattle.mega_promises.specs.of_transcript.declared.item.Item.{Item}
 use Rattle.mega_tape_laws.specs.Places.{In, IsMajority, Place, Proposes, act_of, acts, move_of, moves}
 use Rattle.mega_tape_laws.specs.Lawful.{Carries, IsOwn, Lawful, MayPropose, Picked, asks, greatest, message, own, picks, repeats, spreads}
 use Rattle.mega_tape_laws.proofs.Ballots.{Below, at_most_below, at_most_cases, not_below_zero, order}

@@ -8,7 +8,7 @@ use Rattle.mega_entry.specs.declared.content.Content.{Content}
 use Rattle.mega_entry.specs.declared.content.Enter.{Enter}
 use Rattle.mega_handler.specs.Named.{Meanings}
 use Rattle.mega_promises.specs.of_rules.Queues.{Posted, entered_in, posted, sent_from, sent_in}
-use Rattle.mega_transcript.specs.declared.item.Item.{Item}
+use Rattle.mega_promises.specs.of_transcript.declared.item.Item.{Item}
 use Rattle.mega_promises.specs.Promises.{AreMessages, WasSent, handled_by, log_of}
 use Rattle.mega_tape_laws.specs.Places.{In}
 use Rattle.mega_tape_laws.specs.Writes.{IsFront, LawfulWrites, OwnEntry, Usage, enters, fills, handles, runs, runs_all}

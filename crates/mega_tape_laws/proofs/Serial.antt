@@ -13,8 +13,8 @@ use Rattle.mega_outcome.specs.declared.request.Request.{Request}
 use Rattle.mega_outcome.specs.declared.request.Request.TheVariants.{Txn, Batch as BatchRequest, PumpEnter, PumpHandle}
 use Rattle.mega_outcome.specs.declared.transaction.Transaction.{Transaction}
 use Rattle.mega_outcome.specs.Outcome.{batch_outcome, entry_of_batch, entry_of_done, outcome}
-use Rattle.mega_transcript.specs.declared.item.Item.{Item}
-use Rattle.mega_transcript.specs.declared.item.Item.TheVariants.{Decide}
+use Rattle.mega_promises.specs.of_transcript.declared.item.Item.{Item}
+use Rattle.mega_promises.specs.of_transcript.declared.item.Item.TheVariants.{Decide}
 use Rattle.mega_promises.specs.Promises.{Stands, asked_for, comes_to, group_written, is_write, log_of}
 use Rattle.mega_tape_laws.specs.Chosen.{Chosen}
 use Rattle.mega_tape_laws.specs.Places.{In, Place, Proposes, moves}

@@ -6,9 +6,9 @@ use Rattle.mega_ballot.specs.Order.{zero_ballot}
 use Rattle.mega_entry.specs.declared.content.Content.{Content}
 use Rattle.mega_wire.specs.declared.message.Body.{Body}
 use Rattle.mega_wire.specs.declared.message.Body.TheVariants.{Accepted, Invalidate, Invalidated}
-use Rattle.mega_transcript.specs.declared.item.Item.{Item}
-use Rattle.mega_transcript.specs.declared.item.Item.TheVariants.{Sent}
-use Rattle.mega_transcript.specs.Tape.{newest}
+use Rattle.mega_promises.specs.of_transcript.declared.item.Item.{Item}
+use Rattle.mega_promises.specs.of_transcript.declared.item.Item.TheVariants.{Sent}
+use Rattle.mega_promises.specs.of_transcript.Tape.{newest}
 use Rattle.mega_promises.specs.Promises.{Stands}
 use Rattle.mega_promises.specs.of_rules.Examples.{cluster, entry_of, group, op_of}
 use Rattle.mega_promises.specs.of_rules.Members.{full_nodes}

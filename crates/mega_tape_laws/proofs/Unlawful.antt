@@ -5,7 +5,7 @@ use Rattle.mega_ballot.specs.Order.{zero_ballot}
 use Rattle.mega_entry.specs.declared.content.Content.{Content}
 use Rattle.mega_wal.specs.Acceptor.{Voted}
 use Rattle.mega_wal.specs.declared.answers.Voted.TheVariants as vote
-use Rattle.mega_transcript.specs.Tape.{newest}
+use Rattle.mega_promises.specs.of_transcript.Tape.{newest}
 use Rattle.mega_promises.specs.Items.{number}
 use Rattle.mega_promises.specs.of_rules.Examples.{cluster, entry_of, op_of}
 use Rattle.mega_tape_laws.specs.Chosen.{Chosen}

@@ -3,9 +3,9 @@ use Rattle.std.proofs.Common.{◌≡◌, inl, inr, ℕ, zero, suc, ◌<◌, Bool
 use Rattle.mega_ballot.specs.Order.{zero_ballot}
 use Rattle.mega_wire.specs.declared.message.Body.TheVariants.{Accepted, Promise}
 use Rattle.mega_wal.specs.Acceptor.{Vote, is_ballot_below}
-use Rattle.mega_transcript.specs.declared.item.Item.{Item}
-use Rattle.mega_transcript.specs.declared.item.Item.TheVariants.{Sent, Taken}
-use Rattle.mega_transcript.specs.Tape.{newest}
+use Rattle.mega_promises.specs.of_transcript.declared.item.Item.{Item}
+use Rattle.mega_promises.specs.of_transcript.declared.item.Item.TheVariants.{Sent, Taken}
+use Rattle.mega_promises.specs.of_transcript.Tape.{newest}
 use Rattle.mega_promises.specs.of_rules.Examples.{accept_for, accepted_from, cluster, entry_of, group, op_of}
 use Rattle.mega_tape_laws.specs.Places.{IsMajority}
 use Rattle.mega_tape_laws.specs.Lawful.{Carries, Heard, IsOwn, Lawful, Picked, asks, greatest, lowest, picks, raises, repeats, resends, settled, spreads, told}

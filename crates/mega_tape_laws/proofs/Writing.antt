@@ -14,9 +14,9 @@ use Rattle.mega_outcome.specs.declared.answer.Done.{Done}
 use Rattle.mega_outcome.specs.declared.transaction.Change.TheVariants.{Put}
 use Rattle.mega_outcome.specs.declared.transaction.Transaction.{Transaction}
 use Rattle.mega_outcome.specs.Outcome.{outcome}
-use Rattle.mega_transcript.specs.declared.item.Item.{Item}
-use Rattle.mega_transcript.specs.declared.item.Item.TheVariants.{Begin, Taken}
-use Rattle.mega_transcript.specs.Tape.{newest}
+use Rattle.mega_promises.specs.of_transcript.declared.item.Item.{Item}
+use Rattle.mega_promises.specs.of_transcript.declared.item.Item.TheVariants.{Begin, Taken}
+use Rattle.mega_promises.specs.of_transcript.Tape.{newest}
 use Rattle.mega_promises.specs.of_rules.Examples.{cluster, entry_of, group, op_of, schema, user}
 use Rattle.mega_tape_laws.specs.Lawful.{Heard, Lawful, asks, lowest, settled, spreads}
 use Rattle.mega_tape_laws.specs.Writes.{AreWritten, LawfulWrites, MayWrite, Own, OwnEntry, again, enters, fills, handles, own, runs, runs_all}

@@ -22,8 +22,8 @@ use Rattle.mega_outcome.specs.declared.request.ReadRequest.{ReadRequest}
 use Rattle.mega_outcome.specs.declared.transaction.Transaction.{Transaction}
 use Rattle.mega_outcome.specs.Outcome.{batch_outcome, outcome}
 use Rattle.mega_wal.specs.Same.{same_op}
-use Rattle.mega_transcript.specs.declared.item.Item.{Item}
-use Rattle.mega_transcript.specs.declared.item.Item.TheVariants.{Answer as AnswerItem, Decide, Sent}
+use Rattle.mega_promises.specs.of_transcript.declared.item.Item.{Item}
+use Rattle.mega_promises.specs.of_transcript.declared.item.Item.TheVariants.{Answer as AnswerItem, Decide, Sent}
 use Rattle.mega_promises.specs.of_rules.Steps.{is_current}
 use Rattle.mega_promises.specs.Promises.{Stands, asked_for, group_written, is_negative, is_write, rows_shown}
 use Rattle.mega_tape_laws.specs.Places.{In, Place, Proposes, moves}

@@ -8,8 +8,8 @@ use Rattle.mega_base.specs.declared.names.Epoch.{Epoch}
 use Rattle.mega_wire.specs.declared.message.Body.TheVariants.{Acquire, Granted as GrantedBody, Invalidate, Prepare, Promise, Refused, Top, Unheld, Where, Decide as Tell}
 use Rattle.mega_outcome.specs.declared.answer.Answer.TheVariants.{Committed, Conflict}
 use Rattle.mega_wal.specs.Acceptor.{Vote}
-use Rattle.mega_transcript.specs.declared.item.Item.{Item}
-use Rattle.mega_transcript.specs.declared.item.Item.TheVariants.{Answer, Begin, Crash, Decide, Sent, Start, Taken}
+use Rattle.mega_promises.specs.of_transcript.declared.item.Item.{Item}
+use Rattle.mega_promises.specs.of_transcript.declared.item.Item.TheVariants.{Answer, Begin, Crash, Decide, Sent, Start, Taken}
 use Rattle.mega_promises.specs.Items.{number}
 use Rattle.mega_promises.specs.of_rules.Met.{Met, Grants, Lapses, Starts, Takes, Ticks}
 use Rattle.mega_promises.specs.of_rules.Examples.{accept_for, accepted_from, entry_of, from_to, group, op_of, put}

@@ -13,8 +13,8 @@ use Rattle.mega_schema.specs.declared.schema.Schema.{Schema}
 use Rattle.mega_schema.specs.declared.schema.Table.{Table}
 use Rattle.mega_syntax.specs.declared.need.Need.TheVariants.{Required}
 use Rattle.mega_index.specs.Rows.{Listed}
-use Rattle.mega_transcript.specs.declared.item.Item.{Item}
-use Rattle.mega_transcript.specs.declared.item.Item.TheVariants.{Begin, Decide, Sent, Taken}
+use Rattle.mega_promises.specs.of_transcript.declared.item.Item.{Item}
+use Rattle.mega_promises.specs.of_transcript.declared.item.Item.TheVariants.{Begin, Decide, Sent, Taken}
 use Rattle.mega_promises.specs.Items.{number}
 use Rattle.mega_promises.specs.of_rules.Examples.{accept_for, accepted_from, cluster, group, op_of, user, users}
 use Rattle.mega_tape_laws.specs.Examples.{first}

@@ -11,8 +11,8 @@ use Rattle.mega_wire.specs.declared.message.Body.{Body}
 use Rattle.mega_wire.specs.declared.message.Body.TheVariants.{Accept, Prepare}
 use Rattle.mega_wal.specs.Acceptor.{Act}
 use Rattle.mega_wal.specs.Same.{same_group, same_op}
-use Rattle.mega_transcript.specs.declared.item.Item.{Item}
-use Rattle.mega_transcript.specs.declared.item.Item.TheVariants.{Sent, Unsent, Taken}
+use Rattle.mega_promises.specs.of_transcript.declared.item.Item.{Item}
+use Rattle.mega_promises.specs.of_transcript.declared.item.Item.TheVariants.{Sent, Unsent, Taken}
 use Rattle.mega_promises.specs.Promises.{Stands}
 use Rattle.mega_promises.specs.of_rules.Members.{voters}
 use Rattle.mega_promises.specs.of_rules.Voting.{act_in}

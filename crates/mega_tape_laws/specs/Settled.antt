@@ -9,11 +9,11 @@ use Rattle.mega_ballot.specs.declared.ballot.Ballot.{Ballot}
 use Rattle.mega_cluster.specs.declared.cluster.Cluster.{Cluster}
 use Rattle.mega_entry.specs.declared.content.Content.{Content}
 use Rattle.mega_wire.specs.declared.message.Body.TheVariants.{Accepted, Invalidate, Invalidated, Unheld}
-use Rattle.mega_transcript.specs.declared.item.Item.{Item}
+use Rattle.mega_promises.specs.of_transcript.declared.item.Item.{Item}
 use Rattle.mega_outcome.specs.declared.answer.Answer.TheVariants.{Batched, Committed}
 use Rattle.mega_outcome.specs.declared.answer.Shown.{Shown}
 use Rattle.mega_outcome.specs.declared.answer.Turn.{Turn}
-use Rattle.mega_transcript.specs.declared.item.Item.TheVariants.{Answer as AnswerItem, Decide, Sent}
+use Rattle.mega_promises.specs.of_transcript.declared.item.Item.TheVariants.{Answer as AnswerItem, Decide, Sent}
 use Rattle.mega_promises.specs.Items.{number}
 use Rattle.mega_promises.specs.Moments.{StoodOn}
 use Rattle.mega_promises.specs.Promises.{Stands}

@@ -18,8 +18,8 @@ use Rattle.mega_outcome.specs.declared.request.Request.TheVariants.{Txn, Batch a
 use Rattle.mega_outcome.specs.declared.transaction.Transaction.{Transaction}
 use Rattle.mega_outcome.specs.Outcome.{batch_outcome, entry_of_batch, entry_of_done, outcome}
 use Rattle.mega_wal.specs.Same.{same_op}
-use Rattle.mega_transcript.specs.declared.item.Item.{Item}
-use Rattle.mega_transcript.specs.declared.item.Item.TheVariants.{Begin, Decide, Sent}
+use Rattle.mega_promises.specs.of_transcript.declared.item.Item.{Item}
+use Rattle.mega_promises.specs.of_transcript.declared.item.Item.TheVariants.{Begin, Decide, Sent}
 use Rattle.mega_promises.specs.of_rules.Clock.{last_number}
 use Rattle.mega_promises.specs.of_rules.Queues.{Posted, enter_entry, is_named, names_entered, oldest_unhandled, sent_in}
 use Rattle.mega_promises.specs.Items.{number}

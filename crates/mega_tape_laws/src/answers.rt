@@ -9,8 +9,8 @@ ghost use Rattle.mega_outcome.specs.declared.answer.Answer.TheVariants.{Read as 
 ghost use Rattle.mega_outcome.specs.declared.answer.Shown.{Shown};
 ghost use Rattle.mega_outcome.specs.declared.request.ReadRequest.{ReadRequest};
 ghost use Rattle.mega_outcome.specs.declared.request.Request.TheVariants.{Read as ReadRequested};
-ghost use Rattle.mega_transcript.specs.declared.item.Item.{Item};
-ghost use Rattle.mega_transcript.specs.declared.item.Item.TheVariants.{Answer, Begin};
+ghost use Rattle.mega_promises.specs.of_transcript.declared.item.Item.{Item};
+ghost use Rattle.mega_promises.specs.of_transcript.declared.item.Item.TheVariants.{Answer, Begin};
 ghost use Rattle.mega_promises.specs.of_rules.Steps.{is_current};
 ghost use Rattle.mega_promises.specs.Promises.{IsSerial, Stands, log_of, rows_shown};
 ghost use Rattle.mega_tape_laws.specs.Answers.{LawfulAnswers};

@@ -8,8 +8,8 @@ ghost use Rattle.mega_coordinator.specs.declared.answers.NotValid.TheVariants.{B
 ghost use Rattle.mega_promises.specs.of_rules.Locks.{asked_for};
 ghost use Rattle.mega_promises.specs.of_rules.Coordinators.{refused_at};
 ghost use Rattle.mega_outcome.specs.declared.answer.Answer.TheVariants.{Conflict};
-ghost use Rattle.mega_transcript.specs.declared.item.Item.TheVariants.{Answer, Begin, Decide};
-ghost use Rattle.mega_transcript.specs.Tape.{newest};
+ghost use Rattle.mega_promises.specs.of_transcript.declared.item.Item.TheVariants.{Answer, Begin, Decide};
+ghost use Rattle.mega_promises.specs.of_transcript.Tape.{newest};
 ghost use Rattle.mega_promises.specs.Items.{number};
 ghost use Rattle.mega_promises.specs.Promises.{Stands, StoodBefore};
 ghost use Rattle.mega_promises.specs.of_rules.Examples.{cluster, entry_of, group, op_of};

@@ -16,7 +16,7 @@ ghost use Rattle.mega_outcome.specs.declared.transaction.Transaction.{Transactio
 ghost use Rattle.mega_outcome.specs.Changes.{all_changes, change};
 ghost use Rattle.mega_outcome.specs.Extends.{Extends, LookAtKnown};
 ghost use Rattle.mega_outcome.specs.Outcome.{outcome_in};
-ghost use Rattle.mega_transcript.specs.declared.item.Item.{Item};
+ghost use Rattle.mega_promises.specs.of_transcript.declared.item.Item.{Item};
 ghost use Rattle.mega_promises.specs.Promises.{log_of};
 ghost use Rattle.mega_promises.specs.of_rules.Examples.{group};
 ghost use Rattle.mega_tape_laws.specs.IndexExamples.{named_users};

@@ -11,7 +11,7 @@ ghost use Rattle.mega_entry.specs.declared.content.Name.{Name};
 ghost use Rattle.mega_handler.specs.Named.{Meanings};
 ghost use Rattle.mega_outcome.specs.declared.request.Request.{Request};
 ghost use Rattle.mega_promises.specs.of_rules.Queues.{entered_in, handled_in, names_entered, oldest_unhandled};
-ghost use Rattle.mega_transcript.specs.declared.item.Item.{Item};
+ghost use Rattle.mega_promises.specs.of_transcript.declared.item.Item.{Item};
 ghost use Rattle.mega_promises.specs.Promises.{AreMessages, WasSent, asked_for, comes_to, group_written, handled_by, is_write, log_of};
 ghost use Rattle.mega_tape_laws.specs.Writes.{LawfulWrites, OwnEntry, Usage};
 

@@ -14,9 +14,9 @@ use Rattle.mega_coordinator.specs.History.{Call, Ticks as Told, Grants as Grant,
 use Rattle.mega_coordinator.proofs.Validity.{validated_above}
 use Rattle.mega_wal.specs.Same.{same_group}
 use Rattle.mega_wal.proofs.Orders.{is_group_is}
-use Rattle.mega_rules.specs.Met.{Met, Counts, Serves, Validates, Invalidates}
-use Rattle.mega_rules.specs.Coordinators.{counts_notes, lost_note, validated}
-use Rattle.mega_tape_laws.proofs.Ballots.{number_is, number_self}
+use Rattle.mega_settled_laws.specs.of_tape_laws.of_promises.of_rules.Met.{Met, Counts, Serves, Validates, Invalidates}
+use Rattle.mega_settled_laws.specs.of_tape_laws.of_promises.of_rules.Coordinators.{counts_notes, lost_note, validated}
+use Rattle.mega_settled_laws.proofs.of_tape_laws.Ballots.{number_is, number_self}
 use Rattle.mega_valid_laws.specs.Showing.{next_valid}
 use Rattle.mega_valid_laws.proofs.Folds.{after_serving, after_valid}
 

@@ -7,13 +7,13 @@ use Rattle.mega_base.specs.declared.names.Position.{Position}
 use Rattle.mega_cluster.specs.declared.cluster.Cluster.{Cluster}
 use Rattle.mega_entry.specs.declared.content.Content.{Content}
 use Rattle.mega_handler.specs.Named.{Meanings}
-use Rattle.mega_transcript.specs.declared.item.Item.{Item}
-use Rattle.mega_transcript.specs.declared.item.Item.TheVariants.{Decide}
-use Rattle.mega_promises.specs.Promises.{Stands}
-use Rattle.mega_promises.specs.Runs.{Happening, IsRun}
-use Rattle.mega_rules.specs.Members.{full_nodes}
+use Rattle.mega_settled_laws.specs.of_tape_laws.of_promises.of_transcript.declared.item.Item.{Item}
+use Rattle.mega_settled_laws.specs.of_tape_laws.of_promises.of_transcript.declared.item.Item.TheVariants.{Decide}
+use Rattle.mega_settled_laws.specs.of_tape_laws.of_promises.Promises.{Stands}
+use Rattle.mega_settled_laws.specs.of_tape_laws.of_promises.Runs.{Happening, IsRun}
+use Rattle.mega_settled_laws.specs.of_tape_laws.of_promises.of_rules.Members.{full_nodes}
 use Rattle.mega_settled_laws.proofs.of_run_laws.Runs.{run_polls}
-use Rattle.mega_tape_laws.specs.Places.{In}
+use Rattle.mega_settled_laws.specs.of_tape_laws.Places.{In}
 use Rattle.mega_settled_laws.proofs.Behind.{run_decided}
 use Rattle.mega_valid_laws.specs.Leases.{AreLeased, HasAtLeast, IsHeld, IsTop, accepted, decided, valid_on}
 use Rattle.mega_valid_laws.proofs.Joint.{valid_has}

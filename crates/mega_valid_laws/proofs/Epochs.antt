@@ -6,15 +6,15 @@ use Rattle.mega_base.specs.declared.names.OpId.{OpId}
 use Rattle.mega_cluster.specs.declared.cluster.Cluster.{Cluster}
 use Rattle.mega_wire.specs.declared.message.Body.TheVariants.{Unheld}
 use Rattle.mega_wal.specs.History.{after_grant, after_lapse, is_epoch_below, is_same_epoch}
-use Rattle.mega_transcript.specs.declared.item.Item.{Item}
-use Rattle.mega_transcript.specs.declared.item.Item.TheVariants.{Counts, Crash, Forgets, Grant, Lapse, Lost, Sent, Serving, Start}
-use Rattle.mega_promises.specs.Items.{number}
-use Rattle.mega_promises.specs.Promises.{Stands, StoodBefore}
-use Rattle.mega_tape_laws.specs.Lawful.{message}
-use Rattle.mega_tape_laws.specs.Settled.{IsCellMajority}
-use Rattle.mega_tape_laws.proofs.Ballots.{number_is, number_self}
-use Rattle.mega_tape_laws.proofs.Lists.{some_is}
-use Rattle.mega_tape_laws.proofs.Majorities.{Shared}
+use Rattle.mega_settled_laws.specs.of_tape_laws.of_promises.of_transcript.declared.item.Item.{Item}
+use Rattle.mega_settled_laws.specs.of_tape_laws.of_promises.of_transcript.declared.item.Item.TheVariants.{Counts, Crash, Forgets, Grant, Lapse, Lost, Sent, Serving, Start}
+use Rattle.mega_settled_laws.specs.of_tape_laws.of_promises.Items.{number}
+use Rattle.mega_settled_laws.specs.of_tape_laws.of_promises.Promises.{Stands, StoodBefore}
+use Rattle.mega_settled_laws.specs.of_tape_laws.Lawful.{message}
+use Rattle.mega_settled_laws.specs.of_tape_laws.Settled.{IsCellMajority}
+use Rattle.mega_settled_laws.proofs.of_tape_laws.Ballots.{number_is, number_self}
+use Rattle.mega_settled_laws.proofs.of_tape_laws.Lists.{some_is}
+use Rattle.mega_settled_laws.proofs.of_tape_laws.Majorities.{Shared}
 use Rattle.mega_valid_laws.specs.Leases.{AreLeased, HoldsNone, IsHeld, IsLeased, NoneAbove, SaysFree, ServedBehind, counted_on, granted_on, serving_on}
 use Rattle.mega_valid_laws.proofs.Orders.{above_not, below_self, cells_meet, epoch_is, neither_below, stood_first}
 

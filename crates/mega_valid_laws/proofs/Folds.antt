@@ -5,14 +5,14 @@ use Rattle.mega_base.specs.declared.names.GroupId.{GroupId}
 use Rattle.mega_cluster.specs.declared.cluster.Cluster.{Cluster}
 use Rattle.mega_wal.specs.Same.{same_group}
 use Rattle.mega_wire.specs.declared.message.Message.{Message}
-use Rattle.mega_transcript.specs.declared.item.Item.{Item}
-use Rattle.mega_transcript.specs.declared.item.Item.TheVariants.{Answer, Apply, Begin, Counts as CountsItem, Crash, Cut as CutItem, Decide, Dropped, Forgets as ForgetsItem, Grant, Invalid, Lapse, Lost, Sent, Serving, Start, Taken, Tick, Unsafe, Unsent, Valid}
-use Rattle.mega_promises.specs.Items.{number, shown}
-use Rattle.mega_promises.specs.Messages.{is_unsafe}
-use Rattle.mega_promises.specs.Runs.{breaks, with_item, with_items}
-use Rattle.mega_rules.specs.Met.{Met, Starts, Crashes, Ticks, Begins, Takes, Sends, Unsends, Grants, Lapses, Counts, Forgets, Serves, Loses, Validates, Invalidates, Decides, Applies, Answers}
-use Rattle.mega_rules.specs.Operations.{Node}
-use Rattle.mega_rules.specs.Steps.{onto}
+use Rattle.mega_settled_laws.specs.of_tape_laws.of_promises.of_transcript.declared.item.Item.{Item}
+use Rattle.mega_settled_laws.specs.of_tape_laws.of_promises.of_transcript.declared.item.Item.TheVariants.{Answer, Apply, Begin, Counts as CountsItem, Crash, Cut as CutItem, Decide, Dropped, Forgets as ForgetsItem, Grant, Invalid, Lapse, Lost, Sent, Serving, Start, Taken, Tick, Unsafe, Unsent, Valid}
+use Rattle.mega_settled_laws.specs.of_tape_laws.of_promises.Items.{number, shown}
+use Rattle.mega_settled_laws.specs.of_tape_laws.of_promises.Messages.{is_unsafe}
+use Rattle.mega_settled_laws.specs.of_tape_laws.of_promises.Runs.{breaks, with_item, with_items}
+use Rattle.mega_settled_laws.specs.of_tape_laws.of_promises.of_rules.Met.{Met, Starts, Crashes, Ticks, Begins, Takes, Sends, Unsends, Grants, Lapses, Counts, Forgets, Serves, Loses, Validates, Invalidates, Decides, Applies, Answers}
+use Rattle.mega_settled_laws.specs.of_tape_laws.of_promises.of_rules.Operations.{Node}
+use Rattle.mega_settled_laws.specs.of_tape_laws.of_promises.of_rules.Steps.{onto}
 use Rattle.mega_settled_laws.specs.of_run_laws.Vouched.{sent}
 use Rattle.mega_settled_laws.proofs.of_run_laws.Noted.{with_append}
 use Rattle.mega_valid_laws.specs.Leases.{serving_on, valid_on}

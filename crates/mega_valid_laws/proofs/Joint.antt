@@ -12,17 +12,17 @@ use Rattle.mega_wire.specs.declared.message.Body.TheVariants.{Accepted, Dead, In
 use Rattle.mega_wal.specs.Acceptor.{Act, Voted}
 use Rattle.mega_wal.specs.Same.{same_group, same_op}
 use Rattle.mega_wal.proofs.Sames.{same_group_equal, same_group_self, same_op_self}
-use Rattle.mega_transcript.specs.declared.item.Item.{Item}
-use Rattle.mega_transcript.specs.declared.item.Item.TheVariants.{Crash, Decide, Invalid, Lost, Sent, Serving, Start, Valid}
-use Rattle.mega_promises.specs.Items.{number}
-use Rattle.mega_promises.specs.Promises.{Stands, StoodBefore}
-use Rattle.mega_rules.specs.Members.{full_nodes}
-use Rattle.mega_tape_laws.specs.Lawful.{message}
-use Rattle.mega_tape_laws.specs.Places.{In, Place, act_of, acts}
-use Rattle.mega_tape_laws.specs.Polls.{ArePolls, IsPolling, MayTell}
-use Rattle.mega_tape_laws.proofs.Ballots.{clash, number_is, number_self}
-use Rattle.mega_tape_laws.proofs.Lists.{in_tail, kept}
-use Rattle.mega_tape_laws.proofs.Majorities.{Shared, meet}
+use Rattle.mega_settled_laws.specs.of_tape_laws.of_promises.of_transcript.declared.item.Item.{Item}
+use Rattle.mega_settled_laws.specs.of_tape_laws.of_promises.of_transcript.declared.item.Item.TheVariants.{Crash, Decide, Invalid, Lost, Sent, Serving, Start, Valid}
+use Rattle.mega_settled_laws.specs.of_tape_laws.of_promises.Items.{number}
+use Rattle.mega_settled_laws.specs.of_tape_laws.of_promises.Promises.{Stands, StoodBefore}
+use Rattle.mega_settled_laws.specs.of_tape_laws.of_promises.of_rules.Members.{full_nodes}
+use Rattle.mega_settled_laws.specs.of_tape_laws.Lawful.{message}
+use Rattle.mega_settled_laws.specs.of_tape_laws.Places.{In, Place, act_of, acts}
+use Rattle.mega_settled_laws.specs.of_tape_laws.Polls.{ArePolls, IsPolling, MayTell}
+use Rattle.mega_settled_laws.proofs.of_tape_laws.Ballots.{clash, number_is, number_self}
+use Rattle.mega_settled_laws.proofs.of_tape_laws.Lists.{in_tail, kept}
+use Rattle.mega_settled_laws.proofs.of_tape_laws.Majorities.{Shared, meet}
 use Rattle.mega_settled_laws.proofs.Tapes.{polls_before}
 use Rattle.mega_settled_laws.specs.Covering.{Earlier, HasSettled, IsCoveredSince, WasCovered, asks_about, free, has_asked_about, invalidated, voted}
 use Rattle.mega_valid_laws.specs.Leases.{AreLeased, HasAtLeast, IsHeld, IsLeased, MayBeValid, MayFree, MayObey, ServedBehind, WasChosen, accepted, asks_end, decided, has_polled, serving_on, valid_on}

@@ -5,13 +5,13 @@ use Rattle.std.proofs.lemmas.List.FromFn.{length-range_with_len}
 use Rattle.mega_base.specs.declared.names.Epoch.{Epoch}
 use Rattle.mega_cluster.specs.declared.cluster.Cluster.{Cluster}
 use Rattle.mega_wal.specs.History.{is_epoch_below, is_same_epoch}
-use Rattle.mega_transcript.specs.declared.item.Item.{Item}
-use Rattle.mega_promises.specs.Promises.{Stands, StoodBefore}
-use Rattle.mega_rules.specs.Members.{cells}
-use Rattle.mega_tape_laws.specs.Places.{count}
-use Rattle.mega_tape_laws.specs.Settled.{IsCellMajority}
-use Rattle.mega_tape_laws.proofs.Ballots.{number_is}
-use Rattle.mega_tape_laws.proofs.Majorities.{Shared}
+use Rattle.mega_settled_laws.specs.of_tape_laws.of_promises.of_transcript.declared.item.Item.{Item}
+use Rattle.mega_settled_laws.specs.of_tape_laws.of_promises.Promises.{Stands, StoodBefore}
+use Rattle.mega_settled_laws.specs.of_tape_laws.of_promises.of_rules.Members.{cells}
+use Rattle.mega_settled_laws.specs.of_tape_laws.Places.{count}
+use Rattle.mega_settled_laws.specs.of_tape_laws.Settled.{IsCellMajority}
+use Rattle.mega_settled_laws.proofs.of_tape_laws.Ballots.{number_is}
+use Rattle.mega_settled_laws.proofs.of_tape_laws.Majorities.{Shared}
 use Rattle.mega_settled_laws.specs.Covering.{Earlier}
 
 -- ---- epochs

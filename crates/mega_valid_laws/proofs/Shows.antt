@@ -4,20 +4,20 @@ use Rattle.mega_base.specs.declared.names.GroupId.{GroupId}
 use Rattle.mega_cluster.specs.declared.cluster.Cluster.{Cluster}
 use Rattle.mega_handler.specs.Named.{Meanings}
 use Rattle.mega_wire.specs.declared.message.Message.{Message}
-use Rattle.mega_transcript.specs.declared.item.Item.{Item}
-use Rattle.mega_transcript.specs.declared.item.Item.TheVariants.{Begin as BeginItem, Crash, Cut as CutItem, Dropped, Taken, Tick as TickItem}
-use Rattle.mega_transcript.specs.Tape.{sent_count}
-use Rattle.mega_promises.specs.Items.{number, numbered, shown}
-use Rattle.mega_promises.specs.Runs.{CutByData, CutByLog, Fate, Fuse, Happening, IsRun, Left, Standing, Whole, calls_of, crashes, cut_step, fate_by, fated, fated_start, goes_on, is_durable, is_kept, marked, met_in, nothing_yet, opening, owes, replies_in, set_at, setting, whole_step, with_item, with_items}
-use Rattle.mega_rules.specs.Met.{Met, Starts, Crashes, Takes, Sends, Unsends, Grants, Lapses, Decides, Applies}
-use Rattle.mega_rules.specs.Clock.{clock_of, is_up}
-use Rattle.mega_rules.specs.Coordinators.{serves_at, valid_at}
-use Rattle.mega_rules.specs.Logs.{groups_of, prefix_of}
-use Rattle.mega_rules.specs.Members.{has_rows, is_full}
-use Rattle.mega_rules.specs.Operations.{Node, Setting}
-use Rattle.mega_rules.specs.Replies.{reply_to}
-use Rattle.mega_rules.specs.Steps.{Begin, Decision, Event, Heard, Step, Take, Tick, crashed, first_settled, hears_message, if_new, news, onto, op_of, start, start_items, start_note, start_notes, step, taken, told_decision, told_notes}
-use Rattle.mega_tape_laws.proofs.Ballots.{number_is}
+use Rattle.mega_settled_laws.specs.of_tape_laws.of_promises.of_transcript.declared.item.Item.{Item}
+use Rattle.mega_settled_laws.specs.of_tape_laws.of_promises.of_transcript.declared.item.Item.TheVariants.{Begin as BeginItem, Crash, Cut as CutItem, Dropped, Taken, Tick as TickItem}
+use Rattle.mega_settled_laws.specs.of_tape_laws.of_promises.of_transcript.Tape.{sent_count}
+use Rattle.mega_settled_laws.specs.of_tape_laws.of_promises.Items.{number, numbered, shown}
+use Rattle.mega_settled_laws.specs.of_tape_laws.of_promises.Runs.{CutByData, CutByLog, Fate, Fuse, Happening, IsRun, Left, Standing, Whole, calls_of, crashes, cut_step, fate_by, fated, fated_start, goes_on, is_durable, is_kept, marked, met_in, nothing_yet, opening, owes, replies_in, set_at, setting, whole_step, with_item, with_items}
+use Rattle.mega_settled_laws.specs.of_tape_laws.of_promises.of_rules.Met.{Met, Starts, Crashes, Takes, Sends, Unsends, Grants, Lapses, Decides, Applies}
+use Rattle.mega_settled_laws.specs.of_tape_laws.of_promises.of_rules.Clock.{clock_of, is_up}
+use Rattle.mega_settled_laws.specs.of_tape_laws.of_promises.of_rules.Coordinators.{serves_at, valid_at}
+use Rattle.mega_settled_laws.specs.of_tape_laws.of_promises.of_rules.Logs.{groups_of, prefix_of}
+use Rattle.mega_settled_laws.specs.of_tape_laws.of_promises.of_rules.Members.{has_rows, is_full}
+use Rattle.mega_settled_laws.specs.of_tape_laws.of_promises.of_rules.Operations.{Node, Setting}
+use Rattle.mega_settled_laws.specs.of_tape_laws.of_promises.of_rules.Replies.{reply_to}
+use Rattle.mega_settled_laws.specs.of_tape_laws.of_promises.of_rules.Steps.{Begin, Decision, Event, Heard, Step, Take, Tick, crashed, first_settled, hears_message, if_new, news, onto, op_of, start, start_items, start_note, start_notes, step, taken, told_decision, told_notes}
+use Rattle.mega_settled_laws.proofs.of_tape_laws.Ballots.{number_is}
 use Rattle.mega_settled_laws.specs.of_run_laws.Vouched.{Each, sent}
 use Rattle.mega_settled_laws.proofs.of_run_laws.Events.{onto_append}
 use Rattle.mega_settled_laws.proofs.of_run_laws.Noted.{with_append, with_sent}

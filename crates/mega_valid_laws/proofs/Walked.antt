@@ -18,18 +18,18 @@ use Rattle.mega_outcome.specs.declared.request.Request.{Request}
 use Rattle.mega_wire.specs.declared.message.Message.{Message}
 use Rattle.mega_wire.specs.declared.message.Body.{Body}
 use Rattle.mega_wire.specs.declared.message.Body.TheVariants.{Acquire, Granted, Invalidate, Past}
-use Rattle.mega_read.specs.declared.reading.Stage.TheVariants.{Catching}
-use Rattle.mega_read.specs.declared.reading.Search.{Search}
-use Rattle.mega_rules.specs.Met.{Met, Starts, Crashes, Ticks, Begins, Takes, Sends, Unsends, Grants, Lapses, Counts, Forgets, Serves, Loses, Validates, Invalidates, Decides, Applies, Answers}
-use Rattle.mega_rules.specs.Clock.{clock_of, start_of}
-use Rattle.mega_rules.specs.Coordinators.{acquires_at, coordinator_calls, counts_notes, forget_notes, grant_notes, is_cell_in, lost_note, refused_at, tick_told, told_by, validated}
-use Rattle.mega_rules.specs.Locks.{asked_for, cell_calls, grant_note, lapse_note, lapses_at}
-use Rattle.mega_rules.specs.Logs.{groups_of}
-use Rattle.mega_rules.specs.Members.{cells, has_rows, is_full, keep_of}
-use Rattle.mega_rules.specs.Operations.{Node, Now, Operation, Setting}
-use Rattle.mega_rules.specs.Acting.{completes_read, ends, sends_more, validated_by}
-use Rattle.mega_rules.specs.Steps.{Begin, Decision, Event, Heard, Step, Take, Tick, acts_in_turn, all_act, applied_at, apply_note, apply_notes, at_first, at_open, background, begin_step, decision_note, does_due, first_settled, hears_message, if_new, is_out, lapse_notes, last_answer, lease_notes, new_operation, news, onto, op_of, portion_of, refusal, step, stored_after, take_step, taken, tick_step, ticked, told_decision, told_notes, unless_refused}
-use Rattle.mega_rules.specs.Replies.{reply_to}
+use Rattle.mega_settled_laws.specs.of_tape_laws.of_promises.of_rules.of_read.declared.reading.Stage.TheVariants.{Catching}
+use Rattle.mega_settled_laws.specs.of_tape_laws.of_promises.of_rules.of_read.declared.reading.Search.{Search}
+use Rattle.mega_settled_laws.specs.of_tape_laws.of_promises.of_rules.Met.{Met, Starts, Crashes, Ticks, Begins, Takes, Sends, Unsends, Grants, Lapses, Counts, Forgets, Serves, Loses, Validates, Invalidates, Decides, Applies, Answers}
+use Rattle.mega_settled_laws.specs.of_tape_laws.of_promises.of_rules.Clock.{clock_of, start_of}
+use Rattle.mega_settled_laws.specs.of_tape_laws.of_promises.of_rules.Coordinators.{acquires_at, coordinator_calls, counts_notes, forget_notes, grant_notes, is_cell_in, lost_note, refused_at, tick_told, told_by, validated}
+use Rattle.mega_settled_laws.specs.of_tape_laws.of_promises.of_rules.Locks.{asked_for, cell_calls, grant_note, lapse_note, lapses_at}
+use Rattle.mega_settled_laws.specs.of_tape_laws.of_promises.of_rules.Logs.{groups_of}
+use Rattle.mega_settled_laws.specs.of_tape_laws.of_promises.of_rules.Members.{cells, has_rows, is_full, keep_of}
+use Rattle.mega_settled_laws.specs.of_tape_laws.of_promises.of_rules.Operations.{Node, Now, Operation, Setting}
+use Rattle.mega_settled_laws.specs.of_tape_laws.of_promises.of_rules.Acting.{completes_read, ends, sends_more, validated_by}
+use Rattle.mega_settled_laws.specs.of_tape_laws.of_promises.of_rules.Steps.{Begin, Decision, Event, Heard, Step, Take, Tick, acts_in_turn, all_act, applied_at, apply_note, apply_notes, at_first, at_open, background, begin_step, decision_note, does_due, first_settled, hears_message, if_new, is_out, lapse_notes, last_answer, lease_notes, new_operation, news, onto, op_of, portion_of, refusal, step, stored_after, take_step, taken, tick_step, ticked, told_decision, told_notes, unless_refused}
+use Rattle.mega_settled_laws.specs.of_tape_laws.of_promises.of_rules.Replies.{reply_to}
 use Rattle.mega_settled_laws.specs.of_run_laws.Vouched.{Each}
 use Rattle.mega_settled_laws.proofs.of_run_laws.Events.{IsAnswer, onto_append}
 use Rattle.mega_settled_laws.proofs.of_run_laws.Turns.{each_on}

@@ -8,20 +8,20 @@ use Rattle.mega_entry.specs.declared.content.Content.{Content}
 use Rattle.mega_wire.specs.declared.message.Body.TheVariants.{Accepted, Top}
 use Rattle.mega_wal.specs.Acceptor.{Voted}
 use Rattle.mega_wal.specs.History.{is_epoch_below}
-use Rattle.mega_transcript.specs.declared.item.Item.{Item}
-use Rattle.mega_transcript.specs.declared.item.Item.TheVariants.{Counts, Decide, Grant, Invalid, Lapse, Serving, Valid}
-use Rattle.mega_transcript.specs.Tape.{newest}
-use Rattle.mega_promises.specs.Items.{number}
-use Rattle.mega_promises.specs.Promises.{Stands}
-use Rattle.mega_rules.specs.Examples.{cluster, entry_of, group, op_of}
-use Rattle.mega_rules.specs.Members.{full_nodes}
-use Rattle.mega_rules.specs.Voting.{act_if}
-use Rattle.mega_tape_laws.specs.Examples.{all_accept, first, place}
-use Rattle.mega_tape_laws.specs.Lawful.{Heard}
-use Rattle.mega_tape_laws.specs.Places.{In}
-use Rattle.mega_tape_laws.specs.Polls.{ArePolls}
-use Rattle.mega_tape_laws.proofs.Ballots.{number_is}
-use Rattle.mega_tape_laws.proofs.Witnesses.{first_two, two_of_three}
+use Rattle.mega_settled_laws.specs.of_tape_laws.of_promises.of_transcript.declared.item.Item.{Item}
+use Rattle.mega_settled_laws.specs.of_tape_laws.of_promises.of_transcript.declared.item.Item.TheVariants.{Counts, Decide, Grant, Invalid, Lapse, Serving, Valid}
+use Rattle.mega_settled_laws.specs.of_tape_laws.of_promises.of_transcript.Tape.{newest}
+use Rattle.mega_settled_laws.specs.of_tape_laws.of_promises.Items.{number}
+use Rattle.mega_settled_laws.specs.of_tape_laws.of_promises.Promises.{Stands}
+use Rattle.mega_settled_laws.specs.of_tape_laws.of_promises.of_rules.Examples.{cluster, entry_of, group, op_of}
+use Rattle.mega_settled_laws.specs.of_tape_laws.of_promises.of_rules.Members.{full_nodes}
+use Rattle.mega_settled_laws.specs.of_tape_laws.of_promises.of_rules.Voting.{act_if}
+use Rattle.mega_settled_laws.specs.of_tape_laws.Examples.{all_accept, first, place}
+use Rattle.mega_settled_laws.specs.of_tape_laws.Lawful.{Heard}
+use Rattle.mega_settled_laws.specs.of_tape_laws.Places.{In}
+use Rattle.mega_settled_laws.specs.of_tape_laws.Polls.{ArePolls}
+use Rattle.mega_settled_laws.proofs.of_tape_laws.Ballots.{number_is}
+use Rattle.mega_settled_laws.proofs.of_tape_laws.Witnesses.{first_two, two_of_three}
 use Rattle.mega_settled_laws.specs.Covering.{IsCoveredSince, WasCovered, voted}
 use Rattle.mega_valid_laws.specs.Leases.{AreLeased, IsHeld, MayBeValid, MayServe, NoneAbove}
 use Rattle.mega_valid_laws.specs.Examples.{epoch, granted, polling, served, validated}

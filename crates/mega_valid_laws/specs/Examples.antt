@@ -2,12 +2,12 @@
 use Rattle.std.specs.Prelude.{List, [], ◌∷◌, ◌++◌}
 use Rattle.mega_base.specs.declared.names.Epoch.{Epoch}
 use Rattle.mega_wire.specs.declared.message.Body.TheVariants.{Top, Where}
-use Rattle.mega_transcript.specs.declared.item.Item.{Item}
-use Rattle.mega_transcript.specs.declared.item.Item.TheVariants.{Counts, Decide, Grant, Sent, Serving, Taken, Valid}
-use Rattle.mega_transcript.specs.Tape.{newest}
-use Rattle.mega_promises.specs.Items.{number}
-use Rattle.mega_rules.specs.Examples.{entry_of, from_to, group, op_of}
-use Rattle.mega_tape_laws.specs.Examples.{all_accept, first}
+use Rattle.mega_settled_laws.specs.of_tape_laws.of_promises.of_transcript.declared.item.Item.{Item}
+use Rattle.mega_settled_laws.specs.of_tape_laws.of_promises.of_transcript.declared.item.Item.TheVariants.{Counts, Decide, Grant, Sent, Serving, Taken, Valid}
+use Rattle.mega_settled_laws.specs.of_tape_laws.of_promises.of_transcript.Tape.{newest}
+use Rattle.mega_settled_laws.specs.of_tape_laws.of_promises.Items.{number}
+use Rattle.mega_settled_laws.specs.of_tape_laws.of_promises.of_rules.Examples.{entry_of, from_to, group, op_of}
+use Rattle.mega_settled_laws.specs.of_tape_laws.Examples.{all_accept, first}
 
 abbrev pub epoch : Epoch
 epoch = record { start = 1; count = 0 }

@@ -14,14 +14,14 @@ use Rattle.mega_wire.specs.declared.message.Body.{Body}
 use Rattle.mega_wire.specs.declared.message.Body.TheVariants.{Accepted, Dead, Invalidate, Invalidated, Top, Unheld, Where}
 use Rattle.mega_wal.specs.History.{after_grant, after_lapse, is_epoch_below, is_same_epoch}
 use Rattle.mega_wal.specs.Same.{same_group, same_op}
-use Rattle.mega_transcript.specs.declared.item.Item.{Item}
-use Rattle.mega_transcript.specs.declared.item.Item.TheVariants.{Counts, Crash, Decide, Forgets, Grant, Invalid, Lapse, Lost, Sent, Serving, Start, Valid}
-use Rattle.mega_promises.specs.Items.{number}
-use Rattle.mega_promises.specs.Promises.{Stands, StoodBefore}
-use Rattle.mega_tape_laws.specs.Chosen.{Chosen}
-use Rattle.mega_tape_laws.specs.Lawful.{Heard, message}
-use Rattle.mega_tape_laws.specs.Places.{IsMajority, Place}
-use Rattle.mega_tape_laws.specs.Settled.{IsCellMajority}
+use Rattle.mega_settled_laws.specs.of_tape_laws.of_promises.of_transcript.declared.item.Item.{Item}
+use Rattle.mega_settled_laws.specs.of_tape_laws.of_promises.of_transcript.declared.item.Item.TheVariants.{Counts, Crash, Decide, Forgets, Grant, Invalid, Lapse, Lost, Sent, Serving, Start, Valid}
+use Rattle.mega_settled_laws.specs.of_tape_laws.of_promises.Items.{number}
+use Rattle.mega_settled_laws.specs.of_tape_laws.of_promises.Promises.{Stands, StoodBefore}
+use Rattle.mega_settled_laws.specs.of_tape_laws.Chosen.{Chosen}
+use Rattle.mega_settled_laws.specs.of_tape_laws.Lawful.{Heard, message}
+use Rattle.mega_settled_laws.specs.of_tape_laws.Places.{IsMajority, Place}
+use Rattle.mega_settled_laws.specs.of_tape_laws.Settled.{IsCellMajority}
 use Rattle.mega_settled_laws.specs.Covering.{Earlier}
 
 -- ---- what a tape tells

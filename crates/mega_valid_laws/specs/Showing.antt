@@ -3,7 +3,7 @@ use Rattle.std.specs.Prelude.{Bool, true, false, if◌then◌else◌, List, [], 
 use Rattle.mega_base.specs.declared.names.Epoch.{Epoch}
 use Rattle.mega_base.specs.declared.names.GroupId.{GroupId}
 use Rattle.mega_wal.specs.Same.{same_group}
-use Rattle.mega_rules.specs.Met.{Met, Crashes, Invalidates, Loses, Serves, Starts, Validates}
+use Rattle.mega_settled_laws.specs.of_tape_laws.of_promises.of_rules.Met.{Met, Crashes, Invalidates, Loses, Serves, Starts, Validates}
 
 abbrev pub next_serving : Met → Option Epoch → Option Epoch
 next_serving (Serves epoch) before = Some epoch

@@ -27,8 +27,8 @@ use Rattle.mega_member_laws.specs.Nodes.{EventWithin, ItemWithin, MetWithin, Sta
 use Rattle.mega_promises.specs.Items.{number, numbered, shown}
 use Rattle.mega_promises.specs.Messages.{is_unsafe, message_of}
 use Rattle.mega_promises.specs.Runs.{Standing, at_node, by_fuse, has_lapsed, is_kept, left_by, met_in, owes, replies_in, set_at, setting, whole_step, with_items}
-use Rattle.mega_durable.specs.of_core.declared.step.Step.{Step}
-use Rattle.mega_durable.specs.of_core.Notes.{met_of}
+use Rattle.mega_durable.specs.of_core.of_stepping.declared.step.Step.{Step}
+use Rattle.mega_durable.specs.of_core.of_stepping.Notes.{met_of}
 use Rattle.mega_places.specs.declared.safety.Safety.{Safety}
 use Rattle.mega_places.specs.declared.stepping.Stepped.{Stepped}
 use Rattle.mega_places.specs.declared.stepping.Stepped.TheVariants as stepped

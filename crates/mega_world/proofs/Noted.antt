@@ -13,9 +13,9 @@ use Rattle.mega_transcript.proofs.Tapes.{onto-append}
 use Rattle.mega_rules.specs.Met.{Met}
 use Rattle.mega_rules.specs.Operations.{Node as RuleNode}
 use Rattle.mega_rules.specs.Steps.{onto as met_onto}
-use Rattle.mega_durable.specs.of_core.declared.note.Note.{Note}
-use Rattle.mega_durable.specs.of_core.declared.step.Step.{Step}
-use Rattle.mega_durable.specs.of_core.Notes.{met_of}
+use Rattle.mega_durable.specs.of_core.of_stepping.declared.note.Note.{Note}
+use Rattle.mega_durable.specs.of_core.of_stepping.declared.step.Step.{Step}
+use Rattle.mega_durable.specs.of_core.of_stepping.Notes.{met_of}
 use Rattle.mega_promises.specs.Items.{numbered, shown}
 use Rattle.mega_promises.specs.Messages.{is_unsafe}
 use Rattle.mega_promises.specs.Runs.{set_at, with_items}

@@ -10,7 +10,7 @@ use Rattle.mega_rules.specs.Replies.{reply_to}
 use Rattle.mega_node_laws.specs.Acted.{decision_in, or_settled}
 use Rattle.mega_node_laws.proofs.Ending.{taken_by}
 use Rattle.mega_format_laws.specs.Histories.{IsMet}
-use Rattle.mega_durable.specs.of_core.Placed.{IsPlaced}
+use Rattle.mega_durable.specs.of_core.of_stepping.Placed.{IsPlaced}
 
 front : (xs ys : List Met) → IsMet (xs ++ ys) → IsMet xs
 front [] ys each = tt

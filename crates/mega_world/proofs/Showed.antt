@@ -15,7 +15,7 @@ use Rattle.mega_transcript.proofs.Tapes.{newest-append, onto-append}
 use Rattle.mega_rules.specs.Met.{Met, Unsends}
 use Rattle.mega_rules.specs.Operations.{Node as RuleNode}
 use Rattle.mega_rules.specs.Steps.{onto as met_onto}
-use Rattle.mega_durable.specs.of_core.Notes.{met_of}
+use Rattle.mega_durable.specs.of_core.of_stepping.Notes.{met_of}
 use Rattle.mega_durable.specs.declared.cut.Cut.{Cut}
 use Rattle.mega_durable.specs.Replying.{owed_by}
 use Rattle.mega_promises.specs.Items.{number, shown}

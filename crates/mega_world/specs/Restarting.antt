@@ -4,7 +4,7 @@ use Rattle.mega_cluster.specs.declared.cluster.Cluster.{Cluster}
 use Rattle.mega_handler.specs.Named.{Meanings}
 use Rattle.mega_rules.specs.Met.{Starts}
 use Rattle.mega_rules.specs.Steps.{onto, start, start_items, start_notes}
-use Rattle.mega_durable.specs.of_core.Notes.{met_of}
+use Rattle.mega_durable.specs.of_core.of_stepping.Notes.{met_of}
 use Rattle.mega_promises.specs.Runs.{Standing, cut_start, is_burning, left_by, set_at, setting, whole_start}
 use Rattle.mega_places.specs.declared.place.Place.{Place}
 use Rattle.mega_world.specs.declared.restarting.Shown.{Shown}

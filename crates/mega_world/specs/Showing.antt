@@ -8,9 +8,9 @@ use Rattle.mega_transcript.specs.Lines.{HasLine}
 use Rattle.mega_transcript.specs.Tape.{newest, sent_count}
 use Rattle.mega_rules.specs.Operations.{Node as RuleNode}
 use Rattle.mega_rules.specs.Steps.{onto}
-use Rattle.mega_durable.specs.of_core.declared.note.Note.{Note}
-use Rattle.mega_durable.specs.of_core.declared.step.Step.{Step}
-use Rattle.mega_durable.specs.of_core.Notes.{met_of}
+use Rattle.mega_durable.specs.of_core.of_stepping.declared.note.Note.{Note}
+use Rattle.mega_durable.specs.of_core.of_stepping.declared.step.Step.{Step}
+use Rattle.mega_durable.specs.of_core.of_stepping.Notes.{met_of}
 use Rattle.mega_promises.specs.Items.{number, numbered}
 use Rattle.mega_promises.specs.Runs.{has_lapsed, set_at, with_items}
 use Rattle.mega_places.specs.declared.stepping.Stepped.{Stepped}

@@ -23,10 +23,8 @@ use crate::world::World;
 use mega_base::{Copied, Items, NodeId};
 use mega_cluster::Cluster;
 use mega_durable::Cut;
-use mega_durable::mega_core::Note;
-use mega_places::{
-    Begun, Fallen, NotBegun, Place, WorldFault, is_node, is_up, put_place, take_place,
-};
+use mega_durable::mega_core::mega_stepping::Note;
+use mega_places::{Begun, Fallen, NotBegun, Place, WorldFault, is_node, is_up, put_place, take_place};
 use mega_transcript::{Item, Tape};
 use std::alloc::Global;
 

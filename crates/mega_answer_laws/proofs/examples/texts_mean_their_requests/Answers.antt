@@ -1,5 +1,5 @@
 use Rattle.std.proofs.Common.{[], refl}
-use Rattle.mega_run_laws.specs.Usages.{Brought}
+use Rattle.mega_cause_laws.specs.of_run_laws.Usages.{Brought}
 use Rattle.mega_answer_laws.specs.Examples.{many_words}
 use Rattle.mega_answer_laws.proofs.examples.texts_mean_their_requests.Goals as goal
 

@@ -1,4 +1,4 @@
-use Rattle.mega_promises.specs.Promises.{log_of}
+use Rattle.mega_leased_laws.specs.of_run_laws.of_tape_laws.of_promises.Promises.{log_of}
 use Rattle.mega_calm_laws.proofs.Requests.{transaction_is_committed}
 use Rattle.mega_calm_laws.proofs.calm_transactions.a_calm_transaction_is_committed.Goals as goal
 

@@ -1,4 +1,4 @@
-use Rattle.mega_promises.specs.Promises.{log_of}
+use Rattle.mega_leased_laws.specs.of_run_laws.of_tape_laws.of_promises.Promises.{log_of}
 use Rattle.mega_calm_laws.specs.Next.{run_of}
 use Rattle.mega_calm_laws.proofs.Beginning.{full_votes}
 use Rattle.mega_calm_laws.proofs.Leading.{has_leader}

@@ -6,18 +6,18 @@ use Rattle.std.proofs.lemmas.Bool.Decides.{nat_tests}
 use Rattle.mega_wire.specs.declared.message.Message.{Message}
 use Rattle.mega_ballot.specs.Order.{zero_ballot}
 use Rattle.mega_wal.specs.Acceptor.{Act, Voted, best}
-use Rattle.mega_transcript.specs.declared.item.Item.{Item}
-use Rattle.mega_transcript.specs.declared.item.Item.TheVariants.{Sent}
-use Rattle.mega_transcript.specs.Tape.{is_sent, is_taken, sent_count}
-use Rattle.mega_rules.specs.Clock.{is_up}
-use Rattle.mega_rules.specs.Examples.{cluster, entry_of, group}
-use Rattle.mega_rules.specs.Logs.{decided}
-use Rattle.mega_rules.specs.Members.{is_node}
-use Rattle.mega_rules.specs.Steps.{is_worn}
-use Rattle.mega_rules.specs.Voting.{act_if, acts}
-use Rattle.mega_promises.specs.Calm.{IsCalm, IsCalmAt, is_for}
-use Rattle.mega_promises.specs.Messages.{is_dropped}
-use Rattle.mega_promises.specs.Promises.{Stands}
+use Rattle.mega_leased_laws.specs.of_run_laws.of_tape_laws.of_promises.of_transcript.declared.item.Item.{Item}
+use Rattle.mega_leased_laws.specs.of_run_laws.of_tape_laws.of_promises.of_transcript.declared.item.Item.TheVariants.{Sent}
+use Rattle.mega_leased_laws.specs.of_run_laws.of_tape_laws.of_promises.of_transcript.Tape.{is_sent, is_taken, sent_count}
+use Rattle.mega_leased_laws.specs.of_run_laws.of_tape_laws.of_promises.of_rules.Clock.{is_up}
+use Rattle.mega_leased_laws.specs.of_run_laws.of_tape_laws.of_promises.of_rules.Examples.{cluster, entry_of, group}
+use Rattle.mega_leased_laws.specs.of_run_laws.of_tape_laws.of_promises.of_rules.Logs.{decided}
+use Rattle.mega_leased_laws.specs.of_run_laws.of_tape_laws.of_promises.of_rules.Members.{is_node}
+use Rattle.mega_leased_laws.specs.of_run_laws.of_tape_laws.of_promises.of_rules.Steps.{is_worn}
+use Rattle.mega_leased_laws.specs.of_run_laws.of_tape_laws.of_promises.of_rules.Voting.{act_if, acts}
+use Rattle.mega_leased_laws.specs.of_run_laws.of_tape_laws.of_promises.Calm.{IsCalm, IsCalmAt, is_for}
+use Rattle.mega_leased_laws.specs.of_run_laws.of_tape_laws.of_promises.Messages.{is_dropped}
+use Rattle.mega_leased_laws.specs.of_run_laws.of_tape_laws.of_promises.Promises.{Stands}
 use Rattle.mega_calm_laws.specs.Examples.{started_again}
 use Rattle.mega_calm_laws.proofs.Draining.{none_passes}
 use Rattle.mega_calm_laws.proofs.Mail.{number_is}

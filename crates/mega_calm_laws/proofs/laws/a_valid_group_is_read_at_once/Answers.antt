@@ -1,5 +1,5 @@
-use Rattle.mega_promises.specs.Runs.{setting}
-use Rattle.mega_promises.specs.Promises.{log_of}
+use Rattle.mega_leased_laws.specs.of_run_laws.of_tape_laws.of_promises.Runs.{setting}
+use Rattle.mega_leased_laws.specs.of_run_laws.of_tape_laws.of_promises.Promises.{log_of}
 use Rattle.mega_calm_laws.proofs.Beginning.{read_at_once, shows_rows}
 use Rattle.mega_calm_laws.proofs.laws.a_valid_group_is_read_at_once.Goals as goal
 

@@ -1,4 +1,4 @@
-use Rattle.mega_promises.specs.Runs.{goes_on, opening}
+use Rattle.mega_leased_laws.specs.of_run_laws.of_tape_laws.of_promises.Runs.{goes_on, opening}
 use Rattle.mega_calm_laws.proofs.Beginning.{full_node}
 use Rattle.mega_calm_laws.proofs.Numbering.{run_numbered}
 use Rattle.mega_calm_laws.proofs.Quieting.{falls_quiet}

@@ -1,5 +1,5 @@
-use Rattle.mega_promises.specs.Promises.{log_of}
-use Rattle.mega_promises.specs.Runs.{goes_on, opening, setting}
+use Rattle.mega_leased_laws.specs.of_run_laws.of_tape_laws.of_promises.Promises.{log_of}
+use Rattle.mega_leased_laws.specs.of_run_laws.of_tape_laws.of_promises.Runs.{goes_on, opening, setting}
 use Rattle.mega_calm_laws.proofs.Beginning.{read_answered, shows_rows}
 use Rattle.mega_calm_laws.proofs.Numbering.{run_numbered}
 use Rattle.mega_calm_laws.proofs.Stocking.{run_stocked}

@@ -3,7 +3,7 @@ use Rattle.mega_handler.specs.Named.{Meanings}
 use Rattle.mega_outcome.specs.declared.answer.Answer.{Answer}
 use Rattle.mega_rules.specs.Operations.{Now}
 use Rattle.mega_actions.specs.of_marks.AreMarked.{AreMarked, IsIndexed}
-use Rattle.mega_actions.specs.Faults.{failed_by}
+use Rattle.mega_actions.specs.of_finishing.Faults.{failed_by}
 use Rattle.mega_actions.specs.IsAt.{IsAt}
 use Rattle.mega_core.specs.Beginning.{marks_unless}
 use Rattle.mega_core.proofs.Failing.{fares_apart}

@@ -1,12 +1,10 @@
-use Rattle.std.proofs.Common.{◌≡◌, ◌∙◌, ◌++◌, ℕ, List, [], ap, map, flat_map, append_assoc, append-nil, subst, sym, rules}
+use Rattle.std.proofs.Common.{◌≡◌, ◌∙◌, ◌++◌, List, [], ap, map, flat_map, append-nil, subst, sym, rules}
 use Rattle.std.specs.Vec.Iter.{into_iter_items, into_iter_len}
 use Rattle.mega_base.specs.declared.names.GroupId.{GroupId}
-use Rattle.mega_rules.specs.Met.{Met}
-use Rattle.mega_rules.specs.Logs.{groups_of}
 use Rattle.mega_rules.specs.Steps.{start_note}
 use Rattle.mega_replica.specs.Following.{progress_at}
-use Rattle.mega_core.specs.Notes.{met_of}
-use Rattle.mega_core.proofs.Left.{nothing_left, one_less}
+use Rattle.mega_stepping.specs.Notes.{met_of}
+use Rattle.mega_stepping.proofs.Left.{nothing_left, one_less}
 use Rattle.mega_core.proofs.Anew.{AppliedSo, applied_first, applied_last, applied_next, noted}
 use Rattle.mega_core.proofs.restarting.apply_all.Goals as goal
 

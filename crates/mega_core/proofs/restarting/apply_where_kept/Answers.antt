@@ -1,4 +1,4 @@
-use Rattle.std.proofs.Common.{◌≡◌, ◌∙◌, ℕ, Bool, true, false, ap, cond, subst, sym}
+use Rattle.std.proofs.Common.{◌≡◌, ◌∙◌, ℕ, true, false, ap, cond, subst, sym}
 use Rattle.mega_base.specs.declared.names.GroupId.{GroupId}
 use Rattle.mega_replica.specs.Following.{Follows, progress_at}
 use Rattle.mega_rules.specs.Logs.{log_of}

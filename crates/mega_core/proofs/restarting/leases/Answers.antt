@@ -1,7 +1,6 @@
-use Rattle.std.proofs.Common.{◌≡◌, ◌∙◌, ◌∷◌, ℕ, List, map, refl}
+use Rattle.std.proofs.Common.{◌∙◌, ◌∷◌, map, refl}
 use Rattle.mega_locks.specs.History.{nodes}
-use Rattle.mega_rules.specs.Locks.{last_grant}
-use Rattle.mega_rules.specs.Met.{Met, Starts}
+use Rattle.mega_rules.specs.Met.{Starts}
 use Rattle.mega_rules.specs.Steps.{onto}
 use Rattle.mega_core.proofs.Anew.{grant_on}
 use Rattle.mega_core.proofs.restarting.leases.Goals as goal

@@ -1,5 +1,5 @@
 use Rattle.std.proofs.Common.{[]}
-use Rattle.mega_voter.proofs.Told.{nothing_told}
+use Rattle.mega_stepping.proofs.of_voter.Told.{nothing_told}
 use Rattle.mega_core.proofs.starting.first_start.Goals as goal
 
 pub returns-in-Ok-clause-state : goal.returns-in-Ok-clause-state

@@ -8,10 +8,10 @@ use Rattle.mega_rules.specs.Steps.{decision_note, onto, stored_after, told_decis
 use Rattle.mega_actions.proofs.of_node_laws.Followed.{follows_after, follows_more}
 use Rattle.mega_replica.specs.declared.rows.StoredRows.{StoredRows}
 use Rattle.mega_replica.specs.Following.{Follows, progress_at}
-use Rattle.mega_actions.specs.Stands.{setting}
-use Rattle.mega_core.specs.Placed.{IsPlaced}
-use Rattle.mega_core.specs.Staging.{Stages}
-use Rattle.mega_core.specs.Taking.{news_by}
+use Rattle.mega_actions.specs.of_proposing.Settings.{setting}
+use Rattle.mega_stepping.specs.Placed.{IsPlaced}
+use Rattle.mega_stepping.specs.Staging.{Stages}
+use Rattle.mega_stepping.specs.News.{news_by}
 use Rattle.mega_core.proofs.Messages.{decision_is, taken_stands, told_on}
 use Rattle.mega_core.proofs.taking.takes.Goals as goal
 

@@ -4,12 +4,12 @@ use Rattle.mega_rules.specs.Members.{is_voter}
 use Rattle.mega_rules.specs.Met.{Met, Takes}
 use Rattle.mega_rules.specs.Replies.{reply_message}
 use Rattle.mega_rules.specs.Steps.{onto}
-use Rattle.mega_leases.specs.declared.note.Note.{Note}
-use Rattle.mega_leases.specs.Notes.{met_of}
-use Rattle.mega_actions.specs.Stands.{setting}
-use Rattle.mega_core.specs.Staging.{Stages}
-use Rattle.mega_core.specs.Taking.{or_reply, vote_reply}
-use Rattle.mega_core.proofs.Staged.{silent_staged}
+use Rattle.mega_stepping.specs.of_leases.declared.note.Note.{Note}
+use Rattle.mega_stepping.specs.of_leases.Notes.{met_of}
+use Rattle.mega_actions.specs.of_proposing.Settings.{setting}
+use Rattle.mega_stepping.specs.Staging.{Stages}
+use Rattle.mega_stepping.specs.Replying.{or_reply, vote_reply}
+use Rattle.mega_stepping.proofs.Staged.{silent_staged}
 use Rattle.mega_core.proofs.Replied.{replied}
 use Rattle.mega_core.proofs.telling.is_told.Goals as goal
 

@@ -5,18 +5,18 @@ use Rattle.mega_rules.specs.Logs.{groups_of, log_of}
 use Rattle.mega_rules.specs.Members.{has_rows}
 use Rattle.mega_rules.specs.Met.{Ticks}
 use Rattle.mega_rules.specs.Steps.{lapse_notes, lease_notes, onto, portion_of}
-use Rattle.mega_leases.specs.declared.note.Note.{Note}
-use Rattle.mega_leases.specs.Notes.{met_of}
-use Rattle.mega_voter.specs.Telling.{Tells}
-use Rattle.mega_voter.proofs.Told.{silent_told}
+use Rattle.mega_stepping.specs.of_leases.declared.note.Note.{Note}
+use Rattle.mega_stepping.specs.of_leases.Notes.{met_of}
+use Rattle.mega_stepping.specs.of_voter.Telling.{Tells}
+use Rattle.mega_stepping.proofs.of_voter.Told.{silent_told}
 use Rattle.mega_replica.specs.Following.{progress_at}
 use Rattle.mega_actions.proofs.of_node_laws.Logs.{log_stays}
 use Rattle.mega_actions.proofs.of_node_laws.Followed.{follows_after, follows_more}
-use Rattle.mega_actions.specs.Stands.{setting}
-use Rattle.mega_core.specs.Staging.{Stages}
-use Rattle.mega_core.specs.Touching.{behind}
+use Rattle.mega_actions.specs.of_proposing.Settings.{setting}
+use Rattle.mega_stepping.specs.Staging.{Stages}
+use Rattle.mega_stepping.specs.Touching.{behind}
 use Rattle.mega_core.proofs.Clocks.{leases_begun, leases_groups, leases_log}
-use Rattle.mega_core.proofs.Staged.{silent_staged}
+use Rattle.mega_stepping.proofs.Staged.{silent_staged}
 use Rattle.mega_core.proofs.ticking.ticks.Goals as goal
 
 pub returns-clause-ticked : goal.returns-clause-ticked

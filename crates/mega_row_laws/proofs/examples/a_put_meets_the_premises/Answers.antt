@@ -1,6 +1,6 @@
 use Rattle.std.proofs.Common.{[], refl}
-use Rattle.mega_tape_laws.specs.Examples.{asks_put}
-use Rattle.mega_tape_laws.proofs.IndexWitnesses.{declared}
+use Rattle.mega_run_laws.specs.of_tape_laws.Examples.{asks_put}
+use Rattle.mega_run_laws.proofs.of_tape_laws.IndexWitnesses.{declared}
 use Rattle.mega_run_laws.specs.Usages.{Brought}
 use Rattle.mega_row_laws.proofs.examples.a_put_meets_the_premises.Goals as goal
 

@@ -1,5 +1,5 @@
 use Rattle.mega_tape_laws.specs.IndexExamples.{named_put}
-use Rattle.mega_transcript.specs.Tape.{newest}
+use Rattle.mega_promises.specs.of_transcript.Tape.{newest}
 use Rattle.mega_tape_laws.proofs.IndexWitnesses.{declared, entries_are, named_log, named_writes, put_comes, put_values, whole_indexed}
 use Rattle.mega_tape_laws.proofs.indexes.a_put_has_its_entry.Goals as goal
 

@@ -1,6 +1,6 @@
 use Rattle.std.proofs.Common.{[], ◌∷◌, ◌++◌, subst, sym}
 use Rattle.mega_transcript.specs.declared.item.Item.TheVariants.{Unsafe}
-use Rattle.mega_durable.specs.of_core.Notes.{met_of}
+use Rattle.mega_durable.specs.of_core.of_stepping.Notes.{met_of}
 use Rattle.mega_places.specs.Lapses.{AreLapsesOf}
 use Rattle.mega_world.proofs.Behind.{behind, behind_where}
 use Rattle.mega_places.proofs.Breaking.{put_lines, put_tape, put_told}

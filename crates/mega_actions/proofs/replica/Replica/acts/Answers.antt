@@ -2,10 +2,10 @@ use Rattle.std.proofs.Common.{None, rules, subst, sym}
 use Rattle.mega_meanings.proofs.Lasting.{means_still}
 use Rattle.mega_replica.specs.Faring.{Fares}
 use Rattle.mega_replica.proofs.Fared.{fares_then}
-use Rattle.mega_voter.specs.declared.voter.Voter.{Voter}
-use Rattle.mega_voter.specs.Telling.{Tells}
-use Rattle.mega_actions.specs.Faults.{failed_by}
-use Rattle.mega_actions.specs.Stands.{setting}
+use Rattle.mega_finishing.specs.of_voter.declared.voter.Voter.{Voter}
+use Rattle.mega_finishing.specs.of_voter.Telling.{Tells}
+use Rattle.mega_finishing.specs.Faults.{failed_by}
+use Rattle.mega_finishing.specs.of_proposing.Settings.{setting}
 use Rattle.mega_actions.proofs.Turned.{once_stands, once_work, twice_stands, twice_work}
 use Rattle.mega_actions.proofs.replica.Replica.acts.Goals as goal
 

@@ -1,15 +1,16 @@
 use Rattle.std.proofs.Common.{◌≡◌, ◌∙◌, ap, subst, sym}
-use Rattle.mega_operations.specs.Phases.{phase_of, promised_of}
-use Rattle.mega_operations.specs.Whole.{whole}
+use Rattle.mega_finishing.specs.of_operations.Phases.{phase_of, promised_of}
+use Rattle.mega_finishing.specs.of_operations.Whole.{whole}
 use Rattle.mega_rules.specs.Logs.{decided}
 use Rattle.mega_rules.specs.Operations.{Operation, Proposes, Reads}
 use Rattle.mega_rules.specs.Acting.{acts, unless_decided}
 use Rattle.mega_replica.specs.Following.{progress_at}
-use Rattle.mega_marks.specs.of_node_laws.About.{IsAbout}
+use Rattle.mega_finishing.specs.of_node_laws.About.{IsAbout}
 use Rattle.mega_outcome.specs.declared.request.Request.{Request}
-use Rattle.mega_actions.specs.Acted.{IsNextAsked}
-use Rattle.mega_actions.specs.Stands.{Stands, setting}
-use Rattle.mega_actions.proofs.Doing.{unless_met, unless_stored}
+use Rattle.mega_finishing.specs.Asked.{IsNextAsked}
+use Rattle.mega_finishing.specs.Stands.{Stands}
+use Rattle.mega_finishing.specs.of_proposing.Settings.{setting}
+use Rattle.mega_finishing.proofs.of_proposing.Doing.{unless_met, unless_stored}
 use Rattle.mega_actions.proofs.replica.Replica.acts_once.Goals as goal
 
 pub returns-in_ok-next-in-Reads-clause-acted : goal.returns-in_ok-next-in-Reads-clause-acted

@@ -2,10 +2,11 @@ use Rattle.std.proofs.Common.{◌∙◌, sym, ap, subst}
 use Rattle.mega_replica.specs.Following.{progress_at}
 use Rattle.mega_rules.specs.Clock.{clock_of}
 use Rattle.mega_rules.specs.Operations.{Now}
-use Rattle.mega_actions.specs.Stands.{Stands, setting}
-use Rattle.mega_actions.specs.Working.{work_of}
+use Rattle.mega_finishing.specs.Stands.{Stands}
+use Rattle.mega_finishing.specs.of_proposing.Settings.{setting}
+use Rattle.mega_finishing.specs.of_proposing.Working.{work_of}
 use Rattle.mega_actions.proofs.Begun.{begins_answered}
-use Rattle.mega_actions.proofs.Standing.{stands_seen}
+use Rattle.mega_finishing.proofs.Standing.{stands_seen}
 use Rattle.mega_actions.proofs.replica.Replica.answers_now.Goals as goal
 
 pub returns-clause-state : goal.returns-clause-state

@@ -1,18 +1,18 @@
 use Rattle.std.proofs.Common.{◌∙◌, ap, subst, sym}
-use Rattle.mega_pumps.specs.Owns.{picks_by}
+use Rattle.mega_finishing.specs.of_pumps.Owns.{picks_by}
 use Rattle.mega_rules.specs.Acting.{goes_on}
 use Rattle.mega_rules.specs.Clock.{clock_of}
 use Rattle.mega_rules.specs.Operations.{Now}
 use Rattle.mega_rules.specs.Steps.{new_operation}
-use Rattle.mega_actions.specs.declared.pumping.Pumped.{Pumped}
-use Rattle.mega_actions.specs.Asked.{IsAsked}
-use Rattle.mega_actions.specs.Servable.{is_pump}
+use Rattle.mega_finishing.specs.declared.pumping.Pumped.{Pumped}
+use Rattle.mega_finishing.specs.Asked.{IsAsked}
+use Rattle.mega_finishing.specs.of_proposing.Servable.{is_pump}
 use Rattle.mega_actions.specs.IsAt.{IsAt}
-use Rattle.mega_actions.specs.Pumping.{pumped_by}
-use Rattle.mega_actions.specs.Stands.{setting}
-use Rattle.mega_actions.specs.Working.{work_of}
-use Rattle.mega_actions.proofs.Doing.{does_met, does_stored}
-use Rattle.mega_actions.proofs.Serving.{pump_about, pump_begins}
+use Rattle.mega_finishing.specs.Pumping.{pumped_by}
+use Rattle.mega_finishing.specs.of_proposing.Settings.{setting}
+use Rattle.mega_finishing.specs.of_proposing.Working.{work_of}
+use Rattle.mega_finishing.proofs.of_proposing.Doing.{does_met, does_stored}
+use Rattle.mega_finishing.proofs.Serving.{pump_about, pump_begins}
 use Rattle.mega_actions.proofs.replica.Replica.begins_pump.Goals as goal
 
 pub returns-in_ok-does-in-Done-clause-state : goal.returns-in_ok-does-in-Done-clause-state

@@ -1,11 +1,12 @@
 use Rattle.std.proofs.Common.{◌∙◌, Option, ap, subst, sym}
 use Rattle.mega_replica.specs.Following.{progress_at}
 use Rattle.mega_rules.specs.Operations.{Operation}
-use Rattle.mega_actions.specs.Acted.{IsNextAbout, IsNextAsked}
-use Rattle.mega_actions.specs.Pumping.{pumped_after, then_again}
-use Rattle.mega_actions.specs.Stands.{Stands, setting}
-use Rattle.mega_actions.proofs.Serving.{next_about, next_asked, pumped_met, pumped_stored, pumped_then}
-use Rattle.mega_actions.proofs.Standing.{stands_seen}
+use Rattle.mega_finishing.specs.Asked.{IsNextAbout, IsNextAsked}
+use Rattle.mega_finishing.specs.Pumping.{pumped_after, then_again}
+use Rattle.mega_finishing.specs.Stands.{Stands}
+use Rattle.mega_finishing.specs.of_proposing.Settings.{setting}
+use Rattle.mega_finishing.proofs.Serving.{next_about, next_asked, pumped_met, pumped_stored, pumped_then}
+use Rattle.mega_finishing.proofs.Standing.{stands_seen}
 use Rattle.mega_actions.proofs.replica.Replica.pumps.Goals as goal
 
 pub returns-clause-acted : goal.returns-clause-acted

@@ -4,16 +4,16 @@ use Rattle.mega_rules.specs.Members.{has_rows}
 use Rattle.mega_rules.specs.Met.{Begins}
 use Rattle.mega_rules.specs.Steps.{Step as RuleStep, op_of}
 use Rattle.mega_replica.specs.Following.{progress_at}
-use Rattle.mega_actions.specs.Stands.{setting}
-use Rattle.mega_core.specs.declared.note.Note.{Note}
+use Rattle.mega_actions.specs.of_proposing.Settings.{setting}
+use Rattle.mega_stepping.specs.declared.note.Note.{Note}
 use Rattle.mega_core.specs.Beginning.{has_begun}
-use Rattle.mega_core.specs.Notes.{met_of}
-use Rattle.mega_core.specs.Positions.{before_at}
+use Rattle.mega_stepping.specs.Notes.{met_of}
+use Rattle.mega_stepping.specs.Positions.{before_at}
 use Rattle.mega_core.specs.Represents.{Represents}
-use Rattle.mega_core.specs.Staging.{Stages}
-use Rattle.mega_core.specs.Touching.{begun_groups}
+use Rattle.mega_stepping.specs.Staging.{Stages}
+use Rattle.mega_stepping.specs.Touching.{begun_groups}
 use Rattle.mega_core.proofs.Begun.{begin_is, begin_may, represents_keeps}
-use Rattle.mega_core.proofs.Staged.{silent_staged}
+use Rattle.mega_stepping.proofs.Staged.{silent_staged}
 use Rattle.mega_core.proofs.Untouched.{begin_noted}
 use Rattle.mega_core.proofs.Watched.{watched_noted}
 use Rattle.mega_core.proofs.node.Node.begin.Goals as goal

@@ -4,9 +4,9 @@ use Rattle.mega_rules.specs.Met.{Met, Sends}
 use Rattle.mega_rules.specs.Steps.{onto}
 use Rattle.mega_actions.specs.of_node_laws.Sending.{MaySend}
 use Rattle.mega_replica.specs.Following.{progress_at}
-use Rattle.mega_voter.specs.Telling.{Tells}
-use Rattle.mega_actions.specs.Stands.{setting}
-use Rattle.mega_core.specs.Staging.{Stages}
+use Rattle.mega_stepping.specs.of_voter.Telling.{Tells}
+use Rattle.mega_actions.specs.of_proposing.Settings.{setting}
+use Rattle.mega_stepping.specs.Staging.{Stages}
 use Rattle.mega_core.proofs.Ended.{acted_tells, step_made, step_staged}
 use Rattle.mega_core.proofs.node.Node.ends.Goals as goal
 

@@ -1,12 +1,12 @@
-use Rattle.std.proofs.Common.{◌≡◌, ◌∙◌, ◌<◌, ◌+◌, ◌∷◌, [], ℕ, ap, subst, sym}
+use Rattle.std.proofs.Common.{◌≡◌, ◌∙◌, ◌<◌, ◌+◌, ◌∷◌, ap, subst, sym}
 use Rattle.mega_cluster.specs.declared.cluster.Cluster.{Cluster}
 use Rattle.mega_rules.specs.Logs.{log_of}
 use Rattle.mega_rules.specs.Met.{Starts}
 use Rattle.mega_rules.specs.Steps.{onto, start, start_notes}
-use Rattle.mega_leases.specs.Tells.{Tells as TellsLeases}
+use Rattle.mega_stepping.specs.of_leases.Tells.{Tells as TellsLeases}
 use Rattle.mega_replica.specs.Following.{Follows, progress_at}
-use Rattle.mega_voter.specs.Telling.{Tells}
-use Rattle.mega_actions.specs.Stands.{setting}
+use Rattle.mega_stepping.specs.of_voter.Telling.{Tells}
+use Rattle.mega_actions.specs.of_proposing.Settings.{setting}
 use Rattle.mega_core.specs.Represents.{Represents}
 use Rattle.mega_core.specs.Restarting.{HaveFollowed, applied_at_start}
 use Rattle.mega_core.proofs.Anew.{followed_on, restarted}

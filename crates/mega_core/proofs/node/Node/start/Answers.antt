@@ -3,9 +3,9 @@ use Rattle.mega_cluster.specs.declared.cluster.Cluster.{Cluster}
 use Rattle.mega_rules.specs.Logs.{log_of}
 use Rattle.mega_rules.specs.Met.{Starts}
 use Rattle.mega_rules.specs.Steps.{start}
-use Rattle.mega_leases.specs.Tells.{Tells}
+use Rattle.mega_stepping.specs.of_leases.Tells.{Tells}
 use Rattle.mega_replica.specs.Following.{progress_at}
-use Rattle.mega_actions.specs.Stands.{setting}
+use Rattle.mega_actions.specs.of_proposing.Settings.{setting}
 use Rattle.mega_core.specs.Represents.{Represents}
 use Rattle.mega_core.specs.Served.{IsServed}
 use Rattle.mega_core.proofs.Opened.{started}

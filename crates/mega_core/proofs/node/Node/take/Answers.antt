@@ -7,13 +7,13 @@ use Rattle.mega_rules.specs.Met.{Takes}
 use Rattle.mega_rules.specs.Steps.{Step as RuleStep, Take, decision_note, hears_message, stored_after, told_notes}
 use Rattle.mega_replica.specs.Following.{progress_at}
 use Rattle.mega_actions.specs.of_node_laws.Acted.{acted_on, decision_in}
-use Rattle.mega_actions.specs.Stands.{setting}
+use Rattle.mega_actions.specs.of_proposing.Settings.{setting}
 use Rattle.mega_actions.specs.Turns.{IsServable}
-use Rattle.mega_core.specs.Positions.{before_at}
+use Rattle.mega_stepping.specs.Positions.{before_at}
 use Rattle.mega_core.specs.Represents.{Represents}
-use Rattle.mega_core.specs.Staging.{Stages}
+use Rattle.mega_stepping.specs.Staging.{Stages}
 use Rattle.mega_core.specs.Taking.{has_taken}
-use Rattle.mega_core.specs.Touching.{touched}
+use Rattle.mega_stepping.specs.Touching.{touched}
 use Rattle.mega_core.proofs.Begun.{represents_keeps}
 use Rattle.mega_core.proofs.Messages.{heard_are_about, heard_are_built, take_acts, take_is, take_may}
 use Rattle.mega_core.proofs.Refused.{unserved_is}

@@ -8,14 +8,14 @@ use Rattle.mega_replica.specs.Following.{progress_at}
 use Rattle.mega_replica.proofs.Fared.{fares_then}
 use Rattle.mega_actions.specs.of_node_laws.About.{IsAbout}
 use Rattle.mega_actions.specs.of_node_laws.Acted.{acted_on}
-use Rattle.mega_actions.specs.Stands.{setting}
+use Rattle.mega_actions.specs.of_proposing.Settings.{setting}
 use Rattle.mega_actions.specs.Turns.{IsServable}
 use Rattle.mega_core.specs.Faults.{failed_by}
-use Rattle.mega_core.specs.Positions.{before_at}
+use Rattle.mega_stepping.specs.Positions.{before_at}
 use Rattle.mega_core.specs.Represents.{Represents}
-use Rattle.mega_core.specs.Staging.{Stages}
+use Rattle.mega_stepping.specs.Staging.{Stages}
 use Rattle.mega_core.specs.Ticking.{has_ticked}
-use Rattle.mega_core.specs.Touching.{behind}
+use Rattle.mega_stepping.specs.Touching.{behind}
 use Rattle.mega_core.proofs.Begun.{represents_keeps}
 use Rattle.mega_core.proofs.Clocks.{tick_acts, tick_is, tick_may}
 use Rattle.mega_core.proofs.Failing.{acted_store}

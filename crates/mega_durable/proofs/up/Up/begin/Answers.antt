@@ -2,8 +2,8 @@ use Rattle.std.proofs.Common.{Err, ◌≡◌, ◌∙◌, ◌+◌, List, ap, map,
 use Rattle.mega_disk.specs.Images.{LeavesOnly}
 use Rattle.mega_rules.specs.Steps.{Begin, step}
 use Rattle.mega_replica.specs.Faring.{Fares}
-use Rattle.mega_core.specs.declared.step.Step.{Step}
-use Rattle.mega_core.specs.Notes.{met_of}
+use Rattle.mega_core.specs.of_stepping.declared.step.Step.{Step}
+use Rattle.mega_core.specs.of_stepping.Notes.{met_of}
 use Rattle.mega_durable.specs.Cut.{LogWent, MayLeave, log_fault_in}
 use Rattle.mega_durable.specs.Standing.{records_in, setting_of}
 use Rattle.mega_durable.specs.Stepped.{HasStepped}

@@ -3,8 +3,8 @@ use Rattle.mega_cluster.specs.declared.cluster.Cluster.{Cluster}
 use Rattle.mega_disk.specs.Images.{LeavesOnly}
 use Rattle.mega_rules.specs.Steps.{Take, step}
 use Rattle.mega_replica.specs.Faring.{Fares}
-use Rattle.mega_core.specs.declared.step.Step.{Step}
-use Rattle.mega_core.specs.Notes.{met_of}
+use Rattle.mega_core.specs.of_stepping.declared.step.Step.{Step}
+use Rattle.mega_core.specs.of_stepping.Notes.{met_of}
 use Rattle.mega_durable.specs.Cut.{LogWent, MayLeave, log_fault_in}
 use Rattle.mega_durable.specs.Replying.{replies_at}
 use Rattle.mega_durable.specs.Standing.{records_in, setting_of}

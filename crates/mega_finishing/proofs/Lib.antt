@@ -1,0 +1,10 @@
+pub mod Refused
+mod Logged
+pub mod Standing
+mod Going
+mod Shown
+mod Asked
+pub mod Serving
+pub use Rattle.mega_proposing.proofs as of_proposing
+pub use Rattle.mega_marks.proofs as of_marks
+pub use Rattle.mega_marks.proofs.of_node_laws as of_node_laws

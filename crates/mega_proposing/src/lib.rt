@@ -1,0 +1,26 @@
+//! What an operation that acts does: it stays open, ends, or proposes its own entry, and the step takes that up; which requests
+//! are served, and the current read with which one begins (CIDR 2011, reads and writes).
+#![tactic(auto)]
+
+mod deed;
+mod entries;
+mod limit;
+mod proposing;
+mod reached;
+mod reading;
+mod serving;
+mod work;
+
+pub use deed::{Deed, End};
+pub use limit::is_limit;
+pub use mega_leases;
+pub use mega_operations;
+pub use mega_voter;
+pub use proposing::{Proposing, unless_decided};
+pub use reached::Reached;
+pub use reading::read_begun;
+pub use serving::{
+    group_asked, is_answered, is_at_once, is_indexed, is_plain, is_proposed, is_pump, is_served,
+    mode_asked,
+};
+pub use work::{Answered, Valid, Work};

@@ -1,0 +1,35 @@
+-- What is left to be told to a voter of what is sent and noted.
+use Rattle.std.proofs.Common.{◌≡◌, List, ◌∷◌, map, refl}
+use Rattle.mega_wire.specs.declared.message.Message.{Message}
+use Rattle.mega_wal.specs.declared.kept.Kept.{Kept}
+use Rattle.mega_rules.specs.Met.{Met, Sends}
+use Rattle.mega_rules.specs.Steps.{onto}
+use Rattle.mega_proposing.specs.of_voter.Telling.{IsAnswer, Tells}
+use Rattle.mega_proposing.specs.of_leases.declared.note.Note.{Note}
+use Rattle.mega_proposing.specs.of_leases.Notes.{met_of}
+use Rattle.mega_node_laws.specs.Sending.{MaySend}
+
+-- what was met so far, which is told, and to which the rest leads
+pub record SentSo (kept : Kept) (left : List Message) (all : List Met) : Type 0 where
+  pub now : List Met
+  pub tells : Tells kept now
+  pub may : MaySend now left
+  pub leads : onto (map Sends left) now ≡ all
+
+pub sent_first : (kept : Kept) (sends : List Message) (met : List Met) → MaySend met sends → Tells kept met → SentSo kept sends (onto (map Sends sends) met)
+sent_first kept sends met may tells = record { now = met; tells = tells; may = may; leads = refl }
+
+pub sent_next : (kept after : Kept) (m : Message) (left : List Message) (all : List Met) → ((met : List Met) → IsAnswer met m.body → Tells kept met → Tells after (Sends m ∷ met)) → SentSo kept (m ∷ left) all → SentSo after left all
+sent_next kept after m left all told so = record { now = Sends m ∷ so.now; tells = told so.now so.may.0 so.tells; may = so.may.1; leads = so.leads }
+
+-- so of the notes of a cell and a coordinator
+pub record KeptSo (kept : Kept) (left : List Note) (all : List Met) : Type 0 where
+  pub now : List Met
+  pub tells : Tells kept now
+  pub leads : onto (map met_of left) now ≡ all
+
+pub kept_first : (kept : Kept) (notes : List Note) (met : List Met) → Tells kept met → KeptSo kept notes (onto (map met_of notes) met)
+kept_first kept notes met tells = record { now = met; tells = tells; leads = refl }
+
+pub kept_next : (kept after : Kept) (note : Note) (left : List Note) (all : List Met) → ((met : List Met) → Tells kept met → Tells after (met_of note ∷ met)) → KeptSo kept (note ∷ left) all → KeptSo after left all
+kept_next kept after note left all told so = record { now = met_of note ∷ so.now; tells = told so.now so.tells; leads = so.leads }
