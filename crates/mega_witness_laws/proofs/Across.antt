@@ -1,5 +1,5 @@
 -- A group that is valid by what was asked while an earlier epoch served.
-use Rattle.std.proofs.Common.{◌≡◌, inl, inr, ℕ, ◌≤◌, ◌&&◌, Bool, true, false, not, List, [], ◌∷◌, Option, Some, None, refl, ap, sym, ◌∙◌, subst}
+use Rattle.std.proofs.Common.{◌≡◌, inl, inr, ℕ, ◌&&◌, Bool, true, false, not, List, [], ◌∷◌, Option, Some, None, refl, ap, sym, ◌∙◌, subst}
 use Rattle.std.specs.List.{list_any}
 use Rattle.mega_base.specs.declared.names.Epoch.{Epoch}
 use Rattle.mega_base.specs.declared.names.OpId.{OpId}
@@ -7,16 +7,16 @@ use Rattle.mega_base.specs.declared.names.Position.{Position}
 use Rattle.mega_wal.specs.History.{is_epoch_below, is_same_epoch}
 use Rattle.mega_wire.specs.declared.message.Body.{Body}
 use Rattle.mega_wire.specs.declared.message.Body.TheVariants.{Top}
-use Rattle.mega_transcript.specs.declared.item.Item.{Item}
-use Rattle.mega_transcript.specs.declared.item.Item.TheVariants.{Grant, Sent, Serving}
-use Rattle.mega_transcript.specs.Tape.{newest}
-use Rattle.mega_valid_laws.specs.of_settled_laws.of_run_laws.of_promises.Items.{number}
-use Rattle.mega_valid_laws.specs.of_settled_laws.of_run_laws.of_tape_laws.Examples.{epoch, first}
-use Rattle.mega_valid_laws.specs.of_settled_laws.of_run_laws.of_tape_laws.Lawful.{Heard, message}
-use Rattle.mega_valid_laws.specs.of_settled_laws.of_run_laws.of_tape_laws.of_rules.Examples.{cluster, group, op_of}
+use Rattle.mega_valid_laws.specs.of_settled_laws.of_tape_laws.of_transcript.declared.item.Item.{Item}
+use Rattle.mega_valid_laws.specs.of_settled_laws.of_tape_laws.of_transcript.declared.item.Item.TheVariants.{Grant, Sent, Serving}
+use Rattle.mega_valid_laws.specs.of_settled_laws.of_tape_laws.of_transcript.Tape.{newest}
+use Rattle.mega_valid_laws.specs.of_settled_laws.of_tape_laws.of_promises.Items.{number}
+use Rattle.mega_valid_laws.specs.of_settled_laws.of_tape_laws.Examples.{epoch, first}
+use Rattle.mega_valid_laws.specs.of_settled_laws.of_tape_laws.Lawful.{Heard, message}
+use Rattle.mega_valid_laws.specs.of_settled_laws.of_tape_laws.of_rules.Examples.{cluster, group, op_of}
 use Rattle.mega_valid_laws.specs.Leases.{AreLeased, MayBeValid, MayServe, NoneAbove, has_polled, serving_on}
-use Rattle.mega_valid_laws.proofs.of_settled_laws.of_run_laws.of_tape_laws.Majorities.{Shared, meet}
-use Rattle.mega_valid_laws.proofs.of_settled_laws.of_run_laws.of_tape_laws.Witnesses.{first_two, two_of_three}
+use Rattle.mega_valid_laws.proofs.of_settled_laws.of_tape_laws.Majorities.{Shared, meet}
+use Rattle.mega_valid_laws.proofs.of_settled_laws.of_tape_laws.Witnesses.{first_two, two_of_three}
 use Rattle.mega_witness_laws.specs.Tapes.{next_epoch, polled_across, valid_across}
 use Rattle.mega_witness_laws.proofs.Shown.{AllOf, both, false_of, never, no_moment, none_stands, stands_of}
 
@@ -68,20 +68,19 @@ unasked tape = is_second (serving_on tape 2) && not (has_polled tape (op_of 2) g
 all_of_one : AllOf answers_to (op_of 2) (newest polled_across)
 all_of_one = (refl, (refl, (refl, (refl, (refl, (refl, (refl, (refl, (refl, (refl, (refl, (refl, (refl, (refl, (refl, (refl, (refl, (refl, (refl, (refl, (refl, (refl, (refl, (refl, (refl, (refl, (refl, (refl, (refl, (refl, (refl, (refl, (refl, (refl, tt))))))))))))))))))))))))))))))))))
 
+heard_across : (m : MayBeValid cluster (newest polled_across) 2 group first) (voter : ℕ) (top : Position) → Heard (newest polled_across) voter m.op (Top m.op group top) → ⊥
+heard_across m voter top h = no_moment unasked m.moment (newest polled_across) refl m.earlier
+    (both (is_second (serving_on m.moment 2)) (not (has_polled m.moment (op_of 2) group)) (ap is_second (m.served ∙ sym m.serves))
+    (ap not (subst (λ (op : OpId). has_polled m.moment op group ≡ false) own m.fresh)))
+  where
+    own : m.op ≡ op_of 2
+    own = stands_of answers_to (op_of 2) (Sent h.number (message voter m.op.node.0 (Top m.op group top))) (newest polled_across) all_of_one h.sent
+
 not_valid : MayBeValid cluster (newest polled_across) 2 group first → ⊥
 not_valid m = by (meet cluster m.test first_two m.majority two_of_three)
   where
     by : Shared m.test first_two → ⊥
-    by shared = asked_first ((m.heard) shared.node shared.first)
-      where
-        asked_first : (top : Position) × Heard (newest polled_across) shared.node m.op (Top m.op group top) × (top.0 ≤ 1) → ⊥
-        asked_first h = no_moment unasked m.moment (newest polled_across) refl m.earlier passes
-          where
-            own : m.op ≡ op_of 2
-            own = stands_of answers_to (op_of 2) (Sent (h.1).number (message shared.node m.op.node.0 (Top m.op group h.0))) (newest polled_across) all_of_one (h.1).sent
-
-            passes : unasked m.moment ≡ true
-            passes = both (is_second (serving_on m.moment 2)) (not (has_polled m.moment (op_of 2) group)) (ap is_second (m.served ∙ sym m.serves)) (ap not (subst (λ (op : OpId). has_polled m.moment op group ≡ false) own m.fresh))
+    by shared = let h = (m.heard) shared.node shared.first in heard_across m shared.node h.0 h.1
 
 pub not_leased : AreLeased cluster (newest valid_across) → ⊥
 not_leased l = not_valid l.0

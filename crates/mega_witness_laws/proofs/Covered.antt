@@ -1,5 +1,5 @@
 -- A full node that is not covered, or by what cells said while an earlier position was covered.
-use Rattle.std.proofs.Common.{◌≡◌, inl, inr, ℕ, zero, suc, ◌==◌, ◌&&◌, Bool, true, false, not, List, [], ◌∷◌, ◌++◌, Option, Some, None, refl, ap, sym, ◌∙◌, subst, coe, arith}
+use Rattle.std.proofs.Common.{◌≡◌, inl, inr, ℕ, zero, suc, ◌<◌, ◌==◌, ◌&&◌, Bool, true, false, not, List, [], ◌∷◌, ◌++◌, Option, Some, None, refl, ap, sym, ◌∙◌, subst, arith}
 use Rattle.std.specs.List.{list_any}
 use Rattle.mega_base.specs.declared.names.NodeId.{NodeId}
 use Rattle.mega_base.specs.declared.names.OpId.{OpId}
@@ -11,22 +11,22 @@ use Rattle.mega_wire.specs.declared.message.Body.{Body}
 use Rattle.mega_wire.specs.declared.message.Body.TheVariants.{Accepted, Invalidated, Unheld}
 use Rattle.mega_outcome.specs.declared.answer.Answer.{Answer as Told}
 use Rattle.mega_outcome.specs.declared.answer.Answer.TheVariants.{Batched, Committed}
-use Rattle.mega_transcript.specs.declared.item.Item.{Item}
-use Rattle.mega_transcript.specs.declared.item.Item.TheVariants.{Answer, Decide, Sent}
-use Rattle.mega_transcript.specs.Tape.{newest}
-use Rattle.mega_valid_laws.specs.of_settled_laws.of_run_laws.of_promises.Items.{number}
-use Rattle.mega_valid_laws.specs.of_settled_laws.of_run_laws.of_promises.Moments.{StoodOn}
-use Rattle.mega_valid_laws.specs.of_settled_laws.of_run_laws.of_promises.Promises.{Stands}
-use Rattle.mega_valid_laws.specs.of_settled_laws.of_run_laws.of_tape_laws.Answers.{AreAnswered, LawfulAnswers, MayCommit, of_transaction}
-use Rattle.mega_valid_laws.specs.of_settled_laws.of_run_laws.of_tape_laws.Examples.{asks_put, ballot_of, first, place, put_decided, second}
-use Rattle.mega_valid_laws.specs.of_settled_laws.of_run_laws.of_tape_laws.Lawful.{Heard, message}
-use Rattle.mega_valid_laws.specs.of_settled_laws.of_run_laws.of_tape_laws.Places.{In, Place}
-use Rattle.mega_valid_laws.specs.of_settled_laws.of_run_laws.of_tape_laws.Settled.{IsCellMajority}
-use Rattle.mega_valid_laws.specs.of_settled_laws.of_run_laws.of_tape_laws.of_rules.Examples.{cluster, entry_of, group, op_of}
-use Rattle.mega_valid_laws.specs.of_settled_laws.of_run_laws.of_tape_laws.of_rules.Members.{full_nodes}
-use Rattle.mega_valid_laws.proofs.of_settled_laws.of_run_laws.of_tape_laws.Majorities.{Shared, meet}
-use Rattle.mega_valid_laws.proofs.of_settled_laws.of_run_laws.of_tape_laws.Witnesses.{first_two, two_of_three}
-use Rattle.mega_valid_laws.proofs.of_settled_laws.of_run_laws.of_tape_laws.Writing as put
+use Rattle.mega_valid_laws.specs.of_settled_laws.of_tape_laws.of_transcript.declared.item.Item.{Item}
+use Rattle.mega_valid_laws.specs.of_settled_laws.of_tape_laws.of_transcript.declared.item.Item.TheVariants.{Answer, Decide, Sent}
+use Rattle.mega_valid_laws.specs.of_settled_laws.of_tape_laws.of_transcript.Tape.{newest}
+use Rattle.mega_valid_laws.specs.of_settled_laws.of_tape_laws.of_promises.Items.{number}
+use Rattle.mega_valid_laws.specs.of_settled_laws.of_tape_laws.of_promises.Moments.{StoodOn}
+use Rattle.mega_valid_laws.specs.of_settled_laws.of_tape_laws.of_promises.Promises.{Stands}
+use Rattle.mega_valid_laws.specs.of_settled_laws.of_tape_laws.Answers.{AreAnswered, LawfulAnswers, MayCommit, of_transaction}
+use Rattle.mega_valid_laws.specs.of_settled_laws.of_tape_laws.Examples.{asks_put, ballot_of, first, place, put_decided, second}
+use Rattle.mega_valid_laws.specs.of_settled_laws.of_tape_laws.Lawful.{Heard, message}
+use Rattle.mega_valid_laws.specs.of_settled_laws.of_tape_laws.Places.{In, Place}
+use Rattle.mega_valid_laws.specs.of_settled_laws.of_tape_laws.Settled.{IsCellMajority}
+use Rattle.mega_valid_laws.specs.of_settled_laws.of_tape_laws.of_rules.Examples.{cluster, entry_of, group, op_of}
+use Rattle.mega_valid_laws.specs.of_settled_laws.of_tape_laws.of_rules.Members.{full_nodes}
+use Rattle.mega_valid_laws.proofs.of_settled_laws.of_tape_laws.Majorities.{Shared, meet}
+use Rattle.mega_valid_laws.proofs.of_settled_laws.of_tape_laws.Witnesses.{first_two, two_of_three}
+use Rattle.mega_valid_laws.proofs.of_settled_laws.of_tape_laws.Writing as put
 use Rattle.mega_valid_laws.specs.of_settled_laws.Covering.{AreSettled, Earlier, HasSettled, IsCoveredSince, OwnSettled, WasCovered, free, has_asked_about, invalidated, voted}
 use Rattle.mega_valid_laws.proofs.of_settled_laws.Tapes.{earlier_stood, now_is, then_later}
 use Rattle.mega_valid_laws.proofs.Orders.{cells_meet, stands_behind}
@@ -49,20 +49,20 @@ says_free _ = false
 
 -- where node 3 sends nothing, and no cell says that it holds nothing, node 3 is not covered
 none_covered : (tape : List Item) → list_any is_from_three tape ≡ false → list_any says_free tape ≡ false → (p : Place) (e : Content) → WasCovered cluster tape p e → ⊥
-none_covered tape still full p e w = by (((w.settled).covered) 3 (inr (inr (inl refl))))
+none_covered tape still full p e w = go w.op w.moment w.earlier w.settled
   where
-    stood : (item : Item) → Stands item w.moment → Stands item tape
-    stood = earlier_stood w.moment tape w.earlier
-
-    by : IsCoveredSince cluster (w.settled).moment w.moment w.op p (w.settled).ballot e 3 → ⊥
-    by (voted h) = none_stands is_from_three (Sent h.number (message 3 w.op.node.0 (Accepted w.op p.group p.position (w.settled).ballot e))) tape still refl (stood _ h.sent)
-    by (invalidated h) = none_stands is_from_three (Sent h.number (message 3 w.op.node.0 (Invalidated w.op p.group p.position))) tape still refl (stood _ h.sent)
-    by (free test most fresh each) = cell (cells_meet cluster test test most most)
+    go : (op : OpId) (moment : List Item) → Earlier moment tape → HasSettled cluster moment op p e → ⊥
+    go op moment earlier s = by ((s.covered) 3 (inr (inr (inl refl))))
       where
-        cell : Shared test test → ⊥
-        cell shared =
-            let h = each shared.node shared.first in
-            none_stands says_free (Sent h.number (message shared.node w.op.node.0 (Unheld w.op shared.node (number 3)))) tape full refl (stood _ h.sent)
+        by : IsCoveredSince cluster s.moment moment op p s.ballot e 3 → ⊥
+        by (voted h) = none_stands is_from_three _ tape still refl (earlier_stood moment tape earlier (Sent h.number (message 3 op.node.0 (Accepted op p.group p.position s.ballot e))) h.sent)
+        by (invalidated h) = none_stands is_from_three _ tape still refl (earlier_stood moment tape earlier (Sent h.number (message 3 op.node.0 (Invalidated op p.group p.position))) h.sent)
+        by (free test most fresh each) = cell (cells_meet cluster test test most most)
+          where
+            cell : Shared test test → ⊥
+            cell shared =
+                let h = each shared.node shared.first in
+                none_stands says_free _ tape full refl (earlier_stood moment tape earlier (Sent h.number (message shared.node op.node.0 (Unheld op shared.node (number 3)))) h.sent)
 
 -- ---- an operation that is committed while node 3 is not covered
 
@@ -122,7 +122,7 @@ cells_heard (suc (suc zero)) h = record { number = 9; sent = inr (inr (inl refl)
 cells_heard (suc (suc (suc n))) h = cc
 
 two_cells : IsCellMajority cluster first_two
-two_cells = omega arith
+two_cells = let h : 3 < 4 = omega arith in h
 
 abbrev Covers : ℕ → Type 0
 Covers node = IsCoveredSince cluster (newest accepted_first) (newest asked_first) (op_of 1) place (ballot_of 1) (entry_of 2) node
@@ -166,15 +166,16 @@ abbrev entry_in : Item → Content
 entry_in (Decide node g n e) = e
 entry_in _ = entry_of 2
 
-decisions : (node : NodeId) (p : Place) (e : Content) (before : List Item) → StoodOn (Decide node p.group p.position e) before (newest first_covered) → WasCovered cluster before p e
+abbrev decides_at : NodeId → Place → Content → Item
+decides_at node p e = Decide node p.group p.position e
+
+decisions : (node : NodeId) (p : Place) (e : Content) (before : List Item) → StoodOn (decides_at node p e) before (newest first_covered) → WasCovered cluster before p e
 decisions node p e before stood = by stood.later stood.is
   where
-    item : Item
-    item = Decide node p.group p.position e
-
-    by : (later : List Item) → newest first_covered ≡ later ++ item ∷ before → WasCovered cluster before p e
+    by : (later : List Item) → newest first_covered ≡ later ++ decides_at node p e ∷ before → WasCovered cluster before p e
     by [] is = coe 0 1 (i. WasCovered cluster (tail_of (is i)) (place_of (head_of (is i))) (entry_in (head_of (is i)))) first_settled
-    by (one ∷ later) is = absurd (none_stands is_decision item (newest asked_first) refl refl (subst (Stands item) (sym (ap tail_of is)) (stands_behind later (item ∷ before) item (inl refl))))
+    by (one ∷ later) is = absurd (none_stands is_decision (decides_at node p e) (newest asked_first) refl refl
+        (subst (Stands (decides_at node p e)) (sym (ap tail_of is)) (stands_behind later (decides_at node p e ∷ before) (decides_at node p e) (inl refl))))
 
 no_answer : {X : Type 0} (op : OpId) (answer : Told) (before : List Item) → StoodOn (Answer op answer) before (newest first_covered) → X
 no_answer op answer before stood = absurd (none_stands is_answer (Answer op answer) (newest first_covered) refl refl (subst (Stands (Answer op answer)) (sym stood.is) (stands_behind stood.later (Answer op answer ∷ before) (Answer op answer) (inl refl))))
@@ -216,37 +217,30 @@ accepts_second _ = false
 abbrev unasked : List Item → Bool
 unasked tape = list_any accepts_second tape && not (has_asked_about tape (op_of 1) 3)
 
-not_covered : WasCovered cluster (newest asked_second) second (entry_of 1) → ⊥
-not_covered w = by (((w.settled).covered) 3 (inr (inr (inl refl))))
+abbrev accepted_at : ℕ → ℕ → OpId → Ballot → Item
+accepted_at key voter op b = Sent key (message voter op.node.0 (Accepted op group second.position b (entry_of 1)))
+
+asked_before : (op : OpId) (moment : List Item) (b : Ballot) (voter : ℕ) → Earlier moment (newest asked_second) → Heard moment voter op (Accepted op group second.position b (entry_of 1)) → has_asked_about moment op 3 ≡ false → ⊥
+asked_before op moment b voter earlier h fresh = no_moment unasked moment (newest asked_second) refl earlier
+    (both (list_any accepts_second moment) (not (has_asked_about moment (op_of 1) 3)) (finds accepts_second (accepted_at h.number voter op b) moment h.sent refl)
+    (ap not (subst (λ (o : OpId). has_asked_about moment o 3 ≡ false) own fresh)))
   where
-    settled : HasSettled cluster w.moment w.op second (entry_of 1)
-    settled = w.settled
+    own : op ≡ op_of 1
+    own = stands_of accepts_for (op_of 1) (accepted_at h.number voter op b) (newest asked_second) all_of_one (earlier_stood moment (newest asked_second) earlier (accepted_at h.number voter op b) h.sent)
 
-    stood : (item : Item) → Stands item w.moment → Stands item (newest asked_second)
-    stood = earlier_stood w.moment (newest asked_second) w.earlier
-
-    behind : Earlier settled.moment (newest asked_second)
-    behind = then_later settled.moment w.moment (newest asked_second) settled.earlier w.earlier
-
-    asked_before : has_asked_about settled.moment w.op 3 ≡ false → Shared settled.test first_two → ⊥
-    asked_before fresh shared = no_moment unasked settled.moment (newest asked_second) refl behind passes
+not_covered : WasCovered cluster (newest asked_second) second (entry_of 1) → ⊥
+not_covered w = go w.op w.moment w.earlier w.settled
+  where
+    go : (op : OpId) (moment : List Item) → Earlier moment (newest asked_second) → HasSettled cluster moment op second (entry_of 1) → ⊥
+    go op moment earlier s = by ((s.covered) 3 (inr (inr (inl refl))))
       where
-        heard : Heard settled.moment shared.node w.op (Accepted w.op group second.position settled.ballot (entry_of 1))
-        heard = (settled.heard) shared.node shared.first
-
-        item : Item
-        item = Sent heard.number (message shared.node w.op.node.0 (Accepted w.op group second.position settled.ballot (entry_of 1)))
-
-        own : w.op ≡ op_of 1
-        own = stands_of accepts_for (op_of 1) item (newest asked_second) all_of_one (earlier_stood settled.moment (newest asked_second) behind item heard.sent)
-
-        passes : unasked settled.moment ≡ true
-        passes = both (list_any accepts_second settled.moment) (not (has_asked_about settled.moment (op_of 1) 3)) (finds accepts_second item settled.moment heard.sent refl) (ap not (subst (λ (op : OpId). has_asked_about settled.moment op 3 ≡ false) own fresh))
-
-    by : IsCoveredSince cluster settled.moment w.moment w.op second settled.ballot (entry_of 1) 3 → ⊥
-    by (voted h) = none_stands is_from_three (Sent h.number (message 3 w.op.node.0 (Accepted w.op group second.position settled.ballot (entry_of 1)))) (newest asked_second) refl refl (stood _ h.sent)
-    by (invalidated h) = none_stands is_from_three (Sent h.number (message 3 w.op.node.0 (Invalidated w.op group second.position))) (newest asked_second) refl refl (stood _ h.sent)
-    by (free test most fresh each) = asked_before fresh (meet cluster settled.test first_two settled.majority two_of_three)
+        by : IsCoveredSince cluster s.moment moment op second s.ballot (entry_of 1) 3 → ⊥
+        by (voted h) = none_stands is_from_three _ (newest asked_second) refl refl (earlier_stood moment (newest asked_second) earlier (accepted_at h.number 3 op s.ballot) h.sent)
+        by (invalidated h) = none_stands is_from_three _ (newest asked_second) refl refl (earlier_stood moment (newest asked_second) earlier (Sent h.number (message 3 op.node.0 (Invalidated op group second.position))) h.sent)
+        by (free test most fresh each) = voter (meet cluster s.test first_two s.majority two_of_three)
+          where
+            voter : Shared s.test first_two → ⊥
+            voter shared = asked_before op s.moment s.ballot shared.node (then_later s.moment moment (newest asked_second) s.earlier earlier) ((s.heard) shared.node shared.first) fresh
 
 pub not_settled_second : AreSettled cluster (newest covered_before) → ⊥
 not_settled_second s = not_covered ((s.decisions) (number 1) second (entry_of 1) (newest asked_second) (record { later = []; is = refl }))

@@ -6,18 +6,18 @@ use Rattle.mega_outcome.specs.declared.answer.Answer.{Answer}
 use Rattle.mega_outcome.specs.declared.answer.Answer.TheVariants.{Read as ReadAnswer}
 use Rattle.mega_outcome.specs.declared.answer.Shown.{Shown}
 use Rattle.mega_outcome.specs.declared.answer.Turn.{Turn}
-use Rattle.mega_transcript.specs.declared.item.Item.{Item}
-use Rattle.mega_transcript.specs.declared.item.Item.TheVariants.{Answer as AnswerItem, Begin, Unsafe}
-use Rattle.mega_transcript.specs.Tape.{newest}
-use Rattle.mega_valid_laws.specs.of_settled_laws.of_run_laws.of_promises.Fresh.{IsFresh, IsSafeAt, ReadsThrough, WasDecided, read_over}
-use Rattle.mega_valid_laws.specs.of_settled_laws.of_run_laws.of_promises.Items.{number}
-use Rattle.mega_valid_laws.specs.of_settled_laws.of_run_laws.of_promises.Promises.{log_of, rows_shown}
-use Rattle.mega_valid_laws.specs.of_settled_laws.of_run_laws.of_tape_laws.Answers.{AreAnswered, LawfulAnswers, MayRead}
-use Rattle.mega_valid_laws.specs.of_settled_laws.of_run_laws.of_tape_laws.Examples.{first, place, put_decided}
-use Rattle.mega_valid_laws.specs.of_settled_laws.of_run_laws.of_tape_laws.Writes.{AreWritten, Own, again, own, runs}
-use Rattle.mega_valid_laws.proofs.of_settled_laws.of_run_laws.of_tape_laws.Writing as put
-use Rattle.mega_valid_laws.specs.of_settled_laws.of_run_laws.of_tape_laws.of_rules.Acting.{rows_answer}
-use Rattle.mega_valid_laws.specs.of_settled_laws.of_run_laws.of_tape_laws.of_rules.Examples.{cluster, entry_of, group, op_of}
+use Rattle.mega_valid_laws.specs.of_settled_laws.of_tape_laws.of_transcript.declared.item.Item.{Item}
+use Rattle.mega_valid_laws.specs.of_settled_laws.of_tape_laws.of_transcript.declared.item.Item.TheVariants.{Answer as AnswerItem, Begin, Unsafe}
+use Rattle.mega_valid_laws.specs.of_settled_laws.of_tape_laws.of_transcript.Tape.{newest}
+use Rattle.mega_valid_laws.specs.of_settled_laws.of_tape_laws.of_promises.Fresh.{IsFresh, IsSafeAt, ReadsThrough, WasDecided, read_over}
+use Rattle.mega_valid_laws.specs.of_settled_laws.of_tape_laws.of_promises.Items.{number}
+use Rattle.mega_valid_laws.specs.of_settled_laws.of_tape_laws.of_promises.Promises.{log_of, rows_shown}
+use Rattle.mega_valid_laws.specs.of_settled_laws.of_tape_laws.Answers.{AreAnswered, LawfulAnswers, MayRead}
+use Rattle.mega_valid_laws.specs.of_settled_laws.of_tape_laws.Examples.{first, place, put_decided}
+use Rattle.mega_valid_laws.specs.of_settled_laws.of_tape_laws.Writes.{AreWritten, Own, again, own, runs}
+use Rattle.mega_valid_laws.proofs.of_settled_laws.of_tape_laws.Writing as put
+use Rattle.mega_valid_laws.specs.of_settled_laws.of_tape_laws.of_rules.Acting.{rows_answer}
+use Rattle.mega_valid_laws.specs.of_settled_laws.of_tape_laws.of_rules.Examples.{cluster, entry_of, group, op_of}
 use Rattle.mega_valid_laws.proofs.Orders.{stood_first}
 use Rattle.mega_witness_laws.specs.Tapes.{missed, put_then_read, user_read}
 use Rattle.mega_witness_laws.proofs.Shown.{clash, none_stands}

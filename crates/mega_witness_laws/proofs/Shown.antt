@@ -2,8 +2,8 @@
 use Rattle.std.proofs.Common.{◌≡◌, inl, inr, ◌&&◌, ◌||◌, Bool, true, false, not, List, [], ◌∷◌, ◌++◌, refl, ap, sym, ◌∙◌, subst}
 use Rattle.std.specs.List.{list_any}
 use Rattle.mega_base.specs.declared.names.OpId.{OpId}
-use Rattle.mega_transcript.specs.declared.item.Item.{Item}
-use Rattle.mega_valid_laws.specs.of_settled_laws.of_run_laws.of_promises.Promises.{Stands}
+use Rattle.mega_valid_laws.specs.of_settled_laws.of_tape_laws.of_transcript.declared.item.Item.{Item}
+use Rattle.mega_valid_laws.specs.of_settled_laws.of_tape_laws.of_promises.Promises.{Stands}
 use Rattle.mega_valid_laws.specs.of_settled_laws.Covering.{Earlier}
 
 -- ---- truth values

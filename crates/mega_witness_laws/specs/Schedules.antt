@@ -5,10 +5,10 @@ use Rattle.mega_outcome.specs.declared.request.Mode.TheVariants.{Current}
 use Rattle.mega_outcome.specs.declared.request.Request.{Request}
 use Rattle.mega_outcome.specs.declared.request.Request.TheVariants.{PumpEnter, Txn}
 use Rattle.mega_outcome.specs.declared.transaction.Change.TheVariants.{Put}
-use Rattle.mega_schedule.specs.declared.world_event.WorldEvent.{WorldEvent}
-use Rattle.mega_schedule.specs.declared.world_event.WorldEvent.TheVariants.{Deliver, Drop}
-use Rattle.mega_valid_laws.specs.of_settled_laws.of_run_laws.of_promises.Worked.{begin, crash, drain, put_at, read_at, second, start, tick, to}
-use Rattle.mega_valid_laws.specs.of_settled_laws.of_run_laws.of_tape_laws.of_rules.Examples.{group, user}
+use Rattle.mega_valid_laws.specs.of_settled_laws.of_tape_laws.of_schedule.declared.world_event.WorldEvent.{WorldEvent}
+use Rattle.mega_valid_laws.specs.of_settled_laws.of_tape_laws.of_schedule.declared.world_event.WorldEvent.TheVariants.{Deliver, Drop}
+use Rattle.mega_valid_laws.specs.of_settled_laws.of_tape_laws.of_promises.Worked.{begin, crash, drain, put_at, read_at, second, start, tick, to}
+use Rattle.mega_valid_laws.specs.of_settled_laws.of_tape_laws.of_rules.Examples.{group, user}
 
 -- ---- old answers
 

@@ -10,13 +10,13 @@ use Rattle.mega_outcome.specs.declared.request.Mode.TheVariants.{Current}
 use Rattle.mega_outcome.specs.declared.request.ReadRequest.{ReadRequest}
 use Rattle.mega_outcome.specs.declared.request.Request.{Request}
 use Rattle.mega_outcome.specs.declared.request.Request.TheVariants.{Read}
-use Rattle.mega_transcript.specs.declared.item.Item.{Item}
-use Rattle.mega_transcript.specs.declared.item.Item.TheVariants.{Answer, Begin, Counts, Decide, Forgets, Grant, Lost, Sent, Serving, Taken, Valid}
-use Rattle.mega_valid_laws.specs.of_settled_laws.of_run_laws.of_promises.Items.{number}
-use Rattle.mega_valid_laws.specs.of_settled_laws.of_run_laws.of_promises.Worked.{user_101}
-use Rattle.mega_valid_laws.specs.of_settled_laws.of_run_laws.of_tape_laws.of_rules.Examples.{accept_for, accepted_from, entry_of, from_to, group, op_of, put}
-use Rattle.mega_valid_laws.specs.of_settled_laws.of_run_laws.of_tape_laws.Writes.{Usage}
-use Rattle.mega_valid_laws.specs.of_settled_laws.of_run_laws.of_tape_laws.Examples.{all_accept, ballot_of, epoch, first, put_decided, second, told_by, unheld_at}
+use Rattle.mega_valid_laws.specs.of_settled_laws.of_tape_laws.of_transcript.declared.item.Item.{Item}
+use Rattle.mega_valid_laws.specs.of_settled_laws.of_tape_laws.of_transcript.declared.item.Item.TheVariants.{Answer, Begin, Counts, Decide, Forgets, Grant, Lost, Sent, Serving, Taken, Valid}
+use Rattle.mega_valid_laws.specs.of_settled_laws.of_tape_laws.of_promises.Items.{number}
+use Rattle.mega_valid_laws.specs.of_settled_laws.of_tape_laws.of_promises.Worked.{user_101}
+use Rattle.mega_valid_laws.specs.of_settled_laws.of_tape_laws.of_rules.Examples.{accept_for, accepted_from, entry_of, from_to, group, op_of, put}
+use Rattle.mega_valid_laws.specs.of_settled_laws.of_tape_laws.Writes.{Usage}
+use Rattle.mega_valid_laws.specs.of_settled_laws.of_tape_laws.Examples.{all_accept, ballot_of, epoch, first, put_decided, second, told_by, unheld_at}
 
 -- ---- a read that misses what was decided
 

@@ -1,14 +1,14 @@
 //! Tapes that the laws refuse, as contracts of functions that do nothing.
 
 ghost use Rattle.std.specs.Prelude.{◌≡◌, false};
-ghost use Rattle.mega_transcript.specs.Tape.{newest};
+ghost use Rattle.mega_valid_laws.specs.of_settled_laws.of_tape_laws.of_transcript.Tape.{newest};
 ghost use Rattle.mega_valid_laws.specs.Leases.{AreLeased};
 ghost use Rattle.mega_valid_laws.specs.of_settled_laws.Covering.{AreSettled};
-ghost use Rattle.mega_valid_laws.specs.of_settled_laws.of_run_laws.of_promises.Fresh.{IsFresh};
-ghost use Rattle.mega_valid_laws.specs.of_settled_laws.of_run_laws.of_promises.Messages.{is_unsafe};
-ghost use Rattle.mega_valid_laws.specs.of_settled_laws.of_run_laws.of_tape_laws.Answers.{LawfulAnswers};
-ghost use Rattle.mega_valid_laws.specs.of_settled_laws.of_run_laws.of_tape_laws.Examples.{asks_put};
-ghost use Rattle.mega_valid_laws.specs.of_settled_laws.of_run_laws.of_tape_laws.of_rules.Examples.{cluster};
+ghost use Rattle.mega_valid_laws.specs.of_settled_laws.of_tape_laws.of_promises.Fresh.{IsFresh};
+ghost use Rattle.mega_valid_laws.specs.of_settled_laws.of_tape_laws.of_promises.Messages.{is_unsafe};
+ghost use Rattle.mega_valid_laws.specs.of_settled_laws.of_tape_laws.Answers.{LawfulAnswers};
+ghost use Rattle.mega_valid_laws.specs.of_settled_laws.of_tape_laws.Examples.{asks_put};
+ghost use Rattle.mega_valid_laws.specs.of_settled_laws.of_tape_laws.of_rules.Examples.{cluster};
 ghost use Rattle.mega_witness_laws.specs.Tapes.{committed_uncovered, covered_before, first_covered, missed, polled_across, put_then_read, valid_across};
 
 /// While leases are safe no current read misses an entry that was decided before it began, although what it shows is the front of the log, and all else is

@@ -3,9 +3,9 @@
 ghost use Rattle.std.specs.Prelude.{◌≡◌, ◌++◌, false, true, [], ◌∷◌, reverse, None, Some};
 ghost use Rattle.mega_outcome.specs.declared.answer.Answer.TheVariants.{Read as ReadAnswer};
 ghost use Rattle.mega_valid_laws.specs.Leases.{serving_on, valid_on};
-ghost use Rattle.mega_valid_laws.specs.of_settled_laws.of_run_laws.of_promises.Messages.{is_unsafe};
-ghost use Rattle.mega_valid_laws.specs.of_settled_laws.of_run_laws.of_promises.Worked.{Asked, Lapses, Learned, Proposed, Serves, Valid, answers, committed_at, drain, epoch, marks, op, read_through, run, second, story, told};
-ghost use Rattle.mega_valid_laws.specs.of_settled_laws.of_run_laws.of_tape_laws.of_rules.Examples.{group};
+ghost use Rattle.mega_valid_laws.specs.of_settled_laws.of_tape_laws.of_promises.Messages.{is_unsafe};
+ghost use Rattle.mega_valid_laws.specs.of_settled_laws.of_tape_laws.of_promises.Worked.{Asked, Lapses, Learned, Proposed, Serves, Valid, answers, committed_at, drain, epoch, marks, op, read_through, run, second, story, told};
+ghost use Rattle.mega_valid_laws.specs.of_settled_laws.of_tape_laws.of_rules.Examples.{group};
 ghost use Rattle.mega_witness_laws.specs.Schedules.{not_told, regained, third, told_before, two_pumps};
 
 /// A read of node 2 polled before a put of node 3. Node 2 is told to count the group invalid, and then the old answers come: it answers its read, and the group
