@@ -1,5 +1,5 @@
 -- A group that is valid by what was asked while an earlier epoch served.
-use Rattle.std.proofs.Common.{◌≡◌, inl, inr, ℕ, ◌&&◌, Bool, true, false, not, List, [], ◌∷◌, Option, Some, None, refl, ap, sym, ◌∙◌, subst}
+use Rattle.std.proofs.Common.{◌≡◌, inl, inr, ℕ, ◌&&◌, Bool, true, false, not, List, Option, Some, None, refl, ap, sym, ◌∙◌, subst}
 use Rattle.std.specs.List.{list_any}
 use Rattle.mega_base.specs.declared.names.Epoch.{Epoch}
 use Rattle.mega_base.specs.declared.names.OpId.{OpId}
@@ -18,7 +18,7 @@ use Rattle.mega_valid_laws.specs.Leases.{AreLeased, MayBeValid, MayServe, NoneAb
 use Rattle.mega_valid_laws.proofs.of_settled_laws.of_tape_laws.Majorities.{Shared, meet}
 use Rattle.mega_valid_laws.proofs.of_settled_laws.of_tape_laws.Witnesses.{first_two, two_of_three}
 use Rattle.mega_witness_laws.specs.Tapes.{next_epoch, polled_across, valid_across}
-use Rattle.mega_witness_laws.proofs.Shown.{AllOf, both, false_of, never, no_moment, none_stands, stands_of}
+use Rattle.mega_witness_laws.proofs.Shown.{AllOf, both, false_of, no_moment, none_stands, stands_of}
 
 -- ---- all but the last item is allowed
 

@@ -1,11 +1,9 @@
 -- A full node that is not covered, or by what cells said while an earlier position was covered.
-use Rattle.std.proofs.Common.{◌≡◌, inl, inr, ℕ, zero, suc, ◌<◌, ◌==◌, ◌&&◌, Bool, true, false, not, List, [], ◌∷◌, ◌++◌, Option, Some, None, refl, ap, sym, ◌∙◌, subst, arith}
+use Rattle.std.proofs.Common.{◌≡◌, inl, inr, ℕ, zero, suc, ◌<◌, ◌==◌, ◌&&◌, Bool, true, false, not, List, [], ◌∷◌, ◌++◌, Some, None, refl, ap, sym, subst, arith}
 use Rattle.std.specs.List.{list_any}
 use Rattle.mega_base.specs.declared.names.NodeId.{NodeId}
 use Rattle.mega_base.specs.declared.names.OpId.{OpId}
-use Rattle.mega_base.specs.declared.names.Position.{Position}
 use Rattle.mega_ballot.specs.declared.ballot.Ballot.{Ballot}
-use Rattle.mega_ballot.specs.Order.{zero_ballot}
 use Rattle.mega_entry.specs.declared.content.Content.{Content}
 use Rattle.mega_wire.specs.declared.message.Body.{Body}
 use Rattle.mega_wire.specs.declared.message.Body.TheVariants.{Accepted, Invalidated, Unheld}
@@ -31,7 +29,7 @@ use Rattle.mega_valid_laws.specs.of_settled_laws.Covering.{AreSettled, Earlier, 
 use Rattle.mega_valid_laws.proofs.of_settled_laws.Tapes.{earlier_stood, now_is, then_later}
 use Rattle.mega_valid_laws.proofs.Orders.{cells_meet, stands_behind}
 use Rattle.mega_witness_laws.specs.Tapes.{accepted_first, accepted_second, cells_answer, committed_uncovered, covered_before, first_covered}
-use Rattle.mega_witness_laws.proofs.Shown.{AllOf, both, clash, finds, never, no_moment, none_stands, stands_of}
+use Rattle.mega_witness_laws.proofs.Shown.{AllOf, both, clash, finds, no_moment, none_stands, stands_of}
 
 -- ---- what no node and no cell says
 
@@ -66,11 +64,11 @@ none_covered tape still full p e w = go w.op w.moment w.earlier w.settled
 
 -- ---- an operation that is committed while node 3 is not covered
 
+pub not_own : OwnSettled cluster (newest put_decided) (op_of 1) first → ⊥
+not_own o = none_covered (newest put_decided) refl refl (record { group = o.group; position = first }) o.entry o.covered
+
 pub not_settled : AreSettled cluster (newest committed_uncovered) → ⊥
-not_settled s = of_own ((s.committed) (op_of 1) first [] (newest put_decided) (record { later = []; is = refl }))
-  where
-    of_own : OwnSettled cluster (newest put_decided) (op_of 1) first → ⊥
-    of_own o = none_covered (newest put_decided) refl refl (record { group = o.group; position = first }) o.entry o.covered
+not_settled s = not_own ((s.committed) (op_of 1) first [] (newest put_decided) (record { later = []; is = refl }))
 
 nothing : {d : Content} → None ≡ Some d → ⊥
 nothing h = cc
