@@ -1,0 +1,4 @@
+pub mod Shown
+pub mod Missed
+pub mod Across
+pub mod Covered
