@@ -21,7 +21,7 @@ use Rattle.mega_core.specs.declared.node.Node.{Node}
 use Rattle.mega_core.specs.Faults.{of_store}
 use Rattle.mega_core.specs.of_stepping.Positions.{Keeps}
 use Rattle.mega_durable.specs.declared.fault.UpFault.{UpFault}
-use Rattle.mega_durable.specs.declared.fault.UpFault.TheVariants.{Step as Failed}
+use Rattle.mega_durable.specs.declared.fault.UpFault.TheVariants.{Cut, Log, Step as Failed, Unformed}
 use Rattle.mega_durable.specs.Spilling.{MaySpill, SpillFares, step_fault_of}
 use Rattle.mega_durable.specs.Standing.{IsUp}
 use Rattle.mega_durable.proofs.Stepping.{burns_not}
@@ -102,8 +102,11 @@ bad_of (BadRecord number) n is = cc
 bad_of NoMemory n is = absurd (cc)
 
 fault_in : Result (Unit {0}) UpFault → StepFault
+fault_in (Ok done) = step.NoMemory
 fault_in (Err (Failed fault)) = fault
-fault_in _ = step.NoMemory
+fault_in (Err (Cut cut)) = step.NoMemory
+fault_in (Err (Log fault)) = step.NoMemory
+fault_in (Err Unformed) = step.NoMemory
 
 pub failed_same : {one two : StepFault} → ◌≡◌ {A = Result (Unit {0}) UpFault} (Err (Failed one)) (Err (Failed two)) → one ≡ two
 unfolding fault_in

@@ -1,6 +1,6 @@
 use Rattle.std.proofs.Common.{◌≡◌, ◌⊎◌, ◌∙◌, ap, ◌≤◌, ◌^◌, Ok, Err}
 use Rattle.mega_disk.specs.Images.{LeavesOnly}
-use Rattle.mega_disk.specs.VersionMaps.{IsSpilled, Marks, Stored}
+use Rattle.mega_disk.specs.VersionMaps.{IsSpilled}
 use Rattle.mega_durable.specs.Spilling.{marks_of}
 use Rattle.mega_durable.proofs.AfterSpill.{drops_none, fares_made, fares_short, spilled_not}
 use Rattle.mega_durable.proofs.spilling.spill_all.Goals as goal
