@@ -5,6 +5,7 @@ pub mod Changes
 pub mod Headings
 pub mod Holding
 pub mod Inputs
+pub mod Joint
 pub mod NodeHandlers
 pub mod NodeStops
 pub mod Plain

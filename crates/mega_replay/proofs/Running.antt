@@ -39,11 +39,12 @@ use Rattle.mega_fresh_laws.proofs.of_leased_laws.Leased.{run_leased}
 use Rattle.mega_fresh_laws.proofs.of_leased_laws.Tops.{run_fresh}
 use Rattle.mega_line_laws.specs.Meanings.{meaning_in}
 use Rattle.mega_replay.specs.Meanings.{usage}
-use Rattle.mega_replay.specs.Running.{AllHappen, AllReadAll, Happens, ReadsAll, Replayed, Went, in_turn, stood}
+use Rattle.mega_replay.specs.Running.{AllHappen, AllReadAll, HoldsSettled, Happens, ReadsAll, Replayed, Went, in_turn, stood}
 use Rattle.mega_shown_laws.specs.of_promises.Calm.{IsCalmComplete}
 use Rattle.mega_calm_laws.proofs.Complete.{run_is_calm_complete}
 use Rattle.mega_replay.proofs.Caused.{run_caused}
 use Rattle.mega_replay.proofs.Holding.{means_values}
+use Rattle.mega_replay.proofs.Joint.{run_joint}
 use Rattle.mega_replay.proofs.Plain.{built_formed, each_plain, told_by}
 use Rattle.mega_replay.proofs.Starts.{declared_of}
 
@@ -90,6 +91,9 @@ all_read_all : (c : Cluster) (events : List Happening) → CanStart c → AllRea
 all_read_all c [] can = reads_all c [] can
 all_read_all c (one ∷ earlier) can = (all_read_all c earlier can, reads_all c (one ∷ earlier) can)
 
+joint : (c : Cluster) (events : List Happening) → CanStart c → HoldsSettled c (stood c events)
+joint c events can = subst (HoldsSettled c) (turned c events []) (run_joint c built_in (in_turn events []) can.few (cells_few c.cells can.cells))
+
 calm_complete : (c : Cluster) (events : List Happening) → CanStart c → Fits (usage c.schema) (in_turn events []) → IsCalmComplete c built_in by_fuse (stood c events)
 calm_complete c events can fits =
     subst (IsCalmComplete c built_in by_fuse) (turned c events []) (run_is_calm_complete c (usage c.schema) by_fuse built_in built_in (in_turn events []) can.few (cells_few c.cells can.cells) can.housed fits)
@@ -114,6 +118,7 @@ replayed c lines events can happen held =
       indexed = indexed c (usage c.schema) tape writes declared values;
       rows = rows_fit c (usage c.schema) tape writes declared values;
       local = all_read_all c events can;
+      joint = joint c events can;
       fresh = run_is_fresh c (usage c.schema) built_in (in_turn events []) tape can.few (cells_few c.cells can.cells) run fits;
       settled = run_settled c (usage c.schema) built_in (in_turn events []) tape run fits;
       leased = run_leased c built_in (in_turn events []) tape can.few run;

@@ -1,5 +1,5 @@
 -- The run of a cluster over the events that lines spell. Lines and events stand newest first.
-use Rattle.std.specs.Prelude.{◌≡◌, ◌≤◌, ℕ, ◌+◌, All, true, false, List, [], ◌∷◌, length, take, None, Ok}
+use Rattle.std.specs.Prelude.{◌≡◌, ◌≤◌, ◌<◌, ℕ, ◌+◌, All, true, false, List, [], ◌∷◌, length, take, None, Ok}
 use Rattle.mega_base.specs.declared.names.GroupId.{GroupId}
 use Rattle.mega_base.specs.declared.names.NodeId.{NodeId}
 use Rattle.mega_base.specs.declared.names.OpId.{OpId}
@@ -29,8 +29,8 @@ use Rattle.mega_shown_laws.specs.of_promises.Moments.{StoodOn}
 use Rattle.mega_shown_laws.specs.of_promises.Promises.{Agree, AreMessages, IsSerial, Stands, log_of}
 use Rattle.mega_shown_laws.specs.of_promises.Runs.{Happening, IsRun, Standing, after_event, by_fuse, goes_on, opening, refusal, unless_refused}
 use Rattle.mega_shown_laws.specs.of_tape_laws.Indexed.{AreRows, IsIndexed}
-use Rattle.mega_settled_laws.specs.Covering.{AreSettled}
-use Rattle.mega_valid_laws.specs.Leases.{AreLeased}
+use Rattle.mega_settled_laws.specs.Covering.{AreSettled, WasCovered}
+use Rattle.mega_valid_laws.specs.Leases.{AreLeased, HasAtLeast}
 use Rattle.mega_world.specs.declared.world.World.{World}
 use Rattle.mega_world.specs.Stands.{IsAt}
 use Rattle.mega_line_laws.specs.Clusters.{CanStart}
@@ -72,6 +72,13 @@ ReadsAll c now =
     is_unsafe now.tape ≡ false → (node : ℕ) → is_full c node ≡ true → is_up (now.node node).met ≡ true → (group : GroupId) → valid_at c (now.node node).met group ≡ true
     → (n : Position) (entry : Content) (other : NodeId) → Stands (Decide other group n entry) now.tape → n.0 ≤ top_of (now.node node).met group
 
+-- as long as leases are safe, where a group is valid at a full node that is up, the node accepted or decided a position at least as great as each that an
+-- operation settled
+abbrev pub HoldsSettled : Cluster → Standing → Type 0
+HoldsSettled c now =
+    is_unsafe now.tape ≡ false → (node : ℕ) → is_full c node ≡ true → is_up (now.node node).met ≡ true → (group : GroupId) → valid_at c (now.node node).met group ≡ true
+    → (n : Position) (entry : Content) → 0 < n.0 → WasCovered c now.tape (record { group = group; position = n }) entry → HasAtLeast now.tape node group n
+
 -- so it is before the first of these events, and behind each
 abbrev pub AllReadAll : Cluster → List Happening → Type 0
 AllReadAll c [] = ReadsAll c (stood c [])
@@ -84,7 +91,7 @@ IsTold schema items = (others : List Item) → All (IsPlain schema) others → l
 -- the lines' events happen, and the tape is a run of the cluster over them, in order, in which a fuse on a log cuts the append that it names: so what nodes decided at one position is one entry; an
 -- entry with the id of an operation is what that came to over the entries below, and answers are as of one thread; messages between groups
 -- are entered and handled once, in order; each answer has its cause on the tape before it; what stands in a log under keys that are no row keys is what the local indexes have over the
--- tables' rows, each of which fits and stands under its own key; behind each line local reads read through all that is decided, while leases are
+-- tables' rows, each of which fits and stands under its own key; behind each line local reads read through all that is decided, and a node where a group is valid has what was settled of it, while leases are
 -- safe; as long as leases are safe by its end, what a current read, a find, a transaction or a batch comes to holds all that was decided before it began, and what
 -- an operation proposes that polled stands above all that was decided before it asked, whether leases are safe or not; what is decided, committed or answered of a
 -- batch stands behind what settled its entry; leases are as the rules have them; where it leaves the cluster calm, what begins next is answered; and each item is read
@@ -100,6 +107,7 @@ pub record Replayed (c : Cluster) (lines : List (List ℕ)) (events : List Happe
   pub indexed : (group : GroupId) (p : ℕ) → IsIndexed c.schema group (list_after (take p (log_of (stood c events).tape group)) [])
   pub rows : (group : GroupId) (p : ℕ) → AreRows c.schema group (list_after (take p (log_of (stood c events).tape group)) [])
   pub local : AllReadAll c events
+  pub joint : HoldsSettled c (stood c events)
   pub fresh : IsFresh c (meaning_in c.schema) (stood c events).tape
   pub settled : AreSettled c (stood c events).tape
   pub leased : AreLeased c (stood c events).tape
