@@ -44,7 +44,7 @@ pub(crate) fn is_voter(cluster: &Cluster, node: u8) -> bool
 }
 
 /// Whether a node keeps rows.
-pub(crate) fn has_rows(cluster: &Cluster, node: u8) -> bool
+pub fn has_rows(cluster: &Cluster, node: u8) -> bool
     ensures { result ≡ has_rows cluster.now node }
 {
     is_node(cluster, node) && keeps_rows(kind_of(cluster, node))

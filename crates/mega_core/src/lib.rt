@@ -22,6 +22,7 @@ mod ticking;
 mod touching;
 
 pub use fault::StepFault;
+pub use kinds::has_rows;
 pub use mega_actions;
 pub use node::Node;
 pub use note::Note;

@@ -12,3 +12,5 @@ pub mod Burning
 pub mod Refusing
 pub mod Named
 pub mod Summing
+pub mod Spilled
+pub mod Recalled

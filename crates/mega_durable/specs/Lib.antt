@@ -5,5 +5,6 @@ pub mod Cut
 pub mod Stepped
 pub mod Starting
 pub mod Compacting
+pub mod Spilling
 pub use Rattle.mega_core.specs.of_actions as of_actions
 pub use Rattle.mega_core.specs as of_core

@@ -45,4 +45,14 @@ impl<R: Records, V: Versions> Down<R, V> {
     {
         self.voter.fuse(calls, image);
     }
+
+    /// The records of a node that starts no more, and the store of its rows.
+    pub fn close_both(self) -> (R, V)
+        ensures records { result.0 ≡ self.voter.logs.records }
+        ensures rows { result.1 ≡ self.rows.rows }
+    {
+        let Down { voter, rows } = self;
+        let StoredRows { rows, .. } = rows;
+        (voter.close().close(), rows)
+    }
 }

@@ -10,6 +10,7 @@ mod serving;
 mod starting;
 mod stop;
 
+pub use mega_runs;
 pub use mega_server;
 pub use program::{Outcome, run_node};
 pub use stop::Stop;

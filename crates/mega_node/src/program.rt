@@ -12,6 +12,8 @@ ghost use Rattle.mega_wal.specs.Records.{first_bad, history_of};
 ghost use Rattle.mega_node.specs.Calls.{HasRun, IsCut};
 ghost use Rattle.mega_node.specs.Headers.{IsBroken, IsHeaded, header_line};
 ghost use Rattle.mega_node.specs.Outside.{OnlyWrites, told_by};
+ghost use Rattle.mega_node.specs.Starting.{counts_of};
+ghost use Rattle.mega_serve.specs.Stepping.{HaveFailed, HaveGone};
 ghost use Rattle.mega_node.specs.Stops.{IsBeforeOpening, IsBehindHeader, IsHeaderStop, IsNoRule, IsTellingStop};
 
 use crate::heading::read_members;
@@ -24,7 +26,7 @@ use mega_disk::{Disk, Pair};
 use mega_io::{Sink, SinkError, Source, put};
 use mega_link::{Clock, Link};
 use mega_meanings::QueueHandlers;
-use mega_rows::VersionedRows;
+use mega_runs::Archive;
 use mega_serve::Steps;
 use mega_server::{Number, Server};
 use std::alloc::Global;
@@ -103,19 +105,19 @@ pub fn run_node<I: Source, O: Sink, D: Disk + Drop, L: Link, C: Clock, H: QueueH
     handlers: H,
 ) -> Outcome<D>
     // With all turns made the sink holds the whole record, the link sent what stands in it, and the log holds what the node met.
-    ensures ran { OnOk result.ended ((left : Devices D) × (result.devices ≡ Some left) × HasRun D.Disk ⟦<Server<Checkpoint<D>, VersionedRows, H> as Steps>⟧ (H.meant handlers) number.of turns (I.left input.old) devices.log left.log (told_by L.Link C.Clock O.Sink link.old clock.old out.old) (told_by L.Link C.Clock O.Sink link.new clock.new out.new)) }
+    ensures ran { OnOk result.ended ((left : Devices D) × (result.devices ≡ Some left) × HasRun D.Disk ⟦<Server<Checkpoint<D>, Archive<D>, H> as Steps>⟧ (H.meant handlers) number.of turns (I.left input.old) devices.log left.log (told_by L.Link C.Clock O.Sink link.old clock.old out.old) (told_by L.Link C.Clock O.Sink link.new clock.new out.new)) }
 
     // A header that breaks a rule is told of in the last line, and nothing else is done.
     ensures header { (rule : ℕ) → result.ended ≡ Err (Stop.Header rule) → IsBroken number.of (I.left input.old) rule × OnlyWrites (told_by L.Link C.Clock O.Sink link.old clock.old out.old) (told_by L.Link C.Clock O.Sink link.new clock.new out.new) (λ held more_held. Appends held more_held (header_line rule)) }
     ensures headed { IfErr result.ended (λ stop. IsBehindHeader stop → (c : Members) × IsHeaded number.of (I.left input.old) c) }
 
     // At any other end a front of what there was to write is held.
-    ensures cut { IfErr result.ended (λ stop. IsNoRule stop → IsCut D.Disk ⟦<Server<Checkpoint<D>, VersionedRows, H> as Steps>⟧ (H.meant handlers) number.of (I.left input.old) devices.log (told_by L.Link C.Clock O.Sink link.old clock.old out.old) (told_by L.Link C.Clock O.Sink link.new clock.new out.new)) }
+    ensures cut { IfErr result.ended (λ stop. IsNoRule stop → IsCut D.Disk ⟦<Server<Checkpoint<D>, Archive<D>, H> as Steps>⟧ (H.meant handlers) number.of (I.left input.old) devices.log (told_by L.Link C.Clock O.Sink link.old clock.old out.old) (told_by L.Link C.Clock O.Sink link.new clock.new out.new)) }
 
     // Why it ends.
     ensures source { result.ended ≡ Err Stop.Source → Rose (I.faults input.old) (I.faults input.new) × HeaderFails (I.left input.old) (I.left input.new) }
     ensures sink { result.ended ≡ Err Stop.Sink → Rose (O.faults out.old) (O.faults out.new) }
-    ensures device { result.ended ≡ Err Stop.Device → (left : Devices D) × (result.devices ≡ Some left) × Rose (D.faults devices.log) (D.faults left.log) }
+    ensures device { result.ended ≡ Err Stop.Device → (left : Devices D) × (result.devices ≡ Some left) × HaveFailed (counts_of D.faults devices) (counts_of D.faults left) }
     ensures link { result.ended ≡ Err Stop.Link → Rose (L.faults link.old) (L.faults link.new) }
     ensures full { (length : ℕ) → result.ended ≡ Err (Stop.Full length) → 2 ^ 40 < length }
     ensures starts { result.ended ≡ Err Stop.StartsFull → D.is_told ≡ true → starts_of (history_of (list_of (D.seen devices.log))) ≡ 4294967295 }
@@ -123,20 +125,18 @@ pub fn run_node<I: Source, O: Sink, D: Disk + Drop, L: Link, C: Clock, H: QueueH
 
     // What it leaves.
     ensures lost { result.devices ≡ None → result.ended ≡ Err Stop.NoMemory }
-    ensures runs { (left : Devices D) → result.devices ≡ Some left → left.runs ≡ devices.runs }
-    ensures log { (left : Devices D) → result.devices ≡ Some left → D.faults devices.log ≤ D.faults left.log }
+    ensures later { (left : Devices D) → result.devices ≡ Some left → HaveGone (counts_of D.faults devices) (counts_of D.faults left) }
     ensures unopened { IfErr result.ended (λ stop. IsBeforeOpening stop → result.devices ≡ Some devices) }
     ensures inputs { I.faults input.old ≤ I.faults input.new }
     ensures outs { O.faults out.old ≤ O.faults out.new }
 {
-    let Pair { log, runs } = devices;
     let cluster = match read_members(alloc, number.get(), input) {
         Ok(cluster) => cluster,
         Err(stop) => {
             drop(handlers);
             return Outcome {
                 ended: Err(tell(alloc, stop, out)),
-                devices: Some(Pair { log, runs }),
+                devices: Some(devices),
             };
         }
     };
@@ -147,16 +147,12 @@ pub fn run_node<I: Source, O: Sink, D: Disk + Drop, L: Link, C: Clock, H: QueueH
             drop(handlers);
             return Outcome {
                 ended: Err(Stop::Link),
-                devices: Some(Pair { log, runs }),
+                devices: Some(devices),
             };
         }
     }
-    let (ended, left) = run_over(
-        alloc, number, turns, cluster, log, handlers, link, clock, out,
+    let (ended, devices) = run_over(
+        alloc, number, turns, cluster, devices, handlers, link, clock, out,
     );
-    let devices = match left {
-        Some(log) => Some(Pair { log, runs }),
-        None => None,
-    };
     Outcome { ended, devices }
 }

@@ -3,6 +3,7 @@ use Rattle.std.proofs.Common.{◌≡◌, ◌⊎◌, inl, inr, ℕ, ◌+◌, ◌-
 use Rattle.mega_base.specs.Causes.{Rose}
 use Rattle.mega_cluster.specs.declared.cluster.Cluster.{Cluster}
 use Rattle.mega_disk.specs.declared.records.Records.{Ghosts}
+use Rattle.mega_disk.specs.declared.versions.StoreError.{StoreError}
 use Rattle.mega_disk.specs.declared.versions.Versions.{Ghosts as VersionGhosts}
 use Rattle.mega_disk.specs.VersionMaps.{Versions}
 use Rattle.mega_handler.specs.Named.{Meaning, Meanings}
@@ -20,6 +21,7 @@ use Rattle.mega_durable.specs.declared.fault.UpFault.{UpFault}
 use Rattle.mega_durable.specs.declared.fault.UpFault.TheVariants as up
 use Rattle.mega_durable.specs.Compacting.{AtEachUp, LogCompacts, OwesNothing}
 use Rattle.mega_durable.specs.Cut.{LogWent, failed_by, log_fault_in}
+use Rattle.mega_durable.specs.Spilling.{IsNotSpilled, SpillFares, rows_in}
 use Rattle.mega_durable.specs.Standing.{IsUp, MayHappen, records_in}
 use Rattle.mega_durable.specs.Stepped.{AtEach}
 use Rattle.mega_serve.specs.declared.fault.NodeFault.{NodeFault}
@@ -90,3 +92,25 @@ due_on (node.BadRecord number) old mid new gone due = tt
 due_on node.Spent old mid new gone due = tt
 due_on node.Unformed old mid new gone due = tt
 due_on node.NoMemory old mid new gone due = tt
+
+-- ---- behind the compaction the rows are spilled
+pub at_spilled : {R V : Type 0} (store : Ghosts R) (version : V → Versions) (old mid new : Node R V) → AtEachUp store version old (λ h ruled. IsUp store version h mid ruled)
+    → AtEachUp store version mid (λ h ruled. IsUp store version h new ruled) → AtEachUp store version old (λ h ruled. IsUp store version h new ruled)
+at_spilled store version old mid new first second = λ h ruled is. second h ruled (first h ruled is)
+
+pub spilling_gone : {R V : Type 0} (store : Ghosts R) (rows : VersionGhosts V) (old new : Node R V) (failed : Option StoreError) → SpillFares rows failed (rows_in old) (rows_in new)
+    → new.replica.voter ≡ old.replica.voter → HaveGone (devices_of store rows old) (devices_of store rows new)
+spilling_gone store rows old new failed fares same = (longer (store.faults (records_in new)) (store.faults (records_in old)) (λ i. store.faults (same i).logs.records), fares.later)
+
+pub spilling_due : {R V : Type 0} (store : Ghosts R) (rows : VersionGhosts V) (old new : Node R V) (fault : UpFault) → IsNotSpilled fault
+    → SpillFares rows (failed_by {T = Unit {0}} (Err fault)) (rows_in old) (rows_in new) → IsDueTo (fault_of fault) (devices_of store rows old) (devices_of store rows new)
+spilling_due store rows old new (up.Step step.DiskFault) why fares = inr (fares.cause refl)
+spilling_due store rows old new (up.Step (step.Full length)) why fares = fares.full length refl
+spilling_due store rows old new (up.Step (step.BadRecord number)) why fares = tt
+spilling_due store rows old new (up.Step step.Unserved) why fares = tt
+spilling_due store rows old new (up.Step step.Stranger) why fares = tt
+spilling_due store rows old new (up.Step step.Late) why fares = tt
+spilling_due store rows old new (up.Step step.NoMemory) why fares = tt
+spilling_due store rows old new (up.Cut cut) why fares = absurd (cc)
+spilling_due store rows old new (up.Log fault) why fares = absurd (cc)
+spilling_due store rows old new up.Unformed why fares = absurd (cc)

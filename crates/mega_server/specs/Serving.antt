@@ -1,5 +1,5 @@
 -- What a served node over its devices is, and where an event may happen at it.
-use Rattle.std.specs.Prelude.{◌≡◌, ℕ, ◌≤◌, true, Bool, List, All, Option}
+use Rattle.std.specs.Prelude.{◌≡◌, ℕ, true, Bool, List, [], All, Option}
 use Rattle.std.specs.List.{list_any}
 use Rattle.mega_base.specs.declared.names.OpId.{OpId}
 use Rattle.mega_disk.specs.declared.records.Records.{Ghosts}
@@ -17,11 +17,13 @@ use Rattle.mega_wal.specs.Same.{same_op}
 use Rattle.mega_durable.specs.of_core.declared.node.Node.{Node}
 use Rattle.mega_durable.specs.Standing.{IsPlacedAt, IsUp, records_in}
 
--- a node of this number that is up as this node of the rules, over rows that tell what they hold and handlers that make this of messages
+-- a node of this number that is up as this node of the rules, over rows that tell what they hold and of which nothing is cleaned, and handlers that
+-- make this of messages
 pub record IsServed {R V : Type 0} (store : Ghosts R) (rows : VersionGhosts V) (makes : List ℕ → Option Meaning) (h : Meanings) (one : Node R V) (number : ℕ) (node : RuleNode) : Type 0 where
   pub up : IsUp store rows.version h one node
   pub means : Means makes h
   pub told : rows.is_told ≡ true
+  pub whole : (store : V) → rows.cleaned store ≡ []
   pub numbered : one.replica.me ≡ number
 
 -- an event may happen: each group's rows are its own then, a decision that it brings is at a position from 1 on, and what is to be kept of the

@@ -1,5 +1,5 @@
 //! A node over its devices, with the handlers of its queues, as one that is served.
-ghost use Rattle.std.specs.Prelude.{◌≡◌, ◌≤◌, ◌+◌, if◌then◌else◌, ℕ, List, map, true, IfErr, IfOk, OnOk};
+ghost use Rattle.std.specs.Prelude.{◌≡◌, ◌≤◌, ◌+◌, if◌then◌else◌, ℕ, List, [], map, true, false, IfErr, IfOk, OnOk};
 ghost use Rattle.std.specs.List.{list_any};
 ghost use Rattle.mega_base.specs.declared.names.OpId.{OpId as Op};
 ghost use Rattle.mega_handler.specs.Named.{Meanings};
@@ -10,8 +10,9 @@ ghost use Rattle.mega_replica.specs.Faring.{Fares};
 ghost use Rattle.mega_wal.specs.Same.{same_op};
 ghost use Rattle.mega_durable.specs.of_core.Notes.{met_of};
 ghost use Rattle.mega_promises.specs.Runs.{appends};
-ghost use Rattle.mega_durable.specs.Compacting.{IsToCompact};
+ghost use Rattle.mega_durable.specs.Compacting.{AtEachUp, IsToCompact};
 ghost use Rattle.mega_durable.specs.Cut.{LogWent, failed_by, log_failed_by};
+ghost use Rattle.mega_durable.specs.Spilling.{rows_in};
 ghost use Rattle.mega_durable.specs.Standing.{IsUp, records_in};
 ghost use Rattle.mega_durable.specs.Stepped.{AtEach};
 ghost use Rattle.mega_serve.specs.Stepping.{HaveGone, IsDueTo, event_of};
@@ -47,6 +48,27 @@ fn opens(operations: &[Operation], op: OpId) -> bool
     operations.iter().any(|one| is_same_op(one.id, op))
 }
 
+/// Before a step one record takes the place of all of a node's log where they are due for it, and its rows are spilled where they
+/// are full.
+fn readied<R: Records, V: Versions>(alloc: Global, up: &mut Up<R, V>) -> Result<(), UpFault>
+    ensures state { V.is_told ≡ true → V.cleaned (rows_in up.old.node) ≡ [] → OnOk result (AtEachUp R.Records V.version up.old.node (λ h node. IsUp R.Records V.version h up.new.node node)) }
+    ensures counted { OnOk result (IsToCompact R.Records up.old.node.replica.voter.logs → R.count_of (records_in up.new.node) ≡ 1) }
+    ensures room { OnOk result (V.is_full (rows_in up.new.node) ≡ false) }
+    ensures cause { IfErr result (λ fault. IsDueTo (fault_of fault) (devices_of R.Records V.Versions up.old.node) (devices_of R.Records V.Versions up.new.node)) }
+    ensures later { HaveGone (devices_of R.Records V.Versions up.old.node) (devices_of R.Records V.Versions up.new.node) }
+    ensures members { up.new.node.replica.members ≡ up.old.node.replica.members }
+    ensures me { up.new.node.replica.me ≡ up.old.node.replica.me }
+{
+    match up.compact(alloc) {
+        Ok(()) => {}
+        Err(fault) => return Err(fault),
+    }
+    match up.spill(alloc) {
+        Ok(()) => Ok(()),
+        Err(fault) => Err(fault),
+    }
+}
+
 impl<R: Records, V: Versions, H: QueueHandlers> Server<R, V, H> {
     /// The node makes the step of an event, over its log as it is.
     fn acts(&mut self, alloc: Global, event: Event) -> Result<Step, UpFault>
@@ -70,14 +92,15 @@ impl<R: Records, V: Versions, H: QueueHandlers> Server<R, V, H> {
         }
     }
 
-    /// The node makes the step of an event, behind one record in place of all of its log where they are due for it.
+    /// The node makes the step of an event, behind one record in place of all of its log where they are due for it, and a spill of
+    /// its rows where they are full.
     fn steps(&mut self, alloc: Global, event: Event) -> Result<Step, UpFault>
-        ensures notes { V.is_told ≡ true → IfOk result (λ made. AtEach R.Records V.version (H.meant self.old.handlers) self.old.up.node (event_of event) (λ h s node. map met_of made.notes ≡ (step s node (event_of event)).notes)) }
-        ensures sends { V.is_told ≡ true → IfOk result (λ made. AtEach R.Records V.version (H.meant self.old.handlers) self.old.up.node (event_of event) (λ h s node. made.sends ≡ (step s node (event_of event)).sends)) }
-        ensures state { V.is_told ≡ true → OnOk result (AtEach R.Records V.version (H.meant self.old.handlers) self.old.up.node (event_of event) (λ h s node. IsUp R.Records V.version h self.new.up.node (step s node (event_of event)).node)) }
+        ensures notes { V.is_told ≡ true → V.cleaned (rows_in self.old.up.node) ≡ [] → IfOk result (λ made. AtEach R.Records V.version (H.meant self.old.handlers) self.old.up.node (event_of event) (λ h s node. map met_of made.notes ≡ (step s node (event_of event)).notes)) }
+        ensures sends { V.is_told ≡ true → V.cleaned (rows_in self.old.up.node) ≡ [] → IfOk result (λ made. AtEach R.Records V.version (H.meant self.old.handlers) self.old.up.node (event_of event) (λ h s node. made.sends ≡ (step s node (event_of event)).sends)) }
+        ensures state { V.is_told ≡ true → V.cleaned (rows_in self.old.up.node) ≡ [] → OnOk result (AtEach R.Records V.version (H.meant self.old.handlers) self.old.up.node (event_of event) (λ h s node. IsUp R.Records V.version h self.new.up.node (step s node (event_of event)).node)) }
 
         // Records that were due are then at most two: one of all before the step, and that of the step.
-        ensures few { V.is_told ≡ true → OnOk result (IsToCompact R.Records self.old.up.node.replica.voter.logs → AtEach R.Records V.version (H.meant self.old.handlers) self.old.up.node (event_of event) (λ h s node. R.count_of (records_in self.new.up.node) ≤ 2)) }
+        ensures few { V.is_told ≡ true → V.cleaned (rows_in self.old.up.node) ≡ [] → OnOk result (IsToCompact R.Records self.old.up.node.replica.voter.logs → AtEach R.Records V.version (H.meant self.old.handlers) self.old.up.node (event_of event) (λ h s node. R.count_of (records_in self.new.up.node) ≤ 2)) }
 
         ensures handlers { H.meant self.new.handlers ≡ H.meant self.old.handlers }
         ensures cause { IfErr result (λ fault. IsDueTo (fault_of fault) (devices_of R.Records V.Versions self.old.up.node) (devices_of R.Records V.Versions self.new.up.node)) }
@@ -86,7 +109,7 @@ impl<R: Records, V: Versions, H: QueueHandlers> Server<R, V, H> {
         ensures number { self.new.number ≡ self.old.number }
         ensures me { self.new.up.node.replica.me ≡ self.old.up.node.replica.me }
     {
-        match self.up.compact(alloc) {
+        match readied(alloc, &mut self.up) {
             Ok(()) => {}
             Err(fault) => {
                 drop(event);

@@ -8,24 +8,24 @@ use Rattle.mega_server.proofs.Compacted.{at_compacted, at_most_two}
 use Rattle.mega_server.proofs.server.Server.steps.Goals as goal
 
 pub returns-in-Ok-acts-clause-notes : goal.returns-in-Ok-acts-clause-notes
-returns-in-Ok-acts-clause-notes g c = λ told.
-    at_compacted g.R.Records g.V.Versions.version (g.H.QueueHandlers.meant c.args.self.now.handlers) c.args.self.now.up.node c.compact.new.self.node (event_of c.args.event)
-    (λ h s node. map met_of c.in-Ok-acts.step.notes ≡ (step s node (event_of c.args.event)).notes) c.in-Ok.ensures.state c.in-Ok.ensures.members c.in-Ok.ensures.me (c.in-Ok-acts.ensures.notes told)
+returns-in-Ok-acts-clause-notes g c = λ told whole.
+    at_compacted g.R.Records g.V.Versions.version (g.H.QueueHandlers.meant c.args.self.now.handlers) c.args.self.now.up.node c.readied.new.up.node (event_of c.args.event)
+    (λ h s node. map met_of c.in-Ok-acts.step.notes ≡ (step s node (event_of c.args.event)).notes) (c.in-Ok.ensures.state told whole) c.in-Ok.ensures.members c.in-Ok.ensures.me (c.in-Ok-acts.ensures.notes told)
 
 pub returns-in-Ok-acts-clause-sends : goal.returns-in-Ok-acts-clause-sends
-returns-in-Ok-acts-clause-sends g c = λ told.
-    at_compacted g.R.Records g.V.Versions.version (g.H.QueueHandlers.meant c.args.self.now.handlers) c.args.self.now.up.node c.compact.new.self.node (event_of c.args.event)
-    (λ h s node. c.in-Ok-acts.step.sends ≡ (step s node (event_of c.args.event)).sends) c.in-Ok.ensures.state c.in-Ok.ensures.members c.in-Ok.ensures.me (c.in-Ok-acts.ensures.sends told)
+returns-in-Ok-acts-clause-sends g c = λ told whole.
+    at_compacted g.R.Records g.V.Versions.version (g.H.QueueHandlers.meant c.args.self.now.handlers) c.args.self.now.up.node c.readied.new.up.node (event_of c.args.event)
+    (λ h s node. c.in-Ok-acts.step.sends ≡ (step s node (event_of c.args.event)).sends) (c.in-Ok.ensures.state told whole) c.in-Ok.ensures.members c.in-Ok.ensures.me (c.in-Ok-acts.ensures.sends told)
 
 pub returns-in-Ok-acts-clause-state : goal.returns-in-Ok-acts-clause-state
-returns-in-Ok-acts-clause-state g c = λ told.
-    at_compacted g.R.Records g.V.Versions.version (g.H.QueueHandlers.meant c.args.self.now.handlers) c.args.self.now.up.node c.compact.new.self.node (event_of c.args.event)
-    (λ h s node. IsUp g.R.Records g.V.Versions.version h c.acts.new.self.up.node (step s node (event_of c.args.event)).node) c.in-Ok.ensures.state c.in-Ok.ensures.members c.in-Ok.ensures.me (c.in-Ok-acts.ensures.state told)
+returns-in-Ok-acts-clause-state g c = λ told whole.
+    at_compacted g.R.Records g.V.Versions.version (g.H.QueueHandlers.meant c.args.self.now.handlers) c.args.self.now.up.node c.readied.new.up.node (event_of c.args.event)
+    (λ h s node. IsUp g.R.Records g.V.Versions.version h c.acts.new.self.up.node (step s node (event_of c.args.event)).node) (c.in-Ok.ensures.state told whole) c.in-Ok.ensures.members c.in-Ok.ensures.me (c.in-Ok-acts.ensures.state told)
 
 pub returns-in-Ok-acts-clause-few : goal.returns-in-Ok-acts-clause-few
-returns-in-Ok-acts-clause-few g c = λ told due.
-    let mid = c.compact.new.self.node in
+returns-in-Ok-acts-clause-few g c = λ told whole due.
+    let mid = c.readied.new.up.node in
     let new = c.acts.new.self.up.node in
     at_compacted g.R.Records g.V.Versions.version (g.H.QueueHandlers.meant c.args.self.now.handlers) c.args.self.now.up.node mid (event_of c.args.event)
-    (λ h s node. g.R.Records.count_of (records_in new) ≤ 2) c.in-Ok.ensures.state c.in-Ok.ensures.members c.in-Ok.ensures.me
+    (λ h s node. g.R.Records.count_of (records_in new) ≤ 2) (c.in-Ok.ensures.state told whole) c.in-Ok.ensures.members c.in-Ok.ensures.me
     (λ h node is may. at_most_two (g.R.Records.count_of (records_in mid)) (g.R.Records.count_of (records_in new)) _ (c.in-Ok.ensures.counted due) (c.in-Ok-acts.ensures.appended told h node is may))
