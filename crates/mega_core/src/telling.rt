@@ -4,21 +4,24 @@ ghost use Rattle.mega_handler.specs.Named.{Meanings};
 ghost use Rattle.mega_stepping.specs.of_leases.Taking.{IsByStranger, IsLate};
 ghost use Rattle.mega_stepping.specs.of_leases.Tells.{Tells as TellsLeases};
 ghost use Rattle.mega_rules.specs.Met.{Met, Takes};
-ghost use Rattle.mega_rules.specs.Replies.{reply_to};
+ghost use Rattle.mega_rules.specs.Replies.{reply_message, reply_to};
 ghost use Rattle.mega_rules.specs.Steps.{onto, told_notes};
 ghost use Rattle.mega_stepping.specs.of_voter.Telling.{Tells};
 ghost use Rattle.mega_actions.specs.IsAt.{setting_of};
 ghost use Rattle.mega_core.specs.declared.fault.StepFault.TheVariants.{Late, Stranger, Unserved};
 ghost use Rattle.mega_core.specs.Faults.{failed_by};
 ghost use Rattle.mega_stepping.specs.Notes.{met_of};
+ghost use Rattle.mega_stepping.specs.of_leases.Notes.{met_of as leases_met};
+ghost use Rattle.mega_stepping.specs.Replying.{or_reply};
 ghost use Rattle.mega_stepping.specs.Staging.{Stages};
 
 use crate::fault::StepFault;
 use mega_actions::Replica;
-use mega_base::Items;
+use mega_base::{Items, NoMemory};
 use mega_disk::{Records, Versions};
+use mega_stepping::mega_leases::Told as OfLeases;
 use mega_stepping::{Note, as_notes, is_voter, keep_notes, own_reply, reply_message};
-use mega_wire::Message;
+use mega_wire::{Body, Message};
 use std::alloc::Global;
 
 /// What is noted and replied where a message is taken, before anything is decided by it.
@@ -26,6 +29,17 @@ use std::alloc::Global;
 pub(crate) struct Told {
     pub(crate) notes: Items<Note>,
     pub(crate) sends: Items<Message>,
+}
+
+/// What a node notes of what its leases were told, and its reply to this node: its own, or else theirs.
+fn says(alloc: Global, me: u8, to: u8, mine: Option<Body>, told: OfLeases) -> Result<Told, NoMemory>
+    ensures notes { IfOk result (λ made. map met_of made.notes ≡ map leases_met told.notes) }
+    ensures sends { IfOk result (λ made. made.sends ≡ reply_message me to (or_reply mine told.reply)) }
+{
+    let OfLeases { notes, reply } = told;
+    let sends = reply_message(alloc, me, to, mine, reply)?;
+    let notes = as_notes(alloc, notes)?;
+    Ok(Told { notes, sends })
 }
 
 /// The node takes a message: its cell and its coordinator are told, and it replies.
@@ -57,10 +71,21 @@ pub(crate) fn is_told<R: Records, V: Versions>(
 {
     let votes = is_voter(replica.members.cluster(), replica.me);
     let mine = own_reply(alloc, &replica.voter, votes, &message.body)?;
-    let told = replica.leases.takes(alloc, message)?;
-    let mega_stepping::mega_leases::Told { notes, reply } = told;
-    keep_notes(alloc, &mut replica.voter, notes.as_slice())?;
-    let sends = reply_message(alloc, replica.me, message.from, mine, reply)?;
-    let notes = as_notes(alloc, notes)?;
-    Ok(Told { notes, sends })
+    match replica.leases.takes(alloc, message) {
+        Ok(told) => match keep_notes(alloc, &mut replica.voter, told.notes.as_slice()) {
+            Ok(()) => {
+                let made = says(alloc, replica.me, message.from, mine, told)?;
+                Ok(made)
+            }
+            Err(refused) => {
+                drop(mine);
+                drop(told);
+                Err(StepFault::from(refused))
+            }
+        },
+        Err(refused) => {
+            drop(mine);
+            Err(StepFault::from(refused))
+        }
+    }
 }

@@ -13,18 +13,18 @@ use Rattle.mega_stepping.proofs.Staged.{silent_staged}
 use Rattle.mega_core.proofs.Replied.{replied}
 use Rattle.mega_core.proofs.telling.is_told.Goals as goal
 
-pub returns-clause-sends : goal.returns-clause-sends
-returns-clause-sends g c = λ met tells leased.
+pub returns-in_ok-made-in-Ok-keep_notes-clause-sends : goal.returns-in_ok-made-in-Ok-keep_notes-clause-sends
+returns-in_ok-made-in-Ok-keep_notes-clause-sends g c = λ met tells leased.
     let r = c.args.replica.now in
     let m = c.args.message.now in
     let votes = c.is_voter-votes.ensures ∙ ap (λ (one : Cluster). is_voter one r.me) c.cluster.ensures in
     let mine = c.in_ok-mine.ensures met tells ∙ ap (λ (t : Bool). cond t (vote_reply met m.body) None) votes in
-    let told = c.in_ok-told.ensures.reply r.members r.me met leased in
-    c.in_ok-sends.ensures ∙ ap (reply_message r.me m.from) ((λ i. or_reply (mine i) (told i)) ∙ replied r.members r.me met m.from m.body)
+    let told = c.in-Ok.ensures.reply r.members r.me met leased in
+    c.in_ok-made-in-Ok-keep_notes.ensures.sends ∙ ap (reply_message r.me m.from) ((λ i. or_reply (mine i) (told i)) ∙ replied r.members r.me met m.from m.body)
 
-pub returns-clause-staged : goal.returns-clause-staged
-returns-clause-staged g c = λ h before met leased stages.
+pub returns-in_ok-made-in-Ok-keep_notes-clause-staged : goal.returns-in_ok-made-in-Ok-keep_notes-clause-staged
+returns-in_ok-made-in-Ok-keep_notes-clause-staged g c = λ h before met leased stages.
     let r = c.args.replica.now in
     let m = c.args.message.now in
-    subst (λ (notes : List Met). Stages c.keep_notes.new.voter.logs.staged.items before (onto notes (Takes m ∷ met))) (ap (λ (notes : List Note). map met_of notes) c.as_slice.ensures ∙ c.in_ok-told.ensures.notes (setting r.members r.me h) met leased)
-    (c.in_ok-keep_notes.ensures.staged before (Takes m ∷ met) (silent_staged r.voter.logs.staged.items before met (Takes m) refl stages))
+    subst (λ (notes : List Met). Stages c.keep_notes.new.voter.logs.staged.items before (onto notes (Takes m ∷ met))) (ap (λ (notes : List Note). map met_of notes) c.as_slice.ensures ∙ c.in-Ok.ensures.notes (setting r.members r.me h) met leased)
+    (c.in-Ok-keep_notes.ensures.staged before (Takes m ∷ met) (silent_staged r.voter.logs.staged.items before met (Takes m) refl stages))
