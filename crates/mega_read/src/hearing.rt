@@ -3,14 +3,14 @@ ghost use Rattle.std.specs.Prelude.{◌≡◌, ◌&&◌, ◌==◌, None, Some, I
 ghost use Rattle.mega_propose.specs.Members.{has};
 ghost use Rattle.mega_propose.specs.of_wal.Same.{same_group, same_op};
 ghost use Rattle.mega_read.specs.Catching.{hears, helpers, topped};
-ghost use Rattle.mega_read.specs.declared.reading.Search.TheVariants.{Fetching};
+ghost use Rattle.mega_read.specs.declared.reading.Search.TheVariants.{Fetching, Filling};
 ghost use Rattle.mega_read.specs.declared.reading.Stage.TheVariants.{Catching, Polling};
 
 use crate::kept::Kept;
 use crate::reading::{Move, Reader, Reading, Search, Stage};
 use mega_base::{GroupId, Items, NoMemory, OpId};
 use mega_propose::mega_wire::Body;
-use mega_propose::{greatest_top, has, is_majority, is_same_group, is_same_op};
+use mega_propose::{Proposal, greatest_top, has, is_majority, is_same_group, is_same_op};
 use std::alloc::Global;
 
 impl Reader {
@@ -112,6 +112,33 @@ impl Reader {
             )),
         }
     }
+
+    /// What the round of a no-op comes to.
+    fn hears_filling(
+        &self,
+        alloc: Global,
+        kept: Kept,
+        from: u8,
+        now: u64,
+        body: &Body,
+        through: u64,
+        position: u64,
+        proposal: Proposal,
+    ) -> Result<Move, NoMemory>
+        ensures { IfOk result (λ made. made ≡ hears self.now (record { noted = kept.noted; asked = kept.asked; stage = Catching through (Some (Filling position proposal)) }) from now body.now) }
+    {
+        match self.site(alloc, &kept.asked, position) {
+            Ok(site) => {
+                let round = proposal.takes(alloc, &site, from, now, body)?;
+                Ok(kept.filled(through, position, round))
+            }
+            Err(refused) => {
+                drop(kept);
+                drop(proposal);
+                Err(refused)
+            }
+        }
+    }
 }
 
 impl Reading {
@@ -161,11 +188,7 @@ impl Reading {
             Stage::Catching {
                 through,
                 search: Some(Search::Filling { position, proposal }),
-            } => {
-                let site = who.site(alloc, &kept.asked, position)?;
-                let round = proposal.takes(alloc, &site, from, now, body)?;
-                Ok(kept.filled(through, position, round))
-            }
+            } => who.hears_filling(alloc, kept, from, now, body, through, position, proposal),
         }
     }
 }
