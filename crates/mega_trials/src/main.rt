@@ -1,10 +1,6 @@
-//! Trials: each schedule that `names` lists is replayed, and what is written is compared with the transcript and the summary beside it. Then each call
-//! of what a replay and a node are over fails in turn.
+//! Trials: each schedule that `names` lists is replayed, and what is written is compared with the transcript and the summary beside it.
 #![tactic(auto)]
 
-mod stops;
-
-use crate::stops::{Sweep, of_node, of_replay};
 use mega_base::Text;
 use mega_disk::{MemDisk, Pair};
 use mega_io::{MemSink, MemSource};
@@ -24,35 +20,6 @@ impl Trial {
     fn word(&self) -> &'static str {
         if self.is_same { "same" } else { "other" }
     }
-}
-
-/// Words.
-fn words(rt: &HostRuntime, all: &[&str]) -> io::Result<Vec<Text>> {
-    let alloc = rt.alloc();
-    let mut words = Vec::new(alloc);
-    for one in all {
-        words.push(Text::from_string(format!(in alloc; "{one}")?))?;
-    }
-    Ok(words)
-}
-
-/// Fails each call of what a replay and a node are over, and tells what comes of it.
-fn fail_each(rt: &HostRuntime) -> io::Result<()> {
-    let alloc = rt.alloc();
-    let replay = Sweep {
-        words: words(rt, &["replay"])?,
-        input: fs::read(rt, "queue-8.in")?,
-        asked: Vec::new(alloc),
-        own: Vec::new(alloc),
-    };
-    of_replay(rt, &replay)?;
-    let node = Sweep {
-        words: words(rt, &["node", "--number", "1", "--turns", "9"])?,
-        input: fs::read(rt, "one-node.header")?,
-        asked: fs::read(rt, "put.datagram")?,
-        own: Vec::new(alloc),
-    };
-    of_node(rt, node)
 }
 
 /// The words of a replay.
@@ -103,5 +70,5 @@ fn main(rt: HostRuntime) -> io::Result<()> {
             counts.word()
         )?;
     }
-    fail_each(&rt)
+    Ok(())
 }
