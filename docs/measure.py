@@ -4,6 +4,8 @@
     docs/measure.py PROGRAM steps                one node alone, 10,000 to 1,000,000 deliveries of the messages of puts
     docs/measure.py PROGRAM drawn                lines of `gen --seed 7 --nodes 5`, 10,000 to 1,000,000
     docs/measure.py PROGRAM puts                 puts to one group of three nodes, each drained, 1,000 to 50,000
+    docs/measure.py PROGRAM queues               messages that one group sends to another, each entered and handled by pumps, 250 to 4,000
+    docs/measure.py PROGRAM ticks                as many groups as ticks at one node, 500 to 8,000
 
 Each line says how many lines were replayed, the seconds, the greatest memory, and how long a line took of those behind the line before.
 """
@@ -40,12 +42,42 @@ def puts(out, count):
         out.write(DRAIN)
 
 
+BANK = r"CREATE SCHEMA Bank; CREATE TABLE Account { required int64 id; required int64 balance; } PRIMARY KEY(id), ENTITY GROUP ROOT;"
+ONE = "00000000000000010201800000000000000201"
+
+
+def queues(out, count):
+    """Each message moves 1 from account 1 to account 2: a transaction that sends it, a pump that enters it, and one that handles it."""
+    out.write(HEADER.format(schema=BANK, nodes='"full"'))
+    for account in (1, 2):
+        row = '{"put":"Account","row":{"id":%d,"balance":0}}' % account
+        out.write('{"do":"txn","node":1,"group":["Account",[%d]],"checks":[],"reads":[],"writes":[%s],"sends":[]}\n' % (account, row))
+        out.write(DRAIN)
+    send = '{"to":["Account",[2]],"queue":"credit","payload":"%s"}' % ONE
+    for _ in range(count):
+        out.write('{"do":"txn","node":1,"group":["Account",[1]],"checks":[],"reads":[],"writes":[],"sends":[%s]}\n' % send)
+        out.write(DRAIN)
+        for what in ("enter", "handle"):
+            out.write('{"do":"pump","node":1,"what":"%s"}\n' % what)
+            out.write(DRAIN)
+
+
+def ticks(out, count):
+    """A put to each of so many groups, and then so many ticks, at which nothing is due."""
+    out.write(HEADER.format(schema=SCHEMA, nodes='"full"'))
+    for number in range(count):
+        out.write(put(1, number, number))
+        out.write(DRAIN)
+    for number in range(count):
+        out.write('{"do":"tick","node":1,"now":%d}\n' % (10 + number))
+
+
 def run(program, name, count):
     with tempfile.NamedTemporaryFile("w+", suffix=".schedule") as it:
         if name == "drawn":
             subprocess.run([program, "gen", "--seed", "7", "--count", str(count), "--nodes", "5"], stdout=it, check=True)
         else:
-            {"steps": steps, "puts": puts}[name](it, count)
+            {"steps": steps, "puts": puts, "queues": queues, "ticks": ticks}[name](it, count)
         it.flush()
         it.seek(0)
         words = ["/usr/bin/env", "python3", "-c", CHILD, program]
@@ -60,7 +92,13 @@ used = resource.getrusage(resource.RUSAGE_CHILDREN)
 print(used.ru_utime + used.ru_stime, used.ru_maxrss)
 """
 
-COUNTS = {"steps": (10_000, 100_000, 1_000_000), "drawn": (10_000, 100_000, 1_000_000), "puts": (1_000, 10_000, 50_000)}
+COUNTS = {
+    "steps": (10_000, 100_000, 1_000_000),
+    "drawn": (10_000, 100_000, 1_000_000),
+    "puts": (1_000, 10_000, 50_000),
+    "queues": (250, 500, 1_000, 2_000, 4_000),
+    "ticks": (500, 1_000, 2_000, 4_000, 8_000),
+}
 
 
 def main():
