@@ -1,6 +1,10 @@
-//! Trials: each schedule that `names` lists is replayed, and what is written is compared with the transcript and the summary beside it.
+//! Trials: each schedule that `names` lists is replayed, and what is written is compared with the transcript and the summary beside it. Then each call
+//! of what a replay and a node are over fails in turn.
 #![tactic(auto)]
 
+mod sweep;
+
+use crate::sweep::{Sweep, of_node, of_replay};
 use mega_base::Text;
 use mega_disk::{MemDisk, Pair};
 use mega_io::{MemSink, MemSource};
@@ -22,13 +26,12 @@ impl Trial {
     }
 }
 
-/// The words of a replay.
-fn words_of(rt: &HostRuntime, is_summary: bool) -> io::Result<Vec<Text>> {
+/// The words of the program.
+fn words(rt: &HostRuntime, all: &[&str]) -> io::Result<Vec<Text>> {
     let alloc = rt.alloc();
     let mut words = Vec::new(alloc);
-    words.push(Text::from_string(format!(in alloc; "replay")?))?;
-    if is_summary {
-        words.push(Text::from_string(format!(in alloc; "--summary")?))?;
+    for one in all {
+        words.push(Text::from_string(format!(in alloc; "{one}")?))?;
     }
     Ok(words)
 }
@@ -55,13 +58,36 @@ fn tried(rt: &HostRuntime, name: &str, words: &[Text], ending: &str) -> io::Resu
     })
 }
 
-fn main(rt: HostRuntime) -> io::Result<()> {
-    let names = fs::read_to_string(&rt, "names")?;
-    let transcript = words_of(&rt, false)?;
-    let summary = words_of(&rt, true)?;
+/// A replay of a schedule with queues, crashes and fuses.
+fn a_replay(rt: &HostRuntime) -> io::Result<Sweep> {
+    let alloc = rt.alloc();
+    Ok(Sweep {
+        words: words(rt, &["replay"])?,
+        input: fs::read(rt, "queue-8.in")?,
+        asked: Vec::new(alloc),
+        own: Vec::new(alloc),
+    })
+}
+
+/// A node that is all of its cluster, of which a client asks for one put.
+fn a_node(rt: &HostRuntime) -> io::Result<Sweep> {
+    let alloc = rt.alloc();
+    Ok(Sweep {
+        words: words(rt, &["node", "--number", "1", "--turns", "9"])?,
+        input: fs::read(rt, "one-node.header")?,
+        asked: fs::read(rt, "put.datagram")?,
+        own: Vec::new(alloc),
+    })
+}
+
+/// Replays each schedule that is listed, and tells whether what is written is what was wanted.
+fn try_all(rt: &HostRuntime) -> io::Result<()> {
+    let names = fs::read_to_string(rt, "names")?;
+    let transcript = words(rt, &["replay"])?;
+    let summary = words(rt, &["replay", "--summary"])?;
     for name in names.lines() {
-        let whole = tried(&rt, name, transcript.as_slice(), "out")?;
-        let counts = tried(&rt, name, summary.as_slice(), "summary")?;
+        let whole = tried(rt, name, transcript.as_slice(), "out")?;
+        let counts = tried(rt, name, summary.as_slice(), "summary")?;
         println!(rt;
             "{name}: status {}, {}; summary {}, {}",
             whole.status,
@@ -71,4 +97,12 @@ fn main(rt: HostRuntime) -> io::Result<()> {
         )?;
     }
     Ok(())
+}
+
+fn main(rt: HostRuntime) -> io::Result<()> {
+    try_all(&rt)?;
+    let replay = a_replay(&rt)?;
+    of_replay(&rt, &replay)?;
+    let node = a_node(&rt)?;
+    of_node(&rt, node)
 }
