@@ -1,6 +1,6 @@
 -- What a voter keeps tells its logs, so what is noted of them stays while they grow.
 use Rattle.std.proofs.Common.{◌≡◌, ◌∙◌, ap, sym, subst, ℕ, ◌≤◌, Bool, true, false, cond, List, [], ◌∷◌, ◌++◌, take, length, refl, arith}
-use Rattle.std.proofs.lemmas.List.{length-append}
+use Rattle.std.proofs.lemmas.List.{append_assoc, length-append}
 use Rattle.mega_base.specs.declared.names.GroupId.{GroupId}
 use Rattle.mega_entry.specs.declared.content.Content.{Content}
 use Rattle.mega_wal.specs.declared.groups.Marks.{Marks}
@@ -61,6 +61,19 @@ noted_on log longer digest grows is = record {
 pub noted_after : (kept after : Kept) (items met : List Met) (digest : Digest) → Tells kept met → Tells after (onto items met) → HasNoted kept digest → HasNoted after digest
 noted_after kept after items met digest tells told is =
     noted_by after (onto items met) digest told (noted_on (log_of met) (log_of (onto items met)) digest (log_more_after items met) (is.noted met tells))
+
+more_then : (one two three : Logs) → ((group : GroupId) → (more : List Content) × (two group ≡ one group ++ more)) → ((group : GroupId) → (more : List Content) × (three group ≡ two group ++ more))
+    → (group : GroupId) → (more : List Content) × (three group ≡ one group ++ more)
+more_then one two three first second group =
+    ((first group).0 ++ (second group).0,
+    (second group).1 ∙ ap (λ (entries : List Content). entries ++ (second group).0) (first group).1 ∙ append_assoc (one group) (first group).0 (second group).0)
+
+-- what a step notes first, and what it notes then
+pub noted_step : (kept after : Kept) (own : Met) (first then met : List Met) (digest : Digest) → Tells kept met → Tells after (onto then (onto first (own ∷ met))) → HasNoted kept digest → HasNoted after digest
+noted_step kept after own first then met digest tells told is =
+    let mid = onto first (own ∷ met) in
+    noted_by after (onto then mid) digest told
+    (noted_on (log_of met) (log_of (onto then mid)) digest (more_then (log_of met) (log_of mid) (log_of (onto then mid)) (log_more_after (own ∷ first) met) (log_more_after then mid)) (is.noted met tells))
 
 -- ---- what is noted and what is applied
 pub notes_are : (log : Logs) (stored : GroupId → ℕ) (digest : Digest) → Notes log stored digest → IsNoted log digest
