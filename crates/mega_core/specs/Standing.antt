@@ -12,7 +12,7 @@ use Rattle.mega_core.specs.Represents.{Represents}
 -- a replica with these open operations, and so many begun, represents that node, in its cluster and under its number
 abbrev pub StandsWith : {R V : Type 0} → (V → Versions) → Meanings → Replica R V → List Operation → ℕ → RuleNode → Type 0
 StandsWith version h one opened begun node =
-    Represents (setting_of one h) one.voter.logs.kept one.leases one.indexed (version one.rows.rows) (progress_at one.rows.progress) opened begun node
+    Represents (setting_of one h) one.voter.logs.kept one.leases one.indexed one.digest (version one.rows.rows) (progress_at one.rows.progress) opened begun node
 
 -- all that a node keeps represents that node
 abbrev pub StandsFor : {R V : Type 0} → (V → Versions) → Meanings → Node R V → RuleNode → Type 0

@@ -30,6 +30,7 @@ use crate::ticking::{Ticked, acts_ticked, ticks};
 use crate::watching::{behind, watched};
 use mega_actions::Replica;
 use mega_actions::mega_marks::Indexed;
+use mega_actions::mega_pumps::Digest;
 use mega_base::{Copied, Items, Text};
 use mega_cluster::Cluster;
 use mega_disk::{Records, Versions};
@@ -76,6 +77,7 @@ impl<R: Records + Drop, V: Versions + Drop> Node<R, V> {
         let leases = leases_of(alloc, members.cluster(), me);
         let rows = StoredRows::new(alloc, rows);
         let indexed = Indexed::new(alloc);
+        let digest = Digest::new(alloc);
         let replica = Replica {
             members,
             me,
@@ -83,6 +85,7 @@ impl<R: Records + Drop, V: Versions + Drop> Node<R, V> {
             leases,
             rows,
             indexed,
+            digest,
         };
         Ok(Node {
             replica,

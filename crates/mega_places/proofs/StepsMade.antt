@@ -56,7 +56,7 @@ pub record IsHere (h : Meanings) (node : Node MemRecords VersionedRows) (ruled :
 
 pub is_here : (c : Cluster) (h : Meanings) (me : ℕ) (member : Member) (ruled : RuleNode) → IsMember c me member ruled → IsHere h (node_in member) ruled
 is_here c h me member ruled one = record {
-  stands = subst (λ (s : Setting). Represents s (node_in member).replica.voter.logs.kept (node_in member).replica.leases (node_in member).replica.indexed (version_of (node_in member).replica.rows.rows) (progress_at (node_in member).replica.rows.progress) (node_in member).open (node_in member).begun ruled)
+  stands = subst (λ (s : Setting). Represents s (node_in member).replica.voter.logs.kept (node_in member).replica.leases (node_in member).replica.indexed (node_in member).replica.digest (version_of (node_in member).replica.rows.rows) (progress_at (node_in member).replica.rows.progress) (node_in member).open (node_in member).begun ruled)
       (same_setting c (node_in member).replica.members h me (node_in member).replica.me (sym one.members) (sym one.number)) (one.told h);
   empty = one.empty;
   ready = one.ready;
@@ -69,7 +69,7 @@ as_member c h me member ruled members number here = record {
   members = members;
   number = number;
   told = λ g. any_handlers c me h g (node_in member) ruled
-      (subst (λ (s : Setting). Represents s (node_in member).replica.voter.logs.kept (node_in member).replica.leases (node_in member).replica.indexed (version_of (node_in member).replica.rows.rows) (progress_at (node_in member).replica.rows.progress) (node_in member).open (node_in member).begun ruled)
+      (subst (λ (s : Setting). Represents s (node_in member).replica.voter.logs.kept (node_in member).replica.leases (node_in member).replica.indexed (node_in member).replica.digest (version_of (node_in member).replica.rows.rows) (progress_at (node_in member).replica.rows.progress) (node_in member).open (node_in member).begun ruled)
       (same_setting (node_in member).replica.members c h (node_in member).replica.me me members number) here.stands);
   empty = here.empty;
   ready = here.ready;

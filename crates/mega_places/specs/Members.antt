@@ -45,7 +45,7 @@ is_up_at places me = is_some (member_of places me)
 -- what a node keeps is told by a node of the rules, in this cluster and under this number
 abbrev pub IsTold : Cluster → Meanings → ℕ → Node MemRecords VersionedRows → RuleNode → Type 0
 IsTold c h me node ruled =
-    Represents (setting c h me) node.replica.voter.logs.kept node.replica.leases node.replica.indexed (version_of node.replica.rows.rows) (progress_at node.replica.rows.progress) node.open node.begun ruled
+    Represents (setting c h me) node.replica.voter.logs.kept node.replica.leases node.replica.indexed node.replica.digest (version_of node.replica.rows.rows) (progress_at node.replica.rows.progress) node.open node.begun ruled
 
 -- the node of this number of a cluster, which a node of the rules tells of, whatever handlers are there: nothing of it waits to be kept, and
 -- its records, which are open, hold what it met, and its lock cell keeps what it granted last

@@ -46,7 +46,7 @@ returns-in-Ok-clause-state g c = λ h s node event was stepped.
     let mid = c.args.node.now in
     let staged = mid.replica.voter.logs.staged.items in
     record {
-      stands = subst (λ (kept : Kept). Represents (setting mid.replica.members mid.replica.me h) kept mid.replica.leases mid.replica.indexed (g.V.Versions.version mid.replica.rows.rows) (progress_at mid.replica.rows.progress) mid.open mid.begun (step s node event).node)
+      stands = subst (λ (kept : Kept). Represents (setting mid.replica.members mid.replica.me h) kept mid.replica.leases mid.replica.indexed mid.replica.digest (g.V.Versions.version mid.replica.rows.rows) (progress_at mid.replica.rows.progress) mid.open mid.begun (step s node event).node)
           (sym c.in-Ok.ensures.kept) stepped.stands;
       empty = c.in-Ok.ensures.cleared;
       ready = c.in-Ok.ensures.still_open ∙ (ap g.R.Records.is_spent stepped.same ∙ stepped.ready);

@@ -30,7 +30,7 @@ flush-requires-clause-each g c = subst (All IsItem) (sym c.requires.one) (All-co
 pub returns-in-Ok-clause-stands : goal.returns-in-Ok-clause-stands
 returns-in-Ok-clause-stands g c = λ h node stands.
     let mid = c.args.made.node in
-    subst (λ (kept : Kept). Represents (setting mid.replica.members mid.replica.me h) kept mid.replica.leases mid.replica.indexed (g.V.Versions.version mid.replica.rows.rows) (progress_at mid.replica.rows.progress) mid.open mid.begun node)
+    subst (λ (kept : Kept). Represents (setting mid.replica.members mid.replica.me h) kept mid.replica.leases mid.replica.indexed mid.replica.digest (g.V.Versions.version mid.replica.rows.rows) (progress_at mid.replica.rows.progress) mid.open mid.begun node)
     (sym c.in-Ok.ensures.kept) stands
 
 pub returns-in-Ok-clause-holds : goal.returns-in-Ok-clause-holds

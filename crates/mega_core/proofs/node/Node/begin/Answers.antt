@@ -74,7 +74,7 @@ returns-clause-state g c = λ told h node means represents owned.
     let first : map met_of c.new-none.result ≡ [] = ap (λ (notes : List Note). map met_of notes) c.new-none.ensures in
     let made = c.in_ok-step.ensures.made h node (Begins (op_of s node.met) text) [] [] (has_begun s node request text) noted acted first (begin_may s node request text _ is) in
     let new = c.ends.new.self in
-    subst (λ (step : RuleStep). Represents (setting new.replica.members new.replica.me h) new.replica.voter.logs.kept new.replica.leases new.replica.indexed (g.V.Versions.version new.replica.rows.rows) (progress_at new.replica.rows.progress) new.open new.begun step.node) is made.state
+    subst (λ (step : RuleStep). Represents (setting new.replica.members new.replica.me h) new.replica.voter.logs.kept new.replica.leases new.replica.indexed new.replica.digest (g.V.Versions.version new.replica.rows.rows) (progress_at new.replica.rows.progress) new.open new.begun step.node) is made.state
 
 pub returns-clause-staged : goal.returns-clause-staged
 returns-clause-staged g c = λ told h node since means represents owned stages.

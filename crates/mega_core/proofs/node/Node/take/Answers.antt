@@ -57,7 +57,7 @@ returns-clause-notes g c = λ told h node means represents owned placed.
     let base = acted_on s node (Take m) in
     let stored = stored_after s base node.stored (decision_in s node m) in
     let acted = take_acts s node m t1 t2 r0.voter.logs.kept r1.voter.logs.kept r2.voter.logs.kept r0.leases r2.leases version (g.V.Versions.version r2.rows.rows) progress (progress_at r2.rows.progress) own_open begun
-    c.in_ok-work.work heard represents taken.heard t1_is t2_is (λ i. (c.in_ok-work.ensures.voter i).logs.kept) (c.in_ok-work.ensures.indexed ∙ c.in_ok-taken.ensures.indexed) taken.stands.tells
+    c.in_ok-work.work heard represents taken.heard t1_is t2_is (λ i. (c.in_ok-work.ensures.voter i).logs.kept) (c.in_ok-work.ensures.indexed ∙ c.in_ok-taken.ensures.indexed) taken.stands.stands.tells
     (c.in_ok-work.ensures.state told h base stored means about taken.stands) (c.in_ok-work.ensures.work told h base stored means about taken.stands) in
     let is = take_is s node m t2 c.in_ok-taken.taken.sends c.new-2.result (t2_is ∙ t1_is) taken.sends c.new-2.ensures in
     let keeps = represents_keeps s r0.voter.logs.kept r0.leases version progress own_open begun node represents in
@@ -92,7 +92,7 @@ returns-clause-sends g c = λ told h node means represents owned placed.
     let base = acted_on s node (Take m) in
     let stored = stored_after s base node.stored (decision_in s node m) in
     let acted = take_acts s node m t1 t2 r0.voter.logs.kept r1.voter.logs.kept r2.voter.logs.kept r0.leases r2.leases version (g.V.Versions.version r2.rows.rows) progress (progress_at r2.rows.progress) own_open begun
-    c.in_ok-work.work heard represents taken.heard t1_is t2_is (λ i. (c.in_ok-work.ensures.voter i).logs.kept) (c.in_ok-work.ensures.indexed ∙ c.in_ok-taken.ensures.indexed) taken.stands.tells
+    c.in_ok-work.work heard represents taken.heard t1_is t2_is (λ i. (c.in_ok-work.ensures.voter i).logs.kept) (c.in_ok-work.ensures.indexed ∙ c.in_ok-taken.ensures.indexed) taken.stands.stands.tells
     (c.in_ok-work.ensures.state told h base stored means about taken.stands) (c.in_ok-work.ensures.work told h base stored means about taken.stands) in
     let is = take_is s node m t2 c.in_ok-taken.taken.sends c.new-2.result (t2_is ∙ t1_is) taken.sends c.new-2.ensures in
     let keeps = represents_keeps s r0.voter.logs.kept r0.leases version progress own_open begun node represents in
@@ -127,7 +127,7 @@ returns-clause-state g c = λ told h node means represents owned placed.
     let base = acted_on s node (Take m) in
     let stored = stored_after s base node.stored (decision_in s node m) in
     let acted = take_acts s node m t1 t2 r0.voter.logs.kept r1.voter.logs.kept r2.voter.logs.kept r0.leases r2.leases version (g.V.Versions.version r2.rows.rows) progress (progress_at r2.rows.progress) own_open begun
-    c.in_ok-work.work heard represents taken.heard t1_is t2_is (λ i. (c.in_ok-work.ensures.voter i).logs.kept) (c.in_ok-work.ensures.indexed ∙ c.in_ok-taken.ensures.indexed) taken.stands.tells
+    c.in_ok-work.work heard represents taken.heard t1_is t2_is (λ i. (c.in_ok-work.ensures.voter i).logs.kept) (c.in_ok-work.ensures.indexed ∙ c.in_ok-taken.ensures.indexed) taken.stands.stands.tells
     (c.in_ok-work.ensures.state told h base stored means about taken.stands) (c.in_ok-work.ensures.work told h base stored means about taken.stands) in
     let is = take_is s node m t2 c.in_ok-taken.taken.sends c.new-2.result (t2_is ∙ t1_is) taken.sends c.new-2.ensures in
     let keeps = represents_keeps s r0.voter.logs.kept r0.leases version progress own_open begun node represents in
@@ -137,7 +137,7 @@ returns-clause-state g c = λ told h node means represents owned placed.
     let noted = watched_noted s t2 node groups c.in_ok-before.before (has_taken s node m) (t2_is ∙ t1_is) before (take_noted s node m (map (before_at node.met node.stored) groups) (subst (All IsServable) (sym represents.opened) represents.built) acted.acted refl) in
     let made = c.in_ok-step.ensures.made h node (Takes m) (told_notes s node.met m.from m.body) (decision_note (decision_in s node m)) (has_taken s node m) noted acted taken.notes (take_may s node m _ is) in
     let new = c.ends.new.self in
-    subst (λ (step : RuleStep). Represents (setting new.replica.members new.replica.me h) new.replica.voter.logs.kept new.replica.leases new.replica.indexed (g.V.Versions.version new.replica.rows.rows) (progress_at new.replica.rows.progress) new.open new.begun step.node) is made.state
+    subst (λ (step : RuleStep). Represents (setting new.replica.members new.replica.me h) new.replica.voter.logs.kept new.replica.leases new.replica.indexed new.replica.digest (g.V.Versions.version new.replica.rows.rows) (progress_at new.replica.rows.progress) new.open new.begun step.node) is made.state
 
 pub returns-clause-staged : goal.returns-clause-staged
 returns-clause-staged g c = λ told h node since means represents owned placed stages.
@@ -163,7 +163,7 @@ returns-clause-staged g c = λ told h node since means represents owned placed s
     let base = acted_on s node (Take m) in
     let stored = stored_after s base node.stored (decision_in s node m) in
     let acted = take_acts s node m t1 t2 r0.voter.logs.kept r1.voter.logs.kept r2.voter.logs.kept r0.leases r2.leases version (g.V.Versions.version r2.rows.rows) progress (progress_at r2.rows.progress) own_open begun
-    c.in_ok-work.work heard represents taken.heard t1_is t2_is (λ i. (c.in_ok-work.ensures.voter i).logs.kept) (c.in_ok-work.ensures.indexed ∙ c.in_ok-taken.ensures.indexed) taken.stands.tells
+    c.in_ok-work.work heard represents taken.heard t1_is t2_is (λ i. (c.in_ok-work.ensures.voter i).logs.kept) (c.in_ok-work.ensures.indexed ∙ c.in_ok-taken.ensures.indexed) taken.stands.stands.tells
     (c.in_ok-work.ensures.state told h base stored means about taken.stands) (c.in_ok-work.ensures.work told h base stored means about taken.stands) in
     let is = take_is s node m t2 c.in_ok-taken.taken.sends c.new-2.result (t2_is ∙ t1_is) taken.sends c.new-2.ensures in
     let mid = coe 1 0 (i. Stages (c.in_ok-work.ensures.voter i).logs.staged.items since base) (c.in_ok-taken.ensures.staged h node own_open begun since represents heard_is stages) in

@@ -9,7 +9,7 @@ pub returns-in-Ok-clause-state : goal.returns-in-Ok-clause-state
 returns-in-Ok-clause-state g c = λ h node up.
     let old = c.args.self.now.node in
     record {
-      stands = subst (λ (kept : Kept). Represents (setting old.replica.members old.replica.me h) kept old.replica.leases old.replica.indexed (g.V.Versions.version old.replica.rows.rows) (progress_at old.replica.rows.progress) old.open old.begun node)
+      stands = subst (λ (kept : Kept). Represents (setting old.replica.members old.replica.me h) kept old.replica.leases old.replica.indexed old.replica.digest (g.V.Versions.version old.replica.rows.rows) (progress_at old.replica.rows.progress) old.open old.begun node)
           (sym c.in-Ok.ensures.kept) up.stands;
       empty = c.in-Ok.ensures.staged ∙ up.empty;
       ready = c.in-Ok.ensures.still_open ∙ up.ready;
