@@ -101,7 +101,7 @@ grant_on (item ∷ owed) one two node same = grant_on owed (item ∷ one) (item 
 
 -- ---- all that is decided is applied
 
-all_written : (log : List Content) → sum_by (λ (entry : Content). length entry.writes) log ≡ length (writes_of log)
+pub all_written : (log : List Content) → sum_by (λ (entry : Content). length entry.writes) log ≡ length (writes_of log)
 all_written [] = refl
 all_written (entry ∷ log) =
     sum_by-cons (λ (entry : Content). length entry.writes) entry log ∙ (ap (λ n. length entry.writes + n) (all_written log) ∙ sym (length-append entry.writes (writes_of log)))
@@ -118,7 +118,7 @@ pub record AppliedSo (version : Versions) (progress : GroupId → Progress) (met
   pub rest : (group : GroupId) → has group left ≡ false → now group ≡ apply_all met group
 
 -- no more is stored than is decided
-few_stored : (version : Versions) (progress : GroupId → Progress) (met : List Met) (stored : GroupId → ℕ) → Follows version progress (log_of met) stored → (group : GroupId) → stored group ≤ apply_all met group
+pub few_stored : (version : Versions) (progress : GroupId → Progress) (met : List Met) (stored : GroupId → ℕ) → Follows version progress (log_of met) stored → (group : GroupId) → stored group ≤ apply_all met group
 few_stored version progress met stored follows group = subst (λ n. n ≤ apply_all met group) (sym (follows.counts group)) (place_total (progress group) (log_of met group) (follows.places group))
 
 pub applied_first : (version : Versions) (progress : GroupId → Progress) (met : List Met) (stored : GroupId → ℕ) → Follows version progress (log_of met) stored → AppliedSo version progress met (groups_of met)
@@ -187,7 +187,7 @@ agree_without one two same = record {
 log_in_same : (one two : List JournalItem) → Agrees one two → (group : GroupId) → log_in one group ≡ log_in two group
 log_in_same one two same group = λ i. entries_from (λ n. (same.slots group n i).decided) ((marks_same one two same.slots group i).prefix) 1
 
-logs_beside : (kept : Kept) (starts : ℕ) (met owed : List Met) → list_all is_no_start owed ≡ true → starts < 4294967295 → Recalls kept starts (onto owed met)
+pub logs_beside : (kept : Kept) (starts : ℕ) (met owed : List Met) → list_all is_no_start owed ≡ true → starts < 4294967295 → Recalls kept starts (onto owed met)
     → (group : GroupId) → log_of (onto owed (Starts (starts + 1) ∷ met)) group ≡ log_of (onto owed met) group
 logs_beside kept starts met owed are few recalls group =
     log_is (onto owed (Starts (starts + 1) ∷ met)) group

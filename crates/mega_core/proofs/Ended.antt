@@ -1,9 +1,10 @@
 -- A step that ends: what is kept represents the node of the rules then.
-use Rattle.std.proofs.Common.{◌≡◌, ℕ, min, List, ◌∷◌, ◌++◌, map, sym, ap, subst, ◌∙◌}
+use Rattle.std.proofs.Common.{◌≡◌, ℕ, min, nat_lt, length, List, ◌∷◌, ◌++◌, map, sym, ap, subst, ◌∙◌}
 use Rattle.std.specs.List.{All}
 use Rattle.std.proofs.lemmas.List.Elements.{All-weaker}
 use Rattle.mega_base.specs.declared.names.GroupId.{GroupId}
 use Rattle.mega_disk.specs.VersionMaps.{Versions}
+use Rattle.mega_entry.specs.declared.content.Content.{Content}
 use Rattle.mega_wal.specs.declared.item.JournalItem.{JournalItem}
 use Rattle.mega_wal.specs.declared.kept.Kept.{Kept}
 use Rattle.mega_wire.specs.declared.message.Message.{Message}
@@ -16,6 +17,7 @@ use Rattle.mega_stepping.specs.of_voter.Telling.{Tells}
 use Rattle.mega_stepping.specs.of_leases.declared.leases.Leases.{Leases}
 use Rattle.mega_stepping.specs.of_leases.Tells.{Tells as TellsLeases}
 use Rattle.mega_replica.specs.declared.progress.Progress.{Progress}
+use Rattle.mega_replica.specs.Applying.{applied}
 use Rattle.mega_replica.specs.Following.{Follows}
 use Rattle.mega_replica.specs.Stored.{GroupLogs}
 use Rattle.mega_actions.specs.of_node_laws.About.{IsAbout}
@@ -33,6 +35,7 @@ use Rattle.mega_core.specs.Kind.{FitsKind}
 use Rattle.mega_core.specs.Made.{Made}
 use Rattle.mega_stepping.specs.Notes.{met_of}
 use Rattle.mega_stepping.specs.Positions.{Keeps}
+use Rattle.mega_stepping.specs.Touching.{is_behind}
 use Rattle.mega_core.specs.Represents.{Represents}
 use Rattle.mega_stepping.specs.Staging.{Stages}
 use Rattle.mega_core.proofs.Alike.{IsApart, alike_tells, alike_then, all_apart_alike, validates_alike}
@@ -126,6 +129,17 @@ step_represents {indexed} {digest} s node own locks durable sends now kept after
 
     notes_are : onto ((((locks ++ durable) ++ applies) ++ now.valid) ++ now.answers) (own ∷ node.met) ≡ all
     notes_are = onto_notes locks durable applies now.valid now.answers (own ∷ node.met)
+
+-- and each group is behind then where it is as the operations leave it
+pub step_behind : (s : Setting) (node : Node) (own : Met) (locks durable : List Met) (sends : List Message) (now : Now) → Acted (onto durable (onto locks (own ∷ node.met))) now → (group : GroupId)
+    → is_behind (ended s node own locks durable sends now).node.met (ended s node own locks durable sends now).node.stored group ≡ is_behind now.met now.stored group
+step_behind s node own locks durable sends now acted group =
+    ap (λ (log : List Content). nat_lt (applied log (now.stored group)) (length log))
+    (ap (λ (met : List Met). log_of (onto (map Sends sends) met) group) (onto_notes locks durable applies now.valid now.answers (own ∷ node.met))
+    ∙ noted_logs s (onto durable (onto locks (own ∷ node.met))) applies sends now (applies_quiet s node.met node.stored now.met now.stored) acted group)
+  where
+    applies : List Met
+    applies = apply_notes s node.met node.stored now.met now.stored
 
 -- the logs tell what the operations have met as well
 pub acted_tells : {indexed : Indexed} {digest : Digest} (s : Setting) (kept : Kept) (leases : Leases) (version : Versions) (progress : GroupId → Progress) (begun : ℕ) (work : Work) (base : List Met) (now : Now)

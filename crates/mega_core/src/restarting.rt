@@ -37,6 +37,7 @@ use mega_stepping::mega_operations::Members;
 use mega_stepping::mega_voter::Voter;
 use mega_stepping::{Note, has_rows};
 use std::alloc::Global;
+use std::collections::BTreeSet;
 
 /// The greatest count of starts.
 const MOST_STARTS: u32 = 4294967295;
@@ -249,6 +250,7 @@ impl<R: Records + Drop, V: Versions + Drop> Node<R, V> {
                 replica,
                 open: Items::new(alloc),
                 begun: 0,
+                lagging: BTreeSet::new(alloc),
             },
             start,
             notes,

@@ -24,6 +24,7 @@ use Rattle.mega_node_laws.specs.Acted.{own_item}
 use Rattle.mega_durable.specs.of_core.declared.node.Node.{Node}
 use Rattle.mega_durable.specs.of_core.of_stepping.declared.step.Step.{Step}
 use Rattle.mega_durable.specs.of_core.of_stepping.Notes.{met_of}
+use Rattle.mega_durable.specs.of_core.Lagging.{KnowsLagging}
 use Rattle.mega_durable.specs.of_core.Represents.{Represents}
 use Rattle.mega_durable.specs.of_core.Standing.{StandsFor}
 use Rattle.mega_durable.specs.declared.cut.Cut.{Cut}
@@ -56,8 +57,11 @@ pub record IsHere (h : Meanings) (node : Node MemRecords VersionedRows) (ruled :
 
 pub is_here : (c : Cluster) (h : Meanings) (me : ℕ) (member : Member) (ruled : RuleNode) → IsMember c me member ruled → IsHere h (node_in member) ruled
 is_here c h me member ruled one = record {
-  stands = subst (λ (s : Setting). Represents s (node_in member).replica.voter.logs.kept (node_in member).replica.leases (node_in member).replica.indexed (node_in member).replica.digest (version_of (node_in member).replica.rows.rows) (progress_at (node_in member).replica.rows.progress) (node_in member).open (node_in member).begun ruled)
-      (same_setting c (node_in member).replica.members h me (node_in member).replica.me (sym one.members) (sym one.number)) (one.told h);
+  stands = record {
+    within = subst (λ (s : Setting). Represents s (node_in member).replica.voter.logs.kept (node_in member).replica.leases (node_in member).replica.indexed (node_in member).replica.digest (version_of (node_in member).replica.rows.rows) (progress_at (node_in member).replica.rows.progress) (node_in member).open (node_in member).begun ruled)
+          (same_setting c (node_in member).replica.members h me (node_in member).replica.me (sym one.members) (sym one.number)) (one.told h);
+    lagging = coe 1 0 (i. KnowsLagging (one.members i) (one.number i) (node_in member).lagging ruled.met ruled.stored) one.lagging;
+  };
   empty = one.empty;
   ready = one.ready;
   holds = one.holds;
@@ -70,7 +74,8 @@ as_member c h me member ruled members number here = record {
   number = number;
   told = λ g. any_handlers c me h g (node_in member) ruled
       (subst (λ (s : Setting). Represents s (node_in member).replica.voter.logs.kept (node_in member).replica.leases (node_in member).replica.indexed (node_in member).replica.digest (version_of (node_in member).replica.rows.rows) (progress_at (node_in member).replica.rows.progress) (node_in member).open (node_in member).begun ruled)
-      (same_setting (node_in member).replica.members c h (node_in member).replica.me me members number) here.stands);
+      (same_setting (node_in member).replica.members c h (node_in member).replica.me me members number) here.stands.within);
+  lagging = coe 0 1 (i. KnowsLagging (members i) (number i) (node_in member).lagging ruled.met ruled.stored) here.stands.lagging;
   empty = here.empty;
   ready = here.ready;
   holds = here.holds;
