@@ -2,7 +2,7 @@
 use Rattle.std.specs.Prelude.{ℕ, List}
 use Rattle.mega_base.specs.declared.names.GroupId.{GroupId}
 use Rattle.mega_disk.specs.VersionMaps.{Versions}
-use Rattle.mega_wal.specs.declared.kept.Kept.{Kept}
+use Rattle.mega_replica.specs.of_wal.declared.kept.Kept.{Kept}
 use Rattle.mega_rules.specs.Met.{Met}
 use Rattle.mega_rules.specs.Operations.{Setting}
 use Rattle.mega_replica.specs.declared.progress.Progress.{Progress}

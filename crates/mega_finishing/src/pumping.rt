@@ -156,15 +156,7 @@ fn found_next<R: Records, V: Versions>(
         Follows (V.version rows.now.rows) (progress_at rows.now.progress) (log_of met) stored → HasNoted voter.now.logs.kept digest.old → HasNoted voter.now.logs.kept digest.new) }
 {
     let groups = voter.groups(alloc)?;
-    let found = picked_of(
-        alloc,
-        digest,
-        voter,
-        rows,
-        op,
-        entering,
-        groups.as_slice(),
-    )?;
+    let found = picked_of(alloc, digest, voter, rows, op, entering, groups.as_slice())?;
     Ok(Found {
         groups,
         picked: found,

@@ -64,9 +64,10 @@ noted_after kept after items met digest tells told is =
 
 more_then : (one two three : Logs) → ((group : GroupId) → (more : List Content) × (two group ≡ one group ++ more)) → ((group : GroupId) → (more : List Content) × (three group ≡ two group ++ more))
     → (group : GroupId) → (more : List Content) × (three group ≡ one group ++ more)
-more_then one two three first second group =
-    ((first group).0 ++ (second group).0,
-    (second group).1 ∙ ap (λ (entries : List Content). entries ++ (second group).0) (first group).1 ∙ append_assoc (one group) (first group).0 (second group).0)
+more_then one two three first second group = (
+  (first group).0 ++ (second group).0,
+  (second group).1 ∙ ap (λ (entries : List Content). entries ++ (second group).0) (first group).1 ∙ append_assoc (one group) (first group).0 (second group).0,
+)
 
 -- what a step notes first, and what it notes then
 pub noted_step : (kept after : Kept) (own : Met) (first then met : List Met) (digest : Digest) → Tells kept met → Tells after (onto then (onto first (own ∷ met))) → HasNoted kept digest → HasNoted after digest

@@ -48,11 +48,11 @@ returns-clause-ticked g c = λ h node open_ones begun represents groups_are owne
       closing = c.in_ok-closing.ensures s node.met now refl refl rows (c.does_again-again.ensures r0.members r0.me node.met represents.leased) represents.tells;
       stands = record {
         stands = record {
-        tells = coe 0 1 (i. Tells c.keep_notes-2.new.voter.logs.kept (onto (second_is i) (onto (first_is i) (own ∷ node.met)))) told2;
-        leased = says.state s node.met represents.leased;
-        follows = follows_after version progress (lapse_notes s node.met now) (onto lease (own ∷ node.met)) counts (follows_after version progress lease (own ∷ node.met) counts (follows_more version progress own node.met counts stored));
-        owned = owned;
-        small = represents.kind.small;
+          tells = coe 0 1 (i. Tells c.keep_notes-2.new.voter.logs.kept (onto (second_is i) (onto (first_is i) (own ∷ node.met)))) told2;
+          leased = says.state s node.met represents.leased;
+          follows = follows_after version progress (lapse_notes s node.met now) (onto lease (own ∷ node.met)) counts (follows_after version progress lease (own ∷ node.met) counts (follows_more version progress own node.met counts stored));
+          owned = owned;
+          small = represents.kind.small;
         };
         noted = noted_step r0.voter.logs.kept c.keep_notes-2.new.voter.logs.kept own (map met_of c.as_slice.result.now) (map met_of c.as_slice-2.result.now) node.met r0.digest represents.tells told2 represents.noted;
       };
