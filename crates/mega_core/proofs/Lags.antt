@@ -129,8 +129,8 @@ behind_is lagging met stored ordered whole =
     by group false a b e f k = refl
     by group true true true e f k = refl
     by group true false false e f k = refl
-    by group true false b e f k = absurd (let all = whole group (has_lags (keys lagging) group ∙ f) in cc)
-    by group true a false e f k = absurd (let all = whole_none met stored group k in cc)
+    by group true false true e f k = absurd (let all = whole group (has_lags (keys lagging) group ∙ f) in cc)
+    by group true true false e f k = absurd (let all = whole_none met stored group k in cc)
 
 -- ---- of a group of which all is applied that is decided all is, where its log stays and no less is stored
 

@@ -19,10 +19,7 @@ use std::alloc::Global;
 use std::collections::BTreeSet;
 
 /// The groups that lag, in order.
-pub(crate) fn copies(
-    alloc: Global,
-    lagging: &BTreeSet<GroupId>,
-) -> Result<Items<GroupId>, NoMemory>
+pub(crate) fn copies(alloc: Global, lagging: &BTreeSet<GroupId>) -> Result<Items<GroupId>, NoMemory>
     ensures keys { IfOk result (λ groups. groups ≡ keys lagging.now) }
     ensures ordered { OnOk result (IsOrdered group_cmp lagging.now) }
 {
@@ -71,7 +68,8 @@ fn keep_one<R: Records, V: Versions>(
         (other : Group) → lags lagging.new other ≡ (if is_group group.now other then is_behind met stored other else lags lagging.old other)) }
 {
     if is_behind(replica, group) {
-        return put(alloc, lagging, group);
+        put(alloc, lagging, group)?;
+        return Ok(());
     }
     take_out(lagging, group);
     Ok(())

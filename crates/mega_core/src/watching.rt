@@ -45,7 +45,8 @@ pub(crate) fn behind<R: Records, V: Versions>(
 {
     if has_rows(replica.members.cluster(), replica.me) {
         let groups = copies(alloc, lagging)?;
-        return behind_among(alloc, &replica.voter, &replica.rows, groups.into_vec());
+        let found = behind_among(alloc, &replica.voter, &replica.rows, groups.into_vec())?;
+        return Ok(found);
     }
     Ok(Items::new(alloc))
 }
