@@ -59,7 +59,7 @@ pub is_here : (c : Cluster) (h : Meanings) (me : ℕ) (member : Member) (ruled :
 is_here c h me member ruled one = record {
   stands = record {
     within = subst (λ (s : Setting). Represents s (node_in member).replica.voter.logs.kept (node_in member).replica.leases (node_in member).replica.indexed (version_of (node_in member).replica.rows.rows) (progress_at (node_in member).replica.rows.progress) (node_in member).open (node_in member).begun ruled)
-          (same_setting c (node_in member).replica.members h me (node_in member).replica.me (sym one.members) (sym one.number)) (one.told h);
+        (same_setting c (node_in member).replica.members h me (node_in member).replica.me (sym one.members) (sym one.number)) (one.told h);
     lagging = coe 1 0 (i. KnowsLagging (one.members i) (one.number i) (node_in member).lagging ruled.met ruled.stored) one.lagging;
   };
   empty = one.empty;
