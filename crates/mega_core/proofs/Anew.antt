@@ -101,7 +101,7 @@ grant_on (item ∷ owed) one two node same = grant_on owed (item ∷ one) (item 
 
 -- ---- all that is decided is applied
 
-pub all_written : (log : List Content) → sum_by (λ (entry : Content). length entry.writes) log ≡ length (writes_of log)
+all_written : (log : List Content) → sum_by (λ (entry : Content). length entry.writes) log ≡ length (writes_of log)
 all_written [] = refl
 all_written (entry ∷ log) =
     sum_by-cons (λ (entry : Content). length entry.writes) entry log ∙ (ap (λ n. length entry.writes + n) (all_written log) ∙ sym (length-append entry.writes (writes_of log)))

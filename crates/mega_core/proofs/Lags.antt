@@ -1,11 +1,10 @@
 -- The groups of which a node may not have applied all that is decided, from one step to the next.
-use Rattle.std.proofs.Common.{◌≡◌, ◌≤◌, ◌<◌, ◌+◌, ◌||◌, ◌&&◌, ◌++◌, ℕ, nat_lt, Bool, true, false, cond, List, [], ◌∷◌, length, filter, map, min, Option, Some, None, refl, sym, ap, subst, ◌∙◌, arith}
-use Rattle.std.specs.Prelude.{sum_by}
+use Rattle.std.proofs.Common.{◌≡◌, ◌≤◌, ◌<◌, ◌+◌, ◌-◌, ◌||◌, ◌&&◌, ◌++◌, ℕ, suc, nat_le, nat_lt, Bool, true, false, cond, List, [], ◌∷◌, length, filter, map, min, Option, Some, None, refl, sym, ap, subst, ◌∙◌, arith}
 use Rattle.std.specs.BTreeSet.{BTreeSet, IsOrdered, keys}
 use Rattle.std.specs.List.{All, list_any}
-use Rattle.std.specs.List.Sorted.{IsStrictlySortedBy}
 use Rattle.std.proofs.lemmas.Bool.Decides.{nat_tests}
-use Rattle.std.proofs.lemmas.List.{take_all}
+use Rattle.std.proofs.lemmas.List.{length-append}
+use Rattle.std.proofs.lemmas.List.Elements.{All-weaker}
 use Rattle.std.proofs.lemmas.List.Kept.{IsStrictlySortedBy-filter}
 use Rattle.mega_base.specs.declared.names.GroupId.{GroupId}
 use Rattle.mega_cluster.specs.declared.cluster.Cluster.{Cluster}
@@ -20,18 +19,16 @@ use Rattle.mega_wal.proofs.Orders.{is_group_equal, is_group_is}
 use Rattle.mega_wal.proofs.Sames.{same_group_equal, same_group_self}
 use Rattle.mega_wire.specs.declared.message.Message.{Message}
 use Rattle.mega_outcome.specs.declared.request.Request.{Request}
-use Rattle.mega_replica.specs.Applying.{applied, writes_of, writes_through}
-use Rattle.mega_replica.specs.declared.progress.Progress.{Progress}
-use Rattle.mega_replica.specs.Following.{Follows}
+use Rattle.mega_replica.specs.Applying.{applied, writes_of}
 use Rattle.mega_rules.specs.Acting.{validated_by}
 use Rattle.mega_rules.specs.Clock.{clock_of}
-use Rattle.mega_rules.specs.Logs.{groups_of, log_of, prefix_of}
+use Rattle.mega_rules.specs.Logs.{groups_of, log_of}
 use Rattle.mega_rules.specs.Members.{has_rows}
 use Rattle.mega_rules.specs.Met.{Begins, Met, Starts}
-use Rattle.mega_rules.specs.Operations.{Node, Now, Operation, Setting}
+use Rattle.mega_rules.specs.Operations.{Node, Now, Setting}
 use Rattle.mega_rules.specs.Steps.{Take, Tick, apply_all, at_first, new_operation, onto, op_of, portion_of, refusal, start, start_items, start_notes, stored_after}
 use Rattle.mega_actions.specs.of_node_laws.Acted.{acted_on, decision_in}
-use Rattle.mega_actions.proofs.of_node_laws.Applied.{applied_more, through_applied}
+use Rattle.mega_actions.proofs.of_node_laws.Applied.{applied_more}
 use Rattle.mega_actions.proofs.of_node_laws.Ending.{onto_append}
 use Rattle.mega_actions.proofs.of_node_laws.Logs.{log_after, log_stays}
 use Rattle.mega_actions.specs.of_proposing.Servable.{is_served}
@@ -41,7 +38,7 @@ use Rattle.mega_stepping.specs.of_leases.Opening.{AreOwed}
 use Rattle.mega_stepping.specs.of_voter.Holding.{Recalls}
 use Rattle.mega_stepping.specs.declared.applying.Before.{Before}
 use Rattle.mega_stepping.specs.Positions.{before_at}
-use Rattle.mega_stepping.specs.Touching.{asked_groups, behind, is_behind, touched}
+use Rattle.mega_stepping.specs.Touching.{asked_groups, is_behind, touched}
 use Rattle.mega_stepping.proofs.Groups.{has, no_log}
 use Rattle.mega_stepping.proofs.of_voter.Grouped.{groups_sorted, sorted_same}
 use Rattle.mega_core.specs.Acted.{Acted}
@@ -49,12 +46,11 @@ use Rattle.mega_core.specs.Beginning.{at_begin, has_begun}
 use Rattle.mega_core.specs.Lagging.{KnowsLagging, KnowsOthers, is_watched, lags}
 use Rattle.mega_core.specs.Taking.{has_taken}
 use Rattle.mega_core.specs.Ticking.{has_ticked}
-use Rattle.mega_core.proofs.Anew.{all_written, few_stored, logs_beside, notes_quiet, owed_no_start}
+use Rattle.mega_core.proofs.Anew.{few_stored, logs_beside, notes_quiet, owed_no_start}
 use Rattle.mega_core.proofs.Silent.{IsMute, IsQuiet, mute_undecided}
 use Rattle.mega_core.proofs.Untouched.{decision_stored, heard_by, log_acted, take_apart, take_log}
 use Rattle.mega_core.proofs.Walked.{IsAny, all_any, all_heard_built, heard_in_any, in_any}
 use Rattle.mega_core.proofs.Walking.{Walks, all_ticked_walked, all_walked, begun_walked}
-use Rattle.std.proofs.lemmas.List.Elements.{All-weaker}
 
 -- ---- one group of the set
 
@@ -226,11 +222,19 @@ lags_then false now old new is out others = others refl (sym is ∙ out)
 
 -- ---- at a start all is applied that is decided
 
-all_applied : (log : List Content) → length log ≤ applied log (length (writes_of log))
-all_applied log =
-    subst (λ (count : ℕ). length log ≤ applied log count)
-    (ap (sum_by (λ (entry : Content). length entry.writes)) (take_all (length log) log (omega arith)) ∙ all_written log)
-    (through_applied (length log) log (omega arith))
+over : (a b : ℕ) → nat_le a b ≡ false → a ≤ b → ⊥
+over a b e le = grind (arith, nat_tests)
+
+all_applied : (log : List Content) (stored : ℕ) → length (writes_of log) ≤ stored → length log ≤ applied log stored
+all_applied [] stored le = let none : 0 ≤ 0 = omega arith in none
+all_applied (entry ∷ log) stored le = by (nat_le (length entry.writes) stored) refl (all_applied log (stored - length entry.writes) (omega (arith, le, parts)))
+  where
+    parts : length (writes_of (entry ∷ log)) ≡ length entry.writes + length (writes_of log)
+    parts = length-append entry.writes (writes_of log)
+
+    by : (t : Bool) → nat_le (length entry.writes) stored ≡ t → length log ≤ applied log (stored - length entry.writes) → suc (length log) ≤ cond t (1 + applied log (stored - length entry.writes)) 0
+    by true e rest = let more : suc (length log) ≤ 1 + applied log (stored - length entry.writes) = omega (arith, rest) in more
+    by false e rest = absurd (over (length entry.writes) stored e (omega (arith, le, parts)))
 
 not_below : (a b : ℕ) → b ≤ a → nat_lt a b ≡ false
 not_below a b le = grind (arith, nat_tests)
@@ -247,7 +251,7 @@ pub restarted_whole : (lagging : BTreeSet GroupId) (c : Cluster) (me : ℕ) (h :
 restarted_whole lagging c me h old starts met owed are few recalls = λ rows group out.
     ap (λ (log : List Content). nat_lt (applied log (cond (has_rows c me) (length (writes_of (log_of (onto owed met) group))) 0)) (length log)) (logs group)
     ∙ (ap (λ t. nat_lt (applied (log_of (onto owed met) group) (cond t (length (writes_of (log_of (onto owed met) group))) 0)) (length (log_of (onto owed met) group))) rows
-    ∙ not_below (applied (log_of (onto owed met) group) (length (writes_of (log_of (onto owed met) group)))) (length (log_of (onto owed met) group)) (all_applied (log_of (onto owed met) group)))
+    ∙ not_below (applied (log_of (onto owed met) group) (length (writes_of (log_of (onto owed met) group)))) (length (log_of (onto owed met) group)) (all_applied (log_of (onto owed met) group) (length (writes_of (log_of (onto owed met) group))) (omega arith)))
   where
     now : List Met
     now = onto owed (Starts (starts + 1) ∷ met)
