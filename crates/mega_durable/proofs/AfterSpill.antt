@@ -142,6 +142,7 @@ still_up store version h one rows node same progress up = record {
       follows = subst (λ (all : _). Follows (version rows.rows) (progress_at all) (log_of node.met) node.stored) (sym progress)
           (follows_same (version one.replica.rows.rows) (version rows.rows) (progress_at one.replica.rows.progress) (log_of node.met) node.stored same up.stands.within.follows);
       marked = up.stands.within.marked;
+      noted = up.stands.within.noted;
       opened = up.stands.within.opened;
       begun_is = up.stands.within.begun_is;
       about = up.stands.within.about;

@@ -42,7 +42,7 @@ use Rattle.mega_places.proofs.Fuses.{fused_more, fused_same, leaves, short_is}
 
 -- the handlers do not matter to what is told
 any_handlers : (c : Cluster) (me : ℕ) (g h : Meanings) (node : Node MemRecords VersionedRows) (ruled : RuleNode) → IsTold c g me node ruled → IsTold c h me node ruled
-any_handlers c me g h node ruled r = record { kind = r.kind; tells = r.tells; leased = r.leased; follows = r.follows; marked = r.marked; opened = r.opened; begun_is = r.begun_is; about = r.about; built = r.built }
+any_handlers c me g h node ruled r = record { kind = r.kind; tells = r.tells; leased = r.leased; follows = r.follows; marked = r.marked; noted = r.noted; opened = r.opened; begun_is = r.begun_is; about = r.about; built = r.built }
 
 pub same_setting : (c d : Cluster) (h : Meanings) (me you : ℕ) → c ≡ d → me ≡ you → setting c h me ≡ setting d h you
 same_setting c d h me you cluster number = ap (λ one. setting one h me) cluster ∙ ap (setting d h) number
