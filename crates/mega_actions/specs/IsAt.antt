@@ -7,7 +7,7 @@ use Rattle.mega_rules.specs.Met.{Met}
 use Rattle.mega_rules.specs.Operations.{Setting}
 use Rattle.mega_replica.specs.Following.{progress_at}
 use Rattle.mega_actions.specs.declared.replica.Replica.{Replica}
-use Rattle.mega_finishing.specs.Stands.{Stands}
+use Rattle.mega_actions.specs.StandsAt.{StandsAt}
 use Rattle.mega_finishing.specs.of_proposing.Settings.{setting}
 
 -- its node, with handlers
@@ -16,4 +16,4 @@ setting_of one h = setting one.members one.me h
 
 -- all that it keeps stands to what its node met, and to how many writes of each group it stored
 abbrev pub IsAt : {R V : Type 0} → (V → Versions) → Meanings → Replica R V → List Met → (GroupId → ℕ) → Type 0
-IsAt version h one met stored = Stands (setting_of one h) one.voter.logs.kept one.leases (version one.rows.rows) (progress_at one.rows.progress) met stored
+IsAt version h one met stored = StandsAt (setting_of one h) one.voter.logs.kept one.leases one.digest (version one.rows.rows) (progress_at one.rows.progress) met stored

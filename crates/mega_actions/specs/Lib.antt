@@ -1,3 +1,4 @@
+pub mod StandsAt
 pub mod IsAt
 pub mod Turns
 pub mod Acted
@@ -7,6 +8,7 @@ pub use Rattle.mega_finishing.specs.of_proposing as of_proposing
 pub use Rattle.mega_finishing.specs.of_voter as of_voter
 pub use Rattle.mega_finishing.specs.of_leases as of_leases
 pub use Rattle.mega_finishing.specs.of_operations as of_operations
+pub use Rattle.mega_finishing.specs.of_pumps as of_pumps
 pub use Rattle.mega_finishing.specs.of_view as of_view
 pub use Rattle.mega_finishing.specs.of_marks as of_marks
 pub use Rattle.mega_finishing.specs.of_node_laws as of_node_laws

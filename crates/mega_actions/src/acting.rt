@@ -147,6 +147,7 @@ impl<R: Records, V: Versions> Replica<R, V> {
             &self.voter,
             &self.leases,
             &mut self.rows,
+            &mut self.digest,
             handlers,
         )?;
         let next = takes(work, pumped)?;

@@ -165,6 +165,7 @@ impl<R: Records, V: Versions> Replica<R, V> {
             &self.voter,
             &self.leases,
             &self.rows,
+            &mut self.digest,
             kept,
             asked,
             entering,

@@ -8,5 +8,7 @@ mod replica;
 mod turning;
 
 pub use mega_finishing;
-pub use mega_finishing::{mega_leases, mega_marks, mega_operations, mega_proposing, mega_voter};
+pub use mega_finishing::{
+    mega_leases, mega_marks, mega_operations, mega_proposing, mega_pumps, mega_voter,
+};
 pub use replica::Replica;

@@ -1,13 +1,14 @@
-//! What a node keeps beside its open operations: its logs, its leases, its rows and its global indexes.
+//! What a node keeps beside its open operations: its logs, its leases, its rows, its global indexes and its digest of queues.
 use mega_disk::{Records, Versions};
 use mega_finishing::mega_leases::Leases;
 use mega_finishing::mega_marks::Indexed;
 use mega_finishing::mega_operations::Members;
+use mega_finishing::mega_pumps::Digest;
 use mega_finishing::mega_voter::Voter;
 use mega_replica::StoredRows;
 
-/// What a node keeps beside its open operations: its cluster and number, its logs, its leases, its rows and its
-/// global indexes.
+/// What a node keeps beside its open operations: its cluster and number, its logs, its leases, its rows, its
+/// global indexes, and the digest of its logs' queues.
 #[derive(Drop)]
 pub struct Replica<R: Records, V: Versions> {
     pub members: Members,
@@ -16,4 +17,5 @@ pub struct Replica<R: Records, V: Versions> {
     pub leases: Leases,
     pub rows: StoredRows<V>,
     pub indexed: Indexed,
+    pub digest: Digest,
 }

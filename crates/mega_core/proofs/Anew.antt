@@ -42,6 +42,8 @@ use Rattle.mega_actions.specs.of_node_laws.About.{IsAbout}
 use Rattle.mega_actions.proofs.of_node_laws.Ending.{onto_append}
 use Rattle.mega_actions.proofs.of_node_laws.Logs.{log_after, log_is}
 use Rattle.mega_actions.specs.of_marks.declared.indexed.Indexed.{Indexed}
+use Rattle.mega_actions.specs.of_pumps.declared.digest.Digest.{Digest}
+use Rattle.mega_actions.specs.of_pumps.Notes.{HasNoted}
 use Rattle.mega_actions.specs.of_marks.AreMarked.{IsIndexed}
 use Rattle.mega_actions.specs.of_proposing.Settings.{setting}
 use Rattle.mega_actions.specs.Turns.{IsServable}
@@ -116,7 +118,7 @@ pub record AppliedSo (version : Versions) (progress : GroupId → Progress) (met
   pub rest : (group : GroupId) → has group left ≡ false → now group ≡ apply_all met group
 
 -- no more is stored than is decided
-few_stored : (version : Versions) (progress : GroupId → Progress) (met : List Met) (stored : GroupId → ℕ) → Follows version progress (log_of met) stored → (group : GroupId) → stored group ≤ apply_all met group
+pub few_stored : (version : Versions) (progress : GroupId → Progress) (met : List Met) (stored : GroupId → ℕ) → Follows version progress (log_of met) stored → (group : GroupId) → stored group ≤ apply_all met group
 few_stored version progress met stored follows group = subst (λ n. n ≤ apply_all met group) (sym (follows.counts group)) (place_total (progress group) (log_of met group) (follows.places group))
 
 pub applied_first : (version : Versions) (progress : GroupId → Progress) (met : List Met) (stored : GroupId → ℕ) → Follows version progress (log_of met) stored → AppliedSo version progress met (groups_of met)
@@ -185,7 +187,7 @@ agree_without one two same = record {
 log_in_same : (one two : List JournalItem) → Agrees one two → (group : GroupId) → log_in one group ≡ log_in two group
 log_in_same one two same group = λ i. entries_from (λ n. (same.slots group n i).decided) ((marks_same one two same.slots group i).prefix) 1
 
-logs_beside : (kept : Kept) (starts : ℕ) (met owed : List Met) → list_all is_no_start owed ≡ true → starts < 4294967295 → Recalls kept starts (onto owed met)
+pub logs_beside : (kept : Kept) (starts : ℕ) (met owed : List Met) → list_all is_no_start owed ≡ true → starts < 4294967295 → Recalls kept starts (onto owed met)
     → (group : GroupId) → log_of (onto owed (Starts (starts + 1) ∷ met)) group ≡ log_of (onto owed met) group
 logs_beside kept starts met owed are few recalls group =
     log_is (onto owed (Starts (starts + 1) ∷ met)) group
@@ -205,18 +207,19 @@ followed_on c me version progress kept starts met owed are few recalls have = re
 }
 
 -- ---- the node is that of the rules
-pub restarted : (c : Cluster) (me : ℕ) (h : Meanings) (old kept : Kept) (leases : Leases) (indexed : Indexed) (version : Versions) (progress : GroupId → Progress) (starts : ℕ) (met owed : List Met)
+pub restarted : (c : Cluster) (me : ℕ) (h : Meanings) (old kept : Kept) (leases : Leases) (indexed : Indexed) (digest : Digest) (version : Versions) (progress : GroupId → Progress) (starts : ℕ) (met owed : List Met)
     → is_node c me ≡ true → IsSmall c.schema → AreOwed owed met → starts < 4294967295 → Recalls old starts (onto owed met) → Tells kept (onto owed (Starts (starts + 1) ∷ met))
     → TellsLeases c me leases (onto owed (Starts (starts + 1) ∷ met))
     → Follows version progress (log_of (onto owed (Starts (starts + 1) ∷ met))) (applied_at_start (setting c me h) (onto owed (Starts (starts + 1) ∷ met)))
-    → IsIndexed c.schema indexed (start (setting c me h) (starts + 1) owed met).met
-    → Represents (setting c me h) kept leases indexed version progress [] 0 (start (setting c me h) (starts + 1) owed met)
-restarted c me h old kept leases indexed version progress starts met owed member small are few recalls tells leased follows marked = record {
+    → IsIndexed c.schema indexed (start (setting c me h) (starts + 1) owed met).met → HasNoted kept digest
+    → Represents (setting c me h) kept leases indexed digest version progress [] 0 (start (setting c me h) (starts + 1) owed met)
+restarted c me h old kept leases indexed digest version progress starts met owed member small are few recalls tells leased follows marked noted = record {
   kind = record { member = member; small = small; idle = λ other. refl; bare = λ none group. ap (λ t. cond t (apply_all (onto owed met) group) 0) none };
   tells = subst (Tells kept) (sym all) (mute_told kept notes now mute tells);
   leased = subst (TellsLeases c me leases) (sym all) (alike_tells c me leases now (onto notes now) (all_apart_alike c me notes now (All-weaker IsQuiet IsApart (λ one quiet. quiet.apart) notes quiet)) leased);
   follows = coe 0 1 (i. Follows version progress (λ group. logs group i) (λ group. counts group i)) follows;
   marked = marked;
+  noted = noted;
   opened = refl;
   begun_is = sym (ap (λ n. min n last_number) begun);
   about = All-nil IsAbout;

@@ -26,8 +26,9 @@ use Rattle.mega_actions.proofs.of_node_laws.Logs.{log_stays}
 use Rattle.mega_actions.proofs.of_node_laws.Sent.{step_may}
 use Rattle.mega_rules.specs.Finding.{refreshed_marks}
 use Rattle.mega_actions.specs.of_marks.declared.indexed.Indexed.{Indexed}
+use Rattle.mega_actions.specs.of_pumps.declared.digest.Digest.{Digest}
 use Rattle.mega_actions.specs.of_marks.AreMarked.{AreMarked}
-use Rattle.mega_actions.specs.of_finishing.Stands.{Stands}
+use Rattle.mega_actions.specs.StandsAt.{StandsAt}
 use Rattle.mega_actions.specs.Turns.{IsServable}
 use Rattle.mega_actions.specs.of_proposing.Working.{work_of}
 use Rattle.mega_actions.specs.of_proposing.declared.work.Work.{Work}
@@ -85,25 +86,26 @@ module _ (s : Setting) (node : Node) (now : ℕ) where
   abbrev ticking_from : Now
   ticking_from = at_first (acted_on s node (Tick now)) (portion_of s node.met node.stored)
 
-  pub tick_acts : {indexed0 indexed2 : Indexed} (t1 t2 : Setting) (kept0 kept kept2 : Kept) (leases0 leases2 : Leases) (version0 version2 : Versions) (progress0 progress2 : GroupId → Progress) (open_ones : List Operation) (begun : ℕ) (work : Work) (operations : List Operation)
-      → Represents s kept0 leases0 indexed0 version0 progress0 open_ones begun node → operations ≡ node.open_operations → t1 ≡ s → t2 ≡ t1 → kept2 ≡ kept → indexed2 ≡ indexed0
+  pub tick_acts : {indexed0 indexed2 : Indexed} {digest0 digest2 : Digest} (t1 t2 : Setting) (kept0 kept kept2 : Kept) (leases0 leases2 : Leases) (version0 version2 : Versions) (progress0 progress2 : GroupId → Progress) (open_ones : List Operation) (begun : ℕ) (work : Work) (operations : List Operation)
+      → Represents s kept0 leases0 indexed0 digest0 version0 progress0 open_ones begun node → operations ≡ node.open_operations → t1 ≡ s → t2 ≡ t1 → kept2 ≡ kept → indexed2 ≡ indexed0
       → begun_of (acted_on s node (Tick now)) ≡ begun_of node.met
       → Tells kept (acted_on s node (Tick now))
-      → Stands t2 kept2 leases2 version2 progress2 (fold (ticked t1 now) ticking_from operations).met (fold (ticked t1 now) ticking_from operations).stored
+      → StandsAt t2 kept2 leases2 digest2 version2 progress2 (fold (ticked t1 now) ticking_from operations).met (fold (ticked t1 now) ticking_from operations).stored
       → work ≡ work_of (fold (ticked t1 now) ticking_from operations)
-      → HasActed t2 kept2 leases2 indexed2 version2 progress2 begun work (acted_on s node (Tick now)) (has_ticked s node now)
-  tick_acts {indexed0} {indexed2} t1 t2 kept0 kept kept2 leases0 leases2 version0 version2 progress0 progress2 open_ones begun work operations h opened t1_is t2_is kept_is indexed_is stays tells stands worked =
-      let after = coe 0 1 (i. Stands t2 kept2 leases2 version2 progress2 (fold (ticked (t1_is i) now) ticking_from (opened i)).met (fold (ticked (t1_is i) now) ticking_from (opened i)).stored) stands in
+      → HasActed t2 kept2 leases2 indexed2 digest2 version2 progress2 begun work (acted_on s node (Tick now)) (has_ticked s node now)
+  tick_acts {indexed0} {indexed2} {digest0} {digest2} t1 t2 kept0 kept kept2 leases0 leases2 version0 version2 progress0 progress2 open_ones begun work operations h opened t1_is t2_is kept_is indexed_is stays tells stands worked =
+      let after = coe 0 1 (i. StandsAt t2 kept2 leases2 digest2 version2 progress2 (fold (ticked (t1_is i) now) ticking_from (opened i)).met (fold (ticked (t1_is i) now) ticking_from (opened i)).stored) stands in
       let about = subst (All IsAbout) (sym h.opened) h.about in
       let built = subst (All IsServable) (sym h.opened) h.built in
       record {
         kind = subst (λ (one : Setting). FitsKind one.cluster one.me (has_ticked s node now).kept (has_ticked s node now).stored) (sym (t2_is ∙ t1_is)) (tick_fits s node now (subst (λ (os : List Operation). FitsKind s.cluster s.me os node.stored) (sym h.opened) h.kind));
         tells = subst (λ (one : Kept). Tells one (acted_on s node (Tick now))) (sym kept_is) tells;
-        leased = after.leased;
-        follows = after.follows;
+        leased = after.stands.leased;
+        follows = after.stands.follows;
         marked = coe 1 0 (i. AreMarked ((t2_is ∙ t1_is) i).cluster.schema (indexed_is i) (acted_on s node (Tick now)) (refreshed_marks (onto (has_ticked s node now).answers (acted_on s node (Tick now)))))
             (acted_marked s.cluster.schema indexed0 node (Ticks now) (lease_notes s node.met now) (lapse_notes s node.met now) (has_ticked s node now).answers refl
             (leases_unshown s node.met now) (lapses_unshown s node.met now) (all_ticked_it s now node.open_operations ticking_from refl) h.marked);
+        noted = after.noted;
         acted = all_ticked_acted s (acted_on s node (Tick now)) now node.open_operations ticking_from about (record { met_is = refl; valid = All-nil IsValidate; answers = All-nil IsEnd; about = All-nil IsAbout });
         built = all_ticked_served s now node.open_operations ticking_from built (All-nil IsServable);
         begun_is = h.begun_is ∙ ap (λ (n : ℕ). min n last_number) (sym stays);

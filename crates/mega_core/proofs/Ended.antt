@@ -1,9 +1,10 @@
 -- A step that ends: what is kept represents the node of the rules then.
-use Rattle.std.proofs.Common.{◌≡◌, ℕ, min, List, ◌∷◌, ◌++◌, map, sym, ap, subst, ◌∙◌}
+use Rattle.std.proofs.Common.{◌≡◌, ℕ, min, nat_lt, length, List, ◌∷◌, ◌++◌, map, sym, ap, subst, ◌∙◌}
 use Rattle.std.specs.List.{All}
 use Rattle.std.proofs.lemmas.List.Elements.{All-weaker}
 use Rattle.mega_base.specs.declared.names.GroupId.{GroupId}
 use Rattle.mega_disk.specs.VersionMaps.{Versions}
+use Rattle.mega_entry.specs.declared.content.Content.{Content}
 use Rattle.mega_wal.specs.declared.item.JournalItem.{JournalItem}
 use Rattle.mega_wal.specs.declared.kept.Kept.{Kept}
 use Rattle.mega_wire.specs.declared.message.Message.{Message}
@@ -16,11 +17,14 @@ use Rattle.mega_stepping.specs.of_voter.Telling.{Tells}
 use Rattle.mega_stepping.specs.of_leases.declared.leases.Leases.{Leases}
 use Rattle.mega_stepping.specs.of_leases.Tells.{Tells as TellsLeases}
 use Rattle.mega_replica.specs.declared.progress.Progress.{Progress}
+use Rattle.mega_replica.specs.Applying.{applied}
 use Rattle.mega_replica.specs.Following.{Follows}
 use Rattle.mega_replica.specs.Stored.{GroupLogs}
 use Rattle.mega_actions.specs.of_node_laws.About.{IsAbout}
 use Rattle.mega_actions.specs.of_node_laws.Sending.{MaySend}
 use Rattle.mega_actions.specs.of_marks.declared.indexed.Indexed.{Indexed}
+use Rattle.mega_actions.specs.of_pumps.declared.digest.Digest.{Digest}
+use Rattle.mega_actions.proofs.of_pumps.Lasting.{noted_after}
 use Rattle.mega_actions.specs.Turns.{IsServable}
 use Rattle.mega_actions.proofs.of_node_laws.Ending.{onto_append}
 use Rattle.mega_actions.proofs.of_node_laws.Logs.{log_after}
@@ -31,6 +35,7 @@ use Rattle.mega_core.specs.Kind.{FitsKind}
 use Rattle.mega_core.specs.Made.{Made}
 use Rattle.mega_stepping.specs.Notes.{met_of}
 use Rattle.mega_stepping.specs.Positions.{Keeps}
+use Rattle.mega_stepping.specs.Touching.{is_behind}
 use Rattle.mega_core.specs.Represents.{Represents}
 use Rattle.mega_stepping.specs.Staging.{Stages}
 use Rattle.mega_core.proofs.Alike.{IsApart, alike_tells, alike_then, all_apart_alike, validates_alike}
@@ -88,14 +93,14 @@ module _ (s : Setting) (base : List Met) (applies : List Met) (sends : List Mess
       (subst (TellsLeases s.cluster s.me leases) acted.met_is tells)
 
 -- what is kept after a step, where what is sent is told
-pub step_represents : {indexed : Indexed} (s : Setting) (node : Node) (own : Met) (locks durable : List Met) (sends : List Message) (now : Now)
+pub step_represents : {indexed : Indexed} {digest : Digest} (s : Setting) (node : Node) (own : Met) (locks durable : List Met) (sends : List Message) (now : Now)
     (kept after : Kept) (leases : Leases) (version : Versions) (progress : GroupId → Progress) (begun : ℕ) (work : Work)
-    → HasActed s kept leases indexed version progress begun work (onto durable (onto locks (own ∷ node.met))) now
+    → HasActed s kept leases indexed digest version progress begun work (onto durable (onto locks (own ∷ node.met))) now
     → MaySend (onto (ended s node own locks durable sends now).notes (own ∷ node.met)) sends
     → ((met : List Met) → MaySend met sends → Tells kept met → Tells after (onto (map Sends sends) met))
-    → Represents s after leases indexed version progress work.kept begun (ended s node own locks durable sends now).node
-step_represents {indexed} s node own locks durable sends now kept after leases version progress begun work h may sent =
-    subst (λ (met : List Met). Represents s after leases indexed version progress work.kept begun (record { met = onto (map Sends sends) met; open_operations = now.kept; stored = now.stored }))
+    → Represents s after leases indexed digest version progress work.kept begun (ended s node own locks durable sends now).node
+step_represents {indexed} {digest} s node own locks durable sends now kept after leases version progress begun work h may sent =
+    subst (λ (met : List Met). Represents s after leases indexed digest version progress work.kept begun (record { met = onto (map Sends sends) met; open_operations = now.kept; stored = now.stored }))
     (sym notes_are)
     (record {
       kind = subst (λ (os : List Operation). FitsKind s.cluster s.me os now.stored) (sym (ap (λ (w : Work). w.kept) h.work_is)) h.kind;
@@ -103,6 +108,7 @@ step_represents {indexed} s node own locks durable sends now kept after leases v
       leased = noted_leased s base applies sends now quiet h.acted leases h.leased;
       follows = subst (λ (log : GroupLogs). Follows version progress log now.stored) (sym (λ i group. noted_logs s base applies sends now quiet h.acted group i)) h.follows;
       marked = ended_marked s.cluster.schema indexed base applies now.valid now.answers sends (applies_unshown s node.met node.stored now.met now.stored) (validates_unshown now.valid h.acted.valid) h.marked;
+      noted = noted_after kept after (map Sends sends) all digest (noted_told s base applies sends now quiet h.acted kept h.tells) (sent all (subst (λ (met : List Met). MaySend met sends) notes_are may) (noted_told s base applies sends now quiet h.acted kept h.tells)) h.noted;
       opened = sym (ap (λ (w : Work). w.kept) h.work_is);
       begun_is = h.begun_is ∙ ap (λ (n : ℕ). min n last_number) (sym (noted_begun s base applies sends now quiet h.acted));
       about = subst (All IsAbout) (sym (ap (λ (w : Work). w.kept) h.work_is)) h.acted.about;
@@ -124,26 +130,37 @@ step_represents {indexed} s node own locks durable sends now kept after leases v
     notes_are : onto ((((locks ++ durable) ++ applies) ++ now.valid) ++ now.answers) (own ∷ node.met) ≡ all
     notes_are = onto_notes locks durable applies now.valid now.answers (own ∷ node.met)
 
+-- and each group is behind then where it is as the operations leave it
+pub step_behind : (s : Setting) (node : Node) (own : Met) (locks durable : List Met) (sends : List Message) (now : Now) → Acted (onto durable (onto locks (own ∷ node.met))) now → (group : GroupId)
+    → is_behind (ended s node own locks durable sends now).node.met (ended s node own locks durable sends now).node.stored group ≡ is_behind now.met now.stored group
+step_behind s node own locks durable sends now acted group =
+    ap (λ (log : List Content). nat_lt (applied log (now.stored group)) (length log))
+    (ap (λ (met : List Met). log_of (onto (map Sends sends) met) group) (onto_notes locks durable applies now.valid now.answers (own ∷ node.met))
+    ∙ noted_logs s (onto durable (onto locks (own ∷ node.met))) applies sends now (applies_quiet s node.met node.stored now.met now.stored) acted group)
+  where
+    applies : List Met
+    applies = apply_notes s node.met node.stored now.met now.stored
+
 -- the logs tell what the operations have met as well
-pub acted_tells : {indexed : Indexed} (s : Setting) (kept : Kept) (leases : Leases) (version : Versions) (progress : GroupId → Progress) (begun : ℕ) (work : Work) (base : List Met) (now : Now)
-    → HasActed s kept leases indexed version progress begun work base now → Keeps kept version progress now.met now.stored
+pub acted_tells : {indexed : Indexed} {digest : Digest} (s : Setting) (kept : Kept) (leases : Leases) (version : Versions) (progress : GroupId → Progress) (begun : ℕ) (work : Work) (base : List Met) (now : Now)
+    → HasActed s kept leases indexed digest version progress begun work base now → Keeps kept version progress now.met now.stored
 acted_tells s kept leases version progress begun work base now h = record {
   tells = subst (Tells kept) (sym h.acted.met_is) (mute_told kept now.valid base (All-weaker IsValidate IsMute validate_mute now.valid h.acted.valid) h.tells);
   follows = h.follows;
 }
 
 -- a step is made by its notes, its sends and what is kept then
-pub step_made : {indexed : Indexed} (s : Setting) (node : Node) (own : Met) (locks durable : List Met) (opening closing : List Message) (now : Now)
+pub step_made : {indexed : Indexed} {digest : Digest} (s : Setting) (node : Node) (own : Met) (locks durable : List Met) (opening closing : List Message) (now : Now)
     (kept after : Kept) (leases : Leases) (version : Versions) (progress : GroupId → Progress) (begun : ℕ) (work : Work)
     (first applies notes : List Note) (sends : List Message)
-    → HasActed s kept leases indexed version progress begun work (onto durable (onto locks (own ∷ node.met))) now
+    → HasActed s kept leases indexed digest version progress begun work (onto durable (onto locks (own ∷ node.met))) now
     → map met_of first ≡ locks ++ durable
     → map met_of applies ≡ apply_notes s node.met node.stored now.met now.stored
     → map met_of notes ≡ ((map met_of first ++ map met_of applies) ++ work.valid) ++ work.answers
     → sends ≡ (opening ++ work.sends) ++ closing
     → MaySend (onto (ended s node own locks durable ((opening ++ now.sends) ++ closing) now).notes (own ∷ node.met)) ((opening ++ now.sends) ++ closing)
     → ((met : List Met) → MaySend met sends → Tells kept met → Tells after (onto (map Sends sends) met))
-    → Made s (record { notes = notes; sends = sends }) after leases indexed version progress work.kept begun (ended s node own locks durable ((opening ++ now.sends) ++ closing) now)
+    → Made s (record { notes = notes; sends = sends }) after leases indexed digest version progress work.kept begun (ended s node own locks durable ((opening ++ now.sends) ++ closing) now)
 step_made s node own locks durable opening closing now kept after leases version progress begun work first applies notes sends h first_is applies_is notes_is sends_is may sent = record {
   notes = notes_is ∙ (λ i. ((first_is i ++ applies_is i) ++ (h.work_is i).valid) ++ (h.work_is i).answers);
   sends = all_sent;
@@ -155,10 +172,10 @@ step_made s node own locks durable opening closing now kept after leases version
     all_sent = sends_is ∙ ap (λ (w : Work). (opening ++ w.sends) ++ closing) h.work_is
 
 -- what is staged then, where what is sent is staged
-pub step_staged : {indexed : Indexed} (s : Setting) (node : Node) (own : Met) (locks durable : List Met) (opening closing : List Message) (now : Now)
+pub step_staged : {indexed : Indexed} {digest : Digest} (s : Setting) (node : Node) (own : Met) (locks durable : List Met) (opening closing : List Message) (now : Now)
     (kept : Kept) (staged after : List JournalItem) (leases : Leases) (version : Versions) (progress : GroupId → Progress) (begun : ℕ) (work : Work)
     (sends : List Message) (before : List Met)
-    → HasActed s kept leases indexed version progress begun work (onto durable (onto locks (own ∷ node.met))) now
+    → HasActed s kept leases indexed digest version progress begun work (onto durable (onto locks (own ∷ node.met))) now
     → sends ≡ (opening ++ work.sends) ++ closing
     → MaySend (onto (ended s node own locks durable ((opening ++ now.sends) ++ closing) now).notes (own ∷ node.met)) ((opening ++ now.sends) ++ closing)
     → ((before met : List Met) → MaySend met sends → Tells kept met → Stages staged before met → Stages after before (onto (map Sends sends) met))

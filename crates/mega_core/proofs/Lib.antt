@@ -14,6 +14,7 @@ pub mod Refused
 pub mod Failing
 pub mod Untouched
 pub mod Watched
+pub mod Lags
 pub mod Anew
 pub mod Quiet
 pub mod Unshown

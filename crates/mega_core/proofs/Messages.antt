@@ -37,8 +37,10 @@ use Rattle.mega_actions.proofs.of_node_laws.Sent.{step_may}
 use Rattle.mega_actions.specs.of_node_laws.About.{IsAbout}
 use Rattle.mega_rules.specs.Finding.{refreshed_marks}
 use Rattle.mega_actions.specs.of_marks.declared.indexed.Indexed.{Indexed}
+use Rattle.mega_actions.specs.of_pumps.declared.digest.Digest.{Digest}
 use Rattle.mega_actions.specs.of_marks.AreMarked.{AreMarked}
 use Rattle.mega_actions.specs.of_finishing.Stands.{Stands}
+use Rattle.mega_actions.specs.StandsAt.{StandsAt}
 use Rattle.mega_actions.specs.Turns.{IsServable, IsServableHeard, IsHeardAbout}
 use Rattle.mega_actions.specs.of_proposing.Working.{work_of}
 use Rattle.mega_actions.specs.of_proposing.declared.work.Work.{Work}
@@ -176,34 +178,35 @@ module _ (s : Setting) (node : Node) (m : Message) where
   abbrev acting_from : Now
   acting_from = at_first (acted_on s node (Take m)) (stored_after s (acted_on s node (Take m)) node.stored (decision_in s node m))
 
-  pub take_acts : {indexed0 indexed2 : Indexed} (t1 t2 : Setting) (kept0 kept kept2 : Kept) (leases0 leases2 : Leases) (version0 version2 : Versions) (progress0 progress2 : GroupId → Progress) (open_ones : List Operation) (begun : ℕ) (work : Work) (heard : List Heard)
-      → Represents s kept0 leases0 indexed0 version0 progress0 open_ones begun node → heard ≡ heard_by → t1 ≡ s → t2 ≡ t1 → kept2 ≡ kept → indexed2 ≡ indexed0
+  pub take_acts : {indexed0 indexed2 : Indexed} {digest0 digest2 : Digest} (t1 t2 : Setting) (kept0 kept kept2 : Kept) (leases0 leases2 : Leases) (version0 version2 : Versions) (progress0 progress2 : GroupId → Progress) (open_ones : List Operation) (begun : ℕ) (work : Work) (heard : List Heard)
+      → Represents s kept0 leases0 indexed0 digest0 version0 progress0 open_ones begun node → heard ≡ heard_by → t1 ≡ s → t2 ≡ t1 → kept2 ≡ kept → indexed2 ≡ indexed0
       → Tells kept (acted_on s node (Take m))
-      → Stands t2 kept2 leases2 version2 progress2 (all_act t1 acting_from heard).met (all_act t1 acting_from heard).stored
+      → StandsAt t2 kept2 leases2 digest2 version2 progress2 (all_act t1 acting_from heard).met (all_act t1 acting_from heard).stored
       → work ≡ work_of (all_act t1 acting_from heard)
-      → HasActed t2 kept2 leases2 indexed2 version2 progress2 begun work (acted_on s node (Take m)) (has_taken s node m)
-  take_acts {indexed0} {indexed2} t1 t2 kept0 kept kept2 leases0 leases2 version0 version2 progress0 progress2 open_ones begun work heard h heard_is t1_is t2_is kept_is indexed_is tells stands worked =
-      let after = coe 0 1 (i. Stands t2 kept2 leases2 version2 progress2 (all_act (t1_is i) acting_from (heard_is i)).met (all_act (t1_is i) acting_from (heard_is i)).stored) stands in
+      → HasActed t2 kept2 leases2 indexed2 digest2 version2 progress2 begun work (acted_on s node (Take m)) (has_taken s node m)
+  take_acts {indexed0} {indexed2} {digest0} {digest2} t1 t2 kept0 kept kept2 leases0 leases2 version0 version2 progress0 progress2 open_ones begun work heard h heard_is t1_is t2_is kept_is indexed_is tells stands worked =
+      let after = coe 0 1 (i. StandsAt t2 kept2 leases2 digest2 version2 progress2 (all_act (t1_is i) acting_from (heard_is i)).met (all_act (t1_is i) acting_from (heard_is i)).stored) stands in
       let about = subst (All IsAbout) (sym h.opened) h.about in
       let built = subst (All IsServable) (sym h.opened) h.built in
       record {
         kind = subst (λ (one : Setting). FitsKind one.cluster one.me (has_taken s node m).kept (has_taken s node m).stored) (sym (t2_is ∙ t1_is)) (take_fits s node m (subst (λ (os : List Operation). FitsKind s.cluster s.me os node.stored) (sym h.opened) h.kind));
         tells = subst (λ (one : Kept). Tells one (acted_on s node (Take m))) (sym kept_is) tells;
-        leased = after.leased;
-        follows = after.follows;
+        leased = after.stands.leased;
+        follows = after.stands.follows;
         marked = coe 1 0 (i. AreMarked ((t2_is ∙ t1_is) i).cluster.schema (indexed_is i) (acted_on s node (Take m)) (refreshed_marks (onto (has_taken s node m).answers (acted_on s node (Take m)))))
             (acted_marked s.cluster.schema indexed0 node (Takes m) (told_notes s node.met m.from m.body) (decision_note (decision_in s node m)) (has_taken s node m).answers refl
             (told_unshown s node.met m.from m.body) (decision_unshown (decision_in s node m)) (all_act_it s heard_by acting_from refl) h.marked);
+        noted = after.noted;
         acted = all_acted s (acted_on s node (Take m)) (clock_of node.met) m node.open_operations acting_from about (record { met_is = refl; valid = All-nil IsValidate; answers = All-nil IsEnd; about = All-nil IsAbout });
         built = all_served s heard_by acting_from (all_heard_built s (clock_of node.met) m node.open_operations built) (All-nil IsServable);
         begun_is = h.begun_is ∙ ap (λ (n : ℕ). min n last_number) (sym taken_begun);
         work_is = worked ∙ (λ i. work_of (all_act (t1_is i) acting_from (heard_is i)));
       }
 
-  pub heard_are_about : {indexed : Indexed} (kept : Kept) (leases : Leases) (version : Versions) (progress : GroupId → Progress) (open_ones : List Operation) (begun : ℕ) (heard : List Heard)
-      → Represents s kept leases indexed version progress open_ones begun node → heard ≡ heard_by → All IsHeardAbout heard
+  pub heard_are_about : {indexed : Indexed} {digest : Digest} (kept : Kept) (leases : Leases) (version : Versions) (progress : GroupId → Progress) (open_ones : List Operation) (begun : ℕ) (heard : List Heard)
+      → Represents s kept leases indexed digest version progress open_ones begun node → heard ≡ heard_by → All IsHeardAbout heard
   heard_are_about kept leases version progress open_ones begun heard h is = subst (All IsHeardAbout) (sym is) (heard_about s (clock_of node.met) m node.open_operations (subst (All IsAbout) (sym h.opened) h.about))
 
-  pub heard_are_built : {indexed : Indexed} (kept : Kept) (leases : Leases) (version : Versions) (progress : GroupId → Progress) (open_ones : List Operation) (begun : ℕ) (heard : List Heard)
-      → Represents s kept leases indexed version progress open_ones begun node → heard ≡ heard_by → All IsServableHeard heard
+  pub heard_are_built : {indexed : Indexed} {digest : Digest} (kept : Kept) (leases : Leases) (version : Versions) (progress : GroupId → Progress) (open_ones : List Operation) (begun : ℕ) (heard : List Heard)
+      → Represents s kept leases indexed digest version progress open_ones begun node → heard ≡ heard_by → All IsServableHeard heard
   heard_are_built kept leases version progress open_ones begun heard h is = subst (All IsServableHeard) (sym is) (all_heard_built s (clock_of node.met) m node.open_operations (subst (All IsServable) (sym h.opened) h.built))

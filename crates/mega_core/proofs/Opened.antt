@@ -17,17 +17,19 @@ use Rattle.mega_replica.specs.declared.progress.Progress.{Progress}
 use Rattle.mega_replica.specs.Following.{Follows}
 use Rattle.mega_actions.specs.of_node_laws.About.{IsAbout}
 use Rattle.mega_actions.specs.of_marks.declared.indexed.Indexed.{Indexed}
+use Rattle.mega_actions.specs.of_pumps.declared.digest.Digest.{Digest}
+use Rattle.mega_actions.specs.of_pumps.Notes.{HasNoted}
 use Rattle.mega_actions.specs.of_marks.AreMarked.{IsIndexed}
 use Rattle.mega_actions.specs.of_proposing.Settings.{setting}
 use Rattle.mega_actions.specs.Turns.{IsServable}
 use Rattle.mega_core.specs.Represents.{Represents}
 use Rattle.mega_actions.specs.of_view.Small.{IsSmall}
 
-pub started : (c : Cluster) (me : ℕ) (h : Meanings) (kept : Kept) (leases : Leases) (indexed : Indexed) (version : Versions) (progress : GroupId → Progress)
-    → is_node c me ≡ true → IsSmall c.schema → Tells kept (Starts 1 ∷ []) → TellsLeases c me leases (Starts 1 ∷ []) → Follows version progress (log_of (Starts 1 ∷ [])) (λ group. 0) → IsIndexed c.schema indexed (start (setting c me h) 1 [] []).met
-    → Represents (setting c me h) kept leases indexed version progress [] 0 (start (setting c me h) 1 [] [])
-started c me h kept leases indexed version progress member small tells leased follows marked = by (has_rows c me) marked
+pub started : (c : Cluster) (me : ℕ) (h : Meanings) (kept : Kept) (leases : Leases) (indexed : Indexed) (digest : Digest) (version : Versions) (progress : GroupId → Progress)
+    → is_node c me ≡ true → IsSmall c.schema → Tells kept (Starts 1 ∷ []) → TellsLeases c me leases (Starts 1 ∷ []) → Follows version progress (log_of (Starts 1 ∷ [])) (λ group. 0) → IsIndexed c.schema indexed (start (setting c me h) 1 [] []).met → HasNoted kept digest
+    → Represents (setting c me h) kept leases indexed digest version progress [] 0 (start (setting c me h) 1 [] [])
+started c me h kept leases indexed digest version progress member small tells leased follows marked noted = by (has_rows c me) marked
   where
-    by : (t : Bool) → IsIndexed c.schema indexed (onto ((Starts 1 ∷ []) ++ cond t [] []) []) → Represents (setting c me h) kept leases indexed version progress [] 0 (record { met = onto ((Starts 1 ∷ []) ++ cond t [] []) []; open_operations = []; stored = λ (group : GroupId). cond t (apply_all [] group) 0 })
-    by true marked = record { kind = record { member = member; small = small; idle = λ other. refl; bare = λ none group. refl }; tells = tells; leased = leased; follows = follows; marked = marked; opened = refl; begun_is = refl; about = All-nil IsAbout; built = All-nil IsServable }
-    by false marked = record { kind = record { member = member; small = small; idle = λ other. refl; bare = λ none group. refl }; tells = tells; leased = leased; follows = follows; marked = marked; opened = refl; begun_is = refl; about = All-nil IsAbout; built = All-nil IsServable }
+    by : (t : Bool) → IsIndexed c.schema indexed (onto ((Starts 1 ∷ []) ++ cond t [] []) []) → Represents (setting c me h) kept leases indexed digest version progress [] 0 (record { met = onto ((Starts 1 ∷ []) ++ cond t [] []) []; open_operations = []; stored = λ (group : GroupId). cond t (apply_all [] group) 0 })
+    by true marked = record { kind = record { member = member; small = small; idle = λ other. refl; bare = λ none group. refl }; tells = tells; leased = leased; follows = follows; marked = marked; noted = noted; opened = refl; begun_is = refl; about = All-nil IsAbout; built = All-nil IsServable }
+    by false marked = record { kind = record { member = member; small = small; idle = λ other. refl; bare = λ none group. refl }; tells = tells; leased = leased; follows = follows; marked = marked; noted = noted; opened = refl; begun_is = refl; about = All-nil IsAbout; built = All-nil IsServable }

@@ -111,11 +111,11 @@ module _ (group : GroupId) where
 
   -- ---- a decision in another group
 
-  abbrev IsApart : Option Decision → Type 0
+  abbrev pub IsApart : Option Decision → Type 0
   IsApart None = Unit {0}
   IsApart (Some d) = IsOther d.group
 
-  new_apart : (met : List Met) (d : Option Decision) → IsApart d → IsApart (if_new met d)
+  pub new_apart : (met : List Met) (d : Option Decision) → IsApart d → IsApart (if_new met d)
   new_apart met None apart = tt
   new_apart met (Some d) apart = go (is_none (decided met d.group d.position))
     where
@@ -127,7 +127,7 @@ module _ (group : GroupId) where
   or_neither true h = h
   or_neither false h = h
 
-  told_apart : (d : Option Decision) → has group (groups_of (decision_note d)) ≡ false → IsApart d
+  pub told_apart : (d : Option Decision) → has group (groups_of (decision_note d)) ≡ false → IsApart d
   told_apart None none = tt
   told_apart (Some d) none = or_neither (same_group d.group group) none
 
@@ -135,7 +135,7 @@ module _ (group : GroupId) where
   decision_log None met apart = refl
   decision_log (Some d) met apart = other_log d.group d.position d.entry met group apart
 
-  decision_stored : (s : Setting) (met : List Met) (stored : GroupId → ℕ) (d : Option Decision) → IsApart d → stored_after s met stored d group ≡ stored group
+  pub decision_stored : (s : Setting) (met : List Met) (stored : GroupId → ℕ) (d : Option Decision) → IsApart d → stored_after s met stored d group ≡ stored group
   decision_stored s met stored None apart = refl
   decision_stored s met stored (Some d) apart = ap (λ t. cond t (portion_of s met stored group) (stored group)) apart
 
@@ -149,7 +149,7 @@ module _ (group : GroupId) where
     keeps_it = λ now o is h. h;
     ends_it = λ now op answer h. h;
     sends_it = λ now sends h. h;
-    stores_it = λ now other more apart h. ap (λ t. cond t more (now.stored group)) apart ∙ h;
+    stores_it = λ now other more grows apart h. ap (λ t. cond t more (now.stored group)) apart ∙ h;
     validates_it = validated;
   }
     where
@@ -159,7 +159,7 @@ module _ (group : GroupId) where
 
   -- ---- what is applied of it
 
-  log_acted : (base met : List Met) (now : Now) → Acted base now → log_of base group ≡ log_of met group → log_of now.met group ≡ log_of met group
+  pub log_acted : (base met : List Met) (now : Now) → Acted base now → log_of base group ≡ log_of met group → log_of now.met group ≡ log_of met group
   log_acted base met now acted logs =
       ap (λ (one : List Met). log_of one group) acted.met_is ∙ (log_after now.valid base group (mute_undecided now.valid (All-weaker IsValidate IsMute validate_mute now.valid acted.valid)) ∙ logs)
 
@@ -203,15 +203,19 @@ module _ (group : GroupId) where
       ))
       (others_in ts (All-tail IsOtherHeard t ts others) (or_right (roams t) (list_any roams ts) none))
 
+  -- a message that decides nothing of it leaves its log
+  pub take_log : (s : Setting) (node : Node) (m : Message) → IsApart (decision_in s node m) → log_of (acted_on s node (Take m)) group ≡ log_of node.met group
+  take_log s node m apart =
+      decision_log (decision_in s node m) (told_on s node m) apart
+      ∙ (log_after (told_notes s node.met m.from m.body) (Takes m ∷ node.met) group (plain_undecided (told_notes s node.met m.from m.body) (told_plain s node.met m.from m.body))
+      ∙ log_stays (Takes m) node.met group refl)
+
   module _ (s : Setting) (node : Node) (m : Message) (none_told : has group (groups_of (decision_note (brought s node m))) ≡ false) (others : All IsOtherHeard (heard_by s node m)) where
     apart : IsApart (decision_in s node m)
     apart = new_apart node.met (brought s node m) (told_apart (brought s node m) none_told)
 
     log_is : log_of (acted_on s node (Take m)) group ≡ log_of node.met group
-    log_is =
-        decision_log (decision_in s node m) (told_on s node m) apart
-        ∙ (log_after (told_notes s node.met m.from m.body) (Takes m ∷ node.met) group (plain_undecided (told_notes s node.met m.from m.body) (told_plain s node.met m.from m.body))
-        ∙ log_stays (Takes m) node.met group refl)
+    log_is = take_log s node m apart
 
     pub take_still : All IsServable node.open_operations → list_any roams (heard_by s node m) ≡ false → Acted (acted_on s node (Take m)) (has_taken s node m)
         → applied_at (has_taken s node m).met (has_taken s node m).stored group ≡ applied_at node.met node.stored group
@@ -260,6 +264,24 @@ module _ (group : GroupId) where
       → Acted (Begins (op_of s node.met) text ∷ node.met) (has_begun s node request text) → applied_at (has_begun s node request text).met (has_begun s node request text).stored group ≡ applied_at node.met node.stored group
   begin_never s node request text none acted =
       never_applied (Begins (op_of s node.met) text ∷ node.met) node.met node.stored (has_begun s node request text) acted (log_stays (Begins (op_of s node.met) text) node.met group refl) none
+
+-- ---- a decision is of a group that the step touches
+
+pub take_apart : (group : GroupId) (s : Setting) (node : Node) (m : Message) → has group (touched node.met m.body (heard_by s node m)) ≡ false → IsApart group (decision_in s node m)
+take_apart group s node m none = new_apart group node.met (brought s node m) (told_apart group (brought s node m) (by (list_any roams ts) none))
+  where
+    ts : List Heard
+    ts = heard_by s node m
+
+    told : List Met
+    told = decision_note (brought s node m)
+
+    absent : (met : List Met) → has group (fold with_reach (groups_of met) ts) ≡ false → has group (groups_of met) ≡ false
+    absent met none = none_before ts met group (ap (λ (groups : List GroupId). has group groups) (sym (folded ts met)) ∙ none)
+
+    by : (t : Bool) → has group (fold with_reach (told_groups t node.met (brought s node m)) ts) ≡ false → has group (groups_of told) ≡ false
+    by true none = (note_absent group (brought s node m) node.met (absent (onto told node.met) none)).0
+    by false none = absent told none
 
 -- ---- what is noted then
 

@@ -66,7 +66,7 @@ begun_acted s base now o refusal h = begun_it (Acted base) (Unit {0}) (acted_las
 abbrev Served : Now → Type 0
 Served now = All IsServable now.kept
 
-abbrev IsAny : GroupId → Type 0
+abbrev pub IsAny : GroupId → Type 0
 IsAny group = Unit {0}
 
 served_walks : Walks Served IsAny
@@ -74,7 +74,7 @@ served_walks = record {
   keeps_it = λ now o is h. All-push IsServable now.kept o h is;
   ends_it = λ now op answer h. h;
   sends_it = λ now sends h. h;
-  stores_it = λ now group count any h. h;
+  stores_it = λ now group count grows any h. h;
   validates_it = validated;
 }
   where
@@ -82,15 +82,15 @@ served_walks = record {
     validated now group p None h = h
     validated now group p (Some refusal) h = h
 
-in_any : (os : List Operation) → All (IsOf IsAny) os
+pub in_any : (os : List Operation) → All (IsOf IsAny) os
 in_any [] = All-nil (IsOf IsAny)
 in_any (o ∷ os) = All-cons (IsOf IsAny) o os (tt, λ pump group. tt) (in_any os)
 
-heard_in_any : (ts : List Heard) → All (IsHeardIn IsAny) ts
+pub heard_in_any : (ts : List Heard) → All (IsHeardIn IsAny) ts
 heard_in_any [] = All-nil (IsHeardIn IsAny)
 heard_in_any (t ∷ ts) = All-cons (IsHeardIn IsAny) t ts (λ reached. (tt, λ pump group. tt)) (heard_in_any ts)
 
-all_any : (groups : List GroupId) → All IsAny groups
+pub all_any : (groups : List GroupId) → All IsAny groups
 all_any [] = All-nil IsAny
 all_any (group ∷ groups) = All-cons IsAny group groups tt (all_any groups)
 

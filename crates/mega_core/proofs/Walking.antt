@@ -1,5 +1,5 @@
 -- One walk through what operations of given groups do as they act in a step, for any fact of the node that they cannot break.
-use Rattle.std.proofs.Common.{◌≡◌, ℕ, zero, suc, ◌+◌, nat_le, Bool, true, false, cond, List, [], ◌∷◌, take, length, fold, Option, Some, None, Result, Ok, Err, refl, ap}
+use Rattle.std.proofs.Common.{◌≡◌, ◌≤◌, ℕ, zero, suc, ◌+◌, nat_le, Bool, true, false, cond, List, [], ◌∷◌, take, length, fold, Option, Some, None, Result, Ok, Err, refl, ap, arith}
 use Rattle.std.specs.Prelude.{is_some}
 use Rattle.std.specs.List.{All, list_any}
 use Rattle.std.proofs.lemmas.List.Elements.{All-head, All-tail}
@@ -40,12 +40,12 @@ use Rattle.mega_actions.specs.of_proposing.Servable.{is_served, is_open, is_pump
 use Rattle.mega_actions.specs.Turns.{IsServable, IsServableHeard}
 use Rattle.mega_stepping.specs.Touching.{asked_groups, named, reaches, reaches_in}
 
--- a fact of a node within a step that nothing can break which served operations do in such groups
+-- a fact of a node within a step that nothing can break which served operations do in such groups, of which they store no less than before
 pub record Walks (P : Now → Type 0) (Mine : GroupId → Type 0) : Type 0 where
   pub keeps_it : (now : Now) (o : Operation) → IsServable o → P now → P (keeps now o)
   pub ends_it : (now : Now) (op : OpId) (answer : Answer) → P now → P (ends now op answer)
   pub sends_it : (now : Now) (sends : List Message) → P now → P (sends_more now sends)
-  pub stores_it : (now : Now) (group : GroupId) (count : ℕ) → Mine group → P now
+  pub stores_it : (now : Now) (group : GroupId) (count : ℕ) → now.stored group ≤ count → Mine group → P now
       → P (record { met = now.met; stored = stored_with now.stored group count; kept = now.kept; valid = now.valid; answers = now.answers; sends = now.sends })
   pub validates_it : (now : Now) (group : GroupId) (p : ℕ) (refusal : Option NotValid) → P now → P (validated_by now group p refusal)
 
@@ -63,6 +63,10 @@ IsIn Mine o = reaches o ≡ true → Mine (group_in o.phase) × Roams Mine o.req
 
 abbrev pub IsHeardIn : (GroupId → Type 0) → Heard → Type 0
 IsHeardIn Mine t = IsIn Mine t.operation
+
+-- a read stores no less
+read_more : (p : ℕ) (log : List Content) (count : ℕ) → count ≤ after_read p log count
+read_more p log count = omega arith
 
 module _ (P : Now → Type 0) (Mine : GroupId → Type 0) (w : Walks P Mine) (s : Setting) where
   -- what acts again keeps it
@@ -94,7 +98,7 @@ module _ (P : Now → Type 0) (Mine : GroupId → Type 0) (w : Walks P Mine) (s 
   completes_walked : (now : Now) (group : GroupId) (r : Reading) (p : ℕ) → Mine group → P now → P (completes_read s now group r p)
   completes_walked now group r p mine h =
       validates_walked (record { met = now.met; stored = stored_with now.stored group (after_read p (log_of now.met group) (now.stored group)); kept = now.kept; valid = now.valid; answers = now.answers; sends = now.sends }) group p r.noted
-      (w.stores_it now group (after_read p (log_of now.met group) (now.stored group)) mine h)
+      (w.stores_it now group (after_read p (log_of now.met group) (now.stored group)) (read_more p (log_of now.met group) (now.stored group)) mine h)
 
   sealed_walked : (now : Now) (o : Operation) (group : GroupId) (r : Reading) (p : ℕ) (result : Result Done Turned) → IsServable o → P now → P (sealed s now o group r p result)
   sealed_walked now o group r p (Err turn) is h = w.ends_it now o.id _ h

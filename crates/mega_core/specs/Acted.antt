@@ -18,6 +18,8 @@ use Rattle.mega_replica.specs.Following.{Follows}
 use Rattle.mega_actions.specs.of_node_laws.About.{IsAbout}
 use Rattle.mega_rules.specs.Finding.{refreshed_marks}
 use Rattle.mega_actions.specs.of_marks.declared.indexed.Indexed.{Indexed}
+use Rattle.mega_actions.specs.of_pumps.declared.digest.Digest.{Digest}
+use Rattle.mega_actions.specs.of_pumps.Notes.{HasNoted}
 use Rattle.mega_actions.specs.of_marks.AreMarked.{AreMarked}
 use Rattle.mega_actions.specs.Turns.{IsServable}
 use Rattle.mega_actions.specs.of_proposing.Working.{work_of}
@@ -45,12 +47,13 @@ pub record Acted (base : List Met) (now : Now) : Type 0 where
 
 -- the logs tell what was met before they acted, the leases and the rows what was met then; the global indexes are at the marks that the
 -- answers leave; the node has what its kind has, and the step has come to this work
-pub record HasActed (s : Setting) (kept : Kept) (leases : Leases) (indexed : Indexed) (version : Versions) (progress : GroupId → Progress) (begun : ℕ) (work : Work) (base : List Met) (now : Now) : Type 0 where
+pub record HasActed (s : Setting) (kept : Kept) (leases : Leases) (indexed : Indexed) (digest : Digest) (version : Versions) (progress : GroupId → Progress) (begun : ℕ) (work : Work) (base : List Met) (now : Now) : Type 0 where
   pub kind : FitsKind s.cluster s.me now.kept now.stored
   pub tells : Tells kept base
   pub leased : TellsLeases s.cluster s.me leases now.met
   pub follows : Follows version progress (log_of now.met) now.stored
   pub marked : AreMarked s.cluster.schema indexed base (refreshed_marks (onto now.answers base))
+  pub noted : HasNoted kept digest
   pub acted : Acted base now
   pub built : All IsServable now.kept
   pub begun_is : begun ≡ min (begun_of base) last_number
@@ -62,4 +65,4 @@ ended s node own locks durable sends now = step_of node own locks durable (apply
 
 -- a replica as it is
 abbrev pub ActedAt : {R V : Type 0} → (V → Versions) → Meanings → Replica R V → ℕ → Work → List Met → Now → Type 0
-ActedAt version h one begun work base now = HasActed (setting_of one h) one.voter.logs.kept one.leases one.indexed (version one.rows.rows) (progress_at one.rows.progress) begun work base now
+ActedAt version h one begun work base now = HasActed (setting_of one h) one.voter.logs.kept one.leases one.indexed one.digest (version one.rows.rows) (progress_at one.rows.progress) begun work base now

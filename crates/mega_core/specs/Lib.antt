@@ -8,6 +8,7 @@ pub mod Taking
 pub mod Faults
 pub mod Ticking
 pub mod Restarting
+pub mod Lagging
 pub mod Standing
 pub mod Unshown
 pub use Rattle.mega_stepping.specs as of_stepping

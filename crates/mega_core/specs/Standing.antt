@@ -7,13 +7,15 @@ use Rattle.mega_replica.specs.Following.{progress_at}
 use Rattle.mega_actions.specs.declared.replica.Replica.{Replica}
 use Rattle.mega_actions.specs.IsAt.{setting_of}
 use Rattle.mega_core.specs.declared.node.Node.{Node}
+use Rattle.mega_core.specs.Lagging.{KnowsLagging}
 use Rattle.mega_core.specs.Represents.{Represents}
 
 -- a replica with these open operations, and so many begun, represents that node, in its cluster and under its number
 abbrev pub StandsWith : {R V : Type 0} → (V → Versions) → Meanings → Replica R V → List Operation → ℕ → RuleNode → Type 0
 StandsWith version h one opened begun node =
-    Represents (setting_of one h) one.voter.logs.kept one.leases one.indexed (version one.rows.rows) (progress_at one.rows.progress) opened begun node
+    Represents (setting_of one h) one.voter.logs.kept one.leases one.indexed one.digest (version one.rows.rows) (progress_at one.rows.progress) opened begun node
 
--- all that a node keeps represents that node
-abbrev pub StandsFor : {R V : Type 0} → (V → Versions) → Meanings → Node R V → RuleNode → Type 0
-StandsFor version h one node = StandsWith version h one.replica one.open one.begun node
+-- all that a node keeps represents that node, and it knows the groups of which it may not have applied all that is decided
+pub record StandsFor {R V : Type 0} (version : V → Versions) (h : Meanings) (one : Node R V) (node : RuleNode) : Type 0 where
+  pub within : StandsWith version h one.replica one.open one.begun node
+  pub lagging : KnowsLagging one.replica.members one.replica.me one.lagging node.met node.stored

@@ -11,7 +11,8 @@ use Rattle.mega_rules.specs.Steps.{Take, all_act, at_first, decision_note, hears
 use Rattle.mega_stepping.specs.of_leases.declared.leases.Leases.{Leases}
 use Rattle.mega_replica.specs.declared.progress.Progress.{Progress}
 use Rattle.mega_actions.specs.of_node_laws.Acted.{acted_on, decision_in}
-use Rattle.mega_actions.specs.of_finishing.Stands.{Stands}
+use Rattle.mega_actions.specs.of_pumps.declared.digest.Digest.{Digest}
+use Rattle.mega_actions.specs.StandsAt.{StandsAt}
 use Rattle.mega_stepping.specs.News.{news_by}
 use Rattle.mega_core.specs.declared.taking.Taken.{Taken}
 use Rattle.mega_stepping.specs.Notes.{met_of}
@@ -21,11 +22,11 @@ use Rattle.mega_actions.specs.declared.replica.Replica.{Replica}
 use Rattle.mega_actions.specs.IsAt.{setting_of}
 
 -- a message is taken: what is noted, sent and heard by then, what the operations act on, and what is kept
-pub record HasTaken (s : Setting) (t : Setting) (made : Taken) (kept : Kept) (leases : Leases) (version : Versions) (progress : GroupId → Progress) (node : Node) (m : Message) : Type 0 where
+pub record HasTaken (s : Setting) (t : Setting) (made : Taken) (kept : Kept) (leases : Leases) (digest : Digest) (version : Versions) (progress : GroupId → Progress) (node : Node) (m : Message) : Type 0 where
   pub notes : map met_of made.notes ≡ told_notes s node.met m.from m.body ++ decision_note (decision_in s node m)
   pub sends : made.sends ≡ reply_to s.cluster s.me node.met m ++ news_by s (told_decision m.body) (decision_in s node m)
   pub heard : made.heard ≡ map (hears_message s (clock_of node.met) m) node.open_operations
-  pub stands : Stands t kept leases version progress (acted_on s node (Take m)) (stored_after s (acted_on s node (Take m)) node.stored (decision_in s node m))
+  pub stands : StandsAt t kept leases digest version progress (acted_on s node (Take m)) (stored_after s (acted_on s node (Take m)) node.stored (decision_in s node m))
 
 -- the operations act on it
 abbrev pub has_taken : Setting → Node → Message → Now
@@ -34,4 +35,4 @@ has_taken s node m =
 
 -- a replica, as it was and as it is
 abbrev pub TakenAt : {R V : Type 0} → (V → Versions) → Meanings → Replica R V → Replica R V → Taken → Node → Message → Type 0
-TakenAt version h old new made node m = HasTaken (setting_of old h) (setting_of new h) made new.voter.logs.kept new.leases (version new.rows.rows) (progress_at new.rows.progress) node m
+TakenAt version h old new made node m = HasTaken (setting_of old h) (setting_of new h) made new.voter.logs.kept new.leases new.digest (version new.rows.rows) (progress_at new.rows.progress) node m

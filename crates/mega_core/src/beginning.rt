@@ -22,7 +22,7 @@ ghost use Rattle.mega_actions.specs.of_proposing.Settings.{setting};
 ghost use Rattle.mega_actions.specs.of_proposing.Working.{work_of};
 ghost use Rattle.mega_core.specs.Acted.{ActedAt};
 ghost use Rattle.mega_core.specs.Beginning.{has_begun, marks_unless};
-ghost use Rattle.mega_core.specs.Standing.{StandsFor};
+ghost use Rattle.mega_core.specs.Standing.{StandsWith};
 
 use crate::node::Node;
 use mega_actions::Replica;
@@ -169,7 +169,7 @@ impl<R: Records, V: Versions> Node<R, V> {
         request: Request,
     ) -> Result<Work, ActFault>
         ensures acted { V.is_told ≡ true → IfOk result (λ work. (h : Meanings) (node : RuleNode) (text : List ℕ) → Means (H.meant handlers.old) h →
-            StandsFor V.version h self.old node →
+            StandsWith V.version h self.old.replica self.old.open self.old.begun node →
             HasOwnRows self.old.replica.members.schema (log_of (acted_on (setting_of self.old.replica h) node (Begin request text))) →
             ActedAt V.version h self.new.replica self.new.begun work
             (acted_on (setting_of self.old.replica h) node (Begin request text)) (has_begun (setting_of self.old.replica h) node request text)) }
@@ -178,9 +178,10 @@ impl<R: Records, V: Versions> Node<R, V> {
         ensures me { self.new.replica.me ≡ self.old.replica.me }
         ensures unserved { result ≡ Err Unserved → is_served request ≡ false }
         ensures built { OnOk result ((h : Meanings) (node : RuleNode) →
-            StandsFor V.version h self.old node →
+            StandsWith V.version h self.old.replica self.old.open self.old.begun node →
             refusal (setting_of self.old.replica h) node request ≡ None → is_served request ≡ true) }
         ensures voter { self.new.replica.voter ≡ self.old.replica.voter }
+        ensures lagging { self.new.lagging ≡ self.old.lagging }
         ensures fares { Fares V.Versions (failed_by result) self.old.replica.rows.rows self.new.replica.rows.rows }
     {
         let op = next_op(&self.replica.voter, self.replica.me, self.begun);

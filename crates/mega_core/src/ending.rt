@@ -7,16 +7,18 @@ ghost use Rattle.mega_rules.specs.Steps.{apply_notes, onto};
 ghost use Rattle.mega_actions.specs.of_node_laws.Sending.{MaySend};
 ghost use Rattle.mega_actions.specs.IsAt.{setting_of};
 ghost use Rattle.mega_core.specs.Acted.{ActedAt, ended};
+ghost use Rattle.mega_core.specs.Lagging.{KnowsLagging, KnowsOthers};
 ghost use Rattle.mega_core.specs.Made.{MadeAt};
 ghost use Rattle.mega_stepping.specs.Notes.{met_of};
 ghost use Rattle.mega_stepping.specs.Positions.{note_since};
 ghost use Rattle.mega_stepping.specs.Staging.{Stages};
 
+use crate::lagging::notes_watched;
 use crate::node::Node;
 use mega_actions::mega_proposing::Work;
 use mega_base::{Items, NoMemory};
 use mega_disk::{Records, Versions};
-use mega_stepping::{Before, Note, Step, add_sends, apply_notes, joined, tell_all_sent};
+use mega_stepping::{Before, Note, Step, add_sends, joined, tell_all_sent};
 use mega_wire::Message;
 use std::alloc::Global;
 
@@ -57,12 +59,17 @@ impl<R: Records, V: Versions> Node<R, V> {
             MaySend (onto (ended (setting_of self.old.replica h) node own locks durable ((opening ++ now.sends) ++ closing) now).notes (own ∷ node.met)) ((opening ++ now.sends) ++ closing) →
             Stages self.old.replica.voter.logs.staged.items before (onto durable (onto locks (own ∷ node.met))) →
             Stages self.new.replica.voter.logs.staged.items before (ended (setting_of self.old.replica h) node own locks durable ((opening ++ now.sends) ++ closing) now).node.met) }
+        ensures lagging { OnOk result ((h : Meanings) (node : RuleNode) (own : Met) (locks durable : List Met) (now : Now) →
+            ActedAt V.version h self.old.replica self.old.begun work (onto durable (onto locks (own ∷ node.met))) now →
+            KnowsOthers self.old.replica.members self.old.replica.me self.old.lagging before now.met now.stored →
+            KnowsLagging self.new.replica.members self.new.replica.me self.new.lagging
+            (ended (setting_of self.old.replica h) node own locks durable ((opening ++ now.sends) ++ closing) now).node.met (ended (setting_of self.old.replica h) node own locks durable ((opening ++ now.sends) ++ closing) now).node.stored) }
         ensures records { self.new.replica.voter.logs.records ≡ self.old.replica.voter.logs.records }
         ensures members { self.new.replica.members ≡ self.old.replica.members }
         ensures me { self.new.replica.me ≡ self.old.replica.me }
         ensures rows { self.new.replica.rows ≡ self.old.replica.rows }
     {
-        let applies = apply_notes(alloc, &self.replica.voter, &self.replica.rows, before)?;
+        let applies = notes_watched(alloc, &self.replica, &mut self.lagging, before)?;
         let Work {
             kept,
             valid,

@@ -5,6 +5,7 @@
 mod beginning;
 mod ending;
 mod fault;
+mod lagging;
 mod node;
 mod restarting;
 mod starting;

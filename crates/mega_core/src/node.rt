@@ -30,7 +30,8 @@ use crate::ticking::{Ticked, acts_ticked, ticks};
 use crate::watching::{behind, watched};
 use mega_actions::Replica;
 use mega_actions::mega_marks::Indexed;
-use mega_base::{Copied, Items, Text};
+use mega_actions::mega_pumps::Digest;
+use mega_base::{Copied, GroupId, Items, Text};
 use mega_cluster::Cluster;
 use mega_disk::{Records, Versions};
 use mega_meanings::QueueHandlers;
@@ -41,14 +42,17 @@ use mega_stepping::{Step, all_hear, begun_groups, touched};
 use mega_wal::Logs;
 use mega_wire::Message;
 use std::alloc::Global;
+use std::collections::BTreeSet;
 use std::mem;
 
-/// A node of a cluster, of any kind, from a start of it on: what it keeps, and its open operations in order of begin.
+/// A node of a cluster, of any kind, from a start of it on: what it keeps, its open operations in order of begin, and the groups
+/// of which it may not have applied all that is decided.
 #[derive(Drop)]
 pub struct Node<R: Records, V: Versions> {
     pub replica: Replica<R, V>,
     pub open: Items<Operation>,
     pub begun: u32,
+    pub lagging: BTreeSet<GroupId>,
 }
 
 impl<R: Records + Drop, V: Versions + Drop> Node<R, V> {
@@ -76,6 +80,7 @@ impl<R: Records + Drop, V: Versions + Drop> Node<R, V> {
         let leases = leases_of(alloc, members.cluster(), me);
         let rows = StoredRows::new(alloc, rows);
         let indexed = Indexed::new(alloc);
+        let digest = Digest::new(alloc);
         let replica = Replica {
             members,
             me,
@@ -83,11 +88,13 @@ impl<R: Records + Drop, V: Versions + Drop> Node<R, V> {
             leases,
             rows,
             indexed,
+            digest,
         };
         Ok(Node {
             replica,
             open: Items::new(alloc),
             begun: 0,
+            lagging: BTreeSet::new(alloc),
         })
     }
 }
@@ -219,7 +226,7 @@ impl<R: Records, V: Versions> Node<R, V> {
         ensures late { result ≢ Err Late }
         ensures fares { Fares V.Versions (failed_by result) self.old.replica.rows.rows self.new.replica.rows.rows }
     {
-        let groups = behind(alloc, &self.replica)?;
+        let groups = behind(alloc, &self.replica, &self.lagging)?;
         let copied = groups.copy(alloc)?;
         let before = watched(alloc, &self.replica, copied)?;
         let made = ticks(alloc, &mut self.replica, now, groups)?;

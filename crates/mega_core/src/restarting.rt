@@ -27,6 +27,7 @@ ghost use Rattle.mega_core.specs.Standing.{StandsFor};
 use crate::node::Node;
 use mega_actions::Replica;
 use mega_actions::mega_marks::Indexed;
+use mega_actions::mega_pumps::Digest;
 use mega_base::{Epoch, GroupId, Items, NoMemory, NodeId};
 use mega_cluster::Cluster;
 use mega_disk::{Records, Versions};
@@ -36,6 +37,7 @@ use mega_stepping::mega_operations::Members;
 use mega_stepping::mega_voter::Voter;
 use mega_stepping::{Note, has_rows};
 use std::alloc::Global;
+use std::collections::BTreeSet;
 
 /// The greatest count of starts.
 const MOST_STARTS: u32 = 4294967295;
@@ -233,6 +235,7 @@ impl<R: Records + Drop, V: Versions + Drop> Node<R, V> {
         let leases = leases(alloc, members.cluster(), me, start, &voter);
         let notes = apply_where_kept(alloc, members.cluster(), me, &voter, &mut rows)?;
         let indexed = Indexed::new(alloc);
+        let digest = Digest::new(alloc);
         let replica = Replica {
             members,
             me,
@@ -240,12 +243,14 @@ impl<R: Records + Drop, V: Versions + Drop> Node<R, V> {
             leases,
             rows,
             indexed,
+            digest,
         };
         Ok(Restarted {
             node: Node {
                 replica,
                 open: Items::new(alloc),
                 begun: 0,
+                lagging: BTreeSet::new(alloc),
             },
             start,
             notes,

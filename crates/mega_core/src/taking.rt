@@ -72,6 +72,7 @@ fn decides_by<R: Records, V: Versions>(
     ensures me { replica.new.me ≡ replica.old.me }
     ensures leases { replica.new.leases ≡ replica.old.leases }
     ensures indexed { replica.new.indexed ≡ replica.old.indexed }
+    ensures digest { replica.new.digest ≡ replica.old.digest }
     ensures fares { Fares V.Versions None replica.old.rows.rows replica.new.rows.rows }
 {
     let found = decision(alloc, &message.body, heard)?;
@@ -138,6 +139,7 @@ pub(crate) fn takes<R: Records, V: Versions>(
     ensures members { replica.new.members ≡ replica.old.members }
     ensures me { replica.new.me ≡ replica.old.me }
     ensures indexed { replica.new.indexed ≡ replica.old.indexed }
+    ensures digest { replica.new.digest ≡ replica.old.digest }
     ensures built { result ≢ Err Unserved }
     ensures stranger { result ≡ Err Stranger → IsByStranger message.now.from message.now.body }
     ensures late { result ≡ Err Late → (met : List Met) → TellsLeases replica.old.members replica.old.me replica.old.leases met → IsLate replica.old.members message.now.body }

@@ -64,6 +64,7 @@ pub(crate) fn is_told<R: Records, V: Versions>(
     ensures me { replica.new.me ≡ replica.old.me }
     ensures rows { replica.new.rows ≡ replica.old.rows }
     ensures indexed { replica.new.indexed ≡ replica.old.indexed }
+    ensures digest { replica.new.digest ≡ replica.old.digest }
     ensures built { result ≢ Err Unserved }
     ensures stranger { result ≡ Err Stranger → IsByStranger message.now.from message.now.body }
     ensures late { result ≡ Err Late → (met : List Met) → TellsLeases replica.old.members replica.old.me replica.old.leases met → IsLate replica.old.members message.now.body }

@@ -89,6 +89,7 @@ pub(crate) fn ticks<R: Records, V: Versions>(
     ensures members { replica.new.members ≡ replica.old.members }
     ensures me { replica.new.me ≡ replica.old.me }
     ensures indexed { replica.new.indexed ≡ replica.old.indexed }
+    ensures digest { replica.new.digest ≡ replica.old.digest }
     ensures fares { Fares V.Versions None replica.old.rows.rows replica.new.rows.rows }
 {
     let again = replica.leases.does_again(now);

@@ -6,12 +6,15 @@ ghost use Rattle.mega_rules.specs.Met.{Met};
 ghost use Rattle.mega_replica.specs.Following.{progress_at};
 ghost use Rattle.mega_stepping.specs.Positions.{Keeps, before_at};
 ghost use Rattle.mega_stepping.specs.Touching.{behind};
+ghost use Rattle.mega_core.specs.Lagging.{KnowsLagging};
 
+use crate::lagging::copies;
 use mega_actions::Replica;
 use mega_base::{GroupId, Items, NoMemory};
 use mega_disk::{Records, Versions};
 use mega_stepping::{Before, behind_among, has_rows, positions};
 use std::alloc::Global;
+use std::collections::BTreeSet;
 
 /// The applied positions of the groups of which a step may apply more: none at a node that keeps no rows.
 pub(crate) fn watched<R: Records, V: Versions>(
@@ -29,18 +32,21 @@ pub(crate) fn watched<R: Records, V: Versions>(
     Ok(Items::new(alloc))
 }
 
-/// The groups of which not all is applied that is decided, in order, at a node that keeps rows.
+/// The groups of which not all is applied that is decided, in order, at a node that keeps rows: of those that lag.
 pub(crate) fn behind<R: Records, V: Versions>(
     alloc: Global,
     replica: &Replica<R, V>,
+    lagging: &BTreeSet<GroupId>,
 ) -> Result<Items<GroupId>, NoMemory>
     ensures { IfOk result (λ groups. (met : List Met) (stored : Group → ℕ) →
         Keeps replica.now.voter.logs.kept (V.version replica.now.rows.rows) (progress_at replica.now.rows.progress) met stored →
+        KnowsLagging replica.now.members replica.now.me lagging.now met stored →
         groups ≡ behind (has_rows replica.now.members replica.now.me) met stored) }
 {
     if has_rows(replica.members.cluster(), replica.me) {
-        let groups = replica.voter.groups(alloc)?;
-        return behind_among(alloc, &replica.voter, &replica.rows, groups);
+        let groups = copies(alloc, lagging)?;
+        let found = behind_among(alloc, &replica.voter, &replica.rows, groups.into_vec())?;
+        return Ok(found);
     }
     Ok(Items::new(alloc))
 }

@@ -128,23 +128,27 @@ fares_told store NoMemory old new fares = record {
 -- ---- the node that stands on the rows
 pub keeps_up : {R V : Type 0} (store : RecordGhosts R) (version : V → Versions) (h : Meanings) (one : Node R V) (node : RuleNode) → IsUp store version h one node
     → Keeps one.replica.voter.logs.kept (version one.replica.rows.rows) (progress_at one.replica.rows.progress) node.met node.stored
-keeps_up store version h one node up = record { tells = up.stands.tells; follows = up.stands.follows }
+keeps_up store version h one node up = record { tells = up.stands.within.tells; follows = up.stands.within.follows }
 
 pub still_up : {R V : Type 0} (store : RecordGhosts R) (version : V → Versions) (h : Meanings) (one : Node R V) (rows : StoredRows V) (node : RuleNode)
     → SameVersions (version one.replica.rows.rows) (version rows.rows) → rows.progress ≡ one.replica.rows.progress → IsUp store version h one node
     → IsUp store version h (record one { replica = record one.replica { rows = rows } }) node
 still_up store version h one rows node same progress up = record {
   stands = record {
-    kind = up.stands.kind;
-    tells = up.stands.tells;
-    leased = up.stands.leased;
-    follows = subst (λ (all : _). Follows (version rows.rows) (progress_at all) (log_of node.met) node.stored) (sym progress)
-        (follows_same (version one.replica.rows.rows) (version rows.rows) (progress_at one.replica.rows.progress) (log_of node.met) node.stored same up.stands.follows);
-    marked = up.stands.marked;
-    opened = up.stands.opened;
-    begun_is = up.stands.begun_is;
-    about = up.stands.about;
-    built = up.stands.built;
+    within = record {
+      kind = up.stands.within.kind;
+      tells = up.stands.within.tells;
+      leased = up.stands.within.leased;
+      follows = subst (λ (all : _). Follows (version rows.rows) (progress_at all) (log_of node.met) node.stored) (sym progress)
+          (follows_same (version one.replica.rows.rows) (version rows.rows) (progress_at one.replica.rows.progress) (log_of node.met) node.stored same up.stands.within.follows);
+      marked = up.stands.within.marked;
+      noted = up.stands.within.noted;
+      opened = up.stands.within.opened;
+      begun_is = up.stands.within.begun_is;
+      about = up.stands.within.about;
+      built = up.stands.within.built;
+    };
+    lagging = up.stands.lagging;
   };
   empty = up.empty;
   ready = up.ready;

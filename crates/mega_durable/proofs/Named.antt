@@ -20,5 +20,5 @@ pub id_is : {R V : Type 0} (store : Ghosts R) (version : V → Versions) (h : Me
     → ((met : List Met) → Tells one.replica.voter.logs.kept met → start ≡ start_of met) → number ≡ min (one.begun + 1) 4294967295
     → ◌≡◌ {A = OpId} (record { node = record { 0 = one.replica.me }; start = start; number = number }) (op_of (setting_of one h) node.met)
 id_is store version h one node start number up starts counts =
-    ap (λ (n : ℕ). record { node = record { 0 = one.replica.me }; start = n; number = number }) (starts node.met up.stands.tells)
-    ∙ ap (λ (n : ℕ). record { node = record { 0 = one.replica.me }; start = start_of node.met; number = n }) (next one.begun (begun_of node.met) number counts up.stands.begun_is)
+    ap (λ (n : ℕ). record { node = record { 0 = one.replica.me }; start = n; number = number }) (starts node.met up.stands.within.tells)
+    ∙ ap (λ (n : ℕ). record { node = record { 0 = one.replica.me }; start = start_of node.met; number = n }) (next one.begun (begun_of node.met) number counts up.stands.within.begun_is)

@@ -52,12 +52,12 @@ stepped_now store version h old mid node event up may stands stages same members
   same = same;
   ready = up.ready;
   holds = up.holds;
-  granted = coe 0 1 (i. KeepsGrants (sym members i) (sym me i) (step (setting_of old h) node event).node.met) (step_keeps (setting_of old h) node event up.stands.leased.least up.granted);
+  granted = coe 0 1 (i. KeepsGrants (sym members i) (sym me i) (step (setting_of old h) node event).node.met) (step_keeps (setting_of old h) node event up.stands.within.leased.least up.granted);
 }
 
 pub may_owe : {R V : Type 0} (store : Ghosts R) (version : V → Versions) (h : Meanings) (one : Node R V) (node : RuleNode) (event : Event) → IsUp store version h one node
     → AreOwed (owes (step (setting_of one h) node event) (replies_in one.replica.members one.replica.me node.met event)) (Crashes ∷ own_item (setting_of one h) node event ∷ node.met)
-may_owe store version h one node event up = cut_owed (setting_of one h) node event up.stands.leased.least up.granted
+may_owe store version h one node event up = cut_owed (setting_of one h) node event up.stands.within.leased.least up.granted
 
 -- ---- whether a node replies follows from its role
 served_once : (me to : ℕ) (is_served : Bool) (reply : Body) → cond {A = ℕ} is_served 1 0 ≡ length (reply_message me to (where_served is_served reply))

@@ -6,5 +6,6 @@ mod Shown
 mod Asked
 pub mod Serving
 pub use Rattle.mega_proposing.proofs as of_proposing
+pub use Rattle.mega_pumps.proofs as of_pumps
 pub use Rattle.mega_marks.proofs as of_marks
 pub use Rattle.mega_marks.proofs.of_node_laws as of_node_laws

@@ -20,4 +20,5 @@ pub use indexing::indexed_answer;
 pub use mega_marks;
 pub use mega_proposing;
 pub use mega_proposing::{mega_leases, mega_operations, mega_voter};
+pub use mega_pumps;
 pub use pumping::{Pumped, is_entering, picks, pumps, takes};

@@ -1,15 +1,16 @@
 //! A pump picks what it is to serve, reads its group, and then enters or handles a message there, or picks again.
 ghost use Rattle.std.specs.Prelude.{◌≡◌, ◌≤◌, ◌+◌, ◌<◌, ◌^◌, nat_le, IfOk, OnOk, Err, None, true, false, List, ℕ};
+ghost use Rattle.mega_base.specs.declared.names.GroupId.{GroupId as Group};
 ghost use Rattle.mega_disk.specs.VersionMaps.{SameVersions};
 ghost use Rattle.mega_handler.specs.Named.{Meanings};
 ghost use Rattle.mega_meanings.specs.Means.{Means};
 ghost use Rattle.mega_proposing.specs.of_leases.declared.leases.Leases.{Leases as LeasesKept};
 ghost use Rattle.mega_proposing.specs.of_operations.Whole.{whole};
-ghost use Rattle.mega_pumps.specs.Notes.{Notes};
+ghost use Rattle.mega_pumps.specs.Notes.{HasNoted};
 ghost use Rattle.mega_pumps.specs.Owns.{own_by, picks_by};
 ghost use Rattle.mega_pumps.specs.Picks.{serves};
 ghost use Rattle.mega_rules.specs.Acting.{finishes};
-ghost use Rattle.mega_rules.specs.Logs.{groups_of, log_of};
+ghost use Rattle.mega_rules.specs.Logs.{groups_of, log_of, prefix_of};
 ghost use Rattle.mega_read.specs.Catching.{asked_by};
 ghost use Rattle.mega_rules.specs.Operations.{Now, Operation as Open, Phase as OpenPhase, Setting};
 ghost use Rattle.mega_proposing.specs.of_voter.Telling.{Tells};
@@ -124,9 +125,11 @@ fn picked_of<R: Records, V: Versions>(
     entering: bool,
     groups: &[GroupId],
 ) -> Result<Option<Picked>, NoMemory>
-    ensures { IfOk result (λ picked. (s : Setting) (again : Now → Open → Now) (now : Now) (o : Open) (asked : List ℕ) → Tells voter.now.logs.kept now.met →
-        Follows (V.version rows.now.rows) (progress_at rows.now.progress) (log_of now.met) now.stored → Notes (log_of now.met) now.stored digest.old → groups.now ≡ groups_of now.met → o.id ≡ op →
+    ensures picked { IfOk result (λ picked. (s : Setting) (again : Now → Open → Now) (now : Now) (o : Open) (asked : List ℕ) → Tells voter.now.logs.kept now.met →
+        Follows (V.version rows.now.rows) (progress_at rows.now.progress) (log_of now.met) now.stored → HasNoted voter.now.logs.kept digest.old → groups.now ≡ groups_of now.met → o.id ≡ op →
         serves s again now o asked picked ≡ picks_by entering s again now o asked) }
+    ensures noted { OnOk result ((met : _) (stored : Group → ℕ) → Tells voter.now.logs.kept met →
+        Follows (V.version rows.now.rows) (progress_at rows.now.progress) (log_of met) stored → HasNoted voter.now.logs.kept digest.old → groups.now ≡ groups_of met → HasNoted voter.now.logs.kept digest.new) }
 {
     if entering {
         let picked = digest.next_to_enter(alloc, voter, rows, op, groups)?;
@@ -139,6 +142,7 @@ fn picked_of<R: Records, V: Versions>(
 /// What a pump is to serve next.
 fn found_next<R: Records, V: Versions>(
     alloc: Global,
+    digest: &mut Digest,
     voter: &Voter<R>,
     rows: &StoredRows<V>,
     op: OpId,
@@ -146,20 +150,13 @@ fn found_next<R: Records, V: Versions>(
 ) -> Result<Found, NoMemory>
     ensures groups { IfOk result (λ found. (now : Now) → Tells voter.now.logs.kept now.met → found.groups.items ≡ groups_of now.met) }
     ensures picked { IfOk result (λ found. (s : Setting) (again : Now → Open → Now) (now : Now) (o : Open) (asked : List ℕ) → Tells voter.now.logs.kept now.met →
-        Follows (V.version rows.now.rows) (progress_at rows.now.progress) (log_of now.met) now.stored → o.id ≡ op →
+        Follows (V.version rows.now.rows) (progress_at rows.now.progress) (log_of now.met) now.stored → HasNoted voter.now.logs.kept digest.old → o.id ≡ op →
         serves s again now o asked found.picked ≡ picks_by entering s again now o asked) }
+    ensures noted { OnOk result ((met : _) (stored : Group → ℕ) → Tells voter.now.logs.kept met →
+        Follows (V.version rows.now.rows) (progress_at rows.now.progress) (log_of met) stored → HasNoted voter.now.logs.kept digest.old → HasNoted voter.now.logs.kept digest.new) }
 {
     let groups = voter.groups(alloc)?;
-    let mut digest = Digest::new(alloc);
-    let found = picked_of(
-        alloc,
-        &mut digest,
-        voter,
-        rows,
-        op,
-        entering,
-        groups.as_slice(),
-    )?;
+    let found = picked_of(alloc, digest, voter, rows, op, entering, groups.as_slice())?;
     Ok(Found {
         groups,
         picked: found,
@@ -173,16 +170,19 @@ pub fn picks<R: Records, V: Versions>(
     voter: &Voter<R>,
     leases: &Leases,
     rows: &StoredRows<V>,
+    digest: &mut Digest,
     kept: Kept,
     asked: Items<u8>,
     entering: bool,
 ) -> Result<Pumped, NoMemory>
     ensures asked { IfOk result (λ pumped. IsAsked pumped kept.request) }
     ensures pumped { IfOk result (λ pumped. (me : _) (h : Meanings) (now : Now) (again : Now → Open → Now) (phase : OpenPhase) →
-        Stands (setting members.now me h) voter.now.logs.kept leases.now (V.version rows.now.rows) (progress_at rows.now.progress) now.met now.stored →
+        Stands (setting members.now me h) voter.now.logs.kept leases.now (V.version rows.now.rows) (progress_at rows.now.progress) now.met now.stored → HasNoted voter.now.logs.kept digest.old →
         pumped_by again now pumped ≡ picks_by entering (setting members.now me h) again now (whole kept phase) asked) }
+    ensures noted { OnOk result ((met : _) (stored : Group → ℕ) → Tells voter.now.logs.kept met →
+        Follows (V.version rows.now.rows) (progress_at rows.now.progress) (log_of met) stored → HasNoted voter.now.logs.kept digest.old → HasNoted voter.now.logs.kept digest.new) }
 {
-    match found_next(alloc, voter, rows, kept.id, entering) {
+    match found_next(alloc, digest, voter, rows, kept.id, entering) {
         Ok(found) => {
             let Found { groups, picked } = found;
             let groups = groups.as_slice();
@@ -205,31 +205,33 @@ fn decides<R: Records, V: Versions, H: QueueHandlers>(
     members: &Members,
     voter: &Voter<R>,
     rows: &mut V,
+    digest: &mut Digest,
     handlers: &mut H,
     reached: &Reached,
 ) -> Result<Own, ActFault>
     ensures own { IfOk result (λ own. V.is_told ≡ true → (me : _) (h : Meanings) (progress : _) (leases : LeasesKept) (now : Now) (again : Now → Open → Now) → Means (H.meant handlers.old) h → is_pump reached.now.kept.request ≡ true →
         nat_le (members.now.limit).0 reached.now.position ≡ false → reached.now.position ≤ applied (log_of now.met reached.now.group) (now.stored reached.now.group) →
-        Stands (setting members.now me h) voter.now.logs.kept leases (V.version rows.old) progress now.met now.stored →
+        Stands (setting members.now me h) voter.now.logs.kept leases (V.version rows.old) progress now.met now.stored → HasNoted voter.now.logs.kept digest.old →
         own_by (is_entering reached.now.kept.request) (setting members.now me h) again now (operation_of reached.now) reached.now.group reached.now.reading reached.now.position own
         ≡ finishes (setting members.now me h) again now (operation_of reached.now) reached.now.group reached.now.reading reached.now.position) }
+    ensures noted { OnOk result ((met : _) → Tells voter.now.logs.kept met → reached.now.position ≤ prefix_of met reached.now.group → HasNoted voter.now.logs.kept digest.old → HasNoted voter.now.logs.kept digest.new) }
     ensures versions { SameVersions (V.version rows.old) (V.version rows.new) }
     ensures handlers { H.meant handlers.new ≡ H.meant handlers.old }
     ensures fares { Fares V.Versions (failed_by result) rows.old rows.new }
     ensures built { result ≡ Err Unserved → ⊥ }
 {
-    let digest = Digest::new(alloc);
     let op = reached.kept.id;
     let group = &reached.group;
     let through = reached.position;
+    digest.note_through(alloc, voter, group, through)?;
     if is_entering(&reached.kept.request) {
         let message = reached.kept.message.as_ref();
-        let own = enters(alloc, &digest, voter, op, group, through, message)?;
+        let own = enters(alloc, digest, voter, op, group, through, message)?;
         return Ok(own);
     }
     let schema = &members.cluster().schema;
     match handles(
-        alloc, schema, handlers, &digest, voter, rows, op, group, through,
+        alloc, schema, handlers, digest, voter, rows, op, group, through,
     ) {
         Ok(own) => Ok(own),
         Err(error) => Err(fault_by(error)),
@@ -244,11 +246,14 @@ fn picks_again<R: Records, V: Versions>(
     voter: &Voter<R>,
     leases: &Leases,
     rows: &StoredRows<V>,
+    digest: &mut Digest,
 ) -> Result<Pumped, NoMemory>
     ensures asked { IfOk result (λ pumped. IsAsked pumped reached.kept.request) }
     ensures pumped { IfOk result (λ pumped. (me : _) (h : Meanings) (now : Now) (again : Now → Open → Now) →
-        Stands (setting members.now me h) voter.now.logs.kept leases.now (V.version rows.now.rows) (progress_at rows.now.progress) now.met now.stored →
+        Stands (setting members.now me h) voter.now.logs.kept leases.now (V.version rows.now.rows) (progress_at rows.now.progress) now.met now.stored → HasNoted voter.now.logs.kept digest.old →
         pumped_by again now pumped ≡ picks_by (is_entering reached.kept.request) (setting members.now me h) again now (operation_of reached) (asked_by reached.reading)) }
+    ensures noted { OnOk result ((met : _) (stored : Group → ℕ) → Tells voter.now.logs.kept met →
+        Follows (V.version rows.now.rows) (progress_at rows.now.progress) (log_of met) stored → HasNoted voter.now.logs.kept digest.old → HasNoted voter.now.logs.kept digest.new) }
 {
     match reached.reading.asked_by(alloc) {
         Ok(asked) => {
@@ -261,7 +266,9 @@ fn picks_again<R: Records, V: Versions>(
             } = reached;
             drop(group);
             drop(reading);
-            let pumped = picks(alloc, members, voter, leases, rows, kept, asked, entering)?;
+            let pumped = picks(
+                alloc, members, voter, leases, rows, digest, kept, asked, entering,
+            )?;
             Ok(pumped)
         }
         Err(refused) => {
@@ -279,17 +286,20 @@ fn does_own<R: Records, V: Versions>(
     voter: &Voter<R>,
     leases: &Leases,
     rows: &StoredRows<V>,
+    digest: &mut Digest,
     own: Own,
 ) -> Result<Pumped, NoMemory>
     requires { reached.position + 1 < 2 ^ 64 }
     ensures asked { IfOk result (λ pumped. IsAsked pumped reached.kept.request) }
     ensures pumped { IfOk result (λ pumped. (me : _) (h : Meanings) (now : Now) (again : Now → Open → Now) →
-        Stands (setting members.now me h) voter.now.logs.kept leases.now (V.version rows.now.rows) (progress_at rows.now.progress) now.met now.stored →
+        Stands (setting members.now me h) voter.now.logs.kept leases.now (V.version rows.now.rows) (progress_at rows.now.progress) now.met now.stored → HasNoted voter.now.logs.kept digest.old →
         pumped_by again now pumped ≡ own_by (is_entering reached.kept.request) (setting members.now me h) again now (operation_of reached) reached.group reached.reading reached.position own) }
+    ensures noted { OnOk result ((met : _) (stored : Group → ℕ) → Tells voter.now.logs.kept met →
+        Follows (V.version rows.now.rows) (progress_at rows.now.progress) (log_of met) stored → HasNoted voter.now.logs.kept digest.old → HasNoted voter.now.logs.kept digest.new) }
 {
     match own {
         Own::Picks => {
-            let pumped = picks_again(alloc, reached, members, voter, leases, rows)?;
+            let pumped = picks_again(alloc, reached, members, voter, leases, rows, digest)?;
             Ok(pumped)
         }
         Own::Ends(answer) => Ok(Pumped::Done(reached.ends(answer))),
@@ -310,13 +320,16 @@ pub fn pumps<R: Records, V: Versions, H: QueueHandlers>(
     voter: &Voter<R>,
     leases: &Leases,
     rows: &mut StoredRows<V>,
+    digest: &mut Digest,
     handlers: &mut H,
 ) -> Result<Pumped, ActFault>
     ensures asked { IfOk result (λ pumped. IsAsked pumped reached.kept.request) }
     ensures pumped { IfOk result (λ pumped. V.is_told ≡ true → (me : _) (h : Meanings) (now : Now) (again : Now → Open → Now) → Means (H.meant handlers.old) h → is_pump reached.kept.request ≡ true →
         reached.position ≤ applied (log_of now.met reached.group) (now.stored reached.group) →
-        Stands (setting members.now me h) voter.now.logs.kept leases.now (V.version rows.old.rows) (progress_at rows.old.progress) now.met now.stored →
+        Stands (setting members.now me h) voter.now.logs.kept leases.now (V.version rows.old.rows) (progress_at rows.old.progress) now.met now.stored → HasNoted voter.now.logs.kept digest.old →
         pumped_by again now pumped ≡ finishes (setting members.now me h) again now (operation_of reached) reached.group reached.reading reached.position) }
+    ensures noted { OnOk result ((met : _) (stored : Group → ℕ) → Tells voter.now.logs.kept met → reached.position ≤ applied (log_of met reached.group) (stored reached.group) →
+        Follows (V.version rows.old.rows) (progress_at rows.old.progress) (log_of met) stored → HasNoted voter.now.logs.kept digest.old → HasNoted voter.now.logs.kept digest.new) }
     ensures versions { SameVersions (V.version rows.old.rows) (V.version rows.new.rows) }
     ensures progress { rows.new.progress ≡ rows.old.progress }
     ensures handlers { H.meant handlers.new ≡ H.meant handlers.old }
@@ -327,9 +340,17 @@ pub fn pumps<R: Records, V: Versions, H: QueueHandlers>(
         let position = Position(reached.position);
         return Ok(Pumped::Done(reached.ends(Answer::LogFull { position })));
     }
-    match decides(alloc, members, voter, &mut rows.rows, handlers, &reached) {
+    match decides(
+        alloc,
+        members,
+        voter,
+        &mut rows.rows,
+        digest,
+        handlers,
+        &reached,
+    ) {
         Ok(own) => {
-            let pumped = does_own(alloc, reached, members, voter, leases, rows, own)?;
+            let pumped = does_own(alloc, reached, members, voter, leases, rows, digest, own)?;
             Ok(pumped)
         }
         Err(fault) => {

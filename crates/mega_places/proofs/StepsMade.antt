@@ -24,6 +24,7 @@ use Rattle.mega_node_laws.specs.Acted.{own_item}
 use Rattle.mega_durable.specs.of_core.declared.node.Node.{Node}
 use Rattle.mega_durable.specs.of_core.of_stepping.declared.step.Step.{Step}
 use Rattle.mega_durable.specs.of_core.of_stepping.Notes.{met_of}
+use Rattle.mega_durable.specs.of_core.Lagging.{KnowsLagging}
 use Rattle.mega_durable.specs.of_core.Represents.{Represents}
 use Rattle.mega_durable.specs.of_core.Standing.{StandsFor}
 use Rattle.mega_durable.specs.declared.cut.Cut.{Cut}
@@ -41,7 +42,7 @@ use Rattle.mega_places.proofs.Fuses.{fused_more, fused_same, leaves, short_is}
 
 -- the handlers do not matter to what is told
 any_handlers : (c : Cluster) (me : ℕ) (g h : Meanings) (node : Node MemRecords VersionedRows) (ruled : RuleNode) → IsTold c g me node ruled → IsTold c h me node ruled
-any_handlers c me g h node ruled r = record { kind = r.kind; tells = r.tells; leased = r.leased; follows = r.follows; marked = r.marked; opened = r.opened; begun_is = r.begun_is; about = r.about; built = r.built }
+any_handlers c me g h node ruled r = record { kind = r.kind; tells = r.tells; leased = r.leased; follows = r.follows; marked = r.marked; noted = r.noted; opened = r.opened; begun_is = r.begun_is; about = r.about; built = r.built }
 
 pub same_setting : (c d : Cluster) (h : Meanings) (me you : ℕ) → c ≡ d → me ≡ you → setting c h me ≡ setting d h you
 same_setting c d h me you cluster number = ap (λ one. setting one h me) cluster ∙ ap (setting d h) number
@@ -56,8 +57,11 @@ pub record IsHere (h : Meanings) (node : Node MemRecords VersionedRows) (ruled :
 
 pub is_here : (c : Cluster) (h : Meanings) (me : ℕ) (member : Member) (ruled : RuleNode) → IsMember c me member ruled → IsHere h (node_in member) ruled
 is_here c h me member ruled one = record {
-  stands = subst (λ (s : Setting). Represents s (node_in member).replica.voter.logs.kept (node_in member).replica.leases (node_in member).replica.indexed (version_of (node_in member).replica.rows.rows) (progress_at (node_in member).replica.rows.progress) (node_in member).open (node_in member).begun ruled)
-      (same_setting c (node_in member).replica.members h me (node_in member).replica.me (sym one.members) (sym one.number)) (one.told h);
+  stands = record {
+    within = subst (λ (s : Setting). Represents s (node_in member).replica.voter.logs.kept (node_in member).replica.leases (node_in member).replica.indexed (node_in member).replica.digest (version_of (node_in member).replica.rows.rows) (progress_at (node_in member).replica.rows.progress) (node_in member).open (node_in member).begun ruled)
+        (same_setting c (node_in member).replica.members h me (node_in member).replica.me (sym one.members) (sym one.number)) (one.told h);
+    lagging = coe 1 0 (i. KnowsLagging (one.members i) (one.number i) (node_in member).lagging ruled.met ruled.stored) one.lagging;
+  };
   empty = one.empty;
   ready = one.ready;
   holds = one.holds;
@@ -69,8 +73,9 @@ as_member c h me member ruled members number here = record {
   members = members;
   number = number;
   told = λ g. any_handlers c me h g (node_in member) ruled
-      (subst (λ (s : Setting). Represents s (node_in member).replica.voter.logs.kept (node_in member).replica.leases (node_in member).replica.indexed (version_of (node_in member).replica.rows.rows) (progress_at (node_in member).replica.rows.progress) (node_in member).open (node_in member).begun ruled)
-      (same_setting (node_in member).replica.members c h (node_in member).replica.me me members number) here.stands);
+      (subst (λ (s : Setting). Represents s (node_in member).replica.voter.logs.kept (node_in member).replica.leases (node_in member).replica.indexed (node_in member).replica.digest (version_of (node_in member).replica.rows.rows) (progress_at (node_in member).replica.rows.progress) (node_in member).open (node_in member).begun ruled)
+      (same_setting (node_in member).replica.members c h (node_in member).replica.me me members number) here.stands.within);
+  lagging = coe 0 1 (i. KnowsLagging (members i) (number i) (node_in member).lagging ruled.met ruled.stored) here.stands.lagging;
   empty = here.empty;
   ready = here.ready;
   holds = here.holds;

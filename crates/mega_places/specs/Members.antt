@@ -11,6 +11,7 @@ use Rattle.mega_rules.specs.Operations.{Node as RuleNode}
 use Rattle.mega_replica.specs.Following.{progress_at}
 use Rattle.mega_voter.specs.Holding.{HoldsMet}
 use Rattle.mega_durable.specs.of_core.declared.node.Node.{Node}
+use Rattle.mega_durable.specs.of_core.Lagging.{KnowsLagging}
 use Rattle.mega_durable.specs.of_core.Represents.{Represents}
 use Rattle.mega_durable.specs.Granted.{KeepsGrants}
 use Rattle.mega_promises.specs.Runs.{setting}
@@ -45,14 +46,16 @@ is_up_at places me = is_some (member_of places me)
 -- what a node keeps is told by a node of the rules, in this cluster and under this number
 abbrev pub IsTold : Cluster → Meanings → ℕ → Node MemRecords VersionedRows → RuleNode → Type 0
 IsTold c h me node ruled =
-    Represents (setting c h me) node.replica.voter.logs.kept node.replica.leases node.replica.indexed (version_of node.replica.rows.rows) (progress_at node.replica.rows.progress) node.open node.begun ruled
+    Represents (setting c h me) node.replica.voter.logs.kept node.replica.leases node.replica.indexed node.replica.digest (version_of node.replica.rows.rows) (progress_at node.replica.rows.progress) node.open node.begun ruled
 
--- the node of this number of a cluster, which a node of the rules tells of, whatever handlers are there: nothing of it waits to be kept, and
--- its records, which are open, hold what it met, and its lock cell keeps what it granted last
+-- the node of this number of a cluster, which a node of the rules tells of, whatever handlers are there; it knows the groups
+-- of which it may not have applied all that is decided; nothing of it waits to be kept, and its records, which are open, hold what it met, and
+-- its lock cell keeps what it granted last
 pub record IsMember (c : Cluster) (me : ℕ) (member : Member) (ruled : RuleNode) : Type 0 where
   pub members : (node_in member).replica.members ≡ c
   pub number : (node_in member).replica.me ≡ me
   pub told : (h : Meanings) → IsTold c h me (node_in member) ruled
+  pub lagging : KnowsLagging c me (node_in member).lagging ruled.met ruled.stored
   pub empty : (node_in member).replica.voter.logs.staged.items ≡ []
   pub ready : (records_of member).spent ≡ false
   pub holds : HoldsMet (records_of member).list.items (start_of ruled.met) ruled.met

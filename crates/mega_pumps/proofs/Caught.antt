@@ -77,6 +77,16 @@ any_more test (x ∷ groups) group = go (test x) (any_more test groups group)
     go true rest = refl
     go false rest = rest
 
+pub in_front : (groups more : List GroupId) (group other : GroupId) → more ≡ groups ++ group ∷ [] → has other more ≡ true → same_group group other ≡ false → has other groups ≡ true
+in_front groups more group other grown there apart = by (has other groups) refl
+  where
+    both : (has other groups || same_group group other) ≡ true
+    both = sym (any_more (λ (one : GroupId). same_group one other) groups group) ∙ (ap (has other) (sym grown) ∙ there)
+
+    by : (t : Bool) → has other groups ≡ t → has other groups ≡ true
+    by true e = e
+    by false e = let no : same_group group other ≡ true = either (has other groups) (same_group group other) both e in cc
+
 pub looked_at : (log : Logs) (stored was now : GroupId → ℕ) (group : GroupId) (n : ℕ) (groups more : List GroupId) → more ≡ groups ++ group ∷ [] → n ≡ applied (log group) (stored group)
     → ((other : GroupId) → now other ≡ cond (is_group group other) n (was other)) → ((other : GroupId) → has other groups ≡ true → was other ≡ applied (log other) (stored other))
     → (other : GroupId) → has other more ≡ true → now other ≡ applied (log other) (stored other)
@@ -84,14 +94,7 @@ looked_at log stored was now group n groups more grown is set before other there
   where
     go : (t : Bool) → is_group group other ≡ t → now other ≡ applied (log other) (stored other)
     go true same = set other ∙ ap (λ t. cond t n (was other)) same ∙ is ∙ ap (λ (g : GroupId). applied (log g) (stored g)) (is_group_equal group other same)
-    go false apart = set other ∙ ap (λ t. cond t n (was other)) apart ∙ before other (by (has other groups) refl)
-      where
-        both : (has other groups || same_group group other) ≡ true
-        both = sym (any_more (λ (one : GroupId). same_group one other) groups group) ∙ (ap (has other) (sym grown) ∙ there)
-
-        by : (t : Bool) → has other groups ≡ t → has other groups ≡ true
-        by true e = e
-        by false e = let no : same_group group other ≡ true = either (has other groups) (same_group group other) both e in let yes : same_group group other ≡ false = sym (is_group_is group other) ∙ apart in cc
+    go false apart = set other ∙ ap (λ t. cond t n (was other)) apart ∙ before other (in_front groups more group other grown there (sym (is_group_is group other) ∙ apart))
 
 -- all that is applied is noted
 pub all_noted : (met : List Met) (stored through : GroupId → ℕ) (queues : Queues) → ((other : GroupId) → has other (groups_of met) ≡ true → through other ≡ applied (log_of met other) (stored other))

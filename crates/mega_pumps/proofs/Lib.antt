@@ -4,3 +4,4 @@ mod Noted
 mod Caught
 mod Marked
 mod Entered
+pub mod Lasting

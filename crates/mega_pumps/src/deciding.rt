@@ -12,7 +12,7 @@ ghost use Rattle.mega_rules.specs.Operations.{Now, Operation, Setting};
 ghost use Rattle.mega_rules.specs.Queues.{enter_entry, oldest_unhandled};
 ghost use Rattle.mega_view.specs.Shows.{Shows};
 ghost use Rattle.mega_voter.specs.Telling.{Tells};
-ghost use Rattle.mega_pumps.specs.Notes.{Notes};
+ghost use Rattle.mega_pumps.specs.Notes.{HasNoted};
 ghost use Rattle.mega_outcome.specs.declared.answer.Answer.TheVariants.{NoHandler};
 ghost use Rattle.mega_pumps.specs.declared.deciding.Own.TheVariants.{Ends, Proposes};
 ghost use Rattle.mega_pumps.specs.Owns.{own_by};
@@ -59,7 +59,7 @@ pub fn enters<R: Records>(
     through: u64,
     message: Option<&Enter>,
 ) -> Result<Own, NoMemory>
-    ensures { IfOk result (λ own. (s : Setting) (again : Now → Operation → Now) (now : Now) (o : Operation) (r : Reading) → Tells voter.now.logs.kept now.met → Notes (log_of now.met) now.stored digest.now →
+    ensures { IfOk result (λ own. (s : Setting) (again : Now → Operation → Now) (now : Now) (o : Operation) (r : Reading) → Tells voter.now.logs.kept now.met → HasNoted voter.now.logs.kept digest.now →
         through ≤ prefix_of now.met group.now → o.id ≡ op → own_by true s again now o group.now r through own ≡ enters s again now o group.now r through (option_copied message.entry)) }
 {
     match message {
@@ -131,7 +131,7 @@ pub fn handles<R: Records, V: Versions, H: QueueHandlers>(
     through: u64,
 ) -> Result<Own, StoreError>
     ensures own { V.is_told ≡ true → IfOk result (λ own. (s : Setting) (again : Now → Operation → Now) (now : Now) (o : Operation) (r : Reading) → Means (H.meant handlers.old) s.handlers → s.cluster.schema ≡ schema.now →
-        Tells voter.now.logs.kept now.met → Notes (log_of now.met) now.stored digest.now → through ≤ prefix_of now.met group.now →
+        Tells voter.now.logs.kept now.met → HasNoted voter.now.logs.kept digest.now → through ≤ prefix_of now.met group.now →
         Shows schema.now group.now (rows_at (V.version rows.old) through) (listed_at now group.now through) → o.id ≡ op →
         own_by false s again now o group.now r through own ≡ handles s again now o group.now r through (oldest_unhandled (take through (log_of now.met group.now)))) }
     ensures looks { Looks V.Versions (result_err result) rows.old rows.new }

@@ -40,7 +40,7 @@ impl Digest {
     }
 
     /// Notes what is applied of a group and not noted.
-    fn catch_up_in<R: Records>(
+    pub(crate) fn catch_up_in<R: Records>(
         &mut self,
         alloc: Global,
         voter: &Voter<R>,

@@ -4,6 +4,7 @@
 
 mod deciding;
 mod digest;
+mod following;
 pub mod laws;
 mod mailing;
 mod marking;

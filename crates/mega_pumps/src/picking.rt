@@ -7,7 +7,7 @@ ghost use Rattle.mega_rules.specs.Logs.{groups_of, log_of};
 ghost use Rattle.mega_rules.specs.Operations.{Now};
 ghost use Rattle.mega_rules.specs.Queues.{next_to_enter, next_to_handle};
 ghost use Rattle.mega_voter.specs.Telling.{Tells};
-ghost use Rattle.mega_pumps.specs.Notes.{Notes};
+ghost use Rattle.mega_pumps.specs.Notes.{HasNoted};
 ghost use Rattle.mega_pumps.specs.Picks.{picked_group, picked_message};
 
 use crate::digest::Digest;
@@ -60,11 +60,11 @@ impl Digest {
         groups: &[GroupId],
     ) -> Result<Option<Picked>, NoMemory>
         ensures picked { IfOk result (λ found. (now : Now) → Tells voter.now.logs.kept now.met → Follows (V.version rows.now.rows) (progress_at rows.now.progress) (log_of now.met) now.stored →
-            Notes (log_of now.met) now.stored self.old → groups.now ≡ groups_of now.met → found ≡ picked_message (next_to_enter op (applied_logs now))) }
-        ensures notes { OnOk result ((met : _) (stored : Group → ℕ) → Tells voter.now.logs.kept met → Follows (V.version rows.now.rows) (progress_at rows.now.progress) (log_of met) stored →
-            Notes (log_of met) stored self.old → Notes (log_of met) stored self.new) }
+            HasNoted voter.now.logs.kept self.old → groups.now ≡ groups_of now.met → found ≡ picked_message (next_to_enter op (applied_logs now))) }
+        ensures noted { OnOk result ((met : _) (stored : Group → ℕ) → Tells voter.now.logs.kept met → Follows (V.version rows.now.rows) (progress_at rows.now.progress) (log_of met) stored →
+            HasNoted voter.now.logs.kept self.old → groups.now ≡ groups_of met → HasNoted voter.now.logs.kept self.new) }
     {
-        self.catch_up(alloc, voter, rows, groups)?;
+        self.follow(alloc, voter, rows, groups)?;
         match self.queues.next_to_enter(op, groups) {
             Some(posted) => {
                 let picked = to_enter(alloc, posted)?;
@@ -83,11 +83,11 @@ impl Digest {
         groups: &[GroupId],
     ) -> Result<Option<Picked>, NoMemory>
         ensures picked { IfOk result (λ found. (now : Now) → Tells voter.now.logs.kept now.met → Follows (V.version rows.now.rows) (progress_at rows.now.progress) (log_of now.met) now.stored →
-            Notes (log_of now.met) now.stored self.old → groups.now ≡ groups_of now.met → found ≡ picked_group (next_to_handle (applied_logs now))) }
-        ensures notes { OnOk result ((met : _) (stored : Group → ℕ) → Tells voter.now.logs.kept met → Follows (V.version rows.now.rows) (progress_at rows.now.progress) (log_of met) stored →
-            Notes (log_of met) stored self.old → Notes (log_of met) stored self.new) }
+            HasNoted voter.now.logs.kept self.old → groups.now ≡ groups_of now.met → found ≡ picked_group (next_to_handle (applied_logs now))) }
+        ensures noted { OnOk result ((met : _) (stored : Group → ℕ) → Tells voter.now.logs.kept met → Follows (V.version rows.now.rows) (progress_at rows.now.progress) (log_of met) stored →
+            HasNoted voter.now.logs.kept self.old → groups.now ≡ groups_of met → HasNoted voter.now.logs.kept self.new) }
     {
-        self.catch_up(alloc, voter, rows, groups)?;
+        self.follow(alloc, voter, rows, groups)?;
         match self.queues.next_to_handle(groups) {
             Some(group) => {
                 let picked = to_handle(alloc, group)?;

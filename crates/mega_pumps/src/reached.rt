@@ -1,12 +1,11 @@
 //! What a group's log entered and did not handle, through the position of a read.
-ghost use Rattle.std.specs.Prelude.{◌≡◌, ◌≤◌, ℕ, take, IfOk};
+ghost use Rattle.std.specs.Prelude.{◌≡◌, ◌≤◌, take, IfOk};
 ghost use Rattle.std.specs.Option.{option_copied};
-ghost use Rattle.mega_base.specs.declared.names.GroupId.{GroupId as Group};
 ghost use Rattle.mega_rules.specs.Logs.{log_of, prefix_of};
 ghost use Rattle.mega_rules.specs.Met.{Met};
 ghost use Rattle.mega_rules.specs.Queues.{is_named, names_entered, oldest_unhandled};
 ghost use Rattle.mega_voter.specs.Telling.{Tells};
-ghost use Rattle.mega_pumps.specs.Notes.{Notes};
+ghost use Rattle.mega_pumps.specs.Notes.{HasNoted};
 
 use crate::digest::Digest;
 use crate::mailing::mailbox_at;
@@ -38,7 +37,7 @@ impl Digest {
         through: u64,
         name: &Name,
     ) -> Result<bool, NoMemory>
-        ensures { IfOk result (λ entered. (met : _) (stored : Group → ℕ) → Tells voter.now.logs.kept met → Notes (log_of met) stored self.now → through ≤ prefix_of met group.now →
+        ensures { IfOk result (λ entered. (met : _) → Tells voter.now.logs.kept met → HasNoted voter.now.logs.kept self.now → through ≤ prefix_of met group.now →
             entered ≡ is_named name.now (names_entered (take through (log_of met group.now)))) }
     {
         if through_of(&self.through, group) == through {
@@ -56,7 +55,7 @@ impl Digest {
         group: &GroupId,
         through: u64,
     ) -> Result<Option<Enter>, NoMemory>
-        ensures { IfOk result (λ oldest. (met : _) (stored : Group → ℕ) → Tells voter.now.logs.kept met → Notes (log_of met) stored self.now → through ≤ prefix_of met group.now →
+        ensures { IfOk result (λ oldest. (met : _) → Tells voter.now.logs.kept met → HasNoted voter.now.logs.kept self.now → through ≤ prefix_of met group.now →
             oldest ≡ oldest_unhandled (take through (log_of met group.now))) }
     {
         if through_of(&self.through, group) == through {

@@ -1,6 +1,7 @@
 -- What is kept of all groups, where that of one changes.
-use Rattle.std.proofs.Common.{◌≡◌, ◌∙◌, ap, sym, refl, Bool, true, false, cond, List, [], ◌++◌}
-use Rattle.std.specs.Prelude.{Option, Some, None, is_some, filter}
+use Rattle.std.proofs.Common.{◌≡◌, ◌∙◌, ◌&&◌, ap, sym, refl, Bool, true, false, cond, List, [], ◌∷◌, ◌++◌}
+use Rattle.std.specs.Prelude.{Option, Some, None, is_some, filter, not}
+use Rattle.std.specs.List.{remove}
 use Rattle.std.specs.BTreeMap.{BTreeMap, get}
 use Rattle.std.specs.Global.{Vec}
 use Rattle.mega_base.specs.declared.names.GroupId.{GroupId}
@@ -11,7 +12,7 @@ use Rattle.mega_wal.proofs.Orders.{is_group_equal}
 use Rattle.mega_rules.specs.Queues.{Posted}
 use Rattle.mega_queues.specs.declared.mailbox.Mailbox.{Mailbox}
 use Rattle.mega_queues.specs.Mail.{no_mail, seen, with_entry}
-use Rattle.mega_queues.specs.Boxes.{Sheds, mail_at, mail_in, sent_at, sent_in_box}
+use Rattle.mega_queues.specs.Boxes.{Sheds, is_first_shed, mail_at, mail_in, sent_at, sent_in_box}
 use Rattle.mega_queues.proofs.Mailing.{filter_twice}
 
 -- a function of what a map has under each group, where it has a new value under one
@@ -56,17 +57,32 @@ twice : (a : Bool) → cond a a false ≡ a
 twice true = refl
 twice false = refl
 
+-- ---- what is taken out of one outbox
+pub all_shed : (test : Posted → Bool) (was now : List Posted) → now ≡ filter test was → filter test now ≡ filter test was
+all_shed test was now kept = ap (filter test) kept ∙ filter_twice test test test (λ one. twice (test one)) was
+
+skipped : (a b : Bool) (one : Posted) (rest : List Posted) → (not a && b) ≡ true → rest ≡ cond a (one ∷ rest) rest
+skipped true b one rest is = absurd (cc)
+skipped false b one rest is = refl
+
+pub first_shed : (test : Posted → Bool) (was now : List Posted) → is_first_shed test was ≡ true → now ≡ remove was 0 → filter test now ≡ filter test was
+first_shed test [] now is taken = absurd (cc)
+first_shed test (one ∷ []) now is taken = ap (filter test) taken ∙ skipped (test one) true one [] (and_true (not (test one)) is)
+  where
+    and_true : (a : Bool) → a ≡ true → (a && true) ≡ true
+    and_true true same = refl
+    and_true false same = same
+first_shed test (one ∷ next ∷ more) now is taken = ap (filter test) taken ∙ skipped (test one) (test next) one (filter test (next ∷ more)) is
+
 pub shed_there : (test : Posted → Bool) (old new : BTreeMap GroupId (Vec Posted)) (group : GroupId) (was now : Vec Posted) → get group_cmp old group ≡ Some was
     → ((q : GroupId) → get group_cmp new q ≡ cond (is_group group q) (Some now) (get group_cmp old q))
-    → now.items ≡ filter test was.items
+    → filter test now.items ≡ filter test was.items
     → Sheds test old new
 shed_there test old new group was now there updated kept other = ap (λ o. filter test (sent_in_box o)) (updated other) ∙ go (is_group group other) refl
   where
     go : (t : Bool) → is_group group other ≡ t → filter test (sent_in_box (cond t (Some now) (get group_cmp old other))) ≡ filter test (sent_at old other)
     go true at =
-        ap (filter test) kept
-        ∙ (filter_twice test test test (λ one. twice (test one)) was.items
-        ∙ (ap (λ o. filter test (sent_in_box o)) (sym there) ∙ ap (λ g. filter test (sent_at old g)) (is_group_equal group other at)))
+        kept ∙ (ap (λ o. filter test (sent_in_box o)) (sym there) ∙ ap (λ g. filter test (sent_at old g)) (is_group_equal group other at))
     go false at = refl
 
 pub mail_opened : (old new : BTreeMap GroupId Mailbox) (group own : GroupId) (now : Mailbox) (there : Bool) → own ≡ group → there ≡ is_some (get group_cmp old group) → there ≡ false

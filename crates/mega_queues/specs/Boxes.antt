@@ -1,5 +1,5 @@
 -- What all logs sent, entered and handled.
-use Rattle.std.specs.Prelude.{◌≡◌, ◌++◌, if◌then◌else◌, Bool, not, List, [], ◌∷◌, filter, map, Option, Some, None}
+use Rattle.std.specs.Prelude.{◌≡◌, ◌++◌, ◌&&◌, if◌then◌else◌, Bool, false, not, List, [], ◌∷◌, filter, map, Option, Some, None}
 use Rattle.std.specs.BTreeMap.{BTreeMap, get}
 use Rattle.mega_base.specs.declared.names.GroupId.{GroupId}
 use Rattle.mega_entry.specs.declared.content.Content.{Content}
@@ -33,6 +33,12 @@ awaits boxes one = not ((mail_at boxes one.to).entered (one.message).name)
 -- messages are taken out that do not pass the test, and no others
 abbrev pub Sheds : (Posted → Bool) → BTreeMap GroupId (Vec Posted) → BTreeMap GroupId (Vec Posted) → Type 0
 Sheds test old new = (group : GroupId) → filter test (sent_at new group) ≡ filter test (sent_at old group)
+
+-- of the first two messages only the first does not pass the test
+abbrev pub is_first_shed : (Posted → Bool) → List Posted → Bool
+is_first_shed test [] = false
+is_first_shed test (first ∷ []) = not (test first)
+is_first_shed test (first ∷ next ∷ more) = not (test first) && test next
 
 -- the log of each group
 abbrev pub Logs : Type 0

@@ -5,7 +5,7 @@ ghost use Rattle.mega_base.specs.declared.names.GroupId.{GroupId as Group};
 ghost use Rattle.mega_wal.specs.History.{group_cmp};
 ghost use Rattle.mega_wal.specs.Kept.{is_group};
 ghost use Rattle.mega_rules.specs.Queues.{posted};
-ghost use Rattle.mega_queues.specs.Boxes.{awaits, mail_at, sent_at, Sheds};
+ghost use Rattle.mega_queues.specs.Boxes.{awaits, is_first_shed, mail_at, sent_at, Sheds};
 
 use crate::mailboxes::Mailboxes;
 use crate::names::is_known;
@@ -76,13 +76,35 @@ pub fn awaits(boxes: &Mailboxes, one: &Posted) -> bool
 }
 
 /// Takes the messages out that are entered.
-fn forget(outbox: &mut Vec<Posted>, boxes: &Mailboxes)
+fn forget_all(outbox: &mut Vec<Posted>, boxes: &Mailboxes)
     ensures { outbox.new.items ≡ filter (awaits boxes.now) outbox.old.items }
 {
     outbox.retain(|one| awaits(boxes, one));
 }
 
-/// Takes the messages of a sender out that are entered.
+/// Whether of the first two messages only the first is entered, as is usual: pumps enter the oldest first.
+fn is_first_entered(outbox: &[Posted], boxes: &Mailboxes) -> bool
+    ensures { result ≡ is_first_shed (awaits boxes.now) outbox.now }
+{
+    match outbox {
+        [] => false,
+        [first] => !awaits(boxes, first),
+        [first, next, ..] => !awaits(boxes, first) && awaits(boxes, next),
+    }
+}
+
+/// Takes messages out that are entered: the first alone where the next one is not entered, and else all.
+fn forget(outbox: &mut Vec<Posted>, boxes: &Mailboxes)
+    ensures { filter (awaits boxes.now) outbox.new.items ≡ filter (awaits boxes.now) outbox.old.items }
+{
+    if is_first_entered(outbox.as_slice(), boxes) {
+        outbox.remove(0);
+        return;
+    }
+    forget_all(outbox, boxes);
+}
+
+/// Takes messages of a sender out that are entered.
 fn forget_of(outboxes: &mut Outboxes, group: &GroupId, boxes: &Mailboxes)
     ensures { Sheds (awaits boxes.now) outboxes.old outboxes.new }
 {
@@ -92,7 +114,7 @@ fn forget_of(outboxes: &mut Outboxes, group: &GroupId, boxes: &Mailboxes)
     }
 }
 
-/// Takes the messages out that are entered, of the senders of these.
+/// Takes messages out that are entered, of the senders of these.
 pub fn forget_senders(outboxes: &mut Outboxes, enters: &[Enter], boxes: &Mailboxes)
     ensures { Sheds (awaits boxes.now) outboxes.old outboxes.new }
 {

@@ -139,7 +139,7 @@ impl<R: Records, V: Versions, H: QueueHandlers> Steps for Server<R, V, H> {
 
     ghost opens = { λ s op. opens_at s.up.node op };
 
-    ghost opens_are = { λ s h node journal at op. ap (list_any (λ o. same_op o.id op)) (sym at.up.stands.opened) };
+    ghost opens_are = { λ s h node journal at op. ap (list_any (λ o. same_op o.id op)) (sym at.up.stands.within.opened) };
 
     fn schema(&self) -> &Schema {
         &self.up.node.replica.members.cluster().schema

@@ -12,6 +12,8 @@ use Rattle.mega_actions.specs.of_proposing.Settings.{setting}
 use Rattle.mega_stepping.specs.Placed.{IsPlaced}
 use Rattle.mega_stepping.specs.Staging.{Stages}
 use Rattle.mega_stepping.specs.News.{news_by}
+use Rattle.mega_actions.specs.of_pumps.Notes.{HasNoted}
+use Rattle.mega_actions.proofs.of_pumps.Lasting.{noted_step}
 use Rattle.mega_core.proofs.Messages.{decision_is, taken_stands, told_on}
 use Rattle.mega_core.proofs.taking.takes.Goals as goal
 
@@ -46,8 +48,12 @@ returns-clause-taken g c = λ h node open_ones begun represents heard_is owned p
       notes = made.notes ∙ (λ i. told_is i ++ decision_note (d_is i));
       sends = made.sends s (sym (decides.members ∙ says.members)) (sym (decides.me ∙ says.me)) ∙ (λ i. reply_is i ++ news_by s (told_decision m.body) (d_is i));
       heard = made.heard ∙ heard_is;
-      stands = taken_stands s node m (setting r2.members r2.me h) r2.voter.logs.kept r1.leases r2.leases (g.V.Versions.version r2.rows.rows) (progress_at r2.rows.progress) d
-          t_is decides.leases d_is (decides.kept base placed_d tells) (says.leased h node.met represents.leased) follows2 owned represents.kind.small;
+      stands = record {
+        stands = taken_stands s node m (setting r2.members r2.me h) r2.voter.logs.kept r1.leases r2.leases (g.V.Versions.version r2.rows.rows) (progress_at r2.rows.progress) d
+            t_is decides.leases d_is (decides.kept base placed_d tells) (says.leased h node.met represents.leased) follows2 owned represents.kind.small;
+        noted = subst (HasNoted r2.voter.logs.kept) (sym (decides.digest ∙ says.digest))
+            (noted_step r0.voter.logs.kept r2.voter.logs.kept (Takes m) told (decision_note d) node.met r0.digest represents.tells (decides.kept base placed_d tells) represents.noted);
+      };
     }
 
 pub returns-clause-staged : goal.returns-clause-staged

@@ -15,6 +15,7 @@ use Rattle.mega_actions.proofs.of_node_laws.Followed.{follows_after, follows_mor
 use Rattle.mega_actions.specs.of_proposing.Settings.{setting}
 use Rattle.mega_stepping.specs.Staging.{Stages}
 use Rattle.mega_stepping.specs.Touching.{behind}
+use Rattle.mega_actions.proofs.of_pumps.Lasting.{noted_step}
 use Rattle.mega_core.proofs.Clocks.{leases_begun, leases_groups, leases_log}
 use Rattle.mega_stepping.proofs.Staged.{silent_staged}
 use Rattle.mega_core.proofs.ticking.ticks.Goals as goal
@@ -46,11 +47,14 @@ returns-clause-ticked g c = λ h node open_ones begun represents groups_are owne
       opening = says.acquires r0.members r0.me node.met represents.leased;
       closing = c.in_ok-closing.ensures s node.met now refl refl rows (c.does_again-again.ensures r0.members r0.me node.met represents.leased) represents.tells;
       stands = record {
-        tells = coe 0 1 (i. Tells c.keep_notes-2.new.voter.logs.kept (onto (second_is i) (onto (first_is i) (own ∷ node.met)))) told2;
-        leased = says.state s node.met represents.leased;
-        follows = follows_after version progress (lapse_notes s node.met now) (onto lease (own ∷ node.met)) counts (follows_after version progress lease (own ∷ node.met) counts (follows_more version progress own node.met counts stored));
-        owned = owned;
-        small = represents.kind.small;
+        stands = record {
+          tells = coe 0 1 (i. Tells c.keep_notes-2.new.voter.logs.kept (onto (second_is i) (onto (first_is i) (own ∷ node.met)))) told2;
+          leased = says.state s node.met represents.leased;
+          follows = follows_after version progress (lapse_notes s node.met now) (onto lease (own ∷ node.met)) counts (follows_after version progress lease (own ∷ node.met) counts (follows_more version progress own node.met counts stored));
+          owned = owned;
+          small = represents.kind.small;
+        };
+        noted = noted_step r0.voter.logs.kept c.keep_notes-2.new.voter.logs.kept own (map met_of c.as_slice.result.now) (map met_of c.as_slice-2.result.now) node.met r0.digest represents.tells told2 represents.noted;
       };
       begun = (λ i. begun_of (onto (sym lapse_is i) (onto (sym lease_is i) (own ∷ node.met))))
           ∙ (leases_begun made.of_cell (onto (map met_of made.of_coordinator) (own ∷ node.met)) ∙ leases_begun made.of_coordinator (own ∷ node.met));

@@ -46,13 +46,16 @@ returns-in-Ok-clause-state g c = λ h s node event was stepped.
     let mid = c.args.node.now in
     let staged = mid.replica.voter.logs.staged.items in
     record {
-      stands = subst (λ (kept : Kept). Represents (setting mid.replica.members mid.replica.me h) kept mid.replica.leases mid.replica.indexed (g.V.Versions.version mid.replica.rows.rows) (progress_at mid.replica.rows.progress) mid.open mid.begun (step s node event).node)
-          (sym c.in-Ok.ensures.kept) stepped.stands;
+      stands = record {
+        within = subst (λ (kept : Kept). Represents (setting mid.replica.members mid.replica.me h) kept mid.replica.leases mid.replica.indexed mid.replica.digest (g.V.Versions.version mid.replica.rows.rows) (progress_at mid.replica.rows.progress) mid.open mid.begun (step s node event).node)
+            (sym c.in-Ok.ensures.kept) stepped.stands.within;
+        lagging = stepped.stands.lagging;
+      };
       empty = c.in-Ok.ensures.cleared;
       ready = c.in-Ok.ensures.still_open ∙ (ap g.R.Records.is_spent stepped.same ∙ stepped.ready);
       holds = λ seen. step_holds s node event staged (g.R.Records.list c.flush.new.self.logs.records) stepped.stages
           (c.in-Ok.ensures.holds seen (start_of node.met) node.met (step s node event).node.met
-          (subst (λ (one : _). HoldsMet (g.R.Records.list one) (start_of node.met) node.met) (sym stepped.same) (stepped.holds seen)) (step_goes s node event staged stepped.stages stepped.stands.tells.honest));
+          (subst (λ (one : _). HoldsMet (g.R.Records.list one) (start_of node.met) node.met) (sym stepped.same) (stepped.holds seen)) (step_goes s node event staged stepped.stages stepped.stands.within.tells.honest));
       granted = stepped.granted;
     }
 
@@ -66,7 +69,7 @@ returns-in-Ok-clause-cut g c = λ seen h s node event was stepped.
     let staged = mid.replica.voter.logs.staged.items in
     let new = c.flush.new.self.logs.records in
     let before = subst (λ (one : _). HoldsMet (g.R.Records.list one) (start_of node.met) node.met) (sym stepped.same) (stepped.holds seen) in
-    let leaves = c.in-Ok.ensures.any_moment seen (ap g.R.Records.is_spent stepped.same ∙ stepped.ready) (start_of node.met) node.met _ before (step_cut s node event staged stepped.stages stepped.stands.tells.honest) in
+    let leaves = c.in-Ok.ensures.any_moment seen (ap g.R.Records.is_spent stepped.same ∙ stepped.ready) (start_of node.met) node.met _ before (step_cut s node event staged stepped.stages stepped.stands.within.tells.honest) in
     subst (λ (one : _). LeavesOnly g.R.Records.moment g.R.Records.opened_since one new (MayLeave s node event)) stepped.same
     (leaves_weaker g.R.Records.moment g.R.Records.opened_since (records_in mid) new _ (MayLeave s node event) (λ found. left_by_record s node event staged found stepped.stages) leaves)
 
@@ -76,7 +79,7 @@ returns-in-Err-clause-cut g c = λ seen h s node event was stepped.
     let staged = mid.replica.voter.logs.staged.items in
     let new = c.flush.new.self.logs.records in
     let before = subst (λ (one : _). HoldsMet (g.R.Records.list one) (start_of node.met) node.met) (sym stepped.same) (stepped.holds seen) in
-    let leaves = c.in-Err.ensures.any_moment seen (ap g.R.Records.is_spent stepped.same ∙ stepped.ready) (start_of node.met) node.met _ before (step_cut s node event staged stepped.stages stepped.stands.tells.honest) in
+    let leaves = c.in-Err.ensures.any_moment seen (ap g.R.Records.is_spent stepped.same ∙ stepped.ready) (start_of node.met) node.met _ before (step_cut s node event staged stepped.stages stepped.stands.within.tells.honest) in
     subst (λ (one : _). LeavesOnly g.R.Records.moment g.R.Records.opened_since one new (MayLeave s node event)) stepped.same
     (leaves_weaker g.R.Records.moment g.R.Records.opened_since (records_in mid) new _ (MayLeave s node event) (λ found. left_by_record s node event staged found stepped.stages) leaves)
 
@@ -108,5 +111,5 @@ returns-in-Err-clause-burnt g c = λ seen four h s node event was stepped.
           (λ none. false≢true (c.in-Err.ensures.nothing none).0) (c.in-Err.ensures.short four (ap Err is)) (c.in-Err.ensures.burnt four (ap Err is));
       holds = cut_holds s node event staged (g.R.Records.list new) (keeps_record (g.R.Records.fuse_left (records_in mid)) (g.R.Records.fuse_image (records_in mid))) stepped.stages
           (c.in-Err.ensures.cut four seen (ap Err is) (start_of node.met) node.met (onto (owes (step s node event) (replies_in s.cluster s.me node.met event)) (Crashes ∷ own_item s node event ∷ node.met)) before
-          (step_cut s node event staged stepped.stages stepped.stands.tells.honest));
+          (step_cut s node event staged stepped.stages stepped.stands.within.tells.honest));
     }))

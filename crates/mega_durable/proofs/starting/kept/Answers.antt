@@ -30,8 +30,11 @@ flush-requires-clause-each g c = subst (All IsItem) (sym c.requires.one) (All-co
 pub returns-in-Ok-clause-stands : goal.returns-in-Ok-clause-stands
 returns-in-Ok-clause-stands g c = λ h node stands.
     let mid = c.args.made.node in
-    subst (λ (kept : Kept). Represents (setting mid.replica.members mid.replica.me h) kept mid.replica.leases mid.replica.indexed (g.V.Versions.version mid.replica.rows.rows) (progress_at mid.replica.rows.progress) mid.open mid.begun node)
-    (sym c.in-Ok.ensures.kept) stands
+    record {
+      within = subst (λ (kept : Kept). Represents (setting mid.replica.members mid.replica.me h) kept mid.replica.leases mid.replica.indexed mid.replica.digest (g.V.Versions.version mid.replica.rows.rows) (progress_at mid.replica.rows.progress) mid.open mid.begun node)
+          (sym c.in-Ok.ensures.kept) stands.within;
+      lagging = stands.lagging;
+    }
 
 pub returns-in-Ok-clause-holds : goal.returns-in-Ok-clause-holds
 returns-in-Ok-clause-holds g c = λ told starts before met holds goes.

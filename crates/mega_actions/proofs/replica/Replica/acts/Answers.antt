@@ -14,7 +14,7 @@ returns-in_ok-acts_again-in-Ok-Some-clause-state g c h now told means about at =
     let before = c.args.self.now in
     let mid = c.acts_once.new.self in
     let first = (rw c.in-Ok-Some.field-0-is at c.in-Ok-Some.ensures.acted) h now told means about at in
-    let tells = subst (λ (voter : Voter _). Tells voter.logs.kept now.met) (sym c.acts_once.ensures.voter) at.tells in
+    let tells = subst (λ (voter : Voter _). Tells voter.logs.kept now.met) (sym c.acts_once.ensures.voter) at.stands.tells in
     twice_stands g.V.Versions.version h mid c.acts_again.new.self c.args.work.now c.acts_once.new.work c.acts_again.new.work (setting before.members before.me h) (setting mid.members mid.me h) now c.args.operation c.in-Ok-Some.next
     (λ i. setting (c.acts_once.ensures.members i) (c.acts_once.ensures.me i) h) first
     (c.in_ok-acts_again-in-Ok-Some.ensures.acted h first.after now told (means_still _ _ h c.acts_once.ensures.handlers means) first.about tells first.stands)
@@ -24,7 +24,7 @@ returns-in_ok-acts_again-in-Ok-Some-clause-work g c h now told means about at =
     let before = c.args.self.now in
     let mid = c.acts_once.new.self in
     let first = (rw c.in-Ok-Some.field-0-is at c.in-Ok-Some.ensures.acted) h now told means about at in
-    let tells = subst (λ (voter : Voter _). Tells voter.logs.kept now.met) (sym c.acts_once.ensures.voter) at.tells in
+    let tells = subst (λ (voter : Voter _). Tells voter.logs.kept now.met) (sym c.acts_once.ensures.voter) at.stands.tells in
     twice_work g.V.Versions.version h mid c.acts_again.new.self c.args.work.now c.acts_once.new.work c.acts_again.new.work (setting before.members before.me h) (setting mid.members mid.me h) now c.args.operation c.in-Ok-Some.next
     (λ i. setting (c.acts_once.ensures.members i) (c.acts_once.ensures.me i) h) first
     (c.in_ok-acts_again-in-Ok-Some.ensures.acted h first.after now told (means_still _ _ h c.acts_once.ensures.handlers means) first.about tells first.stands)

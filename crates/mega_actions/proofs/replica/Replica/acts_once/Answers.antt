@@ -8,7 +8,7 @@ use Rattle.mega_replica.specs.Following.{progress_at}
 use Rattle.mega_finishing.specs.of_node_laws.About.{IsAbout}
 use Rattle.mega_outcome.specs.declared.request.Request.{Request}
 use Rattle.mega_finishing.specs.Asked.{IsNextAsked}
-use Rattle.mega_finishing.specs.Stands.{Stands}
+use Rattle.mega_actions.specs.StandsAt.{StandsAt}
 use Rattle.mega_finishing.specs.of_proposing.Settings.{setting}
 use Rattle.mega_finishing.proofs.of_proposing.Doing.{unless_met, unless_stored}
 use Rattle.mega_actions.proofs.replica.Replica.acts_once.Goals as goal
@@ -47,8 +47,8 @@ returns-in_ok-checks-in-Proposes-clause-acted g c h now told means about at =
     let version = g.V.Versions.version before.rows.rows in
     record {
       after = unless_decided now o own.position promised found;
-      stands = coe 0 1 (i. Stands s before.voter.logs.kept before.leases version (progress_at before.rows.progress) (sym (unless_met now o own.position promised found) i) (sym (unless_stored now o own.position promised found) i)) at;
-      work = λ was. c.in_ok-checks-in-Proposes.ensures.work now at.tells was;
+      stands = coe 0 1 (i. StandsAt s before.voter.logs.kept before.leases before.digest version (progress_at before.rows.progress) (sym (unless_met now o own.position promised found) i) (sym (unless_stored now o own.position promised found) i)) at;
+      work = λ was. c.in_ok-checks-in-Proposes.ensures.work now at.stands.tells was;
       about = tt;
       rule_is = λ again. ap (acts s again now) (sym whole_is);
     }

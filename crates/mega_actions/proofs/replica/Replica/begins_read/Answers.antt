@@ -16,8 +16,8 @@ returns-in_ok-acts_in_turn-in-Ok-clause-state g c h now told means current stand
     let first = c.in-Ok.first in
     let known = c.in-Ok.ensures in
     subst (λ (then : Now). IsAt g.V.Versions.version h new then.met then.stored)
-    (begins_in_turn s now c.args.op c.args.request c.now.result first.visited first.group first.made (c.now.ensures before.members before.me now.met stands.leased) known.visited
-    (known.read h now (new_operation c.args.op c.args.request (clock_of now.met)) refl refl stands.tells stands.leased) known.group.0 current known.group.1)
+    (begins_in_turn s now c.args.op c.args.request c.now.result first.visited first.group first.made (c.now.ensures before.members before.me now.met stands.stands.leased) known.visited
+    (known.read h now (new_operation c.args.op c.args.request (clock_of now.met)) refl refl stands.stands.tells stands.stands.leased) known.group.0 current known.group.1)
     (c.in_ok-acts_in_turn-in-Ok.ensures.state h now told means known.group.1 stands)
 
 pub returns-in_ok-acts_in_turn-in-Ok-clause-work : goal.returns-in_ok-acts_in_turn-in-Ok-clause-work
@@ -27,5 +27,5 @@ returns-in_ok-acts_in_turn-in-Ok-clause-work g c h now told means current stands
     let first = c.in-Ok.first in
     let known = c.in-Ok.ensures in
     c.in_ok-acts_in_turn-in-Ok.ensures.work h now told means known.group.1 stands same
-    ∙ ap work_of (begins_in_turn s now c.args.op c.args.request c.now.result first.visited first.group first.made (c.now.ensures before.members before.me now.met stands.leased) known.visited
-    (known.read h now (new_operation c.args.op c.args.request (clock_of now.met)) refl refl stands.tells stands.leased) known.group.0 current known.group.1)
+    ∙ ap work_of (begins_in_turn s now c.args.op c.args.request c.now.result first.visited first.group first.made (c.now.ensures before.members before.me now.met stands.stands.leased) known.visited
+    (known.read h now (new_operation c.args.op c.args.request (clock_of now.met)) refl refl stands.stands.tells stands.stands.leased) known.group.0 current known.group.1)

@@ -13,12 +13,12 @@ returns-clause-acted g c h now told means of le at =
     let s = setting before.members before.me h in
     let reached = c.args.reached in
     let then = completes_read s now reached.group reached.reading reached.position in
-    let after = c.in-Ok.ensures.state before.members before.me h now at in
-    let goes = c.in_ok-next.ensures.acted h then told means of (completed_applied s now reached.group reached.reading reached.position le) after in
+    let after = c.in-Ok.ensures.state before.members before.me h now at.stands in
+    let goes = c.in_ok-next.ensures.acted h then told means of (completed_applied s now reached.group reached.reading reached.position le) (record { stands = after; noted = at.noted }) in
     record {
       after = goes.after;
       stands = goes.stands;
-      work = λ was. goes.work (c.in-Ok.ensures.work before.members before.me h now at was);
+      work = λ was. goes.work (c.in-Ok.ensures.work before.members before.me h now at.stands was);
       about = goes.about;
       rule_is = goes.rule_is;
     }

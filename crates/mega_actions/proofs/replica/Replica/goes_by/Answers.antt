@@ -18,11 +18,11 @@ returns-clause-acted g c h now told means of le at =
     let s = setting before.members before.me h in
     let reached = c.args.reached in
     let kept = reached.kept in
-    let clock = c.now-clock.ensures before.members before.me now.met at.leased in
+    let clock = c.now-clock.ensures before.members before.me now.met at.stands.leased in
     record {
       after = finishes s idle now (operation_of reached) reached.group reached.reading reached.position;
-      stands = c.in_ok-goes.ensures.state before.me h before.leases now idle told of le clock at;
-      work = λ was. c.in_ok-goes.ensures.work before.me h before.leases now idle told of le clock at was;
+      stands = record { stands = c.in_ok-goes.ensures.state before.me h before.leases now idle told of le clock at.stands; noted = at.noted };
+      work = λ was. c.in_ok-goes.ensures.work before.me h before.leases now idle told of le clock at.stands was;
       about = tt;
       rule_is = λ again. never_again s again now reached.group reached.reading reached.position kept.id kept.began kept.visited kept.message idle kept.request (sym c.is_pump.ensures ∙ c.if-is_pump.false);
     }

@@ -17,14 +17,17 @@ returns-clause-acted g c h now told means pump le at =
     let new = c.pumps.new.rows in
     let pumped = c.in_ok-pumped.pumped in
     let next = c.in_ok-next.ensures.next in
-    let seen = stands_seen s before.voter.logs.kept before.leases (version before.rows.rows) (progress_at before.rows.progress) now.stored (version new.rows) now.met c.pumps.ensures.versions at in
+    let seen = stands_seen s before.voter.logs.kept before.leases (version before.rows.rows) (progress_at before.rows.progress) now.stored (version new.rows) now.met c.pumps.ensures.versions at.stands in
     record {
       after = pumped_after now pumped;
-      stands = coe 0 1 (i. Stands s before.voter.logs.kept before.leases (version new.rows) (progress_at (sym c.pumps.ensures.progress i)) (sym (pumped_met now pumped) i) (sym (pumped_stored now pumped) i)) seen;
+      stands = record {
+        stands = coe 0 1 (i. Stands s before.voter.logs.kept before.leases (version new.rows) (progress_at (sym c.pumps.ensures.progress i)) (sym (pumped_met now pumped) i) (sym (pumped_stored now pumped) i)) seen;
+        noted = c.in_ok-pumped.ensures.noted now.met now.stored at.stands.tells le at.stands.follows at.noted;
+      };
       work = λ was. c.in_ok-next.ensures.work now was;
       about = subst IsNextAbout (sym next) (next_about pumped c.args.reached.kept.request pump c.in_ok-pumped.ensures.asked);
       rule_is = λ again.
-          sym (c.in_ok-pumped.ensures.pumped told before.me h now again means pump le at)
+          sym (c.in_ok-pumped.ensures.pumped told before.me h now again means pump le at.stands at.noted)
           ∙ pumped_then again now pumped
           ∙ ap (then_again again (pumped_after now pumped)) (sym next);
     }

@@ -33,7 +33,7 @@ returns-then-is_reached-clause-acted g c h now told means of at =
     let group = c.args.group in
     let reading = c.args.reading in
     let through = c.in-Some.through in
-    let prefix = c.prefix-prefix.ensures now.met at.tells in
+    let prefix = c.prefix-prefix.ensures now.met at.stands.tells in
     let le = subst (λ q. through ≤ q) prefix (c.is_reached.ensures.within c.if-is_reached.true) in
     let inner = c.in_ok-next.ensures.acted h now told means of le at in
     record {
@@ -55,8 +55,8 @@ returns-clause-acted g c h now told means of at =
     let reading = c.args.reading in
     let through = c.in-Some.through in
     let o = whole kept (Reads group reading) in
-    let prefix = c.prefix-prefix.ensures now.met at.tells in
-    let clock = c.now-clock.ensures before.members before.me now.met at.leased in
+    let prefix = c.prefix-prefix.ensures now.met at.stands.tells in
+    let clock = c.now-clock.ensures before.members before.me now.met at.stands.leased in
     record {
       after = seeks_on o now group (seeks (reader_of s kept.id group) reading (prefix_of now.met group + 1) (clock_of now.met));
       stands = at;

@@ -6,7 +6,7 @@ use Rattle.mega_finishing.proofs.of_node_laws.Lasting.{does_due_about}
 use Rattle.mega_replica.specs.Following.{progress_at}
 use Rattle.mega_finishing.specs.of_proposing.Servable.{is_open}
 use Rattle.mega_actions.specs.IsAt.{IsAt}
-use Rattle.mega_finishing.specs.Stands.{Stands}
+use Rattle.mega_actions.specs.StandsAt.{StandsAt}
 use Rattle.mega_finishing.specs.of_proposing.Settings.{setting}
 use Rattle.mega_actions.specs.Turns.{IsHeardAbout}
 use Rattle.mega_finishing.specs.of_proposing.Working.{work_of}
@@ -17,7 +17,7 @@ pub returns-then-is_out-clause-state : goal.returns-then-is_out-clause-state
 returns-then-is_out-clause-state g c h now told means about stands =
     let self = c.args.self.now in
     let s = setting self.members self.me h in
-    subst (λ (then : Now). Stands s self.voter.logs.kept self.leases (g.V.Versions.version self.rows.rows) (progress_at self.rows.progress) then.met then.stored)
+    subst (λ (then : Now). StandsAt s self.voter.logs.kept self.leases self.digest (g.V.Versions.version self.rows.rows) (progress_at self.rows.progress) then.met then.stored)
     (sym (ticked_out s c.args.clock now c.args.operation (sym (c.is_out.ensures s refl) ∙ c.if-is_out.true))) stands
 
 pub returns-then-is_out-clause-work : goal.returns-then-is_out-clause-work

@@ -1,4 +1,5 @@
-use Rattle.std.proofs.Common.{◌≡◌, ◌∙◌, cond, List, [], ◌∷◌, map, ap, refl, subst}
+use Rattle.std.proofs.Common.{◌≡◌, ◌∙◌, cond, List, [], ◌∷◌, map, ap, refl, subst, sym}
+use Rattle.std.specs.BTreeSet.{BTreeSet}
 use Rattle.mega_base.specs.declared.names.GroupId.{GroupId}
 use Rattle.mega_rules.specs.Members.{has_rows}
 use Rattle.mega_rules.specs.Met.{Begins}
@@ -9,17 +10,20 @@ use Rattle.mega_stepping.specs.declared.note.Note.{Note}
 use Rattle.mega_core.specs.Beginning.{has_begun}
 use Rattle.mega_stepping.specs.Notes.{met_of}
 use Rattle.mega_stepping.specs.Positions.{before_at}
+use Rattle.mega_core.specs.Lagging.{KnowsLagging}
 use Rattle.mega_core.specs.Represents.{Represents}
 use Rattle.mega_stepping.specs.Staging.{Stages}
 use Rattle.mega_stepping.specs.Touching.{begun_groups}
 use Rattle.mega_core.proofs.Begun.{begin_is, begin_may, represents_keeps}
 use Rattle.mega_stepping.proofs.Staged.{silent_staged}
+use Rattle.mega_core.proofs.Lags.{begin_kept, others_kept}
 use Rattle.mega_core.proofs.Untouched.{begin_noted}
 use Rattle.mega_core.proofs.Watched.{watched_noted}
 use Rattle.mega_core.proofs.node.Node.begin.Goals as goal
 
 pub returns-clause-notes : goal.returns-clause-notes
-returns-clause-notes g c = λ told h node means represents owned.
+returns-clause-notes g c = λ told h node means stands owned.
+    let represents = stands.within in
     let old = c.args.self.now.replica in
     let mid = c.begins.new.self.replica in
     let s = setting old.members old.me h in
@@ -38,7 +42,8 @@ returns-clause-notes g c = λ told h node means represents owned.
     made.notes ∙ ap (λ (step : RuleStep). step.notes) is
 
 pub returns-clause-sends : goal.returns-clause-sends
-returns-clause-sends g c = λ told h node means represents owned.
+returns-clause-sends g c = λ told h node means stands owned.
+    let represents = stands.within in
     let old = c.args.self.now.replica in
     let mid = c.begins.new.self.replica in
     let s = setting old.members old.me h in
@@ -57,7 +62,8 @@ returns-clause-sends g c = λ told h node means represents owned.
     made.sends ∙ ap (λ (step : RuleStep). step.sends) is
 
 pub returns-clause-state : goal.returns-clause-state
-returns-clause-state g c = λ told h node means represents owned.
+returns-clause-state g c = λ told h node means stands owned.
+    let represents = stands.within in
     let old = c.args.self.now.replica in
     let mid = c.begins.new.self.replica in
     let s = setting old.members old.me h in
@@ -73,11 +79,19 @@ returns-clause-state g c = λ told h node means represents owned.
     let noted = watched_noted s t node groups c.in_ok-before.before (has_begun s node request text) t_is before (begin_noted s node request text (map (before_at node.met node.stored) groups) (c.in_ok-work.ensures.built h node represents) acted.acted refl) in
     let first : map met_of c.new-none.result ≡ [] = ap (λ (notes : List Note). map met_of notes) c.new-none.ensures in
     let made = c.in_ok-step.ensures.made h node (Begins (op_of s node.met) text) [] [] (has_begun s node request text) noted acted first (begin_may s node request text _ is) in
+    let others = others_kept s t node groups c.in_ok-before.before c.begins.new.self.lagging (has_begun s node request text) t_is before
+    (λ rows group none whole. begin_kept s node request text (c.in_ok-work.ensures.built h node represents) acted.acted group whole)
+    (subst (λ (lagging : BTreeSet GroupId). KnowsLagging old.members old.me lagging node.met node.stored) (sym c.in_ok-work.ensures.lagging) stands.lagging) in
+    let lag = c.in_ok-step.ensures.lagging h node (Begins (op_of s node.met) text) [] [] (has_begun s node request text) acted others in
     let new = c.ends.new.self in
-    subst (λ (step : RuleStep). Represents (setting new.replica.members new.replica.me h) new.replica.voter.logs.kept new.replica.leases new.replica.indexed (g.V.Versions.version new.replica.rows.rows) (progress_at new.replica.rows.progress) new.open new.begun step.node) is made.state
+    record {
+      within = subst (λ (step : RuleStep). Represents (setting new.replica.members new.replica.me h) new.replica.voter.logs.kept new.replica.leases new.replica.indexed new.replica.digest (g.V.Versions.version new.replica.rows.rows) (progress_at new.replica.rows.progress) new.open new.begun step.node) is made.state;
+      lagging = subst (λ (step : RuleStep). KnowsLagging new.replica.members new.replica.me new.lagging step.node.met step.node.stored) is lag;
+    }
 
 pub returns-clause-staged : goal.returns-clause-staged
-returns-clause-staged g c = λ told h node since means represents owned stages.
+returns-clause-staged g c = λ told h node since means stands owned stages.
+    let represents = stands.within in
     let old = c.args.self.now.replica in
     let mid = c.begins.new.self.replica in
     let s = setting old.members old.me h in

@@ -7,9 +7,12 @@ use Rattle.mega_stepping.specs.of_leases.Tells.{Tells as TellsLeases}
 use Rattle.mega_replica.specs.Following.{Follows, progress_at}
 use Rattle.mega_stepping.specs.of_voter.Telling.{Tells}
 use Rattle.mega_actions.specs.of_proposing.Settings.{setting}
+use Rattle.mega_core.specs.Lagging.{KnowsLagging}
 use Rattle.mega_core.specs.Represents.{Represents}
 use Rattle.mega_core.specs.Restarting.{HaveFollowed, applied_at_start}
+use Rattle.mega_actions.proofs.of_pumps.Lasting.{anew_noted}
 use Rattle.mega_core.proofs.Anew.{followed_on, restarted}
+use Rattle.mega_core.proofs.Lags.{restarted_whole}
 use Rattle.mega_core.proofs.Unshown.{started_marks}
 use Rattle.mega_core.proofs.node.Node.restart.Goals as goal
 
@@ -34,9 +37,15 @@ returns-clause-state g c = λ h starts met owed are recalls have.
     let follows = coe 0 1 (i. Follows version progress (log_of now) (applied_at_start (setting ((c.cluster-2.ensures ∙ members_is) i) me h) now))
     (c.in_ok-notes.ensures.follows h now tells there) in
     let indexed = c.new-indexed.result in
+    let digest = c.new-digest.result in
     let marked = c.new-indexed.ensures.indexed cluster.schema (start (setting cluster me h) (starts + 1) owed met).met (started_marks (setting cluster me h) (starts + 1) owed met are) in
-    let first = restarted cluster me h c.args.voter.logs.kept kept leases indexed version progress starts met owed c.requires.member c.requires.served.small are few recalls tells leased follows marked in
-    coe 0 1 (i. Represents (setting (sym members_is i) me h) kept leases indexed version progress (sym c.new.ensures i) 0 (start (setting cluster me h) (starts + 1) owed met)) first
+    let first = restarted cluster me h c.args.voter.logs.kept kept leases indexed digest version progress starts met owed c.requires.member c.requires.served.small are few recalls tells leased follows marked (anew_noted kept digest c.new-digest.ensures) in
+    let lagging = c.new-2.result in
+    let ruled = start (setting cluster me h) (starts + 1) owed met in
+    record {
+      within = coe 0 1 (i. Represents (setting (sym members_is i) me h) kept leases indexed digest version progress (sym c.new.ensures i) 0 (start (setting cluster me h) (starts + 1) owed met)) first;
+      lagging = subst (λ (one : Cluster). KnowsLagging one me lagging ruled.met ruled.stored) (sym members_is) (restarted_whole lagging cluster me h c.args.voter.logs.kept starts met owed are few recalls);
+    }
 
 pub returns-clause-notes : goal.returns-clause-notes
 returns-clause-notes g c = λ h starts met owed are recalls.

@@ -10,6 +10,7 @@ use Rattle.mega_actions.specs.of_node_laws.Acted.{acted_on, decision_in}
 use Rattle.mega_actions.specs.of_proposing.Settings.{setting}
 use Rattle.mega_actions.specs.Turns.{IsServable}
 use Rattle.mega_stepping.specs.Positions.{before_at}
+use Rattle.mega_core.specs.Lagging.{KnowsLagging}
 use Rattle.mega_core.specs.Represents.{Represents}
 use Rattle.mega_stepping.specs.Staging.{Stages}
 use Rattle.mega_core.specs.Taking.{has_taken}
@@ -17,12 +18,14 @@ use Rattle.mega_stepping.specs.Touching.{touched}
 use Rattle.mega_core.proofs.Begun.{represents_keeps}
 use Rattle.mega_core.proofs.Messages.{heard_are_about, heard_are_built, take_acts, take_is, take_may}
 use Rattle.mega_core.proofs.Refused.{unserved_is}
+use Rattle.mega_core.proofs.Lags.{others_kept, take_kept}
 use Rattle.mega_core.proofs.Untouched.{heard_by, take_noted}
 use Rattle.mega_core.proofs.Watched.{watched_noted}
 use Rattle.mega_core.proofs.node.Node.take.Goals as goal
 
 pub returns-in_err-work-clause-built : goal.returns-in_err-work-clause-built
-returns-in_err-work-clause-built g c = λ is h node represents.
+returns-in_err-work-clause-built g c = λ is h node stands.
+    let represents = stands.within in
     let r0 = c.args.self.now.replica in
     let version = g.V.Versions.version r0.rows.rows in
     let progress = progress_at r0.rows.progress in
@@ -34,7 +37,8 @@ returns-in_err-work-clause-built g c = λ is h node represents.
     (heard_are_built s node c.args.message.now r0.voter.logs.kept r0.leases version progress c.args.self.now.open c.args.self.now.begun c.in_ok-taken.taken.heard represents (c.in_ok-taken.ensures.heard ∙ heard_is))
 
 pub returns-clause-notes : goal.returns-clause-notes
-returns-clause-notes g c = λ told h node means represents owned placed.
+returns-clause-notes g c = λ told h node means stands owned placed.
+    let represents = stands.within in
     let r0 = c.args.self.now.replica in
     let r1 = c.takes.new.replica in
     let r2 = c.acts.new.replica in
@@ -57,7 +61,7 @@ returns-clause-notes g c = λ told h node means represents owned placed.
     let base = acted_on s node (Take m) in
     let stored = stored_after s base node.stored (decision_in s node m) in
     let acted = take_acts s node m t1 t2 r0.voter.logs.kept r1.voter.logs.kept r2.voter.logs.kept r0.leases r2.leases version (g.V.Versions.version r2.rows.rows) progress (progress_at r2.rows.progress) own_open begun
-    c.in_ok-work.work heard represents taken.heard t1_is t2_is (λ i. (c.in_ok-work.ensures.voter i).logs.kept) (c.in_ok-work.ensures.indexed ∙ c.in_ok-taken.ensures.indexed) taken.stands.tells
+    c.in_ok-work.work heard represents taken.heard t1_is t2_is (λ i. (c.in_ok-work.ensures.voter i).logs.kept) (c.in_ok-work.ensures.indexed ∙ c.in_ok-taken.ensures.indexed) taken.stands.stands.tells
     (c.in_ok-work.ensures.state told h base stored means about taken.stands) (c.in_ok-work.ensures.work told h base stored means about taken.stands) in
     let is = take_is s node m t2 c.in_ok-taken.taken.sends c.new-2.result (t2_is ∙ t1_is) taken.sends c.new-2.ensures in
     let keeps = represents_keeps s r0.voter.logs.kept r0.leases version progress own_open begun node represents in
@@ -69,7 +73,8 @@ returns-clause-notes g c = λ told h node means represents owned placed.
     made.notes ∙ ap (λ (step : RuleStep). step.notes) is
 
 pub returns-clause-sends : goal.returns-clause-sends
-returns-clause-sends g c = λ told h node means represents owned placed.
+returns-clause-sends g c = λ told h node means stands owned placed.
+    let represents = stands.within in
     let r0 = c.args.self.now.replica in
     let r1 = c.takes.new.replica in
     let r2 = c.acts.new.replica in
@@ -92,7 +97,7 @@ returns-clause-sends g c = λ told h node means represents owned placed.
     let base = acted_on s node (Take m) in
     let stored = stored_after s base node.stored (decision_in s node m) in
     let acted = take_acts s node m t1 t2 r0.voter.logs.kept r1.voter.logs.kept r2.voter.logs.kept r0.leases r2.leases version (g.V.Versions.version r2.rows.rows) progress (progress_at r2.rows.progress) own_open begun
-    c.in_ok-work.work heard represents taken.heard t1_is t2_is (λ i. (c.in_ok-work.ensures.voter i).logs.kept) (c.in_ok-work.ensures.indexed ∙ c.in_ok-taken.ensures.indexed) taken.stands.tells
+    c.in_ok-work.work heard represents taken.heard t1_is t2_is (λ i. (c.in_ok-work.ensures.voter i).logs.kept) (c.in_ok-work.ensures.indexed ∙ c.in_ok-taken.ensures.indexed) taken.stands.stands.tells
     (c.in_ok-work.ensures.state told h base stored means about taken.stands) (c.in_ok-work.ensures.work told h base stored means about taken.stands) in
     let is = take_is s node m t2 c.in_ok-taken.taken.sends c.new-2.result (t2_is ∙ t1_is) taken.sends c.new-2.ensures in
     let keeps = represents_keeps s r0.voter.logs.kept r0.leases version progress own_open begun node represents in
@@ -104,7 +109,8 @@ returns-clause-sends g c = λ told h node means represents owned placed.
     made.sends ∙ ap (λ (step : RuleStep). step.sends) is
 
 pub returns-clause-state : goal.returns-clause-state
-returns-clause-state g c = λ told h node means represents owned placed.
+returns-clause-state g c = λ told h node means stands owned placed.
+    let represents = stands.within in
     let r0 = c.args.self.now.replica in
     let r1 = c.takes.new.replica in
     let r2 = c.acts.new.replica in
@@ -127,7 +133,7 @@ returns-clause-state g c = λ told h node means represents owned placed.
     let base = acted_on s node (Take m) in
     let stored = stored_after s base node.stored (decision_in s node m) in
     let acted = take_acts s node m t1 t2 r0.voter.logs.kept r1.voter.logs.kept r2.voter.logs.kept r0.leases r2.leases version (g.V.Versions.version r2.rows.rows) progress (progress_at r2.rows.progress) own_open begun
-    c.in_ok-work.work heard represents taken.heard t1_is t2_is (λ i. (c.in_ok-work.ensures.voter i).logs.kept) (c.in_ok-work.ensures.indexed ∙ c.in_ok-taken.ensures.indexed) taken.stands.tells
+    c.in_ok-work.work heard represents taken.heard t1_is t2_is (λ i. (c.in_ok-work.ensures.voter i).logs.kept) (c.in_ok-work.ensures.indexed ∙ c.in_ok-taken.ensures.indexed) taken.stands.stands.tells
     (c.in_ok-work.ensures.state told h base stored means about taken.stands) (c.in_ok-work.ensures.work told h base stored means about taken.stands) in
     let is = take_is s node m t2 c.in_ok-taken.taken.sends c.new-2.result (t2_is ∙ t1_is) taken.sends c.new-2.ensures in
     let keeps = represents_keeps s r0.voter.logs.kept r0.leases version progress own_open begun node represents in
@@ -136,11 +142,18 @@ returns-clause-state g c = λ told h node means represents owned placed.
     let before = c.in_ok-before.ensures node.met node.stored keeps ∙ ap (λ (some : List GroupId). cond (has_rows r0.members r0.me) (map (before_at node.met node.stored) some) []) groups_are in
     let noted = watched_noted s t2 node groups c.in_ok-before.before (has_taken s node m) (t2_is ∙ t1_is) before (take_noted s node m (map (before_at node.met node.stored) groups) (subst (All IsServable) (sym represents.opened) represents.built) acted.acted refl) in
     let made = c.in_ok-step.ensures.made h node (Takes m) (told_notes s node.met m.from m.body) (decision_note (decision_in s node m)) (has_taken s node m) noted acted taken.notes (take_may s node m _ is) in
+    let others = others_kept s t2 node groups c.in_ok-before.before c.args.self.now.lagging (has_taken s node m) (t2_is ∙ t1_is) before
+    (λ rows group none whole. take_kept s node m (subst (All IsServable) (sym represents.opened) represents.built) acted.acted group none whole) stands.lagging in
+    let lag = c.in_ok-step.ensures.lagging h node (Takes m) (told_notes s node.met m.from m.body) (decision_note (decision_in s node m)) (has_taken s node m) acted others in
     let new = c.ends.new.self in
-    subst (λ (step : RuleStep). Represents (setting new.replica.members new.replica.me h) new.replica.voter.logs.kept new.replica.leases new.replica.indexed (g.V.Versions.version new.replica.rows.rows) (progress_at new.replica.rows.progress) new.open new.begun step.node) is made.state
+    record {
+      within = subst (λ (step : RuleStep). Represents (setting new.replica.members new.replica.me h) new.replica.voter.logs.kept new.replica.leases new.replica.indexed new.replica.digest (g.V.Versions.version new.replica.rows.rows) (progress_at new.replica.rows.progress) new.open new.begun step.node) is made.state;
+      lagging = subst (λ (step : RuleStep). KnowsLagging new.replica.members new.replica.me new.lagging step.node.met step.node.stored) is lag;
+    }
 
 pub returns-clause-staged : goal.returns-clause-staged
-returns-clause-staged g c = λ told h node since means represents owned placed stages.
+returns-clause-staged g c = λ told h node since means stands owned placed stages.
+    let represents = stands.within in
     let r0 = c.args.self.now.replica in
     let r1 = c.takes.new.replica in
     let r2 = c.acts.new.replica in
@@ -163,7 +176,7 @@ returns-clause-staged g c = λ told h node since means represents owned placed s
     let base = acted_on s node (Take m) in
     let stored = stored_after s base node.stored (decision_in s node m) in
     let acted = take_acts s node m t1 t2 r0.voter.logs.kept r1.voter.logs.kept r2.voter.logs.kept r0.leases r2.leases version (g.V.Versions.version r2.rows.rows) progress (progress_at r2.rows.progress) own_open begun
-    c.in_ok-work.work heard represents taken.heard t1_is t2_is (λ i. (c.in_ok-work.ensures.voter i).logs.kept) (c.in_ok-work.ensures.indexed ∙ c.in_ok-taken.ensures.indexed) taken.stands.tells
+    c.in_ok-work.work heard represents taken.heard t1_is t2_is (λ i. (c.in_ok-work.ensures.voter i).logs.kept) (c.in_ok-work.ensures.indexed ∙ c.in_ok-taken.ensures.indexed) taken.stands.stands.tells
     (c.in_ok-work.ensures.state told h base stored means about taken.stands) (c.in_ok-work.ensures.work told h base stored means about taken.stands) in
     let is = take_is s node m t2 c.in_ok-taken.taken.sends c.new-2.result (t2_is ∙ t1_is) taken.sends c.new-2.ensures in
     let mid = coe 1 0 (i. Stages (c.in_ok-work.ensures.voter i).logs.staged.items since base) (c.in_ok-taken.ensures.staged h node own_open begun since represents heard_is stages) in

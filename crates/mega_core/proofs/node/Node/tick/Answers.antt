@@ -12,6 +12,7 @@ use Rattle.mega_actions.specs.of_proposing.Settings.{setting}
 use Rattle.mega_actions.specs.Turns.{IsServable}
 use Rattle.mega_core.specs.Faults.{failed_by}
 use Rattle.mega_stepping.specs.Positions.{before_at}
+use Rattle.mega_core.specs.Lagging.{KnowsLagging}
 use Rattle.mega_core.specs.Represents.{Represents}
 use Rattle.mega_stepping.specs.Staging.{Stages}
 use Rattle.mega_core.specs.Ticking.{has_ticked}
@@ -20,12 +21,15 @@ use Rattle.mega_core.proofs.Begun.{represents_keeps}
 use Rattle.mega_core.proofs.Clocks.{tick_acts, tick_is, tick_may}
 use Rattle.mega_core.proofs.Failing.{acted_store}
 use Rattle.mega_core.proofs.Refused.{unserved_is}
+use Rattle.mega_core.proofs.Anew.{few_stored}
+use Rattle.mega_core.proofs.Lags.{others_kept, tick_kept}
 use Rattle.mega_core.proofs.Untouched.{tick_noted}
 use Rattle.mega_core.proofs.Watched.{at_behind, watched_noted}
 use Rattle.mega_core.proofs.node.Node.tick.Goals as goal
 
 pub returns-in_err-work-clause-built : goal.returns-in_err-work-clause-built
-returns-in_err-work-clause-built g c = λ is h node represents.
+returns-in_err-work-clause-built g c = λ is h node stands.
+    let represents = stands.within in
     c.in_err-work.ensures.unserved (search (rules, unserved_is)) (subst (All IsServable) (sym c.replace-opened.ensures.value) represents.built)
 
 pub returns-in_err-work-clause-fares : goal.returns-in_err-work-clause-fares
@@ -33,7 +37,8 @@ returns-in_err-work-clause-fares g c =
     fares_then g.V.Versions (failed_by c.from_residual-in_err-work.result) c.args.self.now.replica.rows.rows c.ticks.new.replica.rows.rows c.acts_ticked.new.replica.rows.rows c.in_ok-made.ensures.fares (search (rules, acted_store))
 
 pub returns-clause-notes : goal.returns-clause-notes
-returns-clause-notes g c = λ told h node means represents owned.
+returns-clause-notes g c = λ told h node means stands owned.
+    let represents = stands.within in
     let r0 = c.args.self.now.replica in
     let r1 = c.ticks.new.replica in
     let r2 = c.acts_ticked.new.replica in
@@ -44,7 +49,7 @@ returns-clause-notes g c = λ told h node means represents owned.
     let now = c.args.now in
     let s = setting r0.members r0.me h in
     let keeps = represents_keeps s r0.voter.logs.kept r0.leases version progress own_open begun node represents in
-    let groups_are = c.in_ok-groups.ensures node.met node.stored keeps in
+    let groups_are = c.in_ok-groups.ensures node.met node.stored keeps stands.lagging in
     let made1 = c.in_ok-made.ensures.ticked h node own_open begun represents groups_are owned in
     let t1 = setting r1.members r1.me h in
     let t2 = setting r2.members r2.me h in
@@ -55,7 +60,7 @@ returns-clause-notes g c = λ told h node means represents owned.
     let base = acted_on s node (Tick now) in
     let stored = portion_of s node.met node.stored in
     let acted = tick_acts s node now t1 t2 r0.voter.logs.kept r1.voter.logs.kept r2.voter.logs.kept r0.leases r2.leases version (g.V.Versions.version r2.rows.rows) progress (progress_at r2.rows.progress) own_open begun
-    c.in_ok-work.work operations represents (c.replace-opened.ensures.value ∙ sym represents.opened) t1_is t2_is (λ i. (c.in_ok-work.ensures.voter i).logs.kept) (c.in_ok-work.ensures.indexed ∙ c.in_ok-made.ensures.indexed) made1.begun made1.stands.tells
+    c.in_ok-work.work operations represents (c.replace-opened.ensures.value ∙ sym represents.opened) t1_is t2_is (λ i. (c.in_ok-work.ensures.voter i).logs.kept) (c.in_ok-work.ensures.indexed ∙ c.in_ok-made.ensures.indexed) made1.begun made1.stands.stands.tells
     (c.in_ok-work.ensures.state told h base stored means about made1.stands) (c.in_ok-work.ensures.work told h base stored means about made1.stands) in
     let is = tick_is s node now t2 c.in_ok-made.made.opening c.in_ok-made.made.closing (t2_is ∙ t1_is) made1.opening made1.closing in
     let groups = behind true node.met node.stored in
@@ -67,7 +72,8 @@ returns-clause-notes g c = λ told h node means represents owned.
     made.notes ∙ ap (λ (step : RuleStep). step.notes) is
 
 pub returns-clause-sends : goal.returns-clause-sends
-returns-clause-sends g c = λ told h node means represents owned.
+returns-clause-sends g c = λ told h node means stands owned.
+    let represents = stands.within in
     let r0 = c.args.self.now.replica in
     let r1 = c.ticks.new.replica in
     let r2 = c.acts_ticked.new.replica in
@@ -78,7 +84,7 @@ returns-clause-sends g c = λ told h node means represents owned.
     let now = c.args.now in
     let s = setting r0.members r0.me h in
     let keeps = represents_keeps s r0.voter.logs.kept r0.leases version progress own_open begun node represents in
-    let groups_are = c.in_ok-groups.ensures node.met node.stored keeps in
+    let groups_are = c.in_ok-groups.ensures node.met node.stored keeps stands.lagging in
     let made1 = c.in_ok-made.ensures.ticked h node own_open begun represents groups_are owned in
     let t1 = setting r1.members r1.me h in
     let t2 = setting r2.members r2.me h in
@@ -89,7 +95,7 @@ returns-clause-sends g c = λ told h node means represents owned.
     let base = acted_on s node (Tick now) in
     let stored = portion_of s node.met node.stored in
     let acted = tick_acts s node now t1 t2 r0.voter.logs.kept r1.voter.logs.kept r2.voter.logs.kept r0.leases r2.leases version (g.V.Versions.version r2.rows.rows) progress (progress_at r2.rows.progress) own_open begun
-    c.in_ok-work.work operations represents (c.replace-opened.ensures.value ∙ sym represents.opened) t1_is t2_is (λ i. (c.in_ok-work.ensures.voter i).logs.kept) (c.in_ok-work.ensures.indexed ∙ c.in_ok-made.ensures.indexed) made1.begun made1.stands.tells
+    c.in_ok-work.work operations represents (c.replace-opened.ensures.value ∙ sym represents.opened) t1_is t2_is (λ i. (c.in_ok-work.ensures.voter i).logs.kept) (c.in_ok-work.ensures.indexed ∙ c.in_ok-made.ensures.indexed) made1.begun made1.stands.stands.tells
     (c.in_ok-work.ensures.state told h base stored means about made1.stands) (c.in_ok-work.ensures.work told h base stored means about made1.stands) in
     let is = tick_is s node now t2 c.in_ok-made.made.opening c.in_ok-made.made.closing (t2_is ∙ t1_is) made1.opening made1.closing in
     let groups = behind true node.met node.stored in
@@ -101,7 +107,8 @@ returns-clause-sends g c = λ told h node means represents owned.
     made.sends ∙ ap (λ (step : RuleStep). step.sends) is
 
 pub returns-clause-state : goal.returns-clause-state
-returns-clause-state g c = λ told h node means represents owned.
+returns-clause-state g c = λ told h node means stands owned.
+    let represents = stands.within in
     let r0 = c.args.self.now.replica in
     let r1 = c.ticks.new.replica in
     let r2 = c.acts_ticked.new.replica in
@@ -112,7 +119,7 @@ returns-clause-state g c = λ told h node means represents owned.
     let now = c.args.now in
     let s = setting r0.members r0.me h in
     let keeps = represents_keeps s r0.voter.logs.kept r0.leases version progress own_open begun node represents in
-    let groups_are = c.in_ok-groups.ensures node.met node.stored keeps in
+    let groups_are = c.in_ok-groups.ensures node.met node.stored keeps stands.lagging in
     let made1 = c.in_ok-made.ensures.ticked h node own_open begun represents groups_are owned in
     let t1 = setting r1.members r1.me h in
     let t2 = setting r2.members r2.me h in
@@ -123,7 +130,7 @@ returns-clause-state g c = λ told h node means represents owned.
     let base = acted_on s node (Tick now) in
     let stored = portion_of s node.met node.stored in
     let acted = tick_acts s node now t1 t2 r0.voter.logs.kept r1.voter.logs.kept r2.voter.logs.kept r0.leases r2.leases version (g.V.Versions.version r2.rows.rows) progress (progress_at r2.rows.progress) own_open begun
-    c.in_ok-work.work operations represents (c.replace-opened.ensures.value ∙ sym represents.opened) t1_is t2_is (λ i. (c.in_ok-work.ensures.voter i).logs.kept) (c.in_ok-work.ensures.indexed ∙ c.in_ok-made.ensures.indexed) made1.begun made1.stands.tells
+    c.in_ok-work.work operations represents (c.replace-opened.ensures.value ∙ sym represents.opened) t1_is t2_is (λ i. (c.in_ok-work.ensures.voter i).logs.kept) (c.in_ok-work.ensures.indexed ∙ c.in_ok-made.ensures.indexed) made1.begun made1.stands.stands.tells
     (c.in_ok-work.ensures.state told h base stored means about made1.stands) (c.in_ok-work.ensures.work told h base stored means about made1.stands) in
     let is = tick_is s node now t2 c.in_ok-made.made.opening c.in_ok-made.made.closing (t2_is ∙ t1_is) made1.opening made1.closing in
     let groups = behind true node.met node.stored in
@@ -132,11 +139,18 @@ returns-clause-state g c = λ told h node means represents owned.
     ∙ at_behind (has_rows r0.members r0.me) node.met node.stored (before_at node.met node.stored)) in
     let noted = watched_noted s t2 node groups c.in_ok-before.before (has_ticked s node now) (t2_is ∙ t1_is) before (tick_noted s node now (map (before_at node.met node.stored) groups) made1.groups made1.logs acted.acted refl) in
     let made = c.in_ok-step.ensures.made h node (Ticks now) (lease_notes s node.met now) (lapse_notes s node.met now) (has_ticked s node now) noted acted made1.notes (tick_may s node now _ is) in
+    let others = others_kept s t2 node groups c.in_ok-before.before c.args.self.now.lagging (has_ticked s node now) (t2_is ∙ t1_is) before
+    (λ rows group none whole. tick_kept s node now rows (few_stored version progress node.met node.stored represents.follows) (subst (All IsServable) (sym represents.opened) represents.built) made1.logs acted.acted group whole) stands.lagging in
+    let lag = c.in_ok-step.ensures.lagging h node (Ticks now) (lease_notes s node.met now) (lapse_notes s node.met now) (has_ticked s node now) acted others in
     let new = c.ends.new.self in
-    subst (λ (step : RuleStep). Represents (setting new.replica.members new.replica.me h) new.replica.voter.logs.kept new.replica.leases new.replica.indexed (g.V.Versions.version new.replica.rows.rows) (progress_at new.replica.rows.progress) new.open new.begun step.node) is made.state
+    record {
+      within = subst (λ (step : RuleStep). Represents (setting new.replica.members new.replica.me h) new.replica.voter.logs.kept new.replica.leases new.replica.indexed new.replica.digest (g.V.Versions.version new.replica.rows.rows) (progress_at new.replica.rows.progress) new.open new.begun step.node) is made.state;
+      lagging = subst (λ (step : RuleStep). KnowsLagging new.replica.members new.replica.me new.lagging step.node.met step.node.stored) is lag;
+    }
 
 pub returns-clause-staged : goal.returns-clause-staged
-returns-clause-staged g c = λ told h node since means represents owned stages.
+returns-clause-staged g c = λ told h node since means stands owned stages.
+    let represents = stands.within in
     let r0 = c.args.self.now.replica in
     let r1 = c.ticks.new.replica in
     let r2 = c.acts_ticked.new.replica in
@@ -147,7 +161,7 @@ returns-clause-staged g c = λ told h node since means represents owned stages.
     let now = c.args.now in
     let s = setting r0.members r0.me h in
     let keeps = represents_keeps s r0.voter.logs.kept r0.leases version progress own_open begun node represents in
-    let groups_are = c.in_ok-groups.ensures node.met node.stored keeps in
+    let groups_are = c.in_ok-groups.ensures node.met node.stored keeps stands.lagging in
     let made1 = c.in_ok-made.ensures.ticked h node own_open begun represents groups_are owned in
     let t1 = setting r1.members r1.me h in
     let t2 = setting r2.members r2.me h in
@@ -158,7 +172,7 @@ returns-clause-staged g c = λ told h node since means represents owned stages.
     let base = acted_on s node (Tick now) in
     let stored = portion_of s node.met node.stored in
     let acted = tick_acts s node now t1 t2 r0.voter.logs.kept r1.voter.logs.kept r2.voter.logs.kept r0.leases r2.leases version (g.V.Versions.version r2.rows.rows) progress (progress_at r2.rows.progress) own_open begun
-    c.in_ok-work.work operations represents (c.replace-opened.ensures.value ∙ sym represents.opened) t1_is t2_is (λ i. (c.in_ok-work.ensures.voter i).logs.kept) (c.in_ok-work.ensures.indexed ∙ c.in_ok-made.ensures.indexed) made1.begun made1.stands.tells
+    c.in_ok-work.work operations represents (c.replace-opened.ensures.value ∙ sym represents.opened) t1_is t2_is (λ i. (c.in_ok-work.ensures.voter i).logs.kept) (c.in_ok-work.ensures.indexed ∙ c.in_ok-made.ensures.indexed) made1.begun made1.stands.stands.tells
     (c.in_ok-work.ensures.state told h base stored means about made1.stands) (c.in_ok-work.ensures.work told h base stored means about made1.stands) in
     let is = tick_is s node now t2 c.in_ok-made.made.opening c.in_ok-made.made.closing (t2_is ∙ t1_is) made1.opening made1.closing in
     let mid = coe 1 0 (i. Stages (c.in_ok-work.ensures.voter i).logs.staged.items since base) (c.in_ok-made.ensures.staged h node own_open begun since represents stages) in

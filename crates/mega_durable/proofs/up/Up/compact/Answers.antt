@@ -9,19 +9,22 @@ pub returns-in-Ok-clause-state : goal.returns-in-Ok-clause-state
 returns-in-Ok-clause-state g c = λ h node up.
     let old = c.args.self.now.node in
     record {
-      stands = subst (λ (kept : Kept). Represents (setting old.replica.members old.replica.me h) kept old.replica.leases old.replica.indexed (g.V.Versions.version old.replica.rows.rows) (progress_at old.replica.rows.progress) old.open old.begun node)
-          (sym c.in-Ok.ensures.kept) up.stands;
+      stands = record {
+        within = subst (λ (kept : Kept). Represents (setting old.replica.members old.replica.me h) kept old.replica.leases old.replica.indexed old.replica.digest (g.V.Versions.version old.replica.rows.rows) (progress_at old.replica.rows.progress) old.open old.begun node)
+            (sym c.in-Ok.ensures.kept) up.stands.within;
+        lagging = up.stands.lagging;
+      };
       empty = c.in-Ok.ensures.staged ∙ up.empty;
       ready = c.in-Ok.ensures.still_open ∙ up.ready;
-      holds = λ seen. c.in-Ok.ensures.holds seen node.met up.stands.tells (up.holds seen);
+      holds = λ seen. c.in-Ok.ensures.holds seen node.met up.stands.within.tells (up.holds seen);
       granted = up.granted;
     }
 
 pub returns-in-Ok-clause-cut : goal.returns-in-Ok-clause-cut
-returns-in-Ok-clause-cut g c = λ seen h node up. c.in-Ok.ensures.any_moment seen up.ready node.met up.stands.tells (up.holds seen)
+returns-in-Ok-clause-cut g c = λ seen h node up. c.in-Ok.ensures.any_moment seen up.ready node.met up.stands.within.tells (up.holds seen)
 
 pub returns-in-Err-clause-cut : goal.returns-in-Err-clause-cut
-returns-in-Err-clause-cut g c = λ seen h node up. c.in-Err.ensures.any_moment seen up.ready node.met up.stands.tells (up.holds seen)
+returns-in-Err-clause-cut g c = λ seen h node up. c.in-Err.ensures.any_moment seen up.ready node.met up.stands.within.tells (up.holds seen)
 
 pub returns-in-Err-clause-formed : goal.returns-in-Err-clause-formed
-returns-in-Err-clause-formed g c = λ seen is h node up. c.in-Err.ensures.formed is node.met up.stands.tells (up.holds seen)
+returns-in-Err-clause-formed g c = λ seen is h node up. c.in-Err.ensures.formed is node.met up.stands.within.tells (up.holds seen)

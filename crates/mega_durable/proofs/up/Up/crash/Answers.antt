@@ -12,8 +12,8 @@ returns-clause-may g c = λ h node is.
     let rows = one.replica.rows in
     record {
       owes = tt;
-      recalls = crash_recalled one.replica.voter.logs.kept (start_of node.met) node.met (told_recalled one.replica.voter.logs.kept node.met is.stands.tells);
+      recalls = crash_recalled one.replica.voter.logs.kept (start_of node.met) node.met (told_recalled one.replica.voter.logs.kept node.met is.stands.within.tells);
       ready = is.ready;
       holds = λ told. crash_held (g.R.Records.list (records_in one)) (start_of node.met) node.met (is.holds told);
-      rows = crash_followed one.replica.members one.replica.me (g.V.Versions.version rows.rows) (progress_at rows.progress) node.met node.stored is.stands.follows is.stands.kind.bare;
+      rows = crash_followed one.replica.members one.replica.me (g.V.Versions.version rows.rows) (progress_at rows.progress) node.met node.stored is.stands.within.follows is.stands.within.kind.bare;
     }

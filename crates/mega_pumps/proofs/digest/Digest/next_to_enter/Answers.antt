@@ -10,13 +10,13 @@ use Rattle.mega_pumps.proofs.digest.Digest.next_to_enter.Goals as goal
 pub returns-in_ok-picked-in-Some-clause-picked : goal.returns-in_ok-picked-in-Some-clause-picked
 returns-in_ok-picked-in-Some-clause-picked g c = λ now tells follows kept is.
     let logs = applied_of now in
-    let rep = c.in_ok-catch_up.ensures.applied now.met now.stored tells follows kept is in
+    let rep = c.in_ok-follow.ensures.applied now.met now.stored tells follows kept is in
     let all = subst (AreAll logs) (sym is) (all_applied now) in
     c.in_ok-picked-in-Some.ensures ∙ ap picked_message (c.in-Some.ensures logs rep all ∙ ap (λ (groups : List GroupId). next_to_enter c.args.op (logs_of logs groups)) is)
 
 pub returns-in-None-clause-picked : goal.returns-in-None-clause-picked
 returns-in-None-clause-picked g c = λ now tells follows kept is.
     let logs = applied_of now in
-    let rep = c.in_ok-catch_up.ensures.applied now.met now.stored tells follows kept is in
+    let rep = c.in_ok-follow.ensures.applied now.met now.stored tells follows kept is in
     let all = subst (AreAll logs) (sym is) (all_applied now) in
     ap picked_message (c.in-None.ensures logs rep all ∙ ap (λ (groups : List GroupId). next_to_enter c.args.op (logs_of logs groups)) is)
