@@ -11,7 +11,7 @@ ghost use Rattle.mega_rules.specs.Operations.{Now, Proposes, Reads};
 ghost use Rattle.mega_rules.specs.Acting.{acts, acts_within, completes_read, finishes, goes_on, reader_of, reads_on, seeks_on, unless_decided};
 ghost use Rattle.mega_replica.specs.Applying.{applied};
 ghost use Rattle.mega_read.specs.Catching.{seeks};
-ghost use Rattle.mega_replica.specs.Faring.{Fares};
+ghost use Rattle.mega_replica.specs.Used.{StoreUsed};
 ghost use Rattle.mega_finishing.specs.declared.fault.ActFault.TheVariants.{NoMemory as OutOfMemory, Unserved};
 ghost use Rattle.mega_finishing.specs.of_voter.Telling.{Tells};
 ghost use Rattle.mega_actions.specs.Acted.{Acted};
@@ -20,7 +20,7 @@ ghost use Rattle.mega_finishing.specs.of_proposing.Servable.{is_open, is_pump};
 ghost use Rattle.mega_actions.specs.Later.{later};
 ghost use Rattle.mega_finishing.specs.Faults.{failed_by};
 ghost use Rattle.mega_actions.specs.IsAt.{IsAt, setting_of};
-ghost use Rattle.mega_finishing.specs.of_proposing.Deeds.{does};
+ghost use Rattle.mega_finishing.specs.of_proposing.Actions.{does};
 ghost use Rattle.mega_finishing.specs.of_proposing.Reaching.{operation_of};
 ghost use Rattle.mega_finishing.specs.of_proposing.Settings.{setting};
 ghost use Rattle.mega_finishing.specs.of_proposing.Working.{work_of};
@@ -30,7 +30,7 @@ use mega_base::{GroupId, NoMemory, OpId, Position};
 use mega_disk::{Records, Versions};
 use mega_finishing::mega_operations::{Kept, Members, Operation, Phase};
 use mega_finishing::mega_proposing::{
-    Deed, End, Proposing, Reached, Work, is_pump, unless_decided,
+    Action, CompleteRead, End, Proposing, Work, is_pump, unless_decided,
 };
 use mega_finishing::mega_voter::Voter;
 use mega_finishing::{ActFault, goes, pumps, reads_through, takes};
@@ -71,15 +71,15 @@ fn seeks(
     group: GroupId,
     reading: Reading,
     least: u64,
-) -> Result<Deed, NoMemory>
-    ensures { IfOk result (λ deed. (me : _) (h : Meanings) (now : Now) → clock ≡ clock_of now.met →
-        does now deed ≡ seeks_on (whole kept (Reads group reading)) now group (seeks (reader_of (setting members.now me h) kept.id group) reading least (clock_of now.met))) }
+) -> Result<Action, NoMemory>
+    ensures { IfOk result (λ action. (me : _) (h : Meanings) (now : Now) → clock ≡ clock_of now.met →
+        does now action ≡ seeks_on (whole kept (Reads group reading)) now group (seeks (reader_of (setting members.now me h) kept.id group) reading least (clock_of now.met))) }
 {
     match sought(alloc, members, clock, kept.id, &group, reading, least) {
         Ok(made) => {
             let mega_read::Move { reading, sends } = made;
             let operation = kept.in_phase(Phase::Reads { group, reading });
-            Ok(Deed {
+            Ok(Action {
                 sends: Some(sends),
                 end: End::Stays(operation),
             })
@@ -104,8 +104,8 @@ fn checks<R: Records>(
     ensures memory { OnErr result (result ≡ Err OutOfMemory) }
 {
     let found = voter.decided(&own.group, Position(own.position));
-    let deed = unless_decided(kept, own, None, found);
-    work.does(deed)?;
+    let action = unless_decided(kept, own, None, found);
+    work.does(action)?;
     Ok(())
 }
 
@@ -120,20 +120,20 @@ fn is_reached(through: u64, prefix: u64) -> bool
 
 impl<R: Records, V: Versions> Replica<R, V> {
     /// A pump whose read is complete goes on to what it asks; where it picks again, its operation comes back.
-    #[tactic(auto, using(mega_finishing::proofs::Refused::fares_unkept))]
+    #[tactic(auto, using(mega_finishing::proofs::Refused::used_unkept))]
     fn pumps<H: QueueHandlers>(
         &mut self,
         alloc: Global,
         handlers: &mut H,
         work: &mut Work,
-        reached: Reached,
+        reached: CompleteRead,
     ) -> Result<Option<Operation>, ActFault>
         ensures acted { IfOk result (λ next. (h : Meanings) (now : Now) → V.is_told ≡ true → Means (H.meant handlers.old) h → is_pump reached.kept.request ≡ true →
             reached.position ≤ applied (log_of now.met reached.group) (now.stored reached.group) → IsAt V.version h self.old now.met now.stored →
             Acted V.version h self.new work.old work.new now (λ again. finishes (setting_of self.old h) again now (operation_of reached) reached.group reached.reading reached.position) next) }
         ensures asked { IfOk result (λ next. IsNextAsked next reached.kept.request) }
         ensures handlers { H.meant handlers.new ≡ H.meant handlers.old }
-        ensures fares { Fares V.Versions (failed_by result) self.old.rows.rows self.new.rows.rows }
+        ensures used { StoreUsed V.Versions (failed_by result) self.old.rows.rows self.new.rows.rows }
         ensures members { self.new.members ≡ self.old.members }
         ensures me { self.new.me ≡ self.old.me }
         ensures voter { self.new.voter ≡ self.old.voter }
@@ -160,14 +160,14 @@ impl<R: Records, V: Versions> Replica<R, V> {
         alloc: Global,
         handlers: &mut H,
         work: &mut Work,
-        reached: Reached,
+        reached: CompleteRead,
     ) -> Result<Option<Operation>, ActFault>
         ensures acted { IfOk result (λ next. (h : Meanings) (now : Now) → V.is_told ≡ true → Means (H.meant handlers.old) h → IsOf reached.kept.request reached.group →
             reached.position ≤ applied (log_of now.met reached.group) (now.stored reached.group) → IsAt V.version h self.old now.met now.stored →
             Acted V.version h self.new work.old work.new now (λ again. finishes (setting_of self.old h) again now (operation_of reached) reached.group reached.reading reached.position) next) }
         ensures asked { IfOk result (λ next. IsNextAsked next reached.kept.request) }
         ensures handlers { H.meant handlers.new ≡ H.meant handlers.old }
-        ensures fares { Fares V.Versions (failed_by result) self.old.rows.rows self.new.rows.rows }
+        ensures used { StoreUsed V.Versions (failed_by result) self.old.rows.rows self.new.rows.rows }
         ensures members { self.new.members ≡ self.old.members }
         ensures me { self.new.me ≡ self.old.me }
         ensures voter { self.new.voter ≡ self.old.voter }
@@ -197,14 +197,14 @@ impl<R: Records, V: Versions> Replica<R, V> {
         alloc: Global,
         handlers: &mut H,
         work: &mut Work,
-        reached: Reached,
+        reached: CompleteRead,
     ) -> Result<Option<Operation>, ActFault>
         ensures acted { IfOk result (λ next. (h : Meanings) (now : Now) → V.is_told ≡ true → Means (H.meant handlers.old) h → IsOf reached.kept.request reached.group →
             reached.position ≤ prefix_of now.met reached.group → IsAt V.version h self.old now.met now.stored →
             Acted V.version h self.new work.old work.new now (λ again. finishes (setting_of self.old h) again (completes_read (setting_of self.old h) now reached.group reached.reading reached.position) (operation_of reached) reached.group reached.reading reached.position) next) }
         ensures asked { IfOk result (λ next. IsNextAsked next reached.kept.request) }
         ensures handlers { H.meant handlers.new ≡ H.meant handlers.old }
-        ensures fares { Fares V.Versions (failed_by result) self.old.rows.rows self.new.rows.rows }
+        ensures used { StoreUsed V.Versions (failed_by result) self.old.rows.rows self.new.rows.rows }
         ensures members { self.new.members ≡ self.old.members }
         ensures me { self.new.me ≡ self.old.me }
         ensures voter { self.new.voter ≡ self.old.voter }
@@ -230,7 +230,7 @@ impl<R: Records, V: Versions> Replica<R, V> {
     }
 
     /// An operation reads on.
-    #[tactic(auto, using(mega_replica::proofs::Fared::fares_here, mega_finishing::proofs::Refused::fares_unkept))]
+    #[tactic(auto, using(mega_replica::proofs::Using::used_here, mega_finishing::proofs::Refused::used_unkept))]
     fn reads_on<H: QueueHandlers>(
         &mut self,
         alloc: Global,
@@ -244,7 +244,7 @@ impl<R: Records, V: Versions> Replica<R, V> {
             Acted V.version h self.new work.old work.new now (λ again. reads_on (setting_of self.old h) again now (whole kept (Reads group reading)) group reading) next) }
         ensures asked { IfOk result (λ next. IsNextAsked next kept.request) }
         ensures handlers { H.meant handlers.new ≡ H.meant handlers.old }
-        ensures fares { Fares V.Versions (failed_by result) self.old.rows.rows self.new.rows.rows }
+        ensures used { StoreUsed V.Versions (failed_by result) self.old.rows.rows self.new.rows.rows }
         ensures members { self.new.members ≡ self.old.members }
         ensures me { self.new.me ≡ self.old.me }
         ensures voter { self.new.voter ≡ self.old.voter }
@@ -253,7 +253,7 @@ impl<R: Records, V: Versions> Replica<R, V> {
     {
         let Some(through) = reading.through_of() else {
             let operation = kept.in_phase(Phase::Reads { group, reading });
-            work.does(Deed {
+            work.does(Action {
                 sends: None,
                 end: End::Stays(operation),
             })?;
@@ -261,7 +261,7 @@ impl<R: Records, V: Versions> Replica<R, V> {
         };
         let prefix = self.voter.prefix(&group).0;
         if is_reached(through, prefix) {
-            let reached = Reached {
+            let reached = CompleteRead {
                 kept,
                 group,
                 reading,
@@ -271,7 +271,7 @@ impl<R: Records, V: Versions> Replica<R, V> {
             return Ok(next);
         }
         let clock = self.leases.now();
-        let deed = seeks(
+        let action = seeks(
             alloc,
             &self.members,
             clock,
@@ -280,13 +280,13 @@ impl<R: Records, V: Versions> Replica<R, V> {
             reading,
             prefix + 1,
         )?;
-        work.does(deed)?;
+        work.does(action)?;
         Ok(None)
     }
 
     /// An operation acts once: one whose position is decided ends, and one that reads completes its read, or seeks what is not
     /// decided. A pump that picks again comes back, to act again in the same step.
-    #[tactic(auto, using(mega_replica::proofs::Fared::fares_here, mega_finishing::proofs::Refused::fares_unkept))]
+    #[tactic(auto, using(mega_replica::proofs::Using::used_here, mega_finishing::proofs::Refused::used_unkept))]
     fn acts_once<H: QueueHandlers>(
         &mut self,
         alloc: Global,
@@ -298,7 +298,7 @@ impl<R: Records, V: Versions> Replica<R, V> {
             Acted V.version h self.new work.old work.new now (λ again. acts (setting_of self.old h) again now operation) next) }
         ensures asked { IfOk result (λ next. IsNextAsked next operation.request) }
         ensures handlers { H.meant handlers.new ≡ H.meant handlers.old }
-        ensures fares { Fares V.Versions (failed_by result) self.old.rows.rows self.new.rows.rows }
+        ensures used { StoreUsed V.Versions (failed_by result) self.old.rows.rows self.new.rows.rows }
         ensures members { self.new.members ≡ self.old.members }
         ensures me { self.new.me ≡ self.old.me }
         ensures voter { self.new.voter ≡ self.old.voter }
@@ -343,7 +343,7 @@ impl<R: Records, V: Versions> Replica<R, V> {
         ensures acted { OnOk result ((h : Meanings) (now : Now) → V.is_told ≡ true → Means (H.meant handlers.old) h → IsAbout operation → IsAt V.version h self.old now.met now.stored →
             Acted V.version h self.new work.old work.new now (λ again. acts_within most (setting_of self.old h) now operation) None) }
         ensures handlers { H.meant handlers.new ≡ H.meant handlers.old }
-        ensures fares { Fares V.Versions (failed_by result) self.old.rows.rows self.new.rows.rows }
+        ensures used { StoreUsed V.Versions (failed_by result) self.old.rows.rows self.new.rows.rows }
         ensures members { self.new.members ≡ self.old.members }
         ensures me { self.new.me ≡ self.old.me }
         ensures voter { self.new.voter ≡ self.old.voter }
@@ -358,7 +358,7 @@ impl<R: Records, V: Versions> Replica<R, V> {
                 Err(fault) => return Err(fault),
             }
         }
-        work.does(Deed {
+        work.does(Action {
             sends: None,
             end: End::Stays(next),
         })?;
@@ -381,7 +381,7 @@ impl<R: Records, V: Versions> Replica<R, V> {
             IsAt V.version h self.old now.met now.stored →
             work.old ≡ work_of now → work.new ≡ work_of (goes_on (setting_of self.old h) now operation)) }
         ensures handlers { H.meant handlers.new ≡ H.meant handlers.old }
-        ensures fares { Fares V.Versions (failed_by result) self.old.rows.rows self.new.rows.rows }
+        ensures used { StoreUsed V.Versions (failed_by result) self.old.rows.rows self.new.rows.rows }
         ensures members { self.new.members ≡ self.old.members }
         ensures me { self.new.me ≡ self.old.me }
         ensures voter { self.new.voter ≡ self.old.voter }
@@ -410,7 +410,7 @@ impl<R: Records, V: Versions> Replica<R, V> {
             IsAt V.version h self.old now.met now.stored →
             Acted V.version h self.new work.old work.new now (λ again. later (setting_of self.old h) before now operation) None) }
         ensures handlers { H.meant handlers.new ≡ H.meant handlers.old }
-        ensures fares { Fares V.Versions (failed_by result) self.old.rows.rows self.new.rows.rows }
+        ensures used { StoreUsed V.Versions (failed_by result) self.old.rows.rows self.new.rows.rows }
         ensures members { self.new.members ≡ self.old.members }
         ensures me { self.new.me ≡ self.old.me }
         ensures voter { self.new.voter ≡ self.old.voter }

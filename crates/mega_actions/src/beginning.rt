@@ -8,7 +8,7 @@ ghost use Rattle.mega_rules.specs.Operations.{Now, Operation as Open};
 ghost use Rattle.mega_rules.specs.Acting.{read_begun};
 ghost use Rattle.mega_finishing.specs.of_node_laws.About.{IsOf};
 ghost use Rattle.mega_rules.specs.Steps.{begins, new_operation};
-ghost use Rattle.mega_replica.specs.Faring.{Fares};
+ghost use Rattle.mega_replica.specs.Used.{StoreUsed};
 ghost use Rattle.mega_finishing.specs.of_voter.Telling.{Tells};
 ghost use Rattle.mega_finishing.specs.declared.fault.ActFault.TheVariants.{Unserved};
 ghost use Rattle.mega_finishing.specs.of_proposing.Servable.{is_at_once, is_served, is_indexed, is_plain, is_pump};
@@ -23,7 +23,7 @@ use mega_base::{Copied, GroupId, Items, NoMemory, OpId};
 use mega_disk::{Records, Versions};
 use mega_finishing::mega_operations::{Heard, Kept, Operation, Phase};
 use mega_finishing::mega_proposing::{
-    Deed, End, Work, group_asked, is_at_once, is_indexed, is_pump, read_begun,
+    Action, End, Work, group_asked, is_at_once, is_indexed, is_pump, read_begun,
 };
 use mega_finishing::{ActFault, Pumped, answer_now, indexed_answer, is_entering, picks};
 use mega_meanings::QueueHandlers;
@@ -65,7 +65,7 @@ struct FirstRead {
 impl<R: Records, V: Versions> Replica<R, V> {
     /// A request begins: a find in no group, a refresh, and a read or find that asks for no current rows are answered
     /// at once; any other reads its group, and goes on in the same step where that read is local.
-    #[tactic(auto, using(mega_replica::proofs::Fared::fares_here, mega_finishing::proofs::Refused::fares_apart))]
+    #[tactic(auto, using(mega_replica::proofs::Using::used_here, mega_finishing::proofs::Refused::used_apart))]
     pub fn begins<H: QueueHandlers>(
         &mut self,
         alloc: Global,
@@ -82,7 +82,7 @@ impl<R: Records, V: Versions> Replica<R, V> {
             IsAt V.version h self.old now.met now.stored → IsIndexed (self.old.members).schema self.old.indexed now.met →
             work.old ≡ work_of now → work.new ≡ work_of (begins (setting_of self.old h) now (new_operation op request (clock_of now.met)))) }
         ensures handlers { H.meant handlers.new ≡ H.meant handlers.old }
-        ensures fares { Fares V.Versions (failed_by result) self.old.rows.rows self.new.rows.rows }
+        ensures used { StoreUsed V.Versions (failed_by result) self.old.rows.rows self.new.rows.rows }
         ensures members { self.new.members ≡ self.old.members }
         ensures me { self.new.me ≡ self.old.me }
         ensures voter { self.new.voter ≡ self.old.voter }
@@ -124,7 +124,7 @@ impl<R: Records, V: Versions> Replica<R, V> {
     }
 
     /// A pump begins: it picks, and reads the group of that in the same step where that read is local.
-    #[tactic(auto, using(mega_replica::proofs::Fared::fares_here, mega_finishing::proofs::Refused::fares_apart))]
+    #[tactic(auto, using(mega_replica::proofs::Using::used_here, mega_finishing::proofs::Refused::used_apart))]
     fn begins_pump<H: QueueHandlers>(
         &mut self,
         alloc: Global,
@@ -141,7 +141,7 @@ impl<R: Records, V: Versions> Replica<R, V> {
             IsAt V.version h self.old now.met now.stored →
             work.old ≡ work_of now → work.new ≡ work_of (begins (setting_of self.old h) now (new_operation op request (clock_of now.met)))) }
         ensures handlers { H.meant handlers.new ≡ H.meant handlers.old }
-        ensures fares { Fares V.Versions (failed_by result) self.old.rows.rows self.new.rows.rows }
+        ensures used { StoreUsed V.Versions (failed_by result) self.old.rows.rows self.new.rows.rows }
         ensures members { self.new.members ≡ self.old.members }
         ensures me { self.new.me ≡ self.old.me }
         ensures voter { self.new.voter ≡ self.old.voter }
@@ -171,8 +171,8 @@ impl<R: Records, V: Versions> Replica<R, V> {
             entering,
         )?;
         match pumped {
-            Pumped::Done(deed) => {
-                work.does(deed)?;
+            Pumped::Done(action) => {
+                work.does(action)?;
                 Ok(())
             }
             Pumped::Again(heard) => {
@@ -197,7 +197,7 @@ impl<R: Records, V: Versions> Replica<R, V> {
         ensures work { OnOk result ((h : Meanings) (now : Now) → V.is_told ≡ true → is_indexed request.now ≡ true →
             IsAt V.version h self.old now.met now.stored → IsIndexed (self.old.members).schema self.old.indexed now.met →
             work.old ≡ work_of now → work.new ≡ work_of (begins (setting_of self.old h) now (new_operation op request.now (clock_of now.met)))) }
-        ensures fares { Fares V.Versions (failed_by result) self.old.rows.rows self.new.rows.rows }
+        ensures used { StoreUsed V.Versions (failed_by result) self.old.rows.rows self.new.rows.rows }
         ensures members { self.new.members ≡ self.old.members }
         ensures me { self.new.me ≡ self.old.me }
         ensures voter { self.new.voter ≡ self.old.voter }
@@ -214,7 +214,7 @@ impl<R: Records, V: Versions> Replica<R, V> {
             &mut self.indexed,
             request,
         )?;
-        work.does(Deed {
+        work.does(Action {
             sends: None,
             end: End::Ends(op, answer),
         })?;
@@ -236,7 +236,7 @@ impl<R: Records, V: Versions> Replica<R, V> {
         ensures work { OnOk result ((h : Meanings) (now : Now) → V.is_told ≡ true → is_at_once request.now ≡ true →
             IsAt V.version h self.old now.met now.stored →
             work.old ≡ work_of now → work.new ≡ work_of (begins (setting_of self.old h) now (new_operation op request.now (clock_of now.met)))) }
-        ensures fares { Fares V.Versions (failed_by result) self.old.rows.rows self.new.rows.rows }
+        ensures used { StoreUsed V.Versions (failed_by result) self.old.rows.rows self.new.rows.rows }
         ensures members { self.new.members ≡ self.old.members }
         ensures me { self.new.me ≡ self.old.me }
         ensures voter { self.new.voter ≡ self.old.voter }
@@ -244,7 +244,7 @@ impl<R: Records, V: Versions> Replica<R, V> {
         ensures unserved { result ≡ Err Unserved → is_at_once request.now ≡ false }
     {
         let answer = answer_now(alloc, &self.members, &self.voter, &mut self.rows, request)?;
-        work.does(Deed {
+        work.does(Action {
             sends: None,
             end: End::Ends(op, answer),
         })?;
@@ -252,7 +252,7 @@ impl<R: Records, V: Versions> Replica<R, V> {
     }
 
     /// An operation begins with a current read of its group.
-    #[tactic(auto, using(mega_replica::proofs::Fared::fares_here, mega_finishing::proofs::Refused::fares_apart))]
+    #[tactic(auto, using(mega_replica::proofs::Using::used_here, mega_finishing::proofs::Refused::used_apart))]
     fn begins_read<H: QueueHandlers>(
         &mut self,
         alloc: Global,
@@ -269,7 +269,7 @@ impl<R: Records, V: Versions> Replica<R, V> {
             IsAt V.version h self.old now.met now.stored →
             work.old ≡ work_of now → work.new ≡ work_of (begins (setting_of self.old h) now (new_operation op request (clock_of now.met)))) }
         ensures handlers { H.meant handlers.new ≡ H.meant handlers.old }
-        ensures fares { Fares V.Versions (failed_by result) self.old.rows.rows self.new.rows.rows }
+        ensures used { StoreUsed V.Versions (failed_by result) self.old.rows.rows self.new.rows.rows }
         ensures members { self.new.members ≡ self.old.members }
         ensures me { self.new.me ≡ self.old.me }
         ensures voter { self.new.voter ≡ self.old.voter }

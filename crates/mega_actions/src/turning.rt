@@ -5,7 +5,7 @@ ghost use Rattle.mega_meanings.specs.Means.{Means};
 ghost use Rattle.mega_finishing.specs.of_node_laws.About.{IsAbout};
 ghost use Rattle.mega_rules.specs.Operations.{Now};
 ghost use Rattle.mega_rules.specs.Steps.{acts_in_turn, all_act, ticked};
-ghost use Rattle.mega_replica.specs.Faring.{Fares};
+ghost use Rattle.mega_replica.specs.Used.{StoreUsed};
 ghost use Rattle.mega_finishing.specs.declared.fault.ActFault.TheVariants.{Unserved};
 ghost use Rattle.mega_finishing.specs.of_proposing.Servable.{is_open};
 ghost use Rattle.mega_finishing.specs.Faults.{failed_by};
@@ -18,13 +18,13 @@ use mega_base::Items;
 use mega_disk::{Records, Versions};
 use mega_finishing::ActFault;
 use mega_finishing::mega_operations::{Heard, Operation};
-use mega_finishing::mega_proposing::{Deed, End, Work};
+use mega_finishing::mega_proposing::{Action, End, Work};
 use mega_meanings::QueueHandlers;
 use std::alloc::Global;
 
 impl<R: Records, V: Versions> Replica<R, V> {
     /// An operation acts that comes to something: what it sends for that goes out first.
-    #[tactic(auto, using(mega_replica::proofs::Fared::fares_here, mega_finishing::proofs::Refused::fares_unkept))]
+    #[tactic(auto, using(mega_replica::proofs::Using::used_here, mega_finishing::proofs::Refused::used_unkept))]
     pub fn acts_in_turn<H: QueueHandlers>(
         &mut self,
         alloc: Global,
@@ -40,7 +40,7 @@ impl<R: Records, V: Versions> Replica<R, V> {
             IsAt V.version h self.old now.met now.stored →
             work.old ≡ work_of now → work.new ≡ work_of (acts_in_turn (setting_of self.old h) now heard)) }
         ensures handlers { H.meant handlers.new ≡ H.meant handlers.old }
-        ensures fares { Fares V.Versions (failed_by result) self.old.rows.rows self.new.rows.rows }
+        ensures used { StoreUsed V.Versions (failed_by result) self.old.rows.rows self.new.rows.rows }
         ensures members { self.new.members ≡ self.old.members }
         ensures me { self.new.me ≡ self.old.me }
         ensures voter { self.new.voter ≡ self.old.voter }
@@ -61,7 +61,7 @@ impl<R: Records, V: Versions> Replica<R, V> {
     }
 
     /// Operations act one after another, each on what those before it left.
-    #[tactic(auto, using(mega_replica::proofs::Fared::fares_here))]
+    #[tactic(auto, using(mega_replica::proofs::Using::used_here))]
     pub fn all_act<H: QueueHandlers>(
         &mut self,
         alloc: Global,
@@ -77,7 +77,7 @@ impl<R: Records, V: Versions> Replica<R, V> {
             IsAt V.version h self.old now.met now.stored →
             work.old ≡ work_of now → work.new ≡ work_of (all_act (setting_of self.old h) now heard)) }
         ensures handlers { H.meant handlers.new ≡ H.meant handlers.old }
-        ensures fares { Fares V.Versions (failed_by result) self.old.rows.rows self.new.rows.rows }
+        ensures used { StoreUsed V.Versions (failed_by result) self.old.rows.rows self.new.rows.rows }
         ensures members { self.new.members ≡ self.old.members }
         ensures me { self.new.me ≡ self.old.me }
         ensures voter { self.new.voter ≡ self.old.voter }
@@ -91,7 +91,7 @@ impl<R: Records, V: Versions> Replica<R, V> {
     }
 
     /// An operation at a tick: it ends where its patience has ended, and else does what is due.
-    #[tactic(auto, using(mega_replica::proofs::Fared::fares_here, mega_finishing::proofs::Refused::fares_unkept))]
+    #[tactic(auto, using(mega_replica::proofs::Using::used_here, mega_finishing::proofs::Refused::used_unkept))]
     pub fn ticked<H: QueueHandlers>(
         &mut self,
         alloc: Global,
@@ -108,7 +108,7 @@ impl<R: Records, V: Versions> Replica<R, V> {
             IsAt V.version h self.old now.met now.stored →
             work.old ≡ work_of now → work.new ≡ work_of (ticked (setting_of self.old h) clock now operation)) }
         ensures handlers { H.meant handlers.new ≡ H.meant handlers.old }
-        ensures fares { Fares V.Versions (failed_by result) self.old.rows.rows self.new.rows.rows }
+        ensures used { StoreUsed V.Versions (failed_by result) self.old.rows.rows self.new.rows.rows }
         ensures members { self.new.members ≡ self.old.members }
         ensures me { self.new.me ≡ self.old.me }
         ensures voter { self.new.voter ≡ self.old.voter }
@@ -119,7 +119,7 @@ impl<R: Records, V: Versions> Replica<R, V> {
             let answer = operation.last_answer();
             let op = operation.id;
             drop(operation);
-            work.does(Deed {
+            work.does(Action {
                 sends: None,
                 end: End::Ends(op, answer),
             })?;
@@ -131,7 +131,7 @@ impl<R: Records, V: Versions> Replica<R, V> {
     }
 
     /// All open operations at a tick, one after another.
-    #[tactic(auto, using(mega_replica::proofs::Fared::fares_here))]
+    #[tactic(auto, using(mega_replica::proofs::Using::used_here))]
     pub fn all_ticked<H: QueueHandlers>(
         &mut self,
         alloc: Global,
@@ -148,7 +148,7 @@ impl<R: Records, V: Versions> Replica<R, V> {
             IsAt V.version h self.old now.met now.stored →
             work.old ≡ work_of now → work.new ≡ work_of (fold (ticked (setting_of self.old h) clock) now operations)) }
         ensures handlers { H.meant handlers.new ≡ H.meant handlers.old }
-        ensures fares { Fares V.Versions (failed_by result) self.old.rows.rows self.new.rows.rows }
+        ensures used { StoreUsed V.Versions (failed_by result) self.old.rows.rows self.new.rows.rows }
         ensures members { self.new.members ≡ self.old.members }
         ensures me { self.new.me ≡ self.old.me }
         ensures voter { self.new.voter ≡ self.old.voter }

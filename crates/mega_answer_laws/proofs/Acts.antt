@@ -18,7 +18,7 @@ use Rattle.mega_cause_laws.specs.of_run_laws.of_tape_laws.of_promises.of_rules.M
 use Rattle.mega_cause_laws.specs.of_run_laws.of_tape_laws.of_promises.of_rules.Operations.{Node, Now, Operation, Phase, Proposes, Reads, Setting}
 use Rattle.mega_cause_laws.specs.of_run_laws.of_tape_laws.of_promises.of_rules.Steps.{acts_in_turn, all_act, applied_position, begins, does_due, find_begins, hears_message, is_out, last_answer, local_find_begins, new_operation, read_begins, refusal, snapshot_listed, snapshot_rows, stored_listed, stored_rows, ticked, unless_refused}
 use Rattle.mega_wire.specs.declared.message.Message.{Message}
-use Rattle.mega_cause_laws.specs.of_run_laws.Vouched.{Each}
+use Rattle.mega_cause_laws.specs.of_run_laws.Justified.{Each}
 use Rattle.mega_cause_laws.proofs.of_run_laws.Turns.{IsRising}
 use Rattle.mega_answer_laws.proofs.Reasons.{IsSound, SoundReads}
 use Rattle.mega_answer_laws.proofs.Walk.{Acting, Turn, acting_sends, acting_up, begins_read_it, ends_at, goes_on_it, picks_group_it, picks_message_it}

@@ -55,7 +55,7 @@ use Rattle.mega_cause_laws.specs.of_run_laws.of_tape_laws.Writes.{Usage}
 use Rattle.mega_cause_laws.proofs.of_run_laws.of_tape_laws.Ballots.{number_self}
 use Rattle.mega_cause_laws.proofs.of_run_laws.of_tape_laws.Lists.{kept}
 use Rattle.mega_cause_laws.proofs.of_run_laws.of_tape_laws.Made.{proposed_here}
-use Rattle.mega_cause_laws.specs.of_run_laws.Vouched.{Each, sent}
+use Rattle.mega_cause_laws.specs.of_run_laws.Justified.{Each, sent}
 use Rattle.mega_cause_laws.proofs.of_run_laws.Answering.{with_answers}
 use Rattle.mega_cause_laws.proofs.of_run_laws.Opened.{at_place}
 use Rattle.mega_cause_laws.proofs.of_run_laws.Events.{onto_append}

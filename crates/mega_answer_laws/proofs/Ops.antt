@@ -16,7 +16,7 @@ use Rattle.mega_wal.specs.Same.{same_op}
 use Rattle.mega_wal.proofs.Sames.{same_op_equal, same_op_self}
 use Rattle.mega_wire.specs.declared.message.Message.{Message}
 use Rattle.mega_cause_laws.specs.of_run_laws.of_tape_laws.Places.{In}
-use Rattle.mega_cause_laws.specs.of_run_laws.Vouched.{Each, sent}
+use Rattle.mega_cause_laws.specs.of_run_laws.Justified.{Each, sent}
 use Rattle.mega_cause_laws.proofs.of_run_laws.Noted.{with_append}
 
 -- an operation of a node is asked for, begun and open as before, and what stood stands

@@ -26,7 +26,7 @@ use Rattle.mega_cause_laws.specs.of_run_laws.of_tape_laws.Answers.{LawfulAnswers
 use Rattle.mega_cause_laws.specs.of_run_laws.of_tape_laws.Writes.{Usage}
 use Rattle.mega_cause_laws.proofs.of_run_laws.of_tape_laws.Ballots.{number_is, number_self}
 use Rattle.mega_cause_laws.specs.of_run_laws.Usages.{Brought, Fits, IsMeant}
-use Rattle.mega_cause_laws.specs.of_run_laws.Vouched.{Each, sent}
+use Rattle.mega_cause_laws.specs.of_run_laws.Justified.{Each, sent}
 use Rattle.mega_cause_laws.proofs.of_run_laws.Noted.{tape_item, with_append, with_sent}
 use Rattle.mega_cause_laws.proofs.of_run_laws.Owned.{KnowsAll}
 use Rattle.mega_cause_laws.proofs.of_run_laws.Runs.{begin_good, both_true, crashes_good, fated_start_good, found, handed_good, marked_good, not_because, not_false, nothing_good, start_good, tick_good}
@@ -48,7 +48,7 @@ module _ (c : Cluster) (usage : Usage) where
   IsGood now = Good (those_of usage) c now
 
   -- answers since then have their causes, and the tape tells of the nodes
-  pub record Went (h : Meanings) (old new : Standing) : Type 0 where
+  pub record Proceeds (h : Meanings) (old new : Standing) : Type 0 where
     pub good : IsGood new
     pub told : AllTold c new
     pub since : Since (Caused c usage h) old.tape new.tape
@@ -110,9 +110,9 @@ module _ (c : Cluster) (usage : Usage) where
     cut_nodes = at_nodes (Crash (number me) ∷ item ∷ now.tape) now.node me fallen (cut_mine c now.node now.tape me (now.node me) item own o (t.nodes me))
         (λ v apart. cut_other c now.node now.tape me v (now.node v) item own o (λ x is. other v x apart is) apart (t.nodes v))
 
-    fated_went : (stepped : LawfulAnswers c usage end → KnowsAll me done.node.met end → Stepped c usage h now.tape now.node me done.node end) (replies : List Message) (fate : Fate)
-        → IsGood (fated c now me (item ∷ []) own done replies fate) → Went h now (fated c now me (item ∷ []) own done replies fate)
-    fated_went stepped replies Whole g' = record {
+    fated_proceeds : (stepped : LawfulAnswers c usage end → KnowsAll me done.node.met end → Stepped c usage h now.tape now.node me done.node end) (replies : List Message) (fate : Fate)
+        → IsGood (fated c now me (item ∷ []) own done replies fate) → Proceeds h now (fated c now me (item ∷ []) own done replies fate)
+    fated_proceeds stepped replies Whole g' = record {
       good = g';
       told = record {
         nodes = λ v. subst (λ r. NodeTold c r v (nodes' v)) (sym whole) (at_nodes end now.node me done.node st.mine (λ w apart. st.others w apart (t.nodes w)) v);
@@ -124,7 +124,7 @@ module _ (c : Cluster) (usage : Usage) where
         st : Stepped c usage h now.tape now.node me done.node end
         st = stepped (subst (LawfulAnswers c usage) whole (lawful_of _ g'))
             (λ group n e d. subst (Stands _) whole ((g'.node me).known group n e (ap (λ (x : Node). decided x.met group n) mine_is ∙ d)))
-    fated_went stepped replies (CutByLog left) g' = record {
+    fated_proceeds stepped replies (CutByLog left) g' = record {
       good = g';
       told = record {
         nodes = λ v. subst (λ r. NodeTold c r v (set_at now.node me fallen v)) (sym cut_tape) (cut_nodes v);
@@ -132,7 +132,7 @@ module _ (c : Cluster) (usage : Usage) where
       };
       since = subst (Since (Caused c usage h) now.tape) (sym cut_tape) cut_since;
     }
-    fated_went stepped replies (CutByData left) g' = record {
+    fated_proceeds stepped replies (CutByData left) g' = record {
       good = g';
       told = record {
         nodes = λ v. subst (λ r. NodeTold c r v (set_at now.node me fallen v)) (sym cut_tape) (cut_nodes v);
@@ -174,78 +174,78 @@ module _ (c : Cluster) (usage : Usage) where
   -- ---- events
 
   module _ (h : Meanings) (b : Brought usage h) (cuts : Cuts) where
-    went_none : (now : Standing) → IsGood now → AllTold c now → Went h now now
-    went_none now g t = record { good = g; told = t; since = since_none (Caused c usage h) now.tape }
+    proceeds_none : (now : Standing) → IsGood now → AllTold c now → Proceeds h now now
+    proceeds_none now g t = record { good = g; told = t; since = since_none (Caused c usage h) now.tape }
 
-    handed_went : (now : Standing) (j : ℕ) (o : Option Message) → message_of now.tape j ≡ o → receiver_up (up now) o ≡ true → IsGood now → AllTold c now → Went h now (handed c h cuts now j o)
-    handed_went now j None is u g t = went_none now g t
-    handed_went now j (Some m) is u g t = fated_went h now m.to (Taken j) (Take m) g t (take_own c usage h now m.to g (t.nodes m.to) (set_at now.node m.to done_node) j m) (λ v x apart same. tt) (λ those. refl)
+    handed_proceeds : (now : Standing) (j : ℕ) (o : Option Message) → message_of now.tape j ≡ o → receiver_up (up now) o ≡ true → IsGood now → AllTold c now → Proceeds h now (handed c h cuts now j o)
+    handed_proceeds now j None is u g t = proceeds_none now g t
+    handed_proceeds now j (Some m) is u g t = fated_proceeds h now m.to (Taken j) (Take m) g t (take_own c usage h now m.to g (t.nodes m.to) (set_at now.node m.to done_node) j m) (λ v x apart same. tt) (λ those. refl)
         (take_told c usage h now m.to g (t.nodes m.to) (set_at now.node m.to done_node) j m) _ _ (handed_good (those_of usage) c h (λ f. b) cuts now j (Some m) is u g)
       where
         done_node : Node
         done_node = (step (setting c h m.to) (now.node m.to) (Take m)).node
 
-    delivered_went : (now : Standing) (j : ℕ) (o : Option Message) → message_of now.tape j ≡ o → receiver_down now o ≡ false → IsGood now → AllTold c now → Went h now (handed c h cuts now j o)
-    delivered_went now j None is down g t = went_none now g t
-    delivered_went now j (Some m) is down g t = handed_went now j (Some m) is (not_false (up now m.to) down) g t
+    delivered_proceeds : (now : Standing) (j : ℕ) (o : Option Message) → message_of now.tape j ≡ o → receiver_down now o ≡ false → IsGood now → AllTold c now → Proceeds h now (handed c h cuts now j o)
+    delivered_proceeds now j None is down g t = proceeds_none now g t
+    delivered_proceeds now j (Some m) is down g t = handed_proceeds now j (Some m) is (not_false (up now m.to) down) g t
 
-    deliverable_went : (now : Standing) (j : ℕ) → next_delivery (up now) now.tape ≡ Some j → IsGood now → AllTold c now → Went h now (delivered c h cuts now j)
-    deliverable_went now j e g t = handed_went now j (message_of now.tape j) refl
+    deliverable_proceeds : (now : Standing) (j : ℕ) → next_delivery (up now) now.tape ≡ Some j → IsGood now → AllTold c now → Proceeds h now (delivered c h cuts now j)
+    deliverable_proceeds now j e g t = handed_proceeds now j (message_of now.tape j) refl
         (both_true (not (is_taken now.tape j) && not (is_dropped now.tape j)) (receiver_up (up now) (message_of now.tape j)) (found (is_deliverable (up now) now.tape) _ j e)).1 g t
 
-    drained_went : (most : ℕ) (now : Standing) → IsGood now → AllTold c now → Went h now (drained c h cuts now most)
-    drained_went zero now g t = by (next_delivery (up now) now.tape)
+    drained_proceeds : (most : ℕ) (now : Standing) → IsGood now → AllTold c now → Proceeds h now (drained c h cuts now most)
+    drained_proceeds zero now g t = by (next_delivery (up now) now.tape)
       where
-        by : (o : Option ℕ) → Went h now (unless_none now (λ j. marked now CutItem) o)
-        by None = went_none now g t
+        by : (o : Option ℕ) → Proceeds h now (unless_none now (λ j. marked now CutItem) o)
+        by None = proceeds_none now g t
         by (Some j) = record {
           good = marked_good (those_of usage) c now CutItem (tape_item c now.tape CutItem tt (λ y q. refl) (λ v q. refl) (λ y. refl) tt (λ schema usage'. tt)) (λ y. refl) (λ schema usage'. tt) (λ y. refl) g;
           told = cut_told now t;
           since = since_more (Caused c usage h) now.tape now.tape CutItem (since_none (Caused c usage h) now.tape) tt;
         }
-    drained_went (suc most) now g t = by (next_delivery (up now) now.tape) refl (λ j. drained_went most (delivered c h cuts now j))
+    drained_proceeds (suc most) now g t = by (next_delivery (up now) now.tape) refl (λ j. drained_proceeds most (delivered c h cuts now j))
       where
-        by : (o : Option ℕ) → next_delivery (up now) now.tape ≡ o → ((j : ℕ) → IsGood (delivered c h cuts now j) → AllTold c (delivered c h cuts now j) → Went h (delivered c h cuts now j) (drained c h cuts (delivered c h cuts now j) most))
-            → Went h now (unless_none now (λ j. drained c h cuts (delivered c h cuts now j) most) o)
-        by None e more = went_none now g t
-        by (Some j) e more = let first = deliverable_went now j e g t in let rest = more j first.good first.told in
+        by : (o : Option ℕ) → next_delivery (up now) now.tape ≡ o → ((j : ℕ) → IsGood (delivered c h cuts now j) → AllTold c (delivered c h cuts now j) → Proceeds h (delivered c h cuts now j) (drained c h cuts (delivered c h cuts now j) most))
+            → Proceeds h now (unless_none now (λ j. drained c h cuts (delivered c h cuts now j) most) o)
+        by None e more = proceeds_none now g t
+        by (Some j) e more = let first = deliverable_proceeds now j e g t in let rest = more j first.good first.told in
             record { good = rest.good; told = rest.told; since = since_then (Caused c usage h) now.tape (delivered c h cuts now j).tape (drained c h cuts (delivered c h cuts now j) most).tape first.since rest.since }
 
     fused_good : (now : Standing) (log_fuse data_fuse : ℕ → Option Fuse) → IsGood now
         → IsGood (record { tape = now.tape; node = now.node; log_fuse = log_fuse; data_fuse = data_fuse; starts = now.starts; records = now.records; owed = now.owed })
     fused_good now log_fuse data_fuse g = record { lawful = g.lawful; node = g.node; starts = g.starts; polls = g.polls; written = g.written; unbegun = g.unbegun; answered = g.answered; unfailed = g.unfailed; fresh = g.fresh; unasked = g.unasked; worn = g.worn; owes = g.owes; owed = g.owed }
 
-    event_went : (now : Standing) (event : WorldEvent) → IsMeant usage event → refusal c now event ≡ None → IsGood now → AllTold c now → Went h now (after_event c h cuts now event)
-    event_went now (TickEvent node clock) meant r g t =
+    event_proceeds : (now : Standing) (event : WorldEvent) → IsMeant usage event → refusal c now event ≡ None → IsGood now → AllTold c now → Proceeds h now (after_event c h cuts now event)
+    event_proceeds now (TickEvent node clock) meant r g t =
         let second = (not_because (not (is_node c node.0)) 6 _ r).1 in let third = (not_because (not (up now node.0)) 1 _ second).0 in
-        fated_went h now node.0 (TickItem (number node.0) clock) (Tick clock) g t
+        fated_proceeds h now node.0 (TickItem (number node.0) clock) (Tick clock) g t
         (tick_own c usage h now node.0 g (t.nodes node.0) (set_at now.node node.0 (step (setting c h node.0) (now.node node.0) (Tick clock)).node) clock) (λ v x apart same. tt) (λ those. refl)
         (tick_told c usage h now node.0 g (t.nodes node.0) (set_at now.node node.0 (step (setting c h node.0) (now.node node.0) (Tick clock)).node) clock) [] _
         (tick_good (those_of usage) c h (λ f. b) now node.0 clock (cuts now node.0) (not_false (up now node.0) third) g)
-    event_went now (Deliver j) meant r g t =
+    event_proceeds now (Deliver j) meant r g t =
         let second = (not_because (not (is_sent now.tape j)) 3 _ r).1 in let third = (not_because (is_dropped now.tape j) 4 _ second).1 in
-        delivered_went now j (message_of now.tape j) refl (not_because (receiver_down now (message_of now.tape j)) 1 None third).0 g t
-    event_went now (Drop j) meant r g t = record {
+        delivered_proceeds now j (message_of now.tape j) refl (not_because (receiver_down now (message_of now.tape j)) 1 None third).0 g t
+    event_proceeds now (Drop j) meant r g t = record {
       good = marked_good (those_of usage) c now (Dropped j) (tape_item c now.tape (Dropped j) tt (λ y q. refl) (λ v q. refl) (λ y. refl) tt (λ schema usage'. tt)) (λ y. refl) (λ schema usage'. tt) (λ y. refl) g;
       told = dropped_told now j t;
       since = since_more (Caused c usage h) now.tape now.tape (Dropped j) (since_none (Caused c usage h) now.tape) tt;
     }
-    event_went now (Drain most) meant r g t = drained_went most now g t
-    event_went now (CrashEvent node) meant r g t = record {
+    event_proceeds now (Drain most) meant r g t = drained_proceeds most now g t
+    event_proceeds now (CrashEvent node) meant r g t = record {
       good = crashes_good (those_of usage) c now node.0 g;
       told = record { nodes = fallen_told now node.0 t; owed = t.owed };
       since = since_more (Caused c usage h) now.tape now.tape (Crash (number node.0)) (since_none (Caused c usage h) now.tape) tt;
     }
-    event_went now (StartEvent node) meant r g t = record {
+    event_proceeds now (StartEvent node) meant r g t = record {
       good = fated_start_good (those_of usage) c h now node.0 (fate_by now node.0 (cuts now node.0) (start_calls c node.0)) g;
       told = start_told h now node.0 (fate_by now node.0 (cuts now node.0) (start_calls c node.0)) t;
       since = start_gives (Caused c usage h) h now node.0 (fate_by now node.0 (cuts now node.0) (start_calls c node.0)) t;
     }
-    event_went now (FuseEvent node calls image Log) meant r g t = record { good = fused_good now _ _ g; told = record { nodes = t.nodes; owed = t.owed }; since = since_none (Caused c usage h) now.tape }
-    event_went now (FuseEvent node calls image Data) meant r g t = record { good = fused_good now _ _ g; told = record { nodes = t.nodes; owed = t.owed }; since = since_none (Caused c usage h) now.tape }
-    event_went now (BeginEvent node request text) meant r g t =
+    event_proceeds now (FuseEvent node calls image Log) meant r g t = record { good = fused_good now _ _ g; told = record { nodes = t.nodes; owed = t.owed }; since = since_none (Caused c usage h) now.tape }
+    event_proceeds now (FuseEvent node calls image Data) meant r g t = record { good = fused_good now _ _ g; told = record { nodes = t.nodes; owed = t.owed }; since = since_none (Caused c usage h) now.tape }
+    event_proceeds now (BeginEvent node request text) meant r g t =
         let first_two = not_because (not (is_node c node.0)) 6 _ r in let third = (not_because (not (up now node.0)) 1 _ first_two.1).0 in
-        fated_went h now node.0 (BeginItem (op_of (setting c h node.0) (now.node node.0).met) text) (Begin request text) g t
+        fated_proceeds h now node.0 (BeginItem (op_of (setting c h node.0) (now.node node.0).met) text) (Begin request text) g t
         (begin_own c usage h now node.0 g (t.nodes node.0) (set_at now.node node.0 (step (setting c h node.0) (now.node node.0) (Begin request text)).node) request text (not_false (is_node c node.0) first_two.0) meant)
         (λ v x apart same. other_node (op_of (setting c h node.0) (now.node node.0).met) x (subst (λ w. (node.0 == w) ≡ false) (sym same) apart)) (λ those. refl)
         (begin_told c usage h now node.0 g (t.nodes node.0) (set_at now.node node.0 (step (setting c h node.0) (now.node node.0) (Begin request text)).node) request text (not_false (is_node c node.0) first_two.0) meant) [] _
@@ -333,8 +333,8 @@ module _ (c : Cluster) (usage : Usage) (first : Meanings) (cuts : Cuts) where
           → AllAnswered ((past ++ one ∷ []) ++ events) (goes_on c cuts (unless_refused now (after_event c one.handlers cuts now one.event) o) events).tape
       by None e more =
           let next = after_event c one.handlers cuts now one.event in
-          let went = event_went c usage one.handlers (fits.0).brought cuts now one.event (fits.0).meant e g t in
-          more next (after_is None e) fits.1 went.good went.told (answered_more past one now next is (after_is None e) went.since all)
+          let proceeds = event_proceeds c usage one.handlers (fits.0).brought cuts now one.event (fits.0).meant e g t in
+          more next (after_is None e) fits.1 proceeds.good proceeds.told (answered_more past one now next is (after_is None e) proceeds.since all)
       by (Some why) e more = more now (after_is (Some why) e) fits.1 g t (λ op answer before stood. earlier past one before op answer (all op answer before stood))
 
   -- the opening starts answer nothing

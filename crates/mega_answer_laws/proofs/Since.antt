@@ -11,7 +11,7 @@ use Rattle.mega_cause_laws.specs.of_run_laws.of_tape_laws.of_promises.Runs.{brea
 use Rattle.mega_cause_laws.specs.of_run_laws.of_tape_laws.of_promises.of_rules.Met.{Answers, Met, Sends, Takes}
 use Rattle.mega_cause_laws.specs.of_run_laws.of_tape_laws.of_promises.of_rules.Operations.{Node}
 use Rattle.mega_wire.specs.declared.message.Message.{Message}
-use Rattle.mega_cause_laws.specs.of_run_laws.Vouched.{Each, sent}
+use Rattle.mega_cause_laws.specs.of_run_laws.Justified.{Each, sent}
 use Rattle.mega_cause_laws.proofs.of_run_laws.Silent.{IsSilent}
 
 -- what holds of an operation's answer, by the tape before it; of other items nothing is asked

@@ -20,7 +20,7 @@ use Rattle.mega_cause_laws.specs.of_run_laws.of_tape_laws.of_promises.of_rules.S
 use Rattle.mega_node_laws.specs.Deciding.{SameLogs}
 use Rattle.mega_node_laws.proofs.Logs.{same_more, same_self}
 use Rattle.mega_cause_laws.proofs.of_run_laws.of_tape_laws.Ballots.{number_self}
-use Rattle.mega_cause_laws.specs.of_run_laws.Vouched.{Each}
+use Rattle.mega_cause_laws.specs.of_run_laws.Justified.{Each}
 use Rattle.mega_cause_laws.proofs.of_run_laws.Events.{onto_append}
 use Rattle.mega_cause_laws.proofs.of_run_laws.Silent.{IsSilent}
 use Rattle.mega_cause_laws.proofs.of_run_laws.Stepping.{OtherThan}

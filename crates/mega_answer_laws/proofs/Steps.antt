@@ -33,7 +33,7 @@ use Rattle.mega_cause_laws.specs.of_run_laws.of_tape_laws.Answers.{LawfulAnswers
 use Rattle.mega_cause_laws.specs.of_run_laws.of_tape_laws.Places.{In}
 use Rattle.mega_cause_laws.specs.of_run_laws.of_tape_laws.Writes.{Usage}
 use Rattle.mega_cause_laws.proofs.of_run_laws.of_tape_laws.Ballots.{number_self}
-use Rattle.mega_cause_laws.specs.of_run_laws.Vouched.{Each, sent}
+use Rattle.mega_cause_laws.specs.of_run_laws.Justified.{Each, sent}
 use Rattle.mega_cause_laws.proofs.of_run_laws.Answering.{with_answers}
 use Rattle.mega_cause_laws.proofs.of_run_laws.Events.{onto_append}
 use Rattle.mega_cause_laws.proofs.of_run_laws.Owned.{KnowsAll}

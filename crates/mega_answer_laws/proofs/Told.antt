@@ -23,7 +23,7 @@ use Rattle.mega_wal.specs.Same.{same_group}
 use Rattle.mega_node_laws.specs.Deciding.{SameLogs, is_decision}
 use Rattle.mega_node_laws.proofs.Logs.{log_stays, same_more}
 use Rattle.mega_cause_laws.specs.of_run_laws.of_tape_laws.Places.{In}
-use Rattle.mega_cause_laws.specs.of_run_laws.Vouched.{Each}
+use Rattle.mega_cause_laws.specs.of_run_laws.Justified.{Each}
 use Rattle.mega_cause_laws.proofs.of_run_laws.Events.{onto_length}
 use Rattle.mega_cause_laws.proofs.of_run_laws.Turns.{each_on}
 use Rattle.mega_answer_laws.proofs.Reasons.{IsSound, Within}

@@ -49,7 +49,7 @@ use Rattle.mega_node_laws.specs.Deciding.{SameLogs}
 use Rattle.mega_node_laws.proofs.Applied.{read_keeps, read_within}
 use Rattle.mega_node_laws.proofs.Logs.{same_more}
 use Rattle.mega_cause_laws.specs.of_run_laws.of_tape_laws.Places.{In}
-use Rattle.mega_cause_laws.specs.of_run_laws.Vouched.{Each}
+use Rattle.mega_cause_laws.specs.of_run_laws.Justified.{Each}
 use Rattle.mega_cause_laws.proofs.of_run_laws.Turns.{IsApart, each_on, each_push, other_number}
 use Rattle.mega_answer_laws.proofs.Reasons.{At, FullAt, IsMet, IsSound, SoundPromise, SoundReads}
 use Rattle.mega_answer_laws.proofs.Nothing.{nothing_to_enter, nothing_to_handle}

@@ -12,7 +12,7 @@ ghost use Rattle.mega_cause_laws.specs.of_run_laws.of_tape_laws.of_promises.Mome
 ghost use Rattle.mega_cause_laws.specs.of_run_laws.of_tape_laws.of_promises.Runs.{Happening, IsRun};
 ghost use Rattle.mega_cause_laws.specs.of_run_laws.of_tape_laws.Writes.{Usage};
 ghost use Rattle.mega_cause_laws.specs.of_run_laws.Usages.{Fits};
-ghost use Rattle.mega_cause_laws.specs.of_run_laws.Vouched.{Each};
+ghost use Rattle.mega_cause_laws.specs.of_run_laws.Justified.{Each};
 ghost use Rattle.mega_answer_laws.specs.Answered.{IsAnswered};
 
 /// In every run where each text means the request that begins with it, each answer has its cause on the tape before it: it was given in one of the run's events,

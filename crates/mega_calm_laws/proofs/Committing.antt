@@ -67,34 +67,34 @@ module _ (s : Setting) (node : Node) (request : Request) (text : List ℕ) (none
   abbrev made : Step
   made = begin_step s node request text
 
-  abbrev went : Now
-  went = acted s node request text none g entering own promised leader
+  abbrev proceeds : Now
+  proceeds = acted s node request text none g entering own promised leader
 
-  begun_leaves : Each IsStill went.valid → Each IsBland went.valid → went.answers ≡ [] → AreQuiet went.sends → Leaves g end base (made.node).met
+  begun_leaves : Each IsStill proceeds.valid → Each IsBland proceeds.valid → proceeds.answers ≡ [] → AreQuiet proceeds.sends → Leaves g end base (made.node).met
   begun_leaves still bland none_answered quiet = record {
     logs = subst (SameLogs base) (sym spread)
-        (logs_then base noted (onto (map Sends went.sends) noted)
-        (logs_then base (onto applies base) noted (still_onto applies base (applies_still s node.met node.stored went.met went.stored))
-        (logs_then (onto applies base) (onto went.valid (onto applies base)) noted (still_onto went.valid (onto applies base) still) (still_onto went.answers (onto went.valid (onto applies base)) (subst (Each IsStill) (sym none_answered) tt))))
-        (still_onto (map Sends went.sends) noted (sends_still went.sends (no_votes went.sends quiet))));
+        (logs_then base noted (onto (map Sends proceeds.sends) noted)
+        (logs_then base (onto applies base) noted (still_onto applies base (applies_still s node.met node.stored proceeds.met proceeds.stored))
+        (logs_then (onto applies base) (onto proceeds.valid (onto applies base)) noted (still_onto proceeds.valid (onto applies base) still) (still_onto proceeds.answers (onto proceeds.valid (onto applies base)) (subst (Each IsStill) (sym none_answered) tt))))
+        (still_onto (map Sends proceeds.sends) noted (sends_still proceeds.sends (no_votes proceeds.sends quiet))));
     acts = (subst (NodeOn g end base) (sym spread)
-        (node_then g end base noted (onto (map Sends went.sends) noted)
-        (node_then g end base (onto applies base) noted (bland_onto g end applies base (applies_bland s node.met node.stored went.met went.stored))
-        (node_then g end (onto applies base) (onto went.valid (onto applies base)) noted (bland_onto g end went.valid (onto applies base) bland) (bland_onto g end went.answers (onto went.valid (onto applies base)) (subst (Each IsBland) (sym none_answered) tt))))
-        (bland_onto g end (map Sends went.sends) noted (bland_sends went.sends quiet)))).same_acts;
+        (node_then g end base noted (onto (map Sends proceeds.sends) noted)
+        (node_then g end base (onto applies base) noted (bland_onto g end applies base (applies_bland s node.met node.stored proceeds.met proceeds.stored))
+        (node_then g end (onto applies base) (onto proceeds.valid (onto applies base)) noted (bland_onto g end proceeds.valid (onto applies base) bland) (bland_onto g end proceeds.answers (onto proceeds.valid (onto applies base)) (subst (Each IsBland) (sym none_answered) tt))))
+        (bland_onto g end (map Sends proceeds.sends) noted (bland_sends proceeds.sends quiet)))).same_acts;
   }
     where
       applies : List Met
-      applies = apply_notes s node.met node.stored went.met went.stored
+      applies = apply_notes s node.met node.stored proceeds.met proceeds.stored
 
       noted : List Met
-      noted = onto went.answers (onto went.valid (onto applies base))
+      noted = onto proceeds.answers (onto proceeds.valid (onto applies base))
 
-      spread : (made.node).met ≡ onto (map Sends went.sends) noted
-      spread = ap (onto (map Sends went.sends)) (onto_append ((([] ++ []) ++ applies) ++ went.valid) went.answers base ∙ ap (onto went.answers) (onto_append (([] ++ []) ++ applies) went.valid base))
+      spread : (made.node).met ≡ onto (map Sends proceeds.sends) noted
+      spread = ap (onto (map Sends proceeds.sends)) (onto_append ((([] ++ []) ++ applies) ++ proceeds.valid) proceeds.answers base ∙ ap (onto proceeds.answers) (onto_append (([] ++ []) ++ applies) proceeds.valid base))
 
   module _ (noted_epoch : Option Epoch) (stage : Stage) (sends : List Message) (quiet : AreQuiet sends)
-      (is : went ≡ goes_on s (sends_more (begin s node request text none g entering own promised leader) sends) (seeks s id g request entering (clock_of node.met) noted_epoch log own promised leader stage))
+      (is : proceeds ≡ goes_on s (sends_more (begin s node request text none g entering own promised leader) sends) (seeks s id g request entering (clock_of node.met) noted_epoch log own promised leader stage))
       (helped_so : IsHelped s id g request entering (clock_of node.met) noted_epoch log own promised leader base stage) where
     quiet_both : (xs ys : List Message) → AreQuiet xs → AreQuiet ys → AreQuiet (xs ++ ys)
     quiet_both xs ys h k = each_both (λ (one : Message). IsNoAct one.body) xs ys h k
@@ -103,16 +103,16 @@ module _ (s : Setting) (node : Node) (request : Request) (text : List ℕ) (none
     begin_becomes = by (subst (Outcome s id g request entering (clock_of node.met) noted_epoch log own promised leader (sends_more (begin s node request text none g entering own promised leader) sends) stage) (sym is)
         (goes_on_so s id g request entering (clock_of node.met) noted_epoch log own promised leader (sends_more (begin s node request text none g entering own promised leader) sends) stage tt helped_so))
       where
-        by : Outcome s id g request entering (clock_of node.met) noted_epoch log own promised leader (sends_more (begin s node request text none g entering own promised leader) sends) stage went
+        by : Outcome s id g request entering (clock_of node.met) noted_epoch log own promised leader (sends_more (begin s node request text none g entering own promised leader) sends) stage proceeds
             → Becomes s id g request entering (clock_of node.met) noted_epoch log own promised leader base stage made sends
         by (proposes at kept sent valid answers) = turns at sent (kept ∙ ap (λ os. os ++ proposed s id g request entering (clock_of node.met) noted_epoch log own promised leader at ∷ []) none)
-            (begun_leaves (validates_still went.valid valid) (validates_bland went.valid valid) answers
+            (begun_leaves (validates_still proceeds.valid valid) (validates_bland proceeds.valid valid) answers
             (subst AreQuiet (sym sent) (quiet_both sends (question s id g request entering (clock_of node.met) noted_epoch log own promised leader ∷ []) quiet (tt, tt))))
         by (waits kept sent valid answers stayed) = stays sent (kept ∙ ap (λ os. os ++ seeks s id g request entering (clock_of node.met) noted_epoch log own promised leader stage ∷ []) none)
-            (begun_leaves (validates_still went.valid valid) (validates_bland went.valid valid) answers (subst AreQuiet (sym sent) quiet)) stayed
+            (begun_leaves (validates_still proceeds.valid valid) (validates_bland proceeds.valid valid) answers (subst AreQuiet (sym sent) quiet)) stayed
         by (asks through at search is_stage above kept sent valid answers) = fetches through at search is_stage above sent
             (kept ∙ ap (λ os. os ++ seeks s id g request entering (clock_of node.met) noted_epoch log own promised leader (fetching s id g request entering (clock_of node.met) noted_epoch log own promised leader base through at) ∷ []) none)
-            (begun_leaves (validates_still went.valid valid) (validates_bland went.valid valid) answers
+            (begun_leaves (validates_still proceeds.valid valid) (validates_bland proceeds.valid valid) answers
             (subst AreQuiet (sym sent) (quiet_both sends (fetch_all s id g request entering (clock_of node.met) noted_epoch log own promised leader (prefix_of base g + 1)) quiet
             (fetch_quiet s id g request entering (clock_of node.met) noted_epoch log own promised leader (prefix_of base g + 1) (helpers (who s id g request entering (clock_of node.met) noted_epoch log own promised leader))))))
 

@@ -53,7 +53,7 @@ use Rattle.mega_leased_laws.specs.of_run_laws.of_tape_laws.of_promises.Messages.
 use Rattle.mega_leased_laws.specs.of_run_laws.of_tape_laws.of_promises.Promises.{Stands, first_decided, log_from, log_of, then_more}
 use Rattle.mega_leased_laws.specs.of_run_laws.of_tape_laws.of_promises.Runs.{CutByData, CutByLog, Cuts, Fate, Fuse, Happening, Standing, Whole, after_event, breaks, calls_of, delivered, drained, fate_by, fated, fated_start, goes_on, handed, marked, met_in, new_fuse, nothing_yet, opening, receiver_down, refusal, replies_in, set_at, setting, start_calls, unless_none, unless_refused as unless_refused_event, up, whole_step, with_item, with_items}
 use Rattle.mega_leased_laws.specs.of_run_laws.Usages.{Brought, Fits as FitsUsage}
-use Rattle.mega_leased_laws.specs.of_run_laws.Vouched.{sent}
+use Rattle.mega_leased_laws.specs.of_run_laws.Justified.{sent}
 use Rattle.mega_leased_laws.proofs.of_run_laws.Runs.{begin_good, both_true, crashes_good, fated_start_good, found, handed_good, marked_good, not_because, not_false, nothing_good, run_written, tick_good}
 use Rattle.mega_leased_laws.proofs.of_run_laws.Standing.{Good}
 use Rattle.mega_leased_laws.proofs.of_run_laws.Steps.{begun_next, stands_sent}

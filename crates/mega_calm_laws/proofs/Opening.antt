@@ -17,7 +17,7 @@ use Rattle.mega_leased_laws.specs.of_run_laws.of_tape_laws.of_promises.of_rules.
 use Rattle.mega_leased_laws.specs.of_run_laws.of_tape_laws.of_promises.Calm.{Ends, IsCalm, IsCalmAt}
 use Rattle.mega_leased_laws.specs.of_run_laws.of_tape_laws.of_promises.Promises.{Stands, log_of}
 use Rattle.mega_leased_laws.specs.of_run_laws.of_tape_laws.of_promises.Runs.{by_fuse}
-use Rattle.mega_leased_laws.specs.of_run_laws.Vouched.{Each}
+use Rattle.mega_leased_laws.specs.of_run_laws.Justified.{Each}
 use Rattle.mega_calm_laws.specs.Examples.{opened, put_user}
 use Rattle.mega_calm_laws.proofs.Mail.{IsPlain}
 use Rattle.mega_calm_laws.proofs.Polls.{voter_is_node}

@@ -23,7 +23,7 @@ use Rattle.mega_leased_laws.specs.of_run_laws.of_tape_laws.of_promises.Calm.{IsC
 use Rattle.mega_leased_laws.specs.of_run_laws.of_tape_laws.of_promises.Items.{shown}
 use Rattle.mega_leased_laws.specs.of_run_laws.of_tape_laws.of_promises.Messages.{is_dropped, message_of}
 use Rattle.mega_leased_laws.specs.of_run_laws.of_tape_laws.of_promises.Runs.{Cuts, Standing, Whole, drained, set_at, setting, whole_step}
-use Rattle.mega_leased_laws.specs.of_run_laws.Vouched.{Each as EachSo}
+use Rattle.mega_leased_laws.specs.of_run_laws.Justified.{Each as EachSo}
 use Rattle.mega_leased_laws.proofs.of_run_laws.Events.{IsPlain, apply_plain, told_plain}
 use Rattle.mega_leased_laws.proofs.of_run_laws.Noting.{Lasts, all_act_it, begun_it}
 use Rattle.mega_calm_laws.specs.Waiting.{IsNumbered, Waits}

@@ -33,7 +33,7 @@ use Rattle.mega_fresh_laws.specs.of_leased_laws.of_settled_laws.of_run_laws.of_t
 use Rattle.mega_fresh_laws.specs.of_leased_laws.of_settled_laws.of_run_laws.of_tape_laws.Places.{Took}
 use Rattle.mega_fresh_laws.specs.of_leased_laws.of_settled_laws.of_run_laws.of_tape_laws.Polls.{ArePolls}
 use Rattle.mega_fresh_laws.specs.of_leased_laws.of_settled_laws.of_run_laws.of_tape_laws.Writes.{Usage}
-use Rattle.mega_fresh_laws.specs.of_leased_laws.of_settled_laws.of_run_laws.Vouched.{Each}
+use Rattle.mega_fresh_laws.specs.of_leased_laws.of_settled_laws.of_run_laws.Justified.{Each}
 use Rattle.mega_fresh_laws.proofs.of_leased_laws.of_settled_laws.of_run_laws.Turns.{Known}
 use Rattle.mega_clean_laws.specs.Reaching.{Reaches, IsReachingAnswer, IsProposed}
 use Rattle.mega_fresh_laws.proofs.Accepts.{Zero, ZeroBody, due_zero, falls_due_never, hears_never, takes_zero}

@@ -21,7 +21,7 @@ use Rattle.mega_fresh_laws.specs.of_leased_laws.of_settled_laws.of_run_laws.of_t
 use Rattle.mega_fresh_laws.specs.of_leased_laws.of_settled_laws.of_run_laws.of_tape_laws.Polls.{ArePolls}
 use Rattle.mega_fresh_laws.specs.of_leased_laws.of_settled_laws.of_run_laws.of_tape_laws.Writes.{IsNamed, Usage, has_begun}
 use Rattle.mega_fresh_laws.specs.of_leased_laws.of_settled_laws.of_run_laws.Usages.{Fits}
-use Rattle.mega_fresh_laws.specs.of_leased_laws.of_settled_laws.of_run_laws.Vouched.{Each, sent}
+use Rattle.mega_fresh_laws.specs.of_leased_laws.of_settled_laws.of_run_laws.Justified.{Each, sent}
 use Rattle.mega_fresh_laws.proofs.of_leased_laws.of_settled_laws.of_run_laws.Events.{IsPlain, lapses_plain, lease_plain, told_plain}
 use Rattle.mega_fresh_laws.proofs.of_leased_laws.of_settled_laws.of_run_laws.Noted.{with_append, with_sent}
 use Rattle.mega_fresh_laws.proofs.of_leased_laws.of_settled_laws.of_run_laws.Owned.{Mine, began_asked}

@@ -8,8 +8,8 @@ use Rattle.mega_stepping.specs.of_leases.declared.fault.TakeFault.TheVariants as
 use Rattle.mega_actions.specs.of_finishing.declared.fault.ActFault.{ActFault}
 use Rattle.mega_actions.specs.of_finishing.declared.fault.ActFault.TheVariants as act
 use Rattle.mega_actions.specs.of_finishing.Faults.{of_store as act_store}
-use Rattle.mega_replica.specs.Faring.{Fares}
-use Rattle.mega_replica.proofs.Fared.{fares_here}
+use Rattle.mega_replica.specs.Used.{StoreUsed}
+use Rattle.mega_replica.proofs.Using.{used_here}
 use Rattle.mega_core.specs.Faults.{fault_of, of_store, taking_fault_of}
 
 -- none for which a message is not taken
@@ -19,12 +19,12 @@ taking_is_apart take.Late = refl
 taking_is_apart take.NoMemory = refl
 
 -- nothing was called, and what failed was not the store
-pub fares_apart : {V : Type 0} (store : Ghosts V) (failed : Option StoreError) (x : V) → failed ≡ None → Fares store failed x x
-fares_apart {V} store failed x apart = subst (λ (one : Option StoreError). Fares store one x x) (sym apart) (fares_here store x)
+pub used_apart : {V : Type 0} (store : Ghosts V) (failed : Option StoreError) (x : V) → failed ≡ None → StoreUsed store failed x x
+used_apart {V} store failed x apart = subst (λ (one : Option StoreError). StoreUsed store one x x) (sym apart) (used_here store x)
 
 -- rows that were not called at first
-pub fares_from : {V : Type 0} (store : Ghosts V) (failed : Option StoreError) (old mid new : V) → mid ≡ old → Fares store failed mid new → Fares store failed old new
-fares_from {V} store failed old mid new is fares = subst (λ (one : V). Fares store failed one new) is fares
+pub used_from : {V : Type 0} (store : Ghosts V) (failed : Option StoreError) (old mid new : V) → mid ≡ old → StoreUsed store failed mid new → StoreUsed store failed old new
+used_from {V} store failed old mid new is used = subst (λ (one : V). StoreUsed store failed one new) is used
 
 -- the store's error by which operations did not act
 pub acted_store : (f : ActFault) → act_store f ≡ of_store (fault_of f)

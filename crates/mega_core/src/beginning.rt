@@ -10,7 +10,7 @@ ghost use Rattle.mega_rules.specs.Met.{Met};
 ghost use Rattle.mega_rules.specs.Operations.{Node as RuleNode, Now};
 ghost use Rattle.mega_rules.specs.Members.{kind_of};
 ghost use Rattle.mega_rules.specs.Steps.{Begin, at_first, at_open, begins, missing_kind, new_operation, op_of, refusal, unless_refused};
-ghost use Rattle.mega_replica.specs.Faring.{Fares};
+ghost use Rattle.mega_replica.specs.Used.{StoreUsed};
 ghost use Rattle.mega_stepping.specs.of_voter.Telling.{Tells};
 ghost use Rattle.mega_actions.specs.of_finishing.declared.fault.ActFault.TheVariants.{Unserved};
 ghost use Rattle.mega_actions.specs.of_proposing.Servable.{is_served};
@@ -27,7 +27,7 @@ ghost use Rattle.mega_core.specs.Standing.{StandsWith};
 use crate::node::Node;
 use mega_actions::Replica;
 use mega_actions::mega_finishing::ActFault;
-use mega_actions::mega_proposing::{Deed, End, Work, is_served};
+use mega_actions::mega_proposing::{Action, End, Work, is_served};
 use mega_base::{Items, NodeId, NodeKind, OpId};
 use mega_disk::{Records, Versions};
 use mega_meanings::QueueHandlers;
@@ -86,7 +86,7 @@ fn at_open(alloc: Global, opened: Items<Operation>) -> Work
 }
 
 /// An operation begins whose request is served.
-#[tactic(auto, using(mega_replica::proofs::Fared::fares_here))]
+#[tactic(auto, using(mega_replica::proofs::Using::used_here))]
 fn serves<R: Records, V: Versions, H: QueueHandlers>(
     alloc: Global,
     handlers: &mut H,
@@ -111,7 +111,7 @@ fn serves<R: Records, V: Versions, H: QueueHandlers>(
         AreMarked (replica.old.members).schema replica.new.indexed now.met (marks_then now request)) }
     ensures built { OnOk result (is_served request ≡ true) }
     ensures unserved { result ≡ Err Unserved → is_served request ≡ false }
-    ensures fares { Fares V.Versions (failed_by result) replica.old.rows.rows replica.new.rows.rows }
+    ensures used { StoreUsed V.Versions (failed_by result) replica.old.rows.rows replica.new.rows.rows }
 {
     if !is_served(&request) {
         return Err(ActFault::Unserved);
@@ -120,7 +120,7 @@ fn serves<R: Records, V: Versions, H: QueueHandlers>(
 }
 
 /// An operation begins, unless it is refused.
-#[tactic(auto, using(mega_replica::proofs::Fared::fares_here))]
+#[tactic(auto, using(mega_replica::proofs::Using::used_here))]
 fn unless_refused<R: Records, V: Versions, H: QueueHandlers>(
     alloc: Global,
     handlers: &mut H,
@@ -146,12 +146,12 @@ fn unless_refused<R: Records, V: Versions, H: QueueHandlers>(
         AreMarked (replica.old.members).schema replica.new.indexed now.met (marks_unless now request refusal)) }
     ensures built { OnOk result (refusal ≡ None → is_served request ≡ true) }
     ensures unserved { result ≡ Err Unserved → is_served request ≡ false }
-    ensures fares { Fares V.Versions (failed_by result) replica.old.rows.rows replica.new.rows.rows }
+    ensures used { StoreUsed V.Versions (failed_by result) replica.old.rows.rows replica.new.rows.rows }
 {
     match refusal {
         None => serves(alloc, handlers, replica, work, op, request),
         Some(answer) => {
-            work.does(Deed {
+            work.does(Action {
                 sends: None,
                 end: End::Ends(op, answer),
             })?;
@@ -182,7 +182,7 @@ impl<R: Records, V: Versions> Node<R, V> {
             refusal (setting_of self.old.replica h) node request ≡ None → is_served request ≡ true) }
         ensures voter { self.new.replica.voter ≡ self.old.replica.voter }
         ensures lagging { self.new.lagging ≡ self.old.lagging }
-        ensures fares { Fares V.Versions (failed_by result) self.old.replica.rows.rows self.new.replica.rows.rows }
+        ensures used { StoreUsed V.Versions (failed_by result) self.old.replica.rows.rows self.new.replica.rows.rows }
     {
         let op = next_op(&self.replica.voter, self.replica.me, self.begun);
         let kind = kind_of(self.replica.members.cluster(), self.replica.me);

@@ -10,7 +10,7 @@ ghost use Rattle.mega_rules.specs.Members.{is_node};
 ghost use Rattle.mega_rules.specs.Met.{Met};
 ghost use Rattle.mega_rules.specs.Operations.{Node as RuleNode};
 ghost use Rattle.mega_rules.specs.Steps.{Begin, Take, Tick, start, step};
-ghost use Rattle.mega_replica.specs.Faring.{Fares};
+ghost use Rattle.mega_replica.specs.Used.{StoreUsed};
 ghost use Rattle.mega_wal.specs.Kept.{Represents as Holds};
 ghost use Rattle.mega_actions.specs.of_proposing.Servable.{is_served};
 ghost use Rattle.mega_actions.specs.IsAt.{setting_of};
@@ -129,7 +129,7 @@ impl<R: Records, V: Versions> Node<R, V> {
         ensures built { result ≡ Err Unserved → (h : Meanings) (node : RuleNode) → StandsFor V.version h self.old node → ⊥ }
         ensures stranger { result ≡ Err Stranger → IsByStranger message.now.from message.now.body }
         ensures late { result ≡ Err Late → (h : Meanings) (node : RuleNode) → StandsFor V.version h self.old node → IsLate self.old.replica.members message.now.body }
-        ensures fares { Fares V.Versions (failed_by result) self.old.replica.rows.rows self.new.replica.rows.rows }
+        ensures used { StoreUsed V.Versions (failed_by result) self.old.replica.rows.rows self.new.replica.rows.rows }
     {
         let clock = self.replica.leases.now();
         let opened = mem::replace(&mut self.open, Items::new(alloc));
@@ -178,7 +178,7 @@ impl<R: Records, V: Versions> Node<R, V> {
         ensures unserved { result ≡ Err Unserved → is_served request ≡ false }
         ensures stranger { result ≢ Err Stranger }
         ensures late { result ≢ Err Late }
-        ensures fares { Fares V.Versions (failed_by result) self.old.replica.rows.rows self.new.replica.rows.rows }
+        ensures used { StoreUsed V.Versions (failed_by result) self.old.replica.rows.rows self.new.replica.rows.rows }
     {
         let groups = begun_groups(alloc, &self.replica.voter, &request)?;
         let before = watched(alloc, &self.replica, groups)?;
@@ -224,7 +224,7 @@ impl<R: Records, V: Versions> Node<R, V> {
         ensures built { result ≡ Err Unserved → (h : Meanings) (node : RuleNode) → StandsFor V.version h self.old node → ⊥ }
         ensures stranger { result ≢ Err Stranger }
         ensures late { result ≢ Err Late }
-        ensures fares { Fares V.Versions (failed_by result) self.old.replica.rows.rows self.new.replica.rows.rows }
+        ensures used { StoreUsed V.Versions (failed_by result) self.old.replica.rows.rows self.new.replica.rows.rows }
     {
         let groups = behind(alloc, &self.replica, &self.lagging)?;
         let copied = groups.copy(alloc)?;

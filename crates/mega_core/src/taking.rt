@@ -13,7 +13,7 @@ ghost use Rattle.mega_rules.specs.Members.{has_rows};
 ghost use Rattle.mega_rules.specs.Met.{Met};
 ghost use Rattle.mega_rules.specs.Operations.{Node as RuleNode, Operation as Open, Setting};
 ghost use Rattle.mega_rules.specs.Steps.{Take, all_act, at_first, decision_note, first_settled, hears_message, if_new, news, onto, stored_after, told_decision};
-ghost use Rattle.mega_replica.specs.Faring.{Fares};
+ghost use Rattle.mega_replica.specs.Used.{StoreUsed};
 ghost use Rattle.mega_replica.specs.Following.{Follows, progress_at};
 ghost use Rattle.mega_stepping.specs.of_voter.Telling.{Tells};
 ghost use Rattle.mega_actions.specs.of_finishing.declared.fault.ActFault.TheVariants as act;
@@ -31,7 +31,7 @@ ghost use Rattle.mega_stepping.specs.News.{news_by};
 ghost use Rattle.mega_core.specs.Standing.{StandsWith};
 
 use crate::fault::StepFault;
-use crate::telling::{Told, is_told};
+use crate::telling::{Reaction, is_told};
 use mega_actions::Replica;
 use mega_actions::mega_finishing::ActFault;
 use mega_actions::mega_proposing::Work;
@@ -54,7 +54,7 @@ pub struct Taken {
 }
 
 /// Decides what a message tells or an operation settled by it, and stores a portion of its group where rows are kept.
-#[tactic(auto, using(mega_replica::proofs::Fared::fares_here))]
+#[tactic(auto, using(mega_replica::proofs::Using::used_here))]
 fn decides_by<R: Records, V: Versions>(
     alloc: Global,
     replica: &mut Replica<R, V>,
@@ -73,7 +73,7 @@ fn decides_by<R: Records, V: Versions>(
     ensures leases { replica.new.leases ≡ replica.old.leases }
     ensures indexed { replica.new.indexed ≡ replica.old.indexed }
     ensures digest { replica.new.digest ≡ replica.old.digest }
-    ensures fares { Fares V.Versions None replica.old.rows.rows replica.new.rows.rows }
+    ensures used { StoreUsed V.Versions None replica.old.rows.rows replica.new.rows.rows }
 {
     let found = decision(alloc, &message.body, heard)?;
     let found = decides(alloc, &mut replica.voter, found)?;
@@ -96,7 +96,7 @@ fn assemble(
     members: &Members,
     me: u8,
     body: &Body,
-    told: Told,
+    told: Reaction,
     heard: Items<Heard>,
     found: &Option<Chosen>,
 ) -> Result<Taken, NoMemory>
@@ -104,7 +104,7 @@ fn assemble(
     ensures sends { IfOk result (λ made. (s : Setting) → s.cluster ≡ members.now → s.me ≡ me → made.sends ≡ told.sends ++ news_by s (told_decision body.now) found.now) }
     ensures heard { IfOk result (λ made. made.heard ≡ heard) }
 {
-    let Told { notes, sends } = told;
+    let Reaction { notes, sends } = told;
     let mut notes = notes;
     note_decision(alloc, &mut notes, found)?;
     let news = news_by(alloc, members, me, body, found)?;
@@ -118,7 +118,7 @@ fn assemble(
 }
 
 /// The node takes a message that its operations heard, as far as they act.
-#[tactic(auto, using(mega_replica::proofs::Fared::fares_here, crate::proofs::Failing::fares_from))]
+#[tactic(auto, using(mega_replica::proofs::Using::used_here, crate::proofs::Failing::used_from))]
 pub(crate) fn takes<R: Records, V: Versions>(
     alloc: Global,
     replica: &mut Replica<R, V>,
@@ -144,7 +144,7 @@ pub(crate) fn takes<R: Records, V: Versions>(
     ensures stranger { result ≡ Err Stranger → IsByStranger message.now.from message.now.body }
     ensures late { result ≡ Err Late → (met : List Met) → TellsLeases replica.old.members replica.old.me replica.old.leases met → IsLate replica.old.members message.now.body }
     ensures apart { failed_by result ≡ None }
-    ensures fares { Fares V.Versions None replica.old.rows.rows replica.new.rows.rows }
+    ensures used { StoreUsed V.Versions None replica.old.rows.rows replica.new.rows.rows }
 {
     let told = is_told(alloc, replica, message)?;
     let found = decides_by(alloc, replica, message, heard.as_slice())?;
@@ -180,7 +180,7 @@ pub(crate) fn acts<R: Records, V: Versions, H: QueueHandlers>(
     ensures voter { replica.new.voter ≡ replica.old.voter }
     ensures indexed { replica.new.indexed ≡ replica.old.indexed }
     ensures unserved { result ≡ Err act.Unserved → All IsServableHeard heard → ⊥ }
-    ensures fares { Fares V.Versions (failed_to_act result) replica.old.rows.rows replica.new.rows.rows }
+    ensures used { StoreUsed V.Versions (failed_to_act result) replica.old.rows.rows replica.new.rows.rows }
 {
     let mut work = Work::new(alloc);
     replica.all_act(alloc, handlers, &mut work, heard)?;

@@ -19,27 +19,33 @@ use crate::fault::StepFault;
 use mega_actions::Replica;
 use mega_base::{Items, NoMemory};
 use mega_disk::{Records, Versions};
-use mega_stepping::mega_leases::Told as OfLeases;
+use mega_stepping::mega_leases::Reaction as OfLeases;
 use mega_stepping::{Note, as_notes, is_voter, keep_notes, own_reply, reply_message};
 use mega_wire::{Body, Message};
 use std::alloc::Global;
 
 /// What is noted and replied where a message is taken, before anything is decided by it.
 #[derive(Debug, Drop)]
-pub(crate) struct Told {
+pub(crate) struct Reaction {
     pub(crate) notes: Items<Note>,
     pub(crate) sends: Items<Message>,
 }
 
 /// What a node notes of what its leases were told, and its reply to this node: its own, or else theirs.
-fn says(alloc: Global, me: u8, to: u8, mine: Option<Body>, told: OfLeases) -> Result<Told, NoMemory>
+fn says(
+    alloc: Global,
+    me: u8,
+    to: u8,
+    mine: Option<Body>,
+    told: OfLeases,
+) -> Result<Reaction, NoMemory>
     ensures notes { IfOk result (λ made. map met_of made.notes ≡ map leases_met told.notes) }
     ensures sends { IfOk result (λ made. made.sends ≡ reply_message me to (or_reply mine told.reply)) }
 {
     let OfLeases { notes, reply } = told;
     let sends = reply_message(alloc, me, to, mine, reply)?;
     let notes = as_notes(alloc, notes)?;
-    Ok(Told { notes, sends })
+    Ok(Reaction { notes, sends })
 }
 
 /// The node takes a message: its cell and its coordinator are told, and it replies.
@@ -48,7 +54,7 @@ pub(crate) fn is_told<R: Records, V: Versions>(
     alloc: Global,
     replica: &mut Replica<R, V>,
     message: &Message,
-) -> Result<Told, StepFault>
+) -> Result<Reaction, StepFault>
     ensures notes { IfOk result (λ made. (h : Meanings) (met : List Met) → TellsLeases replica.old.members replica.old.me replica.old.leases met →
         map met_of made.notes ≡ told_notes (setting_of replica.old h) met message.now.from message.now.body) }
     ensures sends { IfOk result (λ made. (met : List Met) → Tells replica.old.voter.logs.kept met →

@@ -12,7 +12,7 @@ ghost use Rattle.mega_rules.specs.Members.{has_rows};
 ghost use Rattle.mega_rules.specs.Met.{Met};
 ghost use Rattle.mega_rules.specs.Operations.{Node as RuleNode, Operation as Open};
 ghost use Rattle.mega_rules.specs.Steps.{Tick, at_first, background, ticked};
-ghost use Rattle.mega_replica.specs.Faring.{Fares};
+ghost use Rattle.mega_replica.specs.Used.{StoreUsed};
 ghost use Rattle.mega_actions.specs.of_finishing.declared.fault.ActFault.TheVariants as act;
 ghost use Rattle.mega_actions.specs.of_finishing.Faults.{failed_by as failed_to_act};
 ghost use Rattle.mega_actions.specs.IsAt.{IsAt, setting_of};
@@ -63,7 +63,7 @@ pub(crate) fn acts_ticked<R: Records, V: Versions, H: QueueHandlers>(
     ensures voter { replica.new.voter ≡ replica.old.voter }
     ensures indexed { replica.new.indexed ≡ replica.old.indexed }
     ensures unserved { result ≡ Err act.Unserved → All IsServable operations → ⊥ }
-    ensures fares { Fares V.Versions (failed_to_act result) replica.old.rows.rows replica.new.rows.rows }
+    ensures used { StoreUsed V.Versions (failed_to_act result) replica.old.rows.rows replica.new.rows.rows }
 {
     let mut work = Work::new(alloc);
     replica.all_ticked(alloc, handlers, &mut work, now, operations)?;
@@ -71,7 +71,7 @@ pub(crate) fn acts_ticked<R: Records, V: Versions, H: QueueHandlers>(
 }
 
 /// The node ticks, as far as its operations act; these are the groups of which not all is applied that is decided.
-#[tactic(auto, using(mega_replica::proofs::Fared::fares_here))]
+#[tactic(auto, using(mega_replica::proofs::Using::used_here))]
 pub(crate) fn ticks<R: Records, V: Versions>(
     alloc: Global,
     replica: &mut Replica<R, V>,
@@ -90,7 +90,7 @@ pub(crate) fn ticks<R: Records, V: Versions>(
     ensures me { replica.new.me ≡ replica.old.me }
     ensures indexed { replica.new.indexed ≡ replica.old.indexed }
     ensures digest { replica.new.digest ≡ replica.old.digest }
-    ensures fares { Fares V.Versions None replica.old.rows.rows replica.new.rows.rows }
+    ensures used { StoreUsed V.Versions None replica.old.rows.rows replica.new.rows.rows }
 {
     let again = replica.leases.does_again(now);
     let keeps = has_rows(replica.members.cluster(), replica.me);

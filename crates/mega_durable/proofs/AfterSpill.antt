@@ -22,7 +22,7 @@ use Rattle.mega_core.specs.Faults.{of_store}
 use Rattle.mega_core.specs.of_stepping.Positions.{Keeps}
 use Rattle.mega_durable.specs.declared.fault.UpFault.{UpFault}
 use Rattle.mega_durable.specs.declared.fault.UpFault.TheVariants.{Cut, Log, Step as Failed, Unformed}
-use Rattle.mega_durable.specs.Spilling.{MaySpill, SpillFares, step_fault_of}
+use Rattle.mega_durable.specs.Spilling.{MaySpill, SpillUsed, step_fault_of}
 use Rattle.mega_durable.specs.Standing.{IsUp}
 use Rattle.mega_durable.proofs.Stepping.{burns_not}
 
@@ -37,8 +37,8 @@ spilled_not store rows marks only_now = record { later = omega arith; each = λ 
 
 -- ---- the device
 -- nothing was called, and nothing failed
-pub fares_here : {V : Type 0} (store : Ghosts V) (rows : V) → SpillFares store None rows rows
-fares_here store rows = record {
+pub used_here : {V : Type 0} (store : Ghosts V) (rows : V) → SpillUsed store None rows rows
+used_here store rows = record {
   later = omega arith;
   may_burn = burns_not (store.fuse_left rows);
   by_fuse = λ by. by;
@@ -48,8 +48,8 @@ fares_here store rows = record {
 }
 
 -- nothing was called, for want of memory
-pub fares_short : {V : Type 0} (store : Ghosts V) (rows : V) → SpillFares store (Some NoMemory) rows rows
-fares_short store rows = record {
+pub used_short : {V : Type 0} (store : Ghosts V) (rows : V) → SpillUsed store (Some NoMemory) rows rows
+used_short store rows = record {
   later = omega arith;
   may_burn = burns_not (store.fuse_left rows);
   by_fuse = λ by. by;
@@ -67,11 +67,11 @@ unfolding error_in
 error_same is = ap error_in is
 
 -- a spill that was made or refused fared as its calls did
-pub fares_made : {V : Type 0} (store : Ghosts V) (made : Result (Unit {0}) StoreError) (length : ℕ) (old new : V) → store.faults old ≤ store.faults new → MayBurn (store.fuse_left old) (store.fuse_left new)
+pub used_made : {V : Type 0} (store : Ghosts V) (made : Result (Unit {0}) StoreError) (length : ℕ) (old new : V) → store.faults old ≤ store.faults new → MayBurn (store.fuse_left old) (store.fuse_left new)
     → (store.fails_by_fuse old ≡ true → store.fails_by_fuse new ≡ true) → (made ≡ Err DiskFault → Rose (store.faults old) (store.faults new))
     → ((n : ℕ) → made ≡ Err (Full n) → (n ≡ length) × (2 ^ 40 < n)) → (store.fails_by_fuse old ≡ true → made ≡ Err DiskFault → Burns (store.fuse_left old) (store.fuse_left new))
-    → SpillFares store (result_err made) old new
-fares_made store (Ok done) length old new later may_burn by_fuse cause full burns = record {
+    → SpillUsed store (result_err made) old new
+used_made store (Ok done) length old new later may_burn by_fuse cause full burns = record {
   later = later;
   may_burn = may_burn;
   by_fuse = by_fuse;
@@ -79,7 +79,7 @@ fares_made store (Ok done) length old new later may_burn by_fuse cause full burn
   full = λ n is. absurd (cc);
   burns = λ by is. absurd (cc);
 }
-fares_made store (Err error) length old new later may_burn by_fuse cause full burns = record {
+used_made store (Err error) length old new later may_burn by_fuse cause full burns = record {
   later = later;
   may_burn = may_burn;
   by_fuse = by_fuse;
@@ -112,14 +112,14 @@ pub failed_same : {one two : StepFault} → ◌≡◌ {A = Result (Unit {0}) UpF
 unfolding fault_in
 failed_same is = ap fault_in is
 
-pub fares_told : {V : Type 0} (store : Ghosts V) (error : StoreError) (old new : V) → SpillFares store (Some error) old new → SpillFares store (of_store (step_fault_of error)) old new
-fares_told store DiskFault old new fares = fares
-fares_told store (Full length) old new fares = fares
-fares_told store (BadRecord number) old new fares = fares
-fares_told store NoMemory old new fares = record {
-  later = fares.later;
-  may_burn = fares.may_burn;
-  by_fuse = fares.by_fuse;
+pub used_told : {V : Type 0} (store : Ghosts V) (error : StoreError) (old new : V) → SpillUsed store (Some error) old new → SpillUsed store (of_store (step_fault_of error)) old new
+used_told store DiskFault old new used = used
+used_told store (Full length) old new used = used
+used_told store (BadRecord number) old new used = used
+used_told store NoMemory old new used = record {
+  later = used.later;
+  may_burn = used.may_burn;
+  by_fuse = used.by_fuse;
   cause = λ is. absurd (cc);
   full = λ n is. absurd (cc);
   burns = λ by is. absurd (cc);

@@ -4,7 +4,7 @@ use Rattle.std.proofs.lemmas.Bool.{false≢true}
 use Rattle.mega_disk.specs.declared.records.Records.{Ghosts}
 use Rattle.mega_disk.specs.Images.{LeavesOnly}
 use Rattle.mega_disk.specs.declared.versions.Versions.{Ghosts as Rows}
-use Rattle.mega_replica.specs.Faring.{Fares}
+use Rattle.mega_replica.specs.Used.{StoreUsed}
 use Rattle.mega_replica.specs.declared.rows.StoredRows.{StoredRows}
 use Rattle.mega_core.specs.declared.fault.StepFault.{StepFault}
 use Rattle.mega_core.specs.of_stepping.declared.step.Step.{Step}
@@ -18,7 +18,7 @@ use Rattle.mega_durable.specs.declared.fault.UpFault.{UpFault}
 use Rattle.mega_durable.specs.declared.fault.UpFault.TheVariants.{Step as Failed, Cut as CutOff, Log, Unformed}
 use Rattle.mega_durable.specs.declared.starting.NotStarted.{NotStarted}
 use Rattle.mega_durable.specs.declared.starting.NotStarted.TheVariants as start
-use Rattle.mega_durable.specs.Cut.{IsCut, IsCutBy, IsCutStart, IsTakenFrom, LogWent, MayLeaveStart, failed_by, is_cut, log_fault_in}
+use Rattle.mega_durable.specs.Cut.{IsCut, IsCutBy, IsCutStart, IsTakenFrom, LogProceeds, MayLeaveStart, failed_by, is_cut, log_fault_in}
 use Rattle.mega_durable.specs.Starting.{IsCutOff, IsRefused, LeavesStart, refused_by}
 
 pub cut_is : (fault : LogFault) → is_cut fault ≡ true → fault ≡ DiskFault
@@ -60,12 +60,12 @@ start_leaves store starts met old records fault leaves = by (is_cut fault)
     by true = leaves
     by false = leaves
 
-pub start_went : {R : Type 0} (store : Ghosts R) (voter : Voter R) (records : R) (fault : LogFault) → LogWent store (Some fault) voter.logs.records records → IsRefused store voter (refused_by fault records)
-start_went store voter records fault went = by (is_cut fault) refl
+pub start_proceeds : {R : Type 0} (store : Ghosts R) (voter : Voter R) (records : R) (fault : LogFault) → LogProceeds store (Some fault) voter.logs.records records → IsRefused store voter (refused_by fault records)
+start_proceeds store voter records fault proceeds = by (is_cut fault) refl
   where
     by : (test : Bool) → is_cut fault ≡ test → IsRefused store voter (cond test (start.Cut records) (start.Log fault records))
-    by true is = subst (λ (one : LogFault). LogWent store (Some one) voter.logs.records records) (cut_is fault is) went
-    by false is = (no_cut fault is, went)
+    by true is = subst (λ (one : LogFault). LogProceeds store (Some one) voter.logs.records records) (cut_is fault is) proceeds
+    by false is = (no_cut fault is, proceeds)
 
 -- ---- why a step failed
 step_in : {T : Type 0} → StepFault → Result T UpFault → StepFault
@@ -86,7 +86,7 @@ log_alone made replies (Log fault) taken = refl
 log_alone made replies Unformed taken = refl
 
 -- the rows went on as they did before the record
-pub kept_fares : {V : Type 0} (store : Rows V) (old : V) (mid new : StoredRows V) (made : Step) (replies : ℕ) (refused : UpFault) → IsTakenFrom made replies refused → new ≡ mid → Fares store None old mid.rows
-    → Fares store (failed_by {T = Step} (Err refused)) old new.rows
-kept_fares store old mid new made replies refused taken same fares =
-    coe 0 1 (i. Fares store (sym (log_alone made replies refused taken) i) old (sym same i).rows) fares
+pub kept_used : {V : Type 0} (store : Rows V) (old : V) (mid new : StoredRows V) (made : Step) (replies : ℕ) (refused : UpFault) → IsTakenFrom made replies refused → new ≡ mid → StoreUsed store None old mid.rows
+    → StoreUsed store (failed_by {T = Step} (Err refused)) old new.rows
+kept_used store old mid new made replies refused taken same used =
+    coe 0 1 (i. StoreUsed store (sym (log_alone made replies refused taken) i) old (sym same i).rows) used

@@ -26,9 +26,9 @@ use Rattle.mega_core.specs.of_stepping.Staging.{Stages}
 use Rattle.mega_core.specs.Standing.{StandsFor}
 use Rattle.mega_core.proofs.of_stepping.Staged.{nothing_staged}
 use Rattle.mega_promises.specs.Runs.{is_durable, owes, replies_in}
-use Rattle.mega_voter.specs.Faring.{LogFares}
+use Rattle.mega_voter.specs.Used.{LogUsed}
 use Rattle.mega_durable.specs.declared.cut.Cut.{Cut}
-use Rattle.mega_durable.specs.Cut.{IsOwedBy, IsTakenFrom, LogWent}
+use Rattle.mega_durable.specs.Cut.{IsOwedBy, IsTakenFrom, LogProceeds}
 use Rattle.mega_durable.specs.declared.fault.UpFault.{UpFault}
 use Rattle.mega_durable.specs.declared.fault.UpFault.TheVariants.{Step as Failed, Cut as CutOff, Log, Unformed}
 use Rattle.mega_durable.specs.Granted.{KeepsGrants}
@@ -125,8 +125,8 @@ burns_not Untold = refl
 burns_not Unset = refl
 burns_not (Left n) = inr (n, refl, omega arith)
 
-same_fares : {R : Type 0} (store : Ghosts R) (length : ℕ) (records : R) → LogFares store length None records records
-same_fares store length records = record {
+same_used : {R : Type 0} (store : Ghosts R) (length : ℕ) (records : R) → LogUsed store length None records records
+same_used store length records = record {
   later = omega arith;
   may_burn = burns_not (store.fuse_left records);
   by_fuse = λ by. by;
@@ -138,5 +138,5 @@ same_fares store length records = record {
   good = λ n failed. absurd (cc);
 }
 
-pub same_went : {R : Type 0} (store : Ghosts R) (old new : R) → new ≡ old → LogWent store None old new
-same_went store old new same = subst (LogWent store None old) (sym same) (0, same_fares store (store.length_with old 0) old)
+pub same_proceeds : {R : Type 0} (store : Ghosts R) (old new : R) → new ≡ old → LogProceeds store None old new
+same_proceeds store old new same = subst (LogProceeds store None old) (sym same) (0, same_used store (store.length_with old 0) old)

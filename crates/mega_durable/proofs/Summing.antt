@@ -17,7 +17,7 @@ use Rattle.mega_wal.proofs.Formatted.{history_fits}
 use Rattle.mega_wal.proofs.Greatest.{marks_same}
 use Rattle.mega_rules.specs.Clock.{start_of}
 use Rattle.mega_rules.specs.Met.{Met}
-use Rattle.mega_voter.specs.Faring.{LogFares}
+use Rattle.mega_voter.specs.Used.{LogUsed}
 use Rattle.mega_voter.specs.Holding.{HoldsMet}
 use Rattle.mega_voter.specs.Journal.{journal_of}
 use Rattle.mega_voter.specs.Telling.{Tells}
@@ -84,7 +84,7 @@ as_err : {T : Type 0} (fault other : LogFault) → Some fault ≡ Some other →
 unfolding fault_in
 as_err fault other is = ap (λ (one : Option LogFault). Err (fault_in other one)) is
 
-pub failed_went : {R T : Type 0} (store : Ghosts R) (bytes : ℕ) (old new : R) (fault : LogFault)
+pub failed_proceeds : {R T : Type 0} (store : Ghosts R) (bytes : ℕ) (old new : R) (fault : LogFault)
     → store.faults old ≤ store.faults new → MayBurn (store.fuse_left old) (store.fuse_left new) → (store.fails_by_fuse old ≡ true → store.fails_by_fuse new ≡ true) → store.opened new ≡ store.opened old
     → (◌≡◌ {A = Result T LogFault} (Err fault) (Err DiskFault) → Rose (store.faults old) (store.faults new))
     → (store.fails_by_fuse old ≡ true → ◌≡◌ {A = Result T LogFault} (Err fault) (Err DiskFault) → Burns (store.fuse_left old) (store.fuse_left new))
@@ -93,7 +93,7 @@ pub failed_went : {R T : Type 0} (store : Ghosts R) (bytes : ℕ) (old new : R) 
     → (◌≡◌ {A = Result T LogFault} (Err fault) (Err Spent) → store.is_spent old ≡ true) → (◌≡◌ {A = Result T LogFault} (Err fault) (Err Spent) → new ≡ old)
     → ((n : ℕ) → ◌≡◌ {A = Result T LogFault} (Err fault) (Err (BadRecord n)) → ⊥)
     → LogCompacts store (Some fault) old new
-failed_went store bytes old new fault later may_burn by_fuse opened cause burns full unchanged spent idle good = (
+failed_proceeds store bytes old new fault later may_burn by_fuse opened cause burns full unchanged spent idle good = (
   bytes,
   record {
     later = later;
@@ -109,9 +109,9 @@ failed_went store bytes old new fault later may_burn by_fuse opened cause burns 
 )
 
 -- a log that was compacted, or that nothing was done to
-pub compacted_went : {R : Type 0} (store : Ghosts R) (bytes : ℕ) (old new : R) → store.faults old ≤ store.faults new → MayBurn (store.fuse_left old) (store.fuse_left new)
+pub compacted_proceeds : {R : Type 0} (store : Ghosts R) (bytes : ℕ) (old new : R) → store.faults old ≤ store.faults new → MayBurn (store.fuse_left old) (store.fuse_left new)
     → (store.fails_by_fuse old ≡ true → store.fails_by_fuse new ≡ true) → store.opened new ≡ store.opened old → LogCompacts store None old new
-compacted_went store bytes old new later may_burn by_fuse opened = (
+compacted_proceeds store bytes old new later may_burn by_fuse opened = (
   bytes,
   record {
     later = later;
@@ -127,4 +127,4 @@ compacted_went store bytes old new later may_burn by_fuse opened = (
 )
 
 pub same_compacts : {R : Type 0} (store : Ghosts R) (records : R) → LogCompacts store None records records
-same_compacts store records = compacted_went store 0 records records (omega arith) (burns_not (store.fuse_left records)) (λ by. by) refl
+same_compacts store records = compacted_proceeds store 0 records records (omega arith) (burns_not (store.fuse_left records)) (λ by. by) refl

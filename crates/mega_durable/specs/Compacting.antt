@@ -10,7 +10,7 @@ use Rattle.mega_wal.specs.Compaction.{compacted_text}
 use Rattle.mega_rules.specs.Clock.{start_of}
 use Rattle.mega_rules.specs.Met.{Met}
 use Rattle.mega_rules.specs.Operations.{Node as RuleNode}
-use Rattle.mega_voter.specs.Faring.{LogFares}
+use Rattle.mega_voter.specs.Used.{LogUsed}
 use Rattle.mega_voter.specs.Holding.{HoldsMet}
 use Rattle.mega_voter.specs.Telling.{Tells}
 use Rattle.mega_core.specs.declared.node.Node.{Node}
@@ -46,4 +46,4 @@ OwesNothing up.Unformed = Unit {0}
 
 -- the device of the log only went on, and if the log was not compacted it was for what is said of it; the file would have some length then
 abbrev pub LogCompacts : {R : Type 0} → Ghosts R → Option LogFault → R → R → Type 0
-LogCompacts store failed old new = (bytes : ℕ) × LogFares store (store.length_replaced old bytes) failed old new
+LogCompacts store failed old new = (bytes : ℕ) × LogUsed store (store.length_replaced old bytes) failed old new

@@ -10,7 +10,7 @@ use Rattle.mega_rules.specs.Met.{Met, Crashes}
 use Rattle.mega_rules.specs.Operations.{Node as RuleNode, Setting}
 use Rattle.mega_rules.specs.Steps.{Event, onto, step}
 use Rattle.mega_leases.specs.Opening.{AreOwed}
-use Rattle.mega_voter.specs.Faring.{LogFares}
+use Rattle.mega_voter.specs.Used.{LogUsed}
 use Rattle.mega_voter.specs.Holding.{HoldsMet}
 use Rattle.mega_core.specs.of_node_laws.Acted.{own_item}
 use Rattle.mega_core.specs.of_stepping.declared.step.Step.{Step}
@@ -112,5 +112,5 @@ is_cut (BadRecord number) = false
 is_cut NoMemory = false
 
 -- the device of the log only went on, and if the record was not kept it was for what is said of it; the file would have some length with it
-abbrev pub LogWent : {R : Type 0} → Ghosts R → Option LogFault → R → R → Type 0
-LogWent store failed old new = (bytes : ℕ) × LogFares store (store.length_with old bytes) failed old new
+abbrev pub LogProceeds : {R : Type 0} → Ghosts R → Option LogFault → R → R → Type 0
+LogProceeds store failed old new = (bytes : ℕ) × LogUsed store (store.length_with old bytes) failed old new

@@ -47,7 +47,7 @@ abbrev pub MaySpill : {V : Type 0} → Ghosts V → V → Marks → Stored → T
 MaySpill store old marks found = store.may_open old found ⊎ IsSpilled marks (store.cleaned old) (store.version old) found
 
 -- the rows' device only went on, and if the rows were not spilled it was for what is said of it; memory may be wanting
-pub record SpillFares {V : Type 0} (store : Ghosts V) (failed : Option StoreError) (old new : V) : Type 0 where
+pub record SpillUsed {V : Type 0} (store : Ghosts V) (failed : Option StoreError) (old new : V) : Type 0 where
   pub later : store.faults old ≤ store.faults new
   pub may_burn : MayBurn (store.fuse_left old) (store.fuse_left new)
   pub by_fuse : store.fails_by_fuse old ≡ true → store.fails_by_fuse new ≡ true

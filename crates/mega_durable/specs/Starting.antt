@@ -13,7 +13,7 @@ use Rattle.mega_voter.specs.Holding.{HoldsMet}
 use Rattle.mega_durable.specs.declared.down.Down.{Down}
 use Rattle.mega_durable.specs.declared.starting.NotStarted.{NotStarted}
 use Rattle.mega_durable.specs.declared.starting.NotStarted.TheVariants.{Cut, Log, NoMemory, StartsFull}
-use Rattle.mega_durable.specs.Cut.{IsCutStart, LogWent, MayLeaveStart, is_cut}
+use Rattle.mega_durable.specs.Cut.{IsCutStart, LogProceeds, MayLeaveStart, is_cut}
 use Rattle.mega_durable.specs.Standing.{MayStart}
 
 -- of each history over which the node may start
@@ -31,8 +31,8 @@ refused_by fault records = if is_cut fault then Cut records else Log fault recor
 -- the number of starts is full and the records are as they were, or the device did not keep the record, or memory was wanting
 abbrev pub IsRefused : {R : Type 0} → Ghosts R → Voter R → NotStarted R → Type 0
 IsRefused store voter (StartsFull records) = (voter.logs.kept.starts ≡ 4294967295) × (records ≡ voter.logs.records)
-IsRefused store voter (Cut records) = LogWent store (Some DiskFault) voter.logs.records records
-IsRefused store voter (Log fault records) = (fault ≢ DiskFault) × LogWent store (Some fault) voter.logs.records records
+IsRefused store voter (Cut records) = LogProceeds store (Some DiskFault) voter.logs.records records
+IsRefused store voter (Log fault records) = (fault ≢ DiskFault) × LogProceeds store (Some fault) voter.logs.records records
 IsRefused store voter NoMemory = Unit {0}
 
 -- where the log's fuse cut the start, the records hold what the node met and owes

@@ -43,7 +43,7 @@ fn summed<R: Records>(alloc: Global, logs: &mut Logs<R>) -> Result<(), UpFault>
     ensures still_open { OnOk result (R.is_spent logs.new.records ≡ R.is_spent logs.old.records) }
     ensures formed { result ≡ Err Unformed → AtEachHeld R.Records logs.old (λ met. ⊥) }
     ensures owed { IfErr result (λ refused. OwesNothing refused) }
-    ensures went { LogCompacts R.Records (log_failed_by result) logs.old.records logs.new.records }
+    ensures proceeds { LogCompacts R.Records (log_failed_by result) logs.old.records logs.new.records }
 {
     let items = match logs.summary(alloc) {
         Ok(items) => items,
@@ -78,7 +78,7 @@ fn compacted<R: Records>(alloc: Global, logs: &mut Logs<R>) -> Result<(), UpFaul
     ensures still_open { OnOk result (R.is_spent logs.new.records ≡ R.is_spent logs.old.records) }
     ensures formed { result ≡ Err Unformed → AtEachHeld R.Records logs.old (λ met. ⊥) }
     ensures owed { IfErr result (λ refused. OwesNothing refused) }
-    ensures went { LogCompacts R.Records (log_failed_by result) logs.old.records logs.new.records }
+    ensures proceeds { LogCompacts R.Records (log_failed_by result) logs.old.records logs.new.records }
 {
     if !is_due(logs) {
         return Ok(());
@@ -104,7 +104,7 @@ impl<R: Records, V: Versions> Up<R, V> {
         ensures formed { R.is_told ≡ true → result ≡ Err Unformed → AtEachUp R.Records V.version self.old.node (λ h node. ⊥) }
 
         ensures owed { IfErr result (λ refused. OwesNothing refused) }
-        ensures went { LogCompacts R.Records (log_failed_by result) (records_in self.old.node) (records_in self.new.node) }
+        ensures proceeds { LogCompacts R.Records (log_failed_by result) (records_in self.old.node) (records_in self.new.node) }
 
         // Nothing of the node changes but the records of its log.
         ensures kept { self.new.node.replica.voter.logs.kept ≡ self.old.node.replica.voter.logs.kept }

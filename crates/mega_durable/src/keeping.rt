@@ -5,7 +5,7 @@ ghost use Rattle.mega_wal.specs.Items.{IsItem};
 ghost use Rattle.mega_rules.specs.Steps.{step};
 ghost use Rattle.mega_promises.specs.Runs.{appends};
 ghost use Rattle.mega_durable.specs.declared.fault.UpFault.TheVariants.{Unformed};
-ghost use Rattle.mega_durable.specs.Cut.{IsCutBy, IsTakenFrom, IsWhole, LogWent, MayLeave, is_cut, log_failed_by, log_fault_in};
+ghost use Rattle.mega_durable.specs.Cut.{IsCutBy, IsTakenFrom, IsWhole, LogProceeds, MayLeave, is_cut, log_failed_by, log_fault_in};
 ghost use Rattle.mega_durable.specs.Standing.{IsUp, records_in};
 ghost use Rattle.mega_durable.specs.Stepped.{AtStep};
 
@@ -64,7 +64,7 @@ pub(crate) fn keep<R: Records, V: Versions>(
     ensures burnt { R.is_told ≡ true → R.by_four ≡ true → IfErr result (λ refused. AtStep R.Records V.version node.old (λ h s ruled event was. IsCutBy R.Records s ruled event was (records_in node.new) refused)) }
     ensures owed { IfErr result (λ refused. IsTakenFrom made replies refused) }
     ensures formed { result ≡ Err Unformed → AtStep R.Records V.version node.old (λ h s ruled event was. ⊥) }
-    ensures went { LogWent R.Records (log_failed_by result) (records_in node.old) (records_in node.new) }
+    ensures proceeds { LogProceeds R.Records (log_failed_by result) (records_in node.old) (records_in node.new) }
     ensures rows { node.new.replica.rows ≡ node.old.replica.rows }
     ensures members { node.new.replica.members ≡ node.old.replica.members }
     ensures me { node.new.replica.me ≡ node.old.replica.me }

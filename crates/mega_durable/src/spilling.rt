@@ -10,7 +10,7 @@ ghost use Rattle.mega_core.specs.declared.fault.StepFault.TheVariants.{BadRecord
 ghost use Rattle.mega_durable.specs.declared.fault.UpFault.TheVariants.{Step as Failed};
 ghost use Rattle.mega_durable.specs.Compacting.{AtEachUp};
 ghost use Rattle.mega_durable.specs.Cut.{failed_by};
-ghost use Rattle.mega_durable.specs.Spilling.{AreSpilled, AtEachKept, IsNotSpilled, MaySpill, SpillFares, mark_at, marks_of, rows_in, step_fault_of};
+ghost use Rattle.mega_durable.specs.Spilling.{AreSpilled, AtEachKept, IsNotSpilled, MaySpill, SpillUsed, mark_at, marks_of, rows_in, step_fault_of};
 ghost use Rattle.mega_durable.specs.Standing.{IsUp};
 
 use crate::fault::UpFault;
@@ -84,7 +84,7 @@ fn spill_all<R: Records, V: Versions>(
     ensures cut { V.is_told ≡ true → AtEachKept V.version voter.now.logs.kept rows.old (λ met stored. LeavesOnly V.moment V.opened_since rows.old.rows rows.new.rows (MaySpill V.Versions rows.old.rows (marks_of met stored))) }
     ensures full { (n : ℕ) → result ≡ Err (StoreError.Full n) → AtEachKept V.version voter.now.logs.kept rows.old (λ met stored. n ≡ V.length_spilled rows.old.rows (marks_of met stored)) }
     ensures bad { (n : ℕ) → result ≡ Err (StoreError.BadRecord n) → V.is_bad rows.old.rows n }
-    ensures fares { SpillFares V.Versions (result_err result) rows.old.rows rows.new.rows }
+    ensures used { SpillUsed V.Versions (result_err result) rows.old.rows rows.new.rows }
 {
     let marks = match marks_of(alloc, voter, rows) {
         Ok(marks) => marks,
@@ -111,7 +111,7 @@ pub(crate) fn spilled<R: Records, V: Versions>(
     ensures cut { V.is_told ≡ true → AtEachKept V.version voter.now.logs.kept rows.old (λ met stored. LeavesOnly V.moment V.opened_since rows.old.rows rows.new.rows (MaySpill V.Versions rows.old.rows (marks_of met stored))) }
     ensures full { (n : ℕ) → result ≡ Err (StoreError.Full n) → AtEachKept V.version voter.now.logs.kept rows.old (λ met stored. n ≡ V.length_spilled rows.old.rows (marks_of met stored)) }
     ensures bad { (n : ℕ) → result ≡ Err (StoreError.BadRecord n) → V.is_bad rows.old.rows n }
-    ensures fares { SpillFares V.Versions (result_err result) rows.old.rows rows.new.rows }
+    ensures used { SpillUsed V.Versions (result_err result) rows.old.rows rows.new.rows }
 {
     if !rows.rows.full() {
         return Ok(());
@@ -151,7 +151,7 @@ impl<R: Records, V: Versions> Up<R, V> {
         ensures only { IfErr result IsNotSpilled }
         ensures full { (n : ℕ) → result ≡ Err (Failed (StepFull n)) → AtEachUp R.Records V.version self.old.node (λ h node. n ≡ V.length_spilled (rows_in self.old.node) (marks_of node.met node.stored)) }
         ensures bad { (n : ℕ) → result ≡ Err (Failed (BadRecord n)) → V.is_bad (rows_in self.old.node) n }
-        ensures fares { SpillFares V.Versions (failed_by result) (rows_in self.old.node) (rows_in self.new.node) }
+        ensures used { SpillUsed V.Versions (failed_by result) (rows_in self.old.node) (rows_in self.new.node) }
 
         // Nothing of the node changes but the store of its rows.
         ensures progress { self.new.node.replica.rows.progress ≡ self.old.node.replica.rows.progress }

@@ -14,7 +14,7 @@ ghost use Rattle.mega_core.specs.of_actions.of_proposing.Settings.{setting};
 ghost use Rattle.mega_core.specs.of_stepping.Notes.{met_of};
 ghost use Rattle.mega_core.specs.Served.{IsServed};
 ghost use Rattle.mega_core.specs.Standing.{StandsFor};
-ghost use Rattle.mega_durable.specs.Cut.{IsCutStart, IsWhole, LogWent, MayLeaveStart};
+ghost use Rattle.mega_durable.specs.Cut.{IsCutStart, IsWhole, LogProceeds, MayLeaveStart};
 ghost use Rattle.mega_durable.specs.Standing.{IsUp, MayStart, records_in};
 ghost use Rattle.mega_durable.specs.Starting.{AtEachStart, AtStarts, IsCutOff, IsRefused, LeavesStart, refused_by};
 
@@ -76,7 +76,7 @@ fn kept<R: Records + Drop, V: Versions + Drop>(
         (λ refused. AtStarts R.Records (records_in made.node) (λ starts met. LeavesOnly R.moment R.opened_since (records_in made.node) refused.1 (MayLeaveStart starts met))) }
     ensures whole { R.by_four ≡ true → IfOk result (λ started. IsWhole R.Records true (records_in made.node) (records_in started.up.node)) }
     ensures burnt { R.is_told ≡ true → R.by_four ≡ true → IfErr result (λ refused. refused.0 ≡ DiskFault → AtStarts R.Records (records_in made.node) (λ starts met. IsCutStart R.Records starts met (records_in made.node) refused.1)) }
-    ensures went { MatchResult result (λ started. LogWent R.Records None (records_in made.node) (records_in started.up.node)) (λ refused. LogWent R.Records (Some refused.0) (records_in made.node) refused.1) }
+    ensures proceeds { MatchResult result (λ started. LogProceeds R.Records None (records_in made.node) (records_in started.up.node)) (λ refused. LogProceeds R.Records (Some refused.0) (records_in made.node) refused.1) }
     ensures start { IfOk result (λ started. started.start ≡ made.start) }
     ensures notes { IfOk result (λ started. started.notes ≡ made.notes) }
     ensures members { IfOk result (λ started. started.up.node.replica.members ≡ made.node.replica.members) }
@@ -132,7 +132,7 @@ impl<R: Records + Drop, V: Versions + Drop> Up<R, V> {
         ensures whole { R.by_four ≡ true → IfOk result (λ made. IsWhole R.Records true down.voter.logs.records (records_in made.up.node)) }
         ensures burnt { R.is_told ≡ true → R.by_four ≡ true → IfErr result (λ refused. AtEachStart R.Records V.version cluster me down (λ h starts met owed. IsCutOff R.Records starts (onto owed met) down.voter.logs.records refused)) }
 
-        ensures went { MatchResult result (λ made. LogWent R.Records None down.voter.logs.records (records_in made.up.node)) (λ refused. IsRefused R.Records down.voter refused) }
+        ensures proceeds { MatchResult result (λ made. LogProceeds R.Records None down.voter.logs.records (records_in made.up.node)) (λ refused. IsRefused R.Records down.voter refused) }
         ensures members { IfOk result (λ made. made.up.node.replica.members ≡ cluster) }
         ensures me { IfOk result (λ made. made.up.node.replica.me ≡ me) }
     {

@@ -6,13 +6,13 @@ ghost use Rattle.mega_handler.specs.Named.{Meanings};
 ghost use Rattle.mega_leases.specs.Taking.{IsByStranger, IsLate};
 ghost use Rattle.mega_rules.specs.Operations.{Node as RuleNode};
 ghost use Rattle.mega_rules.specs.Steps.{Begin, Take, Tick, step};
-ghost use Rattle.mega_replica.specs.Faring.{Fares};
+ghost use Rattle.mega_replica.specs.Used.{StoreUsed};
 ghost use Rattle.mega_core.specs.of_actions.of_proposing.Servable.{is_served};
 ghost use Rattle.mega_core.specs.declared.fault.StepFault.TheVariants.{Late, Stranger, Unserved};
 ghost use Rattle.mega_core.specs.of_stepping.Notes.{met_of};
 ghost use Rattle.mega_promises.specs.Runs.{appends};
 ghost use Rattle.mega_durable.specs.declared.fault.UpFault.TheVariants.{Step as Failed, Unformed};
-ghost use Rattle.mega_durable.specs.Cut.{IsCutBy, IsOwedBy, IsWhole, LogWent, MayLeave, failed_by, log_failed_by};
+ghost use Rattle.mega_durable.specs.Cut.{IsCutBy, IsOwedBy, IsWhole, LogProceeds, MayLeave, failed_by, log_failed_by};
 ghost use Rattle.mega_durable.specs.Standing.{IsUp, records_in};
 ghost use Rattle.mega_durable.specs.Stepped.{AtEach};
 
@@ -63,8 +63,8 @@ impl<R: Records, V: Versions> Up<R, V> {
         ensures stranger { result ≡ Err (Failed Stranger) → IsByStranger message.now.from message.now.body }
         ensures late { result ≡ Err (Failed Late) → (h : Meanings) (node : RuleNode) → IsUp R.Records V.version h self.old.node node → IsLate self.old.node.replica.members message.now.body }
         ensures handlers { H.meant handlers.new ≡ H.meant handlers.old }
-        ensures went { LogWent R.Records (log_failed_by result) (records_in self.old.node) (records_in self.new.node) }
-        ensures fares { Fares V.Versions (failed_by result) self.old.node.replica.rows.rows self.new.node.replica.rows.rows }
+        ensures proceeds { LogProceeds R.Records (log_failed_by result) (records_in self.old.node) (records_in self.new.node) }
+        ensures used { StoreUsed V.Versions (failed_by result) self.old.node.replica.rows.rows self.new.node.replica.rows.rows }
         ensures members { self.new.node.replica.members ≡ self.old.node.replica.members }
         ensures me { self.new.node.replica.me ≡ self.old.node.replica.me }
     {
@@ -107,8 +107,8 @@ impl<R: Records, V: Versions> Up<R, V> {
         ensures stranger { result ≢ Err (Failed Stranger) }
         ensures late { result ≢ Err (Failed Late) }
         ensures handlers { H.meant handlers.new ≡ H.meant handlers.old }
-        ensures went { LogWent R.Records (log_failed_by result) (records_in self.old.node) (records_in self.new.node) }
-        ensures fares { Fares V.Versions (failed_by result) self.old.node.replica.rows.rows self.new.node.replica.rows.rows }
+        ensures proceeds { LogProceeds R.Records (log_failed_by result) (records_in self.old.node) (records_in self.new.node) }
+        ensures used { StoreUsed V.Versions (failed_by result) self.old.node.replica.rows.rows self.new.node.replica.rows.rows }
         ensures members { self.new.node.replica.members ≡ self.old.node.replica.members }
         ensures me { self.new.node.replica.me ≡ self.old.node.replica.me }
     {
@@ -148,8 +148,8 @@ impl<R: Records, V: Versions> Up<R, V> {
         ensures stranger { result ≢ Err (Failed Stranger) }
         ensures late { result ≢ Err (Failed Late) }
         ensures handlers { H.meant handlers.new ≡ H.meant handlers.old }
-        ensures went { LogWent R.Records (log_failed_by result) (records_in self.old.node) (records_in self.new.node) }
-        ensures fares { Fares V.Versions (failed_by result) self.old.node.replica.rows.rows self.new.node.replica.rows.rows }
+        ensures proceeds { LogProceeds R.Records (log_failed_by result) (records_in self.old.node) (records_in self.new.node) }
+        ensures used { StoreUsed V.Versions (failed_by result) self.old.node.replica.rows.rows self.new.node.replica.rows.rows }
         ensures members { self.new.node.replica.members ≡ self.old.node.replica.members }
         ensures me { self.new.node.replica.me ≡ self.old.node.replica.me }
     {

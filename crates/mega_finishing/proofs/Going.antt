@@ -16,8 +16,8 @@ use Rattle.mega_read.specs.declared.reading.Reading.{Reading}
 use Rattle.mega_rules.specs.Operations.{Now, Operation, Reads, Setting}
 use Rattle.mega_rules.specs.Acting.{batch_sealed, ends, finishes, listed_at, rows_at, sealed}
 use Rattle.mega_marks.specs.of_node_laws.About.{IsOf}
-use Rattle.mega_finishing.specs.declared.came.Came.{Came}
-use Rattle.mega_finishing.specs.declared.came.Came.TheVariants.{Alone, Batched}
+use Rattle.mega_finishing.specs.declared.request_outcome.RequestOutcome.{RequestOutcome}
+use Rattle.mega_finishing.specs.declared.request_outcome.RequestOutcome.TheVariants.{Alone, Batched}
 use Rattle.mega_proposing.specs.Servable.{is_proposed}
 use Rattle.mega_finishing.specs.Coming.{comes, sealed_by}
 use Rattle.mega_finishing.specs.Sees.{Sees}
@@ -63,12 +63,12 @@ module _ (s : Setting) (again : Now → Operation → Now) (now : Now) (group : 
   ends_full PumpHandle built full = cc
   ends_full Refresh built full = cc
 
-  abbrev by : Request → Option Came → Now
+  abbrev by : Request → Option RequestOutcome → Now
   by request None = now
   by request (Some came) = sealed_by s now (one request) group r p came
 
   -- else it goes on by what its request comes to
-  pub goes_by : (request : Request) (came : Came) → nat_le (s.cluster.limit).0 p ≡ false → comes s.cluster.schema request (rows_at now group p) ≡ Some came → finishes s again now (one request) group r p ≡ sealed_by s now (one request) group r p came
+  pub goes_by : (request : Request) (came : RequestOutcome) → nat_le (s.cluster.limit).0 p ≡ false → comes s.cluster.schema request (rows_at now group p) ≡ Some came → finishes s again now (one request) group r p ≡ sealed_by s now (one request) group r p came
   goes_by (Txn transaction) came room is =
       ap (λ (t : Bool). if t then ends now id (LogFull (record { 0 = p })) else sealed s now (one (Txn transaction)) group r p (outcome s.cluster.schema transaction (rows_at now group p))) room
       ∙ ap (by (Txn transaction)) is

@@ -9,7 +9,7 @@ use Rattle.mega_disk.specs.declared.versions.Versions.{Ghosts}
 use Rattle.mega_outcome.specs.declared.answer.Turn.{Turn}
 use Rattle.mega_outcome.specs.declared.answer.Turn.TheVariants as turn
 use Rattle.mega_outcome.specs.Looks.{Looked, Looks}
-use Rattle.mega_replica.specs.Faring.{Fares}
+use Rattle.mega_replica.specs.Used.{StoreUsed}
 use Rattle.mega_finishing.specs.declared.fault.ActFault.{ActFault}
 use Rattle.mega_finishing.specs.declared.fault.ActFault.TheVariants as act
 use Rattle.mega_finishing.specs.Faults.{error_of, fault_of, of_store}
@@ -75,7 +75,7 @@ bad_result (Ok x) n is = cc
 bad_result (Err refusal) n is = ap Err (bad_turn refusal n is)
 
 -- what a run says of its device, as one record
-pub fares_run : {V T : Type 0} (store : Ghosts V) (result : Result T Turn) (old new : V)
+pub used_run : {V T : Type 0} (store : Ghosts V) (result : Result T Turn) (old new : V)
     → store.faults old ≤ store.faults new
     → ((n : ℕ) → store.is_bad new n → store.is_bad old n)
     → MayBurn (store.fuse_left old) (store.fuse_left new)
@@ -84,8 +84,8 @@ pub fares_run : {V T : Type 0} (store : Ghosts V) (result : Result T Turn) (old 
     → ((n : ℕ) → result ≡ Err (turn.BadRecord n) → store.is_bad old n)
     → ((n : ℕ) → result ≡ Err (turn.Full n) → ⊥)
     → (store.fails_by_fuse old ≡ true → result ≡ Err turn.DiskFault → Burns (store.fuse_left old) (store.fuse_left new))
-    → Fares store (refused_by result) old new
-fares_run store result old new later bad_stays may_burn by_fuse cause bad never_full burns = record {
+    → StoreUsed store (refused_by result) old new
+used_run store result old new later bad_stays may_burn by_fuse cause bad never_full burns = record {
   later = later;
   bad_stays = bad_stays;
   may_burn = may_burn;
@@ -97,24 +97,24 @@ fares_run store result old new later bad_stays may_burn by_fuse cause bad never_
 }
 
 -- a refusal that is a fault, and one that is none
-pub fares_fault : {V : Type 0} (store : Ghosts V) (refusal : Turn) (fault : ActFault) (old new : V) → Some fault ≡ fault_of refusal → Fares store (by_turn refusal) old new → Fares store (of_store fault) old new
-fares_fault store refusal fault old new is fares = subst (λ (found : Option ActFault). Fares store (by_fault found) old new) (sym is) fares
+pub used_fault : {V : Type 0} (store : Ghosts V) (refusal : Turn) (fault : ActFault) (old new : V) → Some fault ≡ fault_of refusal → StoreUsed store (by_turn refusal) old new → StoreUsed store (of_store fault) old new
+used_fault store refusal fault old new is used = subst (λ (found : Option ActFault). StoreUsed store (by_fault found) old new) (sym is) used
 
-pub fares_turned : {V : Type 0} (store : Ghosts V) (refusal : Turn) (old new : V) → None ≡ fault_of refusal → Fares store (by_turn refusal) old new → Fares store None old new
-fares_turned store refusal old new is fares = subst (λ (found : Option ActFault). Fares store (by_fault found) old new) (sym is) fares
+pub used_turned : {V : Type 0} (store : Ghosts V) (refusal : Turn) (old new : V) → None ≡ fault_of refusal → StoreUsed store (by_turn refusal) old new → StoreUsed store None old new
+used_turned store refusal old new is used = subst (λ (found : Option ActFault). StoreUsed store (by_fault found) old new) (sym is) used
 
 -- calls that went well on their device, before one that failed for no fault of it
-pub fares_apart : {V : Type 0} (store : Ghosts V) (failed : Option StoreError) (old new : V) → failed ≡ None → Fares store None old new → Fares store failed old new
-fares_apart store failed old new is fares = subst (λ (error : Option StoreError). Fares store error old new) (sym is) fares
+pub used_apart : {V : Type 0} (store : Ghosts V) (failed : Option StoreError) (old new : V) → failed ≡ None → StoreUsed store None old new → StoreUsed store failed old new
+used_apart store failed old new is used = subst (λ (error : Option StoreError). StoreUsed store error old new) (sym is) used
 
 -- one that found no memory
-pub fares_unkept : {V : Type 0} (store : Ghosts V) (fault : ActFault) (old new : V) → fault ≡ act.NoMemory → Fares store None old new → Fares store (of_store fault) old new
-fares_unkept store fault old new is fares = fares_apart store (of_store fault) old new (ap of_store is) fares
+pub used_unkept : {V : Type 0} (store : Ghosts V) (fault : ActFault) (old new : V) → fault ≡ act.NoMemory → StoreUsed store None old new → StoreUsed store (of_store fault) old new
+used_unkept store fault old new is used = used_apart store (of_store fault) old new (ap of_store is) used
 
 -- ---- looks
 
-pub fares_looks : {V : Type 0} (store : Ghosts V) (failed : Option StoreError) (old new : V) → Looks store failed old new → Fares store failed old new
-fares_looks store failed old new looks = record {
+pub used_looks : {V : Type 0} (store : Ghosts V) (failed : Option StoreError) (old new : V) → Looks store failed old new → StoreUsed store failed old new
+used_looks store failed old new looks = record {
   later = looks.looked.later;
   bad_stays = looks.looked.bad_stays;
   may_burn = looks.looked.may_burn;
@@ -125,8 +125,8 @@ fares_looks store failed old new looks = record {
   burns = looks.burns;
 }
 
-looked_fares : {V : Type 0} (store : Ghosts V) (old new : V) → Looked store old new → Fares store None old new
-looked_fares store old new looked = record {
+looked_used : {V : Type 0} (store : Ghosts V) (old new : V) → Looked store old new → StoreUsed store None old new
+looked_used store old new looked = record {
   later = looked.later;
   bad_stays = looked.bad_stays;
   may_burn = looked.may_burn;
@@ -141,11 +141,11 @@ looked_fares store old new looked = record {
     none_is is = cc
 
 -- a look that failed
-pub fares_error : {V : Type 0} (store : Ghosts V) (error : StoreError) (fault : ActFault) (old new : V) → of_store fault ≡ error_of error → Looks store (Some error) old new → Fares store (of_store fault) old new
-fares_error store error fault old new is looks = subst (λ (failed : Option StoreError). Fares store failed old new) (sym is) (by error looks)
+pub used_error : {V : Type 0} (store : Ghosts V) (error : StoreError) (fault : ActFault) (old new : V) → of_store fault ≡ error_of error → Looks store (Some error) old new → StoreUsed store (of_store fault) old new
+used_error store error fault old new is looks = subst (λ (failed : Option StoreError). StoreUsed store failed old new) (sym is) (by error looks)
   where
-    by : (error : StoreError) → Looks store (Some error) old new → Fares store (error_of error) old new
-    by DiskFault looks = fares_looks store (Some DiskFault) old new looks
-    by (Full n) looks = fares_looks store (Some (Full n)) old new looks
-    by (BadRecord n) looks = fares_looks store (Some (BadRecord n)) old new looks
-    by NoMemory looks = looked_fares store old new looks.looked
+    by : (error : StoreError) → Looks store (Some error) old new → StoreUsed store (error_of error) old new
+    by DiskFault looks = used_looks store (Some DiskFault) old new looks
+    by (Full n) looks = used_looks store (Some (Full n)) old new looks
+    by (BadRecord n) looks = used_looks store (Some (BadRecord n)) old new looks
+    by NoMemory looks = looked_used store old new looks.looked

@@ -28,15 +28,15 @@ use Rattle.mega_proposing.proofs.Doing.{does_met, does_stored}
 -- ---- what is left to do
 
 pub pumped_then : (again : Now → Operation → Now) (now : Now) (pumped : Pumped) → pumped_by again now pumped ≡ then_again again (pumped_after now pumped) (next_of pumped)
-pumped_then again now (Done deed) = refl
+pumped_then again now (Done action) = refl
 pumped_then again now (Again heard) = refl
 
 pub pumped_met : (now : Now) (pumped : Pumped) → (pumped_after now pumped).met ≡ now.met
-pumped_met now (Done deed) = does_met now deed
+pumped_met now (Done action) = does_met now action
 pumped_met now (Again heard) = refl
 
 pub pumped_stored : (now : Now) (pumped : Pumped) → (pumped_after now pumped).stored ≡ now.stored
-pumped_stored now (Done deed) = does_stored now deed
+pumped_stored now (Done action) = does_stored now action
 pumped_stored now (Again heard) = refl
 
 any_group : (request : Request) (group : GroupId) → is_pump request ≡ true → IsOf request group
@@ -56,7 +56,7 @@ pump_about o pump = by o.phase
     by (Proposes group n asked proposal promised) = any_group o.request group pump
 
 pub next_about : (pumped : Pumped) (request : Request) → is_pump request ≡ true → IsAsked pumped request → IsNextAbout (next_of pumped)
-next_about (Done deed) request pump asked = tt
+next_about (Done action) request pump asked = tt
 next_about (Again heard) request pump asked = pump_about heard.operation (ap is_pump asked ∙ pump)
 
 -- ---- what it picked
@@ -136,5 +136,5 @@ pump_begins s now op PumpHandle clock pump = refl
 pump_begins s now op Refresh clock pump = absurd (cc)
 
 pub next_asked : (pumped : Pumped) (request : Request) → IsAsked pumped request → IsNextAsked (next_of pumped) request
-next_asked (Done deed) request asked = tt
+next_asked (Done action) request asked = tt
 next_asked (Again heard) request asked = asked

@@ -7,7 +7,7 @@ use Rattle.mega_finishing.specs.declared.pumping.Pumped.{Pumped}
 use Rattle.mega_finishing.specs.declared.pumping.Pumped.TheVariants.{Again, Done}
 
 abbrev pub IsAsked : Pumped → Request → Type 0
-IsAsked (Done deed) request = Unit {0}
+IsAsked (Done action) request = Unit {0}
 IsAsked (Again heard) request = (heard.operation).request ≡ request
 
 -- an operation that acts again is about its group

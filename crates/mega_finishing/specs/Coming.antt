@@ -9,10 +9,10 @@ use Rattle.mega_outcome.specs.Outcome.{batch_outcome, outcome}
 use Rattle.mega_read.specs.declared.reading.Reading.{Reading}
 use Rattle.mega_rules.specs.Operations.{Now, Operation, Setting}
 use Rattle.mega_rules.specs.Acting.{batch_sealed, sealed}
-use Rattle.mega_finishing.specs.declared.came.Came.{Came}
-use Rattle.mega_finishing.specs.declared.came.Came.TheVariants.{Alone, Batched}
+use Rattle.mega_finishing.specs.declared.request_outcome.RequestOutcome.{RequestOutcome}
+use Rattle.mega_finishing.specs.declared.request_outcome.RequestOutcome.TheVariants.{Alone, Batched}
 
-abbrev pub comes : Schema → Request → Rows → Option Came
+abbrev pub comes : Schema → Request → Rows → Option RequestOutcome
 comes schema (Txn transaction) rows = Some (Alone (outcome schema transaction rows))
 comes schema (Batch own transactions) rows = Some (Batched (batch_outcome schema own transactions rows))
 comes schema (Read request) rows = None
@@ -22,6 +22,6 @@ comes schema PumpHandle rows = None
 comes schema Refresh rows = None
 
 -- it is turned away, or proposes
-abbrev pub sealed_by : Setting → Now → Operation → GroupId → Reading → ℕ → Came → Now
+abbrev pub sealed_by : Setting → Now → Operation → GroupId → Reading → ℕ → RequestOutcome → Now
 sealed_by s now o group r p (Alone came) = sealed s now o group r p came
 sealed_by s now o group r p (Batched came) = batch_sealed s now o group r p came

@@ -6,7 +6,7 @@ use Rattle.mega_rules.specs.Operations.{Now, Operation}
 use Rattle.mega_rules.specs.Acting.{sends_more}
 use Rattle.mega_finishing.specs.declared.pumping.Pumped.{Pumped}
 use Rattle.mega_finishing.specs.declared.pumping.Pumped.TheVariants.{Again, Done}
-use Rattle.mega_proposing.specs.Deeds.{does}
+use Rattle.mega_proposing.specs.Actions.{does}
 
 -- whether it enters messages
 abbrev pub is_entering : Request → Bool
@@ -19,16 +19,16 @@ is_entering PumpHandle = false
 is_entering Refresh = false
 
 abbrev pub pumped_by : (Now → Operation → Now) → Now → Pumped → Now
-pumped_by again now (Done deed) = does now deed
+pumped_by again now (Done action) = does now action
 pumped_by again now (Again heard) = again (sends_more now heard.sends) heard.operation
 
 -- the moment after it, and the operation that acts again there
 abbrev pub pumped_after : Now → Pumped → Now
-pumped_after now (Done deed) = does now deed
+pumped_after now (Done action) = does now action
 pumped_after now (Again heard) = sends_more now heard.sends
 
 abbrev pub next_of : Pumped → Option Operation
-next_of (Done deed) = None
+next_of (Done action) = None
 next_of (Again heard) = Some heard.operation
 
 abbrev pub then_again : (Now → Operation → Now) → Now → Option Operation → Now

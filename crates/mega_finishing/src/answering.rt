@@ -12,7 +12,7 @@ ghost use Rattle.mega_proposing.specs.of_leases.declared.leases.Leases.{Leases a
 ghost use Rattle.mega_rules.specs.Acting.{read_answer};
 ghost use Rattle.mega_rules.specs.Operations.{Now, Setting};
 ghost use Rattle.mega_marks.specs.of_node_laws.About.{IsOf};
-ghost use Rattle.mega_replica.specs.Faring.{Fares};
+ghost use Rattle.mega_replica.specs.Used.{StoreUsed};
 ghost use Rattle.mega_replica.specs.Following.{progress_at};
 ghost use Rattle.mega_finishing.specs.declared.fault.ActFault.TheVariants.{Unserved};
 ghost use Rattle.mega_proposing.specs.Servable.{group_asked, is_answered, is_at_once, is_named, mode_asked};
@@ -97,7 +97,7 @@ fn read_at<V: Versions>(
         ((txn : TransactionSeen) → txn.group ≡ read.now.group → outcome schema.now txn (rows_at (V.version rows.old) at) ≡ outcome schema.now txn seen) →
         read_answer s read.now position seen listed ≡ answer) }
     ensures versions { SameVersions (V.version rows.old) (V.version rows.new) }
-    ensures fares { Fares V.Versions (failed_by result) rows.old rows.new }
+    ensures used { StoreUsed V.Versions (failed_by result) rows.old rows.new }
     ensures built { result ≡ Err Unserved → ⊥ }
 {
     let txn = reading(alloc, read)?;
@@ -120,7 +120,7 @@ fn all_at<V: Versions>(
         Shows schema.now read.now.group (rows_at (V.version rows.old) at) listed →
         read_answer s read.now position seen listed ≡ answer) }
     ensures versions { SameVersions (V.version rows.old) (V.version rows.new) }
-    ensures fares { Fares V.Versions (failed_by result) rows.old rows.new }
+    ensures used { StoreUsed V.Versions (failed_by result) rows.old rows.new }
     ensures built { result ≡ Err Unserved → ⊥ }
 {
     match read_all(
@@ -150,7 +150,7 @@ fn shown_at<V: Versions>(
         Shows schema.now read.now.group (rows_at (V.version rows.old) at) listed →
         read_answer s read.now position seen listed ≡ answer) }
     ensures versions { SameVersions (V.version rows.old) (V.version rows.new) }
-    ensures fares { Fares V.Versions (failed_by result) rows.old rows.new }
+    ensures used { StoreUsed V.Versions (failed_by result) rows.old rows.new }
     ensures built { result ≡ Err Unserved → ⊥ }
 {
     if is_named(read.rows.as_slice()) {
@@ -175,7 +175,7 @@ pub(crate) fn answer_at<V: Versions>(
         Shows schema.now group (rows_at (V.version rows.old) at) listed →
         shown s request.now position seen listed ≡ Some answer) }
     ensures versions { SameVersions (V.version rows.old) (V.version rows.new) }
-    ensures fares { Fares V.Versions (failed_by result) rows.old rows.new }
+    ensures used { StoreUsed V.Versions (failed_by result) rows.old rows.new }
     ensures unserved { result ≡ Err Unserved → is_answered request.now ≡ false }
 {
     match request {
@@ -218,7 +218,7 @@ pub fn answer_now<R: Records, V: Versions>(
         at_once (setting members.now me h) now request.now ≡ Some answer) }
     ensures versions { SameVersions (V.version rows.old.rows) (V.version rows.new.rows) }
     ensures progress { rows.new.progress ≡ rows.old.progress }
-    ensures fares { Fares V.Versions (failed_by result) rows.old.rows rows.new.rows }
+    ensures used { StoreUsed V.Versions (failed_by result) rows.old.rows rows.new.rows }
     ensures unserved { result ≡ Err Unserved → is_at_once request.now ≡ false }
 {
     let Some(group) = group_asked(request) else {

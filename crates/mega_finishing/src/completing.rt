@@ -9,7 +9,7 @@ ghost use Rattle.mega_rules.specs.Clock.{clock_of};
 ghost use Rattle.mega_rules.specs.Operations.{Now, Operation as Open};
 ghost use Rattle.mega_rules.specs.Acting.{completes_read, finishes, validates};
 ghost use Rattle.mega_proposing.specs.of_leases.Tells.{Tells as TellsLeases};
-ghost use Rattle.mega_replica.specs.Faring.{Fares};
+ghost use Rattle.mega_replica.specs.Used.{StoreUsed};
 ghost use Rattle.mega_replica.specs.Following.{Follows, progress_at};
 ghost use Rattle.mega_proposing.specs.of_voter.Telling.{Tells};
 ghost use Rattle.mega_proposing.specs.Completed.{completed, stored_through, valid_if};
@@ -28,7 +28,7 @@ use mega_disk::{Records, Versions};
 use mega_proposing::mega_leases::Leases;
 use mega_proposing::mega_operations::Members;
 use mega_proposing::mega_voter::Voter;
-use mega_proposing::{Reached, Work};
+use mega_proposing::{CompleteRead, Work};
 use mega_read::Reading;
 use mega_replica::StoredRows;
 use std::alloc::Global;
@@ -44,7 +44,7 @@ fn stores_through<R: Records, V: Versions>(
     ensures state { OnOk result ((now : Now) → Tells voter.now.logs.kept now.met →
         Follows (V.version rows.old.rows) (progress_at rows.old.progress) (log_of now.met) now.stored →
         Follows (V.version rows.new.rows) (progress_at rows.new.progress) (log_of now.met) (stored_through now group.now position).stored) }
-    ensures fares { Fares V.Versions (failed_by result) rows.old.rows rows.new.rows }
+    ensures used { StoreUsed V.Versions (failed_by result) rows.old.rows rows.new.rows }
     ensures built { result ≡ Err Unserved → ⊥ }
 {
     match rows.apply_through(alloc, group, &voter.logs, Position(position)) {
@@ -73,7 +73,7 @@ fn validates(
 
 /// A read of a group through a position completes: all that it needs is stored, and the group is made valid where it polled in
 /// an epoch that still serves. Tells whether it was made valid.
-#[tactic(auto, using(crate::proofs::Refused::fares_unkept))]
+#[tactic(auto, using(crate::proofs::Refused::used_unkept))]
 fn completes_read<R: Records, V: Versions>(
     alloc: Global,
     voter: &Voter<R>,
@@ -90,7 +90,7 @@ fn completes_read<R: Records, V: Versions>(
         Stands (setting c me h) voter.now.logs.kept leases.old (V.version rows.old.rows) (progress_at rows.old.progress) now.met now.stored →
         Stands (setting c me h) voter.now.logs.kept leases.new (V.version rows.new.rows) (progress_at rows.new.progress)
         (completed now group.now position made).met (completed now group.now position made).stored) }
-    ensures fares { Fares V.Versions (failed_by result) rows.old.rows rows.new.rows }
+    ensures used { StoreUsed V.Versions (failed_by result) rows.old.rows rows.new.rows }
     ensures built { result ≡ Err Unserved → ⊥ }
 {
     stores_through(alloc, voter, rows, group, position)?;
@@ -99,14 +99,14 @@ fn completes_read<R: Records, V: Versions>(
 }
 
 /// The read of an operation completes.
-#[tactic(auto, using(crate::proofs::Refused::fares_unkept))]
+#[tactic(auto, using(crate::proofs::Refused::used_unkept))]
 pub fn reads_through<R: Records, V: Versions>(
     alloc: Global,
     voter: &Voter<R>,
     leases: &mut Leases,
     rows: &mut StoredRows<V>,
     work: &mut Work,
-    reached: &Reached,
+    reached: &CompleteRead,
 ) -> Result<(), ActFault>
     ensures state { OnOk result ((c : _) (me : _) (h : Meanings) (now : Now) →
         Stands (setting c me h) voter.now.logs.kept leases.old (V.version rows.old.rows) (progress_at rows.old.progress) now.met now.stored →
@@ -116,7 +116,7 @@ pub fn reads_through<R: Records, V: Versions>(
     ensures work { OnOk result ((c : _) (me : _) (h : Meanings) (now : Now) →
         Stands (setting c me h) voter.now.logs.kept leases.old (V.version rows.old.rows) (progress_at rows.old.progress) now.met now.stored →
         work.old ≡ work_of now → work.new ≡ work_of (completes_read (setting c me h) now reached.now.group reached.now.reading reached.now.position)) }
-    ensures fares { Fares V.Versions (failed_by result) rows.old.rows rows.new.rows }
+    ensures used { StoreUsed V.Versions (failed_by result) rows.old.rows rows.new.rows }
     ensures built { result ≡ Err Unserved → ⊥ }
 {
     let made = completes_read(
@@ -133,7 +133,7 @@ pub fn reads_through<R: Records, V: Versions>(
 }
 
 /// An operation whose read is complete goes on to what it asks.
-#[tactic(auto, using(crate::proofs::Refused::fares_unkept))]
+#[tactic(auto, using(crate::proofs::Refused::used_unkept))]
 pub fn goes<R: Records, V: Versions>(
     alloc: Global,
     members: &Members,
@@ -141,7 +141,7 @@ pub fn goes<R: Records, V: Versions>(
     clock: u64,
     rows: &mut StoredRows<V>,
     work: &mut Work,
-    reached: Reached,
+    reached: CompleteRead,
 ) -> Result<(), ActFault>
     ensures state { OnOk result ((me : _) (h : Meanings) (leases : LeasesKept) (now : Now) (again : Now → Open → Now) → V.is_told ≡ true → IsOf reached.kept.request reached.group →
         reached.position ≤ applied (log_of now.met reached.group) (now.stored reached.group) → clock ≡ clock_of now.met →
@@ -153,10 +153,10 @@ pub fn goes<R: Records, V: Versions>(
         reached.position ≤ applied (log_of now.met reached.group) (now.stored reached.group) → clock ≡ clock_of now.met →
         Stands (setting members.now me h) voter.now.logs.kept leases (V.version rows.old.rows) (progress_at rows.old.progress) now.met now.stored →
         work.old ≡ work_of now → work.new ≡ work_of (finishes (setting members.now me h) again now (operation_of reached) reached.group reached.reading reached.position)) }
-    ensures fares { Fares V.Versions (failed_by result) rows.old.rows rows.new.rows }
+    ensures used { StoreUsed V.Versions (failed_by result) rows.old.rows rows.new.rows }
     ensures unserved { result ≡ Err Unserved → is_plain reached.kept.request ≡ false }
 {
-    let deed = finishes(alloc, reached, members, voter, clock, &mut rows.rows)?;
-    work.does(deed)?;
+    let action = finishes(alloc, reached, members, voter, clock, &mut rows.rows)?;
+    work.does(action)?;
     Ok(())
 }

@@ -4,7 +4,7 @@ ghost use Rattle.mega_disk.specs.VersionMaps.{SameVersions};
 ghost use Rattle.mega_index.specs.Rows.{Listed};
 ghost use Rattle.mega_outcome.specs.Answers.{rows_at};
 ghost use Rattle.mega_rules.specs.Finding.{local_found};
-ghost use Rattle.mega_replica.specs.Faring.{Fares};
+ghost use Rattle.mega_replica.specs.Used.{StoreUsed};
 ghost use Rattle.mega_finishing.specs.declared.fault.ActFault.TheVariants.{Unserved};
 ghost use Rattle.mega_finishing.specs.Faults.{failed_by};
 ghost use Rattle.mega_view.specs.Small.{IsSmall};
@@ -32,7 +32,7 @@ pub(crate) fn found_at<V: Versions>(
     ensures exact { IfOk result (λ answer. V.is_told ≡ true → IsSmall schema.now → (listed : Listed) → find.now.group ≡ Some group.now → Shows schema.now group.now (rows_at (V.version rows.old) at) listed →
         answer ≡ local_found schema.now find.now position listed) }
     ensures versions { SameVersions (V.version rows.old) (V.version rows.new) }
-    ensures fares { Fares V.Versions (failed_by result) rows.old rows.new }
+    ensures used { StoreUsed V.Versions (failed_by result) rows.old rows.new }
     ensures built { result ≡ Err Unserved → ⊥ }
 {
     let marks = mark_at(alloc, group, position)?;

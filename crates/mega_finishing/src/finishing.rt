@@ -6,65 +6,65 @@ ghost use Rattle.mega_marks.specs.of_node_laws.About.{IsOf};
 ghost use Rattle.mega_rules.specs.Clock.{clock_of};
 ghost use Rattle.mega_rules.specs.Operations.{Now, Operation};
 ghost use Rattle.mega_rules.specs.Acting.{finishes};
-ghost use Rattle.mega_replica.specs.Faring.{Fares};
+ghost use Rattle.mega_replica.specs.Used.{StoreUsed};
 ghost use Rattle.mega_proposing.specs.of_voter.Telling.{Tells};
 ghost use Rattle.mega_finishing.specs.declared.fault.ActFault.TheVariants.{Unserved};
 ghost use Rattle.mega_proposing.specs.Servable.{is_answered, is_plain, is_proposed};
 ghost use Rattle.mega_finishing.specs.Coming.{sealed_by};
-ghost use Rattle.mega_proposing.specs.Deeds.{does};
+ghost use Rattle.mega_proposing.specs.Actions.{does};
 ghost use Rattle.mega_finishing.specs.Faults.{failed_by};
 ghost use Rattle.mega_proposing.specs.Reaching.{operation_of};
 ghost use Rattle.mega_finishing.specs.Sees.{Sees};
 ghost use Rattle.mega_proposing.specs.Settings.{setting};
 
 use crate::answering::answer_at;
-use crate::came::{Came, comes_to};
 use crate::fault::ActFault;
+use crate::request_outcome::{RequestOutcome, comes_to};
 use mega_base::{NoMemory, Position};
 use mega_disk::{Records, Versions};
 use mega_outcome::Answer;
 use mega_proposing::mega_operations::Members;
 use mega_proposing::mega_voter::Voter;
-use mega_proposing::{Deed, Reached, is_answered, is_limit, is_proposed};
+use mega_proposing::{Action, CompleteRead, is_answered, is_limit, is_proposed};
 use std::alloc::Global;
 
 /// The operation ends with the answer that its request has over the rows, or goes on to its own proposal.
 pub fn finishes<R: Records, V: Versions>(
     alloc: Global,
-    reached: Reached,
+    reached: CompleteRead,
     members: &Members,
     voter: &Voter<R>,
     clock: u64,
     rows: &mut V,
-) -> Result<Deed, ActFault>
-    ensures deed { IfOk result (λ deed. V.is_told ≡ true → (me : _) (h : Meanings) (now : Now) (again : Now → Operation → Now) →
+) -> Result<Action, ActFault>
+    ensures action { IfOk result (λ action. V.is_told ≡ true → (me : _) (h : Meanings) (now : Now) (again : Now → Operation → Now) →
         Tells voter.now.logs.kept now.met → clock ≡ clock_of now.met →
         Sees members.now.schema (V.version rows.old) reached.group reached.position now → IsOf reached.kept.request reached.group →
-        does now deed ≡ finishes (setting members.now me h) again now (operation_of reached) reached.group reached.reading reached.position) }
+        does now action ≡ finishes (setting members.now me h) again now (operation_of reached) reached.group reached.reading reached.position) }
     ensures versions { SameVersions (V.version rows.old) (V.version rows.new) }
-    ensures fares { Fares V.Versions (failed_by result) rows.old rows.new }
+    ensures used { StoreUsed V.Versions (failed_by result) rows.old rows.new }
     ensures unserved { result ≡ Err Unserved → is_plain reached.kept.request ≡ false }
 {
     if is_answered(&reached.kept.request) {
-        let deed = answers(alloc, reached, members, rows)?;
-        return Ok(deed);
+        let action = answers(alloc, reached, members, rows)?;
+        return Ok(action);
     }
-    let deed = comes(alloc, reached, members, voter, clock, rows)?;
-    Ok(deed)
+    let action = comes(alloc, reached, members, voter, clock, rows)?;
+    Ok(action)
 }
 
 /// The operation ends with the answer that its request has over the rows.
 fn answers<V: Versions>(
     alloc: Global,
-    reached: Reached,
+    reached: CompleteRead,
     members: &Members,
     rows: &mut V,
-) -> Result<Deed, ActFault>
-    ensures deed { IfOk result (λ deed. V.is_told ≡ true → (me : _) (h : Meanings) (now : Now) (again : Now → Operation → Now) →
+) -> Result<Action, ActFault>
+    ensures action { IfOk result (λ action. V.is_told ≡ true → (me : _) (h : Meanings) (now : Now) (again : Now → Operation → Now) →
         Sees members.now.schema (V.version rows.old) reached.group reached.position now → IsOf reached.kept.request reached.group →
-        does now deed ≡ finishes (setting members.now me h) again now (operation_of reached) reached.group reached.reading reached.position) }
+        does now action ≡ finishes (setting members.now me h) again now (operation_of reached) reached.group reached.reading reached.position) }
     ensures versions { SameVersions (V.version rows.old) (V.version rows.new) }
-    ensures fares { Fares V.Versions (failed_by result) rows.old rows.new }
+    ensures used { StoreUsed V.Versions (failed_by result) rows.old rows.new }
     ensures unserved { result ≡ Err Unserved → is_answered reached.kept.request ≡ false }
 {
     let schema = &members.cluster().schema;
@@ -86,21 +86,21 @@ fn answers<V: Versions>(
 }
 
 /// The operation ends where the log has reached its limit, and else proposes what its request comes to over the rows.
-#[tactic(auto, using(mega_replica::proofs::Fared::fares_here, crate::proofs::Refused::fares_unkept))]
+#[tactic(auto, using(mega_replica::proofs::Using::used_here, crate::proofs::Refused::used_unkept))]
 fn comes<R: Records, V: Versions>(
     alloc: Global,
-    reached: Reached,
+    reached: CompleteRead,
     members: &Members,
     voter: &Voter<R>,
     clock: u64,
     rows: &mut V,
-) -> Result<Deed, ActFault>
-    ensures deed { IfOk result (λ deed. V.is_told ≡ true → (me : _) (h : Meanings) (now : Now) (again : Now → Operation → Now) →
+) -> Result<Action, ActFault>
+    ensures action { IfOk result (λ action. V.is_told ≡ true → (me : _) (h : Meanings) (now : Now) (again : Now → Operation → Now) →
         Tells voter.now.logs.kept now.met → clock ≡ clock_of now.met →
         Sees members.now.schema (V.version rows.old) reached.group reached.position now → IsOf reached.kept.request reached.group →
-        does now deed ≡ finishes (setting members.now me h) again now (operation_of reached) reached.group reached.reading reached.position) }
+        does now action ≡ finishes (setting members.now me h) again now (operation_of reached) reached.group reached.reading reached.position) }
     ensures versions { SameVersions (V.version rows.old) (V.version rows.new) }
-    ensures fares { Fares V.Versions (failed_by result) rows.old rows.new }
+    ensures used { StoreUsed V.Versions (failed_by result) rows.old rows.new }
     ensures unserved { result ≡ Err Unserved → is_proposed reached.kept.request ≡ false }
 {
     if !is_proposed(&reached.kept.request) {
@@ -114,8 +114,8 @@ fn comes<R: Records, V: Versions>(
     let schema = &members.cluster().schema;
     match comes_to(alloc, schema, &reached.kept.request, rows, reached.position) {
         Ok(came) => {
-            let deed = seals_by(alloc, reached, members, voter, clock, came)?;
-            Ok(deed)
+            let action = seals_by(alloc, reached, members, voter, clock, came)?;
+            Ok(action)
         }
         Err(fault) => {
             drop(reached);
@@ -127,24 +127,24 @@ fn comes<R: Records, V: Versions>(
 /// The operation goes on by what its request came to.
 fn seals_by<R: Records>(
     alloc: Global,
-    reached: Reached,
+    reached: CompleteRead,
     members: &Members,
     voter: &Voter<R>,
     clock: u64,
-    came: Came,
-) -> Result<Deed, NoMemory>
+    came: RequestOutcome,
+) -> Result<Action, NoMemory>
     requires { reached.position + 1 < 2 ^ 64 }
-    ensures { IfOk result (λ deed. (me : _) (h : Meanings) (now : Now) → Tells voter.now.logs.kept now.met → clock ≡ clock_of now.met →
-        does now deed ≡ sealed_by (setting members.now me h) now (operation_of reached) reached.group reached.reading reached.position came) }
+    ensures { IfOk result (λ action. (me : _) (h : Meanings) (now : Now) → Tells voter.now.logs.kept now.met → clock ≡ clock_of now.met →
+        does now action ≡ sealed_by (setting members.now me h) now (operation_of reached) reached.group reached.reading reached.position came) }
 {
     match came {
-        Came::Alone(came) => {
-            let deed = reached.sealed(alloc, members, voter, clock, came)?;
-            Ok(deed)
+        RequestOutcome::Alone(came) => {
+            let action = reached.sealed(alloc, members, voter, clock, came)?;
+            Ok(action)
         }
-        Came::Batched(came) => {
-            let deed = reached.batch_sealed(alloc, members, voter, clock, came)?;
-            Ok(deed)
+        RequestOutcome::Batched(came) => {
+            let action = reached.batch_sealed(alloc, members, voter, clock, came)?;
+            Ok(action)
         }
     }
 }

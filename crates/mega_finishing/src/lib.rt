@@ -3,7 +3,6 @@
 #![tactic(auto)]
 
 mod answering;
-mod came;
 mod completing;
 mod fault;
 mod finding;
@@ -11,9 +10,9 @@ mod finishing;
 mod indexing;
 mod outcomes;
 mod pumping;
+mod request_outcome;
 
 pub use answering::answer_now;
-pub use came::Came;
 pub use completing::{goes, reads_through};
 pub use fault::ActFault;
 pub use indexing::indexed_answer;
@@ -22,3 +21,4 @@ pub use mega_proposing;
 pub use mega_proposing::{mega_leases, mega_operations, mega_voter};
 pub use mega_pumps;
 pub use pumping::{Pumped, is_entering, picks, pumps, takes};
+pub use request_outcome::RequestOutcome;

@@ -3,7 +3,7 @@ ghost use Rattle.std.specs.Prelude.{◌≡◌, ◌≤◌, IfOk, Err, Some, true,
 ghost use Rattle.mega_disk.specs.VersionMaps.{SameVersions};
 ghost use Rattle.mega_outcome.specs.Answers.{rows_at};
 ghost use Rattle.mega_outcome.specs.Outcome.{batch_outcome, outcome};
-ghost use Rattle.mega_replica.specs.Faring.{Fares};
+ghost use Rattle.mega_replica.specs.Used.{StoreUsed};
 ghost use Rattle.mega_finishing.specs.declared.fault.ActFault.TheVariants.{Unserved};
 ghost use Rattle.mega_finishing.specs.Faults.{failed_by, fault_of};
 
@@ -38,7 +38,7 @@ pub(crate) fn outcome_at<V: Versions>(
 ) -> Result<Result<Done, Turn>, ActFault>
     ensures exact { IfOk result (λ came. V.is_told ≡ true → came ≡ outcome schema.now txn.now (rows_at (V.version rows.old) position)) }
     ensures versions { SameVersions (V.version rows.old) (V.version rows.new) }
-    ensures fares { Fares V.Versions (failed_by result) rows.old rows.new }
+    ensures used { StoreUsed V.Versions (failed_by result) rows.old rows.new }
     ensures built { result ≡ Err Unserved → ⊥ }
 {
     match run(alloc, schema, txn, rows, Position(position)) {
@@ -62,7 +62,7 @@ pub(crate) fn batch_at<V: Versions>(
     requires { length txns.now ≤ 16 }
     ensures exact { IfOk result (λ came. V.is_told ≡ true → came ≡ batch_outcome schema.now group.now txns.now (rows_at (V.version rows.old) position)) }
     ensures versions { SameVersions (V.version rows.old) (V.version rows.new) }
-    ensures fares { Fares V.Versions (failed_by result) rows.old rows.new }
+    ensures used { StoreUsed V.Versions (failed_by result) rows.old rows.new }
     ensures built { result ≡ Err Unserved → ⊥ }
 {
     match run_all(alloc, schema, group, txns, rows, Position(position)) {

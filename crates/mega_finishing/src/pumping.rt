@@ -15,7 +15,7 @@ ghost use Rattle.mega_read.specs.Catching.{asked_by};
 ghost use Rattle.mega_rules.specs.Operations.{Now, Operation as Open, Phase as OpenPhase, Setting};
 ghost use Rattle.mega_proposing.specs.of_voter.Telling.{Tells};
 ghost use Rattle.mega_replica.specs.Applying.{applied};
-ghost use Rattle.mega_replica.specs.Faring.{Fares};
+ghost use Rattle.mega_replica.specs.Used.{StoreUsed};
 ghost use Rattle.mega_replica.specs.Following.{Follows, progress_at};
 ghost use Rattle.mega_finishing.specs.declared.fault.ActFault.TheVariants.{Unserved};
 ghost use Rattle.mega_finishing.specs.Asked.{IsAsked};
@@ -35,7 +35,7 @@ use mega_outcome::{Answer, Request};
 use mega_proposing::mega_leases::Leases;
 use mega_proposing::mega_operations::{Heard, Kept, Members, Operation, Promised};
 use mega_proposing::mega_voter::Voter;
-use mega_proposing::{Deed, End, Reached, Work, is_limit};
+use mega_proposing::{Action, CompleteRead, End, Work, is_limit};
 use mega_pumps::{Digest, Own, Picked, applied_marks, enters, handles, visits};
 use mega_replica::StoredRows;
 use std::alloc::Global;
@@ -43,7 +43,7 @@ use std::alloc::Global;
 /// What a pump does: it is done for this step, or acts again in it, with the read of another group.
 #[derive(Debug, Drop)]
 pub enum Pumped {
-    Done(Deed),
+    Done(Action),
     Again(Heard),
 }
 
@@ -71,7 +71,7 @@ fn has_nothing<R: Records, V: Versions>(
         pumped_by again now pumped ≡ serves (setting c me h) again now o asked None) }
 {
     let marks = applied_marks(alloc, voter, rows, groups)?;
-    Ok(Pumped::Done(Deed {
+    Ok(Pumped::Done(Action {
         sends: None,
         end: End::Ends(op, Answer::NothingToDo { marks }),
     }))
@@ -207,7 +207,7 @@ fn decides<R: Records, V: Versions, H: QueueHandlers>(
     rows: &mut V,
     digest: &mut Digest,
     handlers: &mut H,
-    reached: &Reached,
+    reached: &CompleteRead,
 ) -> Result<Own, ActFault>
     ensures own { IfOk result (λ own. V.is_told ≡ true → (me : _) (h : Meanings) (progress : _) (leases : LeasesKept) (now : Now) (again : Now → Open → Now) → Means (H.meant handlers.old) h → is_pump reached.now.kept.request ≡ true →
         nat_le (members.now.limit).0 reached.now.position ≡ false → reached.now.position ≤ applied (log_of now.met reached.now.group) (now.stored reached.now.group) →
@@ -217,7 +217,7 @@ fn decides<R: Records, V: Versions, H: QueueHandlers>(
     ensures noted { OnOk result ((met : _) → Tells voter.now.logs.kept met → reached.now.position ≤ prefix_of met reached.now.group → HasNoted voter.now.logs.kept digest.old → HasNoted voter.now.logs.kept digest.new) }
     ensures versions { SameVersions (V.version rows.old) (V.version rows.new) }
     ensures handlers { H.meant handlers.new ≡ H.meant handlers.old }
-    ensures fares { Fares V.Versions (failed_by result) rows.old rows.new }
+    ensures used { StoreUsed V.Versions (failed_by result) rows.old rows.new }
     ensures built { result ≡ Err Unserved → ⊥ }
 {
     let op = reached.kept.id;
@@ -241,7 +241,7 @@ fn decides<R: Records, V: Versions, H: QueueHandlers>(
 /// The pump picks again.
 fn picks_again<R: Records, V: Versions>(
     alloc: Global,
-    reached: Reached,
+    reached: CompleteRead,
     members: &Members,
     voter: &Voter<R>,
     leases: &Leases,
@@ -258,7 +258,7 @@ fn picks_again<R: Records, V: Versions>(
     match reached.reading.asked_by(alloc) {
         Ok(asked) => {
             let entering = is_entering(&reached.kept.request);
-            let Reached {
+            let CompleteRead {
                 kept,
                 group,
                 reading,
@@ -281,7 +281,7 @@ fn picks_again<R: Records, V: Versions>(
 /// The pump does what it came to.
 fn does_own<R: Records, V: Versions>(
     alloc: Global,
-    reached: Reached,
+    reached: CompleteRead,
     members: &Members,
     voter: &Voter<R>,
     leases: &Leases,
@@ -306,8 +306,8 @@ fn does_own<R: Records, V: Versions>(
         Own::Proposes(entry) => {
             let clock = leases.now();
             let promised = Promised::Replies(Items::new(alloc));
-            let deed = reached.proposes(alloc, members, voter, clock, entry, promised)?;
-            Ok(Pumped::Done(deed))
+            let action = reached.proposes(alloc, members, voter, clock, entry, promised)?;
+            Ok(Pumped::Done(action))
         }
     }
 }
@@ -315,7 +315,7 @@ fn does_own<R: Records, V: Versions>(
 /// A pump whose read is complete ends where the log is full, and else enters or handles a message, or picks again.
 pub fn pumps<R: Records, V: Versions, H: QueueHandlers>(
     alloc: Global,
-    reached: Reached,
+    reached: CompleteRead,
     members: &Members,
     voter: &Voter<R>,
     leases: &Leases,
@@ -333,7 +333,7 @@ pub fn pumps<R: Records, V: Versions, H: QueueHandlers>(
     ensures versions { SameVersions (V.version rows.old.rows) (V.version rows.new.rows) }
     ensures progress { rows.new.progress ≡ rows.old.progress }
     ensures handlers { H.meant handlers.new ≡ H.meant handlers.old }
-    ensures fares { Fares V.Versions (failed_by result) rows.old.rows rows.new.rows }
+    ensures used { StoreUsed V.Versions (failed_by result) rows.old.rows rows.new.rows }
     ensures built { result ≡ Err Unserved → ⊥ }
 {
     if is_limit(members, reached.position) {
@@ -366,8 +366,8 @@ pub fn takes(work: &mut Work, pumped: Pumped) -> Result<Option<Operation>, NoMem
     ensures work { OnOk result ((now : Now) → work.old ≡ work_of now → work.new ≡ work_of (pumped_after now pumped)) }
 {
     match pumped {
-        Pumped::Done(deed) => {
-            work.does(deed)?;
+        Pumped::Done(action) => {
+            work.does(action)?;
             Ok(None)
         }
         Pumped::Again(heard) => {

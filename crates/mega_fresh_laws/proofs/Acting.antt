@@ -58,7 +58,7 @@ use Rattle.mega_leased_laws.specs.of_settled_laws.of_run_laws.of_tape_laws.Lawfu
 use Rattle.mega_leased_laws.specs.of_settled_laws.of_run_laws.of_tape_laws.Places.{In}
 use Rattle.mega_leased_laws.specs.of_settled_laws.of_run_laws.of_tape_laws.Polls.{ArePolls}
 use Rattle.mega_leased_laws.specs.of_settled_laws.of_run_laws.of_tape_laws.Writes.{Usage}
-use Rattle.mega_leased_laws.specs.of_settled_laws.of_run_laws.Vouched.{Each}
+use Rattle.mega_leased_laws.specs.of_settled_laws.of_run_laws.Justified.{Each}
 use Rattle.mega_leased_laws.proofs.of_settled_laws.of_run_laws.Events.{onto_append}
 use Rattle.mega_leased_laws.proofs.of_settled_laws.of_run_laws.Owned.{front_length, knows_front}
 use Rattle.mega_leased_laws.proofs.of_settled_laws.of_run_laws.Prefixes.{prefix_more}

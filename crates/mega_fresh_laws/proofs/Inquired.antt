@@ -30,7 +30,7 @@ use Rattle.mega_leased_laws.specs.of_settled_laws.of_run_laws.of_tape_laws.Write
 use Rattle.mega_leased_laws.proofs.of_settled_laws.of_run_laws.of_tape_laws.Lists.{kept as in_kept}
 use Rattle.mega_leased_laws.proofs.of_settled_laws.of_run_laws.of_tape_laws.Made.{proposed_here}
 use Rattle.mega_leased_laws.specs.of_settled_laws.of_run_laws.Usages.{Fits}
-use Rattle.mega_leased_laws.specs.of_settled_laws.of_run_laws.Vouched.{Each, sent}
+use Rattle.mega_leased_laws.specs.of_settled_laws.of_run_laws.Justified.{Each, sent}
 use Rattle.mega_leased_laws.proofs.of_settled_laws.of_run_laws.Owned.{Mine}
 use Rattle.mega_leased_laws.proofs.of_settled_laws.of_run_laws.Runs.{IsMark}
 use Rattle.mega_leased_laws.proofs.of_settled_laws.of_run_laws.Sending.{took_on}

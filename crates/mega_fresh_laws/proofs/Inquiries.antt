@@ -20,7 +20,7 @@ use Rattle.mega_leased_laws.specs.of_settled_laws.of_run_laws.of_tape_laws.of_pr
 use Rattle.mega_leased_laws.specs.of_settled_laws.of_run_laws.of_tape_laws.of_promises.Runs.{breaks, with_item, with_items}
 use Rattle.mega_leased_laws.specs.of_settled_laws.of_run_laws.of_tape_laws.of_promises.of_rules.Operations.{Node}
 use Rattle.mega_leased_laws.specs.of_settled_laws.of_run_laws.of_tape_laws.Polls.{IsPolled}
-use Rattle.mega_leased_laws.specs.of_settled_laws.of_run_laws.Vouched.{Each, sent}
+use Rattle.mega_leased_laws.specs.of_settled_laws.of_run_laws.Justified.{Each, sent}
 use Rattle.mega_leased_laws.proofs.of_settled_laws.of_run_laws.Sending.{Stood}
 use Rattle.mega_leased_laws.proofs.of_settled_laws.of_run_laws.Turns.{each_on}
 use Rattle.mega_leased_laws.proofs.of_settled_laws.Tapes.{IsSilent}

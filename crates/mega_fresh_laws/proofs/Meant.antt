@@ -20,7 +20,7 @@ use Rattle.mega_leased_laws.specs.of_settled_laws.of_run_laws.of_tape_laws.of_pr
 use Rattle.mega_leased_laws.specs.of_settled_laws.of_run_laws.of_tape_laws.of_promises.of_rules.Steps.{Begin, Event, Step, Take, Tick, crashed, op_of, start, start_items, step}
 use Rattle.mega_leased_laws.specs.of_settled_laws.of_run_laws.of_tape_laws.Writes.{Usage}
 use Rattle.mega_leased_laws.specs.of_settled_laws.of_run_laws.Usages.{Brought, Fits, FitsOne, IsMeant}
-use Rattle.mega_leased_laws.specs.of_settled_laws.of_run_laws.Vouched.{sent}
+use Rattle.mega_leased_laws.specs.of_settled_laws.of_run_laws.Justified.{sent}
 use Rattle.mega_leased_laws.proofs.of_settled_laws.of_run_laws.Noted.{tape_item, with_append, with_sent}
 use Rattle.mega_leased_laws.proofs.of_settled_laws.of_run_laws.Owned.{Users}
 use Rattle.mega_leased_laws.proofs.of_settled_laws.of_run_laws.Runs.{IsMark, begin_good, both_true, crashes_good, fated_start_good, found, handed_good, marked_good, not_because, not_false, nothing_good, start_good, tick_good}

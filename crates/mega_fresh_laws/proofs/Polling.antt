@@ -29,7 +29,7 @@ use Rattle.mega_leased_laws.specs.of_settled_laws.of_run_laws.of_tape_laws.of_pr
 use Rattle.mega_leased_laws.specs.of_settled_laws.of_run_laws.of_tape_laws.Lawful.{message}
 use Rattle.mega_leased_laws.specs.of_settled_laws.of_run_laws.of_tape_laws.Places.{Took}
 use Rattle.mega_leased_laws.proofs.of_settled_laws.of_run_laws.of_tape_laws.Ballots.{number_self}
-use Rattle.mega_leased_laws.specs.of_settled_laws.of_run_laws.Vouched.{Each, sent}
+use Rattle.mega_leased_laws.specs.of_settled_laws.of_run_laws.Justified.{Each, sent}
 use Rattle.mega_leased_laws.proofs.of_settled_laws.of_run_laws.Sending.{Stood, took_on}
 use Rattle.mega_leased_laws.proofs.of_settled_laws.of_run_laws.Turns.{IsRising, each_on, each_push, other_number, sent_append}
 use Rattle.mega_leased_laws.proofs.of_settled_laws.Tapes.{earlier_stood, sent_later}

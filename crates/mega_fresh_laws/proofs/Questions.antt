@@ -22,7 +22,7 @@ use Rattle.mega_leased_laws.specs.of_settled_laws.of_run_laws.of_tape_laws.of_pr
 use Rattle.mega_leased_laws.specs.of_settled_laws.of_run_laws.of_tape_laws.of_promises.of_rules.of_read.declared.reading.Reading.{Reading}
 use Rattle.mega_leased_laws.specs.of_settled_laws.of_run_laws.of_tape_laws.of_promises.of_rules.of_read.declared.reading.Move.{Move as ReadMove}
 use Rattle.mega_leased_laws.specs.of_settled_laws.of_run_laws.of_tape_laws.of_promises.of_rules.of_read.Catching.{asked_by, falls_due, fetch_to, fetches, fills, hears, helpers, is_position, move, no_op, polled_read, searched, seeks, site, topped, where_to}
-use Rattle.mega_leased_laws.specs.of_settled_laws.of_run_laws.Vouched.{Each}
+use Rattle.mega_leased_laws.specs.of_settled_laws.of_run_laws.Justified.{Each}
 use Rattle.mega_leased_laws.proofs.of_settled_laws.of_run_laws.Turns.{each_on, each_zip}
 use Rattle.mega_leased_laws.proofs.Wheres.{EndsBody, EndsOf, completes_ends, due_ends, takes_ends}
 use Rattle.mega_fresh_laws.proofs.Accepts.{IsAbove, Never, NeverBody, StageAbove, Zero, ZeroBody, due_zero, falls_due_never, hears_never, seeks_never, takes_zero}

@@ -28,7 +28,7 @@ use Rattle.mega_leased_laws.specs.of_settled_laws.of_run_laws.of_tape_laws.Place
 use Rattle.mega_leased_laws.specs.of_settled_laws.of_run_laws.of_tape_laws.Polls.{ArePolls, IsPolled}
 use Rattle.mega_leased_laws.specs.of_settled_laws.of_run_laws.of_tape_laws.Writes.{no_op_by}
 use Rattle.mega_leased_laws.proofs.of_settled_laws.of_run_laws.of_tape_laws.Polled.{polled_above}
-use Rattle.mega_leased_laws.specs.of_settled_laws.of_run_laws.Vouched.{Knows}
+use Rattle.mega_leased_laws.specs.of_settled_laws.of_run_laws.Justified.{Knows}
 use Rattle.mega_leased_laws.proofs.of_settled_laws.of_run_laws.Opened.{Backed, at_place}
 use Rattle.mega_leased_laws.proofs.of_settled_laws.of_run_laws.Owned.{Plain}
 use Rattle.mega_leased_laws.proofs.of_settled_laws.of_run_laws.Reading.{who}

@@ -35,7 +35,7 @@ use Rattle.mega_lease_laws.specs.of_run_laws.of_tape_laws.of_promises.of_rules.S
 use Rattle.mega_lease_laws.specs.of_run_laws.of_tape_laws.Places.{Took}
 use Rattle.mega_lease_laws.specs.of_run_laws.of_tape_laws.Lawful.{message}
 use Rattle.mega_lease_laws.specs.of_run_laws.of_tape_laws.Polls.{IsPolled}
-use Rattle.mega_lease_laws.specs.of_run_laws.Vouched.{Each}
+use Rattle.mega_lease_laws.specs.of_run_laws.Justified.{Each}
 use Rattle.mega_lease_laws.proofs.of_run_laws.Prefixes.{IsDecided, prefix_decided}
 use Rattle.mega_lease_laws.proofs.of_run_laws.Sending.{Stood}
 use Rattle.mega_lease_laws.proofs.of_run_laws.Turns.{IsRising, each_on, each_push}

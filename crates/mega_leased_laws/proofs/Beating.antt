@@ -32,7 +32,7 @@ use Rattle.mega_lease_laws.specs.of_run_laws.of_tape_laws.of_promises.of_rules.M
 use Rattle.mega_lease_laws.specs.of_run_laws.of_tape_laws.of_promises.of_rules.Operations.{Node, Setting}
 use Rattle.mega_lease_laws.specs.of_run_laws.of_tape_laws.of_promises.of_rules.Steps.{Begin, Event, Take, Tick, lapse_notes, lease_notes, onto, step, told_notes}
 use Rattle.mega_lease_laws.proofs.of_run_laws.of_tape_laws.Ballots.{number_is, number_self}
-use Rattle.mega_lease_laws.specs.of_run_laws.Vouched.{Each}
+use Rattle.mega_lease_laws.specs.of_run_laws.Justified.{Each}
 use Rattle.mega_lease_laws.proofs.of_run_laws.Events.{onto_append}
 use Rattle.mega_valid_laws.proofs.of_settled_laws.Tapes.{each_both}
 use Rattle.mega_valid_laws.specs.Leases.{serving_on}

@@ -54,7 +54,7 @@ use Rattle.mega_lease_laws.specs.of_run_laws.of_tape_laws.Places.{In}
 use Rattle.mega_lease_laws.specs.of_run_laws.of_tape_laws.Lawful.{message}
 use Rattle.mega_lease_laws.proofs.of_run_laws.of_tape_laws.Ballots.{number_is, number_self}
 use Rattle.mega_lease_laws.proofs.of_run_laws.of_tape_laws.Lists.{some_is}
-use Rattle.mega_lease_laws.specs.of_run_laws.Vouched.{Each, sent}
+use Rattle.mega_lease_laws.specs.of_run_laws.Justified.{Each, sent}
 use Rattle.mega_lease_laws.proofs.of_run_laws.Events.{onto_append}
 use Rattle.mega_lease_laws.proofs.of_run_laws.Runs.{IsMark, nobody}
 use Rattle.mega_lease_laws.proofs.of_run_laws.Standing.{Good}

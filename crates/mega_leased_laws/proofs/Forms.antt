@@ -12,7 +12,7 @@ use Rattle.mega_lease_laws.specs.of_run_laws.of_tape_laws.of_promises.of_rules.M
 use Rattle.mega_lease_laws.specs.of_run_laws.of_tape_laws.of_promises.of_rules.Clock.{is_up, start_of}
 use Rattle.mega_lease_laws.specs.of_run_laws.of_tape_laws.of_promises.of_rules.Operations.{Node, Setting}
 use Rattle.mega_lease_laws.specs.of_run_laws.of_tape_laws.of_promises.of_rules.Steps.{Begin, Event, Step, Take, Tick, crashed, op_of, start, start_items, step}
-use Rattle.mega_lease_laws.specs.of_run_laws.Vouched.{sent}
+use Rattle.mega_lease_laws.specs.of_run_laws.Justified.{sent}
 use Rattle.mega_lease_laws.proofs.of_run_laws.Noted.{with_append, with_sent}
 use Rattle.mega_lease_laws.proofs.of_run_laws.Runs.{IsMark, Keeps, nobody, run_keeps}
 use Rattle.mega_lease_laws.proofs.of_run_laws.Standing.{Good}

@@ -18,7 +18,7 @@ use Rattle.mega_lease_laws.specs.of_run_laws.of_tape_laws.of_promises.of_rules.L
 use Rattle.mega_lease_laws.specs.of_run_laws.of_tape_laws.of_promises.of_rules.Steps.{onto}
 use Rattle.mega_lease_laws.specs.of_run_laws.of_tape_laws.Places.{In}
 use Rattle.mega_lease_laws.proofs.of_run_laws.of_tape_laws.Ballots.{number_is, number_self}
-use Rattle.mega_lease_laws.specs.of_run_laws.Vouched.{Each}
+use Rattle.mega_lease_laws.specs.of_run_laws.Justified.{Each}
 use Rattle.mega_valid_laws.proofs.Orders.{below_self}
 
 -- what is kept is the last grant

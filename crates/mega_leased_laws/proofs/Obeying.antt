@@ -35,7 +35,7 @@ use Rattle.mega_lease_laws.specs.of_run_laws.of_tape_laws.of_promises.of_rules.S
 use Rattle.mega_lease_laws.specs.of_run_laws.of_tape_laws.of_promises.of_rules.Voting.{acts, prepared, promise_body, vote_body, voted}
 use Rattle.mega_lease_laws.specs.of_run_laws.of_tape_laws.Lawful.{message}
 use Rattle.mega_lease_laws.proofs.of_run_laws.of_tape_laws.Lists.{some_is}
-use Rattle.mega_lease_laws.specs.of_run_laws.Vouched.{Each}
+use Rattle.mega_lease_laws.specs.of_run_laws.Justified.{Each}
 use Rattle.mega_lease_laws.proofs.of_run_laws.Runs.{IsMark}
 use Rattle.mega_lease_laws.proofs.of_run_laws.Turns.{each_on}
 use Rattle.mega_valid_laws.specs.of_settled_laws.Covering.{Earlier}

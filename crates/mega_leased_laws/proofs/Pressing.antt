@@ -62,7 +62,7 @@ use Rattle.mega_lease_laws.specs.of_run_laws.of_tape_laws.of_promises.of_rules.S
 use Rattle.mega_lease_laws.specs.of_run_laws.of_tape_laws.of_promises.of_rules.Voting.{acts as acts_met, prepared, promise_body, vote_body, voted}
 use Rattle.mega_lease_laws.specs.of_run_laws.of_tape_laws.Places.{Place}
 use Rattle.mega_lease_laws.proofs.of_run_laws.of_tape_laws.Lists.{some_is}
-use Rattle.mega_lease_laws.specs.of_run_laws.Vouched.{Chosen as HeardChosen, Each, Knows, Vouched, sent}
+use Rattle.mega_lease_laws.specs.of_run_laws.Justified.{Chosen as HeardChosen, Each, Knows, Justified, sent}
 use Rattle.mega_lease_laws.proofs.of_run_laws.Opened.{Backed, BackedStage, at_place}
 use Rattle.mega_lease_laws.proofs.of_run_laws.Runs.{IsMark, nobody}
 use Rattle.mega_lease_laws.proofs.of_run_laws.Standing.{Good}
@@ -215,7 +215,7 @@ module _ (c : Cluster) (tape : List Item) (s : Site) where
   due_by own seen (Settled e told) retry now chosen = tt
   due_by own seen Waiting retry now chosen = tt
 
-covering_chosen : (c : Cluster) (tape : List Item) (op : OpId) (p : Place) (proposal : Proposal) → Vouched c tape op p proposal → (b : Ballot) (e : Content) (cover : Cover) (at : ℕ) → proposal.round ≡ Covering b e cover at → WasChosen c tape p
+covering_chosen : (c : Cluster) (tape : List Item) (op : OpId) (p : Place) (proposal : Proposal) → Justified c tape op p proposal → (b : Ballot) (e : Content) (cover : Cover) (at : ℕ) → proposal.round ≡ Covering b e cover at → WasChosen c tape p
 covering_chosen c tape op p proposal v b e cover at is = heard_chosen c tape op p e (subst (Knows c tape op p) is v.knows)
 
 -- ---- reads

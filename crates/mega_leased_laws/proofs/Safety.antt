@@ -23,7 +23,7 @@ use Rattle.mega_lease_laws.specs.of_run_laws.of_tape_laws.of_promises.of_rules.M
 use Rattle.mega_lease_laws.specs.of_run_laws.of_tape_laws.of_promises.of_rules.Operations.{Node, Setting}
 use Rattle.mega_lease_laws.specs.of_run_laws.of_tape_laws.of_promises.of_rules.Steps.{Begin, Event, Step, Take, Tick, crashed, onto, start, start_items, start_notes, step}
 use Rattle.mega_lease_laws.proofs.of_run_laws.of_tape_laws.Ballots.{number_is, number_self}
-use Rattle.mega_lease_laws.specs.of_run_laws.Vouched.{Each, sent}
+use Rattle.mega_lease_laws.specs.of_run_laws.Justified.{Each, sent}
 use Rattle.mega_lease_laws.proofs.of_run_laws.Events.{onto_append}
 use Rattle.mega_lease_laws.proofs.of_run_laws.Runs.{IsMark}
 use Rattle.mega_lease_laws.proofs.of_run_laws.Turns.{each_on}

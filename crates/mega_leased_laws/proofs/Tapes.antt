@@ -9,7 +9,7 @@ use Rattle.mega_lease_laws.specs.of_run_laws.of_tape_laws.of_promises.Messages.{
 use Rattle.mega_lease_laws.specs.of_run_laws.of_tape_laws.of_promises.Runs.{breaks, with_item, with_items}
 use Rattle.mega_lease_laws.specs.of_run_laws.of_tape_laws.of_promises.of_rules.Met.{Met}
 use Rattle.mega_lease_laws.specs.of_run_laws.of_tape_laws.of_promises.of_rules.Operations.{Node}
-use Rattle.mega_lease_laws.specs.of_run_laws.Vouched.{Each, sent}
+use Rattle.mega_lease_laws.specs.of_run_laws.Justified.{Each, sent}
 use Rattle.mega_valid_laws.proofs.of_settled_laws.Tapes.{each_both}
 use Rattle.mega_leased_laws.specs.Items.{Are}
 

@@ -29,7 +29,7 @@ use Rattle.mega_lease_laws.specs.of_run_laws.of_tape_laws.of_promises.of_rules.O
 use Rattle.mega_lease_laws.specs.of_run_laws.of_tape_laws.of_promises.of_rules.Acting.{is_visited, read_begun, reader_of}
 use Rattle.mega_lease_laws.specs.of_run_laws.of_tape_laws.of_promises.of_rules.Steps.{Begin, Event, Step, Take, Tick, crashed, onto, start, start_items, step}
 use Rattle.mega_lease_laws.specs.of_run_laws.of_tape_laws.Lawful.{message}
-use Rattle.mega_lease_laws.specs.of_run_laws.Vouched.{Each}
+use Rattle.mega_lease_laws.specs.of_run_laws.Justified.{Each}
 use Rattle.mega_lease_laws.proofs.of_run_laws.Runs.{IsMark}
 use Rattle.mega_lease_laws.proofs.of_run_laws.Turns.{each_on, each_zip}
 use Rattle.mega_lease_laws.specs.Questions.{is_question}

@@ -52,7 +52,7 @@ use Rattle.mega_lease_laws.specs.of_run_laws.of_tape_laws.Places.{Took}
 use Rattle.mega_lease_laws.specs.of_run_laws.of_tape_laws.Polls.{IsPolled, has_asked, is_asking}
 use Rattle.mega_lease_laws.proofs.of_run_laws.of_tape_laws.Ballots.{number_is, number_self}
 use Rattle.mega_lease_laws.proofs.of_run_laws.of_tape_laws.Lists.{some_is}
-use Rattle.mega_lease_laws.specs.of_run_laws.Vouched.{Each, sent}
+use Rattle.mega_lease_laws.specs.of_run_laws.Justified.{Each, sent}
 use Rattle.mega_lease_laws.proofs.of_run_laws.Events.{IsAnswer, IsPlain, lapses_plain, lease_plain, onto_append, told_plain}
 use Rattle.mega_lease_laws.proofs.of_run_laws.Noting.{Lasts, all_act_it, begun_it, ticked_it}
 use Rattle.mega_lease_laws.proofs.of_run_laws.Runs.{IsMark, Keeps, nobody}

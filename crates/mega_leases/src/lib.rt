@@ -14,5 +14,5 @@ mod ticking;
 pub use fault::TakeFault;
 pub use leases::Leases;
 pub use note::Note;
-pub use taking::Told;
+pub use taking::Reaction;
 pub use ticking::Ticking;

@@ -22,18 +22,18 @@ use std::alloc::Global;
 /// What a message leads to: what the node notes, in order, and the reply where it asks the cell or the
 /// coordinator.
 #[derive(Debug, Drop)]
-pub struct Told {
+pub struct Reaction {
     pub notes: Items<Note>,
     pub reply: Option<Body>,
 }
 
-impl Told {
+impl Reaction {
     /// Nothing is noted or replied.
-    fn nothing(alloc: Global) -> Told
+    fn nothing(alloc: Global) -> Reaction
         ensures notes { result.notes ≡ [] }
         ensures reply { result.reply ≡ None }
     {
-        Told {
+        Reaction {
             notes: Items::new(alloc),
             reply: None,
         }
@@ -90,7 +90,7 @@ impl Leases {
         cell: u8,
         epoch: Epoch,
         clock: u64,
-    ) -> Result<Told, TakeFault>
+    ) -> Result<Reaction, TakeFault>
         ensures notes { IfOk result (λ made. (s : Setting) (met : List Met) → Tells s.cluster s.me self.old met → map met_of made.notes ≡ told_notes s met from (Body.Acquire cell epoch clock)) }
         ensures reply { IfOk result (λ made. (c me : _) (met : List Met) → Tells c me self.old met → made.reply ≡ answer_to c me met from (Body.Acquire cell epoch clock)) }
         ensures state { OnOk result ((c me : _) (met : List Met) → Tells c me self.old met → TellsTaken c me self.new from (Body.Acquire cell epoch clock) met) }
@@ -98,7 +98,7 @@ impl Leases {
         ensures timely { result ≢ Err TakeFault.Late }
     {
         if !self.is_own(cell) {
-            return Ok(Told::nothing(alloc));
+            return Ok(Reaction::nothing(alloc));
         }
         if is_no_node(from) {
             return Err(TakeFault::Stranger);
@@ -107,24 +107,24 @@ impl Leases {
         let answer = self.cell.ask(node, epoch, self.clock, self.numbers.keep);
         let notes = grant_note(alloc, node, epoch, answer)?;
         let reply = Some(lock_answer(cell, epoch, clock, answer));
-        Ok(Told { notes, reply })
+        Ok(Reaction { notes, reply })
     }
 
     /// The cell is asked whether a node holds its lock there.
-    fn asked(&self, alloc: Global, op: OpId, cell: u8, node: NodeId) -> Result<Told, TakeFault>
+    fn asked(&self, alloc: Global, op: OpId, cell: u8, node: NodeId) -> Result<Reaction, TakeFault>
         ensures notes { IfOk result (λ made. made.notes ≡ []) }
         ensures reply { IfOk result (λ made. (c me : _) (met : List Met) (from : ℕ) → Tells c me self.now met → made.reply ≡ answer_to c me met from (Body.Dead op cell node)) }
         ensures stranger { result ≡ Err TakeFault.Stranger → IsNoNode node.0 }
         ensures timely { result ≢ Err TakeFault.Late }
     {
         if !self.is_own(cell) {
-            return Ok(Told::nothing(alloc));
+            return Ok(Reaction::nothing(alloc));
         }
         if is_no_node(node.0) {
             return Err(TakeFault::Stranger);
         }
         let held = self.cell.held(node);
-        Ok(Told {
+        Ok(Reaction {
             notes: Items::new(alloc),
             reply: Some(held_answer(op, cell, node, held)),
         })
@@ -137,7 +137,7 @@ impl Leases {
         cell: u8,
         epoch: Epoch,
         clock: u64,
-    ) -> Result<Told, TakeFault>
+    ) -> Result<Reaction, TakeFault>
         ensures notes { IfOk result (λ made. (s : Setting) (met : List Met) (from : ℕ) → Tells s.cluster s.me self.old met → map met_of made.notes ≡ told_notes s met from (Body.Granted cell epoch clock)) }
         ensures reply { IfOk result (λ made. made.reply ≡ None) }
         ensures state { OnOk result ((c me : _) (met : List Met) (from : ℕ) → Tells c me self.old met → TellsTaken c me self.new from (Body.Granted cell epoch clock) met) }
@@ -145,7 +145,7 @@ impl Leases {
         ensures known { result ≢ Err TakeFault.Stranger }
     {
         if cell > self.numbers.cells {
-            return Ok(Told::nothing(alloc));
+            return Ok(Reaction::nothing(alloc));
         }
         let Some(until) = clock.checked_add(self.numbers.lease) else {
             return Err(TakeFault::Late);
@@ -153,10 +153,10 @@ impl Leases {
         let was_counted = is_marked(&self.coordinator.counted(), cell);
         let counted = self.coordinator.granted(cell, epoch, until, self.clock);
         if !self.numbers.full {
-            return Ok(Told::nothing(alloc));
+            return Ok(Reaction::nothing(alloc));
         }
         let notes = counts_notes(alloc, cell, epoch, was_counted, counted)?;
-        Ok(Told { notes, reply: None })
+        Ok(Reaction { notes, reply: None })
     }
 
     /// A cell answered that this epoch is past.
@@ -176,12 +176,12 @@ impl Leases {
         op: OpId,
         group: &GroupId,
         position: Position,
-    ) -> Result<Told, NoMemory>
+    ) -> Result<Reaction, NoMemory>
         ensures notes { IfOk result (λ made. map met_of made.notes ≡ (if self.now.numbers.full then Invalidates group.now position.0 ∷ [] else [])) }
         ensures reply { IfOk result (λ made. made.reply ≡ where_served self.now.numbers.full (Body.Invalidated op group.now position)) }
     {
         if !self.numbers.full {
-            return Ok(Told::nothing(alloc));
+            return Ok(Reaction::nothing(alloc));
         }
         let mut notes = Items::new(alloc);
         let noted = group.copy(alloc)?;
@@ -195,7 +195,7 @@ impl Leases {
             group,
             position,
         });
-        Ok(Told { notes, reply })
+        Ok(Reaction { notes, reply })
     }
 
     /// The coordinator is told to make a group invalid.
@@ -205,7 +205,7 @@ impl Leases {
         op: OpId,
         group: &GroupId,
         position: Position,
-    ) -> Result<Told, TakeFault>
+    ) -> Result<Reaction, TakeFault>
         ensures notes { IfOk result (λ made. (s : Setting) (met : List Met) (from : ℕ) → Tells s.cluster s.me self.old met → map met_of made.notes ≡ told_notes s met from (Body.Invalidate op group.now position)) }
         ensures reply { IfOk result (λ made. (c me : _) (met : List Met) (from : ℕ) → Tells c me self.old met → made.reply ≡ answer_to c me met from (Body.Invalidate op group.now position)) }
         ensures state { OnOk result ((c me : _) (met : List Met) (from : ℕ) → Tells c me self.old met → TellsTaken c me self.new from (Body.Invalidate op group.now position) met) }
@@ -218,7 +218,7 @@ impl Leases {
     }
 
     /// The node takes a message: what it notes of its cell and its coordinator, in order, and their reply.
-    pub fn takes(&mut self, alloc: Global, message: &Message) -> Result<Told, TakeFault>
+    pub fn takes(&mut self, alloc: Global, message: &Message) -> Result<Reaction, TakeFault>
         ensures notes { IfOk result (λ made. (s : Setting) (met : List Met) → Tells s.cluster s.me self.old met → map met_of made.notes ≡ told_notes s met message.now.from message.now.body) }
         ensures reply { IfOk result (λ made. (c me : _) (met : List Met) → Tells c me self.old met → made.reply ≡ reply_of c me met message.now.from message.now.body) }
         ensures state { OnOk result ((s : Setting) (met : List Met) → Tells s.cluster s.me self.old met → Tells s.cluster s.me self.new (onto (told_notes s met message.now.from message.now.body) (Takes message.now ∷ met))) }
@@ -233,14 +233,14 @@ impl Leases {
             Body::Granted { cell, epoch, clock } => self.granted(alloc, *cell, *epoch, *clock),
             Body::Past { cell, asked, .. } => {
                 self.past(*cell, *asked);
-                Ok(Told::nothing(alloc))
+                Ok(Reaction::nothing(alloc))
             }
             Body::Invalidate {
                 op,
                 group,
                 position,
             } => self.invalidated(alloc, *op, group, *position),
-            _ => Ok(Told::nothing(alloc)),
+            _ => Ok(Reaction::nothing(alloc)),
         }
     }
 }

@@ -13,7 +13,7 @@ use Rattle.mega_serve.specs.declared.fault.ServeFault.TheVariants as serve
 use Rattle.mega_serve.specs.Causes.{IsCaused}
 use Rattle.mega_serve.specs.Stepping.{Devices}
 use Rattle.mega_voter.specs.declared.voter.Voter.{Voter}
-use Rattle.mega_voter.specs.Faring.{LogFares}
+use Rattle.mega_voter.specs.Used.{LogUsed}
 use Rattle.mega_wal.specs.declared.answers.LogFault.{LogFault}
 use Rattle.mega_wal.specs.declared.answers.LogFault.TheVariants as log
 use Rattle.mega_node.specs.declared.stop.Stop.{Stop}
@@ -25,31 +25,31 @@ use Rattle.mega_node.specs.Stops.{IsStartStop}
 -- ---- a node that did not start
 
 -- what is said of the device, of a full log, and of what is lost
-kept_back : {R : Type 0} (store : Ghosts R) (length : ℕ) (fault : LogFault) (old records : R) → fault ≢ log.DiskFault → LogFares store length (Some fault) old records → HandsBack store.faults (store.faults old) (fault_stop fault) (Some records)
-kept_back store length log.DiskFault old records not went = absurd (not refl)
-kept_back store length (log.Full n) old records not went = record {
+kept_back : {R : Type 0} (store : Ghosts R) (length : ℕ) (fault : LogFault) (old records : R) → fault ≢ log.DiskFault → LogUsed store length (Some fault) old records → HandsBack store.faults (store.faults old) (fault_stop fault) (Some records)
+kept_back store length log.DiskFault old records not proceeds = absurd (not refl)
+kept_back store length (log.Full n) old records not proceeds = record {
   device = λ is. absurd (cc);
-  full = λ m is. let same : n ≡ m = cc in subst (λ (k : ℕ). 2 ^ 40 < k) same (went.full n refl).0.2;
+  full = λ m is. let same : n ≡ m = cc in subst (λ (k : ℕ). 2 ^ 40 < k) same (proceeds.full n refl).0.2;
   lost = λ is. absurd (cc);
-  later = λ now is. let same : records ≡ now = cc in subst (λ (r : _). store.faults old ≤ store.faults r) same went.later;
+  later = λ now is. let same : records ≡ now = cc in subst (λ (r : _). store.faults old ≤ store.faults r) same proceeds.later;
 }
-kept_back store length log.Spent old records not went = record {
+kept_back store length log.Spent old records not proceeds = record {
   device = λ is. absurd (cc);
   full = λ m is. absurd (cc);
   lost = λ is. refl;
-  later = λ now is. let same : records ≡ now = cc in subst (λ (r : _). store.faults old ≤ store.faults r) same went.later;
+  later = λ now is. let same : records ≡ now = cc in subst (λ (r : _). store.faults old ≤ store.faults r) same proceeds.later;
 }
-kept_back store length (log.BadRecord n) old records not went = record {
+kept_back store length (log.BadRecord n) old records not proceeds = record {
   device = λ is. absurd (cc);
   full = λ m is. absurd (cc);
   lost = λ is. refl;
-  later = λ now is. let same : records ≡ now = cc in subst (λ (r : _). store.faults old ≤ store.faults r) same went.later;
+  later = λ now is. let same : records ≡ now = cc in subst (λ (r : _). store.faults old ≤ store.faults r) same proceeds.later;
 }
-kept_back store length log.NoMemory old records not went = record {
+kept_back store length log.NoMemory old records not proceeds = record {
   device = λ is. absurd (cc);
   full = λ m is. absurd (cc);
   lost = λ is. refl;
-  later = λ now is. let same : records ≡ now = cc in subst (λ (r : _). store.faults old ≤ store.faults r) same went.later;
+  later = λ now is. let same : records ≡ now = cc in subst (λ (r : _). store.faults old ≤ store.faults r) same proceeds.later;
 }
 
 pub handed : {R : Type 0} (store : Ghosts R) (voter : Voter R) (one : NotStarted R) → IsRefused store voter one → HandsBack store.faults (store.faults voter.logs.records) (start_stop one) (left_of one)

@@ -16,9 +16,9 @@ use Rattle.mega_serve.specs.declared.steps.Steps.{Ghosts as StepsGhosts}
 use Rattle.mega_serve.specs.declared.waiting.Waiting.{Waiting as Waits}
 use Rattle.mega_serve.specs.Lines.{record_text}
 use Rattle.mega_serve.specs.Pages.{ArePut, GoesOn, Stops}
-use Rattle.mega_serve.specs.Turns.{Ended, EndsIn, HasBegun, HasTurned, MayServe, Runs, Went, schema_of, served_by, setting_of, turns_of}
+use Rattle.mega_serve.specs.Turns.{Ended, EndsIn, HasBegun, HasTurned, MayServe, Runs, Proceeds, schema_of, served_by, setting_of, turns_of}
 use Rattle.mega_serve.proofs.Ending.{ended_further, none_begun}
-use Rattle.mega_serve.proofs.Going.{all_nothing, went_further}
+use Rattle.mega_serve.proofs.Going.{all_nothing, proceeds_further}
 use Rattle.mega_server.specs.Forming.{notes_shown}
 use Rattle.mega_transcript.specs.declared.item.Item.{Item}
 use Rattle.mega_transcript.specs.declared.item.Item.TheVariants.{Start}
@@ -39,7 +39,7 @@ blank now = record now { lines = [] }
 -- the record of the start is held
 begins : {S : Type 0} (steps : StepsGhosts S) (makes : List ℕ → Option Meaning) (c : Cluster) (me : ℕ) (found : List (List ℕ)) (one : S) (start : ℕ) (notes : List Note) (held more_held : Option (List ℕ)) (sent : Option (List Datagram))
     → HasStarted steps makes c me found one start notes → Appends held more_held (record_text (schema_of steps one) (start_lines (steps.me one) start notes))
-    → (h : Meanings) → Means makes h → Went steps h one [] (schema_of steps one) held more_held sent sent (blank (started_over (setting c h me) found)) (started_over (setting c h me) found)
+    → (h : Meanings) → Means makes h → Proceeds steps h one [] (schema_of steps one) held more_held sent sent (blank (started_over (setting c h me) found)) (started_over (setting c h me) found)
 begins steps makes c me found one start notes held more_held sent started written h means =
     let now = started_over (setting c h me) found in
     let lines : now.lines ≡ start_lines (steps.me one) start notes = started.lines h ∙ (λ i. start_lines (sym started.own i) start notes) in
@@ -59,8 +59,8 @@ same_setting : {S : Type 0} (steps : StepsGhosts S) (makes : List ℕ → Option
 same_setting steps makes c me found one start notes started h = λ i. setting (started.members i) h (started.own i)
 
 -- what was recorded of a served node that began with nothing
-went_all : {S : Type 0} (steps : StepsGhosts S) (h : Meanings) (one : S) (waiting : List Waits) (schema : Schema) (a b : Option (List ℕ)) (x y : Option (List Datagram)) (now next : Served) → Went steps h one waiting schema a b x y (blank now) next → GoesOn schema a b x y next.lines
-went_all steps h one waiting schema a b x y now next went = subst (GoesOn schema a b x y) (sym went.lines) went.goes_on
+proceeds_all : {S : Type 0} (steps : StepsGhosts S) (h : Meanings) (one : S) (waiting : List Waits) (schema : Schema) (a b : Option (List ℕ)) (x y : Option (List Datagram)) (now next : Served) → Proceeds steps h one waiting schema a b x y (blank now) next → GoesOn schema a b x y next.lines
+proceeds_all steps h one waiting schema a b x y now next proceeds = subst (GoesOn schema a b x y) (sym proceeds.lines) proceeds.goes_on
 
 ended_all : (schema : Schema) (a b : Option (List ℕ)) (x y : Option (List Datagram)) (now next : Served) → Ended schema a b x y (blank now) next → Stops schema a b x y next.lines
 ended_all schema a b x y now next ended = subst (Stops schema a b x y) (sym ended.lines) ended.stops
@@ -70,14 +70,14 @@ ended_all schema a b x y now next ended = subst (Stops schema a b x y) (sym ende
 on : {S : Type 0} (steps : StepsGhosts S) (makes : List ℕ → Option Meaning) (c : Cluster) (me : ℕ) (found : List (List ℕ)) (one last : S) (start : ℕ) (notes : List Note) (left : List Waits) (held mid more_held : Option (List ℕ)) (sent more_sent : Option (List Datagram)) (given : List (ℕ × Option Datagram))
     → HasStarted steps makes c me found one start notes → Appends held mid (record_text (schema_of steps one) (start_lines (steps.me one) start notes))
     → Runs steps one [] last left mid more_held sent more_sent given → (h : Meanings) → Means makes h → MayServe steps (setting c h me) (started_over (setting c h me) found) (turns_of h given)
-    → Went steps h last left c.schema held more_held sent more_sent (blank (started_over (setting c h me) found)) (served_over (setting c h me) found (turns_of h given))
+    → Proceeds steps h last left c.schema held more_held sent more_sent (blank (started_over (setting c h me) found)) (served_over (setting c h me) found (turns_of h given))
 on steps makes c me found one last start notes left held mid more_held sent more_sent given started written runs h means may =
     let now = started_over (setting c h me) found in
     let same = same_setting steps makes c me found one start notes started h in
     let first = begins steps makes c me found one start notes held mid sent started written h means in
-    let went = runs h now (started.serving h means) (subst (λ (s : Setting). MayServe steps s now (turns_of h given)) (sym same) may) in
-    let all = went_further steps h one last [] left (schema_of steps one) held mid more_held sent sent more_sent (blank now) now (served_by (setting_of steps one h) now (turns_of h given)) first went in
-    coe 0 1 (i. Went steps h last left ((started.members i).schema) held more_held sent more_sent (blank now) (served_by (same i) now (turns_of h given))) all
+    let proceeds = runs h now (started.serving h means) (subst (λ (s : Setting). MayServe steps s now (turns_of h given)) (sym same) may) in
+    let all = proceeds_further steps h one last [] left (schema_of steps one) held mid more_held sent sent more_sent (blank now) now (served_by (setting_of steps one h) now (turns_of h given)) first proceeds in
+    coe 0 1 (i. Proceeds steps h last left ((started.members i).schema) held more_held sent more_sent (blank now) (served_by (same i) now (turns_of h given))) all
 
 pub turned_on : {S : Type 0} (steps : StepsGhosts S) (one last : S) (start : ℕ) (notes : List Note) (turns : ℕ) (before after : Outside) (mid : Option (List ℕ))
     → Appends before.held mid (record_text (schema_of steps one) (start_lines (steps.me one) start notes))
@@ -87,7 +87,7 @@ turned_on steps one last start notes turns before after mid written made = recor
   given = made.0;
   turned = made.1.0;
   recorded = λ makes c me found started h means may.
-      went_all steps h last made.1.1.0 c.schema before.held after.held before.sent after.sent (started_over (setting c h me) found) (served_over (setting c h me) found (turns_of h made.0))
+      proceeds_all steps h last made.1.1.0 c.schema before.held after.held before.sent after.sent (started_over (setting c h me) found) (served_over (setting c h me) found (turns_of h made.0))
       (on steps makes c me found one last start notes made.1.1.0 before.held mid after.held before.sent after.sent made.0 started written made.1.1.1 h means may);
   serving = λ makes c me found started h means may.
       (h, made.1.1.0, (on steps makes c me found one last start notes made.1.1.0 before.held mid after.held before.sent after.sent made.0 started written made.1.1.1 h means may).serving);

@@ -3,36 +3,36 @@ use Rattle.std.proofs.Common.{◌≡◌, ◌<◌, ◌^◌, ℕ, true, false, Som
 use Rattle.mega_base.specs.Causes.{Rose}
 use Rattle.mega_disk.specs.declared.records.Records.{Ghosts as RecordGhosts}
 use Rattle.mega_disk.specs.declared.versions.Versions.{Ghosts}
-use Rattle.mega_voter.specs.Faring.{LogFares}
+use Rattle.mega_voter.specs.Used.{LogUsed}
 use Rattle.mega_wal.specs.declared.answers.LogFault.{LogFault}
 use Rattle.mega_wal.specs.declared.answers.LogFault.TheVariants as log
-use Rattle.mega_replica.specs.Faring.{Fares}
+use Rattle.mega_replica.specs.Used.{StoreUsed}
 use Rattle.mega_durable.specs.of_core.declared.fault.StepFault.{StepFault}
 use Rattle.mega_durable.specs.of_core.declared.fault.StepFault.TheVariants as fault
 use Rattle.mega_durable.specs.of_core.Faults.{of_store}
 use Rattle.mega_places.specs.Faults.{is_strange}
 
 -- a device that never fails, and never held anything bad, is not why
-pub no_rows : {V : Type 0} (store : Ghosts V) (why : StepFault) (old new : V) → Fares store (of_store why) old new → ((x : V) → store.faults x ≡ 0) → ((x : V) (n : ℕ) → store.is_bad x n → ⊥) → of_store why ≡ None
-no_rows store fault.DiskFault old new fares whole good =
-    let rose : Rose (store.faults old) (store.faults new) = fares.cause refl in absurd (omega (arith, rose, whole old, whole new))
-no_rows store (fault.Full n) old new fares whole good = absurd (fares.never_full n refl)
-no_rows store (fault.BadRecord n) old new fares whole good = absurd (good old n (fares.bad n refl))
-no_rows store fault.Unserved old new fares whole good = refl
-no_rows store fault.Stranger old new fares whole good = refl
-no_rows store fault.Late old new fares whole good = refl
-no_rows store fault.NoMemory old new fares whole good = refl
+pub no_rows : {V : Type 0} (store : Ghosts V) (why : StepFault) (old new : V) → StoreUsed store (of_store why) old new → ((x : V) → store.faults x ≡ 0) → ((x : V) (n : ℕ) → store.is_bad x n → ⊥) → of_store why ≡ None
+no_rows store fault.DiskFault old new used whole good =
+    let rose : Rose (store.faults old) (store.faults new) = used.cause refl in absurd (omega (arith, rose, whole old, whole new))
+no_rows store (fault.Full n) old new used whole good = absurd (used.never_full n refl)
+no_rows store (fault.BadRecord n) old new used whole good = absurd (good old n (used.bad n refl))
+no_rows store fault.Unserved old new used whole good = refl
+no_rows store fault.Stranger old new used whole good = refl
+no_rows store fault.Late old new used whole good = refl
+no_rows store fault.NoMemory old new used whole good = refl
 
 -- records in memory that are open lack memory alone, where their device did not fail
-pub log_memory : {R : Type 0} (store : RecordGhosts R) (length : ℕ) (why : LogFault) (old new : R) → LogFares store length (Some why) old new → store.is_spent old ≡ false → length ≡ 0 → (why ≡ log.DiskFault → ⊥) → why ≡ log.NoMemory
-log_memory store length log.DiskFault old new fares open_now short not_disk = absurd (not_disk refl)
-log_memory store length (log.Full n) old new fares open_now short not_disk =
-    let full = fares.full n refl in
+pub log_memory : {R : Type 0} (store : RecordGhosts R) (length : ℕ) (why : LogFault) (old new : R) → LogUsed store length (Some why) old new → store.is_spent old ≡ false → length ≡ 0 → (why ≡ log.DiskFault → ⊥) → why ≡ log.NoMemory
+log_memory store length log.DiskFault old new used open_now short not_disk = absurd (not_disk refl)
+log_memory store length (log.Full n) old new used open_now short not_disk =
+    let full = used.full n refl in
     let is : n ≡ length = full.0.1 in
     let more : 2 ^ 40 < n = full.0.2 in absurd (omega (arith, is, more, short))
-log_memory store length log.Spent old new fares open_now short not_disk = let no : false ≡ true = sym open_now ∙ (fares.spent refl).0 in let none : ⊥ = cc in absurd none
-log_memory store length (log.BadRecord n) old new fares open_now short not_disk = absurd (fares.good n refl)
-log_memory store length log.NoMemory old new fares open_now short not_disk = refl
+log_memory store length log.Spent old new used open_now short not_disk = let no : false ≡ true = sym open_now ∙ (used.spent refl).0 in let none : ⊥ = cc in absurd none
+log_memory store length (log.BadRecord n) old new used open_now short not_disk = absurd (used.good n refl)
+log_memory store length log.NoMemory old new used open_now short not_disk = refl
 
 -- no fault of these is strange
 pub not_strange : (why : StepFault) → (why ≡ fault.Unserved → ⊥) → (why ≡ fault.Stranger → ⊥) → (why ≡ fault.Late → ⊥) → is_strange why ≡ false

@@ -223,26 +223,26 @@ old_answers =
     ∷ begin 2 second_put ∷ map Deliver (20 ∷ 21 ∷ 23 ∷ 24 ∷ 25 ∷ 26 ∷ 27 ∷ 28 ∷ 29 ∷ 30 ∷ []) ++ tick 1 50 ∷ Deliver 18 ∷ Deliver 19 ∷ []
 
 -- what an operation of node 1 asks and proposes in a group, and what is decided there
-pub data Deed : Type 0 where
-  Asked : (voter : ℕ) → Deed
-  Proposed : (position : ℕ) → Deed
-  Learned : (node position : ℕ) → Deed
+pub data StoryPart : Type 0 where
+  Asked : (voter : ℕ) → StoryPart
+  Proposed : (position : ℕ) → StoryPart
+  Learned : (node position : ℕ) → StoryPart
 
-abbrev pub told_if : Bool → Deed → Option Deed
+abbrev pub told_if : Bool → StoryPart → Option StoryPart
 told_if true one = Some one
 told_if false one = None
 
-abbrev pub story_in : GroupId → Item → Option Deed
+abbrev pub story_in : GroupId → Item → Option StoryPart
 story_in g (Decided node other n entry) = told_if (same_group other g) (Learned node.0 n.0)
 story_in g (IsSent number message) = by message.body
   where
-    by : Body → Option Deed
+    by : Body → Option StoryPart
     by (Where op other) = told_if (op.node.0 == 1 && same_group other g) (Asked message.to)
     by (Accept op other n ballot entry) = told_if (op.node.0 == 1 && same_group other g) (Proposed n.0)
     by _ = None
 story_in g _ = None
 
-abbrev pub story : GroupId → List Item → List Deed
+abbrev pub story : GroupId → List Item → List StoryPart
 story g items = filter_map (story_in g) items
 
 -- a transaction that wants the user to be gone

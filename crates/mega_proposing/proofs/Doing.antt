@@ -6,11 +6,11 @@ use Rattle.mega_wire.specs.declared.message.Message.{Message}
 use Rattle.mega_entry.specs.declared.content.Content.{Content}
 use Rattle.mega_rules.specs.Operations.{Now, Operation, Promised}
 use Rattle.mega_rules.specs.Acting.{unless_decided, validated_by}
-use Rattle.mega_proposing.specs.declared.deed.Deed.{Deed}
-use Rattle.mega_proposing.specs.declared.deed.End.{End}
-use Rattle.mega_proposing.specs.declared.deed.End.TheVariants.{Ends, Stays}
+use Rattle.mega_proposing.specs.declared.action.Action.{Action}
+use Rattle.mega_proposing.specs.declared.action.End.{End}
+use Rattle.mega_proposing.specs.declared.action.End.TheVariants.{Ends, Stays}
 use Rattle.mega_proposing.specs.Completed.{valid_if}
-use Rattle.mega_proposing.specs.Deeds.{does, ended_by, said}
+use Rattle.mega_proposing.specs.Actions.{does, ended_by, said}
 use Rattle.std.specs.Prelude.{is_none}
 
 met_by : (now : Now) (sends : Option (List Message)) (end : End) → (ended_by (said now sends) end).met ≡ now.met
@@ -25,11 +25,11 @@ stored_by now None (Ends op answer) = refl
 stored_by now (Some sends) (Stays o) = refl
 stored_by now (Some sends) (Ends op answer) = refl
 
-pub does_met : (now : Now) (deed : Deed) → (does now deed).met ≡ now.met
-does_met now deed = met_by now deed.sends deed.end
+pub does_met : (now : Now) (action : Action) → (does now action).met ≡ now.met
+does_met now action = met_by now action.sends action.end
 
-pub does_stored : (now : Now) (deed : Deed) → (does now deed).stored ≡ now.stored
-does_stored now deed = stored_by now deed.sends deed.end
+pub does_stored : (now : Now) (action : Action) → (does now action).stored ≡ now.stored
+does_stored now action = stored_by now action.sends action.end
 
 pub validated_is : (now : Now) (group : GroupId) (p : ℕ) (refusal : Option NotValid) → validated_by now group p refusal ≡ valid_if now group p (is_none refusal)
 validated_is now group p (Some refusal) = refl

@@ -1,5 +1,5 @@
 pub mod Settings
-pub mod Deeds
+pub mod Actions
 pub mod Working
 pub mod Completed
 pub mod Reaching

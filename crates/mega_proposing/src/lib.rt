@@ -2,22 +2,22 @@
 //! are served, and the current read with which one begins (CIDR 2011, reads and writes).
 #![tactic(auto)]
 
-mod deed;
+mod action;
+mod complete_read;
 mod entries;
 mod limit;
 mod proposing;
-mod reached;
 mod reading;
 mod serving;
 mod work;
 
-pub use deed::{Deed, End};
+pub use action::{Action, End};
+pub use complete_read::CompleteRead;
 pub use limit::is_limit;
 pub use mega_leases;
 pub use mega_operations;
 pub use mega_voter;
 pub use proposing::{Proposing, unless_decided};
-pub use reached::Reached;
 pub use reading::read_begun;
 pub use serving::{
     group_asked, is_answered, is_at_once, is_indexed, is_plain, is_proposed, is_pump, is_served,

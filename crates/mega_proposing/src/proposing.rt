@@ -12,13 +12,13 @@ ghost use Rattle.mega_read.specs.Catching.{asked_by, site};
 ghost use Rattle.mega_rules.specs.Operations.{Now, Proposes, Replies};
 ghost use Rattle.mega_rules.specs.Acting.{batch_sealed, is_taken, leader_after, proposes, proposes_by, reader_of, sealed, sends_more, unless_decided};
 ghost use Rattle.mega_voter.specs.Telling.{Tells};
-ghost use Rattle.mega_proposing.specs.Deeds.{does, said};
+ghost use Rattle.mega_proposing.specs.Actions.{does, said};
 ghost use Rattle.mega_proposing.specs.Reaching.{operation_of};
 ghost use Rattle.mega_proposing.specs.Settings.{setting};
 
-use crate::deed::{Deed, End};
+use crate::action::{Action, End};
+use crate::complete_read::CompleteRead;
 use crate::entries::{own_entry, verdict};
-use crate::reached::Reached;
 use mega_base::{GroupId, Items, NoMemory, Position};
 use mega_disk::Records;
 use mega_entry::Entry;
@@ -45,7 +45,7 @@ pub fn unless_decided(
     own: Proposing,
     sends: Option<Items<Message>>,
     found: Option<&Entry>,
-) -> Deed
+) -> Action
     ensures { (now : Now) → does now result ≡ unless_decided (said now sends) (whole kept (Proposes own.group own.position own.asked own.proposal (promised_of own.promised))) own.position (promised_of own.promised) (option_copied found.entry) }
 {
     let Proposing {
@@ -63,7 +63,7 @@ pub fn unless_decided(
             drop(asked);
             drop(proposal);
             let answer = verdict(op, position, promised, entry);
-            Deed {
+            Action {
                 sends,
                 end: End::Ends(op, answer),
             }
@@ -77,7 +77,7 @@ pub fn unless_decided(
                 promised,
             };
             let operation = kept.in_phase(phase);
-            Deed {
+            Action {
                 sends,
                 end: End::Stays(operation),
             }
@@ -114,7 +114,7 @@ fn begun(
     alloc: Global,
     members: &Members,
     clock: u64,
-    reached: &Reached,
+    reached: &CompleteRead,
     position: u64,
     leader: u8,
     own: Entry,
@@ -128,13 +128,13 @@ fn begun(
     Ok(Asking { asked, round })
 }
 
-impl Reached {
+impl CompleteRead {
     /// The operation proposes at the next position, unless that is decided.
-    fn proposing(self, asking: Asking, promised: Promised, found: Option<&Entry>) -> Deed
+    fn proposing(self, asking: Asking, promised: Promised, found: Option<&Entry>) -> Action
         requires { self.position + 1 < 2 ^ 64 }
         ensures { (now : Now) → does now result ≡ unless_decided (sends_more now asking.round.sends) (whole self.kept (Proposes self.group (self.position + 1) asking.asked asking.round.proposal (promised_of promised))) (self.position + 1) (promised_of promised) (option_copied found.entry) }
     {
-        let Reached {
+        let CompleteRead {
             kept,
             group,
             reading,
@@ -163,10 +163,10 @@ impl Reached {
         own: Entry,
         promised: Promised,
         leader: u8,
-    ) -> Result<Deed, NoMemory>
+    ) -> Result<Action, NoMemory>
         requires { self.position + 1 < 2 ^ 64 }
-        ensures { IfOk result (λ deed. (me : _) (h : Meanings) (now : Now) → Tells voter.now.logs.kept now.met → clock ≡ clock_of now.met →
-            does now deed ≡ proposes_by (setting members.now me h) now (operation_of self) self.group self.reading self.position own (promised_of promised) (Some leader)) }
+        ensures { IfOk result (λ action. (me : _) (h : Meanings) (now : Now) → Tells voter.now.logs.kept now.met → clock ≡ clock_of now.met →
+            does now action ≡ proposes_by (setting members.now me h) now (operation_of self) self.group self.reading self.position own (promised_of promised) (Some leader)) }
     {
         let position = self.position + 1;
         match begun(alloc, members, clock, &self, position, leader, own) {
@@ -191,15 +191,15 @@ impl Reached {
         clock: u64,
         own: Entry,
         promised: Promised,
-    ) -> Result<Deed, NoMemory>
+    ) -> Result<Action, NoMemory>
         requires { self.position + 1 < 2 ^ 64 }
-        ensures { IfOk result (λ deed. (me : _) (h : Meanings) (now : Now) → Tells voter.now.logs.kept now.met → clock ≡ clock_of now.met →
-            does now deed ≡ proposes (setting members.now me h) now (operation_of self) self.group self.reading self.position own (promised_of promised)) }
+        ensures { IfOk result (λ action. (me : _) (h : Meanings) (now : Now) → Tells voter.now.logs.kept now.met → clock ≡ clock_of now.met →
+            does now action ≡ proposes (setting members.now me h) now (operation_of self) self.group self.reading self.position own (promised_of promised)) }
     {
         match leader_after(members, voter, &self.group, self.position) {
             Some(leader) => {
-                let deed = self.asks(alloc, members, voter, clock, own, promised, leader)?;
-                Ok(deed)
+                let action = self.asks(alloc, members, voter, clock, own, promised, leader)?;
+                Ok(action)
             }
             None => Ok(self.stays()),
         }
@@ -213,15 +213,15 @@ impl Reached {
         voter: &Voter<R>,
         clock: u64,
         came: Result<Done, Turn>,
-    ) -> Result<Deed, NoMemory>
+    ) -> Result<Action, NoMemory>
         requires { self.position + 1 < 2 ^ 64 }
-        ensures { IfOk result (λ deed. (me : _) (h : Meanings) (now : Now) → Tells voter.now.logs.kept now.met → clock ≡ clock_of now.met →
-            does now deed ≡ sealed (setting members.now me h) now (operation_of self) self.group self.reading self.position came) }
+        ensures { IfOk result (λ action. (me : _) (h : Meanings) (now : Now) → Tells voter.now.logs.kept now.met → clock ≡ clock_of now.met →
+            does now action ≡ sealed (setting members.now me h) now (operation_of self) self.group self.reading self.position came) }
     {
         match came {
             Ok(done) => {
-                let deed = self.seals(alloc, members, voter, clock, done)?;
-                Ok(deed)
+                let action = self.seals(alloc, members, voter, clock, done)?;
+                Ok(action)
             }
             Err(turn) => Ok(self.ends(Answer::Turned(turn))),
         }
@@ -235,10 +235,10 @@ impl Reached {
         voter: &Voter<R>,
         clock: u64,
         done: Done,
-    ) -> Result<Deed, NoMemory>
+    ) -> Result<Action, NoMemory>
         requires { self.position + 1 < 2 ^ 64 }
-        ensures { IfOk result (λ deed. (me : _) (h : Meanings) (now : Now) → Tells voter.now.logs.kept now.met → clock ≡ clock_of now.met →
-            does now deed ≡ proposes (setting members.now me h) now (operation_of self) self.group self.reading self.position (entry_of_done self.kept.id done) (Replies done.replies)) }
+        ensures { IfOk result (λ action. (me : _) (h : Meanings) (now : Now) → Tells voter.now.logs.kept now.met → clock ≡ clock_of now.met →
+            does now action ≡ proposes (setting members.now me h) now (operation_of self) self.group self.reading self.position (entry_of_done self.kept.id done) (Replies done.replies)) }
     {
         let Done {
             replies,
@@ -248,8 +248,8 @@ impl Reached {
         match own_entry(alloc, self.kept.id, writes, sends, Items::new(alloc)) {
             Ok(own) => {
                 let promised = Promised::Replies(replies);
-                let deed = self.proposes(alloc, members, voter, clock, own, promised)?;
-                Ok(deed)
+                let action = self.proposes(alloc, members, voter, clock, own, promised)?;
+                Ok(action)
             }
             Err(refused) => {
                 drop(self);
@@ -267,10 +267,10 @@ impl Reached {
         voter: &Voter<R>,
         clock: u64,
         came: Batch,
-    ) -> Result<Deed, NoMemory>
+    ) -> Result<Action, NoMemory>
         requires { self.position + 1 < 2 ^ 64 }
-        ensures { IfOk result (λ deed. (me : _) (h : Meanings) (now : Now) → Tells voter.now.logs.kept now.met → clock ≡ clock_of now.met →
-            does now deed ≡ batch_sealed (setting members.now me h) now (operation_of self) self.group self.reading self.position came) }
+        ensures { IfOk result (λ action. (me : _) (h : Meanings) (now : Now) → Tells voter.now.logs.kept now.met → clock ≡ clock_of now.met →
+            does now action ≡ batch_sealed (setting members.now me h) now (operation_of self) self.group self.reading self.position came) }
     {
         let Batch {
             results,
@@ -287,8 +287,8 @@ impl Reached {
         match own_entry(alloc, self.kept.id, writes, sends, cuts) {
             Ok(own) => {
                 let promised = Promised::Results(results);
-                let deed = self.proposes(alloc, members, voter, clock, own, promised)?;
-                Ok(deed)
+                let action = self.proposes(alloc, members, voter, clock, own, promised)?;
+                Ok(action)
             }
             Err(refused) => {
                 drop(self);

@@ -2,10 +2,10 @@
 ghost use Rattle.std.specs.Prelude.{◌≡◌, ◌++◌, [], OnOk};
 ghost use Rattle.mega_rules.specs.Operations.{Now};
 ghost use Rattle.mega_proposing.specs.Completed.{completed};
-ghost use Rattle.mega_proposing.specs.Deeds.{does, ended_by, said};
+ghost use Rattle.mega_proposing.specs.Actions.{does, ended_by, said};
 ghost use Rattle.mega_proposing.specs.Working.{work_of};
 
-use crate::deed::{Deed, End};
+use crate::action::{Action, End};
 use mega_base::{Copied, GroupId, Items, NoMemory, OpId};
 use mega_operations::Operation;
 use mega_outcome::Answer;
@@ -105,10 +105,10 @@ impl Work {
     }
 
     /// Adds what an operation does.
-    pub fn does(&mut self, deed: Deed) -> Result<(), NoMemory>
-        ensures { OnOk result ((now : Now) → self.old ≡ work_of now → self.new ≡ work_of (does now deed)) }
+    pub fn does(&mut self, action: Action) -> Result<(), NoMemory>
+        ensures { OnOk result ((now : Now) → self.old ≡ work_of now → self.new ≡ work_of (does now action)) }
     {
-        let Deed { sends, end } = deed;
+        let Action { sends, end } = action;
         match self.says(sends) {
             Ok(()) => {
                 self.ends(end)?;

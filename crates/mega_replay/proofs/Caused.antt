@@ -5,7 +5,7 @@ use Rattle.mega_meanings.specs.BuiltIn.{built_in}
 use Rattle.mega_transcript.specs.declared.item.Item.{Item}
 use Rattle.mega_shown_laws.specs.of_promises.Runs.{Happening, IsRun}
 use Rattle.mega_shown_laws.specs.of_run_laws.Usages.{Fits}
-use Rattle.mega_shown_laws.specs.of_run_laws.Vouched.{Each}
+use Rattle.mega_shown_laws.specs.of_run_laws.Justified.{Each}
 use Rattle.mega_shown_laws.proofs.of_answer_laws.Runs.{run_causes}
 use Rattle.mega_replay.specs.Meanings.{usage}
 use Rattle.mega_replay.specs.Running.{HaveCauses}

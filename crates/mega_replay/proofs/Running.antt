@@ -39,7 +39,7 @@ use Rattle.mega_fresh_laws.proofs.of_leased_laws.Leased.{run_leased}
 use Rattle.mega_fresh_laws.proofs.of_leased_laws.Tops.{run_fresh}
 use Rattle.mega_line_laws.specs.Meanings.{meaning_in}
 use Rattle.mega_replay.specs.Meanings.{usage}
-use Rattle.mega_replay.specs.Running.{AllHappen, AllReadAll, HoldsSettled, Happens, ReadsAll, Replayed, Went, in_turn, stood}
+use Rattle.mega_replay.specs.Running.{AllHappen, AllReadAll, HoldsSettled, Happens, ReadsAll, Replayed, Proceeds, in_turn, stood}
 use Rattle.mega_shown_laws.specs.of_promises.Calm.{IsCalmComplete}
 use Rattle.mega_calm_laws.proofs.Complete.{run_is_calm_complete}
 use Rattle.mega_replay.proofs.Caused.{run_caused}
@@ -128,9 +128,9 @@ replayed c lines events can happen held =
     }
 
 -- what an event leads to, where it is not refused
-pub went_on : (c : Cluster) (events : List Happening) (handlers : Meanings) (event : WorldEvent) → refusal c (stood c events) event ≡ None
+pub proceeds_on : (c : Cluster) (events : List Happening) (handlers : Meanings) (event : WorldEvent) → refusal c (stood c events) event ≡ None
     → stood c (record { handlers = handlers; event = event } ∷ events) ≡ after_event c handlers by_fuse (stood c events) event
-went_on c events handlers event allowed = ap (unless_refused (stood c events) (after_event c handlers by_fuse (stood c events) event)) allowed
+proceeds_on c events handlers event allowed = ap (unless_refused (stood c events) (after_event c handlers by_fuse (stood c events) event)) allowed
 
 asked : (c : Cluster) (number : ℕ) (line : List ℕ) (event : WorldEvent) → event_of c.schema number line ≡ Ok event → IsAsked event
 asked c number line (Begin node request text) spelled = request_asked c.schema number line node request text spelled
@@ -204,13 +204,13 @@ sound c lines events number line event can happen spelled allowed means =
       own = owns c (declared_of c can) (in_turn events []) (stood c events) event (fits_turned c lines events [] happen tt) first (turned c events []) allowed;
     }
 
-pub went : (c : Cluster) (number : ℕ) (line : List ℕ) (events : List Happening) (event : WorldEvent) (world : World) (added : List Item) → event_of c.schema number line ≡ Ok event → refusal c (stood c events) event ≡ None
+pub proceeds : (c : Cluster) (number : ℕ) (line : List ℕ) (events : List Happening) (event : WorldEvent) (world : World) (added : List Item) → event_of c.schema number line ≡ Ok event → refusal c (stood c events) event ≡ None
     → IsAt c world (after_event c built_in by_fuse (stood c events) event) → (after_event c built_in by_fuse (stood c events) event).tape ≡ onto added (stood c events).tape → All HoldsItem added
-    → Went c number line events world added
-went c number line events event world added spelled allowed here adds held = record {
+    → Proceeds c number line events world added
+proceeds c number line events event world added spelled allowed here adds held = record {
   one = record { handlers = built_in; event = event };
   happens = record { spelled = spelled; handled = refl; allowed = allowed };
-  here = subst (λ (now : Standing). IsAt c world now) (sym (went_on c events built_in event allowed)) here;
-  adds = ap (λ (now : Standing). now.tape) (went_on c events built_in event allowed) ∙ adds;
+  here = subst (λ (now : Standing). IsAt c world now) (sym (proceeds_on c events built_in event allowed)) here;
+  adds = ap (λ (now : Standing). now.tape) (proceeds_on c events built_in event allowed) ∙ adds;
   held = held;
 }

@@ -18,7 +18,7 @@ use Rattle.mega_heading.specs.Known.{Ends, Follows, Passes, TakesLine}
 use Rattle.mega_replay.specs.Known.{CutsLine, IsTooLong, LeftFails, LeftIsBegun, LeftIsDone, LeftRanOut, LeftStops, StopsNext}
 use Rattle.mega_replay.specs.Progress.{Writes, WritesFront}
 use Rattle.mega_replay.specs.Replaying.{AreRead, Reaches, in_order, text_at}
-use Rattle.mega_replay.specs.Running.{AllHappen, Happens, StandsAfter, Went, stood}
+use Rattle.mega_replay.specs.Running.{AllHappen, Happens, StandsAfter, Proceeds, stood}
 use Rattle.mega_replay.specs.Stops.{IsBeforeWriting}
 use Rattle.mega_replay.specs.declared.status.Stop.{Stop}
 use Rattle.mega_replay.specs.Texts.{IsTallied, at_end, in_all, so_far}
@@ -84,24 +84,24 @@ stands_on (Some first) (Some now) None done line stands follows = absurd follows
 stands_on (Some first) (Some now) (Some next) done line stands follows = (stands.0 ∙ ap (in_order done) follows.0, takes_on first now next done line stands.1 follows.1)
 
 -- what a line added comes last
-grown : (c : Cluster) (number : ℕ) (line : List ℕ) (events : List Happening) (world : World) (added : List Item) (went : Went c number line events world added)
-    → newest (stood c (went.one ∷ events)).tape ≡ newest (stood c events).tape ++ added
-grown c number line events world added went = ap newest went.adds ∙ newest_onto added (stood c events).tape
+grown : (c : Cluster) (number : ℕ) (line : List ℕ) (events : List Happening) (world : World) (added : List Item) (proceeds : Proceeds c number line events world added)
+    → newest (stood c (proceeds.one ∷ events)).tape ≡ newest (stood c events).tape ++ added
+grown c number line events world added proceeds = ap newest proceeds.adds ∙ newest_onto added (stood c events).tape
 
 pub ran_on : (c : Cluster) (first now next : Option (List ℕ)) (world other : World) (count : ℕ) (line : List ℕ) (added : List Item) (Is Next : List Item → Type 0) (ran : RanTo c first now world count Is) → Follows now next line
-    → Went c (count + 1) line ran.events other added → ((items : List Item) → Is items → Next (items ++ added)) → RanTo c first next other (count + 1) Next
-ran_on c first now next world other count line added Is Next ran follows went on = record {
+    → Proceeds c (count + 1) line ran.events other added → ((items : List Item) → Is items → Next (items ++ added)) → RanTo c first next other (count + 1) Next
+ran_on c first now next world other count line added Is Next ran follows proceeds on = record {
   done = line ∷ ran.done;
-  events = went.one ∷ ran.events;
+  events = proceeds.one ∷ ran.events;
   after = record {
     starts = ran.after.starts;
-    happen = (ran.after.happen, subst (λ (n : ℕ). Happens c (n + 1) line (stood c ran.events) went.one) ran.counted went.happens);
-    here = went.here;
-    held = subst (All HoldsItem) (sym went.adds) (all_onto HoldsItem added (stood c ran.events).tape went.held ran.after.held);
+    happen = (ran.after.happen, subst (λ (n : ℕ). Happens c (n + 1) line (stood c ran.events) proceeds.one) ran.counted proceeds.happens);
+    here = proceeds.here;
+    held = subst (All HoldsItem) (sym proceeds.adds) (all_onto HoldsItem added (stood c ran.events).tape proceeds.held ran.after.held);
   };
   counted = omega (arith, ran.counted);
   left = stands_on first now next ran.done line ran.left follows;
-  so = subst Next (sym (grown c (count + 1) line ran.events other added went)) (on (newest (stood c ran.events).tape) ran.so);
+  so = subst Next (sym (grown c (count + 1) line ran.events other added proceeds)) (on (newest (stood c ran.events).tape) ran.so);
 }
 
 pub ran_out : (report : Report) (c : Cluster) (first now : Option (List ℕ)) (world : World) (count : ℕ) (Is : List Item → Type 0) (tally : Tally) (Says : List ℕ → Type 0) (ran : RanTo c first now world count Is) → Ends now
@@ -173,9 +173,9 @@ pub cut_line : (report : Report) (c : Cluster) (start left next : Option (List �
 unfolding ran_on
 cut_line report c start left next line world other count Is first mid now waiting later ran before (inl cut) =
     cut_here report c start left (WritesFront first now later) world count Is ran (wrote_front first mid now waiting later (text_at report c ran.events) before cut)
-cut_line report c start left next line world other count Is first mid now waiting later ran before (inr (added, follows, went, cut)) =
-    cut_here report c start next (WritesFront first now later) other (count + 1) (λ items. Unit {0}) (ran_on c start left next world other count line added Is (λ items. Unit {0}) ran follows went (λ items is. tt))
-    (subst (λ (items : List Item). WritesFront first now later (so_far report c.schema items)) (sym (grown c (count + 1) line ran.events other added went))
+cut_line report c start left next line world other count Is first mid now waiting later ran before (inr (added, follows, proceeds, cut)) =
+    cut_here report c start next (WritesFront first now later) other (count + 1) (λ items. Unit {0}) (ran_on c start left next world other count line added Is (λ items. Unit {0}) ran follows proceeds (λ items is. tt))
+    (subst (λ (items : List Item). WritesFront first now later (so_far report c.schema items)) (sym (grown c (count + 1) line ran.events other added proceeds))
     (front_on report c.schema first mid now waiting later (newest (stood c ran.events).tape) added before cut))
 
 -- the next line stops the run

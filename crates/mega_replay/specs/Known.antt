@@ -10,7 +10,7 @@ use Rattle.mega_transcript.specs.declared.item.Item.{Item}
 use Rattle.mega_shown_laws.specs.of_promises.Runs.{Happening, Standing}
 use Rattle.mega_world.specs.declared.world.World.{World}
 use Rattle.mega_replay.specs.Headings.{heading_of}
-use Rattle.mega_replay.specs.Running.{StandsAfter, Went}
+use Rattle.mega_replay.specs.Running.{StandsAfter, Proceeds}
 use Rattle.mega_replay.specs.Texts.{IsTallied, so_far}
 use Rattle.mega_replay.specs.Replaying.{AreDone, AreRead, IsDone, IsBegun, RanOut, StopsAt, InputIsDone, InputIsBegun, InputIsBroken, InputIsNoEvent, InputIsRefused, InputIsPastLast, InputIsCut, InputIsFailed}
 
@@ -56,14 +56,14 @@ StopsNext left IsCause = Told left (λ left. (line : List ℕ) × (rest : List (
 -- before a line or within it the text was cut: this is said of what was to be written before, or of that and the text of what the line added
 abbrev pub CutsLine : Report → Cluster → ℕ → Option (List ℕ) → Option (List ℕ) → List ℕ → List Happening → World → (List ℕ → Type 0) → List ℕ → Type 0
 CutsLine report c number now next line events world Says before =
-    Says before ⊎ ((added : List Item) × Follows now next line × Went c number line events world added × Says (before ++ so_far report c.schema added))
+    Says before ⊎ ((added : List Item) × Follows now next line × Proceeds c number line events world added × Says (before ++ so_far report c.schema added))
 
 -- a line was done: its event happened, wherever the world stood, this is said of what was to be written before and the text of what the line
 -- added, and that is counted where a summary is kept
 pub record DoesLine (report : Report) (c : Cluster) (number : ℕ) (now next : Option (List ℕ)) (line : List ℕ) (old new : World) (was tally : Tally) (Says : List ℕ → Type 0) (before : List ℕ) : Type 0 where
   pub added : List Item
   pub follows : Follows now next line
-  pub went : (done : List (List ℕ)) (events : List Happening) → StandsAfter c done events old → Went c number line events new added
+  pub proceeds : (done : List (List ℕ)) (events : List Happening) → StandsAfter c done events old → Proceeds c number line events new added
   pub said : Says (before ++ so_far report c.schema added)
   pub tallied : (items : List Item) → IsTallied report was items → IsTallied report tally (items ++ added)
 

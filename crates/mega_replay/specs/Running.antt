@@ -126,7 +126,7 @@ abbrev pub IsStanding : Cluster → World → Type 0
 IsStanding c world = (lines : List (List ℕ)) × (events : List Happening) × StandsAfter c lines events world
 
 -- the event of one more line happened, and added these items to the tape
-pub record Went (c : Cluster) (number : ℕ) (line : List ℕ) (events : List Happening) (world : World) (added : List Item) : Type 0 where
+pub record Proceeds (c : Cluster) (number : ℕ) (line : List ℕ) (events : List Happening) (world : World) (added : List Item) : Type 0 where
   pub one : Happening
   pub happens : Happens c number line (stood c events) one
   pub here : IsAt c world (stood c (one ∷ events))

@@ -5,7 +5,7 @@ ghost use Rattle.mega_meanings.specs.Means.{Means};
 ghost use Rattle.mega_schedule.specs.Events.{event_of};
 ghost use Rattle.mega_transcript.specs.Lines.{HasLine};
 ghost use Rattle.mega_shown_laws.specs.of_promises.Runs.{Happening};
-ghost use Rattle.mega_replay.specs.Running.{IsStanding, StandsAfter, Went, stood};
+ghost use Rattle.mega_replay.specs.Running.{IsStanding, StandsAfter, Proceeds, stood};
 ghost use Rattle.mega_replay.specs.Replaying.{IsRefused, IsPastLast};
 ghost use Rattle.mega_replay.specs.Stops.{IsEventStop, IsLineStop, IsWorldStop};
 
@@ -48,7 +48,7 @@ fn happen<H: QueueHandlers>(
     requires meant { Means (H.meant handlers.old) built_in }
     requires standing { IsStanding cluster.now world.old }
     requires spelled { event_of (cluster.now).schema number line.now ≡ Ok event }
-    ensures state { IfOk result (λ added. (done : List (List ℕ)) (events : List Happening) → StandsAfter cluster.now done events world.old → Went cluster.now number line.now events world.new added.items) }
+    ensures state { IfOk result (λ added. (done : List (List ℕ)) (events : List Happening) → StandsAfter cluster.now done events world.old → Proceeds cluster.now number line.now events world.new added.items) }
     ensures limit { (at : ℕ) → result ≡ Err (Stop.Limit at) → (done : List (List ℕ)) (events : List Happening) → StandsAfter cluster.now done events world.old → (at ≡ number) × IsPastLast cluster.now number line.now (stood cluster.now events) }
     ensures refused { (at why : ℕ) → result ≡ Err (Stop.Refused at why) → (done : List (List ℕ)) (events : List Happening) → StandsAfter cluster.now done events world.old → (at ≡ number) × IsRefused cluster.now number line.now (stood cluster.now events) why }
     ensures only { IfErr result IsWorldStop }
@@ -77,7 +77,7 @@ pub fn take_line<H: QueueHandlers>(
 ) -> Result<Tape, Stop>
     requires meant { Means (H.meant handlers.old) built_in }
     requires standing { IsStanding cluster.now world.old }
-    ensures state { IfOk result (λ added. (done : List (List ℕ)) (events : List Happening) → StandsAfter cluster.now done events world.old → Went cluster.now number line.now events world.new added.items) }
+    ensures state { IfOk result (λ added. (done : List (List ℕ)) (events : List Happening) → StandsAfter cluster.now done events world.old → Proceeds cluster.now number line.now events world.new added.items) }
     ensures none { (at reason : ℕ) → result ≡ Err (Stop.Schedule at reason) → (at ≡ number) × (event_of (cluster.now).schema number line.now ≡ Err reason) }
     ensures limit { (at : ℕ) → result ≡ Err (Stop.Limit at) → (done : List (List ℕ)) (events : List Happening) → StandsAfter cluster.now done events world.old → (at ≡ number) × IsPastLast cluster.now number line.now (stood cluster.now events) }
     ensures refused { (at why : ℕ) → result ≡ Err (Stop.Refused at why) → (done : List (List ℕ)) (events : List Happening) → StandsAfter cluster.now done events world.old → (at ≡ number) × IsRefused cluster.now number line.now (stood cluster.now events) why }

@@ -4,7 +4,7 @@ pub mod Writing
 pub mod Places
 pub mod Telling
 pub mod Only
-pub mod Fared
+pub mod Using
 pub mod Joined
 pub mod Reading
 pub mod Growing

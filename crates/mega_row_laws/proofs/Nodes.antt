@@ -22,7 +22,7 @@ use Rattle.mega_run_laws.specs.of_tape_laws.Writes.{LawfulWrites, Usage}
 use Rattle.mega_run_laws.proofs.of_tape_laws.Placed.{not_key}
 use Rattle.mega_run_laws.proofs.of_tape_laws.Serial.{decide_origin, own_entry}
 use Rattle.mega_run_laws.specs.Usages.{Fits}
-use Rattle.mega_run_laws.specs.Vouched.{Each}
+use Rattle.mega_run_laws.specs.Justified.{Each}
 use Rattle.mega_run_laws.proofs.Events.{each_append}
 use Rattle.mega_run_laws.proofs.Runs.{run_written}
 use Rattle.mega_run_laws.proofs.Turns.{Known, each_on}

@@ -35,7 +35,7 @@ use Rattle.mega_run_laws.specs.of_tape_laws.Writes.{OwnEntry, Usage, enters, fil
 use Rattle.mega_run_laws.proofs.of_tape_laws.Placed.{key_apart, under}
 use Rattle.mega_run_laws.proofs.of_tape_laws.RowKeys.{IsKeyOf, OfTable, Standing, group_is, group_of_key, of_ok, of_table, standing}
 use Rattle.mega_run_laws.proofs.of_tape_laws.Replacing.{bind_turn, change_replaces}
-use Rattle.mega_run_laws.specs.Vouched.{Each}
+use Rattle.mega_run_laws.specs.Justified.{Each}
 use Rattle.mega_run_laws.proofs.Events.{each_append}
 use Rattle.mega_run_laws.proofs.Turns.{each_on}
 use Rattle.mega_row_laws.proofs.Naming.{WriteOf, a_deletion, a_named, of_entry}

@@ -57,7 +57,7 @@ use Rattle.mega_run_laws.proofs.Wrote.{WroteBy, local_wrote, polled_wrote, seeks
 use Rattle.mega_run_laws.proofs.Written.{Unproposed}
 use Rattle.mega_tape_laws.specs.Lawful.{Leads, asks as asks_leader, lowest, named}
 use Rattle.mega_tape_laws.proofs.Lists.{some_is}
-use Rattle.mega_run_laws.specs.Vouched.{here, sent}
+use Rattle.mega_run_laws.specs.Justified.{here, sent}
 use Rattle.mega_run_laws.proofs.Prefixes.{prefix_decided, prefix_more}
 use Rattle.mega_run_laws.proofs.Rounds.{asks_goes}
 use Rattle.mega_run_laws.proofs.Sending.{accept_moves, stood_sent}

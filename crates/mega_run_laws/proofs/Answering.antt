@@ -20,7 +20,7 @@ use Rattle.mega_tape_laws.specs.Answers.{AreAnswered, IsDoomed, MaySpeak, has_fa
 use Rattle.mega_tape_laws.specs.Writes.{Usage}
 use Rattle.mega_tape_laws.proofs.Lists.{in_head}
 use Rattle.mega_tape_laws.proofs.Made.{proposed_here}
-use Rattle.mega_run_laws.specs.Vouched.{Each, sent}
+use Rattle.mega_run_laws.specs.Justified.{Each, sent}
 use Rattle.mega_run_laws.proofs.Causes.{AskedSame, DecidedOn, IsGiven, cause_to, lost_to}
 use Rattle.mega_run_laws.proofs.Owned.{NoAccept}
 use Rattle.mega_run_laws.proofs.Turns.{IsFair}

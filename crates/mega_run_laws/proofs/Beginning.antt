@@ -39,7 +39,7 @@ use Rattle.mega_run_laws.proofs.Said.{Speaks, due_speaks, takes_speaks}
 use Rattle.mega_run_laws.proofs.Written.{Unproposed, moved_on, said_written}
 use Rattle.mega_run_laws.proofs.Wrote.{WroteBy, falls_due_wrote, hears_wrote}
 use Rattle.mega_tape_laws.specs.Lawful.{message}
-use Rattle.mega_run_laws.specs.Vouched.{Each, here, sent}
+use Rattle.mega_run_laws.specs.Justified.{Each, here, sent}
 use Rattle.mega_run_laws.proofs.Sending.{stood_sent, took_on}
 use Rattle.mega_run_laws.proofs.Rounds.{due_goes, takes_goes}
 use Rattle.mega_run_laws.proofs.Opened.{Acts, Backed, Beside, Grew, Idle, acts_round, at_place, place_is, place_of, same_met}

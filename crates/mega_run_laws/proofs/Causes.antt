@@ -26,7 +26,7 @@ use Rattle.mega_tape_laws.specs.of_rules.Operations.{Promised, Replies, Results}
 use Rattle.mega_tape_laws.specs.Places.{Place}
 use Rattle.mega_tape_laws.specs.Answers.{HasCause, IsDoomed, KnowsBelow, Lost, MayCommitAll, MayTurn, Replied, of_pump, of_read, of_transaction, of_write}
 use Rattle.mega_tape_laws.specs.Writes.{IsNamed, Knows, Usage}
-use Rattle.mega_run_laws.specs.Vouched.{sent}
+use Rattle.mega_run_laws.specs.Justified.{sent}
 
 -- what was decided is
 abbrev pub DecidedOn : List Item → List Item → Type 0

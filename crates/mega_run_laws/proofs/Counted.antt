@@ -17,7 +17,7 @@ use Rattle.mega_tape_laws.specs.Places.{Place, count}
 use Rattle.mega_tape_laws.specs.Lawful.{Carries, Heard, greatest, own}
 use Rattle.mega_tape_laws.proofs.Ballots.{at_most_at_most, at_most_self, below_not, number_is, number_self}
 use Rattle.mega_tape_laws.proofs.Lists.{some_is}
-use Rattle.mega_run_laws.specs.Vouched.{Accepters, Among, Chosen, Reported, is_reported, report_of}
+use Rattle.mega_run_laws.specs.Justified.{Accepters, Among, Chosen, Reported, is_reported, report_of}
 
 either : (a b : Bool) → (a || b) ≡ true → (a ≡ true) ⊎ (b ≡ true)
 either true b h = inl refl

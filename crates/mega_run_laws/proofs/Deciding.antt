@@ -28,7 +28,7 @@ use Rattle.mega_tape_laws.specs.Places.{Place, Took}
 use Rattle.mega_run_laws.proofs.Owned.{Users}
 use Rattle.mega_tape_laws.specs.Lawful.{MayDecide, given, message, settled, told}
 use Rattle.mega_tape_laws.proofs.Lists.{some_is}
-use Rattle.mega_run_laws.specs.Vouched.{Chosen, Each, Knows, sent}
+use Rattle.mega_run_laws.specs.Justified.{Chosen, Each, Knows, sent}
 use Rattle.mega_run_laws.proofs.Rounds.{settled_chosen}
 use Rattle.mega_run_laws.proofs.Opened.{AreOfOp, Backed, BackedStage, Idle, OfOp, at_place, place_of}
 use Rattle.mega_run_laws.proofs.Turns.{Held}

@@ -33,7 +33,7 @@ use Rattle.mega_tape_laws.specs.Lawful.{Lawful}
 use Rattle.mega_tape_laws.specs.Polls.{ArePolls, has_asked}
 use Rattle.mega_tape_laws.specs.Writes.{AreWritten, Usage}
 use Rattle.mega_schema.specs.declared.schema.Schema.{Schema}
-use Rattle.mega_run_laws.specs.Vouched.{Each, sent}
+use Rattle.mega_run_laws.specs.Justified.{Each, sent}
 use Rattle.mega_run_laws.proofs.Sending.{Stood, stood_sent}
 use Rattle.mega_run_laws.proofs.Free.{AreFree, IsFree, free_asked, free_lawful, free_moves}
 use Rattle.mega_run_laws.proofs.Prefixes.{decided_more, grew_by, prefix_more}

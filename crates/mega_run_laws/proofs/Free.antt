@@ -12,7 +12,7 @@ use Rattle.mega_tape_laws.specs.of_read.of_propose.declared.round.Proposal.{Prop
 use Rattle.mega_tape_laws.specs.Places.{Place, move_in, moves, Move}
 use Rattle.mega_tape_laws.specs.Lawful.{Lawful, MaySend}
 use Rattle.mega_tape_laws.specs.Polls.{has_asked, is_asking}
-use Rattle.mega_run_laws.specs.Vouched.{AreOfRound, Each, Goes, IsWithin, Knows, Latest, OfRound, sent}
+use Rattle.mega_run_laws.specs.Justified.{AreOfRound, Each, Goes, IsWithin, Knows, Latest, OfRound, sent}
 
 abbrev pub IsFree : Body → Type 0
 IsFree (Accept o g n b e) = ⊥

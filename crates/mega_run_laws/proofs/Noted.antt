@@ -27,7 +27,7 @@ use Rattle.mega_tape_laws.specs.Writes.{AreWritten, IsWritten, Usage, has_begun}
 use Rattle.mega_schema.specs.declared.schema.Schema.{Schema}
 use Rattle.mega_tape_laws.proofs.Ballots.{number_is}
 use Rattle.mega_tape_laws.proofs.Lists.{some_is}
-use Rattle.mega_run_laws.specs.Vouched.{Each, sent}
+use Rattle.mega_run_laws.specs.Justified.{Each, sent}
 use Rattle.mega_run_laws.proofs.Sending.{Stood, took_on}
 use Rattle.mega_run_laws.proofs.Prefixes.{prefix_more}
 use Rattle.mega_run_laws.proofs.Opened.{Grew, at_place}

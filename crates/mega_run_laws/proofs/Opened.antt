@@ -1,4 +1,4 @@
--- An open operation is vouched for: its round, and that it moved nowhere else above what its node decided.
+-- An open operation is justified: its round, and that it moved nowhere else above what its node decided.
 use Rattle.std.proofs.Common.{◌≡◌, ◌⊎◌, inl, inr, ℕ, ◌+◌, ◌==◌, ◌&&◌, ◌≤◌, ◌<◌, Bool, true, false, List, [], ◌∷◌, Option, Some, None, refl, sym, ap, ◌∙◌, subst, arith}
 use Rattle.mega_base.specs.declared.names.GroupId.{GroupId}
 use Rattle.mega_base.specs.declared.names.OpId.{OpId}
@@ -23,7 +23,7 @@ use Rattle.mega_tape_laws.specs.of_rules.Operations.{Phase, Proposes, Reads}
 use Rattle.mega_tape_laws.specs.Places.{Place, is_move_at, moves}
 use Rattle.mega_tape_laws.specs.Lawful.{Lawful}
 use Rattle.mega_tape_laws.proofs.Ballots.{number_is}
-use Rattle.mega_run_laws.specs.Vouched.{AreOfRound, Each, Goes, IsWithin, Knows, Latest, OfRound, Vouched, sent}
+use Rattle.mega_run_laws.specs.Justified.{AreOfRound, Each, Goes, IsWithin, Knows, Latest, OfRound, Justified, sent}
 use Rattle.mega_run_laws.proofs.Sending.{Stood, leads_on, moves_apart, stood_sent, took_on}
 use Rattle.mega_run_laws.proofs.Free.{AreFree, IsFree, free_lawful, free_moves}
 
@@ -51,7 +51,7 @@ IsSought met group through position = (position ≤ through) × (position ≤ pr
 abbrev pub BackedSearch : Cluster → List Item → List Met → OpId → GroupId → ℕ → Option Search → Type 0
 BackedSearch c tape met op group through None = Unit {0}
 BackedSearch c tape met op group through (Some (Fetching position denied at)) = IsSought met group through position × (moves tape op (at_place group position) ≡ [])
-BackedSearch c tape met op group through (Some (Filling position proposal)) = IsSought met group through position × Vouched c tape op (at_place group position) proposal
+BackedSearch c tape met op group through (Some (Filling position proposal)) = IsSought met group through position × Justified c tape op (at_place group position) proposal
 
 abbrev pub BackedStage : Cluster → List Item → List Met → OpId → GroupId → Stage → Type 0
 BackedStage c tape met op group (Polling heard best at) = Unit {0}
@@ -59,7 +59,7 @@ BackedStage c tape met op group (Catching through search) = BackedSearch c tape 
 
 abbrev pub Backed : Cluster → List Item → List Met → OpId → Phase → Type 0
 Backed c tape met op (Reads group r) = BackedStage c tape met op group r.stage
-Backed c tape met op (Proposes group n asked proposal promised) = Vouched c tape op (at_place group n) proposal
+Backed c tape met op (Proposes group n asked proposal promised) = Justified c tape op (at_place group n) proposal
 
 -- above what its node decided an operation moved at the place of its round alone
 abbrev pub Idle : List Item → List Met → OpId → Option Place → Type 0
@@ -83,8 +83,8 @@ knows_on c old new s op p (Covering b e cover at) k = record { ballot = k.ballot
 knows_on c old new s op p (Settled e told) k = record { ballot = k.ballot; test = k.test; majority = k.majority; heard = λ voter h. took_on old new s _ (k.heard voter h) }
 knows_on c old new s op p Waiting k = tt
 
-pub vouched_on : (c : Cluster) (old new : List Item) (op : OpId) (p : Place) (proposal : Proposal) → Beside op old new → Vouched c old op p proposal → Vouched c new op p proposal
-vouched_on c old new op p proposal s v = record {
+pub justified_on : (c : Cluster) (old new : List Item) (op : OpId) (p : Place) (proposal : Proposal) → Beside op old new → Justified c old op p proposal → Justified c new op p proposal
+justified_on c old new op p proposal s v = record {
   within = subst (IsWithin proposal.seen) (sym (s.moved p)) v.within;
   knows = knows_on c old new s.stood op p proposal.round v.knows;
   latest = subst (λ ms. Latest c ms proposal.round) (sym (s.moved p)) v.latest;
@@ -97,7 +97,7 @@ search_on : (c : Cluster) (old new : List Item) (met more : List Met) (op : OpId
     → BackedSearch c old met op g through search → BackedSearch c new more op g through search
 search_on c old new met more op g through s grew None b = tt
 search_on c old new met more op g through s grew (Some (Fetching position denied at)) b = (sought_on met more g through position grew b.0, s.moved (at_place g position) ∙ b.1)
-search_on c old new met more op g through s grew (Some (Filling position proposal)) b = (sought_on met more g through position grew b.0, vouched_on c old new op (at_place g position) proposal s b.1)
+search_on c old new met more op g through s grew (Some (Filling position proposal)) b = (sought_on met more g through position grew b.0, justified_on c old new op (at_place g position) proposal s b.1)
 
 stage_on : (c : Cluster) (old new : List Item) (met more : List Met) (op : OpId) (g : GroupId) → Beside op old new → Grew met more → (stage : Stage)
     → BackedStage c old met op g stage → BackedStage c new more op g stage
@@ -107,7 +107,7 @@ stage_on c old new met more op g s grew (Catching through search) b = search_on 
 pub backed_on : (c : Cluster) (old new : List Item) (met more : List Met) (op : OpId) → Beside op old new → Grew met more → (phase : Phase)
     → Backed c old met op phase → Backed c new more op phase
 backed_on c old new met more op s grew (Reads group r) b = stage_on c old new met more op group s grew r.stage b
-backed_on c old new met more op s grew (Proposes group n asked proposal promised) b = vouched_on c old new op (at_place group n) proposal s b
+backed_on c old new met more op s grew (Proposes group n asked proposal promised) b = justified_on c old new op (at_place group n) proposal s b
 
 pub idle_on : (old new : List Item) (met more : List Met) (op : OpId) (place : Option Place) → Beside op old new → Grew met more → Idle old met op place → Idle new more op place
 idle_on old new met more op place s grew idle q above = elim (idle q (let less = grew q.group in omega arith)) [ inl e ↦ inl e | inr e ↦ inr (s.moved q ∙ e) ]
@@ -156,7 +156,7 @@ pub free_ops : (op : OpId) (ms : List Message) → AreFree ms → AreOfOp op ms
 free_ops op [] h = tt
 free_ops op (m ∷ ms) h = (free_op op m.body h.0, free_ops op ms h.1)
 
--- it sends what is allowed, and is vouched for then
+-- it sends what is allowed, and is justified then
 pub record Acts (c : Cluster) (tape : List Item) (met : List Met) (op : OpId) (phase : Phase) (ms : List Message) : Type 0 where
   pub own : AreOfOp op ms
   pub lawful : (n : ℕ) → Lawful c tape → Lawful c (sent n ms tape)
@@ -187,7 +187,7 @@ same_place op p q h =
 
 -- a round goes on, or begins where the operation had none
 pub acts_round : (c : Cluster) (tape : List Item) (met : List Met) (op : OpId) (p : Place) (t : RoundMove) (phase : Phase) (old : Option Place) → Goes c tape op p t → place_of phase ≡ Some p
-    → ((new : List Item) → Vouched c new op p t.proposal → Backed c new met op phase) → Idle tape met op old → ((q : Place) → old ≡ Some q → p ≡ q) → Acts c tape met op phase t.sends
+    → ((new : List Item) → Justified c new op p t.proposal → Backed c new met op phase) → Idle tape met op old → ((q : Place) → old ≡ Some q → p ≡ q) → Acts c tape met op phase t.sends
 acts_round c tape met op p t phase old goes at backs idle older = record {
   own = are_of_op op p t.sends goes.own;
   lawful = goes.lawful;

@@ -33,7 +33,7 @@ use Rattle.mega_tape_laws.specs.Writes.{AreWritten, IsNamed, Knows, MaySay, MayW
 use Rattle.mega_tape_laws.proofs.Answered.{began_with}
 use Rattle.mega_tape_laws.proofs.Lists.{from_cons}
 use Rattle.mega_tape_laws.proofs.Made.{move_is}
-use Rattle.mega_run_laws.specs.Vouched.{AreOfRound, Each, sent}
+use Rattle.mega_run_laws.specs.Justified.{AreOfRound, Each, sent}
 use Rattle.mega_run_laws.proofs.Sending.{Stood}
 use Rattle.mega_run_laws.proofs.Causes.{keeps_to}
 use Rattle.mega_run_laws.proofs.Causing.{ProposesOwn}

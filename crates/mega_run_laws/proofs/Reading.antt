@@ -28,7 +28,7 @@ use Rattle.mega_tape_laws.specs.of_rules.Logs.{prefix_of}
 use Rattle.mega_tape_laws.specs.of_rules.Operations.{Reads}
 use Rattle.mega_tape_laws.specs.Places.{Place, Took, moves}
 use Rattle.mega_tape_laws.specs.Lawful.{Lawful, message}
-use Rattle.mega_run_laws.specs.Vouched.{Goes, here, sent}
+use Rattle.mega_run_laws.specs.Justified.{Goes, here, sent}
 use Rattle.mega_run_laws.proofs.Sending.{stood_sent}
 use Rattle.mega_run_laws.proofs.Free.{IsFree, each_of}
 use Rattle.mega_run_laws.proofs.Rounds.{completes_goes, due_goes, takes_goes}

@@ -1,4 +1,4 @@
--- A round that is vouched for does only what is allowed, whatever it takes and whenever it is due, and stays vouched for.
+-- A round that is justified does only what is allowed, whatever it takes and whenever it is due, and stays justified.
 use Rattle.std.proofs.Common.{◌≡◌, ℕ, ◌+◌, ◌==◌, ◌&&◌, ◌≤◌, max, Bool, true, false, not, cond, nat_le, List, [], ◌∷◌, ◌++◌, length, map, flat_map, Option, Some, refl, sym, subst, arith}
 use Rattle.std.specs.List.{list_all}
 use Rattle.mega_base.specs.declared.names.GroupId.{GroupId}
@@ -27,7 +27,7 @@ use Rattle.mega_tape_laws.specs.Places.{Move, Place, Prepares as PreparesMove, T
 use Rattle.mega_tape_laws.specs.Lawful.{Heard, IsOwn, Leads, asks as asks_leader, message}
 use Rattle.mega_tape_laws.proofs.Ballots.{number_is}
 use Rattle.mega_tape_laws.proofs.Lists.{some_is}
-use Rattle.mega_run_laws.specs.Vouched.{Accepters, Chosen, Goes, IsWithin, Knows, Latest, Reported, Vouched, here, is_reported, report_of, sent}
+use Rattle.mega_run_laws.specs.Justified.{Accepters, Chosen, Goes, IsWithin, Knows, Latest, Reported, Justified, here, is_reported, report_of, sent}
 use Rattle.mega_run_laws.proofs.Counted.{carried, chosen_by, majority_is, none_accepted, none_reported, one_more, one_report, with_one}
 use Rattle.mega_run_laws.proofs.Sending.{above_within, accept_moves, accepts_lawful, accepts_within, all_of, prepares_latest, prepares_lawful, prepares_within, spreads_lawful, within_more}
 use Rattle.mega_run_laws.proofs.Free.{AreFree, IsFree, each_both, each_flat, each_of, goes_free, goes_still}
@@ -279,12 +279,12 @@ unheld_goes c tape op p asked mine seen cell node Waiting w k l = goes_still c t
 
 -- ---- a message
 
-goes_if : (c : Cluster) (tape : List Item) (op : OpId) (p : Place) (proposal : Proposal) (t : Bool) (goes : RoundMove) → Vouched c tape op p proposal → (t ≡ true → Goes c tape op p goes) → Goes c tape op p (cond t goes (stays proposal))
+goes_if : (c : Cluster) (tape : List Item) (op : OpId) (p : Place) (proposal : Proposal) (t : Bool) (goes : RoundMove) → Justified c tape op p proposal → (t ≡ true → Goes c tape op p goes) → Goes c tape op p (cond t goes (stays proposal))
 goes_if c tape op p proposal true goes v h = h refl
 goes_if c tape op p proposal false goes v h = goes_still c tape op p proposal v.within v.knows v.latest
 
 pub takes_goes : (c : Cluster) (tape : List Item) (op : OpId) (p : Place) (asked : List ℕ) (proposal : Proposal) (from now : ℕ) (body : Body)
-    → Vouched c tape op p proposal → Took tape (message from op.node.0 body) → Goes c tape op p (takes (here c op p asked) proposal from now body)
+    → Justified c tape op p proposal → Took tape (message from op.node.0 body) → Goes c tape op p (takes (here c op p asked) proposal from now body)
 takes_goes c tape op p asked proposal from now (Accepted o g n b e) v took =
     goes_if c tape op p proposal (is_here (here c op p asked) o g n) (accepted (here c op p asked) (sees proposal b.round) from now b e) v (λ h.
     let at = here_is c op p asked o g n h in
@@ -341,7 +341,7 @@ due_by c tape op p asked mine seen retry now (Covering ballot entry cover at) w 
 due_by c tape op p asked mine seen retry now (Settled entry told) w k l = goes_still c tape op p (record { own = mine; seen = seen; round = Settled entry told }) w k l
 due_by c tape op p asked mine seen retry now Waiting w k l = goes_still c tape op p (record { own = mine; seen = seen; round = Waiting }) w k l
 
-pub due_goes : (c : Cluster) (tape : List Item) (op : OpId) (p : Place) (asked : List ℕ) (proposal : Proposal) (retry now : ℕ) → Vouched c tape op p proposal
+pub due_goes : (c : Cluster) (tape : List Item) (op : OpId) (p : Place) (asked : List ℕ) (proposal : Proposal) (retry now : ℕ) → Justified c tape op p proposal
     → Goes c tape op p (due (here c op p asked) proposal retry now)
 due_goes c tape op p asked proposal retry now v = due_by c tape op p asked proposal.own proposal.seen retry now proposal.round v.within v.knows v.latest
 

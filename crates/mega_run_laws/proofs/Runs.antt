@@ -29,7 +29,7 @@ use Rattle.mega_schema.specs.declared.schema.Schema.{Schema}
 use Rattle.mega_run_laws.specs.Usages.{Brought, Fits, IsMeant}
 use Rattle.mega_tape_laws.proofs.Ballots.{number_self}
 use Rattle.mega_tape_laws.proofs.Lists.{some_is}
-use Rattle.mega_run_laws.specs.Vouched.{Each}
+use Rattle.mega_run_laws.specs.Justified.{Each}
 use Rattle.mega_run_laws.proofs.Noted.{Follows, Note, TapeOn, each_note_on, notes_follow, one_note, tape_item, with_append}
 use Rattle.mega_run_laws.proofs.Standing.{Good, IsNew, Owes, act_other, act_same, other_good, owes_on, unmoved_on}
 use Rattle.mega_run_laws.proofs.Stepping.{Next, OtherThan, Own, next_good}

@@ -23,7 +23,7 @@ use Rattle.mega_tape_laws.specs.Places.{In, Place, Proposes, Took, acts, moves}
 use Rattle.mega_tape_laws.specs.Lawful.{Heard, Lawful, message}
 use Rattle.mega_tape_laws.proofs.Made.{acts_lawful, heard_act, promised_here, vote_proposed}
 use Rattle.mega_tape_laws.proofs.Votes.{report_in}
-use Rattle.mega_run_laws.specs.Vouched.{Among, AreOfRound, Each, Knows, OfRound, Reported, Vouched, here, is_reported, report_of}
+use Rattle.mega_run_laws.specs.Justified.{Among, AreOfRound, Each, Knows, OfRound, Reported, Justified, here, is_reported, report_of}
 use Rattle.mega_run_laws.proofs.Counted.{IsGreatest, among_push, among_reported, greatest_is}
 use Rattle.mega_run_laws.proofs.Rounds.{here_is}
 
@@ -168,7 +168,7 @@ unheld_speaks c tape op p asked mine seen cell node (Settled entry told) = silen
 unheld_speaks c tape op p asked mine seen cell node Waiting = silent tape op p mine seen Waiting
 
 pub takes_speaks : (c : Cluster) (tape : List Item) → Lawful c tape → (op : OpId) (p : Place) (asked : List ℕ) (proposal : Proposal) (from now : ℕ) (body : Body)
-    → Vouched c tape op p proposal → Took tape (message from op.node.0 body) → Speaks tape op p proposal.own (takes (here c op p asked) proposal from now body)
+    → Justified c tape op p proposal → Took tape (message from op.node.0 body) → Speaks tape op p proposal.own (takes (here c op p asked) proposal from now body)
 takes_speaks c tape l op p asked proposal from now (Accepted o g n b e) v took = speaks_if tape op p proposal.own (is_here (here c op p asked) o g n) _ _
     (λ h. accepted_speaks c tape op p asked proposal.own (max proposal.seen b.round) from now b e proposal.round) (silent tape op p proposal.own proposal.seen proposal.round)
 takes_speaks c tape l op p asked proposal from now (Refused o g n b shown e) v took = speaks_if tape op p proposal.own (is_here (here c op p asked) o g n) _ _

@@ -22,7 +22,7 @@ use Rattle.mega_tape_laws.specs.of_rules.Voting.{act_in}
 use Rattle.mega_tape_laws.specs.Places.{IsAbove, Move, Place, Prepares, Proposes, Took, acts, is_move_at, move_if, move_in, moves, newest}
 use Rattle.mega_tape_laws.specs.Lawful.{Heard, IsOwn, Lawful, Leads, Picked, lowest, named, spreads, picks, raises, repeats, resends}
 use Rattle.mega_tape_laws.proofs.Ballots.{number_self}
-use Rattle.mega_run_laws.specs.Vouched.{AreOfRound, IsWithin, OfRound, here, sent}
+use Rattle.mega_run_laws.specs.Justified.{AreOfRound, IsWithin, OfRound, here, sent}
 
 -- what stood stands
 abbrev pub Stood : List Item → List Item → Type 0

@@ -15,7 +15,7 @@ use Rattle.mega_tape_laws.specs.of_rules.Operations.{Node}
 use Rattle.mega_tape_laws.specs.Places.{Place, moves}
 use Rattle.mega_tape_laws.specs.Answers.{AreAnswered, IsAnswered, has_failed}
 use Rattle.mega_tape_laws.specs.Writes.{Usage}
-use Rattle.mega_run_laws.specs.Vouched.{Each, sent}
+use Rattle.mega_run_laws.specs.Justified.{Each, sent}
 use Rattle.mega_run_laws.proofs.Answering.{with_answers}
 use Rattle.mega_run_laws.proofs.Causes.{AskedSame, DecidedOn}
 use Rattle.mega_run_laws.proofs.Noted.{with_append}

@@ -1,4 +1,4 @@
--- A standing of a run is good: its tape is lawful and shows what the nodes met, and its open operations are vouched for.
+-- A standing of a run is good: its tape is lawful and shows what the nodes met, and its open operations are justified.
 use Rattle.std.proofs.Common.{◌≡◌, ◌⊎◌, inl, inr, ℕ, ◌+◌, ◌==◌, ◌≤◌, ◌<◌, Bool, true, false, cond, List, [], ◌∷◌, map, length, Option, None, refl, sym, ap, ◌∙◌, arith}
 use Rattle.std.specs.List.{cons_option}
 use Rattle.mega_base.specs.declared.names.GroupId.{GroupId}
@@ -23,7 +23,7 @@ use Rattle.mega_tape_laws.specs.Lawful.{Lawful, MayMake, a_prepare, an_accept}
 use Rattle.mega_tape_laws.specs.Polls.{ArePolls, has_asked}
 use Rattle.mega_tape_laws.specs.Writes.{AreWritten, has_begun}
 use Rattle.mega_tape_laws.proofs.Ballots.{number_self}
-use Rattle.mega_run_laws.specs.Vouched.{Each, sent}
+use Rattle.mega_run_laws.specs.Justified.{Each, sent}
 use Rattle.mega_run_laws.proofs.Sending.{Stood, took_on}
 use Rattle.mega_run_laws.proofs.Prefixes.{prefix_more}
 use Rattle.mega_run_laws.proofs.Opened.{Grew, same_met}

@@ -21,7 +21,7 @@ use Rattle.mega_tape_laws.specs.Polls.{ArePolls, has_asked}
 use Rattle.mega_tape_laws.specs.Writes.{AreWritten, has_begun, Usage}
 use Rattle.mega_wal.specs.Same.{same_op}
 use Rattle.mega_tape_laws.proofs.Ballots.{number_is}
-use Rattle.mega_run_laws.specs.Vouched.{Each, sent}
+use Rattle.mega_run_laws.specs.Justified.{Each, sent}
 use Rattle.mega_run_laws.proofs.Sending.{Stood, stood_sent}
 use Rattle.mega_run_laws.proofs.Turns.{Held, IsRising, Known, could, could_not, not_within, within, worn_could}
 use Rattle.mega_tape_laws.specs.Answers.{AreAnswered, IsAnswered, has_failed}

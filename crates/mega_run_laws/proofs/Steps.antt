@@ -30,7 +30,7 @@ use Rattle.mega_run_laws.specs.Usages.{Brought}
 use Rattle.mega_run_laws.proofs.Owned.{Users}
 use Rattle.mega_tape_laws.specs.Polls.{has_asked}
 use Rattle.mega_tape_laws.proofs.Lists.{some_is}
-use Rattle.mega_run_laws.specs.Vouched.{Each, sent}
+use Rattle.mega_run_laws.specs.Justified.{Each, sent}
 use Rattle.mega_run_laws.proofs.Sending.{Stood}
 use Rattle.mega_run_laws.proofs.Opened.{Grew}
 use Rattle.mega_run_laws.proofs.Turns.{Fine, Frame, Held, IsOpen, fine_turn, Known, each_on, held_on}

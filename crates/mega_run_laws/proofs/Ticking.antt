@@ -21,7 +21,7 @@ use Rattle.mega_tape_laws.specs.of_rules.Steps.{background, fetch_to, fetches_fo
 use Rattle.mega_tape_laws.specs.Places.{Place, moves}
 use Rattle.mega_run_laws.specs.Usages.{Brought}
 use Rattle.mega_run_laws.proofs.Owned.{Users}
-use Rattle.mega_run_laws.specs.Vouched.{Each, sent}
+use Rattle.mega_run_laws.specs.Justified.{Each, sent}
 use Rattle.mega_run_laws.proofs.Sending.{Stood, stood_sent}
 use Rattle.mega_run_laws.proofs.Opened.{Grew}
 use Rattle.mega_run_laws.proofs.Turns.{Known}

@@ -30,7 +30,7 @@ use Rattle.mega_tape_laws.specs.Polls.{ArePolls, MayPoll, has_asked, is_asking}
 use Rattle.mega_tape_laws.specs.Answers.{has_failed}
 use Rattle.mega_outcome.specs.declared.answer.Answer.{Answer}
 use Rattle.mega_schema.specs.declared.schema.Schema.{Schema}
-use Rattle.mega_run_laws.specs.Vouched.{Each, sent}
+use Rattle.mega_run_laws.specs.Justified.{Each, sent}
 use Rattle.mega_run_laws.proofs.Causes.{Given, IsGiven, cause_to, lost_to, sent_question}
 use Rattle.mega_run_laws.proofs.Sending.{Stood, stood_sent}
 use Rattle.mega_run_laws.proofs.Opened.{Acts, AreOfOp, Backed, Beside, Grew, Idle, OfOp, backed_on, idle_on, place_of, same_met}
@@ -329,7 +329,7 @@ pub record Turn (users : Users) (c : Cluster) (f : Frame) (met : List Met) (kept
   pub held : Each (Held users c (tape_of f sends) f.me f.start op.number met) kept
   pub rising : IsRising 0 kept
 
--- and is vouched for
+-- and is justified
 pub record Ready (users : Users) (c : Cluster) (f : Frame) (met : List Met) (kept : List Operation) (answers : List Met) (sends : List Message) (o : Operation) : Type 0 where
   pub turn : Turn users c f met kept answers sends o.id
   pub owned : users.fits → Owned c.schema users.usage (tape_of f sends) o

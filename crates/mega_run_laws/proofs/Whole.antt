@@ -29,7 +29,7 @@ use Rattle.mega_tape_laws.specs.Polls.{ArePolls, has_asked}
 use Rattle.mega_tape_laws.specs.Writes.{AreWritten}
 use Rattle.mega_run_laws.specs.Usages.{Brought}
 use Rattle.mega_run_laws.specs.Shows.{Shows}
-use Rattle.mega_run_laws.specs.Vouched.{Each, sent}
+use Rattle.mega_run_laws.specs.Justified.{Each, sent}
 use Rattle.mega_run_laws.proofs.Replied.{Fair, answer_fair}
 use Rattle.mega_run_laws.proofs.Told.{Told, answer_told}
 use Rattle.mega_run_laws.proofs.Sending.{Stood, stood_sent, took_on}

@@ -15,7 +15,7 @@ use Rattle.mega_tape_laws.specs.Writes.{AreWritten, MaySay, MayWrite, OwnEntry, 
 use Rattle.mega_tape_laws.proofs.Lists.{from_cons, in_tail}
 use Rattle.mega_tape_laws.proofs.Made.{move_is, moved_at, proposal_entry}
 use Rattle.mega_tape_laws.proofs.Origins.{id_is, origin}
-use Rattle.mega_run_laws.specs.Vouched.{AreOfRound, Each, OfRound, sent}
+use Rattle.mega_run_laws.specs.Justified.{AreOfRound, Each, OfRound, sent}
 use Rattle.mega_run_laws.proofs.Said.{Says, SaysIt, WasProposed}
 
 -- ---- behind a message

@@ -26,7 +26,7 @@ use Rattle.mega_tape_laws.specs.of_rules.Logs.{prefix_of}
 use Rattle.mega_tape_laws.specs.Places.{Took}
 use Rattle.mega_tape_laws.specs.Lawful.{message}
 use Rattle.mega_tape_laws.specs.Writes.{Usage, no_op_by}
-use Rattle.mega_run_laws.specs.Vouched.{here}
+use Rattle.mega_run_laws.specs.Justified.{here}
 use Rattle.mega_run_laws.proofs.Free.{each_of}
 use Rattle.mega_run_laws.proofs.Opened.{BackedStage, IsSought, at_place}
 use Rattle.mega_run_laws.proofs.Said.{Speaks, completes_speaks, due_speaks, takes_speaks}

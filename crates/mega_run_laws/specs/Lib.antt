@@ -1,5 +1,5 @@
 pub mod Shows
-pub mod Vouched
+pub mod Justified
 pub mod Usages
 pub mod Examples
 pub use Rattle.mega_tape_laws.specs.of_promises as of_promises

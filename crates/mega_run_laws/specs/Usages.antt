@@ -9,7 +9,7 @@ use Rattle.mega_tape_laws.specs.of_promises.Runs.{Happening}
 use Rattle.mega_outcome.specs.declared.request.Request.{Request}
 use Rattle.mega_tape_laws.specs.Indexed.{AsksValues}
 use Rattle.mega_tape_laws.specs.Writes.{Usage}
-use Rattle.mega_run_laws.specs.Vouched.{Each}
+use Rattle.mega_run_laws.specs.Justified.{Each}
 
 pub record Brought (usage : Usage) (handlers : Meanings) : Type 0 where
   pub moment : List Item

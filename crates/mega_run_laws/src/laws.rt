@@ -30,7 +30,7 @@ ghost use Rattle.mega_tape_laws.specs.of_rules.Steps.{is_current};
 ghost use Rattle.mega_outcome.specs.declared.request.Request.{Request};
 ghost use Rattle.mega_run_laws.specs.Usages.{Fits};
 ghost use Rattle.mega_run_laws.specs.Shows.{Shows};
-ghost use Rattle.mega_run_laws.specs.Vouched.{Chosen, Goes, Vouched, here};
+ghost use Rattle.mega_run_laws.specs.Justified.{Chosen, Goes, Justified, here};
 
 /// The reply of a node to a request that it took is one that a lawful tape may go on with, sent or shown as unsent, as long as the tape
 /// shows what the node made and decided (Lamport 2001, the acceptor).
@@ -38,12 +38,12 @@ pub fn replies_are_allowed()
     ensures { (c : Cluster) (tape : List Item) (me from : ℕ) (met : List Met) → Shows tape me met → (asked : Body) → Took tape (message from me asked) → (answer : Body) → answer_to c me met from asked ≡ Some answer → MaySend c tape (message me from answer) answer × MayMake tape (message me from answer) answer }
 {}
 
-/// A round that is vouched for sends only what a lawful tape may go on with, whatever it takes and whenever it is due, and is vouched for
+/// A round that is justified sends only what a lawful tape may go on with, whatever it takes and whenever it is due, and is justified
 /// afterwards; what it settled was accepted by a majority at one ballot (Lamport 2001, the proposer).
 pub fn rounds_are_allowed()
-    ensures takes { (c : Cluster) (tape : List Item) (op : OpId) (p : Place) (asked : List ℕ) (proposal : Proposal) (from now : ℕ) (body : Body) → Vouched c tape op p proposal → Took tape (message from op.node.0 body) → Goes c tape op p (takes (here c op p asked) proposal from now body) }
-    ensures due { (c : Cluster) (tape : List Item) (op : OpId) (p : Place) (asked : List ℕ) (proposal : Proposal) (retry now : ℕ) → Vouched c tape op p proposal → Goes c tape op p (due (here c op p asked) proposal retry now) }
-    ensures settles { (c : Cluster) (tape : List Item) (op : OpId) (p : Place) (proposal : Proposal) (entry : Content) → Vouched c tape op p proposal → settled proposal ≡ Some entry → Chosen c tape op p entry }
+    ensures takes { (c : Cluster) (tape : List Item) (op : OpId) (p : Place) (asked : List ℕ) (proposal : Proposal) (from now : ℕ) (body : Body) → Justified c tape op p proposal → Took tape (message from op.node.0 body) → Goes c tape op p (takes (here c op p asked) proposal from now body) }
+    ensures due { (c : Cluster) (tape : List Item) (op : OpId) (p : Place) (asked : List ℕ) (proposal : Proposal) (retry now : ℕ) → Justified c tape op p proposal → Goes c tape op p (due (here c op p asked) proposal retry now) }
+    ensures settles { (c : Cluster) (tape : List Item) (op : OpId) (p : Place) (proposal : Proposal) (entry : Content) → Justified c tape op p proposal → settled proposal ≡ Some entry → Chosen c tape op p entry }
 {}
 
 /// What becomes of a step or a start in a run is always what may become of it; and whatever may become of it does, where the run's cuts say so. Where no fuse is

@@ -30,7 +30,7 @@ use Rattle.mega_serve.specs.Lines.{datagram_of, line_text, record_text}
 use Rattle.mega_serve.specs.Pages.{GoesOn, Stops}
 use Rattle.mega_serve.specs.Replies.{item_reply, waiting_of}
 use Rattle.mega_serve.specs.Stepping.{IsMade}
-use Rattle.mega_serve.specs.Turns.{Ended, EndsIn, EndsOnce, GainsAll, HasBegun, HasTurned, IsServing, LacksReceive, MayReceive, MayServe, MayTurn, Runs, Went, readings_of, received_in, schema_of, served_by, setting_of, turn_of, turned_by, turns_of}
+use Rattle.mega_serve.specs.Turns.{Ended, EndsIn, EndsOnce, GainsAll, HasBegun, HasTurned, IsServing, LacksReceive, MayReceive, MayServe, MayTurn, Runs, Proceeds, readings_of, received_in, schema_of, served_by, setting_of, turn_of, turned_by, turns_of}
 use Rattle.mega_serve.specs.Wishes.{wish_of}
 use Rattle.mega_serve.proofs.Going.{all_nothing, all_twice}
 use Rattle.mega_serve.proofs.Joining.{gains_more, gains_nothing, gains_one, may_split, served_on}
@@ -140,7 +140,7 @@ stops_further schema a b c x y z first second one two = record {
 
 -- it went on whole, and then ended
 pub ended_further : {S : Type 0} (steps : Ghosts S) (h : Meanings) (mid : S) (between : List Waits) (schema : Schema) (a b c : Option (List ℕ)) (x y z : Option (List Datagram)) (now next last : Served)
-    → Went steps h mid between schema a b x y now next → Ended schema b c y z next last → Ended schema a c x z now last
+    → Proceeds steps h mid between schema a b x y now next → Ended schema b c y z next last → Ended schema a c x z now last
 ended_further steps h mid between schema a b c x y z now next last first second = record {
   more = first.more ++ second.more;
   lines = second.lines ∙ ap (λ (lines : List Line). lines ++ second.more) first.lines ∙ append_assoc now.lines first.more second.more;
@@ -172,7 +172,7 @@ begun_received a b x y z clock datagram read same took = record {
 pub ended_once : {S : Type 0} (steps : Ghosts S) (first mid : S) (waiting between : List Waits) (a b c : Option (List ℕ)) (x y z : Option (List Datagram)) (clock : ℕ) (datagram : Option Datagram)
     → steps.members mid ≡ steps.members first → steps.me mid ≡ steps.me first
     → ((h : Meanings) (was : Served) → IsServing steps h first waiting was → steps.may_happen (setting_of steps first h) was.node (Tick clock)
-    → Went steps h mid between (schema_of steps first) a b x y was (ticked (steps.members first) (steps.me first) h clock was))
+    → Proceeds steps h mid between (schema_of steps first) a b x y was (ticked (steps.members first) (steps.me first) h clock was))
     → ((h : Meanings) (now : Served) → IsServing steps h mid between now → MayReceive steps (setting_of steps mid h) now (option_map datagram_of datagram)
     → Ended (schema_of steps mid) b c y z now (received (steps.members mid) (steps.me mid) (wish_of (schema_of steps mid) (steps.me mid)) h now (option_map datagram_of datagram)))
     → EndsOnce steps first waiting a c x z (clock, datagram)

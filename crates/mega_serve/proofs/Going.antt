@@ -16,7 +16,7 @@ use Rattle.mega_serve.specs.declared.steps.Steps.{Ghosts}
 use Rattle.mega_serve.specs.declared.waiting.Waiting.{Waiting as Waits}
 use Rattle.mega_serve.specs.Lines.{datagram_of, line_text, record_text}
 use Rattle.mega_serve.specs.Pages.{GoesOn, IsPage, Stops}
-use Rattle.mega_serve.specs.Turns.{IsServing, Went}
+use Rattle.mega_serve.specs.Turns.{IsServing, Proceeds}
 
 -- a page that was given
 pub given_is : (schema : Schema) (page : Page) (held more_held : Option (List ℕ)) (sent more_sent : Option (List Datagram)) (lines : List Line) → Appends held more_held page.text
@@ -75,12 +75,12 @@ goes_further schema a b c x y z first second one two = record {
 }
 
 -- a served node that recorded nothing is where it was
-pub stays : {S : Type 0} (steps : Ghosts S) (h : Meanings) (one : S) (waiting : List Waits) (schema : Schema) (held : Option (List ℕ)) (sent : Option (List Datagram)) (now : Served) → IsServing steps h one waiting now → Went steps h one waiting schema held held sent sent now now
+pub stays : {S : Type 0} (steps : Ghosts S) (h : Meanings) (one : S) (waiting : List Waits) (schema : Schema) (held : Option (List ℕ)) (sent : Option (List Datagram)) (now : Served) → IsServing steps h one waiting now → Proceeds steps h one waiting schema held held sent sent now now
 stays steps h one waiting schema held sent now serving = record { serving = serving; more = []; lines = sym (append-nil now.lines); goes_on = nothing_goes schema held sent }
 
-pub went_further : {S : Type 0} (steps : Ghosts S) (h : Meanings) (mid one : S) (between waiting : List Waits) (schema : Schema) (a b c : Option (List ℕ)) (x y z : Option (List Datagram)) (now next last : Served)
-    → Went steps h mid between schema a b x y now next → Went steps h one waiting schema b c y z next last → Went steps h one waiting schema a c x z now last
-went_further steps h mid one between waiting schema a b c x y z now next last first second = record {
+pub proceeds_further : {S : Type 0} (steps : Ghosts S) (h : Meanings) (mid one : S) (between waiting : List Waits) (schema : Schema) (a b c : Option (List ℕ)) (x y z : Option (List Datagram)) (now next last : Served)
+    → Proceeds steps h mid between schema a b x y now next → Proceeds steps h one waiting schema b c y z next last → Proceeds steps h one waiting schema a c x z now last
+proceeds_further steps h mid one between waiting schema a b c x y z now next last first second = record {
   serving = second.serving;
   more = first.more ++ second.more;
   lines = second.lines ∙ ap (λ (lines : List Line). lines ++ second.more) first.lines ∙ append_assoc now.lines first.more second.more;

@@ -11,10 +11,10 @@ use Rattle.mega_promises.specs.Runs.{setting}
 use Rattle.mega_promises.specs.Served.{Served, Turn, received, ticked}
 use Rattle.mega_serve.specs.declared.steps.Steps.{Ghosts}
 use Rattle.mega_serve.specs.declared.waiting.Waiting.{Waiting as Waits}
-use Rattle.mega_serve.specs.Turns.{GainsAll, HasTurned, IsServing, MayReceive, MayServe, MayTurn, Runs, TurnsOnce, Went, schema_of, served_by, setting_of, turn_of, turned_by, turns_of}
+use Rattle.mega_serve.specs.Turns.{GainsAll, HasTurned, IsServing, MayReceive, MayServe, MayTurn, Runs, TurnsOnce, Proceeds, schema_of, served_by, setting_of, turn_of, turned_by, turns_of}
 use Rattle.mega_serve.specs.Lines.{datagram_of}
 use Rattle.mega_serve.specs.Wishes.{wish_of}
-use Rattle.mega_serve.proofs.Going.{stays, went_further}
+use Rattle.mega_serve.proofs.Going.{stays, proceeds_further}
 
 -- ---- what is told of a list
 
@@ -71,11 +71,11 @@ runs_more steps first mid last waiting between left a b c x y z given one member
     let next = served_by s now (turns_of h given) in
     let before = runs h now serving split.0 in
     let after = turns h next before.serving (subst (λ (s : Setting). MayTurn steps s next (turn_of h one)) (sym same) split.1) in
-    let on : Went steps h last left (schema_of steps first) b c y z next (turned_by s next (turn_of h one)) =
-    coe 0 1 (i. Went steps h last left ((members i).schema) b c y z next (turned_by (same i) next (turn_of h one))) after in
-    subst (λ (end : Served). Went steps h last left (schema_of steps first) a c x z now end)
+    let on : Proceeds steps h last left (schema_of steps first) b c y z next (turned_by s next (turn_of h one)) =
+    coe 0 1 (i. Proceeds steps h last left ((members i).schema) b c y z next (turned_by (same i) next (turn_of h one))) after in
+    subst (λ (end : Served). Proceeds steps h last left (schema_of steps first) a c x z now end)
     (sym (ap (served_by s now) (map-append (turn_of h) given (one ∷ [])) ∙ served_on s now (turns_of h given) (turn_of h one)))
-    (went_further steps h mid last between left (schema_of steps first) a b c x y z now next (turned_by s next (turn_of h one)) before on)
+    (proceeds_further steps h mid last between left (schema_of steps first) a b c x y z now next (turned_by s next (turn_of h one)) before on)
 
 -- ---- one turn
 
@@ -83,17 +83,17 @@ runs_more steps first mid last waiting between left a b c x y z given one member
 pub turned_once : {S : Type 0} (steps : Ghosts S) (first mid last : S) (waiting between left : List Waits) (a b c : Option (List ℕ)) (x y z : Option (List Datagram)) (clock : ℕ) (datagram : Option Datagram)
     → steps.members mid ≡ steps.members first → steps.me mid ≡ steps.me first
     → ((h : Meanings) (was : Served) → IsServing steps h first waiting was → steps.may_happen (setting_of steps first h) was.node (Tick clock)
-    → Went steps h mid between (schema_of steps first) a b x y was (ticked (steps.members first) (steps.me first) h clock was))
+    → Proceeds steps h mid between (schema_of steps first) a b x y was (ticked (steps.members first) (steps.me first) h clock was))
     → ((h : Meanings) (now : Served) → IsServing steps h mid between now → MayReceive steps (setting_of steps mid h) now (option_map datagram_of datagram)
-    → Went steps h last left (schema_of steps mid) b c y z now (received (steps.members mid) (steps.me mid) (wish_of (schema_of steps mid) (steps.me mid)) h now (option_map datagram_of datagram)))
+    → Proceeds steps h last left (schema_of steps mid) b c y z now (received (steps.members mid) (steps.me mid) (wish_of (schema_of steps mid) (steps.me mid)) h now (option_map datagram_of datagram)))
     → TurnsOnce steps first waiting last left a c x z (clock, datagram)
 turned_once steps first mid last waiting between left a b c x y z clock datagram members me ticks receives = λ h now serving may.
     let next = ticked (steps.members first) (steps.me first) h clock now in
     let same : setting_of steps mid h ≡ setting_of steps first h = λ i. setting (members i) h (me i) in
     let before = ticks h now serving may.0 in
     let after = receives h next before.serving (subst (λ (s : Setting). MayReceive steps s next (option_map datagram_of datagram)) (sym same) may.1) in
-    went_further steps h mid last between left (schema_of steps first) a b c x y z now next (received (steps.members first) (steps.me first) (wish_of (schema_of steps first) (steps.me first)) h next (option_map datagram_of datagram)) before
-    (coe 0 1 (i. Went steps h last left ((members i).schema) b c y z next (received (members i) (me i) (wish_of ((members i).schema) (me i)) h next (option_map datagram_of datagram))) after)
+    proceeds_further steps h mid last between left (schema_of steps first) a b c x y z now next (received (steps.members first) (steps.me first) (wish_of (schema_of steps first) (steps.me first)) h next (option_map datagram_of datagram)) before
+    (coe 0 1 (i. Proceeds steps h last left ((members i).schema) b c y z next (received (members i) (me i) (wish_of ((members i).schema) (me i)) h next (option_map datagram_of datagram))) after)
 
 pub has_turned : (a b : Option (List ℕ)) (x y z : Option (List (Option Datagram))) (clock : ℕ) (datagram : Option Datagram) → Gains a b clock → y ≡ x → Gains y z datagram → HasTurned 1 a b x z ((clock, datagram) ∷ [])
 has_turned a b x y z clock datagram read same took = record {

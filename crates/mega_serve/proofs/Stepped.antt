@@ -24,7 +24,7 @@ use Rattle.mega_serve.specs.declared.waiting.Waiting.{Waiting as Waits}
 use Rattle.mega_serve.specs.Pages.{GoesOn}
 use Rattle.mega_serve.specs.Replies.{item_reply, waiting_of, waits_for}
 use Rattle.mega_serve.specs.Stepping.{IsMade}
-use Rattle.mega_serve.specs.Turns.{IsServing, Went}
+use Rattle.mega_serve.specs.Turns.{IsServing, Proceeds}
 
 -- the replies to items are those to notes
 reply_shown : (schema : Schema) (me : ℕ) (waiting : List Waiting) (note : Met) → flat_map (item_reply schema me waiting) (shown me note) ≡ answer_line schema me waiting note
@@ -72,11 +72,11 @@ stay_waiting opens (one ∷ waiting) =
     stay_next (opens one.op) one (filter (λ (one : Waits). opens one.op) waiting) (filter (λ (one : Waiting). opens one.op) (map waiting_of waiting)) (stay_waiting opens waiting)
 
 -- what a step shows and sends is what the rules record of it
-pub step_went : {S : Type 0} (steps : Ghosts S) (h : Meanings) (new : S) (c : Cluster) (me : ℕ) (waiting left : List Waits) (held more_held : Option (List ℕ)) (sent more_sent : Option (List Datagram)) (now : Served) (own : List Line) (step : Step) (made : Made)
+pub step_proceeds : {S : Type 0} (steps : Ghosts S) (h : Meanings) (new : S) (c : Cluster) (me : ℕ) (waiting left : List Waits) (held more_held : Option (List ℕ)) (sent more_sent : Option (List Datagram)) (now : Served) (own : List Line) (step : Step) (made : Made)
     → ((op : OpId) → steps.opens new op ≡ is_open_at step.node op) → steps.is_at new h step.node (reverse (kept_of step) ++ now.journal) → IsMade me step made → left ≡ filter (λ (one : Waits). steps.opens new one.op) waiting
     → GoesOn c.schema held more_held sent more_sent (((own ++ map Noted made.items) ++ put_out made.sends) ++ flat_map (item_reply c.schema me (map waiting_of waiting)) made.items)
-    → Went steps h new left c.schema held more_held sent more_sent now (recorded c me now own (map waiting_of waiting) step)
-step_went steps h new c me waiting left held more_held sent more_sent now own step made opens at is stay goes = record {
+    → Proceeds steps h new left c.schema held more_held sent more_sent now (recorded c me now own (map waiting_of waiting) step)
+step_proceeds steps h new c me waiting left held more_held sent more_sent now own step made opens at is stay goes = record {
   serving = record {
     at = at;
     waits = ap (map waiting_of) stay ∙ stay_waiting (steps.opens new) waiting ∙ (λ i. filter (λ (one : Waiting). opens one.op i) (map waiting_of waiting));
@@ -88,9 +88,9 @@ step_went steps h new c me waiting left held more_held sent more_sent now own st
 }
 
 -- lines that are recorded alone
-pub lines_went : {S : Type 0} (steps : Ghosts S) (h : Meanings) (one : S) (waiting : List Waits) (schema : Schema) (held more_held : Option (List ℕ)) (sent more_sent : Option (List Datagram)) (now : Served) (more : List Line) → IsServing steps h one waiting now
-    → GoesOn schema held more_held sent more_sent more → Went steps h one waiting schema held more_held sent more_sent now (with_lines now more)
-lines_went steps h one waiting schema held more_held sent more_sent now more serving goes = record {
+pub lines_proceeds : {S : Type 0} (steps : Ghosts S) (h : Meanings) (one : S) (waiting : List Waits) (schema : Schema) (held more_held : Option (List ℕ)) (sent more_sent : Option (List Datagram)) (now : Served) (more : List Line) → IsServing steps h one waiting now
+    → GoesOn schema held more_held sent more_sent more → Proceeds steps h one waiting schema held more_held sent more_sent now (with_lines now more)
+lines_proceeds steps h one waiting schema held more_held sent more_sent now more serving goes = record {
   serving = record { at = serving.at; waits = serving.waits };
   more = more;
   lines = refl;

@@ -33,7 +33,7 @@ pub record IsServing {S : Type 0} (steps : Ghosts S) (h : Meanings) (one : S) (w
   pub waits : map waiting_of waiting ≡ now.waiting
 
 -- it went on from one served node to another: what was recorded in between is held and sent
-pub record Went {S : Type 0} (steps : Ghosts S) (h : Meanings) (one : S) (waiting : List Waits) (schema : Schema) (held more_held : Option (List ℕ)) (sent more_sent : Option (List Datagram)) (now next : Served) : Type 0 where
+pub record Proceeds {S : Type 0} (steps : Ghosts S) (h : Meanings) (one : S) (waiting : List Waits) (schema : Schema) (held more_held : Option (List ℕ)) (sent more_sent : Option (List Datagram)) (now next : Served) : Type 0 where
   pub serving : IsServing steps h one waiting next
   pub more : List Line
   pub lines : next.lines ≡ now.lines ++ more
@@ -127,12 +127,12 @@ pub record HasBegun (read more_read : Option (List ℕ)) (taken more_taken : Opt
 abbrev pub TurnsOnce : {S : Type 0} → Ghosts S → S → List Waits → S → List Waits → Option (List ℕ) → Option (List ℕ) → Option (List Datagram) → Option (List Datagram) → ℕ × Option Datagram → Type 0
 TurnsOnce steps first waiting last left held more_held sent more_sent one =
     (h : Meanings) (now : Served) → IsServing steps h first waiting now → MayTurn steps (setting_of steps first h) now (turn_of h one)
-    → Went steps h last left (schema_of steps first) held more_held sent more_sent now (turned_by (setting_of steps first h) now (turn_of h one))
+    → Proceeds steps h last left (schema_of steps first) held more_held sent more_sent now (turned_by (setting_of steps first h) now (turn_of h one))
 
 abbrev pub Runs : {S : Type 0} → Ghosts S → S → List Waits → S → List Waits → Option (List ℕ) → Option (List ℕ) → Option (List Datagram) → Option (List Datagram) → List (ℕ × Option Datagram) → Type 0
 Runs steps first waiting last left held more_held sent more_sent given =
     (h : Meanings) (now : Served) → IsServing steps h first waiting now → MayServe steps (setting_of steps first h) now (turns_of h given)
-    → Went steps h last left (schema_of steps first) held more_held sent more_sent now (served_by (setting_of steps first h) now (turns_of h given))
+    → Proceeds steps h last left (schema_of steps first) held more_held sent more_sent now (served_by (setting_of steps first h) now (turns_of h given))
 
 -- from one moment on a node began these turns, and ended in the last of them
 abbrev pub EndsIn : {S : Type 0} → Ghosts S → S → List Waits → Option (List ℕ) → Option (List ℕ) → Option (List Datagram) → Option (List Datagram) → List (ℕ × Option Datagram) → Type 0

@@ -9,7 +9,7 @@ ghost use Rattle.mega_serve.specs.declared.waiting.Waiting.{Waiting as Waits};
 ghost use Rattle.mega_serve.specs.Pages.{IsPage};
 ghost use Rattle.mega_serve.specs.Causes.{IsCaused};
 ghost use Rattle.mega_serve.specs.Stepping.{HaveGone};
-ghost use Rattle.mega_serve.specs.Turns.{Ended, IfSome, IsServing, Went, schema_of, setting_of, wished_event};
+ghost use Rattle.mega_serve.specs.Turns.{Ended, IfSome, IsServing, Proceeds, schema_of, setting_of, wished_event};
 ghost use Rattle.mega_serve.specs.Wishes.{wish_of};
 
 use crate::fault::ServeFault;
@@ -113,7 +113,7 @@ fn refuse<S: Steps, L: Link, O: Sink>(
     out: &mut O,
 ) -> Result<(), ServeFault>
     ensures gone { OnOk result ((h : Meanings) (now : Served) (waiting : List Waits) (got : List Line) → IsServing S.Steps h node.now waiting now → IsPage (schema_of S.Steps node.now) page got →
-        Went S.Steps h node.now waiting (schema_of S.Steps node.now) (O.held out.old) (O.held out.new) (L.sent link.old) (L.sent link.new) now (refused_by (S.me node.now) now got client token kind.now (decimal reason))) }
+        Proceeds S.Steps h node.now waiting (schema_of S.Steps node.now) (O.held out.old) (O.held out.new) (L.sent link.old) (L.sent link.new) now (refused_by (S.me node.now) now got client token kind.now (decimal reason))) }
     ensures front { OnErr result ((h : Meanings) (now : Served) (waiting : List Waits) (got : List Line) → IsServing S.Steps h node.now waiting now → IsPage (schema_of S.Steps node.now) page got →
         Ended (schema_of S.Steps node.now) (O.held out.old) (O.held out.new) (L.sent link.old) (L.sent link.new) now (refused_by (S.me node.now) now got client token kind.now (decimal reason))) }
     ensures cause { IfErr result (λ fault. IsCaused fault (S.devices node.now) (S.devices node.now) (O.faults out.old) (O.faults out.new)) }
@@ -143,7 +143,7 @@ fn begin<S: Steps, L: Link, O: Sink>(
     requires named { names_nothing ask.request ≡ false }
     ensures gone { OnOk result ((h : Meanings) (now : Served) (got : List Line) → IsServing S.Steps h node.old waiting.old.items now → IsPage (schema_of S.Steps node.old) page got →
         S.may_happen (setting_of S.Steps node.old h) now.node (Begin ask.request ask.text) →
-        Went S.Steps h node.new waiting.new.items (schema_of S.Steps node.old) (O.held out.old) (O.held out.new) (L.sent link.old) (L.sent link.new) now (wished (S.members node.old) (S.me node.old) h now got client token (Asks ask.request ask.text))) }
+        Proceeds S.Steps h node.new waiting.new.items (schema_of S.Steps node.old) (O.held out.old) (O.held out.new) (L.sent link.old) (L.sent link.new) now (wished (S.members node.old) (S.me node.old) h now got client token (Asks ask.request ask.text))) }
     ensures front { OnErr result ((h : Meanings) (now : Served) (got : List Line) → IsServing S.Steps h node.old waiting.old.items now → IsPage (schema_of S.Steps node.old) page got →
         S.may_happen (setting_of S.Steps node.old h) now.node (Begin ask.request ask.text) →
         Ended (schema_of S.Steps node.old) (O.held out.old) (O.held out.new) (L.sent link.old) (L.sent link.new) now (wished (S.members node.old) (S.me node.old) h now got client token (Asks ask.request ask.text))) }
@@ -194,7 +194,7 @@ fn ask<S: Steps, L: Link, O: Sink>(
 ) -> Result<(), ServeFault>
     ensures gone { OnOk result ((h : Meanings) (now : Served) (got : List Line) → IsServing S.Steps h node.old waiting.old.items now → IsPage (schema_of S.Steps node.old) page got →
         IfSome (S.may_happen (setting_of S.Steps node.old h) now.node) (wished_event (Asks ask.request ask.text)) →
-        Went S.Steps h node.new waiting.new.items (schema_of S.Steps node.old) (O.held out.old) (O.held out.new) (L.sent link.old) (L.sent link.new) now (wished (S.members node.old) (S.me node.old) h now got client token (Asks ask.request ask.text))) }
+        Proceeds S.Steps h node.new waiting.new.items (schema_of S.Steps node.old) (O.held out.old) (O.held out.new) (L.sent link.old) (L.sent link.new) now (wished (S.members node.old) (S.me node.old) h now got client token (Asks ask.request ask.text))) }
     ensures front { OnErr result ((h : Meanings) (now : Served) (got : List Line) → IsServing S.Steps h node.old waiting.old.items now → IsPage (schema_of S.Steps node.old) page got →
         IfSome (S.may_happen (setting_of S.Steps node.old h) now.node) (wished_event (Asks ask.request ask.text)) →
         Ended (schema_of S.Steps node.old) (O.held out.old) (O.held out.new) (L.sent link.old) (L.sent link.new) now (wished (S.members node.old) (S.me node.old) h now got client token (Asks ask.request ask.text))) }
@@ -232,7 +232,7 @@ pub(crate) fn ask_by<S: Steps, L: Link, O: Sink>(
 ) -> Result<(), ServeFault>
     ensures gone { OnOk result ((h : Meanings) (now : Served) (got : List Line) → IsServing S.Steps h node.old waiting.old.items now → IsPage (schema_of S.Steps node.old) page got →
         IfSome (S.may_happen (setting_of S.Steps node.old h) now.node) (wished_event (wish_of (schema_of S.Steps node.old) (S.me node.old) json.now)) →
-        Went S.Steps h node.new waiting.new.items (schema_of S.Steps node.old) (O.held out.old) (O.held out.new) (L.sent link.old) (L.sent link.new) now (wished (S.members node.old) (S.me node.old) h now got client token (wish_of (schema_of S.Steps node.old) (S.me node.old) json.now))) }
+        Proceeds S.Steps h node.new waiting.new.items (schema_of S.Steps node.old) (O.held out.old) (O.held out.new) (L.sent link.old) (L.sent link.new) now (wished (S.members node.old) (S.me node.old) h now got client token (wish_of (schema_of S.Steps node.old) (S.me node.old) json.now))) }
     ensures front { OnErr result ((h : Meanings) (now : Served) (got : List Line) → IsServing S.Steps h node.old waiting.old.items now → IsPage (schema_of S.Steps node.old) page got →
         IfSome (S.may_happen (setting_of S.Steps node.old h) now.node) (wished_event (wish_of (schema_of S.Steps node.old) (S.me node.old) json.now)) →
         Ended (schema_of S.Steps node.old) (O.held out.old) (O.held out.new) (L.sent link.old) (L.sent link.new) now (wished (S.members node.old) (S.me node.old) h now got client token (wish_of (schema_of S.Steps node.old) (S.me node.old) json.now))) }

@@ -9,7 +9,7 @@ ghost use Rattle.mega_serve.specs.Lines.{peer_of};
 ghost use Rattle.mega_serve.specs.Pages.{IsPage};
 ghost use Rattle.mega_serve.specs.Causes.{IsCaused};
 ghost use Rattle.mega_serve.specs.Stepping.{HaveGone};
-ghost use Rattle.mega_serve.specs.Turns.{Ended, IfSome, IsServing, MayReceive, Went, brought_by, message_event, requested_event, schema_of, setting_of};
+ghost use Rattle.mega_serve.specs.Turns.{Ended, IfSome, IsServing, MayReceive, Proceeds, brought_by, message_event, requested_event, schema_of, setting_of};
 ghost use Rattle.mega_serve.specs.Wishes.{wish_of};
 
 use crate::asking::ask_by;
@@ -42,7 +42,7 @@ fn only_got<S: Steps, L: Link, O: Sink>(
     out: &mut O,
 ) -> Result<(), ServeFault>
     ensures gone { OnOk result ((h : Meanings) (now : Served) (waiting : List Waits) (got : List Line) → IsServing S.Steps h node.now waiting now → IsPage (schema_of S.Steps node.now) page.now got →
-        Went S.Steps h node.now waiting (schema_of S.Steps node.now) (O.held out.old) (O.held out.new) (L.sent link.old) (L.sent link.new) now (with_lines now got)) }
+        Proceeds S.Steps h node.now waiting (schema_of S.Steps node.now) (O.held out.old) (O.held out.new) (L.sent link.old) (L.sent link.new) now (with_lines now got)) }
     ensures front { OnErr result ((h : Meanings) (now : Served) (waiting : List Waits) (got : List Line) → IsServing S.Steps h node.now waiting now → IsPage (schema_of S.Steps node.now) page.now got →
         Ended (schema_of S.Steps node.now) (O.held out.old) (O.held out.new) (L.sent link.old) (L.sent link.new) now (with_lines now got)) }
     ensures cause { IfErr result (λ fault. IsCaused fault (S.devices node.now) (S.devices node.now) (O.faults out.old) (O.faults out.new)) }
@@ -69,7 +69,7 @@ fn take_of_client<S: Steps, L: Link, O: Sink>(
 ) -> Result<(), ServeFault>
     ensures gone { OnOk result ((h : Meanings) (now : Served) (got : List Line) → IsServing S.Steps h node.old waiting.old.items now → IsPage (schema_of S.Steps node.old) page got →
         IfSome (S.may_happen (setting_of S.Steps node.old h) now.node) (requested_event (wish_of (schema_of S.Steps node.old) (S.me node.old)) message.now.body) →
-        Went S.Steps h node.new waiting.new.items (schema_of S.Steps node.old) (O.held out.old) (O.held out.new) (L.sent link.old) (L.sent link.new) now (takes_message (S.members node.old) (S.me node.old) (wish_of (schema_of S.Steps node.old) (S.me node.old)) h now got (OfClient client) message.now)) }
+        Proceeds S.Steps h node.new waiting.new.items (schema_of S.Steps node.old) (O.held out.old) (O.held out.new) (L.sent link.old) (L.sent link.new) now (takes_message (S.members node.old) (S.me node.old) (wish_of (schema_of S.Steps node.old) (S.me node.old)) h now got (OfClient client) message.now)) }
     ensures front { OnErr result ((h : Meanings) (now : Served) (got : List Line) → IsServing S.Steps h node.old waiting.old.items now → IsPage (schema_of S.Steps node.old) page got →
         IfSome (S.may_happen (setting_of S.Steps node.old h) now.node) (requested_event (wish_of (schema_of S.Steps node.old) (S.me node.old)) message.now.body) →
         Ended (schema_of S.Steps node.old) (O.held out.old) (O.held out.new) (L.sent link.old) (L.sent link.new) now (takes_message (S.members node.old) (S.me node.old) (wish_of (schema_of S.Steps node.old) (S.me node.old)) h now got (OfClient client) message.now)) }
@@ -119,7 +119,7 @@ fn take<S: Steps, L: Link, O: Sink>(
 ) -> Result<(), ServeFault>
     ensures gone { OnOk result ((h : Meanings) (now : Served) (got : List Line) → IsServing S.Steps h node.old waiting.old.items now → IsPage (schema_of S.Steps node.old) page got →
         IfSome (S.may_happen (setting_of S.Steps node.old h) now.node) (message_event (wish_of (schema_of S.Steps node.old) (S.me node.old)) (peer_of peer) message) →
-        Went S.Steps h node.new waiting.new.items (schema_of S.Steps node.old) (O.held out.old) (O.held out.new) (L.sent link.old) (L.sent link.new) now (takes_message (S.members node.old) (S.me node.old) (wish_of (schema_of S.Steps node.old) (S.me node.old)) h now got (peer_of peer) message)) }
+        Proceeds S.Steps h node.new waiting.new.items (schema_of S.Steps node.old) (O.held out.old) (O.held out.new) (L.sent link.old) (L.sent link.new) now (takes_message (S.members node.old) (S.me node.old) (wish_of (schema_of S.Steps node.old) (S.me node.old)) h now got (peer_of peer) message)) }
     ensures front { OnErr result ((h : Meanings) (now : Served) (got : List Line) → IsServing S.Steps h node.old waiting.old.items now → IsPage (schema_of S.Steps node.old) page got →
         IfSome (S.may_happen (setting_of S.Steps node.old h) now.node) (message_event (wish_of (schema_of S.Steps node.old) (S.me node.old)) (peer_of peer) message) →
         Ended (schema_of S.Steps node.old) (O.held out.old) (O.held out.new) (L.sent link.old) (L.sent link.new) now (takes_message (S.members node.old) (S.me node.old) (wish_of (schema_of S.Steps node.old) (S.me node.old)) h now got (peer_of peer) message)) }
@@ -169,7 +169,7 @@ fn take_if<S: Steps, L: Link, O: Sink>(
 ) -> Result<(), ServeFault>
     ensures gone { OnOk result ((h : Meanings) (now : Served) (got : List Line) → IsServing S.Steps h node.old waiting.old.items now → IsPage (schema_of S.Steps node.old) page got →
         IfSome (S.may_happen (setting_of S.Steps node.old h) now.node) (brought_by (S.me node.old) (wish_of (schema_of S.Steps node.old) (S.me node.old)) (peer_of peer) (Ok message)) →
-        Went S.Steps h node.new waiting.new.items (schema_of S.Steps node.old) (O.held out.old) (O.held out.new) (L.sent link.old) (L.sent link.new) now (given (S.members node.old) (S.me node.old) (wish_of (schema_of S.Steps node.old) (S.me node.old)) h now got (peer_of peer) (Ok message))) }
+        Proceeds S.Steps h node.new waiting.new.items (schema_of S.Steps node.old) (O.held out.old) (O.held out.new) (L.sent link.old) (L.sent link.new) now (given (S.members node.old) (S.me node.old) (wish_of (schema_of S.Steps node.old) (S.me node.old)) h now got (peer_of peer) (Ok message))) }
     ensures front { OnErr result ((h : Meanings) (now : Served) (got : List Line) → IsServing S.Steps h node.old waiting.old.items now → IsPage (schema_of S.Steps node.old) page got →
         IfSome (S.may_happen (setting_of S.Steps node.old h) now.node) (brought_by (S.me node.old) (wish_of (schema_of S.Steps node.old) (S.me node.old)) (peer_of peer) (Ok message)) →
         Ended (schema_of S.Steps node.old) (O.held out.old) (O.held out.new) (L.sent link.old) (L.sent link.new) now (given (S.members node.old) (S.me node.old) (wish_of (schema_of S.Steps node.old) (S.me node.old)) h now got (peer_of peer) (Ok message))) }
@@ -205,7 +205,7 @@ pub(crate) fn receive<S: Steps, L: Link, O: Sink>(
 ) -> Result<(), ServeFault>
     ensures gone { OnOk result ((h : Meanings) (now : Served) → IsServing S.Steps h node.old waiting.old.items now →
         MayReceive S.Steps (setting_of S.Steps node.old h) now (Some (peer_of peer, bytes.now)) →
-        Went S.Steps h node.new waiting.new.items (schema_of S.Steps node.old) (O.held out.old) (O.held out.new) (L.sent link.old) (L.sent link.new) now (received (S.members node.old) (S.me node.old) (wish_of (schema_of S.Steps node.old) (S.me node.old)) h now (Some (peer_of peer, bytes.now)))) }
+        Proceeds S.Steps h node.new waiting.new.items (schema_of S.Steps node.old) (O.held out.old) (O.held out.new) (L.sent link.old) (L.sent link.new) now (received (S.members node.old) (S.me node.old) (wish_of (schema_of S.Steps node.old) (S.me node.old)) h now (Some (peer_of peer, bytes.now)))) }
     ensures front { OnErr result ((h : Meanings) (now : Served) → IsServing S.Steps h node.old waiting.old.items now →
         MayReceive S.Steps (setting_of S.Steps node.old h) now (Some (peer_of peer, bytes.now)) →
         Ended (schema_of S.Steps node.old) (O.held out.old) (O.held out.new) (L.sent link.old) (L.sent link.new) now (received (S.members node.old) (S.me node.old) (wish_of (schema_of S.Steps node.old) (S.me node.old)) h now (Some (peer_of peer, bytes.now)))) }

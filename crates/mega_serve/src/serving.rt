@@ -7,7 +7,7 @@ ghost use Rattle.mega_serve.specs.declared.waiting.Waiting.{Waiting as Waits};
 ghost use Rattle.mega_serve.specs.Lines.{datagram_of};
 ghost use Rattle.mega_serve.specs.Causes.{IsCaused};
 ghost use Rattle.mega_serve.specs.Stepping.{HaveGone};
-ghost use Rattle.mega_serve.specs.Turns.{Ended, EndsIn, EndsOnce, HasBegun, HasTurned, IsServing, MayReceive, Runs, TurnsOnce, Went, schema_of, setting_of};
+ghost use Rattle.mega_serve.specs.Turns.{Ended, EndsIn, EndsOnce, HasBegun, HasTurned, IsServing, MayReceive, Runs, TurnsOnce, Proceeds, schema_of, setting_of};
 ghost use Rattle.mega_serve.specs.Wishes.{wish_of};
 
 use crate::fault::ServeFault;
@@ -63,7 +63,7 @@ fn receive_one<S: Steps, L: Link, O: Sink>(
     ensures room { length room.new ≡ length room.old }
     ensures gone { OnOk result ((datagram : Option Datagram) × (Gains (L.taken link.old) (L.taken link.new) datagram × ((h : Meanings) (now : Served) → IsServing S.Steps h node.old waiting.old.items now →
         MayReceive S.Steps (setting_of S.Steps node.old h) now (option_map datagram_of datagram) →
-        Went S.Steps h node.new waiting.new.items (schema_of S.Steps node.old) (O.held out.old) (O.held out.new) (L.sent link.old) (L.sent link.new) now (received (S.members node.old) (S.me node.old) (wish_of (schema_of S.Steps node.old) (S.me node.old)) h now (option_map datagram_of datagram))))) }
+        Proceeds S.Steps h node.new waiting.new.items (schema_of S.Steps node.old) (O.held out.old) (O.held out.new) (L.sent link.old) (L.sent link.new) now (received (S.members node.old) (S.me node.old) (wish_of (schema_of S.Steps node.old) (S.me node.old)) h now (option_map datagram_of datagram))))) }
     ensures front { OnErr result ((datagram : Option Datagram) × (Gains (L.taken link.old) (L.taken link.new) datagram × ((h : Meanings) (now : Served) → IsServing S.Steps h node.old waiting.old.items now →
         MayReceive S.Steps (setting_of S.Steps node.old h) now (option_map datagram_of datagram) →
         Ended (schema_of S.Steps node.old) (O.held out.old) (O.held out.new) (L.sent link.old) (L.sent link.new) now (received (S.members node.old) (S.me node.old) (wish_of (schema_of S.Steps node.old) (S.me node.old)) h now (option_map datagram_of datagram))))) }

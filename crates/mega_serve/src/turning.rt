@@ -12,7 +12,7 @@ ghost use Rattle.mega_serve.specs.Pages.{IsPage};
 ghost use Rattle.mega_serve.specs.Replies.{item_reply, waiting_of};
 ghost use Rattle.mega_serve.specs.Stepping.{HaveGone, event_of};
 ghost use Rattle.mega_serve.specs.Causes.{IsCaused};
-ghost use Rattle.mega_serve.specs.Turns.{Ended, IsServing, Went, schema_of, setting_of};
+ghost use Rattle.mega_serve.specs.Turns.{Ended, IsServing, Proceeds, schema_of, setting_of};
 
 use crate::fault::ServeFault;
 use crate::page::Page;
@@ -61,7 +61,7 @@ pub(crate) fn step<S: Steps, L: Link, O: Sink>(
 ) -> Result<(), ServeFault>
     ensures gone { OnOk result ((h : Meanings) (now : Served) (own : List Line) → S.is_at node.old h now.node now.journal → IsPage (schema_of S.Steps node.old) page own →
         S.may_happen (setting_of S.Steps node.old h) now.node (event_of event) →
-        Went S.Steps h node.new waiting.new.items (schema_of S.Steps node.old) (O.held out.old) (O.held out.new) (L.sent link.old) (L.sent link.new) now
+        Proceeds S.Steps h node.new waiting.new.items (schema_of S.Steps node.old) (O.held out.old) (O.held out.new) (L.sent link.old) (L.sent link.new) now
         (recorded (S.members node.old) (S.me node.old) now own (map waiting_of waiting.old.items) (step (setting_of S.Steps node.old h) now.node (event_of event)))) }
     ensures front { OnErr result ((h : Meanings) (now : Served) (own : List Line) → S.is_at node.old h now.node now.journal → IsPage (schema_of S.Steps node.old) page own →
         S.may_happen (setting_of S.Steps node.old h) now.node (event_of event) →
@@ -134,7 +134,7 @@ pub(crate) fn tick<S: Steps, L: Link, O: Sink>(
     out: &mut O,
 ) -> Result<(), ServeFault>
     ensures gone { OnOk result ((h : Meanings) (was : Served) → IsServing S.Steps h node.old waiting.old.items was → S.may_happen (setting_of S.Steps node.old h) was.node (Tick now) →
-        Went S.Steps h node.new waiting.new.items (schema_of S.Steps node.old) (O.held out.old) (O.held out.new) (L.sent link.old) (L.sent link.new) was (ticked (S.members node.old) (S.me node.old) h now was)) }
+        Proceeds S.Steps h node.new waiting.new.items (schema_of S.Steps node.old) (O.held out.old) (O.held out.new) (L.sent link.old) (L.sent link.new) was (ticked (S.members node.old) (S.me node.old) h now was)) }
     ensures front { OnErr result ((h : Meanings) (was : Served) → IsServing S.Steps h node.old waiting.old.items was → S.may_happen (setting_of S.Steps node.old h) was.node (Tick now) →
         Ended (schema_of S.Steps node.old) (O.held out.old) (O.held out.new) (L.sent link.old) (L.sent link.new) was (ticked (S.members node.old) (S.me node.old) h now was)) }
     ensures cause { IfErr result (λ fault. IsCaused fault (S.devices node.old) (S.devices node.new) (O.faults out.old) (O.faults out.new)) }

@@ -11,7 +11,7 @@ use Rattle.mega_wal.specs.declared.answers.LogFault.{LogFault}
 use Rattle.mega_wal.specs.declared.answers.LogFault.TheVariants as log
 use Rattle.mega_rules.specs.Operations.{Node as RuleNode, Setting}
 use Rattle.mega_rules.specs.Steps.{Event}
-use Rattle.mega_replica.specs.Faring.{Fares}
+use Rattle.mega_replica.specs.Used.{StoreUsed}
 use Rattle.mega_durable.specs.of_actions.of_proposing.Settings.{setting}
 use Rattle.mega_durable.specs.of_core.declared.fault.StepFault.{StepFault}
 use Rattle.mega_durable.specs.of_core.declared.fault.StepFault.TheVariants as step
@@ -20,8 +20,8 @@ use Rattle.mega_durable.specs.of_core.of_stepping.declared.step.Step.{Step}
 use Rattle.mega_durable.specs.declared.fault.UpFault.{UpFault}
 use Rattle.mega_durable.specs.declared.fault.UpFault.TheVariants as up
 use Rattle.mega_durable.specs.Compacting.{AtEachUp, LogCompacts, OwesNothing}
-use Rattle.mega_durable.specs.Cut.{LogWent, failed_by, log_fault_in}
-use Rattle.mega_durable.specs.Spilling.{IsNotSpilled, SpillFares, rows_in}
+use Rattle.mega_durable.specs.Cut.{LogProceeds, failed_by, log_fault_in}
+use Rattle.mega_durable.specs.Spilling.{IsNotSpilled, SpillUsed, rows_in}
 use Rattle.mega_durable.specs.Standing.{IsUp, MayHappen, records_in}
 use Rattle.mega_durable.specs.Stepped.{AtEach}
 use Rattle.mega_serve.specs.declared.fault.NodeFault.{NodeFault}
@@ -48,35 +48,35 @@ longer a b same = omega arith
 
 pub compacting_gone : {R V : Type 0} (store : Ghosts R) (rows : VersionGhosts V) (old new : Node R V) (failed : Option LogFault) → LogCompacts store failed (records_in old) (records_in new)
     → new.replica.rows ≡ old.replica.rows → HaveGone (devices_of store rows old) (devices_of store rows new)
-compacting_gone store rows old new failed went same = (went.1.later, longer (rows.faults new.replica.rows.rows) (rows.faults old.replica.rows.rows) (λ i. rows.faults (same i).rows))
+compacting_gone store rows old new failed proceeds same = (proceeds.1.later, longer (rows.faults new.replica.rows.rows) (rows.faults old.replica.rows.rows) (λ i. rows.faults (same i).rows))
 
 pub compacting_due : {R V : Type 0} (store : Ghosts R) (rows : VersionGhosts V) (old new : Node R V) (fault : UpFault) → OwesNothing fault
     → LogCompacts store (log_fault_in fault) (records_in old) (records_in new) → IsDueTo (fault_of fault) (devices_of store rows old) (devices_of store rows new)
-compacting_due store rows old new (up.Step fault) owes went = absurd owes
-compacting_due store rows old new (up.Cut cut) owes went = inl (went.1.cause refl)
-compacting_due store rows old new (up.Log log.DiskFault) owes went = inl (went.1.cause refl)
-compacting_due store rows old new (up.Log (log.Full length)) owes went = (went.1.full length refl).0.2
-compacting_due store rows old new (up.Log log.Spent) owes went = tt
-compacting_due store rows old new (up.Log (log.BadRecord number)) owes went = tt
-compacting_due store rows old new (up.Log log.NoMemory) owes went = tt
-compacting_due store rows old new up.Unformed owes went = tt
+compacting_due store rows old new (up.Step fault) owes proceeds = absurd owes
+compacting_due store rows old new (up.Cut cut) owes proceeds = inl (proceeds.1.cause refl)
+compacting_due store rows old new (up.Log log.DiskFault) owes proceeds = inl (proceeds.1.cause refl)
+compacting_due store rows old new (up.Log (log.Full length)) owes proceeds = (proceeds.1.full length refl).0.2
+compacting_due store rows old new (up.Log log.Spent) owes proceeds = tt
+compacting_due store rows old new (up.Log (log.BadRecord number)) owes proceeds = tt
+compacting_due store rows old new (up.Log log.NoMemory) owes proceeds = tt
+compacting_due store rows old new up.Unformed owes proceeds = tt
 
-pub acting_due : {R V : Type 0} (store : Ghosts R) (rows : VersionGhosts V) (old new : Node R V) (fault : UpFault) → LogWent store (log_fault_in fault) (records_in old) (records_in new)
-    → Fares rows (failed_by {T = Step} (Err fault)) old.replica.rows.rows new.replica.rows.rows → IsDueTo (fault_of fault) (devices_of store rows old) (devices_of store rows new)
-acting_due store rows old new (up.Step step.DiskFault) went fares = inr (fares.cause refl)
-acting_due store rows old new (up.Step (step.Full length)) went fares = absurd (fares.never_full length refl)
-acting_due store rows old new (up.Step (step.BadRecord number)) went fares = tt
-acting_due store rows old new (up.Step step.Unserved) went fares = tt
-acting_due store rows old new (up.Step step.Stranger) went fares = tt
-acting_due store rows old new (up.Step step.Late) went fares = tt
-acting_due store rows old new (up.Step step.NoMemory) went fares = tt
-acting_due store rows old new (up.Cut cut) went fares = inl (went.1.cause refl)
-acting_due store rows old new (up.Log log.DiskFault) went fares = inl (went.1.cause refl)
-acting_due store rows old new (up.Log (log.Full length)) went fares = (went.1.full length refl).0.2
-acting_due store rows old new (up.Log log.Spent) went fares = tt
-acting_due store rows old new (up.Log (log.BadRecord number)) went fares = tt
-acting_due store rows old new (up.Log log.NoMemory) went fares = tt
-acting_due store rows old new up.Unformed went fares = tt
+pub acting_due : {R V : Type 0} (store : Ghosts R) (rows : VersionGhosts V) (old new : Node R V) (fault : UpFault) → LogProceeds store (log_fault_in fault) (records_in old) (records_in new)
+    → StoreUsed rows (failed_by {T = Step} (Err fault)) old.replica.rows.rows new.replica.rows.rows → IsDueTo (fault_of fault) (devices_of store rows old) (devices_of store rows new)
+acting_due store rows old new (up.Step step.DiskFault) proceeds used = inr (used.cause refl)
+acting_due store rows old new (up.Step (step.Full length)) proceeds used = absurd (used.never_full length refl)
+acting_due store rows old new (up.Step (step.BadRecord number)) proceeds used = tt
+acting_due store rows old new (up.Step step.Unserved) proceeds used = tt
+acting_due store rows old new (up.Step step.Stranger) proceeds used = tt
+acting_due store rows old new (up.Step step.Late) proceeds used = tt
+acting_due store rows old new (up.Step step.NoMemory) proceeds used = tt
+acting_due store rows old new (up.Cut cut) proceeds used = inl (proceeds.1.cause refl)
+acting_due store rows old new (up.Log log.DiskFault) proceeds used = inl (proceeds.1.cause refl)
+acting_due store rows old new (up.Log (log.Full length)) proceeds used = (proceeds.1.full length refl).0.2
+acting_due store rows old new (up.Log log.Spent) proceeds used = tt
+acting_due store rows old new (up.Log (log.BadRecord number)) proceeds used = tt
+acting_due store rows old new (up.Log log.NoMemory) proceeds used = tt
+acting_due store rows old new up.Unformed proceeds used = tt
 
 pub gone_on : (old mid new : Devices) → HaveGone old mid → HaveGone mid new → HaveGone old new
 gone_on old mid new first second = (let a = first.0 in let b = second.0 in omega arith, let a = first.1 in let b = second.1 in omega arith)
@@ -98,19 +98,19 @@ pub at_spilled : {R V : Type 0} (store : Ghosts R) (version : V → Versions) (o
     → AtEachUp store version mid (λ h ruled. IsUp store version h new ruled) → AtEachUp store version old (λ h ruled. IsUp store version h new ruled)
 at_spilled store version old mid new first second = λ h ruled is. second h ruled (first h ruled is)
 
-pub spilling_gone : {R V : Type 0} (store : Ghosts R) (rows : VersionGhosts V) (old new : Node R V) (failed : Option StoreError) → SpillFares rows failed (rows_in old) (rows_in new)
+pub spilling_gone : {R V : Type 0} (store : Ghosts R) (rows : VersionGhosts V) (old new : Node R V) (failed : Option StoreError) → SpillUsed rows failed (rows_in old) (rows_in new)
     → new.replica.voter ≡ old.replica.voter → HaveGone (devices_of store rows old) (devices_of store rows new)
-spilling_gone store rows old new failed fares same = (longer (store.faults (records_in new)) (store.faults (records_in old)) (λ i. store.faults (same i).logs.records), fares.later)
+spilling_gone store rows old new failed used same = (longer (store.faults (records_in new)) (store.faults (records_in old)) (λ i. store.faults (same i).logs.records), used.later)
 
 pub spilling_due : {R V : Type 0} (store : Ghosts R) (rows : VersionGhosts V) (old new : Node R V) (fault : UpFault) → IsNotSpilled fault
-    → SpillFares rows (failed_by {T = Unit {0}} (Err fault)) (rows_in old) (rows_in new) → IsDueTo (fault_of fault) (devices_of store rows old) (devices_of store rows new)
-spilling_due store rows old new (up.Step step.DiskFault) why fares = inr (fares.cause refl)
-spilling_due store rows old new (up.Step (step.Full length)) why fares = fares.full length refl
-spilling_due store rows old new (up.Step (step.BadRecord number)) why fares = tt
-spilling_due store rows old new (up.Step step.Unserved) why fares = tt
-spilling_due store rows old new (up.Step step.Stranger) why fares = tt
-spilling_due store rows old new (up.Step step.Late) why fares = tt
-spilling_due store rows old new (up.Step step.NoMemory) why fares = tt
-spilling_due store rows old new (up.Cut cut) why fares = absurd (cc)
-spilling_due store rows old new (up.Log fault) why fares = absurd (cc)
-spilling_due store rows old new up.Unformed why fares = absurd (cc)
+    → SpillUsed rows (failed_by {T = Unit {0}} (Err fault)) (rows_in old) (rows_in new) → IsDueTo (fault_of fault) (devices_of store rows old) (devices_of store rows new)
+spilling_due store rows old new (up.Step step.DiskFault) why used = inr (used.cause refl)
+spilling_due store rows old new (up.Step (step.Full length)) why used = used.full length refl
+spilling_due store rows old new (up.Step (step.BadRecord number)) why used = tt
+spilling_due store rows old new (up.Step step.Unserved) why used = tt
+spilling_due store rows old new (up.Step step.Stranger) why used = tt
+spilling_due store rows old new (up.Step step.Late) why used = tt
+spilling_due store rows old new (up.Step step.NoMemory) why used = tt
+spilling_due store rows old new (up.Cut cut) why used = absurd (cc)
+spilling_due store rows old new (up.Log fault) why used = absurd (cc)
+spilling_due store rows old new up.Unformed why used = absurd (cc)

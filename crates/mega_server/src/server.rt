@@ -6,12 +6,12 @@ ghost use Rattle.mega_handler.specs.Named.{Meanings};
 ghost use Rattle.mega_wal.specs.declared.item.JournalItem.{JournalItem};
 ghost use Rattle.mega_rules.specs.Operations.{Node as RuleNode};
 ghost use Rattle.mega_rules.specs.Steps.{step};
-ghost use Rattle.mega_replica.specs.Faring.{Fares};
+ghost use Rattle.mega_replica.specs.Used.{StoreUsed};
 ghost use Rattle.mega_wal.specs.Same.{same_op};
 ghost use Rattle.mega_durable.specs.of_core.of_stepping.Notes.{met_of};
 ghost use Rattle.mega_promises.specs.Runs.{appends};
 ghost use Rattle.mega_durable.specs.Compacting.{AtEachUp, IsToCompact};
-ghost use Rattle.mega_durable.specs.Cut.{LogWent, failed_by, log_failed_by};
+ghost use Rattle.mega_durable.specs.Cut.{LogProceeds, failed_by, log_failed_by};
 ghost use Rattle.mega_durable.specs.Spilling.{rows_in};
 ghost use Rattle.mega_durable.specs.Standing.{IsUp, records_in};
 ghost use Rattle.mega_durable.specs.Stepped.{AtEach};
@@ -77,8 +77,8 @@ impl<R: Records, V: Versions, H: QueueHandlers> Server<R, V, H> {
         ensures state { V.is_told ≡ true → OnOk result (AtEach R.Records V.version (H.meant self.old.handlers) self.old.up.node (event_of event) (λ h s node. IsUp R.Records V.version h self.new.up.node (step s node (event_of event)).node)) }
         ensures appended { V.is_told ≡ true → OnOk result (AtEach R.Records V.version (H.meant self.old.handlers) self.old.up.node (event_of event) (λ h s node. R.count_of (records_in self.new.up.node) ≡ R.count_of (records_in self.old.up.node) + (if appends (step s node (event_of event)) then 1 else 0))) }
         ensures handlers { H.meant self.new.handlers ≡ H.meant self.old.handlers }
-        ensures went { LogWent R.Records (log_failed_by result) (records_in self.old.up.node) (records_in self.new.up.node) }
-        ensures fares { Fares V.Versions (failed_by result) self.old.up.node.replica.rows.rows self.new.up.node.replica.rows.rows }
+        ensures proceeds { LogProceeds R.Records (log_failed_by result) (records_in self.old.up.node) (records_in self.new.up.node) }
+        ensures used { StoreUsed V.Versions (failed_by result) self.old.up.node.replica.rows.rows self.new.up.node.replica.rows.rows }
         ensures members { self.new.up.node.replica.members ≡ self.old.up.node.replica.members }
         ensures number { self.new.number ≡ self.old.number }
         ensures me { self.new.up.node.replica.me ≡ self.old.up.node.replica.me }

@@ -25,12 +25,12 @@ use Rattle.mega_run_laws.specs.of_rules.of_read.Catching.{asked_by, denied, fall
 use Rattle.mega_run_laws.specs.of_rules.Members.{voters}
 use Rattle.mega_run_laws.specs.of_tape_laws.Places.{Took}
 use Rattle.mega_run_laws.specs.of_tape_laws.Lawful.{message}
-use Rattle.mega_run_laws.specs.Vouched.{Each, here}
+use Rattle.mega_run_laws.specs.Justified.{Each, here}
 use Rattle.mega_run_laws.proofs.Opened.{at_place}
 use Rattle.mega_run_laws.proofs.Reading.{who}
 use Rattle.mega_settled_laws.specs.Covering.{Earlier, has_asked_about}
 use Rattle.mega_settled_laws.proofs.Tapes.{Mine, asks_in, asks_map, joined_has, mine_map}
-use Rattle.mega_settled_laws.proofs.Rounds.{Knows, Went, completes_went, due_went, knows_on, takes_went, told_of}
+use Rattle.mega_settled_laws.proofs.Rounds.{Knows, Proceeds, completes_proceeds, due_proceeds, knows_on, takes_proceeds, told_of}
 
 abbrev pub SearchKnows : Cluster → List Item → OpId → GroupId → List ℕ → Option Search → Type 0
 SearchKnows c tape op group asked None = Unit {0}
@@ -80,7 +80,7 @@ pub asked_of : (r : Reading) (node : ℕ) → has node (asked_by r) ≡ false �
 asked_of r node h = asked_parts r.noted r.asked r.stage node h
 
 -- what a read leads to
-pub record ReadWent (c : Cluster) (tape : List Item) (op : OpId) (group : GroupId) (before was : List ℕ) (t : ReadMove) : Type 0 where
+pub record ReadProceeds (c : Cluster) (tape : List Item) (op : OpId) (group : GroupId) (before was : List ℕ) (t : ReadMove) : Type 0 where
   pub knows : StageKnows c tape op group (t.reading).asked (t.reading).stage
   pub told : (node : ℕ) → has node (t.reading).asked ≡ false → has node (told_stage (t.reading).stage) ≡ false → (has node before ≡ false) × (has node was ≡ false)
   pub silent : (node : ℕ) → has node (told_stage (t.reading).stage) ≡ false → asks_in t.sends op node ≡ false
@@ -93,28 +93,28 @@ module _ (c : Cluster) (tape : List Item) (op : OpId) (group : GroupId) where
 
     -- it sends nothing
     still_read : (told : List ℕ) (stage : Stage) → StageKnows c tape op group asked stage → ((node : ℕ) → has node (told_stage stage) ≡ false → has node told ≡ false)
-        → ReadWent c tape op group asked told (record { reading = at stage; sends = [] })
+        → ReadProceeds c tape op group asked told (record { reading = at stage; sends = [] })
     still_read told stage k more = record { knows = k; told = λ node a b. (a, more node b); silent = λ node h. refl; mine = tt }
 
     -- its round goes on
-    round_read : (told : List ℕ) (through position : ℕ) (t : RoundMove) → Went c tape op (at_place group position) asked told t
-        → ReadWent c tape op group asked told (record { reading = at (Catching through (Some (Filling position t.proposal))); sends = t.sends })
+    round_read : (told : List ℕ) (through position : ℕ) (t : RoundMove) → Proceeds c tape op (at_place group position) asked told t
+        → ReadProceeds c tape op group asked told (record { reading = at (Catching through (Some (Filling position t.proposal))); sends = t.sends })
     round_read told through position t w = record { knows = w.knows; told = λ node a b. (a, w.told node b); silent = w.silent; mine = w.mine }
 
-    fills_read : (stage : Stage) (through position now : ℕ) → ReadWent c tape op group asked [] (fills (who c op group) (at stage) through position now)
+    fills_read : (stage : Stage) (through position now : ℕ) → ReadProceeds c tape op group asked [] (fills (who c op group) (at stage) through position now)
     fills_read stage through position now = round_read [] through position (completes (here c op (at_place group position) asked) (no_op (who c op group)) now)
-        (completes_went c tape op (at_place group position) asked (no_op (who c op group)) now)
+        (completes_proceeds c tape op (at_place group position) asked (no_op (who c op group)) now)
 
-    read_if : (told : List ℕ) (t : Bool) (one other : ReadMove) → ReadWent c tape op group asked told one → ReadWent c tape op group asked told other → ReadWent c tape op group asked told (cond t one other)
+    read_if : (told : List ℕ) (t : Bool) (one other : ReadMove) → ReadProceeds c tape op group asked told one → ReadProceeds c tape op group asked told other → ReadProceeds c tape op group asked told (cond t one other)
     read_if told true one other h k = h
     read_if told false one other h k = k
 
-    topped_read : (from top : ℕ) (heard : List ℕ) (best sent : ℕ) → ReadWent c tape op group asked [] (topped (who c op group) (at (Polling heard best sent)) from top heard best sent)
+    topped_read : (from top : ℕ) (heard : List ℕ) (best sent : ℕ) → ReadProceeds c tape op group asked [] (topped (who c op group) (at (Polling heard best sent)) from top heard best sent)
     topped_read from top heard best sent =
         read_if [] (has from heard || not (has from (voters c))) _ _ (still_read [] (Polling heard best sent) tt (λ node h. refl))
         (read_if [] (is_majority (length (voters c)) (length heard + 1)) _ _ (still_read [] (Catching _ None) tt (λ node h. refl)) (still_read [] (Polling _ _ sent) tt (λ node h. refl)))
 
-    denied_read : (stage : Stage) (from through position : ℕ) (denials : List ℕ) (sent now : ℕ) → ReadWent c tape op group asked [] (denied (who c op group) (at stage) from through position denials sent now)
+    denied_read : (stage : Stage) (from through position : ℕ) (denials : List ℕ) (sent now : ℕ) → ReadProceeds c tape op group asked [] (denied (who c op group) (at stage) from through position denials sent now)
     denied_read stage from through position denials sent now =
         read_if [] (list_all (λ voter. has voter (with_node from denials)) (helpers (who c op group))) _ _ (fills_read stage through position now)
         (still_read [] (Catching through (Some (Fetching position (with_node from denials) sent))) tt (λ node h. refl))
@@ -123,7 +123,7 @@ module _ (c : Cluster) (tape : List Item) (op : OpId) (group : GroupId) where
     Silent stage = (node : ℕ) → has node asked ≡ false → has node (told_stage stage) ≡ false → has_asked_about tape op node ≡ false
 
     heard_read : (stage : Stage) (from now : ℕ) (body : Body) → StageKnows c tape op group asked stage → Silent stage → Took tape (message from op.node.0 body)
-        → ReadWent c tape op group asked (told_stage stage) (hears (who c op group) (at stage) from now body)
+        → ReadProceeds c tape op group asked (told_stage stage) (hears (who c op group) (at stage) from now body)
     heard_read (Polling heard best sent) from now (Top o g top) k still took =
         read_if [] (same_op op o && same_group group g) _ _ (topped_read from top.0 heard best sent) (still_read [] (Polling heard best sent) tt (λ node h. h))
     heard_read (Polling heard best sent) from now _ k still took = still_read [] (Polling heard best sent) tt (λ node h. h)
@@ -134,9 +134,9 @@ module _ (c : Cluster) (tape : List Item) (op : OpId) (group : GroupId) where
     heard_read (Catching through (Some (Fetching position denials sent))) from now _ k still took = still_read [] (Catching through (Some (Fetching position denials sent))) tt (λ node h. h)
     heard_read (Catching through (Some (Filling position proposal))) from now body k still took =
         round_read (told_of proposal.round) through position (takes (here c op (at_place group position) asked) proposal from now body)
-        (takes_went c tape op (at_place group position) asked proposal from now body k still took)
+        (takes_proceeds c tape op (at_place group position) asked proposal from now body k still took)
 
-    due_read : (stage : Stage) (retry now : ℕ) → StageKnows c tape op group asked stage → ReadWent c tape op group asked (told_stage stage) (falls_due (who c op group) (at stage) retry now)
+    due_read : (stage : Stage) (retry now : ℕ) → StageKnows c tape op group asked stage → ReadProceeds c tape op group asked (told_stage stage) (falls_due (who c op group) (at stage) retry now)
     due_read (Polling heard best sent) retry now k =
         read_if [] (is_due sent retry now) _ _
         (record {
@@ -149,14 +149,14 @@ module _ (c : Cluster) (tape : List Item) (op : OpId) (group : GroupId) where
     due_read (Catching through (Some (Fetching position denials sent))) retry now k =
         read_if [] (is_due sent retry now) _ _ (fills_read (Catching through (Some (Fetching position denials sent))) through position now) (still_read [] (Catching through (Some (Fetching position denials sent))) tt (λ node h. h))
     due_read (Catching through (Some (Filling position proposal))) retry now k =
-        round_read (told_of proposal.round) through position (due (here c op (at_place group position) asked) proposal retry now) (due_went c tape op (at_place group position) asked proposal retry now k)
+        round_read (told_of proposal.round) through position (due (here c op (at_place group position) asked) proposal retry now) (due_proceeds c tape op (at_place group position) asked proposal retry now k)
 
   pub hears_read : (r : Reading) (from now : ℕ) (body : Body) → StageKnows c tape op group r.asked r.stage
       → ((node : ℕ) → has node r.asked ≡ false → has node (told_stage r.stage) ≡ false → has_asked_about tape op node ≡ false) → Took tape (message from op.node.0 body)
-      → ReadWent c tape op group r.asked (told_stage r.stage) (hears (who c op group) r from now body)
+      → ReadProceeds c tape op group r.asked (told_stage r.stage) (hears (who c op group) r from now body)
   hears_read r from now body k still took = heard_read r.noted r.asked r.stage from now body k still took
 
-  pub falls_due_read : (r : Reading) (retry now : ℕ) → StageKnows c tape op group r.asked r.stage → ReadWent c tape op group r.asked (told_stage r.stage) (falls_due (who c op group) r retry now)
+  pub falls_due_read : (r : Reading) (retry now : ℕ) → StageKnows c tape op group r.asked r.stage → ReadProceeds c tape op group r.asked (told_stage r.stage) (falls_due (who c op group) r retry now)
   falls_due_read r retry now k = due_read r.noted r.asked r.stage retry now k
 
   -- ---- the next position
@@ -165,7 +165,7 @@ module _ (c : Cluster) (tape : List Item) (op : OpId) (group : GroupId) where
   fetched_by r through position now [] = fills (who c op group) r through position now
   fetched_by r through position now (voter ∷ nodes) = move r (Catching through (Some (Fetching position [] now))) (map (fetch_to (who c op group) position) (voter ∷ nodes))
 
-  fetched_read : (noted : Option Epoch) (asked : List ℕ) (stage : Stage) (through position now : ℕ) (nodes : List ℕ) → ReadWent c tape op group asked [] (fetched_by (record { noted = noted; asked = asked; stage = stage }) through position now nodes)
+  fetched_read : (noted : Option Epoch) (asked : List ℕ) (stage : Stage) (through position now : ℕ) (nodes : List ℕ) → ReadProceeds c tape op group asked [] (fetched_by (record { noted = noted; asked = asked; stage = stage }) through position now nodes)
   fetched_read noted asked stage through position now [] = fills_read noted asked stage through position now
   fetched_read noted asked stage through position now (voter ∷ nodes) = record {
     knows = tt;
@@ -175,26 +175,26 @@ module _ (c : Cluster) (tape : List Item) (op : OpId) (group : GroupId) where
   }
 
   -- of a read that asked the cells about more nodes
-  more_asked : (old told asked : List ℕ) (t : ReadMove) → ((node : ℕ) → has node asked ≡ false → (has node old ≡ false) × (has node told ≡ false)) → ReadWent c tape op group asked [] t → ReadWent c tape op group old told t
+  more_asked : (old told asked : List ℕ) (t : ReadMove) → ((node : ℕ) → has node asked ≡ false → (has node old ≡ false) × (has node told ≡ false)) → ReadProceeds c tape op group asked [] t → ReadProceeds c tape op group old told t
   more_asked old told asked t more w = record { knows = w.knows; told = λ node a b. more node (w.told node a b).0; silent = w.silent; mine = w.mine }
 
   sought_read : (noted : Option Epoch) (asked : List ℕ) (stage : Stage) (least now : ℕ) → StageKnows c tape op group asked stage
-      → ReadWent c tape op group asked (told_stage stage) (seeks (who c op group) (record { noted = noted; asked = asked; stage = stage }) least now)
+      → ReadProceeds c tape op group asked (told_stage stage) (seeks (who c op group) (record { noted = noted; asked = asked; stage = stage }) least now)
   sought_read noted asked (Polling heard best sent) least now k = still_read noted asked [] (Polling heard best sent) tt (λ node h. h)
   sought_read noted asked (Catching through search) least now k =
       read_if noted asked (told_search search) (is_position least (searched search)) _ _ (still_read noted asked (told_search search) (Catching through search) k (λ node h. h))
       (more_asked asked (told_search search) (asked_by (record { noted = noted; asked = asked; stage = Catching through search })) _ (asked_parts noted asked (Catching through search))
       (fetched_read noted (asked_by (record { noted = noted; asked = asked; stage = Catching through search })) (Catching through search) through least now (helpers (who c op group))))
 
-  pub seeks_read : (r : Reading) (least now : ℕ) → StageKnows c tape op group r.asked r.stage → ReadWent c tape op group r.asked (told_stage r.stage) (seeks (who c op group) r least now)
+  pub seeks_read : (r : Reading) (least now : ℕ) → StageKnows c tape op group r.asked r.stage → ReadProceeds c tape op group r.asked (told_stage r.stage) (seeks (who c op group) r least now)
   seeks_read r least now k = sought_read r.noted r.asked r.stage least now k
 
   -- ---- beginnings
 
-  pub local_begun : (asked : List ℕ) (top : ℕ) → ReadWent c tape op group asked [] (local_read asked top)
+  pub local_begun : (asked : List ℕ) (top : ℕ) → ReadProceeds c tape op group asked [] (local_read asked top)
   local_begun asked top = still_read None asked [] (Catching top None) tt (λ node h. refl)
 
-  pub polled_begun : (noted : Option Epoch) (asked : List ℕ) (now : ℕ) → ReadWent c tape op group asked [] (polled_read (who c op group) noted asked now)
+  pub polled_begun : (noted : Option Epoch) (asked : List ℕ) (now : ℕ) → ReadProceeds c tape op group asked [] (polled_read (who c op group) noted asked now)
   polled_begun noted asked now = record {
     knows = tt;
     told = λ node a b. (a, refl);

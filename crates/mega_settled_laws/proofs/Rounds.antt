@@ -26,7 +26,7 @@ use Rattle.mega_run_laws.specs.of_rules.Members.{full_nodes, voters}
 use Rattle.mega_run_laws.specs.of_tape_laws.Places.{IsMajority, Place, Took, count}
 use Rattle.mega_run_laws.specs.of_tape_laws.Lawful.{Heard, message}
 use Rattle.mega_run_laws.proofs.of_tape_laws.Ballots.{clash, number_is, number_self}
-use Rattle.mega_run_laws.specs.Vouched.{Accepters, Each, here}
+use Rattle.mega_run_laws.specs.Justified.{Accepters, Each, here}
 use Rattle.mega_run_laws.proofs.Counted.{majority_is, none_accepted, one_more, with_one}
 use Rattle.mega_run_laws.proofs.Rounds.{ballot_is, here_is}
 use Rattle.mega_run_laws.proofs.Sending.{took_on}
@@ -87,7 +87,7 @@ told_of (Settled e told) = told
 told_of Waiting = []
 
 -- what a round leads to: what it knows, that the nodes about which it asks are those that it tells, and that all it sends is its own
-pub record Went (c : Cluster) (tape : List Item) (op : OpId) (p : Place) (asked was : List ℕ) (t : RoundMove) : Type 0 where
+pub record Proceeds (c : Cluster) (tape : List Item) (op : OpId) (p : Place) (asked was : List ℕ) (t : RoundMove) : Type 0 where
   pub knows : Knows c tape op p asked t.proposal.round
   pub told : (node : ℕ) → has node (told_of t.proposal.round) ≡ false → has node was ≡ false
   pub silent : (node : ℕ) → has node (told_of t.proposal.round) ≡ false → asks_in t.sends op node ≡ false
@@ -178,19 +178,19 @@ module _ (c : Cluster) (tape : List Item) (op : OpId) (p : Place) (asked : List 
   abbrev pub Still : Round → Type 0
   Still round = (node : ℕ) → has node asked ≡ false → has node (told_of round) ≡ false → has_asked_about tape op node ≡ false
 
-  still_went : (told : List ℕ) (proposal : Proposal) → Knows c tape op p asked proposal.round → ((node : ℕ) → has node (told_of proposal.round) ≡ false → has node told ≡ false)
-      → Went c tape op p asked told (record { proposal = proposal; sends = [] })
-  still_went told proposal k more = record { knows = k; told = more; silent = λ node h. refl; mine = tt }
+  still_proceeds : (told : List ℕ) (proposal : Proposal) → Knows c tape op p asked proposal.round → ((node : ℕ) → has node (told_of proposal.round) ≡ false → has node told ≡ false)
+      → Proceeds c tape op p asked told (record { proposal = proposal; sends = [] })
+  still_proceeds told proposal k more = record { knows = k; told = more; silent = λ node h. refl; mine = tt }
 
   -- ---- a new ballot
 
-  prepares_went : (told : List ℕ) (proposal : Proposal) (now : ℕ) → told ≡ [] → Went c tape op p asked told (prepares (here c op p asked) proposal now)
-  prepares_went told proposal now none = by (nat_le last_round proposal.seen)
+  prepares_proceeds : (told : List ℕ) (proposal : Proposal) (now : ℕ) → told ≡ [] → Proceeds c tape op p asked told (prepares (here c op p asked) proposal now)
+  prepares_proceeds told proposal now none = by (nat_le last_round proposal.seen)
     where
       nothing : (node : ℕ) → has node told ≡ false
       nothing node = ap (λ x. has node x) none
 
-      by : (t : Bool) → Went c tape op p asked told (cond t (record { proposal = record { own = proposal.own; seen = proposal.seen; round = Waiting }; sends = [] })
+      by : (t : Bool) → Proceeds c tape op p asked told (cond t (record { proposal = record { own = proposal.own; seen = proposal.seen; round = Waiting }; sends = [] })
           (record { proposal = record { own = proposal.own; seen = proposal.seen + 1; round = Preparing (next_ballot (here c op p asked) proposal) [] now }; sends = map (prepare_to (here c op p asked) (next_ballot (here c op p asked) proposal)) (voters c) }))
       by true = record { knows = tt; told = λ node h. nothing node; silent = λ node h. refl; mine = tt }
       by false = record {
@@ -241,15 +241,15 @@ module _ (c : Cluster) (tape : List Item) (op : OpId) (p : Place) (asked : List 
       by true most = covers_knows b e (first_cover voted) at (first_covers b e voted quiet a most)
       by false most = a
 
-  covering_went : (mine : Content) (seen : ℕ) (b : Ballot) (e : Content) (cover : Cover) (at : ℕ) (told : List ℕ) → told ≡ cover.told → Covers c tape op p asked b e cover
-      → Went c tape op p asked told (record { proposal = record { own = mine; seen = seen; round = covers (here c op p asked) b e cover at }; sends = [] })
-  covering_went mine seen b e cover at told same k =
-      still_went told (record { own = mine; seen = seen; round = covers (here c op p asked) b e cover at }) (covers_knows b e cover at k)
+  covering_proceeds : (mine : Content) (seen : ℕ) (b : Ballot) (e : Content) (cover : Cover) (at : ℕ) (told : List ℕ) → told ≡ cover.told → Covers c tape op p asked b e cover
+      → Proceeds c tape op p asked told (record { proposal = record { own = mine; seen = seen; round = covers (here c op p asked) b e cover at }; sends = [] })
+  covering_proceeds mine seen b e cover at told same k =
+      still_proceeds told (record { own = mine; seen = seen; round = covers (here c op p asked) b e cover at }) (covers_knows b e cover at k)
       (λ node h. ap (λ x. has node x) same ∙ covers_told b e cover at node h)
 
-  went_if : (told : List ℕ) (t : Bool) (one other : RoundMove) → (t ≡ true → Went c tape op p asked told one) → Went c tape op p asked told other → Went c tape op p asked told (cond t one other)
-  went_if told true one other h k = h refl
-  went_if told false one other h k = k
+  proceeds_if : (told : List ℕ) (t : Bool) (one other : RoundMove) → (t ≡ true → Proceeds c tape op p asked told one) → Proceeds c tape op p asked told other → Proceeds c tape op p asked told (cond t one other)
+  proceeds_if told true one other h k = h refl
+  proceeds_if told false one other h k = k
 
   -- ---- acceptances
 
@@ -264,10 +264,10 @@ module _ (c : Cluster) (tape : List Item) (op : OpId) (p : Place) (asked : List 
     abbrev at : Round → Proposal
     at round = record { own = mine; seen = seen; round = round }
 
-    accepted_went : (from now : ℕ) (b : Ballot) (e : Content) → Heard tape from op (Accepted op p.group p.position b e) → (round : Round) → Knows c tape op p asked round → Still round
-        → Went c tape op p asked (told_of round) (accepted (here c op p asked) (at round) from now b e)
-    accepted_went from now b e heard (Asking leader sent) k still =
-        went_if [] (from == leader && is_sent zero_ballot mine b e) (record {
+    accepted_proceeds : (from now : ℕ) (b : Ballot) (e : Content) → Heard tape from op (Accepted op p.group p.position b e) → (round : Round) → Knows c tape op p asked round → Still round
+        → Proceeds c tape op p asked (told_of round) (accepted (here c op p asked) (at round) from now b e)
+    accepted_proceeds from now b e heard (Asking leader sent) k still =
+        proceeds_if [] (from == leader && is_sent zero_ballot mine b e) (record {
           proposal = at (accepts (here c op p asked) zero_ballot mine (cond (has leader (voters c)) (leader ∷ []) []) now);
           sends = map (accept_to (here c op p asked) zero_ballot mine) (others leader (voters c));
         }) (stays (at (Asking leader sent))) (λ h.
@@ -280,20 +280,20 @@ module _ (c : Cluster) (tape : List Item) (op : OpId) (p : Place) (asked : List 
           told = λ node no_more. refl;
           silent = λ node no_more. asks_map (accept_to (here c op p asked) zero_ballot mine) op node (λ to. refl) (others leader (voters c));
           mine = mine_map op (accept_to (here c op p asked) zero_ballot mine) (λ to. record { from = refl; of = tt }) (others leader (voters c));
-        }) (still_went [] (at (Asking leader sent)) k (λ node h. h))
-    accepted_went from now b e heard (Accepting ballot entry voted sent) k still =
-        went_if [] (is_sent ballot entry b e && has from (voters c)) (record { proposal = at (accepts (here c op p asked) ballot entry (with_node from voted) sent); sends = [] }) (stays (at (Accepting ballot entry voted sent))) (λ h.
+        }) (still_proceeds [] (at (Asking leader sent)) k (λ node h. h))
+    accepted_proceeds from now b e heard (Accepting ballot entry voted sent) k still =
+        proceeds_if [] (is_sent ballot entry b e && has from (voters c)) (record { proposal = at (accepts (here c op p asked) ballot entry (with_node from voted) sent); sends = [] }) (stays (at (Accepting ballot entry voted sent))) (λ h.
         let outer = both (is_sent ballot entry b e) (has from (voters c)) h in
         let inner = both (same_ballot ballot b) (same_entry entry e) outer.0 in
-        still_went [] (at (accepts (here c op p asked) ballot entry (with_node from voted) sent))
+        still_proceeds [] (at (accepts (here c op p asked) ballot entry (with_node from voted) sent))
         (accepts_knows ballot entry (with_node from voted) sent (λ node no_other. still node no_other refl)
         (with_one c tape op p ballot entry from voted k (by_name from ballot b entry e (ballot_is ballot b inner.0) (same_entry_equal entry e inner.1) heard) outer.1))
-        (λ node no_more. refl)) (still_went [] (at (Accepting ballot entry voted sent)) k (λ node h. h))
-    accepted_went from now b e heard (Covering ballot entry cover sent) k still =
-        went_if cover.told (is_sent ballot entry b e && has from (voters c)) (record { proposal = at (covers (here c op p asked) ballot entry (with_accepted cover from) sent); sends = [] }) (stays (at (Covering ballot entry cover sent))) (λ h.
+        (λ node no_more. refl)) (still_proceeds [] (at (Accepting ballot entry voted sent)) k (λ node h. h))
+    accepted_proceeds from now b e heard (Covering ballot entry cover sent) k still =
+        proceeds_if cover.told (is_sent ballot entry b e && has from (voters c)) (record { proposal = at (covers (here c op p asked) ballot entry (with_accepted cover from) sent); sends = [] }) (stays (at (Covering ballot entry cover sent))) (λ h.
         let outer = both (is_sent ballot entry b e) (has from (voters c)) h in
         let inner = both (same_ballot ballot b) (same_entry entry e) outer.0 in
-        covering_went mine seen ballot entry (with_accepted cover from) sent cover.told refl (record {
+        covering_proceeds mine seen ballot entry (with_accepted cover from) sent cover.told refl (record {
           backed = k.backed;
           accepted = λ node is. elim (with_has from node cover.accepted is) [
             | inl old ↦ k.accepted node old
@@ -302,24 +302,24 @@ module _ (c : Cluster) (tape : List Item) (op : OpId) (p : Place) (asked : List 
           invalidated = k.invalidated;
           free = k.free;
           once = k.once;
-        })) (still_went cover.told (at (Covering ballot entry cover sent)) k (λ node h. h))
-    accepted_went from now b e heard (Preparing ballot reports sent) k still = still_went [] (at (Preparing ballot reports sent)) k (λ node h. h)
-    accepted_went from now b e heard (Settled entry told) k still = still_went told (at (Settled entry told)) k (λ node h. h)
-    accepted_went from now b e heard Waiting k still = still_went [] (at Waiting) k (λ node h. h)
+        })) (still_proceeds cover.told (at (Covering ballot entry cover sent)) k (λ node h. h))
+    accepted_proceeds from now b e heard (Preparing ballot reports sent) k still = still_proceeds [] (at (Preparing ballot reports sent)) k (λ node h. h)
+    accepted_proceeds from now b e heard (Settled entry told) k still = still_proceeds told (at (Settled entry told)) k (λ node h. h)
+    accepted_proceeds from now b e heard Waiting k still = still_proceeds [] (at Waiting) k (λ node h. h)
 
     -- ---- refusals and promises
 
-    refused_went : (now : ℕ) (round : Round) → Knows c tape op p asked round → Went c tape op p asked (told_of round) (refused (here c op p asked) (at round) now)
-    refused_went now (Asking leader sent) k = prepares_went [] (at (Asking leader sent)) now refl
-    refused_went now (Preparing ballot reports sent) k = still_went [] (at (Preparing ballot reports sent)) k (λ node h. h)
-    refused_went now (Accepting ballot entry voted sent) k = still_went [] (at (Accepting ballot entry voted sent)) k (λ node h. h)
-    refused_went now (Covering ballot entry cover sent) k = still_went cover.told (at (Covering ballot entry cover sent)) k (λ node h. h)
-    refused_went now (Settled entry told) k = still_went told (at (Settled entry told)) k (λ node h. h)
-    refused_went now Waiting k = still_went [] (at Waiting) k (λ node h. h)
+    refused_proceeds : (now : ℕ) (round : Round) → Knows c tape op p asked round → Proceeds c tape op p asked (told_of round) (refused (here c op p asked) (at round) now)
+    refused_proceeds now (Asking leader sent) k = prepares_proceeds [] (at (Asking leader sent)) now refl
+    refused_proceeds now (Preparing ballot reports sent) k = still_proceeds [] (at (Preparing ballot reports sent)) k (λ node h. h)
+    refused_proceeds now (Accepting ballot entry voted sent) k = still_proceeds [] (at (Accepting ballot entry voted sent)) k (λ node h. h)
+    refused_proceeds now (Covering ballot entry cover sent) k = still_proceeds cover.told (at (Covering ballot entry cover sent)) k (λ node h. h)
+    refused_proceeds now (Settled entry told) k = still_proceeds told (at (Settled entry told)) k (λ node h. h)
+    refused_proceeds now Waiting k = still_proceeds [] (at Waiting) k (λ node h. h)
 
-    proposes_went : (ballot : Ballot) (reports : List Report) (sent now : ℕ) (round : Round) → Went c tape op p asked [] (proposes (here c op p asked) (at round) ballot reports sent now)
-    proposes_went ballot reports sent now round =
-        went_if [] (is_majority (length (voters c)) (length reports)) (record {
+    proposes_proceeds : (ballot : Ballot) (reports : List Report) (sent now : ℕ) (round : Round) → Proceeds c tape op p asked [] (proposes (here c op p asked) (at round) ballot reports sent now)
+    proposes_proceeds ballot reports sent now round =
+        proceeds_if [] (is_majority (length (voters c)) (length reports)) (record {
           proposal = at (Accepting ballot (picked mine (greatest_vote reports)) [] now);
           sends = map (accept_to (here c op p asked) ballot (picked mine (greatest_vote reports))) (voters c);
         }) (record { proposal = at (Preparing ballot reports sent); sends = [] }) (λ h. record {
@@ -327,36 +327,36 @@ module _ (c : Cluster) (tape : List Item) (op : OpId) (p : Place) (asked : List 
           told = λ node no_more. refl;
           silent = λ node no_more. asks_map (accept_to (here c op p asked) ballot (picked mine (greatest_vote reports))) op node (λ to. refl) (voters c);
           mine = mine_map op (accept_to (here c op p asked) ballot (picked mine (greatest_vote reports))) (λ to. record { from = refl; of = tt }) (voters c);
-        }) (still_went [] (at (Preparing ballot reports sent)) tt (λ node h. h))
+        }) (still_proceeds [] (at (Preparing ballot reports sent)) tt (λ node h. h))
 
-    promised_went : (from now : ℕ) (b : Ballot) (vote : Option (Ballot × Content)) (round : Round) → Knows c tape op p asked round → Went c tape op p asked (told_of round) (promised (here c op p asked) (at round) from now b vote)
-    promised_went from now b vote (Preparing ballot reports sent) k =
-        went_if [] (same_ballot ballot b && has from (voters c) && not (list_any (λ (report : Report). report.voter == from) reports))
+    promised_proceeds : (from now : ℕ) (b : Ballot) (vote : Option (Ballot × Content)) (round : Round) → Knows c tape op p asked round → Proceeds c tape op p asked (told_of round) (promised (here c op p asked) (at round) from now b vote)
+    promised_proceeds from now b vote (Preparing ballot reports sent) k =
+        proceeds_if [] (same_ballot ballot b && has from (voters c) && not (list_any (λ (report : Report). report.voter == from) reports))
         (proposes (here c op p asked) (at (Preparing ballot reports sent)) ballot (reports ++ record { voter = from; vote = vote } ∷ []) sent now) (stays (at (Preparing ballot reports sent)))
-        (λ h. proposes_went ballot (reports ++ record { voter = from; vote = vote } ∷ []) sent now (Preparing ballot reports sent)) (still_went [] (at (Preparing ballot reports sent)) k (λ node h. h))
-    promised_went from now b vote (Asking leader sent) k = still_went [] (at (Asking leader sent)) k (λ node h. h)
-    promised_went from now b vote (Accepting ballot entry voted sent) k = still_went [] (at (Accepting ballot entry voted sent)) k (λ node h. h)
-    promised_went from now b vote (Covering ballot entry cover sent) k = still_went cover.told (at (Covering ballot entry cover sent)) k (λ node h. h)
-    promised_went from now b vote (Settled entry told) k = still_went told (at (Settled entry told)) k (λ node h. h)
-    promised_went from now b vote Waiting k = still_went [] (at Waiting) k (λ node h. h)
+        (λ h. proposes_proceeds ballot (reports ++ record { voter = from; vote = vote } ∷ []) sent now (Preparing ballot reports sent)) (still_proceeds [] (at (Preparing ballot reports sent)) k (λ node h. h))
+    promised_proceeds from now b vote (Asking leader sent) k = still_proceeds [] (at (Asking leader sent)) k (λ node h. h)
+    promised_proceeds from now b vote (Accepting ballot entry voted sent) k = still_proceeds [] (at (Accepting ballot entry voted sent)) k (λ node h. h)
+    promised_proceeds from now b vote (Covering ballot entry cover sent) k = still_proceeds cover.told (at (Covering ballot entry cover sent)) k (λ node h. h)
+    promised_proceeds from now b vote (Settled entry told) k = still_proceeds told (at (Settled entry told)) k (λ node h. h)
+    promised_proceeds from now b vote Waiting k = still_proceeds [] (at Waiting) k (λ node h. h)
 
     -- ---- answers to a covering
 
-    invalidated_went : (from : ℕ) → Heard tape from op (Invalidated op p.group p.position) → (round : Round) → Knows c tape op p asked round → Went c tape op p asked (told_of round) (invalidated (here c op p asked) (at round) from)
-    invalidated_went from heard (Covering ballot entry cover sent) k =
-        went_if cover.told (has from cover.told) (record { proposal = at (covers (here c op p asked) ballot entry (with_invalidated cover from) sent); sends = [] }) (stays (at (Covering ballot entry cover sent)))
-        (λ h. covering_went mine seen ballot entry (with_invalidated cover from) sent cover.told refl (record {
+    invalidated_proceeds : (from : ℕ) → Heard tape from op (Invalidated op p.group p.position) → (round : Round) → Knows c tape op p asked round → Proceeds c tape op p asked (told_of round) (invalidated (here c op p asked) (at round) from)
+    invalidated_proceeds from heard (Covering ballot entry cover sent) k =
+        proceeds_if cover.told (has from cover.told) (record { proposal = at (covers (here c op p asked) ballot entry (with_invalidated cover from) sent); sends = [] }) (stays (at (Covering ballot entry cover sent)))
+        (λ h. covering_proceeds mine seen ballot entry (with_invalidated cover from) sent cover.told refl (record {
           backed = k.backed;
           accepted = k.accepted;
           invalidated = λ node is. elim (with_has from node cover.invalidated is) [ inl old ↦ k.invalidated node old | inr same ↦ subst (λ v. Heard tape v op (Invalidated op p.group p.position)) same heard ];
           free = k.free;
           once = k.once;
-        })) (still_went cover.told (at (Covering ballot entry cover sent)) k (λ node h. h))
-    invalidated_went from heard (Asking leader sent) k = still_went [] (at (Asking leader sent)) k (λ node h. h)
-    invalidated_went from heard (Preparing ballot reports sent) k = still_went [] (at (Preparing ballot reports sent)) k (λ node h. h)
-    invalidated_went from heard (Accepting ballot entry voted sent) k = still_went [] (at (Accepting ballot entry voted sent)) k (λ node h. h)
-    invalidated_went from heard (Settled entry told) k = still_went told (at (Settled entry told)) k (λ node h. h)
-    invalidated_went from heard Waiting k = still_went [] (at Waiting) k (λ node h. h)
+        })) (still_proceeds cover.told (at (Covering ballot entry cover sent)) k (λ node h. h))
+    invalidated_proceeds from heard (Asking leader sent) k = still_proceeds [] (at (Asking leader sent)) k (λ node h. h)
+    invalidated_proceeds from heard (Preparing ballot reports sent) k = still_proceeds [] (at (Preparing ballot reports sent)) k (λ node h. h)
+    invalidated_proceeds from heard (Accepting ballot entry voted sent) k = still_proceeds [] (at (Accepting ballot entry voted sent)) k (λ node h. h)
+    invalidated_proceeds from heard (Settled entry told) k = still_proceeds told (at (Settled entry told)) k (λ node h. h)
+    invalidated_proceeds from heard Waiting k = still_proceeds [] (at Waiting) k (λ node h. h)
 
     with_covers : (b : Ballot) (e : Content) (cover : Cover) (cell node : ℕ) → FromCell c tape op cell node → Covers c tape op p asked b e cover → Covers c tape op p asked b e (with_cell cover (record { cell = cell; node = node }))
     with_covers b e cover cell node from k = record {
@@ -381,20 +381,20 @@ module _ (c : Cluster) (tape : List Item) (op : OpId) (p : Place) (asked : List 
         once_by true h = k.once
         once_by false h = once_push one cover.free k.once h
 
-    unheld_went : (cell node : ℕ) → Heard tape cell op (Unheld op cell (number node)) → (round : Round) → Knows c tape op p asked round → Went c tape op p asked (told_of round) (unheld (here c op p asked) (at round) cell node)
-    unheld_went cell node heard (Covering ballot entry cover sent) k =
-        went_if cover.told (nat_le cell c.cells && has node cover.told) (record { proposal = at (covers (here c op p asked) ballot entry (with_cell cover (record { cell = cell; node = node })) sent); sends = [] }) (stays (at (Covering ballot entry cover sent)))
-        (λ h. covering_went mine seen ballot entry (with_cell cover (record { cell = cell; node = node })) sent cover.told refl
+    unheld_proceeds : (cell node : ℕ) → Heard tape cell op (Unheld op cell (number node)) → (round : Round) → Knows c tape op p asked round → Proceeds c tape op p asked (told_of round) (unheld (here c op p asked) (at round) cell node)
+    unheld_proceeds cell node heard (Covering ballot entry cover sent) k =
+        proceeds_if cover.told (nat_le cell c.cells && has node cover.told) (record { proposal = at (covers (here c op p asked) ballot entry (with_cell cover (record { cell = cell; node = node })) sent); sends = [] }) (stays (at (Covering ballot entry cover sent)))
+        (λ h. covering_proceeds mine seen ballot entry (with_cell cover (record { cell = cell; node = node })) sent cover.told refl
         (with_covers ballot entry cover cell node (record { heard = heard; within = at_most cell c.cells (both (nat_le cell c.cells) (has node cover.told) h).0 }) k))
-        (still_went cover.told (at (Covering ballot entry cover sent)) k (λ node h. h))
+        (still_proceeds cover.told (at (Covering ballot entry cover sent)) k (λ node h. h))
       where
         at_most : (a b : ℕ) → nat_le a b ≡ true → a ≤ b
         at_most a b h = grind (arith, nat_tests)
-    unheld_went cell node heard (Asking leader sent) k = still_went [] (at (Asking leader sent)) k (λ node h. h)
-    unheld_went cell node heard (Preparing ballot reports sent) k = still_went [] (at (Preparing ballot reports sent)) k (λ node h. h)
-    unheld_went cell node heard (Accepting ballot entry voted sent) k = still_went [] (at (Accepting ballot entry voted sent)) k (λ node h. h)
-    unheld_went cell node heard (Settled entry told) k = still_went told (at (Settled entry told)) k (λ node h. h)
-    unheld_went cell node heard Waiting k = still_went [] (at Waiting) k (λ node h. h)
+    unheld_proceeds cell node heard (Asking leader sent) k = still_proceeds [] (at (Asking leader sent)) k (λ node h. h)
+    unheld_proceeds cell node heard (Preparing ballot reports sent) k = still_proceeds [] (at (Preparing ballot reports sent)) k (λ node h. h)
+    unheld_proceeds cell node heard (Accepting ballot entry voted sent) k = still_proceeds [] (at (Accepting ballot entry voted sent)) k (λ node h. h)
+    unheld_proceeds cell node heard (Settled entry told) k = still_proceeds told (at (Settled entry told)) k (λ node h. h)
+    unheld_proceeds cell node heard Waiting k = still_proceeds [] (at Waiting) k (λ node h. h)
 
     -- ---- a tick
 
@@ -414,8 +414,8 @@ module _ (c : Cluster) (tape : List Item) (op : OpId) (p : Place) (asked : List 
     mine_dead cells (other ∷ nodes) = each_both (Mine op) (map (dead_to (here c op p asked) other) cells) (flat_map (λ one. map (dead_to (here c op p asked) one) cells) nodes)
         (mine_map op (dead_to (here c op p asked) other) (λ cell. record { from = refl; of = refl }) cells) (mine_dead cells nodes)
 
-    tells_went : (b : Ballot) (e : Content) (cover : Cover) (sent now : ℕ) → Covers c tape op p asked b e cover → Went c tape op p asked cover.told (tells (here c op p asked) (at (Covering b e cover sent)) b e cover now)
-    tells_went b e cover sent now k = record {
+    tells_proceeds : (b : Ballot) (e : Content) (cover : Cover) (sent now : ℕ) → Covers c tape op p asked b e cover → Proceeds c tape op p asked cover.told (tells (here c op p asked) (at (Covering b e cover sent)) b e cover now)
+    tells_proceeds b e cover sent now k = record {
       knows = record { backed = k.backed; accepted = k.accepted; invalidated = k.invalidated; free = k.free; once = k.once };
       told = λ node h. (joined_has node cover.told (uncovered (here c op p asked) cover) h).0;
       silent = λ node h. asks_both (map (invalidate_to (here c op p asked)) (uncovered (here c op p asked) cover)) (flat_map (λ other. map (dead_to (here c op p asked) other) (cell_numbers (here c op p asked))) (uncovered (here c op p asked) cover)) op node
@@ -426,50 +426,50 @@ module _ (c : Cluster) (tape : List Item) (op : OpId) (p : Place) (asked : List 
           (mine_dead (cell_numbers (here c op p asked)) (uncovered (here c op p asked) cover));
     }
 
-    due_round : (retry now : ℕ) (round : Round) → Knows c tape op p asked round → Went c tape op p asked (told_of round) (due (here c op p asked) (at round) retry now)
-    due_round retry now (Asking leader sent) k = went_if [] (is_due sent retry now) (prepares (here c op p asked) (at (Asking leader sent)) now) (stays (at (Asking leader sent))) (λ h. prepares_went [] (at (Asking leader sent)) now refl) (still_went [] (at (Asking leader sent)) k (λ node h. h))
-    due_round retry now (Preparing ballot reports sent) k = went_if [] (is_due sent retry now) (prepares (here c op p asked) (at (Preparing ballot reports sent)) now) (stays (at (Preparing ballot reports sent))) (λ h. prepares_went [] (at (Preparing ballot reports sent)) now refl) (still_went [] (at (Preparing ballot reports sent)) k (λ node h. h))
-    due_round retry now (Accepting ballot entry voted sent) k = went_if [] (is_due sent retry now) (prepares (here c op p asked) (at (Accepting ballot entry voted sent)) now) (stays (at (Accepting ballot entry voted sent))) (λ h. prepares_went [] (at (Accepting ballot entry voted sent)) now refl) (still_went [] (at (Accepting ballot entry voted sent)) k (λ node h. h))
-    due_round retry now (Covering ballot entry cover sent) k = went_if cover.told (is_due sent retry now) (tells (here c op p asked) (at (Covering ballot entry cover sent)) ballot entry cover now) (stays (at (Covering ballot entry cover sent))) (λ h. tells_went ballot entry cover sent now k) (still_went cover.told (at (Covering ballot entry cover sent)) k (λ node h. h))
-    due_round retry now (Settled entry told) k = still_went told (at (Settled entry told)) k (λ node h. h)
-    due_round retry now Waiting k = still_went [] (at Waiting) k (λ node h. h)
+    due_round : (retry now : ℕ) (round : Round) → Knows c tape op p asked round → Proceeds c tape op p asked (told_of round) (due (here c op p asked) (at round) retry now)
+    due_round retry now (Asking leader sent) k = proceeds_if [] (is_due sent retry now) (prepares (here c op p asked) (at (Asking leader sent)) now) (stays (at (Asking leader sent))) (λ h. prepares_proceeds [] (at (Asking leader sent)) now refl) (still_proceeds [] (at (Asking leader sent)) k (λ node h. h))
+    due_round retry now (Preparing ballot reports sent) k = proceeds_if [] (is_due sent retry now) (prepares (here c op p asked) (at (Preparing ballot reports sent)) now) (stays (at (Preparing ballot reports sent))) (λ h. prepares_proceeds [] (at (Preparing ballot reports sent)) now refl) (still_proceeds [] (at (Preparing ballot reports sent)) k (λ node h. h))
+    due_round retry now (Accepting ballot entry voted sent) k = proceeds_if [] (is_due sent retry now) (prepares (here c op p asked) (at (Accepting ballot entry voted sent)) now) (stays (at (Accepting ballot entry voted sent))) (λ h. prepares_proceeds [] (at (Accepting ballot entry voted sent)) now refl) (still_proceeds [] (at (Accepting ballot entry voted sent)) k (λ node h. h))
+    due_round retry now (Covering ballot entry cover sent) k = proceeds_if cover.told (is_due sent retry now) (tells (here c op p asked) (at (Covering ballot entry cover sent)) ballot entry cover now) (stays (at (Covering ballot entry cover sent))) (λ h. tells_proceeds ballot entry cover sent now k) (still_proceeds cover.told (at (Covering ballot entry cover sent)) k (λ node h. h))
+    due_round retry now (Settled entry told) k = still_proceeds told (at (Settled entry told)) k (λ node h. h)
+    due_round retry now Waiting k = still_proceeds [] (at Waiting) k (λ node h. h)
 
-  pub due_went : (proposal : Proposal) (retry now : ℕ) → Knows c tape op p asked proposal.round → Went c tape op p asked (told_of proposal.round) (due (here c op p asked) proposal retry now)
-  due_went proposal retry now k = due_round proposal.own proposal.seen retry now proposal.round k
+  pub due_proceeds : (proposal : Proposal) (retry now : ℕ) → Knows c tape op p asked proposal.round → Proceeds c tape op p asked (told_of proposal.round) (due (here c op p asked) proposal retry now)
+  due_proceeds proposal retry now k = due_round proposal.own proposal.seen retry now proposal.round k
 
   -- ---- a message
 
-  pub takes_went : (proposal : Proposal) (from now : ℕ) (body : Body) → Knows c tape op p asked proposal.round → Still proposal.round → Took tape (message from op.node.0 body)
-      → Went c tape op p asked (told_of proposal.round) (takes (here c op p asked) proposal from now body)
-  takes_went proposal from now (Accepted o g n b e) k still took =
-      went_if (told_of proposal.round) (is_here (here c op p asked) o g n) _ (stays proposal) (λ h.
+  pub takes_proceeds : (proposal : Proposal) (from now : ℕ) (body : Body) → Knows c tape op p asked proposal.round → Still proposal.round → Took tape (message from op.node.0 body)
+      → Proceeds c tape op p asked (told_of proposal.round) (takes (here c op p asked) proposal from now body)
+  takes_proceeds proposal from now (Accepted o g n b e) k still took =
+      proceeds_if (told_of proposal.round) (is_here (here c op p asked) o g n) _ (stays proposal) (λ h.
       let place = here_is c op p asked o g n h in
-      accepted_went proposal.own (max proposal.seen b.round) from now b e (coe 0 1 (i. Took tape (message from op.node.0 (Accepted (place.0 i) (place.1 i).group (place.1 i).position b e))) took) proposal.round k still)
-      (still_went (told_of proposal.round) proposal k (λ node h. h))
-  takes_went proposal from now (Refused o g n b shown e) k still took =
-      went_if (told_of proposal.round) (is_here (here c op p asked) o g n) _ (stays proposal) (λ h. refused_went proposal.own (max proposal.seen (max b.round shown.round)) now proposal.round k) (still_went (told_of proposal.round) proposal k (λ node h. h))
-  takes_went proposal from now (Promise o g n b vote) k still took =
-      went_if (told_of proposal.round) (is_here (here c op p asked) o g n) _ (stays proposal) (λ h. promised_went proposal.own (max proposal.seen (max b.round (vote_round vote))) from now b vote proposal.round k) (still_went (told_of proposal.round) proposal k (λ node h. h))
-  takes_went proposal from now (Invalidated o g n) k still took =
-      went_if (told_of proposal.round) (is_here (here c op p asked) o g n) _ (stays proposal) (λ h.
+      accepted_proceeds proposal.own (max proposal.seen b.round) from now b e (coe 0 1 (i. Took tape (message from op.node.0 (Accepted (place.0 i) (place.1 i).group (place.1 i).position b e))) took) proposal.round k still)
+      (still_proceeds (told_of proposal.round) proposal k (λ node h. h))
+  takes_proceeds proposal from now (Refused o g n b shown e) k still took =
+      proceeds_if (told_of proposal.round) (is_here (here c op p asked) o g n) _ (stays proposal) (λ h. refused_proceeds proposal.own (max proposal.seen (max b.round shown.round)) now proposal.round k) (still_proceeds (told_of proposal.round) proposal k (λ node h. h))
+  takes_proceeds proposal from now (Promise o g n b vote) k still took =
+      proceeds_if (told_of proposal.round) (is_here (here c op p asked) o g n) _ (stays proposal) (λ h. promised_proceeds proposal.own (max proposal.seen (max b.round (vote_round vote))) from now b vote proposal.round k) (still_proceeds (told_of proposal.round) proposal k (λ node h. h))
+  takes_proceeds proposal from now (Invalidated o g n) k still took =
+      proceeds_if (told_of proposal.round) (is_here (here c op p asked) o g n) _ (stays proposal) (λ h.
       let place = here_is c op p asked o g n h in
-      invalidated_went proposal.own proposal.seen from (coe 0 1 (i. Took tape (message from op.node.0 (Invalidated (place.0 i) (place.1 i).group (place.1 i).position))) took) proposal.round k)
-      (still_went (told_of proposal.round) proposal k (λ node h. h))
-  takes_went proposal from now (Unheld o cell node) k still took =
-      went_if (told_of proposal.round) (same_op op o && from == cell) _ (stays proposal) (λ h.
+      invalidated_proceeds proposal.own proposal.seen from (coe 0 1 (i. Took tape (message from op.node.0 (Invalidated (place.0 i) (place.1 i).group (place.1 i).position))) took) proposal.round k)
+      (still_proceeds (told_of proposal.round) proposal k (λ node h. h))
+  takes_proceeds proposal from now (Unheld o cell node) k still took =
+      proceeds_if (told_of proposal.round) (same_op op o && from == cell) _ (stays proposal) (λ h.
       let parts = both (same_op op o) (from == cell) h in
-      unheld_went proposal.own proposal.seen cell node.0 (coe 0 1 (i. Took tape (message (number_is from cell parts.1 i) op.node.0 (Unheld (sym (same_op_equal op o parts.0) i) cell node))) took) proposal.round k)
-      (still_went (told_of proposal.round) proposal k (λ node h. h))
-  takes_went proposal from now (Accept o g n b e) k still took =
-      went_if (told_of proposal.round) (is_here (here c op p asked) o g n) _ (stays proposal) (λ h. still_went (told_of proposal.round) (record { own = proposal.own; seen = max proposal.seen b.round; round = proposal.round }) k (λ node h. h)) (still_went (told_of proposal.round) proposal k (λ node h. h))
-  takes_went proposal from now (Prepare o g n b) k still took =
-      went_if (told_of proposal.round) (is_here (here c op p asked) o g n) _ (stays proposal) (λ h. still_went (told_of proposal.round) (record { own = proposal.own; seen = max proposal.seen b.round; round = proposal.round }) k (λ node h. h)) (still_went (told_of proposal.round) proposal k (λ node h. h))
-  takes_went proposal from now _ k still took = still_went (told_of proposal.round) proposal k (λ node h. h)
+      unheld_proceeds proposal.own proposal.seen cell node.0 (coe 0 1 (i. Took tape (message (number_is from cell parts.1 i) op.node.0 (Unheld (sym (same_op_equal op o parts.0) i) cell node))) took) proposal.round k)
+      (still_proceeds (told_of proposal.round) proposal k (λ node h. h))
+  takes_proceeds proposal from now (Accept o g n b e) k still took =
+      proceeds_if (told_of proposal.round) (is_here (here c op p asked) o g n) _ (stays proposal) (λ h. still_proceeds (told_of proposal.round) (record { own = proposal.own; seen = max proposal.seen b.round; round = proposal.round }) k (λ node h. h)) (still_proceeds (told_of proposal.round) proposal k (λ node h. h))
+  takes_proceeds proposal from now (Prepare o g n b) k still took =
+      proceeds_if (told_of proposal.round) (is_here (here c op p asked) o g n) _ (stays proposal) (λ h. still_proceeds (told_of proposal.round) (record { own = proposal.own; seen = max proposal.seen b.round; round = proposal.round }) k (λ node h. h)) (still_proceeds (told_of proposal.round) proposal k (λ node h. h))
+  takes_proceeds proposal from now _ k still took = still_proceeds (told_of proposal.round) proposal k (λ node h. h)
 
   -- ---- beginnings
 
-  pub completes_went : (mine : Content) (now : ℕ) → Went c tape op p asked [] (completes (here c op p asked) mine now)
-  completes_went mine now = prepares_went [] (record { own = mine; seen = 0; round = Waiting }) now refl
+  pub completes_proceeds : (mine : Content) (now : ℕ) → Proceeds c tape op p asked [] (completes (here c op p asked) mine now)
+  completes_proceeds mine now = prepares_proceeds [] (record { own = mine; seen = 0; round = Waiting }) now refl
 
-  pub asks_went : (leader : ℕ) (mine : Content) (now : ℕ) → Went c tape op p asked [] (asks (here c op p asked) leader mine now)
-  asks_went leader mine now = record { knows = tt; told = λ node h. refl; silent = λ node h. refl; mine = (record { from = refl; of = tt }, tt) }
+  pub asks_proceeds : (leader : ℕ) (mine : Content) (now : ℕ) → Proceeds c tape op p asked [] (asks (here c op p asked) leader mine now)
+  asks_proceeds leader mine now = record { knows = tt; told = λ node h. refl; silent = λ node h. refl; mine = (record { from = refl; of = tt }, tt) }

@@ -31,7 +31,7 @@ use Rattle.mega_run_laws.specs.of_tape_laws.Lawful.{message}
 use Rattle.mega_run_laws.specs.of_tape_laws.Places.{Place}
 use Rattle.mega_run_laws.specs.of_tape_laws.Writes.{has_begun}
 use Rattle.mega_run_laws.proofs.of_tape_laws.Ballots.{clash, number_is, number_self}
-use Rattle.mega_run_laws.specs.Vouched.{Each, sent}
+use Rattle.mega_run_laws.specs.Justified.{Each, sent}
 use Rattle.mega_run_laws.proofs.Events.{IsPlain}
 use Rattle.mega_run_laws.proofs.Noted.{with_append, with_sent}
 use Rattle.mega_run_laws.proofs.Runs.{IsMark, Keeps, nobody, run_keeps, starts_plain}

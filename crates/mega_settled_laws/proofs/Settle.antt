@@ -36,7 +36,7 @@ use Rattle.mega_run_laws.specs.of_tape_laws.Places.{In, Place, Took, count}
 use Rattle.mega_run_laws.specs.of_tape_laws.Lawful.{message}
 use Rattle.mega_run_laws.proofs.of_tape_laws.Ballots.{number_is, number_self}
 use Rattle.mega_run_laws.proofs.of_tape_laws.Lists.{some_is}
-use Rattle.mega_run_laws.specs.Vouched.{Each, here}
+use Rattle.mega_run_laws.specs.Justified.{Each, here}
 use Rattle.mega_run_laws.proofs.Counted.{count_more, count_most, majority_is}
 use Rattle.mega_run_laws.proofs.Opened.{at_place}
 use Rattle.mega_settled_laws.specs.Covering.{HasSettled, IsCoveredSince, free, invalidated, voted}

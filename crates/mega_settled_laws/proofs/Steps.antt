@@ -39,7 +39,7 @@ use Rattle.mega_run_laws.specs.of_tape_laws.Places.{Took}
 use Rattle.mega_run_laws.specs.of_tape_laws.Writes.{has_begun}
 use Rattle.mega_run_laws.proofs.of_tape_laws.Ballots.{number_is}
 use Rattle.mega_run_laws.proofs.of_tape_laws.Lists.{some_is}
-use Rattle.mega_run_laws.specs.Vouched.{Each}
+use Rattle.mega_run_laws.specs.Justified.{Each}
 use Rattle.mega_run_laws.proofs.Events.{IsAnswer, IsPlain, apply_plain, lapses_plain, lease_plain, told_plain}
 use Rattle.mega_run_laws.proofs.Noting.{Lasts, all_act_it, begun_it as begun_noted, ticked_it}
 use Rattle.mega_run_laws.proofs.Opened.{at_place}

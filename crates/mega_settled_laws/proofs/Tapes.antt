@@ -21,7 +21,7 @@ use Rattle.mega_run_laws.specs.of_tape_laws.Lawful.{Lawful}
 use Rattle.mega_run_laws.specs.of_tape_laws.Polls.{ArePolls}
 use Rattle.mega_run_laws.specs.of_tape_laws.Writes.{AreWritten, Usage}
 use Rattle.mega_run_laws.proofs.of_tape_laws.Ballots.{number_is}
-use Rattle.mega_run_laws.specs.Vouched.{Each, sent}
+use Rattle.mega_run_laws.specs.Justified.{Each, sent}
 use Rattle.mega_run_laws.proofs.Sending.{Stood}
 use Rattle.mega_settled_laws.specs.Covering.{Earlier, asks_about, has_asked_about}
 

@@ -30,13 +30,13 @@ use Rattle.mega_run_laws.specs.of_rules.Steps.{Heard, acts_in_turn, all_act, doe
 use Rattle.mega_run_laws.specs.of_tape_laws.Places.{Took}
 use Rattle.mega_run_laws.specs.of_tape_laws.Lawful.{message}
 use Rattle.mega_run_laws.specs.of_tape_laws.Writes.{has_begun}
-use Rattle.mega_run_laws.specs.Vouched.{Each}
+use Rattle.mega_run_laws.specs.Justified.{Each}
 use Rattle.mega_run_laws.proofs.Opened.{at_place}
 use Rattle.mega_run_laws.proofs.Turns.{IsRising, each_on, each_push}
 use Rattle.mega_settled_laws.specs.Covering.{Earlier, asks_about, has_asked_about}
 use Rattle.mega_settled_laws.proofs.Tapes.{Mine, OfDead, asks_apart, asks_both, asks_in, each_both}
-use Rattle.mega_settled_laws.proofs.Rounds.{Knows, asks_went, due_went, knows_on, takes_went, told_of}
-use Rattle.mega_settled_laws.proofs.Reading.{ReadWent, StageKnows, asked_of, falls_due_read, hears_read, local_begun, polled_begun, seeks_read, stage_on, told_stage}
+use Rattle.mega_settled_laws.proofs.Rounds.{Knows, asks_proceeds, due_proceeds, knows_on, takes_proceeds, told_of}
+use Rattle.mega_settled_laws.proofs.Reading.{ReadProceeds, StageKnows, asked_of, falls_due_read, hears_read, local_begun, polled_begun, seeks_read, stage_on, told_stage}
 use Rattle.mega_settled_laws.proofs.Walk.{Walks, begun_it, goes_on_it}
 
 -- ---- what an operation knows
@@ -201,12 +201,12 @@ module _ (c : Cluster) (tape : List Item) (me : ℕ) where
     };
   }
 
-  acts_reads : (now : Now) (op : OpId) (before group : GroupId) (r : Reading) (t : ReadMove) → Acts c tape me now op (Reads before r) → ReadWent c tape op group r.asked (told_stage r.stage) t
+  acts_reads : (now : Now) (op : OpId) (before group : GroupId) (r : Reading) (t : ReadMove) → Acts c tape me now op (Reads before r) → ReadProceeds c tape op group r.asked (told_stage r.stage) t
       → Acts c tape me (sends_more now t.sends) op (Reads group t.reading)
   acts_reads now op before group r t a w = acts_sends now op (Reads before r) (Reads group t.reading) t.sends a w.knows w.told w.silent w.mine
 
   -- a read that begins after another
-  begun_read : (op : OpId) (group : GroupId) (r : Reading) (t : ReadMove) → ReadWent c tape op group (asked_by r) [] t → ReadWent c tape op group r.asked (told_stage r.stage) t
+  begun_read : (op : OpId) (group : GroupId) (r : Reading) (t : ReadMove) → ReadProceeds c tape op group (asked_by r) [] t → ReadProceeds c tape op group r.asked (told_stage r.stage) t
   begun_read op group r t w = record { knows = w.knows; told = λ node a b. asked_of r node (w.told node a b).0; silent = w.silent; mine = w.mine }
 
 -- an open operation of a node, on a tape
@@ -222,10 +222,10 @@ module _ (s : Setting) (tape : List Item) where
   abbrev ActedAt : OpId → Now → Type 0
   ActedAt op now = Acted s.cluster tape s.me (op.number + 1) now
 
-  begins_went : (now : Now) (o : Operation) (r : Reading) (group : GroupId) → ReadWent s.cluster tape o.id group (asked_by r) [] (read_begun s now o group (asked_by r))
-  begins_went now o r group = by (is_visited o group) (valid_at s.cluster now.met group)
+  begins_proceeds : (now : Now) (o : Operation) (r : Reading) (group : GroupId) → ReadProceeds s.cluster tape o.id group (asked_by r) [] (read_begun s now o group (asked_by r))
+  begins_proceeds now o r group = by (is_visited o group) (valid_at s.cluster now.met group)
     where
-      by : (t u : Bool) → ReadWent s.cluster tape o.id group (asked_by r) [] (cond {A = ReadMove} t (polled_read (reader_of s o.id group) None (asked_by r) (clock_of now.met))
+      by : (t u : Bool) → ReadProceeds s.cluster tape o.id group (asked_by r) [] (cond {A = ReadMove} t (polled_read (reader_of s o.id group) None (asked_by r) (clock_of now.met))
           (cond u (local_read (asked_by r) (top_of now.met group)) (polled_read (reader_of s o.id group) (serves_at s.cluster now.met) (asked_by r) (clock_of now.met))))
       by true u = polled_begun s.cluster tape o.id group None (asked_by r) (clock_of now.met)
       by false true = local_begun s.cluster tape o.id group (asked_by r) (top_of now.met group)
@@ -255,11 +255,11 @@ module _ (s : Setting) (tape : List Item) where
     seeks_it = λ now o group r least a. acts_reads s.cluster tape s.me now o.id group group r (seeks (reader_of s o.id group) r least (clock_of now.met)) a
         (seeks_read s.cluster tape o.id group r least (clock_of now.met) (a.knowing).knows);
     asks_it = λ now o group r n leader own promised a.
-        let w = asks_went s.cluster tape o.id (at_place group n) (asked_by r) leader own (clock_of now.met) in
+        let w = asks_proceeds s.cluster tape o.id (at_place group n) (asked_by r) leader own (clock_of now.met) in
         acts_sends s.cluster tape s.me now o.id (Reads group r) (Proposes group n (asked_by r) (asks (site (reader_of s o.id group) (asked_by r) n) leader own (clock_of now.met)).proposal promised)
         (asks (site (reader_of s o.id group) (asked_by r) n) leader own (clock_of now.met)).sends a w.knows (λ node b d. asked_of r node b) w.silent w.mine;
     visits_it = λ now o before r group message a. acts_reads s.cluster tape s.me now o.id before group r (read_begun s now o group (asked_by r)) a
-        (begun_read s.cluster tape s.me o.id group r (read_begun s now o group (asked_by r)) (begins_went now o r group));
+        (begun_read s.cluster tape s.me o.id group r (read_begun s now o group (asked_by r)) (begins_proceeds now o r group));
   }
 
   -- ---- one after another
@@ -320,7 +320,7 @@ module _ (s : Setting) (tape : List Item) where
         mine = w.mine;
       }
   heard_by clock m o (Proposes group n asked proposal promised) node begun k took =
-      let w = takes_went s.cluster tape o.id (at_place group n) asked proposal m.from clock m.body k.knows (λ other a b. (k.quiet other a b).0) took in record {
+      let w = takes_proceeds s.cluster tape o.id (at_place group n) asked proposal m.from clock m.body k.knows (λ other a b. (k.quiet other a b).0) took in record {
         node = node;
         begun = begun;
         knowing = record { knows = w.knows; quiet = λ other a b. ((k.quiet other a (w.told other b)).0, w.silent other b) };
@@ -340,7 +340,7 @@ module _ (s : Setting) (tape : List Item) where
         mine = w.mine;
       }
   due_by clock o (Proposes group n asked proposal promised) node begun k =
-      let w = due_went s.cluster tape o.id (at_place group n) asked proposal s.cluster.retry clock k.knows in record {
+      let w = due_proceeds s.cluster tape o.id (at_place group n) asked proposal s.cluster.retry clock k.knows in record {
         node = node;
         begun = begun;
         knowing = record { knows = w.knows; quiet = λ other a b. ((k.quiet other a (w.told other b)).0, w.silent other b) };

@@ -6,7 +6,7 @@ ghost use Rattle.mega_rules.specs.Members.{has_rows};
 ghost use Rattle.mega_rules.specs.Met.{Met};
 ghost use Rattle.mega_rules.specs.Operations.{Setting};
 ghost use Rattle.mega_rules.specs.Steps.{stored_after, portion_of};
-ghost use Rattle.mega_replica.specs.Faring.{Fares};
+ghost use Rattle.mega_replica.specs.Used.{StoreUsed};
 ghost use Rattle.mega_replica.specs.Following.{Follows, progress_at};
 ghost use Rattle.mega_proposing.specs.of_voter.Telling.{Tells};
 ghost use Rattle.mega_replica.specs.Applying.{after_portion};
@@ -22,7 +22,7 @@ use mega_replica::StoredRows;
 use std::alloc::Global;
 
 /// Stores a portion of the group of a decision, at a node that keeps rows.
-#[tactic(auto, using(mega_replica::proofs::Fared::fares_by_puts, mega_replica::proofs::Fared::fares_here))]
+#[tactic(auto, using(mega_replica::proofs::Using::used_by_puts, mega_replica::proofs::Using::used_here))]
 pub fn stores<R: Records, V: Versions>(
     alloc: Global,
     voter: &Voter<R>,
@@ -34,7 +34,7 @@ pub fn stores<R: Records, V: Versions>(
     ensures follows { OnOk result ((s : Setting) (met : List Met) (stored : Group → ℕ) → keeps ≡ has_rows s.cluster s.me → (keeps ≡ false → (group : Group) → stored group ≡ 0) → s.cluster.apply ≡ most → Tells voter.now.logs.kept met →
         Follows (V.version rows.old.rows) (progress_at rows.old.progress) (log_of met) stored →
         Follows (V.version rows.new.rows) (progress_at rows.new.progress) (log_of met) (stored_after s met stored found.now)) }
-    ensures fares { Fares V.Versions None rows.old.rows rows.new.rows }
+    ensures used { StoreUsed V.Versions None rows.old.rows rows.new.rows }
 {
     if !keeps {
         return Ok(());
@@ -49,7 +49,7 @@ pub fn stores<R: Records, V: Versions>(
 }
 
 /// Stores a portion of a group.
-#[tactic(auto, using(mega_replica::proofs::Fared::fares_by_puts))]
+#[tactic(auto, using(mega_replica::proofs::Using::used_by_puts))]
 fn store_portion<R: Records, V: Versions>(
     alloc: Global,
     voter: &Voter<R>,
@@ -60,7 +60,7 @@ fn store_portion<R: Records, V: Versions>(
     ensures follows { OnOk result ((met : List Met) (stored : Group → ℕ) → Tells voter.now.logs.kept met →
         Follows (V.version rows.old.rows) (progress_at rows.old.progress) (log_of met) stored →
         Follows (V.version rows.new.rows) (progress_at rows.new.progress) (log_of met) (stored_with stored group.now (after_portion most (log_of met group.now) (stored group.now)))) }
-    ensures fares { Fares V.Versions None rows.old.rows rows.new.rows }
+    ensures used { StoreUsed V.Versions None rows.old.rows rows.new.rows }
 {
     match rows.apply_some(alloc, group, &voter.logs, most) {
         Ok(()) => Ok(()),
@@ -69,7 +69,7 @@ fn store_portion<R: Records, V: Versions>(
 }
 
 /// Stores a portion of each of these groups, at a node that keeps rows: of all others all is stored.
-#[tactic(auto, using(mega_replica::proofs::Fared::fares_here, mega_replica::proofs::Fared::fares_then))]
+#[tactic(auto, using(mega_replica::proofs::Using::used_here, mega_replica::proofs::Using::used_then))]
 pub fn store_portions<R: Records, V: Versions>(
     alloc: Global,
     voter: &Voter<R>,
@@ -81,7 +81,7 @@ pub fn store_portions<R: Records, V: Versions>(
     ensures follows { OnOk result ((s : Setting) (met : List Met) (stored : Group → ℕ) → keeps ≡ has_rows s.cluster s.me → (keeps ≡ false → (group : Group) → stored group ≡ 0) → s.cluster.apply ≡ most → groups ≡ behind keeps met stored → Tells voter.now.logs.kept met →
         Follows (V.version rows.old.rows) (progress_at rows.old.progress) (log_of met) stored →
         Follows (V.version rows.new.rows) (progress_at rows.new.progress) (log_of met) (portion_of s met stored)) }
-    ensures fares { Fares V.Versions None rows.old.rows rows.new.rows }
+    ensures used { StoreUsed V.Versions None rows.old.rows rows.new.rows }
 {
     if !keeps {
         return Ok(());

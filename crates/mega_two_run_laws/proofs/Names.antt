@@ -5,7 +5,7 @@ use Rattle.mega_two_driver.specs.declared.two.Two.{Two}
 use Rattle.mega_two_driver.specs.Driver.{lost}
 use Rattle.mega_two_driver.proofs.Named.{loses_name, takes_name}
 use Rattle.mega_two_turns.specs.Messages.{reply_in}
-use Rattle.mega_two_turns.specs.Turns.{answered, driven, driving, heard, is_due, put_out, start, went_out}
+use Rattle.mega_two_turns.specs.Turns.{answered, driven, driving, heard, is_due, put_out, start, proceeds_out}
 
 goes_out : (patience now : ℕ) (at : Two) (token : ℕ) (since : Option ℕ) → (put_out patience now at token since).two.plan.name ≡ at.plan.name
 goes_out patience now at token None = refl
@@ -27,5 +27,5 @@ pub names_stay : (node patience : ℕ) (two : Two) (given : List (ℕ × Option 
 names_stay node patience two [] = refl
 names_stay node patience two (one ∷ before) =
     let d = driven node patience (start two) before in
-    let out = went_out patience d one.0 in
+    let out = proceeds_out patience d one.0 in
     comes_in node out.two out.token out.since one.1 ∙ goes_out patience one.0 d.two d.token d.since ∙ names_stay node patience two before

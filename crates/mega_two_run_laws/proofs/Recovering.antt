@@ -17,7 +17,7 @@ use Rattle.mega_two_driver.specs.Begins.{plan_of}
 use Rattle.mega_two_driver.specs.Driver.{is_recovering, learned, lost, moved_to, read_plan, stepped, taken, told_in, two_in}
 use Rattle.mega_two_driver_laws.specs.Runs.{run}
 use Rattle.mega_two_turns.specs.Messages.{reply_in}
-use Rattle.mega_two_turns.specs.Turns.{answered, driven, driving, heard, is_due, put_out, start, went_out}
+use Rattle.mega_two_turns.specs.Turns.{answered, driven, driving, heard, is_due, put_out, start, proceeds_out}
 use Rattle.mega_two_run_laws.specs.Tolds.{answers, lost_in, told_by, tolds}
 use Rattle.mega_two_run_laws.proofs.Plain.{stands, stays_plain}
 use Rattle.mega_two_run_laws.proofs.Turns.{loses, takes_plainly}
@@ -104,7 +104,7 @@ recovers : (node patience : ℕ) (two : Two) (given : List (ℕ × Option Datagr
 recovers node patience two [] begins = looks two [] begins (λ n. refl)
 recovers node patience two (one ∷ before) begins =
     let d = driven node patience (start two) before in
-    let out = went_out patience d one.0 in
+    let out = proceeds_out patience d one.0 in
     comes_in node out.two out.token out.since one.1 (lost_in patience one.0 d.since ++ tolds node patience (start two) before)
     (goes_out patience one.0 d.two d.token d.since (tolds node patience (start two) before) (recovers node patience two before begins))
 

@@ -14,7 +14,7 @@ use Rattle.mega_two_driver.specs.Rows.{plan_told}
 use Rattle.mega_two_driver.specs.Driver.{is_recovering, lost, read_plan, stepped, taken, told_in}
 use Rattle.mega_two_driver_laws.specs.Runs.{run}
 use Rattle.mega_two_turns.specs.Messages.{reply_in}
-use Rattle.mega_two_turns.specs.Turns.{answered, driven, driving, heard, is_due, put_out, start, went_out}
+use Rattle.mega_two_turns.specs.Turns.{answered, driven, driving, heard, is_due, put_out, start, proceeds_out}
 use Rattle.mega_two_run_laws.specs.Tolds.{answers, lost_in, told_by, tolds}
 use Rattle.mega_two_run_laws.proofs.Plain.{stays_plain}
 
@@ -60,7 +60,7 @@ turns : (node patience : ℕ) (two : Two) (given : List (ℕ × Option Datagram)
 turns node patience two [] begins = record { plan = refl; phase = begins; plain = ap is_recovering begins }
 turns node patience two (one ∷ before) begins =
     let d = driven node patience (start two) before in
-    let out = went_out patience d one.0 in
+    let out = proceeds_out patience d one.0 in
     comes_in node two out.two out.token out.since one.1 (lost_in patience one.0 d.since ++ tolds node patience (start two) before)
     (goes_out patience one.0 two d.two d.token d.since (tolds node patience (start two) before) (turns node patience two before begins))
 

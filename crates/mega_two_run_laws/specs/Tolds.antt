@@ -7,7 +7,7 @@ use Rattle.mega_two_driver.specs.declared.two.Two.{Two}
 use Rattle.mega_two_driver.specs.Driver.{told_in}
 use Rattle.mega_two_turns.specs.declared.driving.Driving.{Driving}
 use Rattle.mega_two_turns.specs.Messages.{reply_in}
-use Rattle.mega_two_turns.specs.Turns.{driven, is_due, went_out}
+use Rattle.mega_two_turns.specs.Turns.{driven, is_due, proceeds_out}
 
 abbrev pub lost_in : ℕ → ℕ → Option ℕ → List Told
 lost_in patience now None = []
@@ -24,7 +24,7 @@ answers node two token (Some since) got = told_by two (reply_in node token got)
 -- in one turn
 abbrev pub told_once : ℕ → ℕ → Driving → ℕ × Option Datagram → List Told → List Told
 told_once node patience d one before =
-    answers node (went_out patience d one.0).two (went_out patience d one.0).token (went_out patience d one.0).since one.1 ++ (lost_in patience one.0 d.since ++ before)
+    answers node (proceeds_out patience d one.0).two (proceeds_out patience d one.0).token (proceeds_out patience d one.0).since one.1 ++ (lost_in patience one.0 d.since ++ before)
 
 abbrev pub tolds : ℕ → ℕ → Driving → List (ℕ × Option Datagram) → List Told
 tolds node patience first [] = []

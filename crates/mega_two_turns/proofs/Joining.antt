@@ -3,7 +3,7 @@ use Rattle.std.proofs.Common.{◌≡◌, ℕ, List, [], ◌∷◌, ◌++◌, Non
 use Rattle.std.specs.Prelude.{OnOk, is_none, option_map}
 use Rattle.mega_link.specs.Datagrams.{Datagram, Gains}
 use Rattle.mega_two_turns.specs.declared.driving.Driving.{Driving}
-use Rattle.mega_two_turns.specs.Turns.{AreOpen, Drives, GainsAll, all_sent, came_in, driven, ending, sends, turned, went_out}
+use Rattle.mega_two_turns.specs.Turns.{AreOpen, Drives, GainsAll, all_sent, came_in, driven, ending, sends, turned, proceeds_out}
 
 gains_one : {A : Type 0} (old new : Option (List A)) (item : A) → Gains old new item → GainsAll old new (item ∷ [])
 gains_one (Some all) (Some more) item is = is
@@ -43,7 +43,7 @@ no_turns node patience first read taken sent = record {
 
 pub one_turn : (node patience : ℕ) (first mid last : Driving) (read more_read : Option (List ℕ)) (taken mid_taken more_taken : Option (List (Option Datagram))) (sent mid_sent more_sent : Option (List Datagram)) (now : ℕ) (got : Option Datagram)
     → is_none (ending first.two) ≡ true → Gains read more_read now → mid_taken ≡ taken → Gains mid_taken more_taken got → mid_sent ≡ option_map (λ all. all ++ sends node first) sent → more_sent ≡ mid_sent
-    → mid ≡ went_out patience first now → last ≡ came_in node mid got → Drives node patience first last read more_read taken more_taken sent more_sent ((now, got) ∷ [])
+    → mid ≡ proceeds_out patience first now → last ≡ came_in node mid got → Drives node patience first last read more_read taken more_taken sent more_sent ((now, got) ∷ [])
 one_turn node patience first mid last read more_read taken mid_taken more_taken sent mid_sent more_sent now got still reads kept receives sends same out come = record {
   readings = gains_one read more_read now reads;
   received = gains_one taken more_taken got (subst (λ (told : Option (List (Option Datagram))). Gains told more_taken got) kept receives);

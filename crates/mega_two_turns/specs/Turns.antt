@@ -49,8 +49,8 @@ heard node two token (Some since) got = answered two token since (reply_in node 
 
 -- ---- turns, the newest first: a reading of the clock, and what a receive gave
 
-abbrev pub went_out : ℕ → Driving → ℕ → Driving
-went_out patience d now = put_out patience now d.two d.token d.since
+abbrev pub proceeds_out : ℕ → Driving → ℕ → Driving
+proceeds_out patience d now = put_out patience now d.two d.token d.since
 
 abbrev pub came_in : ℕ → Driving → Option Datagram → Driving
 came_in node d got = heard node d.two d.token d.since got
@@ -59,7 +59,7 @@ abbrev pub sends : ℕ → Driving → List Datagram
 sends node d = sent_in node d.two d.token d.since
 
 abbrev pub turned : ℕ → ℕ → Driving → ℕ × Option Datagram → Driving
-turned node patience d one = came_in node (went_out patience d one.0) one.1
+turned node patience d one = came_in node (proceeds_out patience d one.0) one.1
 
 abbrev pub driven : ℕ → ℕ → Driving → List (ℕ × Option Datagram) → Driving
 driven node patience first [] = first

@@ -1,7 +1,7 @@
 //! A change as it is driven over a link: its present request is sent, and is answered or lost.
 ghost use Rattle.std.specs.Prelude.{◌≡◌, ◌+◌, ◌++◌, IfOk, OnOk, OnErr, None, Some, option_map};
 ghost use Rattle.mega_two_driver.specs.Driver.{asks, taken};
-ghost use Rattle.mega_two_turns.specs.Turns.{came_in, driving, is_due, requests, sends, start, went_out};
+ghost use Rattle.mega_two_turns.specs.Turns.{came_in, driving, is_due, requests, sends, start, proceeds_out};
 
 use crate::messages::{reply_from, request_text};
 use mega_base::{Bytes, NoMemory, NodeId};
@@ -78,7 +78,7 @@ impl Driving {
         now: u64,
         link: &mut L,
     ) -> Result<(), NoMemory>
-        ensures driven { OnOk result (self.new ≡ went_out patience self.old now) }
+        ensures driven { OnOk result (self.new ≡ proceeds_out patience self.old now) }
         ensures sent { OnOk result (L.sent link.new ≡ option_map (λ all. all ++ sends node self.old) (L.sent link.old)) }
         ensures kept { OnErr result (L.sent link.new ≡ L.sent link.old) }
         ensures taken { L.taken link.new ≡ L.taken link.old }
@@ -102,7 +102,7 @@ impl Driving {
     /// Takes the loss of a request that was sent then, where it is lost now.
     fn lose(&mut self, patience: u64, since: u64, now: u64)
         requires { self.old.since ≡ Some since }
-        ensures { self.new ≡ went_out patience self.old now }
+        ensures { self.new ≡ proceeds_out patience self.old now }
     {
         if is_due(patience, since, now) {
             let _done = self.two.lost();

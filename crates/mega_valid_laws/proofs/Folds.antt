@@ -13,7 +13,7 @@ use Rattle.mega_settled_laws.specs.of_tape_laws.of_promises.Runs.{breaks, with_i
 use Rattle.mega_settled_laws.specs.of_tape_laws.of_promises.of_rules.Met.{Met, Starts, Crashes, Ticks, Begins, Takes, Sends, Unsends, Grants, Lapses, Counts, Forgets, Serves, Loses, Validates, Invalidates, Decides, Applies, Answers}
 use Rattle.mega_settled_laws.specs.of_tape_laws.of_promises.of_rules.Operations.{Node}
 use Rattle.mega_settled_laws.specs.of_tape_laws.of_promises.of_rules.Steps.{onto}
-use Rattle.mega_settled_laws.specs.of_run_laws.Vouched.{sent}
+use Rattle.mega_settled_laws.specs.of_run_laws.Justified.{sent}
 use Rattle.mega_settled_laws.proofs.of_run_laws.Noted.{with_append}
 use Rattle.mega_valid_laws.specs.Leases.{serving_on, valid_on}
 use Rattle.mega_valid_laws.specs.Showing.{next_serving, next_valid, serving_met, valid_met}

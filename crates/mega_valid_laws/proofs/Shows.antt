@@ -18,7 +18,7 @@ use Rattle.mega_settled_laws.specs.of_tape_laws.of_promises.of_rules.Operations.
 use Rattle.mega_settled_laws.specs.of_tape_laws.of_promises.of_rules.Replies.{reply_to}
 use Rattle.mega_settled_laws.specs.of_tape_laws.of_promises.of_rules.Steps.{Begin, Decision, Event, Heard, Step, Take, Tick, crashed, first_settled, hears_message, if_new, news, onto, op_of, start, start_items, start_note, start_notes, step, taken, told_decision, told_notes}
 use Rattle.mega_settled_laws.proofs.of_tape_laws.Ballots.{number_is}
-use Rattle.mega_settled_laws.specs.of_run_laws.Vouched.{Each, sent}
+use Rattle.mega_settled_laws.specs.of_run_laws.Justified.{Each, sent}
 use Rattle.mega_settled_laws.proofs.of_run_laws.Events.{onto_append}
 use Rattle.mega_settled_laws.proofs.of_run_laws.Noted.{with_append, with_sent}
 use Rattle.mega_settled_laws.proofs.of_run_laws.Runs.{IsMark, Keeps, run_keeps}

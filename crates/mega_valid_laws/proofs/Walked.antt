@@ -30,7 +30,7 @@ use Rattle.mega_settled_laws.specs.of_tape_laws.of_promises.of_rules.Operations.
 use Rattle.mega_settled_laws.specs.of_tape_laws.of_promises.of_rules.Acting.{completes_read, ends, sends_more, validated_by}
 use Rattle.mega_settled_laws.specs.of_tape_laws.of_promises.of_rules.Steps.{Begin, Decision, Event, Heard, Step, Take, Tick, acts_in_turn, all_act, applied_at, apply_note, apply_notes, at_first, at_open, background, begin_step, decision_note, does_due, first_settled, hears_message, if_new, is_out, lapse_notes, last_answer, lease_notes, new_operation, news, onto, op_of, portion_of, refusal, step, stored_after, take_step, taken, tick_step, ticked, told_decision, told_notes, unless_refused}
 use Rattle.mega_settled_laws.specs.of_tape_laws.of_promises.of_rules.Replies.{reply_to}
-use Rattle.mega_settled_laws.specs.of_run_laws.Vouched.{Each}
+use Rattle.mega_settled_laws.specs.of_run_laws.Justified.{Each}
 use Rattle.mega_settled_laws.proofs.of_run_laws.Events.{IsAnswer, onto_append}
 use Rattle.mega_settled_laws.proofs.of_run_laws.Turns.{each_on}
 use Rattle.mega_settled_laws.proofs.Tapes.{each_both}

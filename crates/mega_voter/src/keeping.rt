@@ -9,7 +9,7 @@ ghost use Rattle.mega_wal.specs.Kept.{Represents};
 ghost use Rattle.mega_wal.specs.Records.{first_bad, flushed, history_of};
 ghost use Rattle.mega_rules.specs.Clock.{start_of};
 ghost use Rattle.mega_rules.specs.Met.{Met};
-ghost use Rattle.mega_voter.specs.Faring.{LogFares, SameStore, failed_by};
+ghost use Rattle.mega_voter.specs.Used.{LogUsed, SameStore, failed_by};
 ghost use Rattle.mega_voter.specs.Holding.{GoesOn, HoldsIf, HoldsMet, Recalls, starts_after};
 ghost use Rattle.mega_voter.specs.Telling.{Tells};
 
@@ -67,7 +67,7 @@ impl<R: Records> Voter<R> {
         ensures cut { R.by_four ≡ true → R.is_told ≡ true → result ≡ Err LogFault.DiskFault → (starts : ℕ) (before met : List Met) → HoldsMet (R.list self.old.logs.records) starts before → GoesOn self.old.logs.staged.items starts before met →
             HoldsIf (keeps_record (R.fuse_left self.old.logs.records) (R.fuse_image self.old.logs.records)) (R.list self.new.logs.records) self.old.logs.staged.items starts before met }
         ensures lowers { OnOk result (0 < length self.old.logs.staged.items → LowersBy 4 (R.fuse_left self.old.logs.records) (R.fuse_left self.new.logs.records)) }
-        ensures fares { LogFares R.Records (R.length_with self.old.logs.records (length (record_text self.old.logs.staged.items))) (failed_by result) self.old.logs.records self.new.logs.records }
+        ensures used { LogUsed R.Records (R.length_with self.old.logs.records (length (record_text self.old.logs.staged.items))) (failed_by result) self.old.logs.records self.new.logs.records }
     {
         match self.logs.flush(alloc) {
             Ok(()) => Ok(()),
@@ -108,7 +108,7 @@ impl<R: Records> Voter<R> {
         ensures counted { OnOk result (length (compacted_text self.old.logs.kept) < 2 ^ 32 → R.count_of self.new.logs.records ≡ 1) }
         ensures not_counted { OnErr result (R.count_of self.new.logs.records ≡ R.count_of self.old.logs.records) }
         ensures still_open { OnOk result (R.is_spent self.new.logs.records ≡ R.is_spent self.old.logs.records) }
-        ensures fares { LogFares R.Records (R.length_replaced self.old.logs.records (length (compacted_text self.old.logs.kept))) (failed_by result) self.old.logs.records self.new.logs.records }
+        ensures used { LogUsed R.Records (R.length_replaced self.old.logs.records (length (compacted_text self.old.logs.kept))) (failed_by result) self.old.logs.records self.new.logs.records }
     {
         self.logs.compact(alloc)
     }

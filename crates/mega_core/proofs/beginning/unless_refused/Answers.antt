@@ -6,11 +6,11 @@ use Rattle.mega_actions.specs.of_marks.AreMarked.{AreMarked, IsIndexed}
 use Rattle.mega_actions.specs.of_finishing.Faults.{failed_by}
 use Rattle.mega_actions.specs.IsAt.{IsAt}
 use Rattle.mega_core.specs.Beginning.{marks_unless}
-use Rattle.mega_core.proofs.Failing.{fares_apart}
+use Rattle.mega_core.proofs.Failing.{used_apart}
 use Rattle.mega_core.proofs.beginning.unless_refused.Goals as goal
 
-pub returns-in_err-does-in-Some-clause-fares : goal.returns-in_err-does-in-Some-clause-fares
-returns-in_err-does-in-Some-clause-fares g c = fares_apart g.V.Versions (failed_by c.from_residual.result) c.args.replica.now.rows.rows (search rules)
+pub returns-in_err-does-in-Some-clause-used : goal.returns-in_err-does-in-Some-clause-used
+returns-in_err-does-in-Some-clause-used g c = used_apart g.V.Versions (failed_by c.from_residual.result) c.args.replica.now.rows.rows (search rules)
 
 pub returns-in-None-clause-indexed : goal.returns-in-None-clause-indexed
 returns-in-None-clause-indexed g c =

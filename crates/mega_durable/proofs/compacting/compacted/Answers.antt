@@ -9,5 +9,5 @@ returns-then-not-is_due-clause-any_moment g c = λ seen ready met told holds.
     let records = c.args.logs.now.records in
     leaves_same g.R.Records records records (HoldsAll met) (g.met.R.Records.only records seen ready) (g.met.R.Records.only_now records) refl holds
 
-pub returns-then-not-is_due-clause-went : goal.returns-then-not-is_due-clause-went
-returns-then-not-is_due-clause-went g c = same_compacts g.R.Records c.args.logs.now.records
+pub returns-then-not-is_due-clause-proceeds : goal.returns-then-not-is_due-clause-proceeds
+returns-then-not-is_due-clause-proceeds g c = same_compacts g.R.Records c.args.logs.now.records

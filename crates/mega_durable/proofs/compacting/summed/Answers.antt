@@ -5,7 +5,7 @@ use Rattle.mega_wal.specs.declared.answers.LogFault.{LogFault}
 use Rattle.mega_wal.specs.Compaction.{compacted_text}
 use Rattle.mega_wal.specs.Items.{IsItem}
 use Rattle.mega_durable.specs.Compacting.{LogCompacts}
-use Rattle.mega_durable.proofs.Summing.{failed_went, held_format, summed_holds, summed_leaves}
+use Rattle.mega_durable.proofs.Summing.{failed_proceeds, held_format, summed_holds, summed_leaves}
 use Rattle.mega_durable.proofs.compacting.summed.Goals as goal
 
 pub returns-then-not-are_items-clause-formed : goal.returns-then-not-are_items-clause-formed
@@ -21,10 +21,10 @@ returns-clause-any_moment g c = λ seen ready.
     summed_leaves g.R.Records old.records c.sum_up.new.self.records old.kept (compacted_text old.kept) done.same done.read (done.any_moment seen ready) (λ least. (done.long least).0)
     (g.met.R.Records.only old.records seen ready) (g.met.R.Records.only_now old.records)
 
-pub returns-clause-went : goal.returns-clause-went
-returns-clause-went g c =
+pub returns-clause-proceeds : goal.returns-clause-proceeds
+returns-clause-proceeds g c =
     let old = c.args.logs.now in
     let new = c.sum_up.new.self.records in
     let done = c.in-Err-sum_up.ensures in
     subst (λ (one : Option LogFault). LogCompacts g.R.Records one old.records new) (sym c.not_compacted-in-Err-sum_up.ensures.cause)
-    (failed_went g.R.Records (length (compacted_text old.kept)) old.records new c.in-Err-sum_up.fault done.later done.may_burn done.by_fuse done.opened done.cause done.burns done.full done.unchanged done.spent done.idle done.good)
+    (failed_proceeds g.R.Records (length (compacted_text old.kept)) old.records new c.in-Err-sum_up.fault done.later done.may_burn done.by_fuse done.opened done.cause done.burns done.full done.unchanged done.spent done.idle done.good)

@@ -15,7 +15,7 @@ use Rattle.mega_core.specs.of_node_laws.Acted.{own_item}
 use Rattle.mega_core.specs.of_actions.of_proposing.Settings.{setting}
 use Rattle.mega_core.specs.Represents.{Represents}
 use Rattle.mega_promises.specs.Runs.{appends, owes, replies_in}
-use Rattle.mega_durable.specs.Cut.{IsCut, IsWhole, LogWent, MayLeave}
+use Rattle.mega_durable.specs.Cut.{IsCut, IsWhole, LogProceeds, MayLeave}
 use Rattle.mega_durable.specs.Standing.{records_in}
 use Rattle.mega_durable.proofs.Appending.{step_appends}
 use Rattle.mega_durable.proofs.Burning.{burnt_is, cut_holds, whole_is}
@@ -83,13 +83,13 @@ returns-in-Err-clause-cut g c = λ seen h s node event was stepped.
     subst (λ (one : _). LeavesOnly g.R.Records.moment g.R.Records.opened_since one new (MayLeave s node event)) stepped.same
     (leaves_weaker g.R.Records.moment g.R.Records.opened_since (records_in mid) new _ (MayLeave s node event) (λ found. left_by_record s node event staged found stepped.stages) leaves)
 
-pub returns-in-Ok-clause-went : goal.returns-in-Ok-clause-went
-returns-in-Ok-clause-went g c = (length (record_text c.args.node.now.replica.voter.logs.staged.items), c.in-Ok.ensures.fares)
+pub returns-in-Ok-clause-proceeds : goal.returns-in-Ok-clause-proceeds
+returns-in-Ok-clause-proceeds g c = (length (record_text c.args.node.now.replica.voter.logs.staged.items), c.in-Ok.ensures.used)
 
-pub returns-in-Err-clause-went : goal.returns-in-Err-clause-went
-returns-in-Err-clause-went g c =
+pub returns-in-Err-clause-proceeds : goal.returns-in-Err-clause-proceeds
+returns-in-Err-clause-proceeds g c =
     let staged = c.args.node.now.replica.voter.logs.staged.items in
-    subst (λ (one : Option LogFault). LogWent g.R.Records one (records_in c.args.node.now) c.flush.new.self.logs.records) (sym c.not_kept.ensures.cause) (length (record_text staged), c.in-Err.ensures.fares)
+    subst (λ (one : Option LogFault). LogProceeds g.R.Records one (records_in c.args.node.now) c.flush.new.self.logs.records) (sym c.not_kept.ensures.cause) (length (record_text staged), c.in-Err.ensures.used)
 
 pub returns-in-Ok-clause-whole : goal.returns-in-Ok-clause-whole
 returns-in-Ok-clause-whole g c = λ four h s node event was stepped.

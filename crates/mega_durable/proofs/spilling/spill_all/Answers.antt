@@ -2,14 +2,14 @@ use Rattle.std.proofs.Common.{◌≡◌, ◌⊎◌, ◌∙◌, ap, ◌≤◌, �
 use Rattle.mega_disk.specs.Images.{LeavesOnly}
 use Rattle.mega_disk.specs.VersionMaps.{IsSpilled}
 use Rattle.mega_durable.specs.Spilling.{marks_of}
-use Rattle.mega_durable.proofs.AfterSpill.{drops_none, fares_made, fares_short, spilled_not}
+use Rattle.mega_durable.proofs.AfterSpill.{drops_none, used_made, used_short, spilled_not}
 use Rattle.mega_durable.proofs.spilling.spill_all.Goals as goal
 
 pub returns-in-Err-clause-cut : goal.returns-in-Err-clause-cut
 returns-in-Err-clause-cut g c = λ told met stored keeps. spilled_not g.V.Versions c.args.rows.now.rows (marks_of met stored) (g.met.V.Versions.only_now c.args.rows.now.rows)
 
-pub returns-in-Err-clause-fares : goal.returns-in-Err-clause-fares
-returns-in-Err-clause-fares g c = fares_short g.V.Versions c.args.rows.now.rows
+pub returns-in-Err-clause-used : goal.returns-in-Err-clause-used
+returns-in-Err-clause-used g c = used_short g.V.Versions c.args.rows.now.rows
 
 pub returns-in-Ok-spill-clause-same : goal.returns-in-Ok-spill-clause-same
 returns-in-Ok-spill-clause-same g c = λ told none. drops_none _ _ _ none (c.in-Ok-spill.ensures.drops told)
@@ -47,12 +47,12 @@ pub returns-clause-full : goal.returns-clause-full
 returns-clause-full g c = λ n is met stored keeps.
     (c.in-Err-spill.ensures.too_long n is).0 ∙ ap (g.V.Versions.length_spilled c.args.rows.now.rows) (c.as_slice.ensures ∙ c.in-Ok.ensures met stored keeps)
 
-pub returns-in-Ok-spill-clause-fares : goal.returns-in-Ok-spill-clause-fares
-returns-in-Ok-spill-clause-fares g c =
+pub returns-in-Ok-spill-clause-used : goal.returns-in-Ok-spill-clause-used
+returns-in-Ok-spill-clause-used g c =
     let made = c.in-Ok-spill.ensures in
-    fares_made g.V.Versions (Ok tt) (g.V.Versions.length_spilled c.args.rows.now.rows c.as_slice.result.now) c.args.rows.now.rows c.spill.new.self made.later made.may_burn made.by_fuse made.cause made.too_long made.burns
+    used_made g.V.Versions (Ok tt) (g.V.Versions.length_spilled c.args.rows.now.rows c.as_slice.result.now) c.args.rows.now.rows c.spill.new.self made.later made.may_burn made.by_fuse made.cause made.too_long made.burns
 
-pub returns-clause-fares : goal.returns-clause-fares
-returns-clause-fares g c =
+pub returns-clause-used : goal.returns-clause-used
+returns-clause-used g c =
     let made = c.in-Err-spill.ensures in
-    fares_made g.V.Versions (Err c.in-Err-spill.error) (g.V.Versions.length_spilled c.args.rows.now.rows c.as_slice.result.now) c.args.rows.now.rows c.spill.new.self made.later made.may_burn made.by_fuse made.cause made.too_long made.burns
+    used_made g.V.Versions (Err c.in-Err-spill.error) (g.V.Versions.length_spilled c.args.rows.now.rows c.as_slice.result.now) c.args.rows.now.rows c.spill.new.self made.later made.may_burn made.by_fuse made.cause made.too_long made.burns

@@ -14,7 +14,7 @@ use Rattle.mega_replica.specs.Following.{progress_at}
 use Rattle.mega_voter.specs.Holding.{GoesOn, HoldsMet, starts_after}
 use Rattle.mega_core.specs.of_actions.of_proposing.Settings.{setting}
 use Rattle.mega_core.specs.Represents.{Represents}
-use Rattle.mega_durable.specs.Cut.{IsCutStart, IsWhole, LogWent, MayLeaveStart}
+use Rattle.mega_durable.specs.Cut.{IsCutStart, IsWhole, LogProceeds, MayLeaveStart}
 use Rattle.mega_durable.specs.Standing.{records_in}
 use Rattle.mega_durable.proofs.AtStart.{left_by_start, same_goes}
 use Rattle.mega_durable.proofs.Burning.{burnt_is, cut_start_holds, whole_is}
@@ -56,12 +56,12 @@ returns-in-Err-clause-cut g c = λ seen ready starts met few holds.
     (leaves_weaker g.R.Records.moment g.R.Records.opened_since (records_in c.args.made.node) c.flush.new.self.logs.records _ (MayLeaveStart starts met) (λ found. left_by_start starts met _ found c.requires.one few)
     (c.in-Err.ensures.any_moment seen ready starts met met holds (same_goes starts met _ c.requires.one few holds.later holds.honest)))
 
-pub returns-in-Ok-clause-went : goal.returns-in-Ok-clause-went
-returns-in-Ok-clause-went g c = (length (record_text c.args.made.node.replica.voter.logs.staged.items), c.in-Ok.ensures.fares)
+pub returns-in-Ok-clause-proceeds : goal.returns-in-Ok-clause-proceeds
+returns-in-Ok-clause-proceeds g c = (length (record_text c.args.made.node.replica.voter.logs.staged.items), c.in-Ok.ensures.used)
 
-pub returns-in-Err-clause-went : goal.returns-in-Err-clause-went
-returns-in-Err-clause-went g c =
-    subst (λ (one : _). LogWent g.R.Records (Some c.in-Err.fault) (records_in c.args.made.node) one) (sym c.into_records.ensures) (length (record_text c.args.made.node.replica.voter.logs.staged.items), c.in-Err.ensures.fares)
+pub returns-in-Err-clause-proceeds : goal.returns-in-Err-clause-proceeds
+returns-in-Err-clause-proceeds g c =
+    subst (λ (one : _). LogProceeds g.R.Records (Some c.in-Err.fault) (records_in c.args.made.node) one) (sym c.into_records.ensures) (length (record_text c.args.made.node.replica.voter.logs.staged.items), c.in-Err.ensures.used)
 
 pub returns-in-Ok-clause-whole : goal.returns-in-Ok-clause-whole
 returns-in-Ok-clause-whole g c = λ four.

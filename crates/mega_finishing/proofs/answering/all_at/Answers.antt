@@ -2,7 +2,7 @@ use Rattle.std.proofs.Common.{◌∙◌, sym, ap}
 use Rattle.mega_outcome.specs.declared.answer.Answer.TheVariants.{Read as ReadAnswer}
 use Rattle.mega_outcome.specs.Reads.{all_rows}
 use Rattle.mega_schema.specs.declared.schema.Schema.{Schema}
-use Rattle.mega_finishing.proofs.Refused.{fares_error, fares_looks}
+use Rattle.mega_finishing.proofs.Refused.{used_error, used_looks}
 use Rattle.mega_finishing.proofs.Shown.{all_shown}
 use Rattle.mega_finishing.proofs.answering.all_at.Goals as goal
 
@@ -16,11 +16,11 @@ returns-in-Ok-clause-exact g c told s seen listed same none shows =
 pub returns-in-Ok-clause-versions : goal.returns-in-Ok-clause-versions
 returns-in-Ok-clause-versions g c key p = λ i. c.in-Ok.ensures.looks.looked.versions i key p
 
-pub returns-in-Ok-clause-fares : goal.returns-in-Ok-clause-fares
-returns-in-Ok-clause-fares g c = fares_looks g.V.Versions _ c.args.rows.now c.read_all.new.rows c.in-Ok.ensures.looks
+pub returns-in-Ok-clause-used : goal.returns-in-Ok-clause-used
+returns-in-Ok-clause-used g c = used_looks g.V.Versions _ c.args.rows.now c.read_all.new.rows c.in-Ok.ensures.looks
 
 pub returns-in-Err-clause-versions : goal.returns-in-Err-clause-versions
 returns-in-Err-clause-versions g c key p = λ i. c.in-Err.ensures.looks.looked.versions i key p
 
-pub returns-in-Err-clause-fares : goal.returns-in-Err-clause-fares
-returns-in-Err-clause-fares g c = fares_error g.V.Versions c.in-Err.error c.fault_by.result c.args.rows.now c.read_all.new.rows c.fault_by.ensures.exact c.in-Err.ensures.looks
+pub returns-in-Err-clause-used : goal.returns-in-Err-clause-used
+returns-in-Err-clause-used g c = used_error g.V.Versions c.in-Err.error c.fault_by.result c.args.rows.now c.read_all.new.rows c.fault_by.ensures.exact c.in-Err.ensures.looks

@@ -3,7 +3,7 @@ use Rattle.mega_base.specs.declared.values.Value.{Value}
 use Rattle.mega_index.specs.Finding.{found_over}
 use Rattle.mega_rules.specs.Finding.{find_answer, mark_at}
 use Rattle.mega_finishing.proofs.Asked.{found_is}
-use Rattle.mega_finishing.proofs.Refused.{fares_error, fares_looks}
+use Rattle.mega_finishing.proofs.Refused.{used_error, used_looks}
 use Rattle.mega_finishing.proofs.finding.found_at.Goals as goal
 
 pub returns-in_ok-answer-in-Ok-clause-exact : goal.returns-in_ok-answer-in-Ok-clause-exact
@@ -16,11 +16,11 @@ returns-in_ok-answer-in-Ok-clause-exact g c told small listed of shows =
 pub returns-in_ok-answer-in-Ok-clause-versions : goal.returns-in_ok-answer-in-Ok-clause-versions
 returns-in_ok-answer-in-Ok-clause-versions g c key p = λ i. c.in-Ok.ensures.looks.looked.versions i key p
 
-pub returns-in_ok-answer-in-Ok-clause-fares : goal.returns-in_ok-answer-in-Ok-clause-fares
-returns-in_ok-answer-in-Ok-clause-fares g c = fares_looks g.V.Versions _ c.args.rows.now c.find_all.new.rows c.in-Ok.ensures.looks
+pub returns-in_ok-answer-in-Ok-clause-used : goal.returns-in_ok-answer-in-Ok-clause-used
+returns-in_ok-answer-in-Ok-clause-used g c = used_looks g.V.Versions _ c.args.rows.now c.find_all.new.rows c.in-Ok.ensures.looks
 
 pub returns-in-Err-clause-versions : goal.returns-in-Err-clause-versions
 returns-in-Err-clause-versions g c key p = λ i. c.in-Err.ensures.looks.looked.versions i key p
 
-pub returns-in-Err-clause-fares : goal.returns-in-Err-clause-fares
-returns-in-Err-clause-fares g c = fares_error g.V.Versions c.in-Err.error c.fault_by.result c.args.rows.now c.find_all.new.rows c.fault_by.ensures.exact c.in-Err.ensures.looks
+pub returns-in-Err-clause-used : goal.returns-in-Err-clause-used
+returns-in-Err-clause-used g c = used_error g.V.Versions c.in-Err.error c.fault_by.result c.args.rows.now c.find_all.new.rows c.fault_by.ensures.exact c.in-Err.ensures.looks

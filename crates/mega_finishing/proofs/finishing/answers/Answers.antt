@@ -6,8 +6,8 @@ use Rattle.mega_proposing.specs.Settings.{setting}
 use Rattle.mega_finishing.proofs.Going.{answers_by}
 use Rattle.mega_finishing.proofs.finishing.answers.Goals as goal
 
-pub returns-in-Ok-clause-deed : goal.returns-in-Ok-clause-deed
-returns-in-Ok-clause-deed g c told me h now again sees of =
+pub returns-in-Ok-clause-action : goal.returns-in-Ok-clause-action
+returns-in-Ok-clause-action g c told me h now again sees of =
     let reached = c.args.reached in
     let kept = reached.kept in
     let seen : Sees c.cluster.result.now.schema (g.V.Versions.version c.args.rows.now) reached.group reached.position now = subst (λ (cluster : Cluster). Sees cluster.schema (g.V.Versions.version c.args.rows.now) reached.group reached.position now) (sym c.cluster.ensures) sees in

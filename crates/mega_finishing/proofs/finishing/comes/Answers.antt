@@ -6,11 +6,11 @@ use Rattle.mega_proposing.specs.Settings.{setting}
 use Rattle.mega_finishing.proofs.Going.{goes_by, sees_comes}
 use Rattle.mega_finishing.proofs.finishing.comes.Goals as goal
 
-pub returns-in_ok-deed-in-Ok-clause-deed : goal.returns-in_ok-deed-in-Ok-clause-deed
-returns-in_ok-deed-in-Ok-clause-deed g c told me h now again tells clock sees of =
+pub returns-in_ok-action-in-Ok-clause-action : goal.returns-in_ok-action-in-Ok-clause-action
+returns-in_ok-action-in-Ok-clause-action g c told me h now again tells clock sees of =
     let reached = c.args.reached in
     let kept = reached.kept in
     let schema = c.args.members.now.schema in
-    c.in_ok-deed-in-Ok.ensures me h now tells clock
+    c.in_ok-action-in-Ok.ensures me h now tells clock
     ∙ sym (goes_by (setting c.args.members.now me h) again now reached.group reached.reading reached.position kept.id kept.began kept.visited kept.message kept.request c.in-Ok.came (sym c.is_limit.ensures.exact ∙ c.if-is_limit.false)
     (sym (sees_comes schema (g.V.Versions.version c.args.rows.now) reached.group reached.position now kept.request of sees) ∙ subst (λ (cluster : Cluster). comes cluster.schema kept.request (rows_at (g.V.Versions.version c.args.rows.now) reached.position) ≡ Some c.in-Ok.came) c.cluster.ensures (c.in-Ok.ensures.exact told)))

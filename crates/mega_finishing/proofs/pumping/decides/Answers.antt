@@ -9,7 +9,7 @@ use Rattle.mega_proposing.specs.Reaching.{operation_of}
 use Rattle.mega_proposing.specs.Settings.{setting}
 use Rattle.mega_finishing.proofs.Logged.{shows_log}
 use Rattle.mega_finishing.proofs.Serving.{enters_room, handles_room}
-use Rattle.mega_finishing.proofs.Refused.{fares_looks}
+use Rattle.mega_finishing.proofs.Refused.{used_looks}
 use Rattle.mega_finishing.proofs.pumping.decides.Goals as goal
 
 pub returns-then-is_entering-clause-own : goal.returns-then-is_entering-clause-own
@@ -47,5 +47,5 @@ returns-in-Ok-clause-own g c told me h progress leases now again means pump room
 pub returns-in-Ok-clause-versions : goal.returns-in-Ok-clause-versions
 returns-in-Ok-clause-versions g c key p = λ i. c.in-Ok.ensures.looks.looked.versions i key p
 
-pub returns-in-Ok-clause-fares : goal.returns-in-Ok-clause-fares
-returns-in-Ok-clause-fares g c = fares_looks g.V.Versions _ c.args.rows.now c.handles.new.rows c.in-Ok.ensures.looks
+pub returns-in-Ok-clause-used : goal.returns-in-Ok-clause-used
+returns-in-Ok-clause-used g c = used_looks g.V.Versions _ c.args.rows.now c.handles.new.rows c.in-Ok.ensures.looks

@@ -18,10 +18,10 @@ returns-in-Ends-clause-pumped g c me h now again stands noted =
     let reached = c.args.reached in
     c.ends.ensures now ∙ ap (own_by (is_entering reached.kept.request) (setting c.args.members.now me h) again now (operation_of reached) reached.group reached.reading reached.position) (sym c.in-Ends.is)
 
-pub returns-in_ok-deed-in-Proposes-clause-pumped : goal.returns-in_ok-deed-in-Proposes-clause-pumped
-returns-in_ok-deed-in-Proposes-clause-pumped g c me h now again stands noted =
+pub returns-in_ok-action-in-Proposes-clause-pumped : goal.returns-in_ok-action-in-Proposes-clause-pumped
+returns-in_ok-action-in-Proposes-clause-pumped g c me h now again stands noted =
     let reached = c.args.reached in
     let s = setting c.args.members.now me h in
-    c.in_ok-deed-in-Proposes.ensures me h now stands.tells (c.now-clock.ensures c.args.members.now me now.met stands.leased)
+    c.in_ok-action-in-Proposes.ensures me h now stands.tells (c.now-clock.ensures c.args.members.now me now.met stands.leased)
     ∙ ap (λ replies. proposes s now (operation_of reached) reached.group reached.reading reached.position c.in-Proposes.entry (Replies replies)) c.new.ensures
     ∙ ap (own_by (is_entering reached.kept.request) s again now (operation_of reached) reached.group reached.reading reached.position) (sym c.in-Proposes.is)

@@ -31,5 +31,5 @@ returns-in-Ok-clause-started g c = λ log found opened.
 pub returns-in-Err-clause-back : goal.returns-in-Err-clause-back
 returns-in-Err-clause-back g c =
     let one = c.in-Err.refused in
-    let back = mapped disk_of g.D.Disk.faults _ (start_stop one) (left_of one) (handed _ c.args.voter one (subst (λ voter. IsRefused _ voter one) c.new-down.ensures.voter c.in-Err.ensures.went)) in
+    let back = mapped disk_of g.D.Disk.faults _ (start_stop one) (left_of one) (handed _ c.args.voter one (subst (λ voter. IsRefused _ voter one) c.new-down.ensures.voter c.in-Err.ensures.proceeds)) in
     coe 0 1 (i. HandsBack g.D.Disk.faults (g.D.Disk.faults (disk_of c.args.voter.logs.records)) (sym c.handed_back.ensures.stop i) (sym c.handed_back.ensures.device i)) back

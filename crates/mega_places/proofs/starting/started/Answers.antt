@@ -18,4 +18,4 @@ returns-in-Err-Cut-clause-cut c fallen same starts owed met run is =
     cut_over c.args.cluster c.args.me c.args.down c.args.fuse c.args.owed starts owed met run c.in-Err-Cut.records fallen is (cc) burnt.burnt.short burnt.burnt.gone burnt.holds
 
 pub returns-in-Err-StartsFull-clause-limit : goal.returns-in-Err-StartsFull-clause-limit
-returns-in-Err-StartsFull-clause-limit c limit starts owed met run is = sym is.stands.recalls.counted ∙ (rw c.in-Err-StartsFull.field-0-is at c.in-Err-StartsFull.ensures.went).0
+returns-in-Err-StartsFull-clause-limit c limit starts owed met run is = sym is.stands.recalls.counted ∙ (rw c.in-Err-StartsFull.field-0-is at c.in-Err-StartsFull.ensures.proceeds).0

@@ -8,7 +8,7 @@ use Rattle.mega_transcript.specs.Tape.{newest}
 use Rattle.mega_shown_laws.specs.of_promises.Runs.{refusal}
 use Rattle.mega_world.specs.Stands.{StandsWith}
 use Rattle.mega_replay.specs.Running.{stood}
-use Rattle.mega_replay.proofs.Running.{sound, went}
+use Rattle.mega_replay.proofs.Running.{sound, proceeds}
 use Rattle.mega_replay.proofs.happening.happen.Goals as goal
 
 pub returns-in-Ok-clause-state : goal.returns-in-Ok-clause-state
@@ -18,7 +18,7 @@ returns-in-Ok-clause-state g c done events after =
     let line = c.args.line.now in
     let allowed = c.in-Ok.ensures.happens cluster (stood cluster events) after.here in
     let right = sound cluster done events number line c.args.event after.starts after.happen c.requires.spelled allowed c.requires.meant in
-    went cluster number line events c.args.event c.apply.new.self c.in-Ok.added.items c.requires.spelled allowed (c.in-Ok.ensures.state cluster built_in (stood cluster events) after.here right)
+    proceeds cluster number line events c.args.event c.apply.new.self c.in-Ok.added.items c.requires.spelled allowed (c.in-Ok.ensures.state cluster built_in (stood cluster events) after.here right)
     (c.in-Ok.ensures.tape cluster built_in (stood cluster events) after.here right) (subst (All HoldsItem) c.as_slice.ensures c.hold.ensures)
 
 pub hold-requires : goal.hold-requires

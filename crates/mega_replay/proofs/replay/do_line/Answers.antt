@@ -7,7 +7,7 @@ use Rattle.mega_replay.specs.Texts.{IsTallied, so_far}
 use Rattle.mega_schedule.specs.Events.{event_of}
 use Rattle.mega_replay.specs.declared.status.Stop.TheVariants.{Refused, Schedule, Limit}
 use Rattle.mega_replay.specs.Replaying.{IsRefused, IsPastLast}
-use Rattle.mega_replay.specs.Running.{Went, stood}
+use Rattle.mega_replay.specs.Running.{Proceeds, stood}
 use Rattle.mega_replay.proofs.Progress.{waits_front}
 use Rattle.mega_replay.proofs.Steps.{long_stops, stops_next}
 use Rattle.mega_replay.proofs.replay.do_line.Goals as goal
@@ -51,7 +51,7 @@ returns-in-Ok-tell-clause-step g c is =
     let schema = (c.args.cluster.now).schema in record {
       added = added;
       follows = c.in-Ok-Line.ensures.line (ap Ok c.in-Ok-Line.field-0-is);
-      went = λ done events after. subst (λ (line : List ℕ). Went c.args.cluster.now c.args.number line events c.take_line.new.world added) c.as_slice.ensures (c.in-Ok.ensures.state done events after);
+      proceeds = λ done events after. subst (λ (line : List ℕ). Proceeds c.args.cluster.now c.args.number line events c.take_line.new.world added) c.as_slice.ensures (c.in-Ok.ensures.state done events after);
       said = subst (λ (items : List Item). Writes (g.O.Sink.held c.args.out.now) (g.O.Sink.held c.tell.new.out) c.tell.new.waiting (c.args.waiting.now ++ so_far report schema items)) c.as_slice-2.ensures c.in-Ok-tell.ensures.text;
       tallied = λ items before. subst (λ (more : List Item). IsTallied report c.tell.new.tally (items ++ more)) c.as_slice-2.ensures (c.in-Ok-tell.ensures.tallied items before);
     }

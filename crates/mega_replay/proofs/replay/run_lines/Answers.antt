@@ -119,7 +119,7 @@ loop-count-preserved g c =
     let ran = c.loop-count.invariant.0 in
     let does = c.in-Ok-true.ensures.step done in (
       ran_on c.args.cluster.now (prepend_known c.args.reader.now (g.I.Source.left c.args.input.now)) (prepend_known c.loop-count.reader (g.I.Source.left c.loop-count.input)) (prepend_known c.do_line.new.reader (g.I.Source.left c.do_line.new.input)) c.loop-count.world c.do_line.new.world c.loop-count.count
-          c.do_line.new.line does.added _ _ ran does.follows (does.went ran.done ran.events ran.after)
+          c.do_line.new.line does.added _ _ ran does.follows (does.proceeds ran.done ran.events ran.after)
           (λ items so. (
             does.tallied items so.0,
             λ first before. written_on c.args.report (c.args.cluster.now).schema first (g.O.Sink.held c.loop-count.out) (g.O.Sink.held c.do_line.new.out) c.loop-count.waiting c.do_line.new.waiting items does.added (so.1 first before) does.said,

@@ -5,7 +5,7 @@ use Rattle.mega_transcript.specs.declared.item.Item.TheVariants.{Begin as BeginI
 use Rattle.mega_promises.specs.Served.{Asks, Noted, Served, Waiting}
 use Rattle.mega_serve.specs.Pages.{IsPage}
 use Rattle.mega_serve.specs.Replies.{waiting_of}
-use Rattle.mega_serve.specs.Turns.{Ended, Went, schema_of}
+use Rattle.mega_serve.specs.Turns.{Ended, Proceeds, schema_of}
 use Rattle.mega_serve.proofs.Ending.{no_wish}
 use Rattle.mega_serve.proofs.Stepped.{wished_asks}
 use Rattle.mega_serve.proofs.asking.begin.Goals as goal
@@ -21,7 +21,7 @@ returns-in-Ok-step-clause-gone g c = λ h now got serving page may.
     let op = c.next_op-op.result in
     let own = got ++ Noted (BeginItem op c.args.ask.text) ∷ [] in
     let begun = subst (λ (schema : Schema). IsPage schema c.await_begun.new.page own) c.schema.ensures (c.in-Ok.ensures.page got (subst (λ (schema : Schema). IsPage schema c.args.page got) (sym c.schema.ensures) page)) in
-    wished_asks (λ (end : Served). Went g.S.Steps h c.step.new.node c.step.new.waiting.items (schema_of g.S.Steps node) (g.O.Sink.held c.args.out.now) (g.O.Sink.held c.step.new.out) (g.L.Link.sent c.args.link.now) (g.L.Link.sent c.step.new.link) now end)
+    wished_asks (λ (end : Served). Proceeds g.S.Steps h c.step.new.node c.step.new.waiting.items (schema_of g.S.Steps node) (g.O.Sink.held c.args.out.now) (g.O.Sink.held c.step.new.out) (g.L.Link.sent c.args.link.now) (g.L.Link.sent c.step.new.link) now end)
     (g.S.Steps.members node) (g.S.Steps.me node) h now got c.args.client c.args.token c.args.ask.request c.args.ask.text op (map waiting_of c.await_begun.new.waiting.items) c.requires.named (c.next_op-op.ensures h now.node now.journal serving.at)
     (ap (map waiting_of) c.in-Ok.ensures.waiting ∙ map-append waiting_of c.args.waiting.now.items ((record { op = op; client = c.args.client; token = c.args.token }) ∷ []) ∙ ap (λ (front : List Waiting). front ++ (record { op = op; client = c.args.client; token = c.args.token }) ∷ []) serving.waits)
     (c.in-Ok-step.ensures.gone h now own serving.at begun may)

@@ -4,7 +4,7 @@ use Rattle.mega_wire.specs.declared.message.Message.{Message}
 use Rattle.mega_wire.specs.Messages.{message_at}
 use Rattle.mega_promises.specs.Served.{Got, given}
 use Rattle.mega_serve.specs.Lines.{peer_of}
-use Rattle.mega_serve.specs.Turns.{Ended, IfSome, Went, brought_by, schema_of, setting_of}
+use Rattle.mega_serve.specs.Turns.{Ended, IfSome, Proceeds, brought_by, schema_of, setting_of}
 use Rattle.mega_serve.specs.Wishes.{wish_of}
 use Rattle.mega_serve.proofs.Ending.{none_received}
 use Rattle.mega_serve.proofs.Failing.{however}
@@ -26,7 +26,7 @@ returns-in-Ok-take_if-clause-gone g c = λ h now serving may.
     let wish = wish_of (schema_of g.S.Steps node) (g.S.Steps.me node) in
     let peer = peer_of c.args.peer in
     let page = c.in_ok-got.ensures (schema_of g.S.Steps node) [] (c.new-page.ensures (schema_of g.S.Steps node)) in
-    subst (λ (read : Result Message ℕ). Went g.S.Steps h c.take_if.new.node c.take_if.new.waiting.items (schema_of g.S.Steps node) (g.O.Sink.held c.args.out.now) (g.O.Sink.held c.take_if.new.out) (g.L.Link.sent c.args.link.now) (g.L.Link.sent c.take_if.new.link) now
+    subst (λ (read : Result Message ℕ). Proceeds g.S.Steps h c.take_if.new.node c.take_if.new.waiting.items (schema_of g.S.Steps node) (g.O.Sink.held c.args.out.now) (g.O.Sink.held c.take_if.new.out) (g.L.Link.sent c.args.link.now) (g.L.Link.sent c.take_if.new.link) now
     (given (g.S.Steps.members node) (g.S.Steps.me node) wish h now (Got peer c.args.bytes.now ∷ []) peer read)) (sym c.in-Ok.ensures.exact)
     (c.in-Ok-take_if.ensures.gone h now (Got peer c.args.bytes.now ∷ []) serving page
     (subst (λ (read : Result Message ℕ). IfSome (g.S.Steps.may_happen (setting_of g.S.Steps node h) now.node) (brought_by (g.S.Steps.me node) wish peer read)) c.in-Ok.ensures.exact may))
@@ -49,7 +49,7 @@ returns-in-Ok-only_got-clause-gone g c = λ h now serving may.
     let peer = peer_of c.args.peer in
     let page = c.in_ok-got.ensures (schema_of g.S.Steps node) [] (c.new-page.ensures (schema_of g.S.Steps node)) in
     let exact = rw c.in-Err-Malformed.field-0-is at c.in-Err-Malformed.ensures.exact in
-    subst (λ (read : Result Message ℕ). Went g.S.Steps h node c.args.waiting.now.items (schema_of g.S.Steps node) (g.O.Sink.held c.args.out.now) (g.O.Sink.held c.only_got.new.out) (g.L.Link.sent c.args.link.now) (g.L.Link.sent c.only_got.new.link) now
+    subst (λ (read : Result Message ℕ). Proceeds g.S.Steps h node c.args.waiting.now.items (schema_of g.S.Steps node) (g.O.Sink.held c.args.out.now) (g.O.Sink.held c.only_got.new.out) (g.L.Link.sent c.args.link.now) (g.L.Link.sent c.only_got.new.link) now
     (given (g.S.Steps.members node) (g.S.Steps.me node) wish h now (Got peer c.args.bytes.now ∷ []) peer read)) (sym exact)
     (c.in-Ok-only_got.ensures.gone h now c.args.waiting.now.items (Got peer c.args.bytes.now ∷ []) serving page)
 

@@ -3,7 +3,7 @@ use Rattle.std.specs.Vec.Iter.{into_iter_items, into_iter_len}
 use Rattle.mega_base.specs.declared.names.GroupId.{GroupId}
 use Rattle.mega_rules.specs.Logs.{log_of}
 use Rattle.mega_replica.specs.Following.{Follows, progress_at}
-use Rattle.mega_replica.proofs.Fared.{fares_here, fares_then}
+use Rattle.mega_replica.proofs.Using.{used_here, used_then}
 use Rattle.mega_stepping.specs.Touching.{behind}
 use Rattle.mega_stepping.proofs.Left.{nothing_left, one_less}
 use Rattle.mega_stepping.proofs.Portions.{StoredSo, portion_bare, portion_is, stored_first, stored_next}
@@ -15,7 +15,7 @@ loop-group-init g c = record {
   all = λ met stored groups_are tells follows.
       subst (StoredSo (g.V.Versions.version c.args.rows.now.rows) (progress_at c.args.rows.now.progress) c.args.most met stored) (sym (c.into_iter-group-iterator.ensures.into_iter_gives.0 ∙ (c.into_vec-group-items.ensures ∙ (groups_are ∙ ap (λ t. behind t met stored) c.if-not-keeps.false))))
       (stored_first (g.V.Versions.version c.args.rows.now.rows) (progress_at c.args.rows.now.progress) c.args.most met stored follows);
-  fares = fares_here g.V.Versions c.args.rows.now.rows;
+  used = used_here g.V.Versions c.args.rows.now.rows;
 }
 
 pub loop-group-preserved : goal.loop-group-preserved
@@ -27,7 +27,7 @@ loop-group-preserved g c = record {
       stored_next (g.V.Versions.version old.rows) (progress_at old.progress) (g.V.Versions.version new.rows) (progress_at new.progress) c.args.most met stored c.in-Some.group (into_iter_items c.next.new.self)
       (λ counts. c.in_ok-store_portion.ensures.follows met counts tells)
       (subst (StoredSo (g.V.Versions.version old.rows) (progress_at old.progress) c.args.most met stored) c.in-Some.ensures.steps.0 (c.loop-group.invariant.all met stored groups_are tells follows));
-  fares = fares_then g.V.Versions None c.args.rows.now.rows c.loop-group.rows.rows c.store_portion.new.rows.rows c.loop-group.invariant.fares c.store_portion.ensures.fares;
+  used = used_then g.V.Versions None c.args.rows.now.rows c.loop-group.rows.rows c.store_portion.new.rows.rows c.loop-group.invariant.used c.store_portion.ensures.used;
 }
 
 pub returns-then-not-keeps-clause-follows : goal.returns-then-not-keeps-clause-follows

@@ -1,7 +1,7 @@
 use Rattle.std.proofs.Common.{None, rules, subst, sym}
 use Rattle.mega_meanings.proofs.Lasting.{means_still}
-use Rattle.mega_replica.specs.Faring.{Fares}
-use Rattle.mega_replica.proofs.Fared.{fares_then}
+use Rattle.mega_replica.specs.Used.{StoreUsed}
+use Rattle.mega_replica.proofs.Using.{used_then}
 use Rattle.mega_finishing.specs.of_voter.declared.voter.Voter.{Voter}
 use Rattle.mega_finishing.specs.of_voter.Telling.{Tells}
 use Rattle.mega_finishing.specs.Faults.{failed_by}
@@ -29,16 +29,16 @@ returns-in_ok-acts_again-in-Ok-Some-clause-work g c h now told means about at =
     (λ i. setting (c.acts_once.ensures.members i) (c.acts_once.ensures.me i) h) first
     (c.in_ok-acts_again-in-Ok-Some.ensures.acted h first.after now told (means_still _ _ h c.acts_once.ensures.handlers means) first.about tells first.stands)
 
-pub returns-in_ok-acts_again-in-Ok-Some-clause-fares : goal.returns-in_ok-acts_again-in-Ok-Some-clause-fares
-returns-in_ok-acts_again-in-Ok-Some-clause-fares g c =
-    fares_then g.V.Versions None c.args.self.now.rows.rows c.acts_once.new.self.rows.rows c.acts_again.new.self.rows.rows c.in-Ok-Some.ensures.fares c.in_ok-acts_again-in-Ok-Some.ensures.fares
+pub returns-in_ok-acts_again-in-Ok-Some-clause-used : goal.returns-in_ok-acts_again-in-Ok-Some-clause-used
+returns-in_ok-acts_again-in-Ok-Some-clause-used g c =
+    used_then g.V.Versions None c.args.self.now.rows.rows c.acts_once.new.self.rows.rows c.acts_again.new.self.rows.rows c.in-Ok-Some.ensures.used c.in_ok-acts_again-in-Ok-Some.ensures.used
 
-pub returns-in_err-acts_again-in-Ok-Some-clause-fares : goal.returns-in_err-acts_again-in-Ok-Some-clause-fares
-returns-in_err-acts_again-in-Ok-Some-clause-fares g c =
+pub returns-in_err-acts_again-in-Ok-Some-clause-used : goal.returns-in_err-acts_again-in-Ok-Some-clause-used
+returns-in_err-acts_again-in-Ok-Some-clause-used g c =
     let mid = c.acts_once.new.self.rows.rows in
     let new = c.acts_again.new.self.rows.rows in
-    let rest : Fares g.V.Versions (failed_by c.from_residual.result) mid new = search rules in
-    fares_then g.V.Versions (failed_by c.from_residual.result) c.args.self.now.rows.rows mid new c.in-Ok-Some.ensures.fares rest
+    let rest : StoreUsed g.V.Versions (failed_by c.from_residual.result) mid new = search rules in
+    used_then g.V.Versions (failed_by c.from_residual.result) c.args.self.now.rows.rows mid new c.in-Ok-Some.ensures.used rest
 
 pub returns-in-Ok-None-clause-state : goal.returns-in-Ok-None-clause-state
 returns-in-Ok-None-clause-state g c h now told means about at =

@@ -1,7 +1,7 @@
 use Rattle.std.proofs.Common.{◌≡◌, ◌∙◌, ◌-◌, ◌+◌, None, ap, arith, rules, sym}
 use Rattle.mega_meanings.proofs.Lasting.{means_still}
 use Rattle.mega_rules.specs.Acting.{acts_within, keeps}
-use Rattle.mega_replica.proofs.Fared.{fares_then}
+use Rattle.mega_replica.proofs.Using.{used_then}
 use Rattle.mega_finishing.specs.of_proposing.Settings.{setting}
 use Rattle.mega_actions.proofs.Turned.{no_turn, one_turn}
 use Rattle.mega_actions.proofs.replica.Replica.acts_within.Goals as goal
@@ -20,7 +20,7 @@ loop-turn-init g c = record {
   me = search rules;
   voter = search rules;
   indexed = search rules;
-  fares = search rules;
+  used = search rules;
   asked = search rules;
 }
 
@@ -48,7 +48,7 @@ loop-turn-preserved g c =
       me = c.acts_once.ensures.me ∙ loop.invariant.me;
       voter = c.acts_once.ensures.voter ∙ loop.invariant.voter;
       indexed = c.acts_once.ensures.indexed ∙ loop.invariant.indexed;
-      fares = fares_then g.V.Versions None before.rows.rows loop.self.rows.rows new.rows.rows loop.invariant.fares c.in-Ok-Some.ensures.fares;
+      used = used_then g.V.Versions None before.rows.rows loop.self.rows.rows new.rows.rows loop.invariant.used c.in-Ok-Some.ensures.used;
       asked = (rw c.in-Ok-Some.field-0-is at c.in-Ok-Some.ensures.asked) ∙ loop.invariant.asked;
     }
 
@@ -69,13 +69,13 @@ returns-in-Ok-None-clause-acted g c h now told means about at =
           ∙ inner.rule_is (acts_within (c.args.most - (loop._turn + 1)) s);
     }
 
-pub returns-in-Ok-None-clause-fares : goal.returns-in-Ok-None-clause-fares
-returns-in-Ok-None-clause-fares g c =
-    fares_then g.V.Versions None c.args.self.now.rows.rows c.loop-turn.self.rows.rows c.acts_once.new.self.rows.rows c.loop-turn.invariant.fares c.in-Ok-None.ensures.fares
+pub returns-in-Ok-None-clause-used : goal.returns-in-Ok-None-clause-used
+returns-in-Ok-None-clause-used g c =
+    used_then g.V.Versions None c.args.self.now.rows.rows c.loop-turn.self.rows.rows c.acts_once.new.self.rows.rows c.loop-turn.invariant.used c.in-Ok-None.ensures.used
 
-pub returns-in-Err-clause-fares : goal.returns-in-Err-clause-fares
-returns-in-Err-clause-fares g c =
-    fares_then g.V.Versions _ c.args.self.now.rows.rows c.loop-turn.self.rows.rows c.acts_once.new.self.rows.rows c.loop-turn.invariant.fares c.in-Err.ensures.fares
+pub returns-in-Err-clause-used : goal.returns-in-Err-clause-used
+returns-in-Err-clause-used g c =
+    used_then g.V.Versions _ c.args.self.now.rows.rows c.loop-turn.self.rows.rows c.acts_once.new.self.rows.rows c.loop-turn.invariant.used c.in-Err.ensures.used
 
 pub returns-clause-acted : goal.returns-clause-acted
 returns-clause-acted g c h now told means about at =

@@ -4,7 +4,7 @@ use Rattle.mega_handler.specs.Named.{Meanings}
 use Rattle.mega_meanings.specs.Means.{Means}
 use Rattle.mega_finishing.specs.of_node_laws.About.{IsAbout}
 use Rattle.mega_rules.specs.Operations.{Now}
-use Rattle.mega_replica.specs.Faring.{Fares}
+use Rattle.mega_replica.specs.Used.{StoreUsed}
 use Rattle.mega_actions.specs.IsAt.{IsAt, setting_of}
 use Rattle.mega_actions.proofs.Turned.{Goes}
 use Rattle.mega_actions.proofs.replica.Replica.acts_within.Given as goal
@@ -19,6 +19,6 @@ invariant-loop-turn g l = record {
   me : l.self.me ≡ l.initial.self.me;
   voter : l.self.voter ≡ l.initial.self.voter;
   indexed : l.self.indexed ≡ l.initial.self.indexed;
-  fares : Fares g.V.Versions None l.initial.self.rows.rows l.self.rows.rows;
+  used : StoreUsed g.V.Versions None l.initial.self.rows.rows l.self.rows.rows;
   asked : l.next.request ≡ l.initial.next.request;
 }

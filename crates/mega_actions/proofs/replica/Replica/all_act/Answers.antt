@@ -4,8 +4,8 @@ use Rattle.std.specs.Vec.Iter.{into_iter_items}
 use Rattle.mega_meanings.proofs.Lasting.{means_still}
 use Rattle.mega_rules.specs.Operations.{Now}
 use Rattle.mega_rules.specs.Steps.{acts_in_turn}
-use Rattle.mega_replica.specs.Faring.{Fares}
-use Rattle.mega_replica.proofs.Fared.{fares_then}
+use Rattle.mega_replica.specs.Used.{StoreUsed}
+use Rattle.mega_replica.proofs.Using.{used_then}
 use Rattle.mega_finishing.specs.Faults.{failed_by}
 use Rattle.mega_actions.specs.IsAt.{IsAt}
 use Rattle.mega_finishing.specs.of_proposing.Settings.{setting}
@@ -36,17 +36,17 @@ loop-one-preserved g c =
       me = c.in_ok-acts_in_turn.ensures.me ∙ loop.invariant.me;
       voter = c.in_ok-acts_in_turn.ensures.voter ∙ loop.invariant.voter;
       indexed = c.in_ok-acts_in_turn.ensures.indexed ∙ loop.invariant.indexed;
-      fares = fares_then g.V.Versions None before.rows.rows loop.self.rows.rows new.rows.rows loop.invariant.fares c.in_ok-acts_in_turn.ensures.fares;
+      used = used_then g.V.Versions None before.rows.rows loop.self.rows.rows new.rows.rows loop.invariant.used c.in_ok-acts_in_turn.ensures.used;
       built = λ all. All-rest IsServableHeard one (into_iter_items c.next.new.self) (into_iter_items loop.one-iterator) c.in-Some.ensures.steps.0 (loop.invariant.built all);
     }
 
-pub returns-in_err-acts_in_turn-clause-fares : goal.returns-in_err-acts_in_turn-clause-fares
-returns-in_err-acts_in_turn-clause-fares g c =
+pub returns-in_err-acts_in_turn-clause-used : goal.returns-in_err-acts_in_turn-clause-used
+returns-in_err-acts_in_turn-clause-used g c =
     let before = c.args.self.now.rows.rows in
     let mid = c.loop-one.self.rows.rows in
     let new = c.acts_in_turn.new.self.rows.rows in
-    let rest : Fares g.V.Versions (failed_by c.from_residual.result) mid new = search rules in
-    fares_then g.V.Versions (failed_by c.from_residual.result) before mid new c.loop-one.invariant.fares rest
+    let rest : StoreUsed g.V.Versions (failed_by c.from_residual.result) mid new = search rules in
+    used_then g.V.Versions (failed_by c.from_residual.result) before mid new c.loop-one.invariant.used rest
 
 pub returns-in_err-acts_in_turn-clause-handlers : goal.returns-in_err-acts_in_turn-clause-handlers
 returns-in_err-acts_in_turn-clause-handlers g c = c.in_err-acts_in_turn.ensures.handlers ∙ c.loop-one.invariant.handlers

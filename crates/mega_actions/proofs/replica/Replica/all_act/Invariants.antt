@@ -5,7 +5,7 @@ use Rattle.mega_handler.specs.Named.{Meanings}
 use Rattle.mega_meanings.specs.Means.{Means}
 use Rattle.mega_rules.specs.Operations.{Now}
 use Rattle.mega_rules.specs.Steps.{acts_in_turn}
-use Rattle.mega_replica.specs.Faring.{Fares}
+use Rattle.mega_replica.specs.Used.{StoreUsed}
 use Rattle.mega_actions.specs.IsAt.{IsAt, setting_of}
 use Rattle.mega_actions.specs.Turns.{IsServableHeard, IsHeardAbout}
 use Rattle.mega_finishing.specs.of_proposing.Working.{work_of}
@@ -25,6 +25,6 @@ invariant-loop-one g l = record {
   me : l.self.me ≡ l.initial.self.me;
   voter : l.self.voter ≡ l.initial.self.voter;
   indexed : l.self.indexed ≡ l.initial.self.indexed;
-  fares : Fares g.V.Versions None l.initial.self.rows.rows l.self.rows.rows;
+  used : StoreUsed g.V.Versions None l.initial.self.rows.rows l.self.rows.rows;
   built : All IsServableHeard l.fn.heard → All IsServableHeard (into_iter_items l.one-iterator);
 }

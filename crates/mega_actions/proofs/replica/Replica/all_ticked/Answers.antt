@@ -5,8 +5,8 @@ use Rattle.mega_finishing.specs.of_node_laws.About.{IsAbout}
 use Rattle.mega_meanings.proofs.Lasting.{means_still}
 use Rattle.mega_rules.specs.Operations.{Now, Setting}
 use Rattle.mega_rules.specs.Steps.{ticked}
-use Rattle.mega_replica.specs.Faring.{Fares}
-use Rattle.mega_replica.proofs.Fared.{fares_then}
+use Rattle.mega_replica.specs.Used.{StoreUsed}
+use Rattle.mega_replica.proofs.Using.{used_then}
 use Rattle.mega_finishing.specs.Faults.{failed_by}
 use Rattle.mega_actions.specs.IsAt.{IsAt}
 use Rattle.mega_finishing.specs.of_proposing.Settings.{setting}
@@ -37,17 +37,17 @@ loop-operation-preserved g c =
       me = c.in_ok-ticked.ensures.me ∙ loop.invariant.me;
       voter = c.in_ok-ticked.ensures.voter ∙ loop.invariant.voter;
       indexed = c.in_ok-ticked.ensures.indexed ∙ loop.invariant.indexed;
-      fares = fares_then g.V.Versions None before.rows.rows loop.self.rows.rows new.rows.rows loop.invariant.fares c.in_ok-ticked.ensures.fares;
+      used = used_then g.V.Versions None before.rows.rows loop.self.rows.rows new.rows.rows loop.invariant.used c.in_ok-ticked.ensures.used;
       built = λ all. All-rest IsServable one (into_iter_items c.next.new.self) (into_iter_items loop.operation-iterator) c.in-Some.ensures.steps.0 (loop.invariant.built all);
     }
 
-pub returns-in_err-ticked-clause-fares : goal.returns-in_err-ticked-clause-fares
-returns-in_err-ticked-clause-fares g c =
+pub returns-in_err-ticked-clause-used : goal.returns-in_err-ticked-clause-used
+returns-in_err-ticked-clause-used g c =
     let before = c.args.self.now.rows.rows in
     let mid = c.loop-operation.self.rows.rows in
     let new = c.ticked.new.self.rows.rows in
-    let rest : Fares g.V.Versions (failed_by c.from_residual.result) mid new = search rules in
-    fares_then g.V.Versions (failed_by c.from_residual.result) before mid new c.loop-operation.invariant.fares rest
+    let rest : StoreUsed g.V.Versions (failed_by c.from_residual.result) mid new = search rules in
+    used_then g.V.Versions (failed_by c.from_residual.result) before mid new c.loop-operation.invariant.used rest
 
 pub returns-in_err-ticked-clause-handlers : goal.returns-in_err-ticked-clause-handlers
 returns-in_err-ticked-clause-handlers g c = c.in_err-ticked.ensures.handlers ∙ c.loop-operation.invariant.handlers

@@ -28,11 +28,11 @@ returns-in_ok-does-in-Done-clause-state g c h now told means pump at =
     ∙ (λ i. picks_by (sym c.is_entering-entering.ensures i) s (goes_on s) now (record { id = o.id; request = o.request; began = sym began i; visited = sym c.new-visited.ensures i; message = o.message; phase = o.phase }) (sym c.new-asked.ensures i))
     ∙ sym (c.in_ok-pumped.ensures.pumped before.me h now (goes_on s) o.phase at.stands at.noted)
     ∙ ap (pumped_by (goes_on s) now) c.in-Done.is in
-    let deed = c.in-Done.deed in
+    let action = c.in-Done.action in
     let digest = c.picks.new.digest in
     let noted = c.in_ok-pumped.ensures.noted now.met now.stored at.stands.tells at.stands.follows at.noted in
     subst (λ (then : Now). StandsAt s before.voter.logs.kept before.leases digest (g.V.Versions.version before.rows.rows) (progress_at before.rows.progress) then.met then.stored) (sym is)
-    (coe 0 1 (i. StandsAt s before.voter.logs.kept before.leases digest (g.V.Versions.version before.rows.rows) (progress_at before.rows.progress) (sym (does_met now deed) i) (sym (does_stored now deed) i))
+    (coe 0 1 (i. StandsAt s before.voter.logs.kept before.leases digest (g.V.Versions.version before.rows.rows) (progress_at before.rows.progress) (sym (does_met now action) i) (sym (does_stored now action) i))
     (record { stands = at.stands; noted = noted }))
 
 pub returns-in_ok-does-in-Done-clause-work : goal.returns-in_ok-does-in-Done-clause-work

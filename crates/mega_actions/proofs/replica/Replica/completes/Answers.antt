@@ -1,8 +1,8 @@
 use Rattle.std.proofs.Common.{None, rules}
 use Rattle.mega_rules.specs.Acting.{completes_read}
 use Rattle.mega_finishing.proofs.of_node_laws.Completed.{completed_applied}
-use Rattle.mega_replica.specs.Faring.{Fares}
-use Rattle.mega_replica.proofs.Fared.{fares_then}
+use Rattle.mega_replica.specs.Used.{StoreUsed}
+use Rattle.mega_replica.proofs.Using.{used_then}
 use Rattle.mega_finishing.specs.Faults.{failed_by}
 use Rattle.mega_finishing.specs.of_proposing.Settings.{setting}
 use Rattle.mega_actions.proofs.replica.Replica.completes.Goals as goal
@@ -23,13 +23,13 @@ returns-clause-acted g c h now told means of le at =
       rule_is = goes.rule_is;
     }
 
-pub returns-in_err-next-clause-fares : goal.returns-in_err-next-clause-fares
-returns-in_err-next-clause-fares g c =
+pub returns-in_err-next-clause-used : goal.returns-in_err-next-clause-used
+returns-in_err-next-clause-used g c =
     let before = c.args.self.now.rows.rows in
     let mid = c.reads_through.new.rows.rows in
     let new = c.goes_by.new.self.rows.rows in
-    let rest : Fares g.V.Versions (failed_by c.from_residual.result) mid new = search rules in
-    fares_then g.V.Versions (failed_by c.from_residual.result) before mid new c.in-Ok.ensures.fares rest
+    let rest : StoreUsed g.V.Versions (failed_by c.from_residual.result) mid new = search rules in
+    used_then g.V.Versions (failed_by c.from_residual.result) before mid new c.in-Ok.ensures.used rest
 
-pub returns-clause-fares : goal.returns-clause-fares
-returns-clause-fares g c = fares_then g.V.Versions None c.args.self.now.rows.rows c.reads_through.new.rows.rows c.goes_by.new.self.rows.rows c.in-Ok.ensures.fares c.in_ok-next.ensures.fares
+pub returns-clause-used : goal.returns-clause-used
+returns-clause-used g c = used_then g.V.Versions None c.args.self.now.rows.rows c.reads_through.new.rows.rows c.goes_by.new.self.rows.rows c.in-Ok.ensures.used c.in_ok-next.ensures.used

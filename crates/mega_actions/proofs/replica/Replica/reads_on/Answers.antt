@@ -62,7 +62,7 @@ returns-clause-acted g c h now told means of at =
       stands = at;
       work = λ was.
           c.in_ok-does-2.ensures now was
-          ∙ ap work_of (c.in_ok-deed.ensures before.me h now clock ∙ ap (λ q. seeks_on o now group (seeks (reader_of s kept.id group) reading (q + 1) (clock_of now.met))) prefix);
+          ∙ ap work_of (c.in_ok-action.ensures before.me h now clock ∙ ap (λ q. seeks_on o now group (seeks (reader_of s kept.id group) reading (q + 1) (clock_of now.met))) prefix);
       about = tt;
       rule_is = λ again. seeks_least s again now o group reading through (sym c.through_of.ensures ∙ c.in-Some.is) (sym (ap (nat_le through) prefix) ∙ sym c.is_reached.ensures.exact ∙ c.if-is_reached.false);
     }

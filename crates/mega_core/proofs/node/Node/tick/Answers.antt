@@ -5,7 +5,7 @@ use Rattle.mega_rules.specs.Members.{has_rows}
 use Rattle.mega_rules.specs.Met.{Ticks}
 use Rattle.mega_rules.specs.Steps.{Step as RuleStep, Tick, lapse_notes, lease_notes, portion_of}
 use Rattle.mega_replica.specs.Following.{progress_at}
-use Rattle.mega_replica.proofs.Fared.{fares_then}
+use Rattle.mega_replica.proofs.Using.{used_then}
 use Rattle.mega_actions.specs.of_node_laws.About.{IsAbout}
 use Rattle.mega_actions.specs.of_node_laws.Acted.{acted_on}
 use Rattle.mega_actions.specs.of_proposing.Settings.{setting}
@@ -32,9 +32,9 @@ returns-in_err-work-clause-built g c = λ is h node stands.
     let represents = stands.within in
     c.in_err-work.ensures.unserved (search (rules, unserved_is)) (subst (All IsServable) (sym c.replace-opened.ensures.value) represents.built)
 
-pub returns-in_err-work-clause-fares : goal.returns-in_err-work-clause-fares
-returns-in_err-work-clause-fares g c =
-    fares_then g.V.Versions (failed_by c.from_residual-in_err-work.result) c.args.self.now.replica.rows.rows c.ticks.new.replica.rows.rows c.acts_ticked.new.replica.rows.rows c.in_ok-made.ensures.fares (search (rules, acted_store))
+pub returns-in_err-work-clause-used : goal.returns-in_err-work-clause-used
+returns-in_err-work-clause-used g c =
+    used_then g.V.Versions (failed_by c.from_residual-in_err-work.result) c.args.self.now.replica.rows.rows c.ticks.new.replica.rows.rows c.acts_ticked.new.replica.rows.rows c.in_ok-made.ensures.used (search (rules, acted_store))
 
 pub returns-clause-notes : goal.returns-clause-notes
 returns-clause-notes g c = λ told h node means stands owned.

@@ -2,8 +2,8 @@ use Rattle.std.proofs.Common.{Err, ap, ◌∙◌, sym, subst}
 use Rattle.mega_core.specs.Faults.{of_store}
 use Rattle.mega_core.specs.declared.fault.StepFault.{StepFault}
 use Rattle.mega_durable.specs.declared.fault.UpFault.TheVariants.{Step as Failed}
-use Rattle.mega_durable.specs.Spilling.{SpillFares}
-use Rattle.mega_durable.proofs.AfterSpill.{bad_of, failed_same, fares_told, full_of, keeps_up, still_up}
+use Rattle.mega_durable.specs.Spilling.{SpillUsed}
+use Rattle.mega_durable.proofs.AfterSpill.{bad_of, failed_same, used_told, full_of, keeps_up, still_up}
 use Rattle.mega_durable.proofs.up.Up.spill.Goals as goal
 
 pub returns-in-Ok-clause-state : goal.returns-in-Ok-clause-state
@@ -33,8 +33,8 @@ returns-in-Err-clause-full g c = λ n is h node up.
 pub returns-in-Err-clause-bad : goal.returns-in-Err-clause-bad
 returns-in-Err-clause-bad g c = λ n is. c.in-Err.ensures.bad n (ap Err (bad_of c.in-Err.error n (sym c.step_fault.ensures ∙ failed_same is)))
 
-pub returns-in-Err-clause-fares : goal.returns-in-Err-clause-fares
-returns-in-Err-clause-fares g c =
+pub returns-in-Err-clause-used : goal.returns-in-Err-clause-used
+returns-in-Err-clause-used g c =
     let old = c.args.self.now.node.replica.rows.rows in
     let new = c.spilled.new.rows.rows in
-    subst (λ (fault : StepFault). SpillFares g.V.Versions (of_store fault) old new) (sym c.step_fault.ensures) (fares_told g.V.Versions c.in-Err.error old new c.in-Err.ensures.fares)
+    subst (λ (fault : StepFault). SpillUsed g.V.Versions (of_store fault) old new) (sym c.step_fault.ensures) (used_told g.V.Versions c.in-Err.error old new c.in-Err.ensures.used)

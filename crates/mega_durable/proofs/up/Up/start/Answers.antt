@@ -10,12 +10,12 @@ use Rattle.mega_core.specs.of_actions.of_proposing.Settings.{setting}
 use Rattle.mega_core.specs.of_stepping.declared.note.Note.{Note}
 use Rattle.mega_core.specs.of_stepping.Notes.{met_of}
 use Rattle.mega_core.proofs.Anew.{owed_no_start}
-use Rattle.mega_durable.specs.Cut.{IsCutStart, IsWhole, LogWent, MayLeaveStart}
+use Rattle.mega_durable.specs.Cut.{IsCutStart, IsWhole, LogProceeds, MayLeaveStart}
 use Rattle.mega_durable.specs.Starting.{IsCutOff, IsRefused, LeavesStart}
 use Rattle.mega_durable.specs.Granted.{KeepsGrants}
 use Rattle.mega_durable.specs.Standing.{records_in}
 use Rattle.mega_durable.proofs.AtStart.{started_holds}
-use Rattle.mega_durable.proofs.Refusing.{start_cut, start_leaves, start_went}
+use Rattle.mega_durable.proofs.Refusing.{start_cut, start_leaves, start_proceeds}
 use Rattle.mega_durable.proofs.Owing.{start_keeps}
 use Rattle.mega_durable.proofs.up.Up.start.Goals as goal
 
@@ -48,8 +48,8 @@ returns-in-Ok-kept-clause-cut g c = λ seen h starts met owed may.
     subst (λ (one : _). LeavesOnly g.R.Records.moment g.R.Records.opened_since one (records_in c.in-Ok-kept.started.up.node) (MayLeaveStart starts (onto owed met))) c.in-Ok.ensures.records
     (c.in-Ok-kept.ensures.cut seen (ap g.R.Records.is_spent c.in-Ok.ensures.records ∙ may.ready) starts (onto owed met) few before)
 
-pub returns-in-Ok-kept-clause-went : goal.returns-in-Ok-kept-clause-went
-returns-in-Ok-kept-clause-went g c = subst (λ (one : _). LogWent g.R.Records None one (records_in c.in-Ok-kept.started.up.node)) c.in-Ok.ensures.records c.in-Ok-kept.ensures.went
+pub returns-in-Ok-kept-clause-proceeds : goal.returns-in-Ok-kept-clause-proceeds
+returns-in-Ok-kept-clause-proceeds g c = subst (λ (one : _). LogProceeds g.R.Records None one (records_in c.in-Ok-kept.started.up.node)) c.in-Ok.ensures.records c.in-Ok-kept.ensures.proceeds
 
 pub returns-in-Ok-kept-clause-whole : goal.returns-in-Ok-kept-clause-whole
 returns-in-Ok-kept-clause-whole g c = λ four. subst (λ (one : _). IsWhole g.R.Records true one (records_in c.in-Ok-kept.started.up.node)) c.in-Ok.ensures.records (c.in-Ok-kept.ensures.whole four)
@@ -72,8 +72,8 @@ returns-in-Err-kept-clause-burnt g c = λ seen four h starts met owed may.
     (λ is. subst (λ (one : _). IsCutStart g.R.Records starts (onto owed met) one c.in-Err-kept.records) c.in-Ok.ensures.records
     (c.in-Err-kept.ensures.burnt seen four is starts (onto owed met) few before)))
 
-pub returns-in-Err-kept-clause-went : goal.returns-in-Err-kept-clause-went
-returns-in-Err-kept-clause-went g c =
+pub returns-in-Err-kept-clause-proceeds : goal.returns-in-Err-kept-clause-proceeds
+returns-in-Err-kept-clause-proceeds g c =
     subst (IsRefused g.R.Records c.args.down.voter) (sym c.refused.ensures)
-    (start_went g.R.Records c.args.down.voter c.in-Err-kept.records c.in-Err-kept.fault
-    (subst (λ (one : _). LogWent g.R.Records (Some c.in-Err-kept.fault) one c.in-Err-kept.records) c.in-Ok.ensures.records c.in-Err-kept.ensures.went))
+    (start_proceeds g.R.Records c.args.down.voter c.in-Err-kept.records c.in-Err-kept.fault
+    (subst (λ (one : _). LogProceeds g.R.Records (Some c.in-Err-kept.fault) one c.in-Err-kept.records) c.in-Ok.ensures.records c.in-Err-kept.ensures.proceeds))

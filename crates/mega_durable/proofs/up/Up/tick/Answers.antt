@@ -1,14 +1,14 @@
 use Rattle.std.proofs.Common.{Err, ◌≡◌, ◌∙◌, ◌+◌, List, ap, map, refl, subst, sym}
 use Rattle.mega_disk.specs.Images.{LeavesOnly}
 use Rattle.mega_rules.specs.Steps.{Tick, step}
-use Rattle.mega_replica.specs.Faring.{Fares}
+use Rattle.mega_replica.specs.Used.{StoreUsed}
 use Rattle.mega_core.specs.of_stepping.declared.step.Step.{Step}
 use Rattle.mega_core.specs.of_stepping.Notes.{met_of}
-use Rattle.mega_durable.specs.Cut.{LogWent, MayLeave, log_fault_in}
+use Rattle.mega_durable.specs.Cut.{LogProceeds, MayLeave, log_fault_in}
 use Rattle.mega_durable.specs.Standing.{records_in, setting_of}
 use Rattle.mega_durable.specs.Stepped.{HasStepped}
-use Rattle.mega_durable.proofs.Refusing.{kept_fares, same_step}
-use Rattle.mega_durable.proofs.Stepping.{may_owe, owed_from, same_went, stepped_now}
+use Rattle.mega_durable.proofs.Refusing.{kept_used, same_step}
+use Rattle.mega_durable.proofs.Stepping.{may_owe, owed_from, same_proceeds, stepped_now}
 use Rattle.mega_durable.proofs.Upheld.{as_it_was, leaves_same}
 use Rattle.mega_durable.proofs.up.Up.tick.Goals as goal
 
@@ -50,14 +50,14 @@ returns-in-Err-clause-cut g c = λ told seen h node up may.
     leaves_same g.R.Records (records_in old) (records_in c.tick.new.self) (MayLeave (setting_of old h) node (Tick c.args.now)) (g.met.R.Records.only (records_in old) seen up.ready) (g.met.R.Records.only_now (records_in old)) c.in-Err.ensures.records
     (as_it_was (setting_of old h) node (Tick c.args.now) (g.R.Records.list (records_in old)) (up.holds seen))
 
-pub returns-in-Ok-keep-clause-went : goal.returns-in-Ok-keep-clause-went
-returns-in-Ok-keep-clause-went g c = subst (λ (one : _). LogWent g.R.Records _ one (records_in c.keep.new.node)) c.in-Ok.ensures.records c.in-Ok-keep.ensures.went
+pub returns-in-Ok-keep-clause-proceeds : goal.returns-in-Ok-keep-clause-proceeds
+returns-in-Ok-keep-clause-proceeds g c = subst (λ (one : _). LogProceeds g.R.Records _ one (records_in c.keep.new.node)) c.in-Ok.ensures.records c.in-Ok-keep.ensures.proceeds
 
-pub returns-in-Err-keep-clause-went : goal.returns-in-Err-keep-clause-went
-returns-in-Err-keep-clause-went g c = subst (λ (one : _). LogWent g.R.Records (log_fault_in c.in-Err-keep.fault) one (records_in c.keep.new.node)) c.in-Ok.ensures.records c.in-Err-keep.ensures.went
+pub returns-in-Err-keep-clause-proceeds : goal.returns-in-Err-keep-clause-proceeds
+returns-in-Err-keep-clause-proceeds g c = subst (λ (one : _). LogProceeds g.R.Records (log_fault_in c.in-Err-keep.fault) one (records_in c.keep.new.node)) c.in-Ok.ensures.records c.in-Err-keep.ensures.proceeds
 
-pub returns-in-Err-clause-went : goal.returns-in-Err-clause-went
-returns-in-Err-clause-went g c = same_went g.R.Records (records_in c.args.self.now.node) (records_in c.tick.new.self) c.in-Err.ensures.records
+pub returns-in-Err-clause-proceeds : goal.returns-in-Err-clause-proceeds
+returns-in-Err-clause-proceeds g c = same_proceeds g.R.Records (records_in c.args.self.now.node) (records_in c.tick.new.self) c.in-Err.ensures.records
 
 pub returns-in-Ok-keep-clause-whole : goal.returns-in-Ok-keep-clause-whole
 returns-in-Ok-keep-clause-whole g c = λ told four h node up may.
@@ -78,9 +78,9 @@ returns-in-Err-keep-clause-owed g c = λ told h node up may.
     refl
     (may_owe g.R.Records g.V.Versions.version h old node (Tick c.args.now) up) c.in-Err-keep.ensures.owed
 
-pub returns-in-Err-keep-clause-fares : goal.returns-in-Err-keep-clause-fares
-returns-in-Err-keep-clause-fares g c =
-    kept_fares g.V.Versions c.args.self.now.node.replica.rows.rows c.tick.new.self.replica.rows c.keep.new.node.replica.rows c.in-Ok.step 0 c.in-Err-keep.fault c.in-Err-keep.ensures.owed c.in-Err-keep.ensures.rows c.in-Ok.ensures.fares
+pub returns-in-Err-keep-clause-used : goal.returns-in-Err-keep-clause-used
+returns-in-Err-keep-clause-used g c =
+    kept_used g.V.Versions c.args.self.now.node.replica.rows.rows c.tick.new.self.replica.rows c.keep.new.node.replica.rows c.in-Ok.step 0 c.in-Err-keep.fault c.in-Err-keep.ensures.owed c.in-Err-keep.ensures.rows c.in-Ok.ensures.used
 
 pub returns-in-Err-clause-built : goal.returns-in-Err-clause-built
 returns-in-Err-clause-built g c = λ is h node up. c.in-Err.ensures.built (ap Err (same_step _ _ is)) h node up.stands

@@ -50,7 +50,7 @@ log_fault_of-requires g c =
     let k = c.requires.known in
     let here = is_here k.cluster k.handlers k.me c.args.self.now k.ruled k.is in
     let may = subst (λ (s : Setting). MayHappen (g.H.QueueHandlers.meant c.args.handlers.now) s k.ruled (Begin c.args.request c.args.text.now)) (own_setting k.cluster k.handlers k.me c.args.self.now k.ruled k.is) k.may in
-    log_memory _ _ c.in-Err-Log.fault _ _ (rw c.in-Err-Log.field-0-is at c.in-Err-Log.ensures.went.1) k.is.ready refl (rw c.in-Err-Log.field-0-is at (c.in-Err-Log.ensures.owed refl k.handlers k.ruled (record { stands = here.stands; empty = here.empty; ready = here.ready; holds = λ told. here.holds; granted = here.granted }) may))
+    log_memory _ _ c.in-Err-Log.fault _ _ (rw c.in-Err-Log.field-0-is at c.in-Err-Log.ensures.proceeds.1) k.is.ready refl (rw c.in-Err-Log.field-0-is at (c.in-Err-Log.ensures.owed refl k.handlers k.ruled (record { stands = here.stands; empty = here.empty; ready = here.ready; holds = λ told. here.holds; granted = here.granted }) may))
 
 pub fault_of-requires-clause-own : goal.fault_of-requires-clause-own
 fault_of-requires-clause-own g c =

@@ -2,7 +2,7 @@
 ghost use Rattle.std.specs.Prelude.{◌≡◌, IfOk, Some, true, false, Err};
 ghost use Rattle.mega_disk.specs.VersionMaps.{SameVersions};
 ghost use Rattle.mega_outcome.specs.Answers.{rows_at};
-ghost use Rattle.mega_replica.specs.Faring.{Fares};
+ghost use Rattle.mega_replica.specs.Used.{StoreUsed};
 ghost use Rattle.mega_finishing.specs.declared.fault.ActFault.TheVariants.{Unserved};
 ghost use Rattle.mega_proposing.specs.Servable.{is_proposed};
 ghost use Rattle.mega_finishing.specs.Coming.{comes};
@@ -17,7 +17,7 @@ use std::alloc::Global;
 
 /// What a request comes to over the rows of its group.
 #[derive(Debug, Drop)]
-pub enum Came {
+pub enum RequestOutcome {
     /// What a transaction does, or why it is turned away.
     Alone(Result<Done, Turn>),
     /// What a batch does.
@@ -25,23 +25,23 @@ pub enum Came {
 }
 
 /// What a request comes to over the rows at a position.
-#[tactic(auto, using(mega_replica::proofs::Fared::fares_here))]
+#[tactic(auto, using(mega_replica::proofs::Using::used_here))]
 pub(crate) fn comes_to<V: Versions>(
     alloc: Global,
     schema: &Schema,
     request: &Request,
     rows: &mut V,
     position: u64,
-) -> Result<Came, ActFault>
+) -> Result<RequestOutcome, ActFault>
     ensures exact { IfOk result (λ came. V.is_told ≡ true → comes schema.now request.now (rows_at (V.version rows.old) position) ≡ Some came) }
     ensures versions { SameVersions (V.version rows.old) (V.version rows.new) }
-    ensures fares { Fares V.Versions (failed_by result) rows.old rows.new }
+    ensures used { StoreUsed V.Versions (failed_by result) rows.old rows.new }
     ensures unserved { result ≡ Err Unserved → is_proposed request.now ≡ false }
 {
     match request {
         Request::Txn(txn) => {
             let came = outcome_at(alloc, schema, txn, rows, position)?;
-            Ok(Came::Alone(came))
+            Ok(RequestOutcome::Alone(came))
         }
         Request::Batch(group, txns) => {
             let txns = txns.as_slice();
@@ -49,7 +49,7 @@ pub(crate) fn comes_to<V: Versions>(
                 return Err(ActFault::Unserved);
             }
             let came = batch_at(alloc, schema, group, txns, rows, position)?;
-            Ok(Came::Batched(came))
+            Ok(RequestOutcome::Batched(came))
         }
         _ => Err(ActFault::Unserved),
     }

@@ -3,9 +3,9 @@ use Rattle.std.specs.Prelude.{List, Option, Some, None}
 use Rattle.mega_wire.specs.declared.message.Message.{Message}
 use Rattle.mega_rules.specs.Operations.{Now}
 use Rattle.mega_rules.specs.Acting.{ends, keeps, sends_more}
-use Rattle.mega_proposing.specs.declared.deed.Deed.{Deed}
-use Rattle.mega_proposing.specs.declared.deed.End.{End}
-use Rattle.mega_proposing.specs.declared.deed.End.TheVariants.{Ends, Stays}
+use Rattle.mega_proposing.specs.declared.action.Action.{Action}
+use Rattle.mega_proposing.specs.declared.action.End.{End}
+use Rattle.mega_proposing.specs.declared.action.End.TheVariants.{Ends, Stays}
 
 -- what is sent, where anything is
 abbrev pub said : Now → Option (List Message) → Now
@@ -17,5 +17,5 @@ abbrev pub ended_by : Now → End → Now
 ended_by now (Stays o) = keeps now o
 ended_by now (Ends op answer) = ends now op answer
 
-abbrev pub does : Now → Deed → Now
-does now deed = ended_by (said now deed.sends) deed.end
+abbrev pub does : Now → Action → Now
+does now action = ended_by (said now action.sends) action.end

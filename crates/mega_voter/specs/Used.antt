@@ -14,7 +14,7 @@ failed_by (Err fault) = Some fault
 
 -- the device only went on, and the call, if it failed, failed for what is said of it, where the file would have this length; memory may be
 -- wanting
-pub record LogFares {R : Type 0} (store : Ghosts R) (length : ℕ) (failed : Option LogFault) (old new : R) : Type 0 where
+pub record LogUsed {R : Type 0} (store : Ghosts R) (length : ℕ) (failed : Option LogFault) (old new : R) : Type 0 where
   pub later : store.faults old ≤ store.faults new
   pub may_burn : MayBurn (store.fuse_left old) (store.fuse_left new)
   pub by_fuse : store.fails_by_fuse old ≡ true → store.fails_by_fuse new ≡ true

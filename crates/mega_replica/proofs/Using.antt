@@ -6,7 +6,7 @@ use Rattle.mega_disk.specs.Fuse.{Fuse, Untold, Unset, Left, MayBurn, Burns}
 use Rattle.mega_disk.specs.declared.versions.StoreError.{StoreError}
 use Rattle.mega_disk.specs.declared.versions.StoreError.TheVariants.{DiskFault, Full, BadRecord}
 use Rattle.mega_disk.specs.declared.versions.Versions.{Ghosts}
-use Rattle.mega_replica.specs.Faring.{Fares}
+use Rattle.mega_replica.specs.Used.{StoreUsed}
 use Rattle.mega_replica.specs.Puts.{OnlyPuts}
 
 burn_here : (f : Fuse) → MayBurn f f
@@ -40,8 +40,8 @@ rose_later : (a b c : ℕ) → a ≤ b → Rose b c → Rose a c
 rose_later a b c le rose = omega (arith, le, rose)
 
 -- nothing was called
-pub fares_here : {V : Type 0} (store : Ghosts V) (x : V) → Fares store None x x
-fares_here store x = record {
+pub used_here : {V : Type 0} (store : Ghosts V) (x : V) → StoreUsed store None x x
+used_here store x = record {
   later = omega arith;
   bad_stays = λ n h. h;
   may_burn = burn_here (store.fuse_left x);
@@ -56,8 +56,8 @@ fares_here store x = record {
     none q = cc
 
 -- calls that went well, and then others
-pub fares_then : {V : Type 0} (store : Ghosts V) (failed : Option StoreError) (old mid new : V) → Fares store None old mid → Fares store failed mid new → Fares store failed old new
-fares_then store failed old mid new first second = record {
+pub used_then : {V : Type 0} (store : Ghosts V) (failed : Option StoreError) (old mid new : V) → StoreUsed store None old mid → StoreUsed store failed mid new → StoreUsed store failed old new
+used_then store failed old mid new first second = record {
   later = omega (arith, first.later, second.later);
   bad_stays = λ n h. first.bad_stays n (second.bad_stays n h);
   may_burn = burn_then (store.fuse_left old) (store.fuse_left mid) (store.fuse_left new) first.may_burn second.may_burn;
@@ -69,8 +69,8 @@ fares_then store failed old mid new first second = record {
 }
 
 -- puts call no device
-pub fares_by_puts : {V : Type 0} (store : Ghosts V) (old new : V) → OnlyPuts store old new → Fares store None old new
-fares_by_puts store old new only = record {
+pub used_by_puts : {V : Type 0} (store : Ghosts V) (old new : V) → OnlyPuts store old new → StoreUsed store None old new
+used_by_puts store old new only = record {
   later = omega (arith, only.faults);
   bad_stays = only.bad_stays;
   may_burn = subst (λ (f : Fuse). MayBurn (store.fuse_left old) f) (sym only.fuse) (burn_here (store.fuse_left old));

@@ -15,7 +15,7 @@ pub enum End {
 
 /// What an operation does that acts: what it sends, where it sends anything, and then whether it stays open.
 #[derive(Debug, Drop)]
-pub struct Deed {
+pub struct Action {
     pub sends: Option<Items<Message>>,
     pub end: End,
 }

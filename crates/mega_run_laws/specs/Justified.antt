@@ -1,4 +1,4 @@
--- A round of an operation is vouched for by what its tape shows: what the operation heard and moved at the place.
+-- A round of an operation is justified by what its tape shows: what the operation heard and moved at the place.
 use Rattle.std.specs.Prelude.{◌≡◌, ◌⊎◌, ℕ, ◌+◌, ◌==◌, ◌≤◌, Bool, true, if◌then◌else◌, List, [], ◌∷◌, length, Option, Some, None}
 use Rattle.std.specs.List.{list_any}
 use Rattle.mega_base.specs.declared.names.OpId.{OpId}
@@ -97,12 +97,12 @@ abbrev pub Latest : Cluster → List Move → Round → Type 0
 Latest c moved (Preparing b reports sent) = (voter : ℕ) → has voter (voters c) ≡ true → newest moved ≡ Some (Prepares b)
 Latest c moved _ = Unit {0}
 
-pub record Vouched (c : Cluster) (tape : List Item) (op : OpId) (p : Place) (proposal : Proposal) : Type 0 where
+pub record Justified (c : Cluster) (tape : List Item) (op : OpId) (p : Place) (proposal : Proposal) : Type 0 where
   pub within : IsWithin proposal.seen (moves tape op p)
   pub knows : Knows c tape op p proposal.round
   pub latest : Latest c (moves tape op p) proposal.round
 
--- what a round sends is allowed, message by message, and it is vouched for then
+-- what a round sends is allowed, message by message, and it is justified then
 pub record Goes (c : Cluster) (tape : List Item) (op : OpId) (p : Place) (t : RoundMove) : Type 0 where
   pub own : AreOfRound op p t.sends
   pub lawful : (n : ℕ) → Lawful c tape → Lawful c (sent n t.sends tape)

@@ -7,7 +7,7 @@ use Rattle.mega_disk.specs.declared.versions.StoreError.TheVariants.{DiskFault, 
 use Rattle.mega_disk.specs.declared.versions.Versions.{Ghosts}
 
 -- the device only went on, no record became bad, and the last call, if it failed, failed for what is said of it; memory may be wanting
-pub record Fares {V : Type 0} (store : Ghosts V) (failed : Option StoreError) (old new : V) : Type 0 where
+pub record StoreUsed {V : Type 0} (store : Ghosts V) (failed : Option StoreError) (old new : V) : Type 0 where
   pub later : store.faults old ≤ store.faults new
   pub bad_stays : (n : ℕ) → store.is_bad new n → store.is_bad old n
   pub may_burn : MayBurn (store.fuse_left old) (store.fuse_left new)
