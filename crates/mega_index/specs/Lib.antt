@@ -1,7 +1,6 @@
 pub mod Rows
 pub mod Cells
 pub mod Fits
-pub mod Same
 pub mod Entries
 pub mod LocalWrites
 pub mod Finding

@@ -5,7 +5,7 @@ use Rattle.mega_entry.specs.declared.content.Write.{Write}
 use Rattle.mega_schema.specs.declared.schema.Table.{Table}
 use Rattle.mega_schema.specs.declared.schema.Schema.{Schema}
 use Rattle.mega_index.specs.Rows.{Listed, row_under}
-use Rattle.mega_index.specs.Same.{same_row}
+use Rattle.mega_entry.specs.Same.{same_row}
 use Rattle.mega_index.specs.Fits.{numbered, has_place, long_key}
 use Rattle.mega_index.specs.Entries.{local_entries}
 

@@ -1,7 +1,7 @@
 //! Whether two rows are the same, or a row has given values.
 ghost use Rattle.std.specs.Prelude.{◌≡◌};
 ghost use Rattle.mega_index.specs.Cells.{values_of};
-ghost use Rattle.mega_index.specs.Same.{same_values, same_row};
+ghost use Rattle.mega_entry.specs.Same.{same_values, same_row};
 
 use crate::cells::cell_of;
 use mega_base::{Items, Row, Same, Value};

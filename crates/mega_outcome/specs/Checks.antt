@@ -11,7 +11,7 @@ use Rattle.mega_index.specs.of_schema.declared.schema.Schema.{Schema}
 use Rattle.mega_index.specs.of_keys.Fit.{has_kind}
 use Rattle.mega_index.specs.Rows.{Rows}
 use Rattle.mega_index.specs.Cells.{values_of}
-use Rattle.mega_index.specs.Same.{same_values}
+use Rattle.mega_index.specs.of_entry.Same.{same_values}
 use Rattle.mega_index.specs.Fits.{numbered}
 use Rattle.mega_outcome.specs.declared.answer.Turn.{Turn}
 use Rattle.mega_outcome.specs.declared.answer.Turn.TheVariants.{BadRow, CheckFailed}

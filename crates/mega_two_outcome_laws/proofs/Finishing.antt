@@ -2,7 +2,6 @@
 use Rattle.std.proofs.Common.{◌≡◌, ℕ, ◌&&◌, cond, Bool, true, false, List, [], ◌∷◌, ◌++◌, refl, sym, ap, ◌∙◌, Option, Some, None, Result, Ok, Err, option_map}
 use Rattle.std.specs.Prelude.{codes, is_some, nat_le, if◌then◌else◌}
 use Rattle.std.specs.Result.{result_ok}
-use Rattle.std.specs.Cmp.Lexicographic.{pointwise}
 use Rattle.std.proofs.lemmas.Bool.{false≢true}
 use Rattle.mega_base.specs.declared.values.Value.{Value}
 use Rattle.mega_base.specs.declared.values.Value.TheVariants.{Int32, Int64, Bool as Truth, Str, Raw}
@@ -10,7 +9,7 @@ use Rattle.mega_base.specs.declared.values.Row.{Row}
 use Rattle.mega_entry.specs.declared.content.Write.{Write}
 use Rattle.mega_schema.specs.declared.schema.Schema.{Schema}
 use Rattle.mega_index.specs.Rows.{Rows, changed, written}
-use Rattle.mega_index.specs.Same.{same_values}
+use Rattle.mega_entry.specs.Same.{same_bytes, same_values}
 use Rattle.mega_index.specs.Fits.{numbered}
 use Rattle.mega_index.specs.Fitted.{most_bytes}
 use Rattle.mega_index.proofs.SameLemmas.{same_values-Decides}
@@ -160,7 +159,7 @@ holder_is (v ∷ w ∷ values) c name = longer v w values
     longer (Int32 z) w values = refl
     longer (Int64 z) w values = refl
     longer (Truth b) w values = refl
-    longer (Str text) w values = by (pointwise _ text (c ∷ name))
+    longer (Str text) w values = by (same_bytes text (c ∷ name))
       where
         by : (b : Bool) → (b && false) ≡ false
         by true = refl

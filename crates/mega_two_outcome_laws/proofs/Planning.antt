@@ -14,7 +14,7 @@ use Rattle.mega_keys.specs.Reading.{Read, unescaped}
 use Rattle.mega_keys.proofs.Again.{unescaped_again}
 use Rattle.mega_keys.proofs.Takes.{ok_parts}
 use Rattle.mega_index.specs.Rows.{Rows}
-use Rattle.mega_index.specs.Same.{same_values}
+use Rattle.mega_entry.specs.Same.{same_values}
 use Rattle.mega_index.specs.Fits.{numbered}
 use Rattle.mega_index.specs.Fitted.{most_bytes}
 use Rattle.mega_outcome.specs.declared.transaction.RowRef.{RowRef}

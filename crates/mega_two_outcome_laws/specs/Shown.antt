@@ -5,7 +5,7 @@ use Rattle.mega_base.specs.declared.values.Value.TheVariants.{Int32, Bool as Tru
 use Rattle.mega_base.specs.declared.values.Row.{Row}
 use Rattle.mega_schema.specs.declared.schema.Schema.{Schema}
 use Rattle.mega_index.specs.Cells.{values_of}
-use Rattle.mega_index.specs.Same.{same_values}
+use Rattle.mega_entry.specs.Same.{same_values}
 use Rattle.mega_index.specs.Fits.{numbered}
 use Rattle.mega_schedule.specs.Values.{properties_of, property_number}
 use Rattle.mega_two.specs.Parts.{Rows}

@@ -8,7 +8,7 @@ use Rattle.mega_ballot.specs.declared.ballot.Ballot.{Ballot}
 use Rattle.mega_entry.specs.declared.content.Content.{Content}
 use Rattle.mega_wal.specs.declared.item.JournalItem.{JournalItem}
 use Rattle.mega_wal.specs.declared.item.JournalItem.TheVariants.{Start, Promise, Accept, Decide, Grant, Lapse, Starts}
-use Rattle.mega_wal.specs.Same.{same_group}
+use Rattle.mega_entry.specs.Same.{same_group}
 use Rattle.mega_wal.specs.Acceptor.{Act, Promised, Voted, Vote, best, greater_vote, is_ballot_below}
 use Rattle.mega_wal.specs.History.{acts_of, climb, decided_of, first_of, is_place, newest_of, prefix_of, top_of}
 use Rattle.mega_wal.specs.Kept.{marks_of, slot_of}

@@ -1,4 +1,4 @@
-pub mod Sames
+pub use Rattle.mega_entry.proofs.Sames
 pub mod Orders
 pub mod Climbs
 pub mod Steps

@@ -10,11 +10,11 @@ use Rattle.mega_wal.specs.declared.item.JournalItem.{JournalItem}
 use Rattle.mega_wal.specs.declared.item.JournalItem.TheVariants.{Promise, Accept, Decide}
 use Rattle.mega_wal.specs.declared.slot.Slot.{Slot}
 use Rattle.mega_wal.specs.declared.groups.Marks.{Marks}
-use Rattle.mega_wal.specs.Same.{same_group}
+use Rattle.mega_entry.specs.Same.{same_group}
 use Rattle.mega_wal.specs.Acceptor.{Act, Promised, Voted, best, shown}
 use Rattle.mega_wal.specs.History.{acts_of, climb, decided_of, first_of, is_place, newest_of, prefix_of, top_of}
 use Rattle.mega_wal.specs.Kept.{Groups, Holds, Puts, Same, accepted_marks, accepted_slot, decided_marks, decided_slot, is_decided_with, marks_at, marks_of, promised_slot, slot_at, slot_of}
-use Rattle.mega_wal.proofs.Sames.{same_group_equal, same_group_self}
+use Rattle.mega_entry.proofs.Sames.{same_group_equal, same_group_self}
 use Rattle.mega_wal.proofs.Orders.{is_group_is}
 
 -- ---- how far a number climbs

@@ -12,7 +12,7 @@ use Rattle.mega_base.specs.declared.names.Position.{Position}
 use Rattle.mega_entry.specs.declared.content.Content.{Content}
 use Rattle.mega_wal.specs.declared.item.JournalItem.{JournalItem}
 use Rattle.mega_wal.specs.declared.item.JournalItem.TheVariants.{Start, Promise, Accept, Decide, Grant, Lapse, Starts}
-use Rattle.mega_wal.specs.Same.{same_group}
+use Rattle.mega_entry.specs.Same.{same_group}
 use Rattle.mega_wal.specs.Acceptor.{Act, Promised, Voted, best}
 use Rattle.mega_wal.specs.declared.answers.Promised.{Promised as PromiseAnswer}
 use Rattle.mega_wal.specs.declared.answers.Promised.TheVariants as promise

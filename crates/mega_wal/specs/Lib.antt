@@ -1,4 +1,4 @@
-pub mod Same
+pub use Rattle.mega_entry.specs.Same
 pub mod Acceptor
 pub mod Faults
 pub mod Items

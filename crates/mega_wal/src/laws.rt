@@ -10,7 +10,7 @@ ghost use Rattle.mega_wal.specs.declared.item.JournalItem.{JournalItem as Item};
 ghost use Rattle.mega_wal.specs.Acceptor.{is_ballot_below};
 ghost use Rattle.mega_wal.specs.Items.{IsItem, IsRecord, record_text};
 ghost use Rattle.mega_wal.specs.Records.{first_bad, history_of, is_record, items_in};
-ghost use Rattle.mega_wal.specs.Same.{same_entry, same_group, same_op};
+ghost use Rattle.mega_entry.specs.Same.{same_entry, same_group, same_op};
 
 /// The tests of equality and of order are equality and the order of ballots.
 pub fn tests_tell()

@@ -3,7 +3,7 @@ ghost use Rattle.std.specs.Prelude.{◌≡◌, ◌↔◌, IsTrue, IfOk, max, Som
 ghost use Rattle.mega_ballot.specs.Order.{IsBelow};
 ghost use Rattle.mega_wal.specs.Acceptor.{answer_beside, greater_ballot, greater_vote, is_ballot_below, is_same_ballot};
 ghost use Rattle.mega_wal.specs.History.{first_of};
-ghost use Rattle.mega_wal.specs.Same.{same_entry};
+ghost use Rattle.mega_entry.specs.Same.{same_entry};
 ghost use Rattle.mega_wal.specs.Kept.{accepted_slot, decided_slot, empty_slot, promised_slot};
 
 use crate::answers::Voted;
@@ -112,7 +112,7 @@ fn first_of(first: Option<Entry>, entry: Entry) -> Option<Entry>
 }
 
 /// Whether two entries are equal.
-#[tactic(auto, using(crate::proofs::Sames::same_entry_is))]
+#[tactic(auto, using(mega_entry::proofs::Sames::same_entry_is))]
 fn is_equal(entry: &Entry, other: &Entry) -> bool
     ensures { result ≡ same_entry entry.now other.now }
 {

@@ -1,4 +1,4 @@
-use Rattle.mega_wal.proofs.Sames.{same_entry_is}
+use Rattle.mega_entry.proofs.Sames.{same_entry_is}
 use Rattle.mega_wal.proofs.slot.is_equal.Goals as goal
 
 pub returns : goal.returns

@@ -7,12 +7,12 @@ use Rattle.mega_base.specs.declared.names.GroupId.{GroupId}
 use Rattle.mega_base.specs.declared.values.Value.{Value}
 use Rattle.mega_base.specs.declared.values.Value.TheVariants.{Int32, Int64, Bool as Truth, Str, Raw}
 use Rattle.mega_entry.specs.declared.content.Content.{Content}
-use Rattle.mega_wal.specs.Same.{same_list, same_option, same_number, same_bytes, same_op, same_group, same_int, same_truth, same_value, same_cell, same_row, same_write, same_name, same_send, same_enter, same_cut, same_entry}
+use Rattle.mega_entry.specs.Same.{same_list, same_option, same_number, same_bytes, same_op, same_group, same_int, same_truth, same_value, same_values, same_cell, same_row, same_write, same_name, same_send, same_enter, same_cut, same_entry}
 
 -- a test that is true of equal values alone
-record Tells {X : Type 0} (same : X → X → Bool) : Type 0 where
-  equal : (x y : X) → same x y ≡ true → x ≡ y
-  self : (x : X) → same x x ≡ true
+pub record Tells {X : Type 0} (same : X → X → Bool) : Type 0 where
+  pub equal : (x y : X) → same x y ≡ true → x ≡ y
+  pub self : (x : X) → same x x ≡ true
 
 both : (a b : Bool) → (a && b) ≡ true → (a ≡ true) × (b ≡ true)
 both true b h = (refl, h)
@@ -32,7 +32,7 @@ list_self : {X : Type 0} (same : X → X → Bool) → Tells same → (xs : List
 list_self same t [] = refl
 list_self same t (x ∷ xs) = joined (same x x) (same_list same xs xs) (t.self x) (list_self same t xs)
 
-lists : {X : Type 0} {same : X → X → Bool} → Tells same → Tells (same_list same)
+pub lists : {X : Type 0} {same : X → X → Bool} → Tells same → Tells (same_list same)
 lists {same = same} t = record { equal = list_equal same t; self = list_self same t }
 
 option_equal : {X : Type 0} (same : X → X → Bool) → Tells same → (x y : Option X) → same_option same x y ≡ true → x ≡ y
@@ -119,17 +119,17 @@ value_self (Truth a) = truth_self a
 value_self (Str a) = bytes.self a
 value_self (Raw a) = bytes.self a
 
-values : Tells same_value
+pub values : Tells same_value
 values = record { equal = value_equal; self = value_self }
 
 cells : Tells same_cell
 cells = record {
-  equal = λ a b h. let p = both (a.property == b.property) (same_list same_value a.values b.values) h in
+  equal = λ a b h. let p = both (a.property == b.property) (same_values a.values b.values) h in
       λ i. record { property = number_equal a.property b.property p.0 i; values = (lists values).equal a.values b.values p.1 i };
-  self = λ a. joined (a.property == a.property) (same_list same_value a.values a.values) (number_self a.property) ((lists values).self a.values);
+  self = λ a. joined (a.property == a.property) (same_values a.values a.values) (number_self a.property) ((lists values).self a.values);
 }
 
-rows : Tells same_row
+pub rows : Tells same_row
 rows = record { equal = λ a b h i. record { cells = (lists cells).equal a.cells b.cells h i }; self = λ a. (lists cells).self a.cells }
 
 writes : Tells same_write
@@ -207,7 +207,7 @@ same_entry_self a =
     all_seven (same_option same_op a.id a.id) (a.leader.0 == a.leader.0) (same_list same_write a.writes a.writes) (same_list same_send a.sends a.sends) (same_list same_enter a.enters a.enters) (same_list same_name a.handles a.handles) (same_list same_cut a.cuts a.cuts)
     ((options ops).self a.id) (number_self a.leader.0) ((lists writes).self a.writes) ((lists sends).self a.sends) ((lists enters).self a.enters) ((lists names).self a.handles) ((lists cuts).self a.cuts)
 
-along : {X : Type 0} (same : X → X → Bool) → Tells same → (a b : X) → a ≡ b → same a b ≡ true
+pub along : {X : Type 0} (same : X → X → Bool) → Tells same → (a b : X) → a ≡ b → same a b ≡ true
 along same t a b e = ap (same a) (sym e) ∙ t.self a
 
 pub same_entry_iff : (a b : Content) → (same_entry a b ≡ true) ↔ (a ≡ b)

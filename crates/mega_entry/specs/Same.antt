@@ -1,4 +1,4 @@
--- Whether two entries are equal, part by part.
+-- Whether two entries, two rows or two values are equal, part by part.
 use Rattle.std.specs.Prelude.{ℕ, ◌==◌, ◌&&◌, ℤ, int_le, Bool, true, false, not, List, [], ◌∷◌, Option, Some, None}
 use Rattle.mega_base.specs.declared.names.OpId.{OpId}
 use Rattle.mega_base.specs.declared.names.GroupId.{GroupId}
@@ -52,8 +52,11 @@ same_value (Str a) (Str b) = same_bytes a b
 same_value (Raw a) (Raw b) = same_bytes a b
 same_value _ _ = false
 
+abbrev pub same_values : List Value → List Value → Bool
+same_values = same_list same_value
+
 abbrev pub same_cell : Cell → Cell → Bool
-same_cell a b = a.property == b.property && same_list same_value a.values b.values
+same_cell a b = a.property == b.property && same_values a.values b.values
 
 abbrev pub same_row : Row → Row → Bool
 same_row a b = same_list same_cell a.cells b.cells
