@@ -10,6 +10,7 @@ pub mod Ticking
 pub mod Restarting
 pub mod Lagging
 pub mod Standing
+pub mod Stepping
 pub mod Unshown
 pub use Rattle.mega_stepping.specs as of_stepping
 pub use Rattle.mega_actions.specs as of_actions

@@ -1,11 +1,7 @@
-//! A node of a cluster: its start, and its three steps.
+//! A node of a cluster: its start, and the step of each event.
 ghost use Rattle.std.specs.Prelude.{◌≡◌, ◌≢◌, ◌⊎◌, ℕ, List, [], map, None, true, false, IfOk, OnOk, OnErr, Err};
 ghost use Rattle.mega_handler.specs.Named.{Meanings};
-ghost use Rattle.mega_meanings.specs.Means.{Means};
-ghost use Rattle.mega_actions.specs.of_node_laws.Acted.{acted_on, decision_in};
-ghost use Rattle.mega_actions.specs.of_node_laws.Own.{HasOwnRows};
 ghost use Rattle.mega_stepping.specs.of_leases.Taking.{IsByStranger, IsLate};
-ghost use Rattle.mega_rules.specs.Logs.{log_of};
 ghost use Rattle.mega_rules.specs.Members.{is_node};
 ghost use Rattle.mega_rules.specs.Met.{Met};
 ghost use Rattle.mega_rules.specs.Operations.{Node as RuleNode};
@@ -18,10 +14,11 @@ ghost use Rattle.mega_actions.specs.of_proposing.Settings.{setting};
 ghost use Rattle.mega_core.specs.declared.fault.StepFault.TheVariants.{Late, NoMemory, Stranger, Unserved};
 ghost use Rattle.mega_core.specs.Faults.{failed_by};
 ghost use Rattle.mega_stepping.specs.Notes.{met_of};
-ghost use Rattle.mega_stepping.specs.Placed.{IsPlaced};
 ghost use Rattle.mega_core.specs.Served.{IsServed};
 ghost use Rattle.mega_stepping.specs.Staging.{Stages};
 ghost use Rattle.mega_core.specs.Standing.{StandsFor};
+ghost use Rattle.mega_core.specs.Stepping.{AtEach, IsStrange, IsTooLate, is_servable};
+ghost use Rattle.mega_stepping.specs.Events.{event_of};
 
 use crate::fault::StepFault;
 use crate::starting::{leases_of, members_of, voter_of};
@@ -38,7 +35,7 @@ use mega_meanings::QueueHandlers;
 use mega_outcome::Request;
 use mega_replica::StoredRows;
 use mega_stepping::mega_operations::Operation;
-use mega_stepping::{Step, all_hear, begun_groups, touched};
+use mega_stepping::{Event, Step, all_hear, begun_groups, touched};
 use mega_wal::Logs;
 use mega_wire::Message;
 use std::alloc::Global;
@@ -101,27 +98,16 @@ impl<R: Records + Drop, V: Versions + Drop> Node<R, V> {
 
 impl<R: Records, V: Versions> Node<R, V> {
     /// The node takes a message.
-    pub fn take<H: QueueHandlers>(
+    fn take<H: QueueHandlers>(
         &mut self,
         alloc: Global,
         handlers: &mut H,
         message: &Message,
     ) -> Result<Step, StepFault>
-        ensures notes { V.is_told ≡ true → IfOk result (λ made. (h : Meanings) (node : RuleNode) → Means (H.meant handlers.old) h →
-            StandsFor V.version h self.old node →
-            HasOwnRows self.old.replica.members.schema (log_of (acted_on (setting_of self.old.replica h) node (Take message.now))) → IsPlaced (decision_in (setting_of self.old.replica h) node message.now) →
-            map met_of made.notes ≡ (step (setting_of self.old.replica h) node (Take message.now)).notes) }
-        ensures sends { V.is_told ≡ true → IfOk result (λ made. (h : Meanings) (node : RuleNode) → Means (H.meant handlers.old) h →
-            StandsFor V.version h self.old node →
-            HasOwnRows self.old.replica.members.schema (log_of (acted_on (setting_of self.old.replica h) node (Take message.now))) → IsPlaced (decision_in (setting_of self.old.replica h) node message.now) →
-            made.sends ≡ (step (setting_of self.old.replica h) node (Take message.now)).sends) }
-        ensures state { V.is_told ≡ true → OnOk result ((h : Meanings) (node : RuleNode) → Means (H.meant handlers.old) h →
-            StandsFor V.version h self.old node →
-            HasOwnRows self.old.replica.members.schema (log_of (acted_on (setting_of self.old.replica h) node (Take message.now))) → IsPlaced (decision_in (setting_of self.old.replica h) node message.now) →
-            StandsFor V.version h self.new (step (setting_of self.old.replica h) node (Take message.now)).node) }
-        ensures staged { V.is_told ≡ true → OnOk result ((h : Meanings) (node : RuleNode) (before : List Met) → Means (H.meant handlers.old) h → StandsFor V.version h self.old node →
-            HasOwnRows self.old.replica.members.schema (log_of (acted_on (setting_of self.old.replica h) node (Take message.now))) → IsPlaced (decision_in (setting_of self.old.replica h) node message.now) →
-            Stages self.old.replica.voter.logs.staged.items before node.met → Stages self.new.replica.voter.logs.staged.items before (step (setting_of self.old.replica h) node (Take message.now)).node.met) }
+        ensures notes { V.is_told ≡ true → IfOk result (λ made. AtEach V.version (H.meant handlers.old) self.old (Take message.now) (λ h s node. map met_of made.notes ≡ (step s node (Take message.now)).notes)) }
+        ensures sends { V.is_told ≡ true → IfOk result (λ made. AtEach V.version (H.meant handlers.old) self.old (Take message.now) (λ h s node. made.sends ≡ (step s node (Take message.now)).sends)) }
+        ensures state { V.is_told ≡ true → OnOk result (AtEach V.version (H.meant handlers.old) self.old (Take message.now) (λ h s node. StandsFor V.version h self.new (step s node (Take message.now)).node)) }
+        ensures staged { V.is_told ≡ true → OnOk result (AtEach V.version (H.meant handlers.old) self.old (Take message.now) (λ h s node. (before : List Met) → Stages self.old.replica.voter.logs.staged.items before node.met → Stages self.new.replica.voter.logs.staged.items before (step s node (Take message.now)).node.met)) }
         ensures records { self.new.replica.voter.logs.records ≡ self.old.replica.voter.logs.records }
         ensures handlers { H.meant handlers.new ≡ H.meant handlers.old }
         ensures members { self.new.replica.members ≡ self.old.replica.members }
@@ -149,28 +135,17 @@ impl<R: Records, V: Versions> Node<R, V> {
     }
 
     /// An operation begins at the node; the text is its request.
-    pub fn begin<H: QueueHandlers>(
+    fn begin<H: QueueHandlers>(
         &mut self,
         alloc: Global,
         handlers: &mut H,
         request: Request,
         text: &Text,
     ) -> Result<Step, StepFault>
-        ensures notes { V.is_told ≡ true → IfOk result (λ made. (h : Meanings) (node : RuleNode) → Means (H.meant handlers.old) h →
-            StandsFor V.version h self.old node →
-            HasOwnRows self.old.replica.members.schema (log_of (acted_on (setting_of self.old.replica h) node (Begin request text.now))) →
-            map met_of made.notes ≡ (step (setting_of self.old.replica h) node (Begin request text.now)).notes) }
-        ensures sends { V.is_told ≡ true → IfOk result (λ made. (h : Meanings) (node : RuleNode) → Means (H.meant handlers.old) h →
-            StandsFor V.version h self.old node →
-            HasOwnRows self.old.replica.members.schema (log_of (acted_on (setting_of self.old.replica h) node (Begin request text.now))) →
-            made.sends ≡ (step (setting_of self.old.replica h) node (Begin request text.now)).sends) }
-        ensures state { V.is_told ≡ true → OnOk result ((h : Meanings) (node : RuleNode) → Means (H.meant handlers.old) h →
-            StandsFor V.version h self.old node →
-            HasOwnRows self.old.replica.members.schema (log_of (acted_on (setting_of self.old.replica h) node (Begin request text.now))) →
-            StandsFor V.version h self.new (step (setting_of self.old.replica h) node (Begin request text.now)).node) }
-        ensures staged { V.is_told ≡ true → OnOk result ((h : Meanings) (node : RuleNode) (before : List Met) → Means (H.meant handlers.old) h → StandsFor V.version h self.old node →
-            HasOwnRows self.old.replica.members.schema (log_of (acted_on (setting_of self.old.replica h) node (Begin request text.now))) →
-            Stages self.old.replica.voter.logs.staged.items before node.met → Stages self.new.replica.voter.logs.staged.items before (step (setting_of self.old.replica h) node (Begin request text.now)).node.met) }
+        ensures notes { V.is_told ≡ true → IfOk result (λ made. AtEach V.version (H.meant handlers.old) self.old (Begin request text.now) (λ h s node. map met_of made.notes ≡ (step s node (Begin request text.now)).notes)) }
+        ensures sends { V.is_told ≡ true → IfOk result (λ made. AtEach V.version (H.meant handlers.old) self.old (Begin request text.now) (λ h s node. made.sends ≡ (step s node (Begin request text.now)).sends)) }
+        ensures state { V.is_told ≡ true → OnOk result (AtEach V.version (H.meant handlers.old) self.old (Begin request text.now) (λ h s node. StandsFor V.version h self.new (step s node (Begin request text.now)).node)) }
+        ensures staged { V.is_told ≡ true → OnOk result (AtEach V.version (H.meant handlers.old) self.old (Begin request text.now) (λ h s node. (before : List Met) → Stages self.old.replica.voter.logs.staged.items before node.met → Stages self.new.replica.voter.logs.staged.items before (step s node (Begin request text.now)).node.met)) }
         ensures records { self.new.replica.voter.logs.records ≡ self.old.replica.voter.logs.records }
         ensures handlers { H.meant handlers.new ≡ H.meant handlers.old }
         ensures members { self.new.replica.members ≡ self.old.replica.members }
@@ -196,27 +171,16 @@ impl<R: Records, V: Versions> Node<R, V> {
     }
 
     /// The node's clock shows `now`, in milliseconds.
-    pub fn tick<H: QueueHandlers>(
+    fn tick<H: QueueHandlers>(
         &mut self,
         alloc: Global,
         handlers: &mut H,
         now: u64,
     ) -> Result<Step, StepFault>
-        ensures notes { V.is_told ≡ true → IfOk result (λ made. (h : Meanings) (node : RuleNode) → Means (H.meant handlers.old) h →
-            StandsFor V.version h self.old node →
-            HasOwnRows self.old.replica.members.schema (log_of (acted_on (setting_of self.old.replica h) node (Tick now))) →
-            map met_of made.notes ≡ (step (setting_of self.old.replica h) node (Tick now)).notes) }
-        ensures sends { V.is_told ≡ true → IfOk result (λ made. (h : Meanings) (node : RuleNode) → Means (H.meant handlers.old) h →
-            StandsFor V.version h self.old node →
-            HasOwnRows self.old.replica.members.schema (log_of (acted_on (setting_of self.old.replica h) node (Tick now))) →
-            made.sends ≡ (step (setting_of self.old.replica h) node (Tick now)).sends) }
-        ensures state { V.is_told ≡ true → OnOk result ((h : Meanings) (node : RuleNode) → Means (H.meant handlers.old) h →
-            StandsFor V.version h self.old node →
-            HasOwnRows self.old.replica.members.schema (log_of (acted_on (setting_of self.old.replica h) node (Tick now))) →
-            StandsFor V.version h self.new (step (setting_of self.old.replica h) node (Tick now)).node) }
-        ensures staged { V.is_told ≡ true → OnOk result ((h : Meanings) (node : RuleNode) (before : List Met) → Means (H.meant handlers.old) h → StandsFor V.version h self.old node →
-            HasOwnRows self.old.replica.members.schema (log_of (acted_on (setting_of self.old.replica h) node (Tick now))) →
-            Stages self.old.replica.voter.logs.staged.items before node.met → Stages self.new.replica.voter.logs.staged.items before (step (setting_of self.old.replica h) node (Tick now)).node.met) }
+        ensures notes { V.is_told ≡ true → IfOk result (λ made. AtEach V.version (H.meant handlers.old) self.old (Tick now) (λ h s node. map met_of made.notes ≡ (step s node (Tick now)).notes)) }
+        ensures sends { V.is_told ≡ true → IfOk result (λ made. AtEach V.version (H.meant handlers.old) self.old (Tick now) (λ h s node. made.sends ≡ (step s node (Tick now)).sends)) }
+        ensures state { V.is_told ≡ true → OnOk result (AtEach V.version (H.meant handlers.old) self.old (Tick now) (λ h s node. StandsFor V.version h self.new (step s node (Tick now)).node)) }
+        ensures staged { V.is_told ≡ true → OnOk result (AtEach V.version (H.meant handlers.old) self.old (Tick now) (λ h s node. (before : List Met) → Stages self.old.replica.voter.logs.staged.items before node.met → Stages self.new.replica.voter.logs.staged.items before (step s node (Tick now)).node.met)) }
         ensures records { self.new.replica.voter.logs.records ≡ self.old.replica.voter.logs.records }
         ensures handlers { H.meant handlers.new ≡ H.meant handlers.old }
         ensures members { self.new.replica.members ≡ self.old.replica.members }
@@ -239,5 +203,33 @@ impl<R: Records, V: Versions> Node<R, V> {
         let work = acts_ticked(alloc, handlers, &mut self.replica, now, opened)?;
         let step = self.ends(alloc, before, notes, work, opening, closing)?;
         Ok(step)
+    }
+
+    /// The node makes the step of an event (Lamport 2001; CIDR 2011). `Stranger` and `Late` are of a message that it takes, `Unserved` of a
+    /// request that begins; after any fault the node is not used again.
+    pub fn step<H: QueueHandlers>(
+        &mut self,
+        alloc: Global,
+        handlers: &mut H,
+        event: Event<'_>,
+    ) -> Result<Step, StepFault>
+        ensures notes { V.is_told ≡ true → IfOk result (λ made. AtEach V.version (H.meant handlers.old) self.old (event_of event.entry) (λ h s node. map met_of made.notes ≡ (step s node (event_of event.entry)).notes)) }
+        ensures sends { V.is_told ≡ true → IfOk result (λ made. AtEach V.version (H.meant handlers.old) self.old (event_of event.entry) (λ h s node. made.sends ≡ (step s node (event_of event.entry)).sends)) }
+        ensures state { V.is_told ≡ true → OnOk result (AtEach V.version (H.meant handlers.old) self.old (event_of event.entry) (λ h s node. StandsFor V.version h self.new (step s node (event_of event.entry)).node)) }
+        ensures staged { V.is_told ≡ true → OnOk result (AtEach V.version (H.meant handlers.old) self.old (event_of event.entry) (λ h s node. (before : List Met) → Stages self.old.replica.voter.logs.staged.items before node.met → Stages self.new.replica.voter.logs.staged.items before (step s node (event_of event.entry)).node.met)) }
+        ensures records { self.new.replica.voter.logs.records ≡ self.old.replica.voter.logs.records }
+        ensures handlers { H.meant handlers.new ≡ H.meant handlers.old }
+        ensures members { self.new.replica.members ≡ self.old.replica.members }
+        ensures me { self.new.replica.me ≡ self.old.replica.me }
+        ensures unserved { result ≡ Err Unserved → (h : Meanings) (node : RuleNode) → StandsFor V.version h self.old node → is_servable (event_of event.entry) ≡ false }
+        ensures stranger { result ≡ Err Stranger → IsStrange (event_of event.entry) }
+        ensures late { result ≡ Err Late → (h : Meanings) (node : RuleNode) → StandsFor V.version h self.old node → IsTooLate self.old.replica.members (event_of event.entry) }
+        ensures used { StoreUsed V.Versions (failed_by result) self.old.replica.rows.rows self.new.replica.rows.rows }
+    {
+        match event {
+            Event::Take(message) => self.take(alloc, handlers, message),
+            Event::Begin(request, text) => self.begin(alloc, handlers, request, text),
+            Event::Tick(now) => self.tick(alloc, handlers, now),
+        }
     }
 }

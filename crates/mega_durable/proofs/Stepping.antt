@@ -33,7 +33,8 @@ use Rattle.mega_durable.specs.declared.fault.UpFault.{UpFault}
 use Rattle.mega_durable.specs.declared.fault.UpFault.TheVariants.{Step as Failed, Cut as CutOff, Log, Unformed}
 use Rattle.mega_durable.specs.Granted.{KeepsGrants}
 use Rattle.mega_durable.specs.Replying.{owed_by, replies_at}
-use Rattle.mega_durable.specs.Standing.{IsPlacedAt, IsUp, MayHappen, records_in, setting_of}
+use Rattle.mega_core.specs.Stepping.{IsPlacedAt}
+use Rattle.mega_durable.specs.Standing.{IsUp, MayHappen, records_in, setting_of}
 use Rattle.mega_durable.specs.Stepped.{HasStepped}
 use Rattle.mega_durable.proofs.Owing.{cut_owed, step_keeps}
 use Rattle.mega_durable.proofs.Noted.{HasParts, step_parts}

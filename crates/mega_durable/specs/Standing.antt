@@ -10,18 +10,18 @@ use Rattle.mega_rules.specs.Clock.{start_of}
 use Rattle.mega_rules.specs.Logs.{log_of}
 use Rattle.mega_rules.specs.Met.{Met}
 use Rattle.mega_rules.specs.Operations.{Node as RuleNode, Setting}
-use Rattle.mega_rules.specs.Steps.{Begin, Event, Take, Tick, onto, step}
+use Rattle.mega_rules.specs.Steps.{Event, onto, step}
 use Rattle.mega_leases.specs.Opening.{AreOwed}
 use Rattle.mega_replica.specs.Following.{progress_at}
 use Rattle.mega_voter.specs.Holding.{HoldsMet, Recalls}
 use Rattle.mega_voter.specs.Journal.{journal_of}
-use Rattle.mega_core.specs.of_node_laws.Acted.{acted_on, decision_in}
+use Rattle.mega_core.specs.of_node_laws.Acted.{acted_on}
 use Rattle.mega_core.specs.of_node_laws.Own.{HasOwnRows}
 use Rattle.mega_core.specs.of_actions.of_proposing.Settings.{setting}
 use Rattle.mega_core.specs.declared.node.Node.{Node}
-use Rattle.mega_core.specs.of_stepping.Placed.{IsPlaced}
 use Rattle.mega_core.specs.Restarting.{HaveFollowed}
 use Rattle.mega_core.specs.Standing.{StandsFor}
+use Rattle.mega_core.specs.Stepping.{IsPlacedAt}
 use Rattle.mega_durable.specs.declared.down.Down.{Down}
 use Rattle.mega_durable.specs.Granted.{KeepsGrants}
 
@@ -40,12 +40,6 @@ pub record IsUp {R V : Type 0} (store : Ghosts R) (version : V → Versions) (h 
   pub ready : store.is_spent (records_in one) ≡ false
   pub holds : store.is_told ≡ true → HoldsMet (store.list (records_in one)) (start_of node.met) node.met
   pub granted : KeepsGrants one.replica.members one.replica.me node.met
-
--- a decision that a message brings is at a position from 1 on
-abbrev pub IsPlacedAt : Setting → RuleNode → Event → Type 0
-IsPlacedAt s node (Take message) = IsPlaced (decision_in s node message)
-IsPlacedAt s node (Tick now) = Unit {0}
-IsPlacedAt s node (Begin request text) = Unit {0}
 
 -- an event may happen at a node over handlers that make this of messages: they mean what its setting says, each group's rows are its own
 -- then, and what is to be kept of the step has a text

@@ -3,11 +3,11 @@ ghost use Rattle.std.specs.Prelude.{◌≡◌, ◌≢◌, ◌+◌, if◌then◌e
 ghost use Rattle.mega_disk.specs.Fuse.{set_to};
 ghost use Rattle.mega_disk.specs.Images.{LeavesOnly, SameImages};
 ghost use Rattle.mega_handler.specs.Named.{Meanings};
-ghost use Rattle.mega_leases.specs.Taking.{IsByStranger, IsLate};
 ghost use Rattle.mega_rules.specs.Operations.{Node as RuleNode};
-ghost use Rattle.mega_rules.specs.Steps.{Begin, Take, Tick, step};
+ghost use Rattle.mega_rules.specs.Steps.{step};
 ghost use Rattle.mega_replica.specs.Used.{StoreUsed};
-ghost use Rattle.mega_core.specs.of_actions.of_proposing.Servable.{is_served};
+ghost use Rattle.mega_core.specs.Stepping.{IsStrange, IsTooLate, is_servable};
+ghost use Rattle.mega_core.specs.of_stepping.Events.{event_of};
 ghost use Rattle.mega_core.specs.declared.fault.StepFault.TheVariants.{Late, Stranger, Unserved};
 ghost use Rattle.mega_core.specs.of_stepping.Notes.{met_of};
 ghost use Rattle.mega_promises.specs.Runs.{appends};
@@ -19,13 +19,10 @@ ghost use Rattle.mega_durable.specs.Stepped.{AtEach};
 use crate::fault::UpFault;
 use crate::keeping::keep;
 use crate::replying::replies;
-use mega_base::Text;
 use mega_core::Node;
-use mega_core::mega_stepping::Step;
+use mega_core::mega_stepping::{Event, Step};
 use mega_disk::{Records, Versions};
 use mega_meanings::QueueHandlers;
-use mega_outcome::Request;
-use mega_wire::Message;
 use std::alloc::Global;
 
 /// A node that is up. What a step promises, decides, grants or lets lapse is one record on its log before anything of the
@@ -36,32 +33,32 @@ pub struct Up<R: Records, V: Versions> {
 }
 
 impl<R: Records, V: Versions> Up<R, V> {
-    /// The node takes a message.
-    pub fn take<H: QueueHandlers>(
+    /// The node makes the step of an event (Lamport 2001; CIDR 2011).
+    pub fn step<H: QueueHandlers>(
         &mut self,
         alloc: Global,
         handlers: &mut H,
-        message: &Message,
+        event: Event<'_>,
     ) -> Result<Step, UpFault>
-        ensures notes { V.is_told ≡ true → IfOk result (λ made. AtEach R.Records V.version (H.meant handlers.old) self.old.node (Take message.now) (λ h s node. map met_of made.notes ≡ (step s node (Take message.now)).notes)) }
-        ensures sends { V.is_told ≡ true → IfOk result (λ made. AtEach R.Records V.version (H.meant handlers.old) self.old.node (Take message.now) (λ h s node. made.sends ≡ (step s node (Take message.now)).sends)) }
-        ensures state { V.is_told ≡ true → OnOk result (AtEach R.Records V.version (H.meant handlers.old) self.old.node (Take message.now) (λ h s node. IsUp R.Records V.version h self.new.node (step s node (Take message.now)).node)) }
-        ensures appended { V.is_told ≡ true → OnOk result (AtEach R.Records V.version (H.meant handlers.old) self.old.node (Take message.now) (λ h s node. R.count_of (records_in self.new.node) ≡ R.count_of (records_in self.old.node) + (if appends (step s node (Take message.now)) then 1 else 0))) }
+        ensures notes { V.is_told ≡ true → IfOk result (λ made. AtEach R.Records V.version (H.meant handlers.old) self.old.node (event_of event.entry) (λ h s node. map met_of made.notes ≡ (step s node (event_of event.entry)).notes)) }
+        ensures sends { V.is_told ≡ true → IfOk result (λ made. AtEach R.Records V.version (H.meant handlers.old) self.old.node (event_of event.entry) (λ h s node. made.sends ≡ (step s node (event_of event.entry)).sends)) }
+        ensures state { V.is_told ≡ true → OnOk result (AtEach R.Records V.version (H.meant handlers.old) self.old.node (event_of event.entry) (λ h s node. IsUp R.Records V.version h self.new.node (step s node (event_of event.entry)).node)) }
+        ensures appended { V.is_told ≡ true → OnOk result (AtEach R.Records V.version (H.meant handlers.old) self.old.node (event_of event.entry) (λ h s node. R.count_of (records_in self.new.node) ≡ R.count_of (records_in self.old.node) + (if appends (step s node (event_of event.entry)) then 1 else 0))) }
 
         // A crash at any moment of the step leaves what the run's step leaves that is cut off.
-        ensures cut { V.is_told ≡ true → R.is_told ≡ true → AtEach R.Records V.version (H.meant handlers.old) self.old.node (Take message.now) (λ h s node. LeavesOnly R.moment R.opened_since (records_in self.old.node) (records_in self.new.node) (MayLeave s node (Take message.now))) }
+        ensures cut { V.is_told ≡ true → R.is_told ≡ true → AtEach R.Records V.version (H.meant handlers.old) self.old.node (event_of event.entry) (λ h s node. LeavesOnly R.moment R.opened_since (records_in self.old.node) (records_in self.new.node) (MayLeave s node (event_of event.entry))) }
 
         // The log's fuse cuts the step exactly where it has no append left for it.
-        ensures whole { V.is_told ≡ true → R.by_four ≡ true → OnOk result (AtEach R.Records V.version (H.meant handlers.old) self.old.node (Take message.now) (λ h s node. IsWhole R.Records (appends (step s node (Take message.now))) (records_in self.old.node) (records_in self.new.node))) }
-        ensures burnt { V.is_told ≡ true → R.is_told ≡ true → R.by_four ≡ true → IfErr result (λ refused. AtEach R.Records V.version (H.meant handlers.old) self.old.node (Take message.now) (λ h s node. IsCutBy R.Records s node (Take message.now) (records_in self.old.node) (records_in self.new.node) refused)) }
-        ensures owed { V.is_told ≡ true → IfErr result (λ refused. AtEach R.Records V.version (H.meant handlers.old) self.old.node (Take message.now) (λ h s node. IsOwedBy s node (Take message.now) refused)) }
+        ensures whole { V.is_told ≡ true → R.by_four ≡ true → OnOk result (AtEach R.Records V.version (H.meant handlers.old) self.old.node (event_of event.entry) (λ h s node. IsWhole R.Records (appends (step s node (event_of event.entry))) (records_in self.old.node) (records_in self.new.node))) }
+        ensures burnt { V.is_told ≡ true → R.is_told ≡ true → R.by_four ≡ true → IfErr result (λ refused. AtEach R.Records V.version (H.meant handlers.old) self.old.node (event_of event.entry) (λ h s node. IsCutBy R.Records s node (event_of event.entry) (records_in self.old.node) (records_in self.new.node) refused)) }
+        ensures owed { V.is_told ≡ true → IfErr result (λ refused. AtEach R.Records V.version (H.meant handlers.old) self.old.node (event_of event.entry) (λ h s node. IsOwedBy s node (event_of event.entry) refused)) }
 
         // What a step stages is of the journal's format wherever its event may happen.
-        ensures formed { V.is_told ≡ true → result ≡ Err Unformed → AtEach R.Records V.version (H.meant handlers.old) self.old.node (Take message.now) (λ h s node. ⊥) }
+        ensures formed { V.is_told ≡ true → result ≡ Err Unformed → AtEach R.Records V.version (H.meant handlers.old) self.old.node (event_of event.entry) (λ h s node. ⊥) }
 
-        ensures built { result ≡ Err (Failed Unserved) → (h : Meanings) (node : RuleNode) → IsUp R.Records V.version h self.old.node node → ⊥ }
-        ensures stranger { result ≡ Err (Failed Stranger) → IsByStranger message.now.from message.now.body }
-        ensures late { result ≡ Err (Failed Late) → (h : Meanings) (node : RuleNode) → IsUp R.Records V.version h self.old.node node → IsLate self.old.node.replica.members message.now.body }
+        ensures unserved { result ≡ Err (Failed Unserved) → (h : Meanings) (node : RuleNode) → IsUp R.Records V.version h self.old.node node → is_servable (event_of event.entry) ≡ false }
+        ensures stranger { result ≡ Err (Failed Stranger) → IsStrange (event_of event.entry) }
+        ensures late { result ≡ Err (Failed Late) → (h : Meanings) (node : RuleNode) → IsUp R.Records V.version h self.old.node node → IsTooLate self.old.node.replica.members (event_of event.entry) }
         ensures handlers { H.meant handlers.new ≡ H.meant handlers.old }
         ensures proceeds { LogProceeds R.Records (log_failed_by result) (records_in self.old.node) (records_in self.new.node) }
         ensures used { StoreUsed V.Versions (failed_by result) self.old.node.replica.rows.rows self.new.node.replica.rows.rows }
@@ -69,92 +66,9 @@ impl<R: Records, V: Versions> Up<R, V> {
         ensures me { self.new.node.replica.me ≡ self.old.node.replica.me }
     {
         let members = &self.node.replica.members;
-        let replies = replies(members.cluster(), self.node.replica.me, &message.body);
-        match self.node.take(alloc, handlers, message) {
+        let replies = replies(members.cluster(), self.node.replica.me, &event);
+        match self.node.step(alloc, handlers, event) {
             Ok(step) => match keep(alloc, &mut self.node, step, replies) {
-                Ok(made) => Ok(made),
-                Err(fault) => Err(fault),
-            },
-            Err(fault) => Err(UpFault::Step(fault)),
-        }
-    }
-
-    /// An operation begins at the node; the text is its request.
-    pub fn begin<H: QueueHandlers>(
-        &mut self,
-        alloc: Global,
-        handlers: &mut H,
-        request: Request,
-        text: &Text,
-    ) -> Result<Step, UpFault>
-        ensures notes { V.is_told ≡ true → IfOk result (λ made. AtEach R.Records V.version (H.meant handlers.old) self.old.node (Begin request text.now) (λ h s node. map met_of made.notes ≡ (step s node (Begin request text.now)).notes)) }
-        ensures sends { V.is_told ≡ true → IfOk result (λ made. AtEach R.Records V.version (H.meant handlers.old) self.old.node (Begin request text.now) (λ h s node. made.sends ≡ (step s node (Begin request text.now)).sends)) }
-        ensures state { V.is_told ≡ true → OnOk result (AtEach R.Records V.version (H.meant handlers.old) self.old.node (Begin request text.now) (λ h s node. IsUp R.Records V.version h self.new.node (step s node (Begin request text.now)).node)) }
-        ensures appended { V.is_told ≡ true → OnOk result (AtEach R.Records V.version (H.meant handlers.old) self.old.node (Begin request text.now) (λ h s node. R.count_of (records_in self.new.node) ≡ R.count_of (records_in self.old.node) + (if appends (step s node (Begin request text.now)) then 1 else 0))) }
-
-        // A crash at any moment of the step leaves what the run's step leaves that is cut off.
-        ensures cut { V.is_told ≡ true → R.is_told ≡ true → AtEach R.Records V.version (H.meant handlers.old) self.old.node (Begin request text.now) (λ h s node. LeavesOnly R.moment R.opened_since (records_in self.old.node) (records_in self.new.node) (MayLeave s node (Begin request text.now))) }
-
-        // The log's fuse cuts the step exactly where it has no append left for it.
-        ensures whole { V.is_told ≡ true → R.by_four ≡ true → OnOk result (AtEach R.Records V.version (H.meant handlers.old) self.old.node (Begin request text.now) (λ h s node. IsWhole R.Records (appends (step s node (Begin request text.now))) (records_in self.old.node) (records_in self.new.node))) }
-        ensures burnt { V.is_told ≡ true → R.is_told ≡ true → R.by_four ≡ true → IfErr result (λ refused. AtEach R.Records V.version (H.meant handlers.old) self.old.node (Begin request text.now) (λ h s node. IsCutBy R.Records s node (Begin request text.now) (records_in self.old.node) (records_in self.new.node) refused)) }
-        ensures owed { V.is_told ≡ true → IfErr result (λ refused. AtEach R.Records V.version (H.meant handlers.old) self.old.node (Begin request text.now) (λ h s node. IsOwedBy s node (Begin request text.now) refused)) }
-
-        // What a step stages is of the journal's format wherever its event may happen.
-        ensures formed { V.is_told ≡ true → result ≡ Err Unformed → AtEach R.Records V.version (H.meant handlers.old) self.old.node (Begin request text.now) (λ h s node. ⊥) }
-
-        ensures unserved { result ≡ Err (Failed Unserved) → is_served request ≡ false }
-        ensures stranger { result ≢ Err (Failed Stranger) }
-        ensures late { result ≢ Err (Failed Late) }
-        ensures handlers { H.meant handlers.new ≡ H.meant handlers.old }
-        ensures proceeds { LogProceeds R.Records (log_failed_by result) (records_in self.old.node) (records_in self.new.node) }
-        ensures used { StoreUsed V.Versions (failed_by result) self.old.node.replica.rows.rows self.new.node.replica.rows.rows }
-        ensures members { self.new.node.replica.members ≡ self.old.node.replica.members }
-        ensures me { self.new.node.replica.me ≡ self.old.node.replica.me }
-    {
-        match self.node.begin(alloc, handlers, request, text) {
-            Ok(step) => match keep(alloc, &mut self.node, step, 0) {
-                Ok(made) => Ok(made),
-                Err(fault) => Err(fault),
-            },
-            Err(fault) => Err(UpFault::Step(fault)),
-        }
-    }
-
-    /// The node's clock shows `now`, in milliseconds.
-    pub fn tick<H: QueueHandlers>(
-        &mut self,
-        alloc: Global,
-        handlers: &mut H,
-        now: u64,
-    ) -> Result<Step, UpFault>
-        ensures notes { V.is_told ≡ true → IfOk result (λ made. AtEach R.Records V.version (H.meant handlers.old) self.old.node (Tick now) (λ h s node. map met_of made.notes ≡ (step s node (Tick now)).notes)) }
-        ensures sends { V.is_told ≡ true → IfOk result (λ made. AtEach R.Records V.version (H.meant handlers.old) self.old.node (Tick now) (λ h s node. made.sends ≡ (step s node (Tick now)).sends)) }
-        ensures state { V.is_told ≡ true → OnOk result (AtEach R.Records V.version (H.meant handlers.old) self.old.node (Tick now) (λ h s node. IsUp R.Records V.version h self.new.node (step s node (Tick now)).node)) }
-        ensures appended { V.is_told ≡ true → OnOk result (AtEach R.Records V.version (H.meant handlers.old) self.old.node (Tick now) (λ h s node. R.count_of (records_in self.new.node) ≡ R.count_of (records_in self.old.node) + (if appends (step s node (Tick now)) then 1 else 0))) }
-
-        // A crash at any moment of the step leaves what the run's step leaves that is cut off.
-        ensures cut { V.is_told ≡ true → R.is_told ≡ true → AtEach R.Records V.version (H.meant handlers.old) self.old.node (Tick now) (λ h s node. LeavesOnly R.moment R.opened_since (records_in self.old.node) (records_in self.new.node) (MayLeave s node (Tick now))) }
-
-        // The log's fuse cuts the step exactly where it has no append left for it.
-        ensures whole { V.is_told ≡ true → R.by_four ≡ true → OnOk result (AtEach R.Records V.version (H.meant handlers.old) self.old.node (Tick now) (λ h s node. IsWhole R.Records (appends (step s node (Tick now))) (records_in self.old.node) (records_in self.new.node))) }
-        ensures burnt { V.is_told ≡ true → R.is_told ≡ true → R.by_four ≡ true → IfErr result (λ refused. AtEach R.Records V.version (H.meant handlers.old) self.old.node (Tick now) (λ h s node. IsCutBy R.Records s node (Tick now) (records_in self.old.node) (records_in self.new.node) refused)) }
-        ensures owed { V.is_told ≡ true → IfErr result (λ refused. AtEach R.Records V.version (H.meant handlers.old) self.old.node (Tick now) (λ h s node. IsOwedBy s node (Tick now) refused)) }
-
-        // What a step stages is of the journal's format wherever its event may happen.
-        ensures formed { V.is_told ≡ true → result ≡ Err Unformed → AtEach R.Records V.version (H.meant handlers.old) self.old.node (Tick now) (λ h s node. ⊥) }
-
-        ensures built { result ≡ Err (Failed Unserved) → (h : Meanings) (node : RuleNode) → IsUp R.Records V.version h self.old.node node → ⊥ }
-        ensures stranger { result ≢ Err (Failed Stranger) }
-        ensures late { result ≢ Err (Failed Late) }
-        ensures handlers { H.meant handlers.new ≡ H.meant handlers.old }
-        ensures proceeds { LogProceeds R.Records (log_failed_by result) (records_in self.old.node) (records_in self.new.node) }
-        ensures used { StoreUsed V.Versions (failed_by result) self.old.node.replica.rows.rows self.new.node.replica.rows.rows }
-        ensures members { self.new.node.replica.members ≡ self.old.node.replica.members }
-        ensures me { self.new.node.replica.me ≡ self.old.node.replica.me }
-    {
-        match self.node.tick(alloc, handlers, now) {
-            Ok(step) => match keep(alloc, &mut self.node, step, 0) {
                 Ok(made) => Ok(made),
                 Err(fault) => Err(fault),
             },

@@ -1,5 +1,5 @@
 -- Why a node of a world does not step: never for its rows, which are in memory.
-use Rattle.std.proofs.Common.{◌≡◌, ◌<◌, ◌^◌, ℕ, true, false, Some, None, refl, sym, ◌∙◌, arith}
+use Rattle.std.proofs.Common.{◌≡◌, ◌<◌, ◌^◌, ℕ, true, false, Some, None, inl, inr, refl, sym, ◌∙◌, arith}
 use Rattle.mega_base.specs.Causes.{Rose}
 use Rattle.mega_disk.specs.declared.records.Records.{Ghosts as RecordGhosts}
 use Rattle.mega_disk.specs.declared.versions.Versions.{Ghosts}
@@ -10,7 +10,11 @@ use Rattle.mega_replica.specs.Used.{StoreUsed}
 use Rattle.mega_durable.specs.of_core.declared.fault.StepFault.{StepFault}
 use Rattle.mega_durable.specs.of_core.declared.fault.StepFault.TheVariants as fault
 use Rattle.mega_durable.specs.of_core.Faults.{of_store}
+use Rattle.mega_cluster.specs.declared.cluster.Cluster.{Cluster}
+use Rattle.mega_rules.specs.Steps.{Begin, Event, Take, Tick}
+use Rattle.mega_durable.specs.of_core.Stepping.{IsStrange, IsTooLate, is_servable}
 use Rattle.mega_places.specs.Faults.{is_strange}
+use Rattle.mega_places.specs.Stepping.{IsNear}
 
 -- a device that never fails, and never held anything bad, is not why
 pub no_rows : {V : Type 0} (store : Ghosts V) (why : StepFault) (old new : V) → StoreUsed store (of_store why) old new → ((x : V) → store.faults x ≡ 0) → ((x : V) (n : ℕ) → store.is_bad x n → ⊥) → of_store why ≡ None
@@ -43,3 +47,19 @@ not_strange fault.Unserved built ours timely = absurd (built refl)
 not_strange fault.Stranger built ours timely = absurd (ours refl)
 not_strange fault.Late built ours timely = absurd (timely refl)
 not_strange fault.NoMemory built ours timely = refl
+
+-- an event that is near is of no stranger, not too late, and served
+pub is_no_stranger : (c : Cluster) (event : Event) → IsNear c event → IsStrange event → ⊥
+is_no_stranger c (Take message) near strange = near (inl strange)
+is_no_stranger c (Begin request text) near strange = strange
+is_no_stranger c (Tick now) near strange = strange
+
+pub is_timely : (c : Cluster) (event : Event) → IsNear c event → IsTooLate c event → ⊥
+is_timely c (Take message) near late = near (inr late)
+is_timely c (Begin request text) near late = late
+is_timely c (Tick now) near late = late
+
+pub may_serve : (c : Cluster) (event : Event) → IsNear c event → is_servable event ≡ false → ⊥
+may_serve c (Take message) near refused = cc
+may_serve c (Begin request text) near refused = let clash : true ≡ false = sym near ∙ refused in cc
+may_serve c (Tick now) near refused = cc

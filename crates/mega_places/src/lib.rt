@@ -35,4 +35,4 @@ pub use places::{is_node, is_up, member_of, put_place, take_down, take_place};
 pub use remains::Remains;
 pub use safety::{Lapse, Safety, keep_lapses};
 pub use starting::{Begun, NotBegun};
-pub use stepping::{Stepped, begin_at, take_at, tick_at};
+pub use stepping::{Stepped, begin_at, step_at};

@@ -1,10 +1,10 @@
-//! A node of the world takes a message, begins an operation or ticks: its step is whole, or its log's fuse cuts it off.
+//! A node of the world makes the step of an event: it is whole, or its log's fuse cuts it off.
 ghost use Rattle.std.specs.Prelude.{◌≡◌, ◌≢◌, ◌⊎◌, ◌≤◌, ◌-◌, ℕ, List, true, false, length, set, IfOk, Err};
 ghost use Rattle.mega_cluster.specs.declared.cluster.Cluster.{Cluster};
 ghost use Rattle.mega_handler.specs.Named.{Meanings};
-ghost use Rattle.mega_leases.specs.Taking.{IsByStranger, IsLate};
 ghost use Rattle.mega_rules.specs.Operations.{Node as RuleNode};
-ghost use Rattle.mega_rules.specs.Steps.{Begin, Event as RuleEvent, Take, Tick, op_of};
+ghost use Rattle.mega_rules.specs.Steps.{Begin, Event as RuleEvent, op_of};
+ghost use Rattle.mega_durable.specs.of_core.of_stepping.Events.{event_of};
 ghost use Rattle.mega_rules.specs.Clock.{is_up};
 ghost use Rattle.mega_promises.specs.Runs.{Standing, setting};
 ghost use Rattle.mega_places.specs.declared.fault.WorldFault.{WorldFault as FaultValue};
@@ -23,10 +23,9 @@ use crate::not_made::NotMade;
 use crate::place::Place;
 use crate::places::cut_down;
 use mega_base::{NodeId, OpId, Text};
-use mega_durable::mega_core::mega_stepping::Step;
+use mega_durable::mega_core::mega_stepping::{Event, Step};
 use mega_meanings::QueueHandlers;
 use mega_outcome::Request;
-use mega_wire::Message;
 use std::alloc::Global;
 
 /// What became of a step of a node.
@@ -61,26 +60,27 @@ fn settled(
     }
 }
 
-/// The node to which a message goes, which is up, takes it.
-pub fn take_at<H: QueueHandlers>(
+/// A node that is up makes the step of an event.
+pub fn step_at<H: QueueHandlers>(
     alloc: Global,
     handlers: &mut H,
     places: &mut Vec<Place>,
-    message: &Message,
+    me: u8,
+    event: Event<'_>,
 ) -> Result<Stepped, WorldFault>
-    requires least { 1 ≤ message.now.to }
-    requires most { message.now.to ≤ length places.old.items }
-    requires up { is_up_at places.old.items message.now.to ≡ true }
-    requires known { IsRunning (H.meant handlers.old) places.old.items message.now.to (Take message.now) }
-    ensures made { IfOk result (λ one. AtEachRun (H.meant handlers.old) places.old.items message.now.to (Take message.now) (λ c h now. Comes c h now message.now.to (Take message.now) places.new.items one)) }
+    requires least { 1 ≤ me }
+    requires most { me ≤ length places.old.items }
+    requires up { is_up_at places.old.items me ≡ true }
+    requires known { IsRunning (H.meant handlers.old) places.old.items me (event_of event) }
+    ensures made { IfOk result (λ one. AtEachRun (H.meant handlers.old) places.old.items me (event_of event.entry) (λ c h now. Comes c h now me (event_of event.entry) places.new.items one)) }
     ensures handlers { H.meant handlers.new ≡ H.meant handlers.old }
     ensures served { (why : ℕ) → result ≢ Err (Refused why) }
     ensures limited { result ≢ Err Limit }
 {
-    match &mut places[usize::from(message.to) - 1] {
+    match &mut places[usize::from(me) - 1] {
         Place::Up(member) => {
-            let made = member.take(alloc, handlers, message);
-            match settled(alloc, places, message.to, made) {
+            let made = member.step(alloc, handlers, event);
+            match settled(alloc, places, me, made) {
                 Ok(one) => Ok(one),
                 Err(fault) => Err(fault),
             }
@@ -98,6 +98,19 @@ fn op_of(member: &Member) -> OpId
         node: NodeId(node.replica.me),
         start: node.replica.voter.start(),
         number: node.begun.saturating_add(1),
+    }
+}
+
+/// The id of the operation that begins next at a node that is up.
+fn op_at(places: &[Place], me: u8) -> OpId
+    requires least { 1 ≤ me }
+    requires most { me ≤ length places.now }
+    requires up { is_up_at places.now me ≡ true }
+    ensures { (c : Cluster) (h : Meanings) (now : Standing) → AreNodes c places.now now → result ≡ op_of (setting c h me) (now.node me).met }
+{
+    match &places[usize::from(me) - 1] {
+        Place::Up(member) => op_of(member),
+        Place::Down(_) => unreachable!(),
     }
 }
 
@@ -120,44 +133,9 @@ pub fn begin_at<H: QueueHandlers>(
     ensures served { (why : ℕ) → result ≢ Err (Refused why) }
     ensures limited { result ≢ Err Limit }
 {
-    match &mut places[usize::from(me) - 1] {
-        Place::Up(member) => {
-            let op = op_of(member);
-            let made = member.begin(alloc, handlers, request, text);
-            match settled(alloc, places, me, made) {
-                Ok(one) => Ok((op, one)),
-                Err(fault) => Err(fault),
-            }
-        }
-        Place::Down(_) => unreachable!(),
-    }
-}
-
-/// The clock of a node that is up shows a time.
-pub fn tick_at<H: QueueHandlers>(
-    alloc: Global,
-    handlers: &mut H,
-    places: &mut Vec<Place>,
-    me: u8,
-    clock: u64,
-) -> Result<Stepped, WorldFault>
-    requires least { 1 ≤ me }
-    requires most { me ≤ length places.old.items }
-    requires up { is_up_at places.old.items me ≡ true }
-    requires known { IsRunning (H.meant handlers.old) places.old.items me (Tick clock) }
-    ensures made { IfOk result (λ one. AtEachRun (H.meant handlers.old) places.old.items me (Tick clock) (λ c h now. Comes c h now me (Tick clock) places.new.items one)) }
-    ensures handlers { H.meant handlers.new ≡ H.meant handlers.old }
-    ensures served { (why : ℕ) → result ≢ Err (Refused why) }
-    ensures limited { result ≢ Err Limit }
-{
-    match &mut places[usize::from(me) - 1] {
-        Place::Up(member) => {
-            let made = member.tick(alloc, handlers, clock);
-            match settled(alloc, places, me, made) {
-                Ok(one) => Ok(one),
-                Err(fault) => Err(fault),
-            }
-        }
-        Place::Down(_) => unreachable!(),
+    let op = op_at(places.as_slice(), me);
+    match step_at(alloc, handlers, places, me, Event::Begin(request, text)) {
+        Ok(one) => Ok((op, one)),
+        Err(fault) => Err(fault),
     }
 }

@@ -15,7 +15,8 @@ use Rattle.mega_voter.specs.Journal.{journal_of}
 use Rattle.mega_wal.specs.Items.{IsItem}
 use Rattle.mega_wal.specs.Same.{same_op}
 use Rattle.mega_durable.specs.of_core.declared.node.Node.{Node}
-use Rattle.mega_durable.specs.Standing.{IsPlacedAt, IsUp, records_in}
+use Rattle.mega_durable.specs.of_core.Stepping.{IsPlacedAt}
+use Rattle.mega_durable.specs.Standing.{IsUp, records_in}
 
 -- a node of this number that is up as this node of the rules, over rows that tell what they hold and of which nothing is cleaned, and handlers that
 -- make this of messages

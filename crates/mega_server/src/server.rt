@@ -24,7 +24,7 @@ use crate::forming::formed;
 use crate::number::Number;
 use mega_base::{NodeId, OpId};
 use mega_disk::{Records, Versions};
-use mega_durable::mega_core::mega_stepping::Step;
+use mega_durable::mega_core::mega_stepping::{Event as Given, Step};
 use mega_durable::{Up, UpFault};
 use mega_meanings::QueueHandlers;
 use mega_operations::Operation;
@@ -84,10 +84,14 @@ impl<R: Records, V: Versions, H: QueueHandlers> Server<R, V, H> {
         ensures me { self.new.up.node.replica.me ≡ self.old.up.node.replica.me }
     {
         match event {
-            Event::Tick { now } => self.up.tick(alloc, &mut self.handlers, now),
-            Event::Take { message } => self.up.take(alloc, &mut self.handlers, &message),
+            Event::Tick { now } => self.up.step(alloc, &mut self.handlers, Given::Tick(now)),
+            Event::Take { message } => {
+                self.up
+                    .step(alloc, &mut self.handlers, Given::Take(&message))
+            }
             Event::Begin { request, text } => {
-                self.up.begin(alloc, &mut self.handlers, request, &text)
+                self.up
+                    .step(alloc, &mut self.handlers, Given::Begin(request, &text))
             }
         }
     }

@@ -1,3 +1,4 @@
+pub mod Events
 pub mod Notes
 pub mod Staging
 pub mod Placed

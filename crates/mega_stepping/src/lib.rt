@@ -4,6 +4,7 @@
 
 mod applying;
 mod deciding;
+mod event;
 mod fetching;
 mod hearing;
 mod joining;
@@ -18,6 +19,7 @@ mod touching;
 
 pub use applying::{Before, apply_notes, positions};
 pub use deciding::{Chosen, decides, decision, note_decision, tells_decision};
+pub use event::Event;
 pub use fetching::background;
 pub use hearing::all_hear;
 pub use joining::{add_sends, joined};

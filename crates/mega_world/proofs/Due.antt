@@ -3,7 +3,8 @@ use Rattle.std.proofs.Common.{◌≡◌, ℕ, ◌++◌, ◌∷◌, [], List, Opt
 use Rattle.mega_base.specs.declared.names.NodeId.{NodeId}
 use Rattle.mega_base.specs.declared.names.OpId.{OpId}
 use Rattle.mega_cluster.specs.declared.cluster.Cluster.{Cluster}
-use Rattle.mega_places.specs.of_durable.Standing.{IsPlacedAt, MayHappen}
+use Rattle.mega_places.specs.of_durable.of_core.Stepping.{IsPlacedAt}
+use Rattle.mega_places.specs.of_durable.Standing.{MayHappen}
 use Rattle.mega_places.specs.of_handler.Named.{Meaning, Meanings}
 use Rattle.mega_places.specs.of_meanings.Means.{Means}
 use Rattle.mega_places.specs.of_outcome.declared.request.Request.{Request}

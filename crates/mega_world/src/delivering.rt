@@ -16,9 +16,10 @@ ghost use Rattle.mega_places.specs.Members.{is_up_at};
 ghost use Rattle.mega_world.specs.Stands.{IsAllowed, StandsWith, MayCome};
 
 use crate::world::World;
+use mega_places::mega_durable::mega_core::mega_stepping::Event;
 use mega_places::mega_meanings::QueueHandlers;
 use mega_places::mega_transcript::{Item, Tape};
-use mega_places::{Mail, Place, WorldFault, is_up, take_at};
+use mega_places::{Mail, Place, WorldFault, is_up, step_at};
 use mega_wire::Message;
 use std::alloc::Global;
 
@@ -65,7 +66,13 @@ impl World {
             None => unreachable!(),
         };
         let me = message.to;
-        let made = match take_at(alloc, handlers, &mut self.places, message) {
+        let made = match step_at(
+            alloc,
+            handlers,
+            &mut self.places,
+            message.to,
+            Event::Take(message),
+        ) {
             Ok(made) => made,
             Err(fault) => return Err(fault),
         };

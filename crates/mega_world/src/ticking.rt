@@ -16,9 +16,10 @@ ghost use Rattle.mega_world.specs.Stands.{StandsWith, IsDue, MayCome};
 
 use crate::world::World;
 use mega_base::NodeId;
+use mega_places::mega_durable::mega_core::mega_stepping::Event;
 use mega_places::mega_meanings::QueueHandlers;
 use mega_places::mega_transcript::{Item, Tape};
-use mega_places::{Place, WorldFault, is_node, is_up, member_of, tick_at};
+use mega_places::{Place, WorldFault, is_node, is_up, member_of, step_at};
 use std::alloc::Global;
 
 /// The last time that the clock of a node showed in this start; 0 of a node that is down.
@@ -98,7 +99,13 @@ impl World {
         ensures served { (why : ℕ) → result ≢ Err (Refused why) }
         ensures limited { result ≢ Err Limit }
     {
-        let made = match tick_at(alloc, handlers, &mut self.places, node.0, clock) {
+        let made = match step_at(
+            alloc,
+            handlers,
+            &mut self.places,
+            node.0,
+            Event::Tick(clock),
+        ) {
             Ok(made) => made,
             Err(fault) => return Err(fault),
         };

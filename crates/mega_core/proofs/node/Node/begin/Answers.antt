@@ -22,7 +22,7 @@ use Rattle.mega_core.proofs.Watched.{watched_noted}
 use Rattle.mega_core.proofs.node.Node.begin.Goals as goal
 
 pub returns-clause-notes : goal.returns-clause-notes
-returns-clause-notes g c = λ told h node means stands owned.
+returns-clause-notes g c = λ told h node means stands owned placed.
     let represents = stands.within in
     let old = c.args.self.now.replica in
     let mid = c.begins.new.self.replica in
@@ -42,7 +42,7 @@ returns-clause-notes g c = λ told h node means stands owned.
     made.notes ∙ ap (λ (step : RuleStep). step.notes) is
 
 pub returns-clause-sends : goal.returns-clause-sends
-returns-clause-sends g c = λ told h node means stands owned.
+returns-clause-sends g c = λ told h node means stands owned placed.
     let represents = stands.within in
     let old = c.args.self.now.replica in
     let mid = c.begins.new.self.replica in
@@ -62,7 +62,7 @@ returns-clause-sends g c = λ told h node means stands owned.
     made.sends ∙ ap (λ (step : RuleStep). step.sends) is
 
 pub returns-clause-state : goal.returns-clause-state
-returns-clause-state g c = λ told h node means stands owned.
+returns-clause-state g c = λ told h node means stands owned placed.
     let represents = stands.within in
     let old = c.args.self.now.replica in
     let mid = c.begins.new.self.replica in
@@ -90,7 +90,7 @@ returns-clause-state g c = λ told h node means stands owned.
     }
 
 pub returns-clause-staged : goal.returns-clause-staged
-returns-clause-staged g c = λ told h node since means stands owned stages.
+returns-clause-staged g c = λ told h node means stands owned placed since stages.
     let represents = stands.within in
     let old = c.args.self.now.replica in
     let mid = c.begins.new.self.replica in

@@ -152,7 +152,7 @@ returns-clause-state g c = λ told h node means stands owned placed.
     }
 
 pub returns-clause-staged : goal.returns-clause-staged
-returns-clause-staged g c = λ told h node since means stands owned placed stages.
+returns-clause-staged g c = λ told h node means stands owned placed since stages.
     let represents = stands.within in
     let r0 = c.args.self.now.replica in
     let r1 = c.takes.new.replica in

@@ -37,7 +37,7 @@ returns-in_err-work-clause-used g c =
     used_then g.V.Versions (failed_by c.from_residual-in_err-work.result) c.args.self.now.replica.rows.rows c.ticks.new.replica.rows.rows c.acts_ticked.new.replica.rows.rows c.in_ok-made.ensures.used (search (rules, acted_store))
 
 pub returns-clause-notes : goal.returns-clause-notes
-returns-clause-notes g c = λ told h node means stands owned.
+returns-clause-notes g c = λ told h node means stands owned placed.
     let represents = stands.within in
     let r0 = c.args.self.now.replica in
     let r1 = c.ticks.new.replica in
@@ -72,7 +72,7 @@ returns-clause-notes g c = λ told h node means stands owned.
     made.notes ∙ ap (λ (step : RuleStep). step.notes) is
 
 pub returns-clause-sends : goal.returns-clause-sends
-returns-clause-sends g c = λ told h node means stands owned.
+returns-clause-sends g c = λ told h node means stands owned placed.
     let represents = stands.within in
     let r0 = c.args.self.now.replica in
     let r1 = c.ticks.new.replica in
@@ -107,7 +107,7 @@ returns-clause-sends g c = λ told h node means stands owned.
     made.sends ∙ ap (λ (step : RuleStep). step.sends) is
 
 pub returns-clause-state : goal.returns-clause-state
-returns-clause-state g c = λ told h node means stands owned.
+returns-clause-state g c = λ told h node means stands owned placed.
     let represents = stands.within in
     let r0 = c.args.self.now.replica in
     let r1 = c.ticks.new.replica in
@@ -149,7 +149,7 @@ returns-clause-state g c = λ told h node means stands owned.
     }
 
 pub returns-clause-staged : goal.returns-clause-staged
-returns-clause-staged g c = λ told h node since means stands owned stages.
+returns-clause-staged g c = λ told h node means stands owned placed since stages.
     let represents = stands.within in
     let r0 = c.args.self.now.replica in
     let r1 = c.ticks.new.replica in

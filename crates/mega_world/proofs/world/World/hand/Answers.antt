@@ -9,8 +9,8 @@ use Rattle.mega_world.proofs.Fates.{handed_is}
 use Rattle.mega_world.proofs.Happening.{IsReady, came_at, came_lined, delivery_built, is_there, taken_own}
 use Rattle.mega_world.proofs.world.World.hand.Goals as goal
 
-pub take_at-requires-clause-known : goal.take_at-requires-clause-known
-take_at-requires-clause-known g c =
+pub step_at-requires-clause-known : goal.step_at-requires-clause-known
+step_at-requires-clause-known g c =
     let k = c.requires.known in
     let message = c.in-Some.message.now in
     let number = c.args.number in
@@ -35,7 +35,7 @@ returns-clause-state g c cluster h earlier now r sound =
     let there = is_there cluster old items now message.to r c.in-Some.ensures.least (subst (λ (ps : List Place). message.to ≤ length ps) c.as_slice.ensures.value c.in-Some.ensures.most) in
     let fit = take_fit cluster h old items now number message r sound is there in
     let comes = c.in-Ok.ensures.made cluster h now r.nodes (may_happen cluster h now message.to (Take message) fit (take_owns cluster h now number message sound is) sound.means) in
-    let mid = record old { places = c.take_at.new.places; mail = c.take.new.self } in
+    let mid = record old { places = c.step_at.new.places; mail = c.take.new.self } in
     let ready : IsReady now (Taken number ∷ []) old mid items (earlier ++ c.push.new.self) = record {
       added = behind earlier c.args.tape.now.items (Taken number ∷ []) c.push.new.self c.in_ok-push.ensures.ok;
       cluster = refl;
@@ -55,7 +55,7 @@ returns-clause-lines g c cluster h earlier now r sound =
     let there = is_there cluster old (earlier ++ items) now message.to r c.in-Some.ensures.least (subst (λ (ps : List Place). message.to ≤ length ps) c.as_slice.ensures.value c.in-Some.ensures.most) in
     let fit = take_fit cluster h old (earlier ++ items) now number message r sound is there in
     let comes = c.in-Ok.ensures.made cluster h now r.nodes (may_happen cluster h now message.to (Take message) fit (take_owns cluster h now number message sound is) sound.means) in
-    let mid = record old { places = c.take_at.new.places; mail = c.take.new.self } in
+    let mid = record old { places = c.step_at.new.places; mail = c.take.new.self } in
     let ready : IsReady now (Taken number ∷ []) old mid items c.push.new.self = record {
       added = c.in_ok-push.ensures.ok;
       cluster = refl;

@@ -7,8 +7,8 @@ use Rattle.mega_world.proofs.Due.{may_happen, tick_fit, tick_ready}
 use Rattle.mega_world.proofs.Happening.{came_at, came_lined, is_there, ticked_own}
 use Rattle.mega_world.proofs.world.World.ticks.Goals as goal
 
-pub tick_at-requires-clause-known : goal.tick_at-requires-clause-known
-tick_at-requires-clause-known g c =
+pub step_at-requires-clause-known : goal.step_at-requires-clause-known
+step_at-requires-clause-known g c =
     let k = c.requires.known in
     let node = c.args.node in
     let there = is_there k.cluster c.args.self.now (k.earlier ++ c.args.tape.now.items) k.now node.0 k.at c.requires.least c.requires.most in
@@ -29,7 +29,7 @@ returns-clause-state g c cluster h earlier now r sound =
     let there = is_there cluster old items now node.0 r c.requires.least c.requires.most in
     let fit = tick_fit cluster h old items now node c.args.clock r sound there in
     let comes = c.in-Ok.ensures.made cluster h now r.nodes (may_happen cluster h now node.0 (Tick c.args.clock) fit sound.own sound.means) in
-    let mid = record old { places = c.tick_at.new.places } in
+    let mid = record old { places = c.step_at.new.places } in
     came_at cluster h now node.0 (TickItem (number node.0) c.args.clock ∷ []) (Tick c.args.clock) old mid c.show_step.new.self items (earlier ++ c.push.new.self) (earlier ++ c.show_step.new.tape.items) c.in-Ok.made r (ticked_own cluster node.0 c.args.clock) fit comes
     (tick_ready now node.0 c.args.clock old mid items (earlier ++ c.push.new.self) r.mail (behind earlier c.args.tape.now.items (TickItem (number node.0) c.args.clock ∷ []) c.push.new.self c.in_ok-push.ensures.ok) refl refl refl)
     (c.in_ok-show_step.ensures.shown cluster earlier)
@@ -42,6 +42,6 @@ returns-clause-lines g c cluster h earlier now r sound =
     let there = is_there cluster old (earlier ++ items) now node.0 r c.requires.least c.requires.most in
     let fit = tick_fit cluster h old (earlier ++ items) now node c.args.clock r sound there in
     let comes = c.in-Ok.ensures.made cluster h now r.nodes (may_happen cluster h now node.0 (Tick c.args.clock) fit sound.own sound.means) in
-    let mid = record old { places = c.tick_at.new.places } in
+    let mid = record old { places = c.step_at.new.places } in
     came_lined cluster h now node.0 (TickItem (number node.0) c.args.clock ∷ []) (Tick c.args.clock) old mid items c.push.new.self c.show_step.new.tape.items c.in-Ok.made (ticked_own cluster node.0 c.args.clock) fit comes
     (tick_ready now node.0 c.args.clock old mid items c.push.new.self r.mail c.in_ok-push.ensures.ok refl refl refl) c.in_ok-show_step.ensures.lines

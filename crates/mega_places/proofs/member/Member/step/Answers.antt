@@ -1,19 +1,21 @@
-use Rattle.std.proofs.Common.{◌+◌, ◌∙◌, ap, refl, subst, sym, Err}
-use Rattle.mega_rules.specs.Operations.{Setting}
-use Rattle.mega_rules.specs.Steps.{Tick}
-use Rattle.mega_durable.specs.Standing.{MayHappen}
+use Rattle.std.proofs.Common.{◌+◌, ◌∙◌, ap, Err, refl, subst, sym}
+use Rattle.mega_cluster.specs.declared.cluster.Cluster.{Cluster}
 use Rattle.mega_durable.specs.declared.fault.UpFault.TheVariants.{Step as Failed}
+use Rattle.mega_rules.specs.Operations.{Setting}
+use Rattle.mega_durable.specs.of_core.of_stepping.Events.{event_of}
+use Rattle.mega_durable.specs.of_core.Stepping.{IsTooLate}
+use Rattle.mega_durable.specs.Standing.{MayHappen}
 use Rattle.mega_places.specs.declared.member.Member.{Member}
 use Rattle.mega_places.specs.Members.{node_in, records_of}
-use Rattle.mega_places.proofs.Failing.{log_memory, not_strange}
+use Rattle.mega_places.proofs.Failing.{is_no_stranger, is_timely, log_memory, may_serve, not_strange}
 use Rattle.mega_places.proofs.StepsMade.{Counts, Steps, is_here, made_step, own_setting, was_cut}
-use Rattle.mega_places.proofs.member.Member.tick.Goals as goal
+use Rattle.mega_places.proofs.member.Member.step.Goals as goal
 
 pub returns-in-Ok-clause-made : goal.returns-in-Ok-clause-made
 returns-in-Ok-clause-made g c cluster h me ruled fuse is fused may =
     let old = c.args.self.now in
-    let stepped : Member = record { up = c.tick.new.self; fuse = c.counted-self.result } in
-    let steps : Steps _ (node_in old) (node_in stepped) c.in-Ok.made (Tick c.args.clock) = record {
+    let stepped : Member = record { up = c.step.new.self; fuse = c.counted-self.result } in
+    let steps : Steps _ (node_in old) (node_in stepped) c.in-Ok.made (event_of c.args.event) = record {
       notes = λ g one here its. c.in-Ok.ensures.notes refl g one (record { stands = here.stands; empty = here.empty; ready = here.ready; holds = λ told. here.holds; granted = here.granted }) its;
       sends = λ g one here its. c.in-Ok.ensures.sends refl g one (record { stands = here.stands; empty = here.empty; ready = here.ready; holds = λ told. here.holds; granted = here.granted }) its;
       state = λ g one here its. let up = c.in-Ok.ensures.state refl g one (record { stands = here.stands; empty = here.empty; ready = here.ready; holds = λ told. here.holds; granted = here.granted }) its in record { stands = up.stands; empty = up.empty; ready = up.ready; holds = up.holds refl; granted = up.granted };
@@ -27,13 +29,13 @@ returns-in-Ok-clause-made g c cluster h me ruled fuse is fused may =
       same = λ e. c.counted-self.ensures.same (c.records-before.ensures ∙ e ∙ sym c.records.ensures);
       more = λ e. c.counted-self.ensures.more (c.records.ensures ∙ e ∙ ap (λ n. n + 1) (sym c.records-before.ensures));
     } in
-    made_step cluster h me ruled fuse old stepped c.in-Ok.made (Tick c.args.clock) is fused may steps counts
+    made_step cluster h me ruled fuse old stepped c.in-Ok.made (event_of c.args.event) is fused may steps counts
 
 pub returns-in-Err-Cut-clause-made : goal.returns-in-Err-Cut-clause-made
 returns-in-Err-Cut-clause-made g c cluster h me ruled fuse is fused may =
     let old = c.args.self.now in
-    let stepped : Member = record { up = c.tick.new.self; fuse = old.fuse } in
-    was_cut cluster h me ruled fuse old stepped c.in-Err-Cut.cut (Tick c.args.clock) is fused may refl
+    let stepped : Member = record { up = c.step.new.self; fuse = old.fuse } in
+    was_cut cluster h me ruled fuse old stepped c.in-Err-Cut.cut (event_of c.args.event) is fused may refl
     (λ here its.
     let burnt = rw c.in-Err-Cut.field-0-is at (c.in-Err-Cut.ensures.burnt refl refl refl h ruled (record { stands = here.stands; empty = here.empty; ready = here.ready; holds = λ told. here.holds; granted = here.granted }) its) in
     let owed = rw c.in-Err-Cut.field-0-is at (c.in-Err-Cut.ensures.owed refl h ruled (record { stands = here.stands; empty = here.empty; ready = here.ready; holds = λ told. here.holds; granted = here.granted }) its) in record {
@@ -49,21 +51,22 @@ pub log_fault_of-requires : goal.log_fault_of-requires
 log_fault_of-requires g c =
     let k = c.requires.known in
     let here = is_here k.cluster k.handlers k.me c.args.self.now k.ruled k.is in
-    let may = subst (λ (s : Setting). MayHappen (g.H.QueueHandlers.meant c.args.handlers.now) s k.ruled (Tick c.args.clock)) (own_setting k.cluster k.handlers k.me c.args.self.now k.ruled k.is) k.may in
+    let may = subst (λ (s : Setting). MayHappen (g.H.QueueHandlers.meant c.args.handlers.now) s k.ruled (event_of c.args.event)) (own_setting k.cluster k.handlers k.me c.args.self.now k.ruled k.is) k.may in
     log_memory _ _ c.in-Err-Log.fault _ _ (rw c.in-Err-Log.field-0-is at c.in-Err-Log.ensures.proceeds.1) k.is.ready refl (rw c.in-Err-Log.field-0-is at (c.in-Err-Log.ensures.owed refl k.handlers k.ruled (record { stands = here.stands; empty = here.empty; ready = here.ready; holds = λ told. here.holds; granted = here.granted }) may))
 
 pub fault_of-requires-clause-own : goal.fault_of-requires-clause-own
 fault_of-requires-clause-own g c =
     let k = c.requires.known in
     let here = is_here k.cluster k.handlers k.me c.args.self.now k.ruled k.is in
+    let event = event_of c.args.event in
     not_strange c.in-Err-Step.fault
-    (λ is. c.in-Err-Step.ensures.built (ap Err (c.in-Err-Step.field-0-is ∙ ap Failed is)) k.handlers k.ruled (record { stands = here.stands; empty = here.empty; ready = here.ready; holds = λ told. here.holds; granted = here.granted }))
-    (λ is. c.in-Err-Step.ensures.stranger (ap Err (c.in-Err-Step.field-0-is ∙ ap Failed is)))
-    (λ is. c.in-Err-Step.ensures.late (ap Err (c.in-Err-Step.field-0-is ∙ ap Failed is)))
+    (λ is. may_serve k.cluster event k.near (c.in-Err-Step.ensures.unserved (ap Err (c.in-Err-Step.field-0-is ∙ ap Failed is)) k.handlers k.ruled (record { stands = here.stands; empty = here.empty; ready = here.ready; holds = λ told. here.holds; granted = here.granted })))
+    (λ is. is_no_stranger k.cluster event k.near (c.in-Err-Step.ensures.stranger (ap Err (c.in-Err-Step.field-0-is ∙ ap Failed is))))
+    (λ is. is_timely k.cluster event k.near (subst (λ (cluster : Cluster). IsTooLate cluster event) k.is.members (c.in-Err-Step.ensures.late (ap Err (c.in-Err-Step.field-0-is ∙ ap Failed is)) k.handlers k.ruled (record { stands = here.stands; empty = here.empty; ready = here.ready; holds = λ told. here.holds; granted = here.granted }))))
 
 pub unreachable-requires : goal.unreachable-requires
 unreachable-requires g c =
     let k = c.requires.known in
     let here = is_here k.cluster k.handlers k.me c.args.self.now k.ruled k.is in
-    let may = subst (λ (s : Setting). MayHappen (g.H.QueueHandlers.meant c.args.handlers.now) s k.ruled (Tick c.args.clock)) (own_setting k.cluster k.handlers k.me c.args.self.now k.ruled k.is) k.may in
+    let may = subst (λ (s : Setting). MayHappen (g.H.QueueHandlers.meant c.args.handlers.now) s k.ruled (event_of c.args.event)) (own_setting k.cluster k.handlers k.me c.args.self.now k.ruled k.is) k.may in
     c.in-Err-Unformed.ensures.formed refl (ap Err c.in-Err-Unformed.field-0-is) k.handlers k.ruled (record { stands = here.stands; empty = here.empty; ready = here.ready; holds = λ told. here.holds; granted = here.granted }) may
