@@ -1,5 +1,6 @@
 pub mod Asked
 pub mod Moments
+pub mod Enough
 pub mod Accepts
 pub mod Meant
 pub mod Through
@@ -13,7 +14,9 @@ pub mod Tops
 pub mod Steps
 pub mod Tails
 pub mod Nearby
+pub mod Knowing
 pub mod Runs
+pub mod Covered
 pub mod Promised
 pub mod Polled
 pub mod Fresh

@@ -1,32 +1,22 @@
--- As a tape goes on without a begin, what stood before an operation began stays the same, and what was read then covers it still.
-use Rattle.std.proofs.Common.{◌≡◌, inr, ℕ, ◌+◌, ◌&&◌, Bool, true, false, not, cond, List, [], ◌∷◌, flat_map, Option, Result, refl, ap, ◌∙◌, subst}
-use Rattle.mega_base.specs.declared.names.GroupId.{GroupId}
+-- As a tape goes on without a begin, what stood before an operation began stays the same.
+use Rattle.std.proofs.Common.{◌≡◌, inr, ℕ, ◌+◌, ◌&&◌, Bool, true, false, not, cond, List, [], ◌∷◌, flat_map, Option, refl, ap, ◌∙◌}
 use Rattle.mega_base.specs.declared.names.OpId.{OpId}
 use Rattle.mega_cluster.specs.declared.cluster.Cluster.{Cluster}
-use Rattle.mega_entry.specs.declared.content.Content.{Content}
 use Rattle.mega_wire.specs.declared.message.Message.{Message}
-use Rattle.mega_wire.specs.declared.message.Body.{Body}
-use Rattle.mega_wire.specs.declared.message.Body.TheVariants.{Accept}
-use Rattle.mega_outcome.specs.declared.answer.Answer.{Answer}
-use Rattle.mega_outcome.specs.declared.answer.Answer.TheVariants.{AllTurned, Found as FoundAnswer, LogFull, Read as ReadAnswer, Turned}
-use Rattle.mega_outcome.specs.declared.answer.Shown.{Shown}
-use Rattle.mega_outcome.specs.declared.answer.Turn.{Turn}
 use Rattle.mega_outcome.specs.declared.request.Request.{Request}
-use Rattle.mega_outcome.specs.declared.request.Request.TheVariants.{Batch as BatchRequest, Find, PumpEnter, PumpHandle, Read as ReadRequested, Refresh, Txn}
 use Rattle.mega_leased_laws.specs.of_settled_laws.of_run_laws.of_tape_laws.of_promises.of_transcript.declared.item.Item.{Item}
-use Rattle.mega_leased_laws.specs.of_settled_laws.of_run_laws.of_tape_laws.of_promises.of_transcript.declared.item.Item.TheVariants.{Begin, Counts as CountsItem, Decide, Lapse as LapseItem, Sent, Unsafe}
+use Rattle.mega_leased_laws.specs.of_settled_laws.of_run_laws.of_tape_laws.of_promises.of_transcript.declared.item.Item.TheVariants.{Begin, Counts as CountsItem, Lapse as LapseItem, Sent, Unsafe}
 use Rattle.mega_wal.specs.Same.{same_op}
 use Rattle.mega_leased_laws.specs.of_settled_laws.of_run_laws.of_tape_laws.of_promises.Items.{shown}
 use Rattle.mega_leased_laws.specs.of_settled_laws.of_run_laws.of_tape_laws.of_promises.Messages.{is_unsafe}
-use Rattle.mega_leased_laws.specs.of_settled_laws.of_run_laws.of_tape_laws.of_promises.Promises.{Stands, asked_for}
+use Rattle.mega_leased_laws.specs.of_settled_laws.of_run_laws.of_tape_laws.of_promises.Promises.{asked_for}
 use Rattle.mega_leased_laws.specs.of_settled_laws.of_run_laws.of_tape_laws.of_promises.Runs.{breaks, with_item, with_items}
 use Rattle.mega_leased_laws.specs.of_settled_laws.of_run_laws.of_tape_laws.of_promises.of_rules.Met.{Met, Begins, Sends, Takes}
 use Rattle.mega_leased_laws.specs.of_settled_laws.of_run_laws.of_tape_laws.of_promises.of_rules.Operations.{Node}
-use Rattle.mega_leased_laws.specs.of_settled_laws.of_run_laws.of_tape_laws.Writes.{Usage}
 use Rattle.mega_leased_laws.specs.of_settled_laws.of_run_laws.Justified.{Each, sent}
 use Rattle.mega_leased_laws.proofs.of_settled_laws.of_run_laws.Sending.{Stood}
 use Rattle.mega_leased_laws.proofs.of_settled_laws.Tapes.{each_both}
-use Rattle.mega_fresh_laws.specs.Covering.{Answered, AreTurned, Covers, IsFreshAnswer, IsProposed, IsShown, IsTurned, ReadOver, before_begin}
+use Rattle.mega_fresh_laws.specs.Covering.{before_begin}
 
 abbrev pub NoBegin : Item → Type 0
 NoBegin (Begin op text) = ⊥
@@ -121,54 +111,3 @@ calm_items c nodes (item ∷ items) tape h = calm_items c nodes items (with_item
     one (CountsItem node cell epoch) k = absurd k
     one Unsafe k = absurd k
     one _ k = refl
-
--- ---- what was read
-
-pub covers_on : (op : OpId) (old new : List Item) → Onward op old new → (group : GroupId) (p : ℕ) → Covers old op group p → Covers new op group p
-covers_on op old new o group p h = λ un node n entry s. h (o.safe un) node n entry (subst (Stands (Decide node group n entry)) o.same s)
-
-pub over_on : (op : OpId) (old new : List Item) → Onward op old new → (group : GroupId) (Shows : ℕ → List Content → Type 0) → ReadOver old op group Shows → ReadOver new op group Shows
-over_on op old new o group Shows h = record { below = h.below; known = λ k d is. o.stood _ (h.known k d is); covers = covers_on op old new o group _ h.covers; shows = h.shows }
-
-module _ (c : Cluster) (op : OpId) (old new : List Item) (o : Onward op old new) where
-  shown_on : (request : Request) (answer : Answer) → IsShown c old op request answer → IsShown c new op request answer
-  shown_on (ReadRequested request) answer h = λ current. over_on op old new o request.group _ (h current)
-  shown_on (Find request) answer h = λ current group is. over_on op old new o group _ (h current group is)
-  shown_on (Txn transaction) answer h = tt
-  shown_on (BatchRequest group transactions) answer h = tt
-  shown_on PumpEnter answer h = tt
-  shown_on PumpHandle answer h = tt
-  shown_on Refresh answer h = tt
-
-  turned_on : (request : Request) (turn : Turn) → IsTurned c old op request turn → IsTurned c new op request turn
-  turned_on (Txn transaction) turn h = over_on op old new o transaction.group _ h
-  turned_on (ReadRequested request) turn h = shown_on (ReadRequested request) (Turned turn) h
-  turned_on (Find request) turn h = shown_on (Find request) (Turned turn) h
-  turned_on (BatchRequest group transactions) turn h = tt
-  turned_on PumpEnter turn h = tt
-  turned_on PumpHandle turn h = tt
-  turned_on Refresh turn h = tt
-
-  all_turned_on : (request : Request) (results : List (Result (List (Option Shown)) Turn)) → AreTurned c old op request results → AreTurned c new op request results
-  all_turned_on (BatchRequest group transactions) results h = over_on op old new o group _ h
-  all_turned_on (Txn transaction) results h = tt
-  all_turned_on (ReadRequested request) results h = tt
-  all_turned_on (Find request) results h = tt
-  all_turned_on PumpEnter results h = tt
-  all_turned_on PumpHandle results h = tt
-  all_turned_on Refresh results h = tt
-
-  fresh_on : (request : Request) (answer : Answer) → IsFreshAnswer c old op request answer → IsFreshAnswer c new op request answer
-  fresh_on request (ReadAnswer p rows) h = shown_on request (ReadAnswer p rows) h
-  fresh_on request (FoundAnswer marks found) h = shown_on request (FoundAnswer marks found) h
-  fresh_on request (Turned turn) h = turned_on request turn h
-  fresh_on request (AllTurned results) h = all_turned_on request results h
-  fresh_on request (LogFull n) h = record { group = h.group; home = h.home; reads = over_on op old new o h.group _ h.reads }
-  fresh_on request _ h = tt
-
-pub answered_on : (c : Cluster) (usage : Usage) (op : OpId) (old new : List Item) → Onward op old new → (answer : Answer) → Answered c usage old op answer → Answered c usage new op answer
-answered_on c usage op old new o answer h = record { request = h.request; asked = o.asked usage.meaning ∙ h.asked; fresh = fresh_on c op old new o h.request answer h.fresh }
-
-pub proposed_on : (old new : List Item) → ((op : OpId) → Onward op old new) → (body : Body) → IsProposed old body → IsProposed new body
-proposed_on old new o (Accept op group n b e) h = λ is own. covers_on op old new (o op) group _ (h is own)
-proposed_on old new o _ h = tt

@@ -55,7 +55,7 @@ use Rattle.mega_leased_laws.proofs.Held.{full_in, run_held}
 use Rattle.mega_leased_laws.proofs.Tops.{run_decided_most, then_most, top_more, top_onto}
 use Rattle.mega_leased_laws.proofs.Leased.{run_leased}
 use Rattle.mega_leased_laws.proofs.Told.{step_met}
-use Rattle.mega_fresh_laws.specs.Covering.{before_begin}
+use Rattle.mega_fresh_laws.specs.Covering.{Covers, before_begin}
 use Rattle.mega_fresh_laws.proofs.Acting.{IsValidate, Locals}
 use Rattle.mega_fresh_laws.proofs.Meant.{Reached, run_of, those_of}
 use Rattle.mega_fresh_laws.proofs.Moments.{IsCalm, Onward, calm_items}
@@ -387,8 +387,8 @@ module _ (c : Cluster) (few : length c.nodes ≤ 9) (five : c.cells ≤ 5) (usag
         by (suc k) is = subst (λ a. a ≤ top_of base group) is (covers_top n (has valid other n entry (subst (λ a. 0 < a) (sym is) (less k)) stands))
 
   -- so it covers what was decided before an operation began
-  pub step_locals : ((op : OpId) → Onward op start_tape front_tape) → Locals s front_tape base made.notes
-  step_locals onward valid only among full op group holds = λ safe other n entry stands.
+  pub step_locals : ((op : OpId) → Onward op start_tape front_tape) → Locals Covers s front_tape base made.notes
+  step_locals onward valid only among full op group mine holds = λ safe other n entry stands.
       then_most n.0 (top_of base group) (top_of (onto valid base) group)
       (covers_each full safe group (valid_then full safe group valid only among holds) other n entry
       (before_top item now.tape op (Decide other group n entry) (subst (Stands (Decide other group n entry)) (onward op).same stands)))

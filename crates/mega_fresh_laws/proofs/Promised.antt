@@ -43,7 +43,7 @@ use Rattle.mega_leased_laws.proofs.of_settled_laws.Tapes.{written_before}
 use Rattle.mega_leased_laws.specs.Items.{Are}
 use Rattle.mega_fresh_laws.specs.Covering.{Answered, Covers, IsFreshAnswer, IsFreshItem, ReadOver, before_begin}
 use Rattle.mega_fresh_laws.proofs.Moments.{NoBegin, onward_item}
-use Rattle.mega_fresh_laws.proofs.Runs.{run_fresh}
+use Rattle.mega_fresh_laws.proofs.Covered.{run_fresh}
 
 clash : {X : Type 0} (t : Bool) → t ≡ true → t ≡ false → X
 clash t h k = absurd (let both_ways = sym h ∙ k in cc)

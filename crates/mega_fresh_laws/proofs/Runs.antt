@@ -1,29 +1,25 @@
--- In every run each answer and each proposal is fresh, item by item, and so is what stays open.
-use Rattle.std.proofs.Common.{ℕ, ◌≡◌, inl, inr, ◌+◌, ◌≤◌, ◌==◌, ◌&&◌, ◌||◌, Bool, true, false, cond, List, [], ◌∷◌, ◌++◌, flat_map, length, Option, Some, None, refl, sym, ap, ◌∙◌, subst}
+-- In every run each answer and each proposal is of a log that was read far enough, item by item, and so is what stays open.
+use Rattle.std.proofs.Common.{ℕ, ◌≡◌, inl, inr, ◌+◌, ◌||◌, Bool, true, false, cond, List, [], ◌∷◌, ◌++◌, flat_map, refl, sym, ap, ◌∙◌, subst}
 use Rattle.mega_base.specs.declared.names.GroupId.{GroupId}
 use Rattle.mega_base.specs.declared.names.OpId.{OpId}
 use Rattle.mega_cluster.specs.declared.cluster.Cluster.{Cluster}
-use Rattle.mega_entry.specs.declared.content.Content.{Content}
 use Rattle.mega_handler.specs.Named.{Meanings}
 use Rattle.mega_leased_laws.specs.of_settled_laws.of_run_laws.of_tape_laws.of_promises.of_transcript.declared.item.Item.{Item}
-use Rattle.mega_leased_laws.specs.of_settled_laws.of_run_laws.of_tape_laws.of_promises.of_transcript.declared.item.Item.TheVariants.{Answer as AnswerItem, Begin as BeginItem, Crash, Decide, Sent, Taken, Tick as TickItem}
+use Rattle.mega_leased_laws.specs.of_settled_laws.of_run_laws.of_tape_laws.of_promises.of_transcript.declared.item.Item.TheVariants.{Answer as AnswerItem, Begin as BeginItem, Crash, Sent, Taken, Tick as TickItem}
 use Rattle.mega_leased_laws.specs.of_settled_laws.of_run_laws.of_tape_laws.of_promises.of_transcript.Tape.{sent_count}
-use Rattle.mega_wal.specs.Same.{same_group, same_op}
-use Rattle.mega_wal.proofs.Sames.{same_group_equal, same_op_equal, same_op_self}
+use Rattle.mega_wal.specs.Same.{same_op}
+use Rattle.mega_wal.proofs.Sames.{same_op_equal, same_op_self}
 use Rattle.mega_wire.specs.declared.message.Message.{Message}
 use Rattle.mega_leased_laws.specs.of_settled_laws.of_run_laws.of_tape_laws.of_promises.Items.{number, numbered, shown}
 use Rattle.mega_leased_laws.specs.of_settled_laws.of_run_laws.of_tape_laws.of_promises.Promises.{Stands, asked_for}
 use Rattle.mega_leased_laws.specs.of_settled_laws.of_run_laws.of_tape_laws.of_promises.Runs.{Cuts, Happening, IsRun, Standing, met_in, set_at, setting, whole_step, with_item, with_items}
 use Rattle.mega_leased_laws.specs.of_settled_laws.of_run_laws.of_tape_laws.of_promises.of_rules.Clock.{begun_of, is_up, start_of}
-use Rattle.mega_leased_laws.specs.of_settled_laws.of_run_laws.of_tape_laws.of_promises.of_rules.Logs.{decided, first_of}
-use Rattle.mega_leased_laws.specs.of_settled_laws.of_run_laws.of_tape_laws.of_promises.of_rules.Met.{Met, Starts, Crashes, Ticks, Begins, Takes, Sends, Unsends, Grants, Lapses, Counts, Forgets, Serves, Loses, Validates, Invalidates, Decides, Applies, Answers}
+use Rattle.mega_leased_laws.specs.of_settled_laws.of_run_laws.of_tape_laws.of_promises.of_rules.Met.{Met, Starts, Crashes, Ticks, Begins, Takes, Sends, Unsends, Validates, Applies, Answers}
 use Rattle.mega_leased_laws.specs.of_settled_laws.of_run_laws.of_tape_laws.of_promises.of_rules.Operations.{Node, Operation, Setting}
 use Rattle.mega_leased_laws.specs.of_settled_laws.of_run_laws.of_tape_laws.of_promises.of_rules.Steps.{Begin, Event, Step, Take, Tick, crashed, lapse_notes, lease_notes, onto, op_of, start, start_items, start_notes, step}
 use Rattle.mega_leased_laws.specs.of_settled_laws.of_run_laws.of_tape_laws.Lawful.{Lawful, message}
 use Rattle.mega_leased_laws.specs.of_settled_laws.of_run_laws.of_tape_laws.Polls.{ArePolls}
 use Rattle.mega_leased_laws.specs.of_settled_laws.of_run_laws.of_tape_laws.Writes.{IsNamed, Usage, has_begun}
-use Rattle.mega_leased_laws.proofs.of_settled_laws.of_run_laws.of_tape_laws.Ballots.{number_is}
-use Rattle.mega_leased_laws.proofs.of_settled_laws.of_run_laws.of_tape_laws.Lists.{some_is}
 use Rattle.mega_leased_laws.specs.of_settled_laws.of_run_laws.Usages.{Fits}
 use Rattle.mega_leased_laws.specs.of_settled_laws.of_run_laws.Justified.{Each, sent}
 use Rattle.mega_leased_laws.proofs.of_settled_laws.of_run_laws.Events.{IsPlain, lapses_plain, lease_plain, told_plain}
@@ -43,15 +39,15 @@ use Rattle.mega_leased_laws.proofs.Cells.{by_node, occurs_own}
 use Rattle.mega_leased_laws.proofs.Forms.{Occurs, down, stepped}
 use Rattle.mega_leased_laws.proofs.Notes.{fronts}
 use Rattle.mega_leased_laws.proofs.Tapes.{IsFree, are_items, free_follows, free_notes}
-use Rattle.mega_fresh_laws.specs.Covering.{IsFreshItem, IsProposed}
-use Rattle.mega_fresh_laws.proofs.Acting.{IsValidate, Locals, NoteFresh}
+use Rattle.mega_fresh_laws.proofs.Acting.{IsValidate, Locals, NoteFar}
 use Rattle.mega_fresh_laws.proofs.Heeding.{Open}
+use Rattle.mega_fresh_laws.proofs.Knowing.{known_notes, own_decided}
 use Rattle.mega_fresh_laws.proofs.Meant.{MayBegin, Reached, Stays, run_of, run_stays, those_of}
-use Rattle.mega_fresh_laws.proofs.Moments.{IsLater, NoBegin, Onward, answered_on, later_shown, onward_begin, onward_item, onward_items, onward_sent, onward_then, proposed_on}
-use Rattle.mega_fresh_laws.proofs.Nearby.{Lives, step_locals}
-use Rattle.mega_fresh_laws.proofs.Steps.{IsApply, Shown, StepFresh, base_of, front_of, step_fresh}
-use Rattle.mega_fresh_laws.proofs.Tails.{IsTail, Parted, front_each, step_parted}
-use Rattle.mega_fresh_laws.proofs.Through.{PhaseFresh, phase_above, phase_on}
+use Rattle.mega_fresh_laws.proofs.Moments.{IsLater, NoBegin, Onward, later_shown, onward_begin, onward_item, onward_items, onward_sent, onward_then}
+use Rattle.mega_fresh_laws.proofs.Enough.{IsFarItem, IsProposed, Suffices, answered_on, proposed_on}
+use Rattle.mega_fresh_laws.proofs.Steps.{IsApply, Shown, StepFar, base_of, front_of, step_far}
+use Rattle.mega_fresh_laws.proofs.Tails.{Parted, front_each, step_parted}
+use Rattle.mega_fresh_laws.proofs.Through.{PhaseFar, phase_above, phase_on}
 
 clash : {X : Type 0} (t : Bool) → t ≡ true → t ≡ false → X
 clash t h k = absurd (let both_ways = sym h ∙ k in cc)
@@ -79,29 +75,10 @@ plain_mute notes h = each_on IsPlain IsMute one notes h
     one (Answers op answer) k = absurd k
     one _ k = tt
 
-plain_lives : (notes : List Met) → Each IsPlain notes → Each Lives notes
-plain_lives notes h = each_on IsPlain Lives one notes h
-  where
-    one : (x : Met) → IsPlain x → Lives x
-    one Crashes k = absurd k
-    one _ k = tt
-
-tail_lives : (notes : List Met) → Each IsTail notes → Each Lives notes
-tail_lives notes h = each_on IsTail Lives one notes h
-  where
-    one : (x : Met) → IsTail x → Lives x
-    one Crashes k = absurd k
-    one _ k = tt
-
-fronts_plain : (s : Setting) (node : Node) (event : Event) → Each IsPlain (fronts s node event)
+pub fronts_plain : (s : Setting) (node : Node) (event : Event) → Each IsPlain (fronts s node event)
 fronts_plain s node (Tick clock) = each_both IsPlain (lease_notes s node.met clock) (lapse_notes s node.met clock) (lease_plain s node.met clock) (lapses_plain s node.met clock)
 fronts_plain s node (Take m) = told_plain s node.met m.from m.body
 fronts_plain s node (Begin request text) = tt
-
-met_lives : (s : Setting) (met : List Met) (event : Event) → Each Lives (met_in s met event ∷ [])
-met_lives s met (Tick clock) = (tt, tt)
-met_lives s met (Take m) = (tt, tt)
-met_lives s met (Begin request text) = (tt, tt)
 
 applies_mute : (notes : List Met) → Each IsApply notes → Each IsMute notes
 applies_mute notes h = each_on IsApply IsMute one notes h
@@ -117,13 +94,6 @@ validates_mute notes h = each_on IsValidate IsMute one notes h
     one (Validates g p) k = tt
     one _ k = absurd k
 
-answers_later : (c : Cluster) (usage : Usage) (tape : List Item) (notes : List Met) → Each (NoteFresh c usage tape) notes → Each IsLater notes
-answers_later c usage tape notes h = each_on (NoteFresh c usage tape) IsLater one notes h
-  where
-    one : (x : Met) → NoteFresh c usage tape x → IsLater x
-    one (Answers op answer) k = tt
-    one _ k = absurd k
-
 owes_mute : (c : Cluster) (tape : List Item) (me : ℕ) (owed : List Met) → Owes c tape me owed → Each IsMute owed
 owes_mute c tape me [] h = tt
 owes_mute c tape me (Unsends m ∷ more) h = (tt, subst (Each IsMute) (sym h.0) tt)
@@ -135,87 +105,6 @@ owes_mute c tape me (Ticks now ∷ more) h = absurd h.0
 owes_mute c tape me (Takes m ∷ more) h = absurd h.0
 owes_mute c tape me (Sends m ∷ more) h = absurd h.0
 owes_mute c tape me (one ∷ more) h = (tt, owes_mute c tape me more h.1)
-
--- ---- items
-
-module _ (c : Cluster) (usage : Usage) where
-  abbrev Fresh : List Item → Item → Type 0
-  Fresh before item = IsFreshItem c usage before item
-
-  module _ (nodes' : ℕ → Node) (me : ℕ) where
-    free_one : (note : Met) → IsMute note → Each (IsFree Fresh (λ t. tt) c nodes') (shown me note)
-    free_one (Begins op text) h = absurd h
-    free_one (Answers op answer) h = absurd h
-    free_one (Takes m) h = tt
-    free_one (Sends m) h = tt
-    free_one _ h = ((λ t. tt), tt)
-
-    mute_fresh : (notes : List Met) (t : List Item) → Each IsMute notes → Are Fresh t → Are Fresh (with_items c nodes' t (flat_map (shown me) notes))
-    mute_fresh notes t h a = are_items Fresh (λ x. tt) c nodes' (flat_map (shown me) notes) t (free_follows Fresh (λ x. tt) c nodes' (flat_map (shown me) notes) t
-        (free_notes Fresh (λ x. tt) c nodes' me notes (each_on IsMute (λ note. Each (IsFree Fresh (λ x. tt) c nodes') (shown me note)) free_one notes h))) a
-
-    -- answers, on a tape that goes on from where they are fresh
-    answers_fresh : (tape : List Item) (notes : List Met) (t : List Item) → ((x : OpId) → Onward x tape t) → Each (NoteFresh c usage tape) notes → Are Fresh t → Are Fresh (with_items c nodes' t (flat_map (shown me) notes))
-    answers_fresh tape [] t on h a = a
-    answers_fresh tape (Answers op answer ∷ notes) t on h a = answers_fresh tape notes (AnswerItem op answer ∷ t) (λ x. onward_then x tape t (AnswerItem op answer ∷ t) (on x) (onward_item x t (AnswerItem op answer) tt)) h.1
-        (answered_on c usage op tape t (on op) answer h.0, a)
-    answers_fresh tape (_ ∷ notes) t on h a = absurd h.0
-
-  sends_fresh : (tape : List Item) (k : ℕ) (ms : List Message) (t : List Item) → ((x : OpId) → Onward x tape t) → Each (λ m. IsProposed tape m.body) ms → Are Fresh t → Are Fresh (sent k ms t)
-  sends_fresh tape k [] t on h a = a
-  sends_fresh tape k (m ∷ ms) t on h a = sends_fresh tape (k + 1) ms (Sent k m ∷ t) (λ x. onward_then x tape t (Sent k m ∷ t) (on x) (onward_item x t (Sent k m) tt)) h.1 (proposed_on tape t on m.body h.0, a)
-
-  own_fresh : (t : List Item) (item : Item) → IsOwn item → Fresh t item
-  own_fresh t (AnswerItem op answer) h = absurd h
-  own_fresh t (Sent key m) h = absurd h
-  own_fresh t _ h = tt
-
--- ---- what a node decided stands
-
-module _ (c : Cluster) (nodes' : ℕ → Node) (me : ℕ) where
-  both : (a b : Bool) → (a && b) ≡ true → (a ≡ true) × (b ≡ true)
-  both true b k = (refl, k)
-  both false b k = cc
-
-  known_decided : (g : GroupId) (n : ℕ) (entry : Content) (base : List Met) (tape : List Item) → Known me base tape → Known me (Decides g n entry ∷ base) (Decide (number me) g (record { 0 = n }) entry ∷ tape)
-  known_decided g n entry base tape known h m x = by (same_group g h && n == m) refl
-    where
-      first : (same_group g h && n == m) ≡ true → (o : Option Content) → decided base h m ≡ o → first_of o entry ≡ Some x → Stands (Decide (number me) h (record { 0 = m }) x) (Decide (number me) g (record { 0 = n }) entry ∷ tape)
-      first at (Some y) is k = inr (known h m x (is ∙ k))
-      first at None is k = let parts = both (same_group g h) (n == m) at in
-          inl (λ i. Decide (number me) (same_group_equal g h parts.0 i) (record { 0 = number_is n m parts.1 i }) (some_is entry x k i))
-
-      by : (t : Bool) → (same_group g h && n == m) ≡ t → cond t (first_of (decided base h m) entry) (decided base h m) ≡ Some x → Stands (Decide (number me) h (record { 0 = m }) x) (Decide (number me) g (record { 0 = n }) entry ∷ tape)
-      by true at k = first at (decided base h m) refl k
-      by false at k = inr (known h m x k)
-
-  known_stood : (old new : List Item) (met : List Met) → Earlier old new → Known me met old → Known me met new
-  known_stood old new met later known g n e is = earlier_stood old new later _ (known g n e is)
-
-  known_one : (note : Met) (met : List Met) (tape : List Item) → Known me met tape → Known me (note ∷ met) (with_items c nodes' tape (shown me note))
-  known_one (Decides g n entry) met tape known = known_decided g n entry met tape known
-  known_one (Starts count) met tape known = known_stood tape _ met (items_later c nodes' (shown me (Starts count)) tape) known
-  known_one Crashes met tape known = known_stood tape _ met (items_later c nodes' (shown me Crashes) tape) known
-  known_one (Ticks now) met tape known = known_stood tape _ met (items_later c nodes' (shown me (Ticks now)) tape) known
-  known_one (Begins op text) met tape known = known_stood tape _ met (items_later c nodes' (shown me (Begins op text)) tape) known
-  known_one (Takes m) met tape known = known
-  known_one (Sends m) met tape known = known
-  known_one (Unsends m) met tape known = known_stood tape _ met (items_later c nodes' (shown me (Unsends m)) tape) known
-  known_one (Grants node epoch) met tape known = known_stood tape _ met (items_later c nodes' (shown me (Grants node epoch)) tape) known
-  known_one (Lapses node epoch) met tape known = known_stood tape _ met (items_later c nodes' (shown me (Lapses node epoch)) tape) known
-  known_one (Counts cell epoch) met tape known = known_stood tape _ met (items_later c nodes' (shown me (Counts cell epoch)) tape) known
-  known_one (Forgets cell epoch) met tape known = known_stood tape _ met (items_later c nodes' (shown me (Forgets cell epoch)) tape) known
-  known_one (Serves epoch) met tape known = known_stood tape _ met (items_later c nodes' (shown me (Serves epoch)) tape) known
-  known_one (Loses epoch) met tape known = known_stood tape _ met (items_later c nodes' (shown me (Loses epoch)) tape) known
-  known_one (Validates g p) met tape known = known_stood tape _ met (items_later c nodes' (shown me (Validates g p)) tape) known
-  known_one (Invalidates g p) met tape known = known_stood tape _ met (items_later c nodes' (shown me (Invalidates g p)) tape) known
-  known_one (Applies g p) met tape known = known_stood tape _ met (items_later c nodes' (shown me (Applies g p)) tape) known
-  known_one (Answers op answer) met tape known = known_stood tape _ met (items_later c nodes' (shown me (Answers op answer)) tape) known
-
-  known_notes : (notes met : List Met) (tape : List Item) → Known me met tape → Known me (onto notes met) (with_items c nodes' tape (flat_map (shown me) notes))
-  known_notes [] met tape known = known
-  known_notes (note ∷ notes) met tape known = subst (Known me (onto notes (note ∷ met))) (sym (with_append c nodes' (shown me note) (flat_map (shown me) notes) tape))
-      (known_notes notes (note ∷ met) (with_items c nodes' tape (shown me note)) (known_one note met tape known))
 
 -- ---- earlier tapes
 
@@ -244,15 +133,8 @@ stands_begun (item ∷ before) op text (inr s) = still item (stands_begun before
 
 -- ---- standings
 
-pub record AllFresh (c : Cluster) (usage : Usage) (tape : List Item) (nodes : ℕ → Node) : Type 0 where
-  pub items : Are (IsFreshItem c usage) tape
-  pub opens : (v : ℕ) → Each (λ (o : Operation). PhaseFresh c tape o.id o.request o.phase) (nodes v).open_operations
-
 abbrev HeldAt : Cluster → Usage → Standing → ℕ → Operation → Type 0
 HeldAt c usage now v o = Held (those_of usage) c now.tape v (start_of (now.node v).met) (begun_of (now.node v).met + 1) (now.node v).met o
-
-abbrev OpenAt : Cluster → List Item → Operation → Type 0
-OpenAt c tape o = PhaseFresh c tape o.id o.request o.phase
 
 -- another operation than those that are open begins
 begun_apart : (usage : Usage) (s : Setting) (now : Standing) → Good (those_of usage) s.cluster now → (v : ℕ) (o : Operation) → HeldAt s.cluster usage now v o → same_op (op_of s (now.node s.me).met) o.id ≡ false
@@ -273,227 +155,277 @@ own_onward usage s now item (Take m) g is v o held = subst (λ x. Onward o.id no
 own_onward usage s now item (Begin request text) g is v o held =
     subst (λ x. Onward o.id now.tape (x ∷ now.tape)) (sym is) (onward_begin o.id (op_of s (now.node s.me).met) text now.tape (begun_apart usage s now g v o held))
 
-own_decided : (s : Setting) (met : List Met) (event : Event) (g : GroupId) (n : ℕ) → decided (met_in s met event ∷ met) g n ≡ decided met g n
-own_decided s met (Tick clock) g n = refl
-own_decided s met (Take m) g n = refl
-own_decided s met (Begin request text) g n = refl
+module _ (Far : List Item → OpId → GroupId → ℕ → Type 0) (enough : Suffices Far) where
+  answers_later : (c : Cluster) (usage : Usage) (tape : List Item) (notes : List Met) → Each (NoteFar Far enough c usage tape) notes → Each IsLater notes
+  answers_later c usage tape notes h = each_on (NoteFar Far enough c usage tape) IsLater one notes h
+    where
+      one : (x : Met) → NoteFar Far enough c usage tape x → IsLater x
+      one (Answers op answer) k = tt
+      one _ k = absurd k
 
-module _ (c : Cluster) (few : length c.nodes ≤ 9) (five : c.cells ≤ 5) (usage : Usage) (first : Meanings) (cuts : Cuts) where
-  module _ (h : Meanings) (now : Standing) (me : ℕ) (item : Item) (event : Event) (g : Good (those_of usage) c now) (r : Reached c usage first cuts now)
-      (then : Reached c usage first cuts (whole_step c now me (item ∷ []) (step (setting c h me) (now.node me) event))) (up : is_up (now.node me).met ≡ true) (may : MayBegin c usage me event)
-      (o : Occurs now.tape (setting c h me) (now.node me).met item event) (plain : (nodes : ℕ → Node) → with_item c nodes now.tape item ≡ item ∷ now.tape) (q : AllFresh c usage now.tape now.node) where
-    abbrev s : Setting
-    s = setting c h me
+  -- ---- items
 
-    abbrev node : Node
-    node = now.node me
+  module _ (c : Cluster) (usage : Usage) where
+    abbrev FarItem : List Item → Item → Type 0
+    FarItem before item = IsFarItem Far c usage before item
 
-    abbrev made : Step
-    made = step s node event
+    module _ (nodes' : ℕ → Node) (me : ℕ) where
+      free_one : (note : Met) → IsMute note → Each (IsFree FarItem (λ t. tt) c nodes') (shown me note)
+      free_one (Begins op text) h = absurd h
+      free_one (Answers op answer) h = absurd h
+      free_one (Takes m) h = tt
+      free_one (Sends m) h = tt
+      free_one _ h = ((λ t. tt), tt)
 
-    abbrev those : ℕ → Node
-    those = set_at now.node me made.node
+      mute_far : (notes : List Met) (t : List Item) → Each IsMute notes → Are FarItem t → Are FarItem (with_items c nodes' t (flat_map (shown me) notes))
+      mute_far notes t h a = are_items FarItem (λ x. tt) c nodes' (flat_map (shown me) notes) t (free_follows FarItem (λ x. tt) c nodes' (flat_map (shown me) notes) t
+          (free_notes FarItem (λ x. tt) c nodes' me notes (each_on IsMute (λ note. Each (IsFree FarItem (λ x. tt) c nodes') (shown me note)) free_one notes h))) a
 
-    abbrev own_met : List Met
-    own_met = met_in s node.met event ∷ node.met
+      -- answers, on a tape that goes on from where they are told
+      answers_far : (tape : List Item) (notes : List Met) (t : List Item) → ((x : OpId) → Onward x tape t) → Each (NoteFar Far enough c usage tape) notes → Are FarItem t → Are FarItem (with_items c nodes' t (flat_map (shown me) notes))
+      answers_far tape [] t on h a = a
+      answers_far tape (Answers op answer ∷ notes) t on h a = answers_far tape notes (AnswerItem op answer ∷ t) (λ x. onward_then x tape t (AnswerItem op answer ∷ t) (on x) (onward_item x t (AnswerItem op answer) tt)) h.1
+          (answered_on Far enough c usage op tape t (on op) answer h.0, a)
+      answers_far tape (_ ∷ notes) t on h a = absurd h.0
 
-    abbrev front : List Met
-    front = front_of s node event
+    sends_far : (tape : List Item) (k : ℕ) (ms : List Message) (t : List Item) → ((x : OpId) → Onward x tape t) → Each (λ m. IsProposed Far tape m.body) ms → Are FarItem t → Are FarItem (sent k ms t)
+    sends_far tape k [] t on h a = a
+    sends_far tape k (m ∷ ms) t on h a = sends_far tape (k + 1) ms (Sent k m ∷ t) (λ x. onward_then x tape t (Sent k m ∷ t) (on x) (onward_item x t (Sent k m) tt)) h.1 (proposed_on Far enough tape t on m.body h.0, a)
 
-    abbrev start_tape : List Item
-    start_tape = item ∷ now.tape
+    own_far : (t : List Item) (item : Item) → IsOwn item → FarItem t item
+    own_far t (AnswerItem op answer) h = absurd h
+    own_far t (Sent key m) h = absurd h
+    own_far t _ h = tt
 
-    abbrev tape : List Item
-    tape = with_items c those start_tape (flat_map (shown me) front)
+  -- ---- a run
 
-    abbrev second : List Item
-    second = with_items c those start_tape (flat_map (shown me) made.notes)
+  pub record AllFar (c : Cluster) (usage : Usage) (tape : List Item) (nodes : ℕ → Node) : Type 0 where
+    pub items : Are (IsFarItem Far c usage) tape
+    pub opens : (v : ℕ) → Each (λ (o : Operation). PhaseFar Far enough c tape o.id o.request o.phase) (nodes v).open_operations
 
-    abbrev count : ℕ
-    count = sent_count now.tape + 1
+  abbrev OpenAt : Cluster → List Item → Operation → Type 0
+  OpenAt c tape o = PhaseFar Far enough c tape o.id o.request o.phase
 
-    abbrev third : List Item
-    third = stepped c those me now.tape item made
+  -- where a node may read locally in a step, of a run with these cuts
+  abbrev pub Near : Cluster → Usage → Meanings → Cuts → Type 0
+  Near c usage first cuts = (h : Meanings) (now : Standing) (me : ℕ) (item : Item) (event : Event) → let made = step (setting c h me) (now.node me) event in let those = set_at now.node me made.node in
+      let tape = with_items c those (item ∷ now.tape) (flat_map (shown me) (front_of (setting c h me) (now.node me) event)) in
+      Good (those_of usage) c now → Reached c usage first cuts now → Reached c usage first cuts (whole_step c now me (item ∷ []) made) → is_up (now.node me).met ≡ true → IsOwn item
+      → (whole_step c now me (item ∷ []) made).tape ≡ stepped c those me now.tape item made → ((x : OpId) → Onward x (item ∷ now.tape) tape) → Locals Far (setting c h me) tape (base_of (setting c h me) (now.node me) event) made.notes
 
-    own : IsOwn item
-    own = occurs_own now.tape s node.met item event o
+  module _ (c : Cluster) (usage : Usage) (first : Meanings) (cuts : Cuts) (near : Near c usage first cuts) where
+    module _ (h : Meanings) (now : Standing) (me : ℕ) (item : Item) (event : Event) (g : Good (those_of usage) c now) (r : Reached c usage first cuts now)
+        (then : Reached c usage first cuts (whole_step c now me (item ∷ []) (step (setting c h me) (now.node me) event))) (up : is_up (now.node me).met ≡ true) (may : MayBegin c usage me event)
+        (o : Occurs now.tape (setting c h me) (now.node me).met item event) (plain : (nodes : ℕ → Node) → with_item c nodes now.tape item ≡ item ∷ now.tape) (q : AllFar c usage now.tape now.node) where
+      abbrev s : Setting
+      s = setting c h me
 
-    whole : (whole_step c now me (item ∷ []) made).tape ≡ third
-    whole = with_append c those ((item ∷ []) ++ flat_map (shown me) made.notes) (numbered count made.sends) now.tape
-        ∙ with_sent c those count made.sends (with_items c those now.tape ((item ∷ []) ++ flat_map (shown me) made.notes))
-        ∙ ap (λ t. sent count made.sends (with_items c those t (flat_map (shown me) made.notes))) (plain those)
+      abbrev node : Node
+      node = now.node me
 
-    parted : Parted front made.notes
-    parted = step_parted s node event
+      abbrev made : Step
+      made = step s node event
 
-    front_mute : Each IsMute front
-    front_mute = front_each IsMute s node event (plain_mute (fronts s node event) (fronts_plain s node event)) (λ group n e. tt)
+      abbrev those : ℕ → Node
+      those = set_at now.node me made.node
 
-    notes_live : Each Lives made.notes
-    notes_live = subst (Each Lives) (sym parted.is) (each_both Lives front parted.rest (front_each Lives s node event (plain_lives (fronts s node event) (fronts_plain s node event)) (λ group n e. tt)) (tail_lives parted.rest parted.each))
+      abbrev own_met : List Met
+      own_met = met_in s node.met event ∷ node.met
 
-    front_onward : (x : OpId) → Onward x start_tape tape
-    front_onward x = onward_items x c those (flat_map (shown me) front) start_tape (later_shown me front (mute_later front front_mute))
+      abbrev front : List Met
+      front = front_of s node event
 
-    opens_onward : (v : ℕ) (x : Operation) → HeldAt c usage now v x → Onward x.id now.tape tape
-    opens_onward v x held = onward_then x.id now.tape start_tape tape (own_onward usage s now item event g o v x held) (front_onward x.id)
+      abbrev start_tape : List Item
+      start_tape = item ∷ now.tape
 
-    spread : second ≡ with_items c those tape (flat_map (shown me) parted.rest)
-    spread = ap (λ notes. with_items c those start_tape (flat_map (shown me) notes)) parted.is
-        ∙ ap (with_items c those start_tape) (flat_append me front parted.rest) ∙ with_append c those (flat_map (shown me) front) (flat_map (shown me) parted.rest) start_tape
+      abbrev tape : List Item
+      tape = with_items c those start_tape (flat_map (shown me) front)
 
-    tape_third : Earlier tape third
-    tape_third = then_later tape second third (subst (Earlier tape) (sym spread) (items_later c those (flat_map (shown me) parted.rest) tape)) (sent_later count made.sends second)
+      abbrev second : List Item
+      second = with_items c those start_tape (flat_map (shown me) made.notes)
 
-    lawful : Lawful c tape
-    lawful = earlier_lawful c tape third tape_third (subst (Lawful c) whole (run_lawful c first then.events _ (run_of c usage first cuts _ then)))
+      abbrev count : ℕ
+      count = sent_count now.tape + 1
 
-    polls : ArePolls tape
-    polls = earlier_polls tape third tape_third (subst ArePolls whole (run_polls c first then.events _ (run_of c usage first cuts _ then)))
+      abbrev third : List Item
+      third = stepped c those me now.tape item made
 
-    known : Known me (base_of s node event) tape
-    known = known_notes c those me front own_met start_tape (λ group n e is. inr ((g.node me).known group n e (sym (own_decided s node.met event group n) ∙ is)))
+      own : IsOwn item
+      own = occurs_own now.tape s node.met item event o
 
-    locals : Locals s tape (base_of s node event) made.notes
-    locals = step_locals c few five usage first cuts h now me item event g r then up own whole (met_lives s node.met event) notes_live front_onward
+      whole : (whole_step c now me (item ∷ []) made).tape ≡ third
+      whole = with_append c those ((item ∷ []) ++ flat_map (shown me) made.notes) (numbered count made.sends) now.tape
+          ∙ with_sent c those count made.sends (with_items c those now.tape ((item ∷ []) ++ flat_map (shown me) made.notes))
+          ∙ ap (λ t. sent count made.sends (with_items c those t (flat_map (shown me) made.notes))) (plain those)
 
-    opens : Each (Open s usage tape) node.open_operations
-    opens = each_zip (HeldAt c usage now me) (OpenAt c now.tape) (Open s usage tape) (λ x held fresh. record {
-      node = held.node;
-      asked = (opens_onward me x held).asked usage.meaning ∙ began_asked c.schema usage now.tape x.id x.request (g.written tt) held.named (held.owned tt).began;
-      above = phase_above c now.tape node.met x.id x.phase held.backed (λ group r' is. (subst (Mine c.schema now.tape x.id x.request x.message) is (held.owned tt).mine).plain);
-      fresh = phase_on c x.id now.tape tape (opens_onward me x held) x.request x.phase fresh;
-    }) node.open_operations (g.node me).held (q.opens me)
+      parted : Parted front made.notes
+      parted = step_parted s node event
 
-    shown_there : Shown s usage tape lawful polls node event
-    shown_there = by event o may front_onward
-      where
-        stood : (x : Item) → Stands x start_tape → Stands x tape
-        stood x k = earlier_stood start_tape tape (items_later c those (flat_map (shown me) front) start_tape) x k
+      front_mute : Each IsMute front
+      front_mute = front_each IsMute s node event (plain_mute (fronts s node event) (fronts_plain s node event)) (λ group n e. tt)
 
-        by : (event' : Event) → Occurs now.tape s node.met item event' → MayBegin c usage me event' → ((x : OpId) → Onward x start_tape tape) → Shown s usage tape lawful polls node event'
-        by (Tick clock) is allowed on = tt
-        by (Take m) is allowed on =
-            took_on start_tape tape stood (message m.from me m.body) (record { number = is.0; sent = inr (subst (λ v. Stands (Sent is.0 (message m.from v m.body)) now.tape) is.3 is.2); taken = inl is.1 })
-        by (Begin request text) is allowed on = (
-          allowed.0,
-          (on (op_of s node.met)).asked usage.meaning ∙ ap (λ x. asked_for usage.meaning (x ∷ now.tape) (op_of s node.met)) is
-              ∙ ap (λ t. cond t (usage.meaning text) (asked_for usage.meaning now.tape (op_of s node.met))) (same_op_self (op_of s node.met)) ∙ allowed.1,
-        )
+      front_onward : (x : OpId) → Onward x start_tape tape
+      front_onward x = onward_items x c those (flat_map (shown me) front) start_tape (later_shown me front (mute_later front front_mute))
 
-    fresh : StepFresh s usage tape front made
-    fresh = step_fresh s usage tape lawful polls node event known locals shown_there opens
+      opens_onward : (v : ℕ) (x : Operation) → HeldAt c usage now v x → Onward x.id now.tape tape
+      opens_onward v x held = onward_then x.id now.tape start_tape tape (own_onward usage s now item event g o v x held) (front_onward x.id)
 
-    -- item by item
-    abbrev middle : List Met
-    middle = (front ++ fresh.applies) ++ fresh.valid
+      spread : second ≡ with_items c those tape (flat_map (shown me) parted.rest)
+      spread = ap (λ notes. with_items c those start_tape (flat_map (shown me) notes)) parted.is
+          ∙ ap (with_items c those start_tape) (flat_append me front parted.rest) ∙ with_append c those (flat_map (shown me) front) (flat_map (shown me) parted.rest) start_tape
 
-    abbrev middle_tape : List Item
-    middle_tape = with_items c those start_tape (flat_map (shown me) middle)
+      tape_third : Earlier tape third
+      tape_third = then_later tape second third (subst (Earlier tape) (sym spread) (items_later c those (flat_map (shown me) parted.rest) tape)) (sent_later count made.sends second)
 
-    middle_spread : middle_tape ≡ with_items c those (with_items c those tape (flat_map (shown me) fresh.applies)) (flat_map (shown me) fresh.valid)
-    middle_spread = ap (with_items c those start_tape) (flat_append me (front ++ fresh.applies) fresh.valid) ∙ with_append c those (flat_map (shown me) (front ++ fresh.applies)) (flat_map (shown me) fresh.valid) start_tape
-        ∙ ap (λ t. with_items c those t (flat_map (shown me) fresh.valid)) (ap (with_items c those start_tape) (flat_append me front fresh.applies) ∙ with_append c those (flat_map (shown me) front) (flat_map (shown me) fresh.applies) start_tape)
+      lawful : Lawful c tape
+      lawful = earlier_lawful c tape third tape_third (subst (Lawful c) whole (run_lawful c first then.events _ (run_of c usage first cuts _ then)))
 
-    middle_onward : (x : OpId) → Onward x tape middle_tape
-    middle_onward x = subst (Onward x tape) (sym middle_spread) (onward_then x tape (with_items c those tape (flat_map (shown me) fresh.applies)) _
-        (onward_items x c those (flat_map (shown me) fresh.applies) tape (later_shown me fresh.applies (mute_later fresh.applies (applies_mute fresh.applies fresh.applied))))
-        (onward_items x c those (flat_map (shown me) fresh.valid) _ (later_shown me fresh.valid (mute_later fresh.valid (validates_mute fresh.valid fresh.valids)))))
+      polls : ArePolls tape
+      polls = earlier_polls tape third tape_third (subst ArePolls whole (run_polls c first then.events _ (run_of c usage first cuts _ then)))
 
-    middle_fresh : Are (IsFreshItem c usage) middle_tape
-    middle_fresh = mute_fresh c usage those me middle start_tape (each_both IsMute (front ++ fresh.applies) fresh.valid (each_both IsMute front fresh.applies front_mute (applies_mute fresh.applies fresh.applied)) (validates_mute fresh.valid fresh.valids))
-        (own_fresh c usage now.tape item own, q.items)
+      known : Known me (base_of s node event) tape
+      known = known_notes c those me front own_met start_tape (λ group n e is. inr ((g.node me).known group n e (sym (own_decided s node.met event group n) ∙ is)))
 
-    second_spread : second ≡ with_items c those middle_tape (flat_map (shown me) fresh.answers)
-    second_spread = ap (λ notes. with_items c those start_tape (flat_map (shown me) notes)) fresh.is
-        ∙ ap (with_items c those start_tape) (flat_append me middle fresh.answers) ∙ with_append c those (flat_map (shown me) middle) (flat_map (shown me) fresh.answers) start_tape
+      locals : Locals Far s tape (base_of s node event) made.notes
+      locals = near h now me item event g r then up own whole front_onward
 
-    second_onward : (x : OpId) → Onward x tape second
-    second_onward x = subst (Onward x tape) (sym second_spread) (onward_then x tape middle_tape _ (middle_onward x)
-        (onward_items x c those (flat_map (shown me) fresh.answers) middle_tape (later_shown me fresh.answers (answers_later c usage tape fresh.answers fresh.fresh))))
+      opens : Each (Open Far enough s usage tape) node.open_operations
+      opens = each_zip (HeldAt c usage now me) (OpenAt c now.tape) (Open Far enough s usage tape) (λ x held far. record {
+        node = held.node;
+        asked = (opens_onward me x held).asked usage.meaning ∙ began_asked c.schema usage now.tape x.id x.request (g.written tt) held.named (held.owned tt).began;
+        above = phase_above c now.tape node.met x.id x.phase held.backed (λ group r' is. (subst (Mine c.schema now.tape x.id x.request x.message) is (held.owned tt).mine).plain);
+        far = phase_on Far enough c x.id now.tape tape (opens_onward me x held) x.request x.phase far;
+      }) node.open_operations (g.node me).held (q.opens me)
 
-    second_fresh : Are (IsFreshItem c usage) second
-    second_fresh = subst (Are (IsFreshItem c usage)) (sym second_spread) (answers_fresh c usage those me tape fresh.answers middle_tape middle_onward fresh.fresh middle_fresh)
+      shown_there : Shown Far enough s usage tape lawful polls node event
+      shown_there = by event o may front_onward
+        where
+          stood : (x : Item) → Stands x start_tape → Stands x tape
+          stood x k = earlier_stood start_tape tape (items_later c those (flat_map (shown me) front) start_tape) x k
 
-    third_onward : (x : OpId) → Onward x tape third
-    third_onward x = onward_then x tape second third (second_onward x) (onward_sent x count made.sends second)
+          by : (event' : Event) → Occurs now.tape s node.met item event' → MayBegin c usage me event' → ((x : OpId) → Onward x start_tape tape) → Shown Far enough s usage tape lawful polls node event'
+          by (Tick clock) is allowed on = tt
+          by (Take m) is allowed on =
+              took_on start_tape tape stood (message m.from me m.body) (record { number = is.0; sent = inr (subst (λ v. Stands (Sent is.0 (message m.from v m.body)) now.tape) is.3 is.2); taken = inl is.1 })
+          by (Begin request text) is allowed on = (
+            allowed.0,
+            (on (op_of s node.met)).asked usage.meaning ∙ ap (λ x. asked_for usage.meaning (x ∷ now.tape) (op_of s node.met)) is
+                ∙ ap (λ t. cond t (usage.meaning text) (asked_for usage.meaning now.tape (op_of s node.met))) (same_op_self (op_of s node.met)) ∙ allowed.1,
+          )
 
-    steps_fresh : AllFresh c usage third those
-    steps_fresh = record {
-      items = sends_fresh c usage tape count made.sends second second_onward fresh.sends second_fresh;
-      opens = by_node (λ v x. Each (OpenAt c third) x.open_operations) now.node me made.node
-          (each_on (OpenAt c tape) (OpenAt c third) (λ x k. phase_on c x.id tape third (third_onward x.id) x.request x.phase k) (made.node).open_operations fresh.opens)
-          (λ v apart. each_zip (HeldAt c usage now v) (OpenAt c now.tape) (OpenAt c third) (λ x held k. phase_on c x.id now.tape third (onward_then x.id now.tape tape third (opens_onward v x held) (third_onward x.id)) x.request x.phase k)
+      far : StepFar Far enough s usage tape front made
+      far = step_far Far enough s usage tape lawful polls node event known locals shown_there opens
+
+      -- item by item
+      abbrev middle : List Met
+      middle = (front ++ far.applies) ++ far.valid
+
+      abbrev middle_tape : List Item
+      middle_tape = with_items c those start_tape (flat_map (shown me) middle)
+
+      middle_spread : middle_tape ≡ with_items c those (with_items c those tape (flat_map (shown me) far.applies)) (flat_map (shown me) far.valid)
+      middle_spread = ap (with_items c those start_tape) (flat_append me (front ++ far.applies) far.valid) ∙ with_append c those (flat_map (shown me) (front ++ far.applies)) (flat_map (shown me) far.valid) start_tape
+          ∙ ap (λ t. with_items c those t (flat_map (shown me) far.valid)) (ap (with_items c those start_tape) (flat_append me front far.applies) ∙ with_append c those (flat_map (shown me) front) (flat_map (shown me) far.applies) start_tape)
+
+      middle_onward : (x : OpId) → Onward x tape middle_tape
+      middle_onward x = subst (Onward x tape) (sym middle_spread) (onward_then x tape (with_items c those tape (flat_map (shown me) far.applies)) _
+          (onward_items x c those (flat_map (shown me) far.applies) tape (later_shown me far.applies (mute_later far.applies (applies_mute far.applies far.applied))))
+          (onward_items x c those (flat_map (shown me) far.valid) _ (later_shown me far.valid (mute_later far.valid (validates_mute far.valid far.valids)))))
+
+      middle_far : Are (IsFarItem Far c usage) middle_tape
+      middle_far = mute_far c usage those me middle start_tape (each_both IsMute (front ++ far.applies) far.valid (each_both IsMute front far.applies front_mute (applies_mute far.applies far.applied)) (validates_mute far.valid far.valids))
+          (own_far c usage now.tape item own, q.items)
+
+      second_spread : second ≡ with_items c those middle_tape (flat_map (shown me) far.answers)
+      second_spread = ap (λ notes. with_items c those start_tape (flat_map (shown me) notes)) far.is
+          ∙ ap (with_items c those start_tape) (flat_append me middle far.answers) ∙ with_append c those (flat_map (shown me) middle) (flat_map (shown me) far.answers) start_tape
+
+      second_onward : (x : OpId) → Onward x tape second
+      second_onward x = subst (Onward x tape) (sym second_spread) (onward_then x tape middle_tape _ (middle_onward x)
+          (onward_items x c those (flat_map (shown me) far.answers) middle_tape (later_shown me far.answers (answers_later c usage tape far.answers far.far))))
+
+      second_far : Are (IsFarItem Far c usage) second
+      second_far = subst (Are (IsFarItem Far c usage)) (sym second_spread) (answers_far c usage those me tape far.answers middle_tape middle_onward far.far middle_far)
+
+      third_onward : (x : OpId) → Onward x tape third
+      third_onward x = onward_then x tape second third (second_onward x) (onward_sent x count made.sends second)
+
+      steps_far : AllFar c usage third those
+      steps_far = record {
+        items = sends_far c usage tape count made.sends second second_onward far.sends second_far;
+        opens = by_node (λ v x. Each (OpenAt c third) x.open_operations) now.node me made.node
+            (each_on (OpenAt c tape) (OpenAt c third) (λ x k. phase_on Far enough c x.id tape third (third_onward x.id) x.request x.phase k) (made.node).open_operations far.opens)
+            (λ v apart. each_zip (HeldAt c usage now v) (OpenAt c now.tape) (OpenAt c third) (λ x held k. phase_on Far enough c x.id now.tape third (onward_then x.id now.tape tape third (opens_onward v x held) (third_onward x.id)) x.request x.phase k)
+            (now.node v).open_operations (g.node v).held (q.opens v));
+      }
+
+    cuts_far : (h : Meanings) (now : Standing) (me : ℕ) (item : Item) (event : Event) → Good (those_of usage) c now → Occurs now.tape (setting c h me) (now.node me).met item event → AllFar c usage now.tape now.node
+        → AllFar c usage (Crash (number me) ∷ item ∷ now.tape) (set_at now.node me (down (met_in (setting c h me) (now.node me).met event) (now.node me)))
+    cuts_far h now me item event g o q = record {
+      items = (tt, (own_far c usage now.tape item (occurs_own now.tape (setting c h me) (now.node me).met item event o), q.items));
+      opens = by_node (λ v x. Each (OpenAt c (Crash (number me) ∷ item ∷ now.tape)) x.open_operations) now.node me (down (met_in (setting c h me) (now.node me).met event) (now.node me)) tt
+          (λ v apart. each_zip (HeldAt c usage now v) (OpenAt c now.tape) (OpenAt c (Crash (number me) ∷ item ∷ now.tape)) (λ x held k. phase_on Far enough c x.id now.tape (Crash (number me) ∷ item ∷ now.tape)
+          (onward_then x.id now.tape (item ∷ now.tape) (Crash (number me) ∷ item ∷ now.tape) (own_onward usage (setting c h me) now item event g o v x held) (onward_item x.id (item ∷ now.tape) (Crash (number me)) tt)) x.request x.phase k)
           (now.node v).open_operations (g.node v).held (q.opens v));
     }
 
-  cuts_fresh : (h : Meanings) (now : Standing) (me : ℕ) (item : Item) (event : Event) → Good (those_of usage) c now → Occurs now.tape (setting c h me) (now.node me).met item event → AllFresh c usage now.tape now.node
-      → AllFresh c usage (Crash (number me) ∷ item ∷ now.tape) (set_at now.node me (down (met_in (setting c h me) (now.node me).met event) (now.node me)))
-  cuts_fresh h now me item event g o q = record {
-    items = (tt, (own_fresh c usage now.tape item (occurs_own now.tape (setting c h me) (now.node me).met item event o), q.items));
-    opens = by_node (λ v x. Each (OpenAt c (Crash (number me) ∷ item ∷ now.tape)) x.open_operations) now.node me (down (met_in (setting c h me) (now.node me).met event) (now.node me)) tt
-        (λ v apart. each_zip (HeldAt c usage now v) (OpenAt c now.tape) (OpenAt c (Crash (number me) ∷ item ∷ now.tape)) (λ x held k. phase_on c x.id now.tape (Crash (number me) ∷ item ∷ now.tape)
-        (onward_then x.id now.tape (item ∷ now.tape) (Crash (number me) ∷ item ∷ now.tape) (own_onward usage (setting c h me) now item event g o v x held) (onward_item x.id (item ∷ now.tape) (Crash (number me)) tt)) x.request x.phase k)
-        (now.node v).open_operations (g.node v).held (q.opens v));
-  }
+    starts_far : (h : Meanings) (now : Standing) (me count : ℕ) → Good (those_of usage) c now → AllFar c usage now.tape now.node
+        → AllFar c usage (with_items c (set_at now.node me (start (setting c h me) count (now.owed me) (now.node me).met)) now.tape (flat_map (shown me) (start_items (setting c h me) count (now.owed me) (now.node me).met)))
+        (set_at now.node me (start (setting c h me) count (now.owed me) (now.node me).met))
+    starts_far h now me count g q = record {
+      items = mute_far c usage those me items now.tape mute q.items;
+      opens = by_node (λ v x. Each (OpenAt c later) x.open_operations) now.node me (start (setting c h me) count (now.owed me) (now.node me).met) tt
+          (λ v apart. each_on (OpenAt c now.tape) (OpenAt c later) (λ x k. phase_on Far enough c x.id now.tape later (onward_items x.id c those (flat_map (shown me) items) now.tape (later_shown me items (mute_later items mute))) x.request x.phase k) (now.node v).open_operations (q.opens v));
+    }
+      where
+        those : ℕ → Node
+        those = set_at now.node me (start (setting c h me) count (now.owed me) (now.node me).met)
 
-  starts_fresh : (h : Meanings) (now : Standing) (me count : ℕ) → Good (those_of usage) c now → AllFresh c usage now.tape now.node
-      → AllFresh c usage (with_items c (set_at now.node me (start (setting c h me) count (now.owed me) (now.node me).met)) now.tape (flat_map (shown me) (start_items (setting c h me) count (now.owed me) (now.node me).met)))
-      (set_at now.node me (start (setting c h me) count (now.owed me) (now.node me).met))
-  starts_fresh h now me count g q = record {
-    items = mute_fresh c usage those me items now.tape mute q.items;
-    opens = by_node (λ v x. Each (OpenAt c later) x.open_operations) now.node me (start (setting c h me) count (now.owed me) (now.node me).met) tt
-        (λ v apart. each_on (OpenAt c now.tape) (OpenAt c later) (λ x k. phase_on c x.id now.tape later (onward_items x.id c those (flat_map (shown me) items) now.tape (later_shown me items (mute_later items mute))) x.request x.phase k) (now.node v).open_operations (q.opens v));
-  }
-    where
-      those : ℕ → Node
-      those = set_at now.node me (start (setting c h me) count (now.owed me) (now.node me).met)
+        items : List Met
+        items = start_items (setting c h me) count (now.owed me) (now.node me).met
 
-      items : List Met
-      items = start_items (setting c h me) count (now.owed me) (now.node me).met
+        later : List Item
+        later = with_items c those now.tape (flat_map (shown me) items)
 
-      later : List Item
-      later = with_items c those now.tape (flat_map (shown me) items)
+        mute : Each IsMute items
+        mute = (
+          tt,
+          each_both IsMute (now.owed me) (start_notes (setting c h me) (onto (now.owed me) (Starts count ∷ (now.node me).met))) (owes_mute c now.tape me (now.owed me) (g.owes me))
+              (plain_mute (start_notes (setting c h me) (onto (now.owed me) (Starts count ∷ (now.node me).met))) (starts_plain (setting c h me) (onto (now.owed me) (Starts count ∷ (now.node me).met)))),
+        )
 
-      mute : Each IsMute items
-      mute = (
-        tt,
-        each_both IsMute (now.owed me) (start_notes (setting c h me) (onto (now.owed me) (Starts count ∷ (now.node me).met))) (owes_mute c now.tape me (now.owed me) (g.owes me))
-            (plain_mute (start_notes (setting c h me) (onto (now.owed me) (Starts count ∷ (now.node me).met))) (starts_plain (setting c h me) (onto (now.owed me) (Starts count ∷ (now.node me).met)))),
-      )
+    falls_far : (now : Standing) (me : ℕ) → AllFar c usage now.tape now.node → AllFar c usage (Crash (number me) ∷ now.tape) (set_at now.node me (crashed (now.node me)))
+    falls_far now me q = record {
+      items = (tt, q.items);
+      opens = by_node (λ v x. Each (OpenAt c (Crash (number me) ∷ now.tape)) x.open_operations) now.node me (crashed (now.node me)) tt
+          (λ v apart. each_on (OpenAt c now.tape) (OpenAt c (Crash (number me) ∷ now.tape)) (λ x k. phase_on Far enough c x.id now.tape (Crash (number me) ∷ now.tape) (onward_item x.id now.tape (Crash (number me)) tt) x.request x.phase k) (now.node v).open_operations (q.opens v));
+    }
 
-  falls_fresh : (now : Standing) (me : ℕ) → AllFresh c usage now.tape now.node → AllFresh c usage (Crash (number me) ∷ now.tape) (set_at now.node me (crashed (now.node me)))
-  falls_fresh now me q = record {
-    items = (tt, q.items);
-    opens = by_node (λ v x. Each (OpenAt c (Crash (number me) ∷ now.tape)) x.open_operations) now.node me (crashed (now.node me)) tt
-        (λ v apart. each_on (OpenAt c now.tape) (OpenAt c (Crash (number me) ∷ now.tape)) (λ x k. phase_on c x.id now.tape (Crash (number me) ∷ now.tape) (onward_item x.id now.tape (Crash (number me)) tt) x.request x.phase k) (now.node v).open_operations (q.opens v));
-  }
+    marks_far : (now : Standing) (item : Item) → IsMark item → AllFar c usage now.tape now.node → AllFar c usage (item ∷ now.tape) now.node
+    marks_far now item is q = record {
+      items = (mark_free item is, q.items);
+      opens = λ v. each_on (OpenAt c now.tape) (OpenAt c (item ∷ now.tape)) (λ x k. phase_on Far enough c x.id now.tape (item ∷ now.tape) (onward_item x.id now.tape item (mark_later item is)) x.request x.phase k) (now.node v).open_operations (q.opens v);
+    }
+      where
+        mark_free : (x : Item) → IsMark x → IsFarItem Far c usage now.tape x
+        mark_free (AnswerItem op answer) k = absurd k
+        mark_free (Sent key m) k = absurd k
+        mark_free _ k = tt
 
-  marks_fresh : (now : Standing) (item : Item) → IsMark item → AllFresh c usage now.tape now.node → AllFresh c usage (item ∷ now.tape) now.node
-  marks_fresh now item is q = record {
-    items = (mark_free item is, q.items);
-    opens = λ v. each_on (OpenAt c now.tape) (OpenAt c (item ∷ now.tape)) (λ x k. phase_on c x.id now.tape (item ∷ now.tape) (onward_item x.id now.tape item (mark_later item is)) x.request x.phase k) (now.node v).open_operations (q.opens v);
-  }
-    where
-      mark_free : (x : Item) → IsMark x → IsFreshItem c usage now.tape x
-      mark_free (AnswerItem op answer) k = absurd k
-      mark_free (Sent key m) k = absurd k
-      mark_free _ k = tt
+        mark_later : (x : Item) → IsMark x → NoBegin x
+        mark_later (BeginItem op text) k = absurd k
+        mark_later _ k = tt
 
-      mark_later : (x : Item) → IsMark x → NoBegin x
-      mark_later (BeginItem op text) k = absurd k
-      mark_later _ k = tt
+    far_stays : Stays c usage first cuts (AllFar c usage)
+    far_stays = record {
+      steps = λ h now me item event g r then up may o plain q. steps_far h now me item event g r then up may o plain q;
+      cuts_off = λ h now me item event g o q. cuts_far h now me item event g o q;
+      starts = λ h now me count g q. starts_far h now me count g q;
+      falls = λ now me g q. falls_far now me q;
+      marks = λ now item is g q. marks_far now item is q;
+    }
 
-  fresh_stays : Stays c usage first cuts (AllFresh c usage)
-  fresh_stays = record {
-    steps = λ h now me item event g r then up may o plain q. steps_fresh h now me item event g r then up may o plain q;
-    cuts_off = λ h now me item event g o q. cuts_fresh h now me item event g o q;
-    starts = λ h now me count g q. starts_fresh h now me count g q;
-    falls = λ now me g q. falls_fresh now me q;
-    marks = λ now item is g q. marks_fresh now item is q;
-  }
-
--- each answer and each proposal of every run
-pub run_fresh : (c : Cluster) (usage : Usage) (first : Meanings) (events : List Happening) (tape : List Item) → length c.nodes ≤ 9 → c.cells ≤ 5 → IsRun c first events tape → Fits usage events → Are (IsFreshItem c usage) tape
-run_fresh c usage first events _ few five run fits = subst (Are (IsFreshItem c usage)) (sym run.tape_is)
-    (run_stays c usage first run.cuts (AllFresh c usage) (fresh_stays c few five usage first run.cuts) events fits (record { items = tt; opens = λ v. tt })).items
+  -- each answer and each proposal of every run
+  pub run_far : (c : Cluster) (usage : Usage) (first : Meanings) (events : List Happening) (tape : List Item) → ((cuts : Cuts) → Near c usage first cuts) → IsRun c first events tape → Fits usage events → Are (IsFarItem Far c usage) tape
+  run_far c usage first events _ near run fits = subst (Are (IsFarItem Far c usage)) (sym run.tape_is)
+      (run_stays c usage first run.cuts (AllFar c usage) (far_stays c usage first run.cuts (near run.cuts)) events fits (record { items = tt; opens = λ v. tt })).items

@@ -1,7 +1,9 @@
--- A step of a node: what it answers, what it proposes and what stays open are fresh, on the tape behind its first notes and its decision.
+-- A step of a node: what it answers, what it proposes and what stays open are of logs that were read far enough, on the tape behind its first notes and its
+-- decision.
 use Rattle.std.proofs.Common.{ℕ, ◌≡◌, inl, inr, zero, suc, ◌-◌, ◌<◌, ◌&&◌, nat_le, nat_lt, slice_get, length, arith, Bool, true, false, cond, List, [], ◌∷◌, ◌++◌, map, flat_map, fold, Option, Some, None, refl, sym, ap, subst}
 use Rattle.std.proofs.lemmas.Bool.Decides.{nat_tests}
 use Rattle.mega_base.specs.declared.names.GroupId.{GroupId}
+use Rattle.mega_base.specs.declared.names.OpId.{OpId}
 use Rattle.mega_base.specs.declared.values.NodeKind.{NodeKind}
 use Rattle.mega_base.specs.declared.values.NodeKind.TheVariants.{Full, Witness, Read as ReadOnly}
 use Rattle.mega_cluster.specs.declared.cluster.Cluster.{Cluster}
@@ -33,10 +35,10 @@ use Rattle.mega_leased_laws.proofs.of_settled_laws.of_run_laws.Turns.{Known, eac
 use Rattle.mega_leased_laws.proofs.of_settled_laws.of_run_laws.Whole.{in_left, in_right}
 use Rattle.mega_leased_laws.proofs.of_settled_laws.Tapes.{each_both}
 use Rattle.mega_leased_laws.proofs.Validating.{NoRequest, Plain, acquires_plain, background_plain, news_plain, reply_plain}
-use Rattle.mega_fresh_laws.specs.Covering.{IsProposed}
-use Rattle.mega_fresh_laws.proofs.Through.{PhaseFresh}
-use Rattle.mega_fresh_laws.proofs.Acting.{Acting, IsValidate, Locals, NoteFresh}
-use Rattle.mega_fresh_laws.proofs.Heeding.{Open, all_heard, all_ticked, begun_it, refused_fresh}
+use Rattle.mega_fresh_laws.proofs.Enough.{IsProposed, Suffices}
+use Rattle.mega_fresh_laws.proofs.Through.{PhaseFar}
+use Rattle.mega_fresh_laws.proofs.Acting.{Acting, IsValidate, Locals, NoteFar}
+use Rattle.mega_fresh_laws.proofs.Heeding.{Open, all_heard, all_ticked, begun_it, refused_far}
 
 -- ---- what proposes nothing
 
@@ -47,13 +49,6 @@ plain_quiet : (ms : List Message) → Each Plain ms → Each Quiet ms
 plain_quiet ms h = each_on Plain Quiet (λ m k. by m.body k) ms h
   where
     by : (body : Body) → NoRequest body → NoAccept body
-    by (Accept op group n b e) k = absurd k
-    by _ k = tt
-
-quiet_fresh : (tape : List Item) (ms : List Message) → Each Quiet ms → Each (λ m. IsProposed tape m.body) ms
-quiet_fresh tape ms h = each_on Quiet (λ m. IsProposed tape m.body) (λ m k. by m.body k) ms h
-  where
-    by : (body : Body) → NoAccept body → IsProposed tape body
     by (Accept op group n b e) k = absurd k
     by _ k = tt
 
@@ -87,17 +82,6 @@ front_of s node (Begin request text) = []
 
 abbrev pub base_of : Setting → Node → Event → List Met
 base_of s node event = onto (front_of s node event) (met_in s node.met event ∷ node.met)
-
-pub record StepFresh (s : Setting) (usage : Usage) (tape : List Item) (front : List Met) (made : Step) : Type 0 where
-  pub applies : List Met
-  pub valid : List Met
-  pub answers : List Met
-  pub is : made.notes ≡ ((front ++ applies) ++ valid) ++ answers
-  pub applied : Each IsApply applies
-  pub valids : Each IsValidate valid
-  pub fresh : Each (NoteFresh s.cluster usage tape) answers
-  pub opens : Each (λ (o : Operation). PhaseFresh s.cluster tape o.id o.request o.phase) (made.node).open_operations
-  pub sends : Each (λ m. IsProposed tape m.body) made.sends
 
 each_in : {X : Type 0} (P : X → Type 0) (xs : List X) → ((x : X) → In x xs → P x) → Each P xs
 each_in P [] f = tt
@@ -144,158 +128,177 @@ unworn false other h = h
 
 -- ---- steps
 
-module _ (s : Setting) (usage : Usage) (tape : List Item) (l : Lawful s.cluster tape) (q : ArePolls tape) (node : Node) where
-  abbrev Opens : List Operation → Type 0
-  Opens os = Each (Open s usage tape) os
-
-  taken_fresh : (m : Message) (d : Option Decision) (told_news : List Message) → let ts = map (hears_message s (clock_of node.met) m) node.open_operations in let told = told_notes s node.met m.from m.body in
-      Known s.me (onto (decision_note d) (onto told (Takes m ∷ node.met))) tape → Locals s tape (onto (decision_note d) (onto told (Takes m ∷ node.met))) (taken s node m told ts d (reply_to s.cluster s.me node.met m) told_news).notes
-      → Took tape (message m.from s.me m.body) → Opens node.open_operations → Each Quiet (reply_to s.cluster s.me node.met m ++ told_news)
-      → StepFresh s usage tape (told ++ decision_note d) (taken s node m told ts d (reply_to s.cluster s.me node.met m) told_news)
-  taken_fresh m d told_news known locals took opens quiet = record {
-    applies = applies;
-    valid = now.valid;
-    answers = now.answers;
-    is = refl;
-    applied = apply_only s node.met node.stored now.met now.stored;
-    valids = acted.valids;
-    fresh = acted.answers;
-    opens = acted.kept;
-    sends = each_both (λ m'. IsProposed tape m'.body) (reply_to s.cluster s.me node.met m ++ told_news) now.sends (quiet_fresh tape (reply_to s.cluster s.me node.met m ++ told_news) quiet) acted.sends;
-  }
+module _ (Far : List Item → OpId → GroupId → ℕ → Type 0) (enough : Suffices Far) where
+  quiet_far : (tape : List Item) (ms : List Message) → Each Quiet ms → Each (λ m. IsProposed Far tape m.body) ms
+  quiet_far tape ms h = each_on Quiet (λ m. IsProposed Far tape m.body) (λ m k. by m.body k) ms h
     where
-      ts : List HeardBy
-      ts = map (hears_message s (clock_of node.met) m) node.open_operations
+      by : (body : Body) → NoAccept body → IsProposed Far tape body
+      by (Accept op group n b e) k = absurd k
+      by _ k = tt
 
-      told : List Met
-      told = told_notes s node.met m.from m.body
+  pub record StepFar (s : Setting) (usage : Usage) (tape : List Item) (front : List Met) (made : Step) : Type 0 where
+    pub applies : List Met
+    pub valid : List Met
+    pub answers : List Met
+    pub is : made.notes ≡ ((front ++ applies) ++ valid) ++ answers
+    pub applied : Each IsApply applies
+    pub valids : Each IsValidate valid
+    pub far : Each (NoteFar Far enough s.cluster usage tape) answers
+    pub opens : Each (λ (o : Operation). PhaseFar Far enough s.cluster tape o.id o.request o.phase) (made.node).open_operations
+    pub sends : Each (λ m. IsProposed Far tape m.body) made.sends
 
-      base : List Met
-      base = onto (decision_note d) (onto told (Takes m ∷ node.met))
+  module _ (s : Setting) (usage : Usage) (tape : List Item) (l : Lawful s.cluster tape) (q : ArePolls tape) (node : Node) where
+    abbrev Opens : List Operation → Type 0
+    Opens os = Each (Open Far enough s usage tape) os
 
-      begin : Now
-      begin = at_first base (stored_after s base node.stored d)
+    taken_far : (m : Message) (d : Option Decision) (told_news : List Message) → let ts = map (hears_message s (clock_of node.met) m) node.open_operations in let told = told_notes s node.met m.from m.body in
+        Known s.me (onto (decision_note d) (onto told (Takes m ∷ node.met))) tape → Locals Far s tape (onto (decision_note d) (onto told (Takes m ∷ node.met))) (taken s node m told ts d (reply_to s.cluster s.me node.met m) told_news).notes
+        → Took tape (message m.from s.me m.body) → Opens node.open_operations → Each Quiet (reply_to s.cluster s.me node.met m ++ told_news)
+        → StepFar s usage tape (told ++ decision_note d) (taken s node m told ts d (reply_to s.cluster s.me node.met m) told_news)
+    taken_far m d told_news known locals took opens quiet = record {
+      applies = applies;
+      valid = now.valid;
+      answers = now.answers;
+      is = refl;
+      applied = apply_only s node.met node.stored now.met now.stored;
+      valids = acted.valids;
+      far = acted.answers;
+      opens = acted.kept;
+      sends = each_both (λ m'. IsProposed Far tape m'.body) (reply_to s.cluster s.me node.met m ++ told_news) now.sends (quiet_far tape (reply_to s.cluster s.me node.met m ++ told_news) quiet) acted.sends;
+    }
+      where
+        ts : List HeardBy
+        ts = map (hears_message s (clock_of node.met) m) node.open_operations
 
-      now : Now
-      now = all_act s begin ts
+        told : List Met
+        told = told_notes s node.met m.from m.body
 
-      applies : List Met
-      applies = apply_notes s node.met node.stored now.met now.stored
+        base : List Met
+        base = onto (decision_note d) (onto told (Takes m ∷ node.met))
 
-      notes : List Met
-      notes = (((told ++ decision_note d) ++ applies) ++ now.valid) ++ now.answers
+        begin : Now
+        begin = at_first base (stored_after s base node.stored d)
 
-      acted : Acting s usage tape l q base notes known locals now
-      acted = all_heard s usage tape l q base notes known locals (clock_of node.met) m took node.open_operations begin opens (λ guard. record { mid = refl; valids = tt; answers = tt; sends = tt; kept = tt })
-          (valid_among (told ++ decision_note d) applies now.valid now.answers)
+        now : Now
+        now = all_act s begin ts
 
-  tick_fresh : (clock : ℕ) → Known s.me (onto (lapse_notes s node.met clock) (onto (lease_notes s node.met clock) (Ticks clock ∷ node.met))) tape
-      → Locals s tape (onto (lapse_notes s node.met clock) (onto (lease_notes s node.met clock) (Ticks clock ∷ node.met))) (tick_step s node clock).notes → Opens node.open_operations
-      → StepFresh s usage tape (lease_notes s node.met clock ++ lapse_notes s node.met clock) (tick_step s node clock)
-  tick_fresh clock known locals opens = record {
-    applies = applies;
-    valid = now.valid;
-    answers = now.answers;
-    is = refl;
-    applied = apply_only s node.met node.stored now.met now.stored;
-    valids = acted.valids;
-    fresh = acted.answers;
-    opens = acted.kept;
-    sends = each_both (λ m'. IsProposed tape m'.body) (acquires_at s.cluster s.me node.met clock ++ now.sends) (background s node.met clock)
-        (each_both (λ m'. IsProposed tape m'.body) (acquires_at s.cluster s.me node.met clock) now.sends (quiet_fresh tape (acquires_at s.cluster s.me node.met clock) (plain_quiet _ (acquires_plain s node.met clock))) acted.sends)
-        (quiet_fresh tape (background s node.met clock) (plain_quiet _ (background_plain s node.met clock)));
-  }
-    where
-      front : List Met
-      front = lease_notes s node.met clock ++ lapse_notes s node.met clock
+        applies : List Met
+        applies = apply_notes s node.met node.stored now.met now.stored
 
-      base : List Met
-      base = onto (lapse_notes s node.met clock) (onto (lease_notes s node.met clock) (Ticks clock ∷ node.met))
+        notes : List Met
+        notes = (((told ++ decision_note d) ++ applies) ++ now.valid) ++ now.answers
 
-      begin : Now
-      begin = at_first base (portion_of s node.met node.stored)
+        acted : Acting Far enough s usage tape l q base notes known locals now
+        acted = all_heard Far enough s usage tape l q base notes known locals (clock_of node.met) m took node.open_operations begin opens (λ guard. record { mid = refl; valids = tt; answers = tt; sends = tt; kept = tt })
+            (valid_among (told ++ decision_note d) applies now.valid now.answers)
 
-      now : Now
-      now = fold (ticked s clock) begin node.open_operations
+    tick_far : (clock : ℕ) → Known s.me (onto (lapse_notes s node.met clock) (onto (lease_notes s node.met clock) (Ticks clock ∷ node.met))) tape
+        → Locals Far s tape (onto (lapse_notes s node.met clock) (onto (lease_notes s node.met clock) (Ticks clock ∷ node.met))) (tick_step s node clock).notes → Opens node.open_operations
+        → StepFar s usage tape (lease_notes s node.met clock ++ lapse_notes s node.met clock) (tick_step s node clock)
+    tick_far clock known locals opens = record {
+      applies = applies;
+      valid = now.valid;
+      answers = now.answers;
+      is = refl;
+      applied = apply_only s node.met node.stored now.met now.stored;
+      valids = acted.valids;
+      far = acted.answers;
+      opens = acted.kept;
+      sends = each_both (λ m'. IsProposed Far tape m'.body) (acquires_at s.cluster s.me node.met clock ++ now.sends) (background s node.met clock)
+          (each_both (λ m'. IsProposed Far tape m'.body) (acquires_at s.cluster s.me node.met clock) now.sends (quiet_far tape (acquires_at s.cluster s.me node.met clock) (plain_quiet _ (acquires_plain s node.met clock))) acted.sends)
+          (quiet_far tape (background s node.met clock) (plain_quiet _ (background_plain s node.met clock)));
+    }
+      where
+        front : List Met
+        front = lease_notes s node.met clock ++ lapse_notes s node.met clock
 
-      applies : List Met
-      applies = apply_notes s node.met node.stored now.met now.stored
+        base : List Met
+        base = onto (lapse_notes s node.met clock) (onto (lease_notes s node.met clock) (Ticks clock ∷ node.met))
 
-      notes : List Met
-      notes = ((front ++ applies) ++ now.valid) ++ now.answers
+        begin : Now
+        begin = at_first base (portion_of s node.met node.stored)
 
-      acted : Acting s usage tape l q base notes known locals now
-      acted = all_ticked s usage tape l q base notes known locals clock node.open_operations begin opens (λ guard. record { mid = refl; valids = tt; answers = tt; sends = tt; kept = tt }) (valid_among front applies now.valid now.answers)
+        now : Now
+        now = fold (ticked s clock) begin node.open_operations
 
-  begin_fresh : (request : Request) (text : List ℕ) → Known s.me (Begins (op_of s node.met) text ∷ node.met) tape → Locals s tape (Begins (op_of s node.met) text ∷ node.met) (begin_step s node request text).notes → Opens node.open_operations
-      → is_node s.cluster s.me ≡ true → asked_for usage.meaning tape (op_of s node.met) ≡ Some request → StepFresh s usage tape [] (begin_step s node request text)
-  begin_fresh request text known locals opens is_one asked = record {
-    applies = applies;
-    valid = now.valid;
-    answers = now.answers;
-    is = refl;
-    applied = apply_only s node.met node.stored now.met now.stored;
-    valids = acted.valids;
-    fresh = acted.answers;
-    opens = acted.kept;
-    sends = acted.sends;
-  }
-    where
-      base : List Met
-      base = Begins (op_of s node.met) text ∷ node.met
+        applies : List Met
+        applies = apply_notes s node.met node.stored now.met now.stored
 
-      begin : Now
-      begin = at_open (at_first base node.stored) node.open_operations
+        notes : List Met
+        notes = ((front ++ applies) ++ now.valid) ++ now.answers
 
-      now : Now
-      now = unless_refused s begin (new_operation (op_of s node.met) request (clock_of node.met)) (refusal s node request)
+        acted : Acting Far enough s usage tape l q base notes known locals now
+        acted = all_ticked Far enough s usage tape l q base notes known locals clock node.open_operations begin opens (λ guard. record { mid = refl; valids = tt; answers = tt; sends = tt; kept = tt }) (valid_among front applies now.valid now.answers)
 
-      applies : List Met
-      applies = apply_notes s node.met node.stored now.met now.stored
+    begin_far : (request : Request) (text : List ℕ) → Known s.me (Begins (op_of s node.met) text ∷ node.met) tape → Locals Far s tape (Begins (op_of s node.met) text ∷ node.met) (begin_step s node request text).notes → Opens node.open_operations
+        → is_node s.cluster s.me ≡ true → asked_for usage.meaning tape (op_of s node.met) ≡ Some request → StepFar s usage tape [] (begin_step s node request text)
+    begin_far request text known locals opens is_one asked = record {
+      applies = applies;
+      valid = now.valid;
+      answers = now.answers;
+      is = refl;
+      applied = apply_only s node.met node.stored now.met now.stored;
+      valids = acted.valids;
+      far = acted.answers;
+      opens = acted.kept;
+      sends = acted.sends;
+    }
+      where
+        base : List Met
+        base = Begins (op_of s node.met) text ∷ node.met
 
-      notes : List Met
-      notes = (applies ++ now.valid) ++ now.answers
+        begin : Now
+        begin = at_open (at_first base node.stored) node.open_operations
 
-      acted : Acting s usage tape l q base notes known locals now
-      acted = begun_it s usage tape l q base notes known locals begin (op_of s node.met) (clock_of node.met)
-          (λ guard. record { mid = refl; valids = tt; answers = tt; sends = tt; kept = each_on (Open s usage tape) (λ (o : Operation). PhaseFresh s.cluster tape o.id o.request o.phase) (λ o h. h.fresh) node.open_operations opens })
-          refl request asked (refusal s node request)
-          (λ none needs. kind_full s.cluster s.me request node.open_operations is_one (unworn (is_worn node.met) (unless_missing node.open_operations (missing_kind request (kind_of s.cluster s.me))) none) needs)
-          (λ answer is. refused_fresh s.cluster tape (op_of s node.met) request node.open_operations (missing_kind request (kind_of s.cluster s.me)) (is_worn node.met) answer is)
-          (valid_among [] applies now.valid now.answers)
+        now : Now
+        now = unless_refused s begin (new_operation (op_of s node.met) request (clock_of node.met)) (refusal s node request)
 
-  -- what the tape shows of an event
-  abbrev pub Shown : Event → Type 0
-  Shown (Tick clock) = Unit {0}
-  Shown (Take m) = Took tape (message m.from s.me m.body)
-  Shown (Begin request text) = (is_node s.cluster s.me ≡ true) × (asked_for usage.meaning tape (op_of s node.met) ≡ Some request)
+        applies : List Met
+        applies = apply_notes s node.met node.stored now.met now.stored
 
-  abbrev take_by : Message → Option Decision → Step
-  take_by m (Some d) = taken s node m (told_notes s node.met m.from m.body) (map (hears_message s (clock_of node.met) m) node.open_operations) (if_new node.met (Some d)) (reply_to s.cluster s.me node.met m) []
-  take_by m None = taken s node m (told_notes s node.met m.from m.body) (map (hears_message s (clock_of node.met) m) node.open_operations) (if_new node.met (first_settled (map (hears_message s (clock_of node.met) m) node.open_operations)))
-      (reply_to s.cluster s.me node.met m) (news s (if_new node.met (first_settled (map (hears_message s (clock_of node.met) m) node.open_operations))))
+        notes : List Met
+        notes = (applies ++ now.valid) ++ now.answers
 
-  append_nil : {X : Type 0} (xs : List X) → xs ++ [] ≡ xs
-  append_nil [] = refl
-  append_nil (x ∷ xs) = ap (λ ys. x ∷ ys) (append_nil xs)
+        acted : Acting Far enough s usage tape l q base notes known locals now
+        acted = begun_it Far enough s usage tape l q base notes known locals begin (op_of s node.met) (clock_of node.met)
+            (λ guard. record { mid = refl; valids = tt; answers = tt; sends = tt; kept = each_on (Open Far enough s usage tape) (λ (o : Operation). PhaseFar Far enough s.cluster tape o.id o.request o.phase) (λ o h. h.far) node.open_operations opens })
+            refl request asked (refusal s node request)
+            (λ none needs. kind_full s.cluster s.me request node.open_operations is_one (unworn (is_worn node.met) (unless_missing node.open_operations (missing_kind request (kind_of s.cluster s.me))) none) needs)
+            (λ answer is. refused_far Far enough s.cluster tape (op_of s node.met) request node.open_operations (missing_kind request (kind_of s.cluster s.me)) (is_worn node.met) answer is)
+            (valid_among [] applies now.valid now.answers)
 
-  take_fresh : (m : Message) (told : Option Decision) → Known s.me (onto (told_notes s node.met m.from m.body ++ decision_note (decision_in s node m told)) (Takes m ∷ node.met)) tape
-      → Locals s tape (onto (told_notes s node.met m.from m.body ++ decision_note (decision_in s node m told)) (Takes m ∷ node.met)) (take_by m told).notes → Shown (Take m) → Opens node.open_operations
-      → StepFresh s usage tape (told_notes s node.met m.from m.body ++ decision_note (decision_in s node m told)) (take_by m told)
-  take_fresh m (Some d) known locals shown opens =
-      let apart = onto_append (told_notes s node.met m.from m.body) (decision_note (if_new node.met (Some d))) (Takes m ∷ node.met) in
-      taken_fresh m (if_new node.met (Some d)) [] (subst (λ b. Known s.me b tape) apart known) (subst (λ b. Locals s tape b (take_by m (Some d)).notes) apart locals) shown opens
-      (subst (Each Quiet) (sym (append_nil (reply_to s.cluster s.me node.met m))) (plain_quiet _ (reply_plain s.cluster s.me node.met m)))
-  take_fresh m None known locals shown opens =
-      let d = if_new node.met (first_settled (map (hears_message s (clock_of node.met) m) node.open_operations)) in
-      let apart = onto_append (told_notes s node.met m.from m.body) (decision_note d) (Takes m ∷ node.met) in
-      taken_fresh m d (news s d) (subst (λ b. Known s.me b tape) apart known) (subst (λ b. Locals s tape b (take_by m None).notes) apart locals) shown opens
-      (each_both Quiet (reply_to s.cluster s.me node.met m) (news s d) (plain_quiet _ (reply_plain s.cluster s.me node.met m)) (plain_quiet _ (news_plain s d)))
+    -- what the tape shows of an event
+    abbrev pub Shown : Event → Type 0
+    Shown (Tick clock) = Unit {0}
+    Shown (Take m) = Took tape (message m.from s.me m.body)
+    Shown (Begin request text) = (is_node s.cluster s.me ≡ true) × (asked_for usage.meaning tape (op_of s node.met) ≡ Some request)
 
-  pub step_fresh : (event : Event) → Known s.me (base_of s node event) tape → Locals s tape (base_of s node event) (step s node event).notes → Shown event → Opens node.open_operations
-      → StepFresh s usage tape (front_of s node event) (step s node event)
-  step_fresh (Tick clock) known locals shown opens =
-      let apart = onto_append (lease_notes s node.met clock) (lapse_notes s node.met clock) (Ticks clock ∷ node.met) in
-      tick_fresh clock (subst (λ b. Known s.me b tape) apart known) (subst (λ b. Locals s tape b (tick_step s node clock).notes) apart locals) opens
-  step_fresh (Take m) known locals shown opens = take_fresh m (told_decision m.body) known locals shown opens
-  step_fresh (Begin request text) known locals shown opens = begin_fresh request text known locals opens shown.0 shown.1
+    abbrev take_by : Message → Option Decision → Step
+    take_by m (Some d) = taken s node m (told_notes s node.met m.from m.body) (map (hears_message s (clock_of node.met) m) node.open_operations) (if_new node.met (Some d)) (reply_to s.cluster s.me node.met m) []
+    take_by m None = taken s node m (told_notes s node.met m.from m.body) (map (hears_message s (clock_of node.met) m) node.open_operations) (if_new node.met (first_settled (map (hears_message s (clock_of node.met) m) node.open_operations)))
+        (reply_to s.cluster s.me node.met m) (news s (if_new node.met (first_settled (map (hears_message s (clock_of node.met) m) node.open_operations))))
+
+    append_nil : {X : Type 0} (xs : List X) → xs ++ [] ≡ xs
+    append_nil [] = refl
+    append_nil (x ∷ xs) = ap (λ ys. x ∷ ys) (append_nil xs)
+
+    take_far : (m : Message) (told : Option Decision) → Known s.me (onto (told_notes s node.met m.from m.body ++ decision_note (decision_in s node m told)) (Takes m ∷ node.met)) tape
+        → Locals Far s tape (onto (told_notes s node.met m.from m.body ++ decision_note (decision_in s node m told)) (Takes m ∷ node.met)) (take_by m told).notes → Shown (Take m) → Opens node.open_operations
+        → StepFar s usage tape (told_notes s node.met m.from m.body ++ decision_note (decision_in s node m told)) (take_by m told)
+    take_far m (Some d) known locals shown opens =
+        let apart = onto_append (told_notes s node.met m.from m.body) (decision_note (if_new node.met (Some d))) (Takes m ∷ node.met) in
+        taken_far m (if_new node.met (Some d)) [] (subst (λ b. Known s.me b tape) apart known) (subst (λ b. Locals Far s tape b (take_by m (Some d)).notes) apart locals) shown opens
+        (subst (Each Quiet) (sym (append_nil (reply_to s.cluster s.me node.met m))) (plain_quiet _ (reply_plain s.cluster s.me node.met m)))
+    take_far m None known locals shown opens =
+        let d = if_new node.met (first_settled (map (hears_message s (clock_of node.met) m) node.open_operations)) in
+        let apart = onto_append (told_notes s node.met m.from m.body) (decision_note d) (Takes m ∷ node.met) in
+        taken_far m d (news s d) (subst (λ b. Known s.me b tape) apart known) (subst (λ b. Locals Far s tape b (take_by m None).notes) apart locals) shown opens
+        (each_both Quiet (reply_to s.cluster s.me node.met m) (news s d) (plain_quiet _ (reply_plain s.cluster s.me node.met m)) (plain_quiet _ (news_plain s d)))
+
+    pub step_far : (event : Event) → Known s.me (base_of s node event) tape → Locals Far s tape (base_of s node event) (step s node event).notes → Shown event → Opens node.open_operations
+        → StepFar s usage tape (front_of s node event) (step s node event)
+    step_far (Tick clock) known locals shown opens =
+        let apart = onto_append (lease_notes s node.met clock) (lapse_notes s node.met clock) (Ticks clock ∷ node.met) in
+        tick_far clock (subst (λ b. Known s.me b tape) apart known) (subst (λ b. Locals Far s tape b (tick_step s node clock).notes) apart locals) opens
+    step_far (Take m) known locals shown opens = take_far m (told_decision m.body) known locals shown opens
+    step_far (Begin request text) known locals shown opens = begin_far request text known locals opens shown.0 shown.1

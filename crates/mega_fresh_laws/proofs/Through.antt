@@ -1,4 +1,4 @@
--- What an open operation has read through: a poll, or a position that covers what was decided before it began.
+-- What an open operation has read through: a poll, or a position that is far enough.
 use Rattle.std.proofs.Common.{◌≡◌, inl, inr, ℕ, ◌-◌, Bool, true, false, cond, List, [], ◌∷◌, Option, Some, None, refl, sym, ap, ◌∙◌}
 use Rattle.mega_base.specs.declared.names.Epoch.{Epoch}
 use Rattle.mega_base.specs.declared.names.GroupId.{GroupId}
@@ -15,7 +15,7 @@ use Rattle.mega_leased_laws.specs.of_settled_laws.of_run_laws.of_tape_laws.of_pr
 use Rattle.mega_leased_laws.specs.of_settled_laws.of_run_laws.of_tape_laws.of_promises.of_rules.of_read.declared.reading.Stage.TheVariants.{Polling, Catching}
 use Rattle.mega_leased_laws.specs.of_settled_laws.of_run_laws.of_tape_laws.of_promises.of_rules.of_read.Catching.{falls_due, hears, polled_read, seeks}
 use Rattle.mega_leased_laws.specs.of_settled_laws.of_run_laws.of_tape_laws.of_promises.of_transcript.declared.item.Item.{Item}
-use Rattle.mega_leased_laws.specs.of_settled_laws.of_run_laws.of_tape_laws.of_promises.of_transcript.declared.item.Item.TheVariants.{Begin, Decide}
+use Rattle.mega_leased_laws.specs.of_settled_laws.of_run_laws.of_tape_laws.of_promises.of_transcript.declared.item.Item.TheVariants.{Begin}
 use Rattle.mega_wal.specs.Same.{same_op}
 use Rattle.mega_wal.proofs.Sames.{same_op_equal}
 use Rattle.mega_wire.specs.declared.message.Body.{Body}
@@ -27,15 +27,15 @@ use Rattle.mega_leased_laws.specs.of_settled_laws.of_run_laws.of_tape_laws.Lawfu
 use Rattle.mega_leased_laws.specs.of_settled_laws.of_run_laws.of_tape_laws.Places.{Took}
 use Rattle.mega_leased_laws.specs.of_settled_laws.of_run_laws.of_tape_laws.Polls.{ArePolls, IsPolled}
 use Rattle.mega_leased_laws.specs.of_settled_laws.of_run_laws.of_tape_laws.Writes.{no_op_by}
-use Rattle.mega_leased_laws.proofs.of_settled_laws.of_run_laws.of_tape_laws.Polled.{polled_above}
 use Rattle.mega_leased_laws.specs.of_settled_laws.of_run_laws.Justified.{Knows}
 use Rattle.mega_leased_laws.proofs.of_settled_laws.of_run_laws.Opened.{Backed, at_place}
 use Rattle.mega_leased_laws.proofs.of_settled_laws.of_run_laws.Owned.{Plain}
 use Rattle.mega_leased_laws.proofs.of_settled_laws.of_run_laws.Reading.{who}
 use Rattle.mega_leased_laws.proofs.Polls.{StagePolls, Tops, due_polls, hears_polls, no_tops, seeks_polls, tops_on}
-use Rattle.mega_fresh_laws.specs.Covering.{Covers, before_begin}
+use Rattle.mega_fresh_laws.specs.Covering.{before_begin}
 use Rattle.mega_fresh_laws.proofs.Accepts.{IsAbove, SearchAbove, StageAbove}
-use Rattle.mega_fresh_laws.proofs.Moments.{Onward, covers_on}
+use Rattle.mega_fresh_laws.proofs.Moments.{Onward}
+use Rattle.mega_fresh_laws.proofs.Enough.{Suffices}
 
 -- ---- what stood before a begin
 
@@ -52,9 +52,6 @@ begun_before (Begin began words ∷ before) op item s = by (same_op began op) re
     by false e k again = let rest = again k in record { text = rest.text; stood = inr rest.stood }
 begun_before (other ∷ before) op item s = let rest = begun_before before op item s in record { text = rest.text; stood = inr rest.stood }
 
-pub polled_covers : (c : Cluster) (tape : List Item) → Lawful c tape → ArePolls tape → (op : OpId) (group : GroupId) (p : ℕ) → IsPolled c tape op group (record { 0 = p }) → Covers tape op group p
-polled_covers c tape l q op group p polled = λ un node n entry s. let b = begun_before tape op (Decide node group n entry) s in polled_above c tape l q op b.text group n (record { 0 = p }) node entry b.stood polled
-
 -- ---- an open operation
 
 -- the group that it reads is the one that it asked for
@@ -69,21 +66,6 @@ Of _ group = Unit {0}
 abbrev pub StageThrough : Cluster → List Item → OpId → GroupId → (ℕ → Type 0) → Stage → Type 0
 StageThrough c tape op group K (Polling heard best at) = Unit {0} × Tops c tape op group heard best
 StageThrough c tape op group K (Catching through search) = K through
-
-abbrev pub StageFresh : Cluster → List Item → OpId → GroupId → Stage → Type 0
-StageFresh c tape op group stage = StageThrough c tape op group (Covers tape op group) stage
-
-abbrev pub PhaseFresh : Cluster → List Item → OpId → Request → Phase → Type 0
-PhaseFresh c tape op request (Reads group r) = (is_full c op.node.0 ≡ true) × (Of request group × StageFresh c tape op group r.stage)
-PhaseFresh c tape op request (Proposes group n asked proposal promised) = Covers tape op group (n - 1)
-
-stage_on : (c : Cluster) (op : OpId) (old new : List Item) → Onward op old new → (group : GroupId) (stage : Stage) → StageFresh c old op group stage → StageFresh c new op group stage
-stage_on c op old new o group (Polling heard best at) h = (tt, tops_on c old new op group heard best o.stood h.1)
-stage_on c op old new o group (Catching through search) h = covers_on op old new o group through h
-
-pub phase_on : (c : Cluster) (op : OpId) (old new : List Item) → Onward op old new → (request : Request) (phase : Phase) → PhaseFresh c old op request phase → PhaseFresh c new op request phase
-phase_on c op old new o request (Reads group r) h = (h.0, ((h.1).0, stage_on c op old new o group r.stage (h.1).1))
-phase_on c op old new o request (Proposes group n asked proposal promised) h = covers_on op old new o group (n - 1) h
 
 -- ---- its moves
 
@@ -121,19 +103,6 @@ module _ (c : Cluster) (tape : List Item) (op : OpId) (group : GroupId) (K : ℕ
   pub polled_begins : (noted : Option Epoch) (asked : List ℕ) (now : ℕ) → StageThrough c tape op group K ((polled_read (who c op group) noted asked now).reading).stage
   polled_begins noted asked now = (tt, no_tops c tape op group)
 
-module _ (c : Cluster) (tape : List Item) (l : Lawful c tape) (q : ArePolls tape) (op : OpId) (group : GroupId) where
-  pub hears_fresh : (r : Reading) (from now : ℕ) (body : Body) → StageFresh c tape op group r.stage → Took tape (message from op.node.0 body) → StageFresh c tape op group ((hears (who c op group) r from now body).reading).stage
-  hears_fresh r from now body h took = hears_through c tape op group (Covers tape op group) (polled_covers c tape l q op group) r from now body h took
-
-  pub due_fresh : (r : Reading) (retry now : ℕ) → StageFresh c tape op group r.stage → StageFresh c tape op group ((falls_due (who c op group) r retry now).reading).stage
-  due_fresh r retry now h = due_through c tape op group (Covers tape op group) (polled_covers c tape l q op group) r retry now h
-
-  pub seeks_fresh : (r : Reading) (least now : ℕ) → StageFresh c tape op group r.stage → StageFresh c tape op group ((seeks (who c op group) r least now).reading).stage
-  seeks_fresh r least now h = seeks_through c tape op group (Covers tape op group) (polled_covers c tape l q op group) r least now h
-
-  pub polled_fresh : (noted : Option Epoch) (asked : List ℕ) (now : ℕ) → StageFresh c tape op group ((polled_read (who c op group) noted asked now).reading).stage
-  polled_fresh noted asked now = polled_begins c tape op group (Covers tape op group) (polled_covers c tape l q op group) noted asked now
-
 -- ---- its rounds
 
 abbrev pub PhaseAbove : OpId → Phase → Type 0
@@ -159,3 +128,34 @@ phase_above c tape met op (Reads group r) b plain = by r.stage b (plain group r 
     by : (stage : Stage) → Backed c tape met op (Reads group (record { noted = r.noted; asked = r.asked; stage = stage })) → Plain op stage → StageAbove op stage
     by (Polling heard best at) k p = tt
     by (Catching through search) k p = by_search through search k p
+
+-- ---- where what was read is far enough
+
+module _ (Far : List Item → OpId → GroupId → ℕ → Type 0) (enough : Suffices Far) where
+  abbrev pub StageFar : Cluster → List Item → OpId → GroupId → Stage → Type 0
+  StageFar c tape op group stage = StageThrough c tape op group (Far tape op group) stage
+
+  abbrev pub PhaseFar : Cluster → List Item → OpId → Request → Phase → Type 0
+  PhaseFar c tape op request (Reads group r) = (is_full c op.node.0 ≡ true) × (Of request group × StageFar c tape op group r.stage)
+  PhaseFar c tape op request (Proposes group n asked proposal promised) = Far tape op group (n - 1)
+
+  stage_on : (c : Cluster) (op : OpId) (old new : List Item) → Onward op old new → (group : GroupId) (stage : Stage) → StageFar c old op group stage → StageFar c new op group stage
+  stage_on c op old new o group (Polling heard best at) h = (tt, tops_on c old new op group heard best o.stood h.1)
+  stage_on c op old new o group (Catching through search) h = enough.stays op old new o group through h
+
+  pub phase_on : (c : Cluster) (op : OpId) (old new : List Item) → Onward op old new → (request : Request) (phase : Phase) → PhaseFar c old op request phase → PhaseFar c new op request phase
+  phase_on c op old new o request (Reads group r) h = (h.0, ((h.1).0, stage_on c op old new o group r.stage (h.1).1))
+  phase_on c op old new o request (Proposes group n asked proposal promised) h = enough.stays op old new o group (n - 1) h
+
+  module _ (c : Cluster) (tape : List Item) (l : Lawful c tape) (q : ArePolls tape) (op : OpId) (group : GroupId) where
+    pub hears_far : (r : Reading) (from now : ℕ) (body : Body) → StageFar c tape op group r.stage → Took tape (message from op.node.0 body) → StageFar c tape op group ((hears (who c op group) r from now body).reading).stage
+    hears_far r from now body h took = hears_through c tape op group (Far tape op group) (enough.polled c tape l q op group) r from now body h took
+
+    pub due_far : (r : Reading) (retry now : ℕ) → StageFar c tape op group r.stage → StageFar c tape op group ((falls_due (who c op group) r retry now).reading).stage
+    due_far r retry now h = due_through c tape op group (Far tape op group) (enough.polled c tape l q op group) r retry now h
+
+    pub seeks_far : (r : Reading) (least now : ℕ) → StageFar c tape op group r.stage → StageFar c tape op group ((seeks (who c op group) r least now).reading).stage
+    seeks_far r least now h = seeks_through c tape op group (Far tape op group) (enough.polled c tape l q op group) r least now h
+
+    pub polled_far : (noted : Option Epoch) (asked : List ℕ) (now : ℕ) → StageFar c tape op group ((polled_read (who c op group) noted asked now).reading).stage
+    polled_far noted asked now = polled_begins c tape op group (Far tape op group) (enough.polled c tape l q op group) noted asked now
