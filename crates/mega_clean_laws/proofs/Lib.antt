@@ -1,10 +1,5 @@
 pub mod Keeping
 pub mod Showing
-pub mod Moments
-pub mod Through
-pub mod Acting
-pub mod Heeding
-pub mod Steps
 pub mod Topmost
 pub mod Knowing
 pub mod Runs

@@ -1,437 +1,122 @@
--- In every run each answer and each proposal is of a log that was read far enough, item by item, and so is what stays open.
-use Rattle.std.proofs.Common.{ℕ, ◌≡◌, inl, inr, ◌+◌, ◌≤◌, ◌||◌, Bool, true, false, cond, List, [], ◌∷◌, ◌++◌, flat_map, refl, sym, ap, ◌∙◌, subst}
+-- In every run each answer and each proposal is of a log that was read far enough: at or above each position that its node had decided before its operation began.
+use Rattle.std.proofs.Common.{ℕ, List, Option, Result, subst, ◌≤◌, [], ◌∷◌, sym}
+use Rattle.mega_base.specs.declared.names.GroupId.{GroupId}
 use Rattle.mega_base.specs.declared.names.OpId.{OpId}
 use Rattle.mega_cluster.specs.declared.cluster.Cluster.{Cluster}
-use Rattle.mega_handler.specs.Named.{Meanings}
+use Rattle.mega_entry.specs.declared.content.Content.{Content}
+use Rattle.mega_wire.specs.declared.message.Body.{Body}
+use Rattle.mega_wire.specs.declared.message.Body.TheVariants.{Accept}
+use Rattle.mega_outcome.specs.declared.answer.Answer.{Answer}
+use Rattle.mega_outcome.specs.declared.answer.Answer.TheVariants.{AllTurned, Found as FoundAnswer, LogFull, Read as ReadAnswer, Turned}
+use Rattle.mega_outcome.specs.declared.answer.Shown.{Shown}
+use Rattle.mega_outcome.specs.declared.answer.Turn.{Turn}
+use Rattle.mega_outcome.specs.declared.request.Request.{Request}
+use Rattle.mega_outcome.specs.declared.request.Request.TheVariants.{Batch as BatchRequest, Find, Read as ReadRequested, Txn}
 use Rattle.mega_fresh_laws.specs.of_leased_laws.of_settled_laws.of_run_laws.of_tape_laws.of_promises.of_transcript.declared.item.Item.{Item}
-use Rattle.mega_fresh_laws.specs.of_leased_laws.of_settled_laws.of_run_laws.of_tape_laws.of_promises.of_transcript.declared.item.Item.TheVariants.{Answer as AnswerItem, Begin as BeginItem, Crash, Decide, Sent, Taken, Tick as TickItem}
-use Rattle.mega_fresh_laws.specs.of_leased_laws.of_settled_laws.of_run_laws.of_tape_laws.of_promises.of_transcript.Tape.{sent_count}
-use Rattle.mega_wal.specs.Same.{same_op}
-use Rattle.mega_wal.proofs.Sames.{same_op_equal, same_op_self}
-use Rattle.mega_wire.specs.declared.message.Message.{Message}
-use Rattle.mega_fresh_laws.specs.of_leased_laws.of_settled_laws.of_run_laws.of_tape_laws.of_promises.Items.{number, numbered, shown}
-use Rattle.mega_fresh_laws.specs.of_leased_laws.of_settled_laws.of_run_laws.of_tape_laws.of_promises.Promises.{Stands, asked_for}
-use Rattle.mega_fresh_laws.specs.of_leased_laws.of_settled_laws.of_run_laws.of_tape_laws.of_promises.Runs.{Cuts, Happening, IsRun, Standing, met_in, set_at, setting, whole_step, with_item, with_items}
-use Rattle.mega_fresh_laws.specs.of_leased_laws.of_settled_laws.of_run_laws.of_tape_laws.of_promises.of_rules.Clock.{begun_of, is_up, start_of}
+use Rattle.mega_fresh_laws.specs.of_leased_laws.of_settled_laws.of_run_laws.of_tape_laws.of_promises.of_transcript.declared.item.Item.TheVariants.{Decide, Answer as AnswerItem, Sent}
+use Rattle.mega_fresh_laws.specs.of_leased_laws.of_settled_laws.of_run_laws.of_tape_laws.of_promises.Promises.{Stands}
+use Rattle.mega_fresh_laws.specs.of_leased_laws.of_settled_laws.of_run_laws.of_tape_laws.Writes.{Usage}
+use Rattle.mega_fresh_laws.specs.of_leased_laws.of_settled_laws.of_run_laws.of_tape_laws.of_promises.of_rules.Operations.{Node, Setting}
+use Rattle.mega_fresh_laws.specs.of_leased_laws.of_settled_laws.of_run_laws.of_tape_laws.Lawful.{Lawful}
+use Rattle.mega_fresh_laws.specs.of_leased_laws.of_settled_laws.of_run_laws.of_tape_laws.Polls.{ArePolls, IsPolled}
+use Rattle.mega_fresh_laws.proofs.of_leased_laws.of_settled_laws.of_run_laws.of_tape_laws.Polled.{polled_above}
+use Rattle.mega_handler.specs.Named.{Meanings}
+use Rattle.mega_fresh_laws.specs.of_leased_laws.of_settled_laws.of_run_laws.of_tape_laws.of_promises.Runs.{Cuts, Happening, IsRun, Standing, met_in, setting}
 use Rattle.mega_fresh_laws.specs.of_leased_laws.of_settled_laws.of_run_laws.of_tape_laws.of_promises.of_rules.Logs.{top_of}
-use Rattle.mega_fresh_laws.specs.of_leased_laws.of_settled_laws.of_run_laws.of_tape_laws.of_promises.of_rules.Met.{Met, Starts, Crashes, Ticks, Begins, Takes, Sends, Unsends, Validates, Applies, Answers}
-use Rattle.mega_fresh_laws.specs.of_leased_laws.of_settled_laws.of_run_laws.of_tape_laws.of_promises.of_rules.Operations.{Node, Operation, Setting}
-use Rattle.mega_fresh_laws.specs.of_leased_laws.of_settled_laws.of_run_laws.of_tape_laws.of_promises.of_rules.Steps.{Begin, Event, Step, Take, Tick, crashed, lapse_notes, lease_notes, onto, op_of, start, start_items, start_notes, step}
-use Rattle.mega_fresh_laws.specs.of_leased_laws.of_settled_laws.of_run_laws.of_tape_laws.Lawful.{Lawful, message}
-use Rattle.mega_fresh_laws.specs.of_leased_laws.of_settled_laws.of_run_laws.of_tape_laws.Polls.{ArePolls}
-use Rattle.mega_fresh_laws.specs.of_leased_laws.of_settled_laws.of_run_laws.of_tape_laws.Writes.{IsNamed, Usage, has_begun}
+use Rattle.mega_fresh_laws.specs.of_leased_laws.of_settled_laws.of_run_laws.of_tape_laws.of_promises.of_rules.Met.{Met}
+use Rattle.mega_fresh_laws.specs.of_leased_laws.of_settled_laws.of_run_laws.of_tape_laws.of_promises.of_rules.Steps.{onto}
 use Rattle.mega_fresh_laws.specs.of_leased_laws.of_settled_laws.of_run_laws.Usages.{Fits}
-use Rattle.mega_fresh_laws.specs.of_leased_laws.of_settled_laws.of_run_laws.Justified.{Each, sent}
-use Rattle.mega_fresh_laws.proofs.of_leased_laws.of_settled_laws.of_run_laws.Events.{IsPlain, lapses_plain, lease_plain, told_plain}
-use Rattle.mega_fresh_laws.proofs.of_leased_laws.of_settled_laws.of_run_laws.Noted.{with_append, with_sent}
-use Rattle.mega_fresh_laws.proofs.of_leased_laws.of_settled_laws.of_run_laws.Owned.{Mine, began_asked}
-use Rattle.mega_fresh_laws.proofs.of_leased_laws.of_settled_laws.of_run_laws.Runs.{IsMark, run_lawful, run_polls, starts_plain}
-use Rattle.mega_fresh_laws.proofs.of_leased_laws.of_settled_laws.of_run_laws.Sending.{took_on}
-use Rattle.mega_fresh_laws.proofs.of_leased_laws.of_settled_laws.of_run_laws.Silent.{flat_append}
-use Rattle.mega_fresh_laws.proofs.of_leased_laws.of_settled_laws.of_run_laws.Standing.{Good, Owes}
-use Rattle.mega_fresh_laws.proofs.of_leased_laws.of_settled_laws.of_run_laws.Steps.{never_begun}
-use Rattle.mega_fresh_laws.proofs.of_leased_laws.of_settled_laws.of_run_laws.Turns.{Held, Known, each_on, each_zip}
-use Rattle.mega_fresh_laws.specs.of_leased_laws.of_settled_laws.Covering.{Earlier}
-use Rattle.mega_fresh_laws.proofs.of_leased_laws.of_settled_laws.Tapes.{each_both, earlier_stood, items_later, lawful_before, polls_before, sent_later, then_later}
-use Rattle.mega_fresh_laws.proofs.of_leased_laws.of_valid_laws.Folds.{IsOwn}
 use Rattle.mega_fresh_laws.specs.of_leased_laws.Items.{Are}
-use Rattle.mega_fresh_laws.proofs.of_leased_laws.Cells.{by_node, occurs_own}
-use Rattle.mega_fresh_laws.proofs.of_leased_laws.Forms.{Occurs, down, stepped}
-use Rattle.mega_fresh_laws.proofs.of_leased_laws.Notes.{fronts}
-use Rattle.mega_fresh_laws.proofs.of_leased_laws.Tapes.{IsFree, are_items, free_follows, free_notes}
-use Rattle.mega_clean_laws.specs.Reaching.{IsReachingItem, IsProposed}
-use Rattle.mega_clean_laws.proofs.Acting.{Locals, NoteReaching}
-use Rattle.mega_fresh_laws.proofs.Acting.{IsValidate}
-use Rattle.mega_clean_laws.proofs.Heeding.{Open}
-use Rattle.mega_clean_laws.proofs.Knowing.{known_notes, own_decided}
-use Rattle.mega_fresh_laws.proofs.Meant.{MayBegin, Reached, Stays, run_of, run_stays, those_of}
-use Rattle.mega_clean_laws.proofs.Moments.{answered_on, proposed_on}
-use Rattle.mega_fresh_laws.proofs.Moments.{IsLater, NoBegin, Onward, later_shown, onward_begin, onward_item, onward_items, onward_sent, onward_then}
-use Rattle.mega_fresh_laws.proofs.Nearby.{before_top}
 use Rattle.mega_fresh_laws.proofs.of_leased_laws.Tops.{run_decided_most, then_most, top_more, top_onto}
-use Rattle.mega_clean_laws.proofs.Steps.{Shown, StepReaching, step_reaching}
-use Rattle.mega_fresh_laws.proofs.Steps.{IsApply, base_of, front_of}
-use Rattle.mega_fresh_laws.proofs.Tails.{Parted, front_each, step_parted}
-use Rattle.mega_clean_laws.proofs.Through.{PhaseReaching, phase_on}
-use Rattle.mega_fresh_laws.proofs.Through.{phase_above}
+use Rattle.mega_fresh_laws.proofs.Meant.{run_of}
+use Rattle.mega_fresh_laws.proofs.Moments.{Onward}
+use Rattle.mega_fresh_laws.proofs.Nearby.{before_top}
+use Rattle.mega_fresh_laws.proofs.Enough.{Suffices}
+use Rattle.mega_fresh_laws.proofs.Enough as far
+use Rattle.mega_fresh_laws.proofs.Runs.{Near, run_far}
+use Rattle.mega_fresh_laws.proofs.Steps.{base_of, front_of}
+use Rattle.mega_fresh_laws.proofs.Through.{begun_before}
+use Rattle.mega_clean_laws.specs.Reaching.{AreTurned, Reaches, IsReachingAnswer, IsReachingItem, IsProposed, IsShown, IsTurned, ReadOver}
 
-clash : {X : Type 0} (t : Bool) → t ≡ true → t ≡ false → X
-clash t h k = absurd (let both_ways = sym h ∙ k in cc)
+-- ---- such positions are far enough
 
--- ---- notes
+reaches_on : (op : OpId) (old new : List Item) → Onward op old new → (group : GroupId) (p : ℕ) → Reaches old op group p → Reaches new op group p
+reaches_on op old new o group p h = λ n entry s. h n entry (subst (Stands (Decide op.node group n entry)) o.same s)
 
--- notes that begin and answer nothing
-abbrev IsMute : Met → Type 0
-IsMute (Begins op text) = ⊥
-IsMute (Answers op answer) = ⊥
-IsMute _ = Unit {0}
+-- a majority tells each position that was decided before the operation began
+polled_reaches : (c : Cluster) (tape : List Item) → Lawful c tape → ArePolls tape → (op : OpId) (group : GroupId) (p : ℕ) → IsPolled c tape op group (record { 0 = p }) → Reaches tape op group p
+polled_reaches c tape l q op group p polled = λ n entry s. let b = begun_before tape op (Decide op.node group n entry) s in polled_above c tape l q op b.text group n (record { 0 = p }) op.node entry b.stood polled
 
-mute_later : (notes : List Met) → Each IsMute notes → Each IsLater notes
-mute_later notes h = each_on IsMute IsLater one notes h
-  where
-    one : (x : Met) → IsMute x → IsLater x
-    one (Begins op text) k = absurd k
-    one _ k = tt
+reaches_suffice : Suffices Reaches
+reaches_suffice = record { stays = reaches_on; polled = polled_reaches }
 
-plain_mute : (notes : List Met) → Each IsPlain notes → Each IsMute notes
-plain_mute notes h = each_on IsPlain IsMute one notes h
-  where
-    one : (x : Met) → IsPlain x → IsMute x
-    one (Begins op text) k = absurd k
-    one (Answers op answer) k = absurd k
-    one _ k = tt
+-- ---- what was read, in the words of the law
 
-fronts_plain : (s : Setting) (node : Node) (event : Event) → Each IsPlain (fronts s node event)
-fronts_plain s node (Tick clock) = each_both IsPlain (lease_notes s node.met clock) (lapse_notes s node.met clock) (lease_plain s node.met clock) (lapses_plain s node.met clock)
-fronts_plain s node (Take m) = told_plain s node.met m.from m.body
-fronts_plain s node (Begin request text) = tt
+over_is : (tape : List Item) (op : OpId) (group : GroupId) (Shows : ℕ → List Content → Type 0) → far.ReadOver Reaches tape op group Shows → ReadOver tape op group Shows
+over_is tape op group Shows h = record { below = h.below; known = h.known; reaches = h.far; shows = h.shows }
 
-applies_mute : (notes : List Met) → Each IsApply notes → Each IsMute notes
-applies_mute notes h = each_on IsApply IsMute one notes h
-  where
-    one : (x : Met) → IsApply x → IsMute x
-    one (Applies g p) k = tt
-    one _ k = absurd k
+module _ (c : Cluster) (tape : List Item) (op : OpId) where
+  shown_is : (request : Request) (answer : Answer) → far.IsShown Reaches c tape op request answer → IsShown c tape op request answer
+  shown_is (ReadRequested request) answer h = λ current. over_is tape op request.group _ (h current)
+  shown_is (Find request) answer h = λ current group is. over_is tape op group _ (h current group is)
+  shown_is _ answer h = tt
 
-validates_mute : (notes : List Met) → Each IsValidate notes → Each IsMute notes
-validates_mute notes h = each_on IsValidate IsMute one notes h
-  where
-    one : (x : Met) → IsValidate x → IsMute x
-    one (Validates g p) k = tt
-    one _ k = absurd k
+  turned_is : (request : Request) (turn : Turn) → far.IsTurned Reaches c tape op request turn → IsTurned c tape op request turn
+  turned_is (Txn transaction) turn h = over_is tape op transaction.group _ h
+  turned_is (ReadRequested request) turn h = shown_is (ReadRequested request) (Turned turn) h
+  turned_is (Find request) turn h = shown_is (Find request) (Turned turn) h
+  turned_is _ turn h = tt
 
-answers_later : (c : Cluster) (usage : Usage) (tape : List Item) (notes : List Met) → Each (NoteReaching c usage tape) notes → Each IsLater notes
-answers_later c usage tape notes h = each_on (NoteReaching c usage tape) IsLater one notes h
-  where
-    one : (x : Met) → NoteReaching c usage tape x → IsLater x
-    one (Answers op answer) k = tt
-    one _ k = absurd k
+  all_turned_is : (request : Request) (results : List (Result (List (Option Shown)) Turn)) → far.AreTurned Reaches c tape op request results → AreTurned c tape op request results
+  all_turned_is (BatchRequest group transactions) results h = over_is tape op group _ h
+  all_turned_is _ results h = tt
 
-owes_mute : (c : Cluster) (tape : List Item) (me : ℕ) (owed : List Met) → Owes c tape me owed → Each IsMute owed
-owes_mute c tape me [] h = tt
-owes_mute c tape me (Unsends m ∷ more) h = (tt, subst (Each IsMute) (sym h.0) tt)
-owes_mute c tape me (Answers op answer ∷ more) h = absurd h
-owes_mute c tape me (Begins op text ∷ more) h = absurd h.0
-owes_mute c tape me (Starts count ∷ more) h = absurd h.0
-owes_mute c tape me (Crashes ∷ more) h = absurd h.0
-owes_mute c tape me (Ticks now ∷ more) h = absurd h.0
-owes_mute c tape me (Takes m ∷ more) h = absurd h.0
-owes_mute c tape me (Sends m ∷ more) h = absurd h.0
-owes_mute c tape me (one ∷ more) h = (tt, owes_mute c tape me more h.1)
+  answer_is : (request : Request) (answer : Answer) → far.IsFarAnswer Reaches c tape op request answer → IsReachingAnswer c tape op request answer
+  answer_is request (ReadAnswer p rows) h = shown_is request (ReadAnswer p rows) h
+  answer_is request (FoundAnswer marks found) h = shown_is request (FoundAnswer marks found) h
+  answer_is request (Turned turn) h = turned_is request turn h
+  answer_is request (AllTurned results) h = all_turned_is request results h
+  answer_is request (LogFull n) h = record { group = h.group; home = h.home; reads = over_is tape op h.group _ h.reads }
+  answer_is request _ h = tt
 
--- ---- items
+body_is : (tape : List Item) (body : Body) → far.IsProposed Reaches tape body → IsProposed tape body
+body_is tape (Accept op group n b e) h = h
+body_is tape _ h = tt
 
 module _ (c : Cluster) (usage : Usage) where
-  abbrev Reaching : List Item → Item → Type 0
-  Reaching before item = IsReachingItem c usage before item
+  item_is : (before : List Item) (item : Item) → far.IsFarItem Reaches c usage before item → IsReachingItem c usage before item
+  item_is before (AnswerItem op answer) h = record { request = h.request; asked = h.asked; reaching = answer_is c before op h.request answer h.far }
+  item_is before (Sent key m) h = body_is before m.body h
+  item_is before _ h = tt
 
-  module _ (nodes' : ℕ → Node) (me : ℕ) where
-    free_one : (note : Met) → IsMute note → Each (IsFree Reaching (λ t. tt) c nodes') (shown me note)
-    free_one (Begins op text) h = absurd h
-    free_one (Answers op answer) h = absurd h
-    free_one (Takes m) h = tt
-    free_one (Sends m) h = tt
-    free_one _ h = ((λ t. tt), tt)
+  items_are : (tape : List Item) → Are (far.IsFarItem Reaches c usage) tape → Are (IsReachingItem c usage) tape
+  items_are [] h = tt
+  items_are (item ∷ before) h = (item_is before item h.0, items_are before h.1)
 
-    mute_reaching : (notes : List Met) (t : List Item) → Each IsMute notes → Are Reaching t → Are Reaching (with_items c nodes' t (flat_map (shown me) notes))
-    mute_reaching notes t h a = are_items Reaching (λ x. tt) c nodes' (flat_map (shown me) notes) t (free_follows Reaching (λ x. tt) c nodes' (flat_map (shown me) notes) t
-        (free_notes Reaching (λ x. tt) c nodes' me notes (each_on IsMute (λ note. Each (IsFree Reaching (λ x. tt) c nodes') (shown me note)) free_one notes h))) a
+-- ---- runs
 
-    -- answers, on a tape that goes on from the one of which they are told
-    answers_reaching : (tape : List Item) (notes : List Met) (t : List Item) → ((x : OpId) → Onward x tape t) → Each (NoteReaching c usage tape) notes → Are Reaching t → Are Reaching (with_items c nodes' t (flat_map (shown me) notes))
-    answers_reaching tape [] t on h a = a
-    answers_reaching tape (Answers op answer ∷ notes) t on h a = answers_reaching tape notes (AnswerItem op answer ∷ t) (λ x. onward_then x tape t (AnswerItem op answer ∷ t) (on x) (onward_item x t (AnswerItem op answer) tt)) h.1
-        (answered_on c usage op tape t (on op) answer h.0, a)
-    answers_reaching tape (_ ∷ notes) t on h a = absurd h.0
-
-  sends_reaching : (tape : List Item) (k : ℕ) (ms : List Message) (t : List Item) → ((x : OpId) → Onward x tape t) → Each (λ m. IsProposed tape m.body) ms → Are Reaching t → Are Reaching (sent k ms t)
-  sends_reaching tape k [] t on h a = a
-  sends_reaching tape k (m ∷ ms) t on h a = sends_reaching tape (k + 1) ms (Sent k m ∷ t) (λ x. onward_then x tape t (Sent k m ∷ t) (on x) (onward_item x t (Sent k m) tt)) h.1 (proposed_on tape t on m.body h.0, a)
-
-  own_reaching : (t : List Item) (item : Item) → IsOwn item → Reaching t item
-  own_reaching t (AnswerItem op answer) h = absurd h
-  own_reaching t (Sent key m) h = absurd h
-  own_reaching t _ h = tt
-
--- ---- earlier tapes
-
-earlier_lawful : (c : Cluster) (moment tape : List Item) → Earlier moment tape → Lawful c tape → Lawful c moment
-earlier_lawful c moment tape e l = lawful_before c e.later moment (subst (Lawful c) e.is l)
-
-earlier_polls : (moment tape : List Item) → Earlier moment tape → ArePolls tape → ArePolls moment
-earlier_polls moment tape e l = polls_before e.later moment (subst ArePolls e.is l)
-
-stands_begun : (tape : List Item) (op : OpId) (text : List ℕ) → Stands (BeginItem op text) tape → has_begun tape op ≡ true
-stands_begun [] op text s = absurd s
-stands_begun (item ∷ before) op text (inl is) = subst (λ x. has_begun (x ∷ before) op ≡ true) (sym is) (either (same_op op op) (has_begun before op) (same_op_self op))
+near_reaches : (c : Cluster) (usage : Usage) (first : Meanings) (cuts : Cuts) → Near Reaches reaches_suffice c usage first cuts
+near_reaches c usage first cuts h now me item event g r then up own whole onward valid only among full op group mine holds n entry stands =
+    then_most n.0 (top_of node.met group) (top_of (onto valid (base_of s node event)) group) decided_here
+    (then_most (top_of node.met group) (top_of own_met group) (top_of (onto valid (base_of s node event)) group) (top_more (met_in s node.met event) node.met group)
+    (then_most (top_of own_met group) (top_of (base_of s node event) group) (top_of (onto valid (base_of s node event)) group) (top_onto (front_of s node event) own_met group) (top_onto valid (base_of s node event) group)))
   where
-    either : (t u : Bool) → t ≡ true → (t || u) ≡ true
-    either true u h = refl
-    either false u h = cc
-stands_begun (item ∷ before) op text (inr s) = still item (stands_begun before op text s)
-  where
-    right : (t u : Bool) → u ≡ true → (t || u) ≡ true
-    right true u h = refl
-    right false u h = h
-
-    still : (x : Item) → has_begun before op ≡ true → has_begun (x ∷ before) op ≡ true
-    still (BeginItem began words) h = right (same_op began op) (has_begun before op) h
-    still _ h = h
-
--- ---- standings
-
-pub record AllReaching (c : Cluster) (usage : Usage) (tape : List Item) (nodes : ℕ → Node) : Type 0 where
-  pub items : Are (IsReachingItem c usage) tape
-  pub opens : (v : ℕ) → Each (λ (o : Operation). PhaseReaching c tape o.id o.request o.phase) (nodes v).open_operations
-
-abbrev HeldAt : Cluster → Usage → Standing → ℕ → Operation → Type 0
-HeldAt c usage now v o = Held (those_of usage) c now.tape v (start_of (now.node v).met) (begun_of (now.node v).met + 1) (now.node v).met o
-
-abbrev OpenAt : Cluster → List Item → Operation → Type 0
-OpenAt c tape o = PhaseReaching c tape o.id o.request o.phase
-
--- another operation than those that are open begins
-begun_apart : (usage : Usage) (s : Setting) (now : Standing) → Good (those_of usage) s.cluster now → (v : ℕ) (o : Operation) → HeldAt s.cluster usage now v o → same_op (op_of s (now.node s.me).met) o.id ≡ false
-begun_apart usage s now g v o held = by (same_op id o.id) refl
-  where
-    id : OpId
-    id = op_of s (now.node s.me).met
-
-    by : (t : Bool) → same_op id o.id ≡ t → t ≡ false
-    by false e = refl
-    by true e = let same = same_op_equal id o.id e in
-        clash (has_begun now.tape o.id) (stands_begun now.tape o.id ((held.owned tt).began).text ((held.owned tt).began).stands)
-        (subst (λ x. has_begun now.tape x ≡ false) same (never_begun (those_of usage) s now g (subst IsNamed (sym same) held.named)))
-
-own_onward : (usage : Usage) (s : Setting) (now : Standing) (item : Item) (event : Event) → Good (those_of usage) s.cluster now → Occurs now.tape s (now.node s.me).met item event → (v : ℕ) (o : Operation) → HeldAt s.cluster usage now v o → Onward o.id now.tape (item ∷ now.tape)
-own_onward usage s now item (Tick clock) g is v o held = subst (λ x. Onward o.id now.tape (x ∷ now.tape)) (sym is) (onward_item o.id now.tape (TickItem (number s.me) clock) tt)
-own_onward usage s now item (Take m) g is v o held = subst (λ x. Onward o.id now.tape (x ∷ now.tape)) (sym is.1) (onward_item o.id now.tape (Taken is.0) tt)
-own_onward usage s now item (Begin request text) g is v o held =
-    subst (λ x. Onward o.id now.tape (x ∷ now.tape)) (sym is) (onward_begin o.id (op_of s (now.node s.me).met) text now.tape (begun_apart usage s now g v o held))
-
-module _ (c : Cluster) (usage : Usage) (first : Meanings) (cuts : Cuts) where
-  module _ (h : Meanings) (now : Standing) (me : ℕ) (item : Item) (event : Event) (g : Good (those_of usage) c now) (r : Reached c usage first cuts now)
-      (then : Reached c usage first cuts (whole_step c now me (item ∷ []) (step (setting c h me) (now.node me) event))) (up : is_up (now.node me).met ≡ true) (may : MayBegin c usage me event)
-      (o : Occurs now.tape (setting c h me) (now.node me).met item event) (plain : (nodes : ℕ → Node) → with_item c nodes now.tape item ≡ item ∷ now.tape) (q : AllReaching c usage now.tape now.node) where
-    abbrev s : Setting
+    s : Setting
     s = setting c h me
 
-    abbrev node : Node
+    node : Node
     node = now.node me
 
-    abbrev made : Step
-    made = step s node event
-
-    abbrev those : ℕ → Node
-    those = set_at now.node me made.node
-
-    abbrev own_met : List Met
+    own_met : List Met
     own_met = met_in s node.met event ∷ node.met
 
-    abbrev front : List Met
-    front = front_of s node event
+    before : Stands (Decide op.node group n entry) now.tape
+    before = before_top item now.tape op (Decide op.node group n entry) (subst (Stands (Decide op.node group n entry)) (onward op).same stands)
 
-    abbrev start_tape : List Item
-    start_tape = item ∷ now.tape
-
-    abbrev tape : List Item
-    tape = with_items c those start_tape (flat_map (shown me) front)
-
-    abbrev second : List Item
-    second = with_items c those start_tape (flat_map (shown me) made.notes)
-
-    abbrev count : ℕ
-    count = sent_count now.tape + 1
-
-    abbrev third : List Item
-    third = stepped c those me now.tape item made
-
-    own : IsOwn item
-    own = occurs_own now.tape s node.met item event o
-
-    whole : (whole_step c now me (item ∷ []) made).tape ≡ third
-    whole = with_append c those ((item ∷ []) ++ flat_map (shown me) made.notes) (numbered count made.sends) now.tape
-        ∙ with_sent c those count made.sends (with_items c those now.tape ((item ∷ []) ++ flat_map (shown me) made.notes))
-        ∙ ap (λ t. sent count made.sends (with_items c those t (flat_map (shown me) made.notes))) (plain those)
-
-    parted : Parted front made.notes
-    parted = step_parted s node event
-
-    front_mute : Each IsMute front
-    front_mute = front_each IsMute s node event (plain_mute (fronts s node event) (fronts_plain s node event)) (λ group n e. tt)
-
-    front_onward : (x : OpId) → Onward x start_tape tape
-    front_onward x = onward_items x c those (flat_map (shown me) front) start_tape (later_shown me front (mute_later front front_mute))
-
-    opens_onward : (v : ℕ) (x : Operation) → HeldAt c usage now v x → Onward x.id now.tape tape
-    opens_onward v x held = onward_then x.id now.tape start_tape tape (own_onward usage s now item event g o v x held) (front_onward x.id)
-
-    spread : second ≡ with_items c those tape (flat_map (shown me) parted.rest)
-    spread = ap (λ notes. with_items c those start_tape (flat_map (shown me) notes)) parted.is
-        ∙ ap (with_items c those start_tape) (flat_append me front parted.rest) ∙ with_append c those (flat_map (shown me) front) (flat_map (shown me) parted.rest) start_tape
-
-    tape_third : Earlier tape third
-    tape_third = then_later tape second third (subst (Earlier tape) (sym spread) (items_later c those (flat_map (shown me) parted.rest) tape)) (sent_later count made.sends second)
-
-    lawful : Lawful c tape
-    lawful = earlier_lawful c tape third tape_third (subst (Lawful c) whole (run_lawful c first then.events _ (run_of c usage first cuts _ then)))
-
-    polls : ArePolls tape
-    polls = earlier_polls tape third tape_third (subst ArePolls whole (run_polls c first then.events _ (run_of c usage first cuts _ then)))
-
-    known : Known me (base_of s node event) tape
-    known = known_notes c those me front own_met start_tape (λ group n e is. inr ((g.node me).known group n e (sym (own_decided s node.met event group n) ∙ is)))
-
-    locals : Locals s tape (base_of s node event)
-    locals valid op group mine n entry stands =
-        then_most n.0 (top_of node.met group) (top_of (onto valid (base_of s node event)) group) decided_here
-        (then_most (top_of node.met group) (top_of own_met group) (top_of (onto valid (base_of s node event)) group) (top_more (met_in s node.met event) node.met group)
-        (then_most (top_of own_met group) (top_of (base_of s node event) group) (top_of (onto valid (base_of s node event)) group) (top_onto front own_met group) (top_onto valid (base_of s node event) group)))
-      where
-        before : Stands (Decide op.node group n entry) now.tape
-        before = before_top item now.tape op (Decide op.node group n entry) (subst (Stands (Decide op.node group n entry)) (front_onward op).same stands)
-
-        decided_here : n.0 ≤ top_of node.met group
-        decided_here = subst (λ (standing : Standing). n.0 ≤ top_of (standing.node me).met group) (sym r.is)
-            (run_decided_most c first r.events now.tape (run_of c usage first cuts now r) me group n entry (subst (λ v. Stands (Decide v group n entry) now.tape) (λ i. record { 0 = mine i }) before))
-
-    opens : Each (Open s usage tape) node.open_operations
-    opens = each_zip (HeldAt c usage now me) (OpenAt c now.tape) (Open s usage tape) (λ x held reaching. record {
-      node = held.node;
-      asked = (opens_onward me x held).asked usage.meaning ∙ began_asked c.schema usage now.tape x.id x.request (g.written tt) held.named (held.owned tt).began;
-      above = phase_above c now.tape node.met x.id x.phase held.backed (λ group r' is. (subst (Mine c.schema now.tape x.id x.request x.message) is (held.owned tt).mine).plain);
-      reaching = phase_on c x.id now.tape tape (opens_onward me x held) x.request x.phase reaching;
-    }) node.open_operations (g.node me).held (q.opens me)
-
-    shown_there : Shown s usage tape lawful polls node event
-    shown_there = by event o may front_onward
-      where
-        stood : (x : Item) → Stands x start_tape → Stands x tape
-        stood x k = earlier_stood start_tape tape (items_later c those (flat_map (shown me) front) start_tape) x k
-
-        by : (event' : Event) → Occurs now.tape s node.met item event' → MayBegin c usage me event' → ((x : OpId) → Onward x start_tape tape) → Shown s usage tape lawful polls node event'
-        by (Tick clock) is allowed on = tt
-        by (Take m) is allowed on =
-            took_on start_tape tape stood (message m.from me m.body) (record { number = is.0; sent = inr (subst (λ v. Stands (Sent is.0 (message m.from v m.body)) now.tape) is.3 is.2); taken = inl is.1 })
-        by (Begin request text) is allowed on = (
-          allowed.0,
-          (on (op_of s node.met)).asked usage.meaning ∙ ap (λ x. asked_for usage.meaning (x ∷ now.tape) (op_of s node.met)) is
-              ∙ ap (λ t. cond t (usage.meaning text) (asked_for usage.meaning now.tape (op_of s node.met))) (same_op_self (op_of s node.met)) ∙ allowed.1,
-        )
-
-    reaching : StepReaching s usage tape front made
-    reaching = step_reaching s usage tape lawful polls node event known locals shown_there opens
-
-    -- item by item
-    abbrev middle : List Met
-    middle = (front ++ reaching.applies) ++ reaching.valid
-
-    abbrev middle_tape : List Item
-    middle_tape = with_items c those start_tape (flat_map (shown me) middle)
-
-    middle_spread : middle_tape ≡ with_items c those (with_items c those tape (flat_map (shown me) reaching.applies)) (flat_map (shown me) reaching.valid)
-    middle_spread = ap (with_items c those start_tape) (flat_append me (front ++ reaching.applies) reaching.valid) ∙ with_append c those (flat_map (shown me) (front ++ reaching.applies)) (flat_map (shown me) reaching.valid) start_tape
-        ∙ ap (λ t. with_items c those t (flat_map (shown me) reaching.valid)) (ap (with_items c those start_tape) (flat_append me front reaching.applies) ∙ with_append c those (flat_map (shown me) front) (flat_map (shown me) reaching.applies) start_tape)
-
-    middle_onward : (x : OpId) → Onward x tape middle_tape
-    middle_onward x = subst (Onward x tape) (sym middle_spread) (onward_then x tape (with_items c those tape (flat_map (shown me) reaching.applies)) _
-        (onward_items x c those (flat_map (shown me) reaching.applies) tape (later_shown me reaching.applies (mute_later reaching.applies (applies_mute reaching.applies reaching.applied))))
-        (onward_items x c those (flat_map (shown me) reaching.valid) _ (later_shown me reaching.valid (mute_later reaching.valid (validates_mute reaching.valid reaching.valids)))))
-
-    middle_reaching : Are (IsReachingItem c usage) middle_tape
-    middle_reaching = mute_reaching c usage those me middle start_tape (each_both IsMute (front ++ reaching.applies) reaching.valid (each_both IsMute front reaching.applies front_mute (applies_mute reaching.applies reaching.applied)) (validates_mute reaching.valid reaching.valids))
-        (own_reaching c usage now.tape item own, q.items)
-
-    second_spread : second ≡ with_items c those middle_tape (flat_map (shown me) reaching.answers)
-    second_spread = ap (λ notes. with_items c those start_tape (flat_map (shown me) notes)) reaching.is
-        ∙ ap (with_items c those start_tape) (flat_append me middle reaching.answers) ∙ with_append c those (flat_map (shown me) middle) (flat_map (shown me) reaching.answers) start_tape
-
-    second_onward : (x : OpId) → Onward x tape second
-    second_onward x = subst (Onward x tape) (sym second_spread) (onward_then x tape middle_tape _ (middle_onward x)
-        (onward_items x c those (flat_map (shown me) reaching.answers) middle_tape (later_shown me reaching.answers (answers_later c usage tape reaching.answers reaching.reaching))))
-
-    second_reaching : Are (IsReachingItem c usage) second
-    second_reaching = subst (Are (IsReachingItem c usage)) (sym second_spread) (answers_reaching c usage those me tape reaching.answers middle_tape middle_onward reaching.reaching middle_reaching)
-
-    third_onward : (x : OpId) → Onward x tape third
-    third_onward x = onward_then x tape second third (second_onward x) (onward_sent x count made.sends second)
-
-    steps_reaching : AllReaching c usage third those
-    steps_reaching = record {
-      items = sends_reaching c usage tape count made.sends second second_onward reaching.sends second_reaching;
-      opens = by_node (λ v x. Each (OpenAt c third) x.open_operations) now.node me made.node
-          (each_on (OpenAt c tape) (OpenAt c third) (λ x k. phase_on c x.id tape third (third_onward x.id) x.request x.phase k) (made.node).open_operations reaching.opens)
-          (λ v apart. each_zip (HeldAt c usage now v) (OpenAt c now.tape) (OpenAt c third) (λ x held k. phase_on c x.id now.tape third (onward_then x.id now.tape tape third (opens_onward v x held) (third_onward x.id)) x.request x.phase k)
-          (now.node v).open_operations (g.node v).held (q.opens v));
-    }
-
-  cuts_reaching : (h : Meanings) (now : Standing) (me : ℕ) (item : Item) (event : Event) → Good (those_of usage) c now → Occurs now.tape (setting c h me) (now.node me).met item event → AllReaching c usage now.tape now.node
-      → AllReaching c usage (Crash (number me) ∷ item ∷ now.tape) (set_at now.node me (down (met_in (setting c h me) (now.node me).met event) (now.node me)))
-  cuts_reaching h now me item event g o q = record {
-    items = (tt, (own_reaching c usage now.tape item (occurs_own now.tape (setting c h me) (now.node me).met item event o), q.items));
-    opens = by_node (λ v x. Each (OpenAt c (Crash (number me) ∷ item ∷ now.tape)) x.open_operations) now.node me (down (met_in (setting c h me) (now.node me).met event) (now.node me)) tt
-        (λ v apart. each_zip (HeldAt c usage now v) (OpenAt c now.tape) (OpenAt c (Crash (number me) ∷ item ∷ now.tape)) (λ x held k. phase_on c x.id now.tape (Crash (number me) ∷ item ∷ now.tape)
-        (onward_then x.id now.tape (item ∷ now.tape) (Crash (number me) ∷ item ∷ now.tape) (own_onward usage (setting c h me) now item event g o v x held) (onward_item x.id (item ∷ now.tape) (Crash (number me)) tt)) x.request x.phase k)
-        (now.node v).open_operations (g.node v).held (q.opens v));
-  }
-
-  starts_reaching : (h : Meanings) (now : Standing) (me count : ℕ) → Good (those_of usage) c now → AllReaching c usage now.tape now.node
-      → AllReaching c usage (with_items c (set_at now.node me (start (setting c h me) count (now.owed me) (now.node me).met)) now.tape (flat_map (shown me) (start_items (setting c h me) count (now.owed me) (now.node me).met)))
-      (set_at now.node me (start (setting c h me) count (now.owed me) (now.node me).met))
-  starts_reaching h now me count g q = record {
-    items = mute_reaching c usage those me items now.tape mute q.items;
-    opens = by_node (λ v x. Each (OpenAt c later) x.open_operations) now.node me (start (setting c h me) count (now.owed me) (now.node me).met) tt
-        (λ v apart. each_on (OpenAt c now.tape) (OpenAt c later) (λ x k. phase_on c x.id now.tape later (onward_items x.id c those (flat_map (shown me) items) now.tape (later_shown me items (mute_later items mute))) x.request x.phase k) (now.node v).open_operations (q.opens v));
-  }
-    where
-      those : ℕ → Node
-      those = set_at now.node me (start (setting c h me) count (now.owed me) (now.node me).met)
-
-      items : List Met
-      items = start_items (setting c h me) count (now.owed me) (now.node me).met
-
-      later : List Item
-      later = with_items c those now.tape (flat_map (shown me) items)
-
-      mute : Each IsMute items
-      mute = (
-        tt,
-        each_both IsMute (now.owed me) (start_notes (setting c h me) (onto (now.owed me) (Starts count ∷ (now.node me).met))) (owes_mute c now.tape me (now.owed me) (g.owes me))
-            (plain_mute (start_notes (setting c h me) (onto (now.owed me) (Starts count ∷ (now.node me).met))) (starts_plain (setting c h me) (onto (now.owed me) (Starts count ∷ (now.node me).met)))),
-      )
-
-  falls_reaching : (now : Standing) (me : ℕ) → AllReaching c usage now.tape now.node → AllReaching c usage (Crash (number me) ∷ now.tape) (set_at now.node me (crashed (now.node me)))
-  falls_reaching now me q = record {
-    items = (tt, q.items);
-    opens = by_node (λ v x. Each (OpenAt c (Crash (number me) ∷ now.tape)) x.open_operations) now.node me (crashed (now.node me)) tt
-        (λ v apart. each_on (OpenAt c now.tape) (OpenAt c (Crash (number me) ∷ now.tape)) (λ x k. phase_on c x.id now.tape (Crash (number me) ∷ now.tape) (onward_item x.id now.tape (Crash (number me)) tt) x.request x.phase k) (now.node v).open_operations (q.opens v));
-  }
-
-  marks_reaching : (now : Standing) (item : Item) → IsMark item → AllReaching c usage now.tape now.node → AllReaching c usage (item ∷ now.tape) now.node
-  marks_reaching now item is q = record {
-    items = (mark_free item is, q.items);
-    opens = λ v. each_on (OpenAt c now.tape) (OpenAt c (item ∷ now.tape)) (λ x k. phase_on c x.id now.tape (item ∷ now.tape) (onward_item x.id now.tape item (mark_later item is)) x.request x.phase k) (now.node v).open_operations (q.opens v);
-  }
-    where
-      mark_free : (x : Item) → IsMark x → IsReachingItem c usage now.tape x
-      mark_free (AnswerItem op answer) k = absurd k
-      mark_free (Sent key m) k = absurd k
-      mark_free _ k = tt
-
-      mark_later : (x : Item) → IsMark x → NoBegin x
-      mark_later (BeginItem op text) k = absurd k
-      mark_later _ k = tt
-
-  reaching_stays : Stays c usage first cuts (AllReaching c usage)
-  reaching_stays = record {
-    steps = λ h now me item event g r then up may o plain q. steps_reaching h now me item event g r then up may o plain q;
-    cuts_off = λ h now me item event g o q. cuts_reaching h now me item event g o q;
-    starts = λ h now me count g q. starts_reaching h now me count g q;
-    falls = λ now me g q. falls_reaching now me q;
-    marks = λ now item is g q. marks_reaching now item is q;
-  }
+    decided_here : n.0 ≤ top_of node.met group
+    decided_here = subst (λ (standing : Standing). n.0 ≤ top_of (standing.node me).met group) (sym r.is)
+        (run_decided_most c first r.events now.tape (run_of c usage first cuts now r) me group n entry (subst (λ v. Stands (Decide v group n entry) now.tape) (λ i. record { 0 = mine i }) before))
 
 -- each answer and each proposal of every run
 pub run_reaching : (c : Cluster) (usage : Usage) (first : Meanings) (events : List Happening) (tape : List Item) → IsRun c first events tape → Fits usage events → Are (IsReachingItem c usage) tape
-run_reaching c usage first events _ run fits = subst (Are (IsReachingItem c usage)) (sym run.tape_is)
-    (run_stays c usage first run.cuts (AllReaching c usage) (reaching_stays c usage first run.cuts) events fits (record { items = tt; opens = λ v. tt })).items
+run_reaching c usage first events tape run fits = items_are c usage tape (run_far Reaches reaches_suffice c usage first events tape (λ cuts. near_reaches c usage first cuts) run fits)
