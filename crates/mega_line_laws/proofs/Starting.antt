@@ -12,29 +12,8 @@ use Rattle.mega_schema.specs.Verdict.{parse_of}
 use Rattle.mega_cluster.specs.declared.cluster.Cluster.{Cluster}
 use Rattle.mega_cluster.specs.Header.{◌>>=◌, cells_of, default_cells, document_of, has_unknown_key, header_of, is_full, needed, nodes_of, number_in, number_of, number_of_data, odd_cells, parsed, read_of, ruled_out, schema_of, schema_of_data}
 use Rattle.mega_format_laws.proofs.Headers.{cluster_formed}
-use Rattle.mega_member_laws.proofs.Headers.{cells_few}
+use Rattle.mega_member_laws.proofs.Headers.{OkIs, cells_few, kept, needed_ok, then_any, then_ok}
 use Rattle.mega_line_laws.specs.Clusters.{CanStart}
-
--- what is read is so, unless a rule is broken
-abbrev OkIs : {A : Type 0} → (A → Type 0) → Result A ℕ → Type 0
-OkIs P (Ok x) = P x
-OkIs P (Err rule) = Unit {0}
-
-then_ok : {A B : Type 0} (P : A → Type 0) (Q : B → Type 0) (r : Result A ℕ) (f : A → Result B ℕ) → OkIs P r → ((x : A) → P x → OkIs Q (f x)) → OkIs Q (r >>= f)
-then_ok P Q (Ok x) f h k = k x h
-then_ok P Q (Err rule) f h k = tt
-
-then_any : {A B : Type 0} (Q : B → Type 0) (r : Result A ℕ) (f : A → Result B ℕ) → ((x : A) → OkIs Q (f x)) → OkIs Q (r >>= f)
-then_any Q (Ok x) f k = k x
-then_any Q (Err rule) f k = tt
-
-needed_ok : {A : Type 0} (P : A → Type 0) (rule : ℕ) (o : Option A) → IsOption P o → OkIs P (needed rule o)
-needed_ok P rule None h = tt
-needed_ok P rule (Some x) h = h
-
-kept : {A : Type 0} (P : A → Type 0) (t : Bool) (x : A) → (t ≡ true → P x) → IsOption P (cond t (Some x) None)
-kept P true x h = h refl
-kept P false x h = tt
 
 -- ---- cells
 
