@@ -1,30 +1,41 @@
 //! Fields of a text in turn, and texts that are no UTF-8.
+use crate::asserted::same;
 use crate::changes::check_places;
 use mega_base::{Bytes, Cursor, CursorFault, Text, put_bytes, put_u8, put_u32, put_u64};
+use std::alloc::Global;
+use std::process::Abort;
+
+/// A field of each kind.
+fn fields(rt: &impl Abort, alloc: Global) -> Bytes {
+    let mut out = Bytes::new(alloc);
+    put_u8(&mut out, 7).expect(rt, "refused");
+    put_u32(&mut out, 0x0102_0304).expect(rt, "refused");
+    put_u64(&mut out, 5).expect(rt, "refused");
+    put_bytes(&mut out, b"ab").expect(rt, "refused");
+    out
+}
 
 #[test]
 fn fields_in_turn(rt: HostRuntime) {
-    let mut out = Bytes::new(rt.alloc());
-    put_u8(&mut out, 7).expect(&rt, "refused");
-    put_u32(&mut out, 0x0102_0304).expect(&rt, "refused");
-    put_u64(&mut out, 5).expect(&rt, "refused");
-    put_bytes(&mut out, b"ab").expect(&rt, "refused");
+    let out = fields(&rt, rt.alloc());
     let mut cursor = Cursor::new(out.as_slice());
-    assert_eq!(rt; cursor.take_u8(), Ok(7));
-    assert_eq!(rt; cursor.take_u32(), Ok(0x0102_0304));
-    assert_eq!(rt; cursor.take_u64(), Ok(5));
-    assert!(rt; cursor.take_bytes() == Ok(b"ab".as_slice()));
-    assert!(rt; cursor.is_at_end());
-    assert_eq!(rt; cursor.take_u8(), Err(CursorFault::Short { at: 19 }));
+    same(&rt, cursor.take_u8(), Ok(7));
+    same(&rt, cursor.take_u32(), Ok(0x0102_0304));
+    same(&rt, cursor.take_u64(), Ok(5));
+    same(&rt, cursor.take_bytes(), Ok(b"ab".as_slice()));
+    same(&rt, cursor.is_at_end(), true);
+    same(&rt, cursor.take_u8(), Err(CursorFault::Short { at: 19 }));
+}
+
+#[test]
+fn a_field_that_is_too_long_is_not_taken(rt: HostRuntime) {
     let mut long = Cursor::new(&[0, 1, 0, 1, 9]);
-    assert!(rt;
-        long.take_bytes()
-            == Err(CursorFault::Long {
-                at: 3,
-                length: 65_537
-            })
-    );
-    assert_eq!(rt; long.at(), 0);
+    let fault = CursorFault::Long {
+        at: 3,
+        length: 65_537,
+    };
+    same(&rt, long.take_bytes(), Err(fault));
+    same(&rt, long.at(), 0);
 }
 
 /// Texts, each behind the place where it is refused, or behind 1000.

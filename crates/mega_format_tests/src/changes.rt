@@ -36,14 +36,24 @@ fn sum_of_changes<T: Field>(rt: &impl Abort, alloc: Global, bytes: &[u8]) -> u64
     sum
 }
 
+/// Asserts that a number is the one that its row begins with.
+pub fn check_told(rt: &impl Abort, alloc: Global, told: u64, wanted: &str, text: &str) {
+    let told = format!(in alloc; "{told}").expect(rt, "refused");
+    assert_eq!(rt; told.as_str(), wanted, "{text}");
+}
+
+/// Asserts of a row, which is a place and a text, that the text is refused there.
+fn check_place<T: Field>(rt: &impl Abort, alloc: Global, row: &str) {
+    let (wanted, text) = row.split_once(' ').expect(rt, "no place");
+    let bytes = hex::decode(alloc, text).expect(rt, "refused");
+    let told = place::<T>(rt, alloc, bytes.as_slice());
+    check_told(rt, alloc, told, wanted, text);
+}
+
 /// Asserts of each row, which is a place and a text, that the text is refused there.
 pub fn check_places<T: Field>(rt: &impl Abort, alloc: Global, rows: &str) {
     for row in rows.lines() {
-        let (wanted, text) = row.split_once(' ').expect(rt, "no place");
-        let bytes = hex::decode(alloc, text).expect(rt, "refused");
-        let told = place::<T>(rt, alloc, bytes.as_slice());
-        let told = format!(in alloc; "{told}").expect(rt, "refused");
-        assert_eq!(rt; told.as_str(), wanted, "{text}");
+        check_place::<T>(rt, alloc, row);
     }
 }
 
@@ -55,14 +65,18 @@ fn check_cuts<T: Field>(rt: &impl Abort, alloc: Global, bytes: &[u8]) {
     }
 }
 
+/// Asserts of a row, which is a sum and a text, that its changes have that sum.
+fn check_change<T: Field>(rt: &impl Abort, alloc: Global, row: &str) {
+    let (wanted, text) = row.split_once(' ').expect(rt, "no sum");
+    let bytes = hex::decode(alloc, text).expect(rt, "refused");
+    let sum = sum_of_changes::<T>(rt, alloc, bytes.as_slice());
+    check_told(rt, alloc, sum, wanted, text);
+    check_cuts::<T>(rt, alloc, bytes.as_slice());
+}
+
 /// Asserts of each row, which is a sum and a text, that its changes have that sum.
 pub fn check_changes<T: Field>(rt: &impl Abort, alloc: Global, rows: &str) {
     for row in rows.lines() {
-        let (wanted, text) = row.split_once(' ').expect(rt, "no sum");
-        let bytes = hex::decode(alloc, text).expect(rt, "refused");
-        let sum = sum_of_changes::<T>(rt, alloc, bytes.as_slice());
-        let sum = format!(in alloc; "{sum}").expect(rt, "refused");
-        assert_eq!(rt; sum.as_str(), wanted, "{text}");
-        check_cuts::<T>(rt, alloc, bytes.as_slice());
+        check_change::<T>(rt, alloc, row);
     }
 }

@@ -1,4 +1,6 @@
 //! Headers that are read, with their defaults and without, and headers that break each rule.
+use crate::asserted::same;
+use crate::changes::check_told;
 use mega_base::{NodeKind, Text};
 use mega_cluster::{Cluster, HeaderFault, read};
 use std::alloc::Global;
@@ -35,18 +37,22 @@ const FAULTS: &str = r#"1 nodes =
 5 ONE & cells = 2 & lease = 0
 6 ONE & LOOSE & margin = -1"#;
 
+/// The line that a word stands for.
+fn spelled(line: &str) -> &str {
+    match line {
+        "SCHEMA" => SCHEMA,
+        "LOOSE" => LOOSE,
+        "ONE" => ONE,
+        "THREE" => THREE,
+        _ => line,
+    }
+}
+
 /// The header of these lines.
 fn header(rt: &impl Abort, alloc: Global, lines: &str) -> Text {
     let mut text = Text::new(alloc);
     for line in lines.split(" & ") {
-        text.push_str(match line {
-            "SCHEMA" => SCHEMA,
-            "LOOSE" => LOOSE,
-            "ONE" => ONE,
-            "THREE" => THREE,
-            _ => line,
-        })
-        .expect(rt, "refused");
+        text.push_str(spelled(line)).expect(rt, "refused");
         text.push_str("\r\n").expect(rt, "refused");
     }
     text
@@ -60,39 +66,60 @@ fn rule_of(header: Result<Cluster, HeaderFault>) -> u8 {
     }
 }
 
+/// The cluster that these lines tell.
+fn cluster(rt: &impl Abort, alloc: Global, lines: &str, addresses: u8) -> Cluster {
+    let text = header(rt, alloc, lines);
+    read(alloc, text.as_bytes(), addresses).expect(rt, "refused")
+}
+
+/// The numbers of a cluster.
+fn numbers(cluster: &Cluster) -> [u64; 7] {
+    [
+        u64::from(cluster.cells),
+        cluster.lease,
+        cluster.patience,
+        cluster.retry,
+        cluster.margin,
+        u64::from(cluster.apply),
+        cluster.limit.0,
+    ]
+}
+
 #[test]
 fn a_header_has_defaults(rt: HostRuntime) {
-    let alloc = rt.alloc();
-    let text = header(&rt, alloc, "THREE & SCHEMA & addresses = 5");
-    let cluster = read(alloc, text.as_bytes(), 3).expect(&rt, "refused");
+    let cluster = cluster(&rt, rt.alloc(), "THREE & SCHEMA & addresses = 5", 3);
     let kinds = [NodeKind::Full, NodeKind::Witness, NodeKind::Read];
-    assert!(rt; cluster.nodes.as_slice() == kinds.as_slice());
-    assert!(rt; cluster.cells == 3 && cluster.lease == 100 && cluster.patience == 1000);
-    assert!(rt; cluster.retry == 50 && cluster.margin == 20 && cluster.apply == 64);
-    assert!(rt; cluster.limit.0 == 1_000_000 && cluster.addresses.is_empty());
-    assert!(rt; cluster.schema.tables.len() == 1);
+    same(&rt, cluster.nodes.as_slice(), kinds.as_slice());
+    same(
+        &rt,
+        numbers(&cluster),
+        [3, 100, 1000, 50, 20, 64, 1_000_000],
+    );
+    same(&rt, cluster.addresses.len(), 0);
+    same(&rt, cluster.schema.tables.len(), 1);
 }
 
 #[test]
 fn a_header_tells_what_it_gives(rt: HostRuntime) {
-    let alloc = rt.alloc();
     let given =
         "ONE & SCHEMA & cells = 1 & lease = 7 & margin = 0 & apply = 1000 & limit = 2 & addresses = [\"a\", \"b\"]";
-    let text = header(&rt, alloc, given);
-    let cluster = read(alloc, text.as_bytes(), 0).expect(&rt, "refused");
-    assert!(rt; cluster.cells == 1 && cluster.lease == 7 && cluster.margin == 0);
-    assert!(rt; cluster.apply == 1000 && cluster.limit.0 == 2 && cluster.addresses.len() == 2);
+    let cluster = cluster(&rt, rt.alloc(), given, 0);
+    same(&rt, numbers(&cluster), [1, 7, 1000, 50, 0, 1000, 2]);
+    same(&rt, cluster.addresses.len(), 2);
+}
+
+/// Asserts of a row, which is a rule and a header, that the header breaks the rule.
+fn check(rt: &impl Abort, alloc: Global, row: &str) {
+    let (wanted, lines) = row.split_once(' ').expect(rt, "no rule");
+    let text = header(rt, alloc, lines);
+    let rule = rule_of(read(alloc, text.as_bytes(), 0));
+    check_told(rt, alloc, u64::from(rule), wanted, lines);
 }
 
 #[test]
 fn each_rule_is_told_in_order(rt: HostRuntime) {
-    let alloc = rt.alloc();
     for row in FAULTS.lines() {
-        let (wanted, lines) = row.split_once(' ').expect(&rt, "no rule");
-        let text = header(&rt, alloc, lines);
-        let rule = rule_of(read(alloc, text.as_bytes(), 0));
-        let rule = format!(in alloc; "{rule}").expect(&rt, "refused");
-        assert_eq!(rt; rule.as_str(), wanted, "{lines}");
+        check(&rt, rt.alloc(), row);
     }
 }
 
@@ -100,7 +127,7 @@ fn each_rule_is_told_in_order(rt: HostRuntime) {
 fn few_nodes_and_long_texts_are_refused(rt: HostRuntime) {
     let alloc = rt.alloc();
     let text = header(&rt, alloc, "ONE & SCHEMA");
-    assert_eq!(rt; rule_of(read(alloc, text.as_bytes(), 2)), 3);
+    same(&rt, rule_of(read(alloc, text.as_bytes(), 2)), 3);
     let long = vec![in alloc; b' '; 262_145].expect(&rt, "refused");
-    assert_eq!(rt; rule_of(read(alloc, long.as_slice(), 0)), 6);
+    same(&rt, rule_of(read(alloc, long.as_slice(), 0)), 6);
 }

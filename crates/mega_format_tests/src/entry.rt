@@ -3,6 +3,8 @@
 use crate::changes::check_changes;
 use mega_base::{Copied, Same};
 use mega_entry::{Entry, decode};
+use std::alloc::Global;
+use std::process::Abort;
 
 /// A no-op, a put of one row, an entry with a row of several kinds, a send, an enter and a handle, and a
 /// batch of two; before each the sum, over its bytes and three changes of each, of the offsets of
@@ -17,22 +19,25 @@ fn changed_entries(rt: HostRuntime) {
     check_changes::<Entry>(&rt, rt.alloc(), ENTRIES);
 }
 
+/// The entry of this text.
+fn entry(rt: &impl Abort, alloc: Global, text: &str) -> Entry {
+    let bytes = hex::decode(alloc, text).expect(rt, "refused");
+    decode(alloc, bytes.as_slice()).expect(rt, "refused")
+}
+
+/// Asserts that the entry of a row is its copy, and the empty one where it has the empty one's length.
+fn check_copy(rt: &impl Abort, alloc: Global, empty: &Entry, row: &str) {
+    let (_, text) = row.split_once(' ').expect(rt, "no sum");
+    let entry = entry(rt, alloc, text);
+    let copy = entry.copy(alloc).expect(rt, "refused");
+    assert!(rt; copy.same_as(&entry), "{text}");
+    assert!(rt; empty.same_as(&entry) == (text.len() == 38), "{text}");
+}
+
 #[test]
 fn copies_are_equal(rt: HostRuntime) {
-    let alloc = rt.alloc();
-    let empty = decode(
-        alloc,
-        &[1, 0, 9, 0, 0, 0, 0, 0, 0, 0, 0, 0, 0, 0, 0, 0, 0, 0, 0],
-    )
-    .expect(&rt, "refused");
+    let empty = entry(&rt, rt.alloc(), "01000900000000000000000000000000000000");
     for row in ENTRIES.lines() {
-        let (_, text) = row.split_once(' ').expect(&rt, "no sum");
-        let bytes = hex::decode(alloc, text).expect(&rt, "refused");
-        let entry = decode(alloc, bytes.as_slice()).expect(&rt, "refused");
-        assert!(rt;
-            entry.copy(alloc).expect(&rt, "refused").same_as(&entry),
-            "{text}"
-        );
-        assert_eq!(rt; empty.same_as(&entry), bytes.len() == 19, "{text}");
+        check_copy(&rt, rt.alloc(), &empty, row);
     }
 }

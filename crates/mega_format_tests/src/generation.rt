@@ -1,7 +1,11 @@
 //! Texts that are generated, whole and over a sink that fails.
+ghost use Rattle.std.specs.Prelude.{◌≤◌};
+
+use crate::asserted::same;
 use mega_gen::generate;
 use mega_io::{MemSink, SinkError};
 use std::alloc::Global;
+use std::process::Abort;
 
 /// A hash of bytes, by which a long text is told.
 fn hash(bytes: &[u8]) -> u64 {
@@ -12,32 +16,41 @@ fn hash(bytes: &[u8]) -> u64 {
     hash
 }
 
-#[test]
-fn texts_are_those_of_the_definition(rt: HostRuntime) {
-    let alloc = rt.alloc();
-    for (nodes, length, wanted) in [
-        (1u8, 6283usize, 11_611_511_675_008_445_046u64),
-        (2, 6098, 7_767_090_949_848_640_553),
-        (5, 5472, 6_577_941_740_588_405_126),
-        (9, 4339, 1_733_593_003_599_861_702),
-    ] {
-        let mut sink = MemSink::new(alloc, Vec::new(alloc));
-        let done = generate(alloc, 7, 60, nodes, &mut sink);
-        assert!(rt; done.is_ok(), "{nodes}");
-        assert_eq!(rt; sink.bytes().len(), length);
-        assert_eq!(rt; hash(sink.bytes()), wanted);
-    }
+/// Asserts the length and the hash of the text for so many nodes.
+fn check(rt: &impl Abort, alloc: Global, nodes: u8, length: usize, wanted: u64)
+    requires first { 1 ≤ nodes }
+    requires last { nodes ≤ 9 }
+{
+    let mut sink = MemSink::new(alloc, Vec::new(alloc));
+    let done = generate(alloc, 7, 60, nodes, &mut sink);
+    same(rt, done.is_ok(), true);
+    same(rt, sink.bytes().len(), length);
+    same(rt, hash(sink.bytes()), wanted);
 }
 
 #[test]
-fn a_text_ends_anywhere(rt: HostRuntime) {
+fn texts_are_those_of_the_definition(rt: HostRuntime) {
+    check(&rt, rt.alloc(), 1, 6283, 11_611_511_675_008_445_046);
+    check(&rt, rt.alloc(), 2, 6098, 7_767_090_949_848_640_553);
+    check(&rt, rt.alloc(), 5, 5472, 6_577_941_740_588_405_126);
+    check(&rt, rt.alloc(), 9, 4339, 1_733_593_003_599_861_702);
+}
+
+#[test]
+fn a_text_is_written_whole(rt: HostRuntime) {
     let alloc = rt.alloc();
     let mut sink = MemSink::new(alloc, Vec::new(alloc));
-    assert!(rt; generate(alloc, 7, 3, 2, &mut sink).is_ok());
-    assert!(rt; sink.bytes() == TEXT.as_bytes());
-    let mut failing = MemSink::new(alloc, vec![in alloc; 2].expect(&rt, "refused"));
+    same(&rt, generate(alloc, 7, 3, 2, &mut sink).is_ok(), true);
+    same(&rt, sink.bytes(), TEXT.as_bytes());
+}
+
+#[test]
+fn a_text_ends_where_its_sink_fails(rt: HostRuntime) {
+    let alloc = rt.alloc();
+    let fails = vec![in alloc; 2].expect(&rt, "refused");
+    let mut failing = MemSink::new(alloc, fails);
     let done = generate(alloc, 7, 3, 2, &mut failing);
-    assert!(rt; matches!(done, Err(SinkError::Failed)));
+    same(&rt, done.err(), Some(SinkError::Failed));
 }
 
 const TEXT: &str = "nodes = [\"full\", \"full\"]

@@ -1,6 +1,8 @@
 //! A schema that is declared, and statements that break each rule.
+use crate::asserted::same;
+use crate::changes::check_told;
 use mega_base::{Kind, Text};
-use mega_schema::{SchemaFault, parse};
+use mega_schema::{Schema, SchemaFault, parse};
 use std::alloc::Global;
 use std::process::Abort;
 
@@ -29,29 +31,46 @@ const USER: &str =
 const CHILD: &str =
     "CREATE SCHEMA S; CREATE TABLE U { required int64 a; } PRIMARY KEY(a), ENTITY GROUP ROOT; CREATE TABLE C { required int64 a; } PRIMARY KEY(a), ENTITY GROUP KEY(a) REFERENCES U; ";
 
+/// The schema of photos.
+fn photos(rt: &impl Abort, alloc: Global) -> Schema {
+    let text = Text::from_str(alloc, PHOTO_APP).expect(rt, "refused");
+    parse(alloc, &text).expect(rt, "refused")
+}
+
 #[test]
 fn photos_are_declared(rt: HostRuntime) {
-    let alloc = rt.alloc();
-    let schema = parse(
-        alloc,
-        &Text::from_str(alloc, PHOTO_APP).expect(&rt, "refused"),
-    )
-    .expect(&rt, "refused");
-    assert!(rt; schema.name.as_str() == "PhotoApp");
+    let schema = photos(&rt, rt.alloc());
+    same(&rt, schema.name.as_str(), "PhotoApp");
+    same(&rt, schema.indexes.len(), 2);
+    let [_, photo] = schema.tables.as_slice() else {
+        panic!(rt; "not two tables");
+    };
+    same(&rt, photo.primary.as_slice(), [1, 2].as_slice());
+    same(&rt, photo.group.as_slice(), [1].as_slice());
+    same(&rt, photo.root, 1);
+    same(&rt, [photo.inside, photo.scatter], [true, false]);
+}
+
+#[test]
+fn photos_are_indexed_by_tag(rt: HostRuntime) {
+    let schema = photos(&rt, rt.alloc());
+    let [_, by_tag] = schema.indexes.as_slice() else {
+        panic!(rt; "not two indexes");
+    };
+    same(&rt, by_tag.global, true);
+    same(&rt, by_tag.table, 2);
+    same(&rt, by_tag.indexed.as_slice(), [6].as_slice());
+    same(&rt, by_tag.storing.as_slice(), [5].as_slice());
+}
+
+#[test]
+fn photos_have_a_shape(rt: HostRuntime) {
+    let schema = photos(&rt, rt.alloc());
     assert_eq!(rt; schema.tables.len(), 2);
-    assert_eq!(rt; schema.indexes.len(), 2);
-    let photo = &schema.tables.as_slice()[1];
-    assert!(rt; photo.primary.as_slice() == [1, 2].as_slice());
-    assert!(rt; photo.group.as_slice() == [1].as_slice());
-    assert!(rt; photo.inside && photo.root == 1 && !photo.scatter);
-    let by_tag = &schema.indexes.as_slice()[1];
-    assert!(rt; by_tag.global && by_tag.table == 2);
-    assert!(rt; by_tag.indexed.as_slice() == [6].as_slice());
-    assert!(rt; by_tag.storing.as_slice() == [5].as_slice());
-    let shape = schema.shape(alloc, 2).expect(&rt, "refused");
-    assert!(rt; shape.space == 1 && shape.root == 1 && shape.table == 2);
-    assert!(rt; shape.root_kinds.as_slice() == [Kind::Int64].as_slice());
-    assert!(rt; shape.rest_kinds.as_slice() == [Kind::Int32].as_slice());
+    let shape = schema.shape(rt.alloc(), 2).expect(&rt, "refused");
+    same(&rt, [shape.space, shape.root, shape.table], [1, 1, 2]);
+    same(&rt, shape.root_kinds.as_slice(), [Kind::Int64].as_slice());
+    same(&rt, shape.rest_kinds.as_slice(), [Kind::Int32].as_slice());
 }
 
 /// The rule that a text breaks at this place; 0 for none, 100 for a token that cannot stand there.
@@ -64,14 +83,18 @@ fn rule_at(alloc: Global, text: &Text, place: u64) -> u8 {
     }
 }
 
+/// Asserts of a row, which is a rule and a statement, that the statement breaks the rule.
+fn check_row(rt: &impl Abort, alloc: Global, before: &str, row: &str) {
+    let (wanted, last) = row.split_once(' ').expect(rt, "no rule");
+    let text = Text::from_string(format!(in alloc; "{before}{last}").expect(rt, "refused"));
+    let rule = rule_at(alloc, &text, before.len() as u64);
+    check_told(rt, alloc, u64::from(rule), wanted, last);
+}
+
 /// Asserts of each row, which is a rule and a statement, that the statement breaks the rule.
 fn check(rt: &impl Abort, alloc: Global, before: &str, rows: &str) {
     for row in rows.lines() {
-        let (wanted, last) = row.split_once(' ').expect(rt, "no rule");
-        let text = Text::from_string(format!(in alloc; "{before}{last}").expect(rt, "refused"));
-        let rule = rule_at(alloc, &text, before.len() as u64);
-        let rule = format!(in alloc; "{rule}").expect(rt, "refused");
-        assert_eq!(rt; rule.as_str(), wanted, "{last}");
+        check_row(rt, alloc, before, row);
     }
 }
 
@@ -112,22 +135,22 @@ fn rules_of_a_later_statement_are_told(rt: HostRuntime) {
     check(&rt, rt.alloc(), USER, AFTER_USER);
 }
 
-#[test]
-fn too_many_properties(rt: HostRuntime) {
-    let alloc = rt.alloc();
+/// A statement with 65 properties.
+fn many_properties(rt: &impl Abort, alloc: Global) -> Text {
     let mut text = Text::from_str(alloc, "CREATE SCHEMA S; CREATE TABLE A { ").expect(
-        &rt, "refused",
+        rt, "refused",
     );
     for number in 0..65u8 {
-        let property = format!(in alloc; "required int64 p{number}; ").expect(&rt, "refused");
-        text.push_str(property.as_str()).expect(&rt, "refused");
+        let property = format!(in alloc; "required int64 p{number}; ").expect(rt, "refused");
+        text.push_str(property.as_str()).expect(rt, "refused");
     }
     text.push_str("} PRIMARY KEY(p0), ENTITY GROUP ROOT;")
-        .expect(&rt, "refused");
-    assert!(rt;
-        matches!(
-            parse(alloc, &text),
-            Err(SchemaFault::Rule { at: 17, rule: 11 })
-        )
-    );
+        .expect(rt, "refused");
+    text
+}
+
+#[test]
+fn too_many_properties(rt: HostRuntime) {
+    let text = many_properties(&rt, rt.alloc());
+    same(&rt, rule_at(rt.alloc(), &text, 17), 11);
 }

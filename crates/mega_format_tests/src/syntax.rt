@@ -1,5 +1,8 @@
 //! Texts with a token that cannot stand where it stands, and a text that is read.
-use mega_syntax::{Statement, SyntaxFault, offset, read};
+use crate::asserted::same;
+use mega_syntax::{Placed, Statement, SyntaxFault, offset, read};
+use std::alloc::Global;
+use std::process::Abort;
 
 /// Texts, each with a mark before its first bad token.
 const FAULTS: &str = "#
@@ -25,33 +28,40 @@ CREATE SCHEMA S; CREATE LOCAL INDEX I ON A(x) STORING #x;
 CREATE SCHEMA S; ALTER TABLE A #{ }
 CREATE SCHEMA S; #%";
 
+/// Asserts that the text of a row is refused at the mark.
+fn check_mark(rt: &impl Abort, alloc: Global, row: &str) {
+    let (front, back) = row.split_once('#').expect(rt, "no mark");
+    let text = format!(in alloc; "{front}{back}").expect(rt, "refused");
+    let fault = read(alloc, text.as_bytes()).err();
+    let at = front.len() as u64;
+    same(rt, fault, Some(SyntaxFault::Token { at }));
+}
+
 #[test]
 fn syntax_errors_have_their_places(rt: HostRuntime) {
-    let alloc = rt.alloc();
     for row in FAULTS.lines() {
-        let (front, back) = row.split_once('#').expect(&rt, "no mark");
-        let text = format!(in alloc; "{front}{back}").expect(&rt, "refused");
-        let at = match read(alloc, text.as_bytes()) {
-            Err(SyntaxFault::Token { at }) => Some(at),
-            _ => None,
-        };
-        assert_eq!(rt; at, Some(front.len() as u64), "{row}");
+        check_mark(&rt, rt.alloc(), row);
+    }
+}
+
+/// Whether a statement changes the table A.
+fn changes_a(placed: &Placed<'_>) -> bool {
+    match &placed.statement {
+        Statement::Change(change) => change.table.is(b"A"),
+        _ => false,
     }
 }
 
 #[test]
 fn statements_are_read(rt: HostRuntime) {
-    let alloc = rt.alloc();
     let text = "CREATE SCHEMA S; ALTER TABLE A ADD { repeated bytes x; };";
-    let found = read(alloc, text.as_bytes()).expect(&rt, "refused");
-    assert!(rt; found.words.name.is(b"S"));
-    assert_eq!(rt; found.tokens.len(), 15);
-    assert_eq!(rt; found.words.statements.len(), 1);
-    let placed = &found.words.statements.as_slice()[0];
-    assert_eq!(rt; placed.left, 11);
-    assert_eq!(rt;
-        offset(found.tokens.as_slice(), text.len(), placed.left),
-        17
-    );
-    assert!(rt; matches!(&placed.statement, Statement::Change(change) if change.table.is(b"A")));
+    let found = read(rt.alloc(), text.as_bytes()).expect(&rt, "refused");
+    same(&rt, found.words.name.is(b"S"), true);
+    same(&rt, found.tokens.len(), 15);
+    let [placed] = found.words.statements.as_slice() else {
+        panic!(rt; "not one statement");
+    };
+    same(&rt, placed.left, 11);
+    same(&rt, offset(found.tokens.as_slice(), text.len(), 11), 17);
+    same(&rt, changes_a(placed), true);
 }
