@@ -1,5 +1,6 @@
 //! Entries of indexes follow their rows, and finds show the rows and the marks of their groups.
 
+use crate::asserted::same;
 use mega_base::{Bytes, Cell, Copied, Items, NodeId, Row, Text, Value};
 use mega_entry::{Content, Entry, Write};
 use mega_index::{
@@ -28,6 +29,20 @@ fn add(rt: &impl Abort, alloc: Global, cells: &mut Items<Cell>, property: u8, va
     cells.push(Cell { property, values }).expect(rt, "refused");
 }
 
+fn text_value(rt: &impl Abort, alloc: Global, text: &str) -> Value {
+    Value::Str(Text::from_str(alloc, text).expect(rt, "refused"))
+}
+
+fn texts(rt: &impl Abort, alloc: Global, texts: &[&str]) -> Items<Value> {
+    let mut values = Items::new(alloc);
+    for text in texts {
+        values
+            .push(text_value(rt, alloc, text))
+            .expect(rt, "refused");
+    }
+    values
+}
+
 /// A photo of user 101 with the number 500, taken at this time, with these tags.
 fn photo(rt: &impl Abort, alloc: Global, time: i64, tags: &[&str]) -> Row {
     photo_of(rt, alloc, 101, 500, time, tags)
@@ -46,26 +61,14 @@ fn photo_of(
     add(rt, alloc, &mut cells, 1, Value::Int64(user));
     add(rt, alloc, &mut cells, 2, Value::Int32(number));
     add(rt, alloc, &mut cells, 3, Value::Int64(time));
-    add(
-        rt,
-        alloc,
-        &mut cells,
-        4,
-        Value::Str(Text::from_str(alloc, "u").expect(rt, "refused")),
-    );
-    let mut values = Items::new(alloc);
-    for tag in tags {
-        values
-            .push(Value::Str(Text::from_str(alloc, tag).expect(rt, "refused")))
-            .expect(rt, "refused");
-    }
-    if !values.is_empty() {
-        cells
-            .push(Cell {
-                property: 6,
-                values,
-            })
-            .expect(rt, "refused");
+    add(rt, alloc, &mut cells, 4, text_value(rt, alloc, "u"));
+    if !tags.is_empty() {
+        let values = texts(rt, alloc, tags);
+        let tagged = Cell {
+            property: 6,
+            values,
+        };
+        cells.push(tagged).expect(rt, "refused");
     }
     Row { cells }
 }
@@ -98,26 +101,18 @@ fn global_schema(rt: &impl Abort, alloc: Global) -> Schema {
 
 /// An entry that puts a row and nothing else.
 fn entry(rt: &impl Abort, alloc: Global, key: Bytes, row: Row) -> Entry {
-    let mut writes = Items::new(alloc);
-    writes
-        .push(Write {
-            key,
-            row: Some(row),
-        })
-        .expect(rt, "refused");
-    Entry::new(
-        alloc,
-        Content {
-            id: None,
-            leader: NodeId(1),
-            writes,
-            sends: Items::new(alloc),
-            enters: Items::new(alloc),
-            handles: Items::new(alloc),
-            cuts: Items::new(alloc),
-        },
-    )
-    .expect(rt, "refused")
+    let row = Some(row);
+    let writes = Items::from_vec(vec![in alloc; Write { key, row }].expect(rt, "refused"));
+    let content = Content {
+        id: None,
+        leader: NodeId(1),
+        writes,
+        sends: Items::new(alloc),
+        enters: Items::new(alloc),
+        handles: Items::new(alloc),
+        cuts: Items::new(alloc),
+    };
+    Entry::new(alloc, content).expect(rt, "refused")
 }
 
 /// Refreshes the group of a photo by an entry that puts it, and gives the group's mark.
@@ -160,34 +155,51 @@ fn tagged(
     schema: &Schema,
     tag: &str,
 ) -> [i32; 3] {
-    let value = Value::Str(Text::from_str(alloc, tag).expect(rt, "refused"));
-    let found = index.find(alloc, schema, 2, &[value]).expect(rt, "refused");
+    let values = [text_value(rt, alloc, tag)];
+    let found = index.find(alloc, schema, 2, &values).expect(rt, "refused");
     numbers(found.as_slice())
 }
 
-/// Photos that are put one after another, by user, number, time and tags; the mark of the group behind
-/// each, and the photos that are then found under Paris.
-const PUTS: [(i64, i32, i64, [&str; 3], u64, [i32; 3]); 5] = [
-    (101, 500, 1000, ["Dinner", "Paris", "Paris"], 1, [500, 0, 0]),
-    (101, 502, 900, ["Betty", "Paris", "Z"], 2, [500, 502, 0]),
-    (102, 501, 950, ["A", "Paris", "Z"], 1, [500, 502, 501]),
-    (101, 500, 1000, ["Dinner", "A", "B"], 3, [502, 501, 0]),
-    (102, 501, 950, ["Parisian", "A", "Z"], 2, [502, 0, 0]),
-];
+/// Puts a photo, and asserts the mark of its group behind it and the photos that are then found under Paris.
+fn check_put(
+    rt: &impl Abort,
+    alloc: Global,
+    index: &mut GlobalIndex,
+    schema: &Schema,
+    photo: Row,
+    wanted: (u64, [i32; 3]),
+) {
+    let mark = put(rt, alloc, index, schema, photo);
+    let found = tagged(rt, alloc, index, schema, "Paris");
+    same(rt, (mark, found), wanted);
+}
+
+/// Puts three photos of two users.
+fn put_three(rt: &impl Abort, alloc: Global, index: &mut GlobalIndex, schema: &Schema) {
+    let dinner = photo_of(rt, alloc, 101, 500, 1000, &["Dinner", "Paris", "Paris"]);
+    check_put(rt, alloc, index, schema, dinner, (1, [500, 0, 0]));
+    let betty = photo_of(rt, alloc, 101, 502, 900, &["Betty", "Paris", "Z"]);
+    check_put(rt, alloc, index, schema, betty, (2, [500, 502, 0]));
+    let other = photo_of(rt, alloc, 102, 501, 950, &["A", "Paris", "Z"]);
+    check_put(rt, alloc, index, schema, other, (1, [500, 502, 501]));
+}
+
+/// Puts two of the photos again, without the tag.
+fn put_again(rt: &impl Abort, alloc: Global, index: &mut GlobalIndex, schema: &Schema) {
+    let dinner = photo_of(rt, alloc, 101, 500, 1000, &["Dinner", "A", "B"]);
+    check_put(rt, alloc, index, schema, dinner, (3, [502, 501, 0]));
+    let other = photo_of(rt, alloc, 102, 501, 950, &["Parisian", "A", "Z"]);
+    check_put(rt, alloc, index, schema, other, (2, [502, 0, 0]));
+}
 
 #[test]
 fn a_find_shows_the_marks(rt: HostRuntime) {
     let alloc = rt.alloc();
     let schema = global_schema(&rt, alloc);
     let mut index = GlobalIndex::new(alloc);
-    let mut before = [0, 0, 0];
-    for (user, number, time, tags, mark, found) in PUTS {
-        let photo = photo_of(&rt, alloc, user, number, time, tags.as_slice());
-        assert_eq!(rt; tagged(&rt, alloc, &index, &schema, "Paris"), before);
-        assert_eq!(rt; put(&rt, alloc, &mut index, &schema, photo), mark);
-        before = found;
-    }
-    assert_eq!(rt; tagged(&rt, alloc, &index, &schema, "Paris"), before);
+    same(&rt, tagged(&rt, alloc, &index, &schema, "Paris"), [0, 0, 0]);
+    put_three(&rt, alloc, &mut index, &schema);
+    put_again(&rt, alloc, &mut index, &schema);
 }
 
 #[test]
@@ -195,14 +207,14 @@ fn photos_are_found_in_order_of_time(rt: HostRuntime) {
     let alloc = rt.alloc();
     let schema = global_schema(&rt, alloc);
     let mut index = GlobalIndex::new(alloc);
-    for (number, time) in [(500, 1000), (502, 900)] {
-        let photo = photo_of(&rt, alloc, 101, number, time, &[]);
-        put(&rt, alloc, &mut index, &schema, photo);
-    }
+    let late = photo_of(&rt, alloc, 101, 500, 1000, &[]);
+    put(&rt, alloc, &mut index, &schema, late);
+    let early = photo_of(&rt, alloc, 101, 502, 900, &[]);
+    put(&rt, alloc, &mut index, &schema, early);
     let found = index
         .find(alloc, &schema, 1, &[Value::Int64(101)])
         .expect(&rt, "refused");
-    assert_eq!(rt; numbers(found.as_slice()), [502, 500, 0]);
+    same(&rt, numbers(found.as_slice()), [502, 500, 0]);
 }
 
 #[test]
@@ -210,53 +222,67 @@ fn a_value_of_another_kind_is_refused(rt: HostRuntime) {
     let alloc = rt.alloc();
     let schema = global_schema(&rt, alloc);
     let index = GlobalIndex::new(alloc);
-    let refused = index.find(alloc, &schema, 1, &[Value::Int64(101), Value::Int32(1000)]);
-    assert!(rt; matches!(refused, Err(IndexFault::Kind { place: 1 })));
+    let values = [Value::Int64(101), Value::Int32(1000)];
+    let refused = index.find(alloc, &schema, 1, &values).err();
+    same(&rt, refused, Some(IndexFault::Kind { place: 1 }));
+}
+
+/// Asserts what is written where a row takes the place of another: how many writes, and what they show.
+fn check_writes(
+    rt: &impl Abort,
+    alloc: Global,
+    old: Option<&Row>,
+    new: Option<&Row>,
+    count: usize,
+    wanted: [(u8, u8, bool); 4],
+) {
+    let schema = photo_schema(rt, alloc);
+    let writes = local_writes(alloc, &schema, 2, old, new).expect(rt, "refused");
+    same(rt, writes.len(), count);
+    same(rt, shown(writes.as_slice()), wanted);
 }
 
 #[test]
 fn entries_follow_their_row(rt: HostRuntime) {
     let alloc = rt.alloc();
-    let schema = photo_schema(&rt, alloc);
     let old = photo(&rt, alloc, 1000, &["b", "a", "a"]);
     let new = photo(&rt, alloc, 1000, &["b", "c"]);
-    let first = local_writes(alloc, &schema, 2, None, Some(&old)).expect(&rt, "refused");
-    assert_eq!(rt; first.len(), 3);
-    assert_eq!(rt;
-        shown(first.as_slice()),
-        [
-            (128, 128, true),
-            (129, b'a', true),
-            (129, b'b', true),
-            (0, 0, false)
-        ]
-    );
-    let second = local_writes(alloc, &schema, 2, Some(&old), Some(&new)).expect(&rt, "refused");
-    assert_eq!(rt; second.len(), 2);
-    assert_eq!(rt;
-        shown(second.as_slice()),
-        [
-            (129, b'a', false),
-            (129, b'c', true),
-            (0, 0, false),
-            (0, 0, false)
-        ]
-    );
+    let first = [
+        (128, 128, true),
+        (129, b'a', true),
+        (129, b'b', true),
+        (0, 0, false),
+    ];
+    check_writes(&rt, alloc, None, Some(&old), 3, first);
+    let second = [
+        (129, b'a', false),
+        (129, b'c', true),
+        (0, 0, false),
+        (0, 0, false),
+    ];
+    check_writes(&rt, alloc, Some(&old), Some(&new), 2, second);
+    let schema = photo_schema(&rt, alloc);
     let last = local_writes(alloc, &schema, 2, Some(&new), None).expect(&rt, "refused");
-    assert_eq!(rt; last.len(), 3);
+    same(&rt, last.len(), 3);
+}
+
+/// A photo with no time.
+fn part_of_a_photo(rt: &impl Abort, alloc: Global) -> Row {
+    let mut cells = Items::new(alloc);
+    add(rt, alloc, &mut cells, 1, Value::Int64(101));
+    add(rt, alloc, &mut cells, 2, Value::Int32(500));
+    Row { cells }
 }
 
 #[test]
 fn a_photo_without_its_time_does_not_fit(rt: HostRuntime) {
     let alloc = rt.alloc();
     let schema = photo_schema(&rt, alloc);
+    let Some(table) = table_at(&schema, 2) else {
+        panic!(rt; "no table");
+    };
     let whole = photo(&rt, alloc, 1000, &[]);
-    let mut cells = Items::new(alloc);
-    add(&rt, alloc, &mut cells, 1, Value::Int64(101));
-    add(&rt, alloc, &mut cells, 2, Value::Int32(500));
-    let part = Row { cells };
-    if let Some(table) = table_at(&schema, 2) {
-        assert!(rt; row_fits(alloc, &schema, 2, table, &whole).expect(&rt, "refused"));
-        assert!(rt; !row_fits(alloc, &schema, 2, table, &part).expect(&rt, "refused"));
-    }
+    let part = part_of_a_photo(&rt, alloc);
+    same(&rt, row_fits(alloc, &schema, 2, table, &whole), Ok(true));
+    same(&rt, row_fits(alloc, &schema, 2, table, &part), Ok(false));
 }

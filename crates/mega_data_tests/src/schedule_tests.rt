@@ -51,12 +51,17 @@ fn tells(rt: &impl Abort, alloc: Global, schema: &Schema, wanted: &str, line: &s
     assert_eq!(rt; told.as_str(), wanted, "{line}");
 }
 
+/// Asserts of a row, which is a reason and a line, that the line is refused for the reason.
+fn check_row(rt: &impl Abort, alloc: Global, schema: &Schema, row: &str) {
+    let (wanted, line) = row.split_once(' ').expect(rt, "no reason");
+    tells(rt, alloc, schema, wanted, line);
+}
+
 /// Each row is a reason and a line.
 fn check(rt: &impl Abort, alloc: Global, rows: &str) {
     let schema = schema(rt, alloc);
     for row in rows.lines() {
-        let (wanted, line) = row.split_once(' ').expect(rt, "no reason");
-        tells(rt, alloc, &schema, wanted, line);
+        check_row(rt, alloc, &schema, row);
     }
 }
 

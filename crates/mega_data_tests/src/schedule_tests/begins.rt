@@ -34,12 +34,16 @@ pub fn begun(rt: &impl Abort, alloc: Global, line: &str) -> (Request, Text) {
     }
 }
 
+/// Asserts of a row, which is a line and a text, that the line's operation begins with the text.
+fn check_text(rt: &impl Abort, alloc: Global, row: &str) {
+    let (line, wanted) = row.split_once(" => ").expect(rt, "no arrow");
+    let (_request, text) = begun(rt, alloc, line);
+    assert_eq!(rt; text.as_str(), wanted);
+}
+
 #[test]
 fn the_text_of_a_begin_is_compact_with_keys_in_order(rt: HostRuntime) {
-    let alloc = rt.alloc();
     for row in TEXTS.lines() {
-        let (line, wanted) = row.split_once(" => ").expect(&rt, "no arrow");
-        let (_request, text) = begun(&rt, alloc, line);
-        assert_eq!(rt; text.as_str(), wanted);
+        check_text(&rt, rt.alloc(), row);
     }
 }

@@ -1,6 +1,7 @@
 //! Numbers at the ends of their ranges, just outside of them and far away, in every place that holds one.
 
 use super::{schema, tells};
+use mega_schema::Schema;
 use std::alloc::Global;
 use std::process::Abort;
 
@@ -79,16 +80,27 @@ const INT64: &str = r#"4 -9223372036854775809
 1 1e309
 1 -Infinity"#;
 
+/// Asserts what is told of a line with a number in its middle; a row is a reason and a number.
+fn check_number(rt: &impl Abort, alloc: Global, schema: &Schema, row: &str, around: (&str, &str)) {
+    let (front, back) = around;
+    let (wanted, number) = row.split_once(' ').expect(rt, "no reason");
+    let line = format!(in alloc; "{front}{number}{back}").expect(rt, "refused");
+    tells(rt, alloc, schema, wanted, line.as_str());
+}
+
+/// Asserts what is told of a line with each of the numbers in the place of its mark.
+fn check_line(rt: &impl Abort, alloc: Global, schema: &Schema, numbers: &str, line: &str) {
+    let around = line.split_once('#').expect(rt, "no mark");
+    for row in numbers.lines() {
+        check_number(rt, alloc, schema, row, around);
+    }
+}
+
 /// Asserts what is told of each line with each of the numbers in the place of its mark.
 fn check(rt: &impl Abort, alloc: Global, numbers: &str, lines: &str) {
     let schema = schema(rt, alloc);
     for line in lines.lines() {
-        let (front, back) = line.split_once('#').expect(rt, "no mark");
-        for row in numbers.lines() {
-            let (wanted, number) = row.split_once(' ').expect(rt, "no reason");
-            let line = format!(in alloc; "{front}{number}{back}").expect(rt, "refused");
-            tells(rt, alloc, &schema, wanted, line.as_str());
-        }
+        check_line(rt, alloc, &schema, numbers, line);
     }
 }
 
@@ -99,11 +111,16 @@ fn nodes_are_1_to_9(rt: HostRuntime) {
 }
 
 #[test]
-fn messages_and_moments_are_at_most_a_million_million(rt: HostRuntime) {
+fn messages_are_at_most_a_million_million(rt: HostRuntime) {
     let alloc = rt.alloc();
     let ends = "5 0\n0 1\n0 999999999999\n0 1000000000000\n5 1000000000001";
     check(&rt, alloc, ends, MESSAGES);
     check(&rt, alloc, OTHERS, MESSAGES);
+}
+
+#[test]
+fn moments_are_at_most_a_million_million(rt: HostRuntime) {
+    let alloc = rt.alloc();
     let moments = r#"{"do":"tick","node":1,"now":#}"#;
     let ends = "5 -1\n0 0\n0 1\n0 999999999999\n0 1000000000000\n5 1000000000001";
     check(&rt, alloc, ends, moments);
@@ -111,14 +128,24 @@ fn messages_and_moments_are_at_most_a_million_million(rt: HostRuntime) {
 }
 
 #[test]
-fn calls_and_deliveries_are_at_most_a_million(rt: HostRuntime) {
+fn deliveries_are_at_most_a_million(rt: HostRuntime) {
     let alloc = rt.alloc();
     let drains = r#"{"do":"drain","most":#}"#;
     check(&rt, alloc, "5 0\n0 1\n0 1000000\n5 1000001", drains);
     check(&rt, alloc, OTHERS, drains);
+}
+
+#[test]
+fn calls_are_at_most_a_million(rt: HostRuntime) {
+    let alloc = rt.alloc();
     let calls = r#"{"do":"fuse","node":1,"calls":#,"image":0}"#;
     check(&rt, alloc, "5 -1\n0 0\n0 1000000\n5 1000001", calls);
     check(&rt, alloc, OTHERS, calls);
+}
+
+#[test]
+fn images_are_at_most_two(rt: HostRuntime) {
+    let alloc = rt.alloc();
     let images = r#"{"do":"fuse","node":1,"calls":0,"image":#,"device":"log"}"#;
     check(&rt, alloc, "5 -1\n0 0\n0 1\n0 2\n5 3\n5 256", images);
     check(&rt, alloc, OTHERS, images);

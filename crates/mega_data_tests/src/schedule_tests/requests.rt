@@ -1,6 +1,8 @@
 //! What lines of operations ask for: names by their numbers, and values by the kinds of their places.
 
 use super::begins::begun;
+use std::alloc::Global;
+use std::process::Abort;
 
 /// Lines of operations, and behind an arrow what each asks for.
 const REQUESTS: &str =
@@ -27,13 +29,17 @@ const REQUESTS: &str =
 {"node":9,"do":"refresh"} => Refresh
  { "do" : "refresh", "node" : 2 } => Refresh"#;
 
+/// Asserts of a row, which is a line and a request, that the line asks for it.
+fn check_request(rt: &impl Abort, alloc: Global, row: &str) {
+    let (line, wanted) = row.split_once(" => ").expect(rt, "no arrow");
+    let (request, _text) = begun(rt, alloc, line);
+    let told = format!(in alloc; "{request:?}").expect(rt, "refused");
+    assert_eq!(rt; told.as_str(), wanted);
+}
+
 #[test]
 fn names_and_values_are_those_of_the_schema(rt: HostRuntime) {
-    let alloc = rt.alloc();
     for row in REQUESTS.lines() {
-        let (line, wanted) = row.split_once(" => ").expect(&rt, "no arrow");
-        let (request, _text) = begun(&rt, alloc, line);
-        let told = format!(in alloc; "{request:?}").expect(&rt, "refused");
-        assert_eq!(rt; told.as_str(), wanted);
+        check_request(&rt, rt.alloc(), row);
     }
 }

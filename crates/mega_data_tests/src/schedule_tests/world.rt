@@ -3,6 +3,9 @@
 use super::schema;
 use mega_disk::Device;
 use mega_schedule::{WorldEvent, event};
+use mega_schema::Schema;
+use std::alloc::Global;
+use std::process::Abort;
 
 /// Lines, and behind an arrow the numbers of their events; the device `data` is shown as 1.
 const EVENTS: &str = r#"{"do":"tick","node":9,"now":1000000000000} => tick [9, 1000000000000, 0, 0]
@@ -28,12 +31,12 @@ const EVENTS: &str = r#"{"do":"tick","node":9,"now":1000000000000} => tick [9, 1
 {"do":"fuse","node":2,"calls":5,"image":0,"device":"data"} => fuse [2, 5, 0, 1]
 {"image":2,"device":"data","calls":1000000,"node":9,"do":"fuse"} => fuse [9, 1000000, 2, 1]"#;
 
-fn shown(event: WorldEvent) -> (&'static str, [u64; 4]) {
+fn shown(event: &WorldEvent) -> (&'static str, [u64; 4]) {
     match event {
-        WorldEvent::Tick { node, now } => ("tick", [u64::from(node.0), now, 0, 0]),
-        WorldEvent::Deliver { message } => ("deliver", [message, 0, 0, 0]),
-        WorldEvent::Drop { message } => ("drop", [message, 0, 0, 0]),
-        WorldEvent::Drain { most } => ("drain", [most, 0, 0, 0]),
+        WorldEvent::Tick { node, now } => ("tick", [u64::from(node.0), *now, 0, 0]),
+        WorldEvent::Deliver { message } => ("deliver", [*message, 0, 0, 0]),
+        WorldEvent::Drop { message } => ("drop", [*message, 0, 0, 0]),
+        WorldEvent::Drain { most } => ("drain", [*most, 0, 0, 0]),
         WorldEvent::Crash { node } => ("crash", [u64::from(node.0), 0, 0, 0]),
         WorldEvent::Start { node } => ("start", [u64::from(node.0), 0, 0, 0]),
         WorldEvent::Fuse {
@@ -45,9 +48,9 @@ fn shown(event: WorldEvent) -> (&'static str, [u64; 4]) {
             "fuse",
             [
                 u64::from(node.0),
-                calls,
-                u64::from(image),
-                u64::from(device == Device::Data),
+                *calls,
+                u64::from(*image),
+                u64::from(*device == Device::Data),
             ],
         ),
         WorldEvent::Begin {
@@ -58,16 +61,19 @@ fn shown(event: WorldEvent) -> (&'static str, [u64; 4]) {
     }
 }
 
+/// Asserts of a row, which is a line and the numbers of an event, that the line tells them.
+fn check_event(rt: &impl Abort, alloc: Global, schema: &Schema, row: &str) {
+    let (line, wanted) = row.split_once(" => ").expect(rt, "no arrow");
+    let event = event(alloc, line.as_bytes(), 1, schema).expect(rt, "refused");
+    let (word, numbers) = shown(&event);
+    let told = format!(in alloc; "{word} {numbers:?}").expect(rt, "refused");
+    assert_eq!(rt; told.as_str(), wanted);
+}
+
 #[test]
 fn numbers_and_words_are_those_of_the_line(rt: HostRuntime) {
-    let alloc = rt.alloc();
-    let schema = schema(&rt, alloc);
+    let schema = schema(&rt, rt.alloc());
     for row in EVENTS.lines() {
-        let (line, wanted) = row.split_once(" => ").expect(&rt, "no arrow");
-        let (word, numbers) = shown(event(alloc, line.as_bytes(), 1, &schema).expect(
-            &rt, "refused",
-        ));
-        let told = format!(in alloc; "{word} {numbers:?}").expect(&rt, "refused");
-        assert_eq!(rt; told.as_str(), wanted);
+        check_event(&rt, rt.alloc(), &schema, row);
     }
 }
