@@ -1,63 +1,51 @@
 //! A voter's logs over a store in two areas.
-ghost use Rattle.std.specs.Prelude.{◌≡◌, [], IfOk, OnOk};
+ghost use Rattle.std.specs.Prelude.{◌≡◌, []};
 ghost use Rattle.mega_wal.specs.Compaction.{IsOfFormat};
 
-use crate::device::records_on;
+use crate::device::{check_only, opened, records_on, same};
 use mega_checkpoint::Checkpoint;
-use mega_disk::{MemDisk, RecordError};
-use mega_wal::{LogFault, Logs};
+use mega_disk::MemDisk;
+use mega_wal::Logs;
 use std::alloc::Global;
-use std::test::Fail;
+use std::process::Abort;
 
-fn fresh(alloc: Global) -> Result<Checkpoint<MemDisk>, RecordError> {
-    match Checkpoint::open(alloc, MemDisk::new(alloc)) {
-        Ok(store) => Ok(store),
-        Err((error, _)) => Err(error),
-    }
-}
-
-/// Logs over a store.
-fn opened(alloc: Global, store: Checkpoint<MemDisk>) -> Result<Logs<Checkpoint<MemDisk>>, LogFault>
-    ensures staged { IfOk result (λ logs. logs.staged.items ≡ []) }
-    ensures format { IfOk result (λ logs. IsOfFormat logs.kept) }
+/// Logs over a new store.
+fn logs(rt: &impl Abort, alloc: Global) -> Logs<Checkpoint<MemDisk>>
+    ensures staged { result.staged.items ≡ [] }
+    ensures format { IsOfFormat result.kept }
 {
+    let store = opened(rt, alloc, MemDisk::new(alloc));
     match Logs::open(alloc, store) {
-        Ok(logs) => Ok(logs),
-        Err((fault, _)) => Err(fault),
+        Ok(logs) => logs,
+        Err((fault, _)) => panic!(rt; "refused: {fault:?}"),
     }
 }
 
 /// Starts once more, and makes a record of it.
-fn start(alloc: Global, logs: &mut Logs<Checkpoint<MemDisk>>) -> Result<(), LogFault>
+fn start(rt: &impl Abort, alloc: Global, logs: &mut Logs<Checkpoint<MemDisk>>)
     requires staged { logs.old.staged.items ≡ [] }
     requires format { IsOfFormat logs.old.kept }
-    ensures staged { OnOk result (logs.new.staged.items ≡ []) }
-    ensures format { OnOk result (IsOfFormat logs.new.kept) }
+    ensures staged { logs.new.staged.items ≡ [] }
+    ensures format { IsOfFormat logs.new.kept }
 {
     if logs.starts() == u32::MAX {
-        return Ok(());
+        panic!(rt; "too many starts");
     }
-    logs.begin(alloc)?;
-    logs.flush(alloc)?;
-    Ok(())
+    logs.begin(alloc).expect(rt, "refused");
+    logs.flush(alloc).expect(rt, "refused");
 }
 
 #[test]
-fn many_starts_become_one_record(rt: HostRuntime) -> Result<(), Fail> {
+fn many_starts_become_one_record(rt: HostRuntime) {
     let alloc = rt.alloc();
-    let mut logs = opened(alloc, fresh(alloc)?)?;
+    let mut logs = logs(&rt, alloc);
     for _ in 0..4096 {
-        start(alloc, &mut logs)?;
+        start(&rt, alloc, &mut logs);
     }
-    assert!(rt; logs.due());
-    logs.compact(alloc)?;
-    assert_eq!(rt; logs.starts(), 4096);
-    assert!(rt; !logs.due());
-    let found = records_on(alloc, &mut logs.close().close())?;
-    assert_eq!(rt; found.len(), 1);
-    assert_eq!(rt;
-        found[0].as_slice(),
-        [0, 0, 0, 1, 7, 0, 0, 0x10, 0].as_slice()
-    );
-    Ok(())
+    same(&rt, logs.due(), true);
+    logs.compact(alloc).expect(&rt, "refused");
+    same(&rt, logs.starts(), 4096);
+    same(&rt, logs.due(), false);
+    let found = records_on(&rt, alloc, &mut logs.close().close());
+    check_only(&rt, found.as_slice(), &[0, 0, 0, 1, 7, 0, 0, 0x10, 0]);
 }
