@@ -19,7 +19,8 @@ use Rattle.mega_node_laws.specs.Acted.{acted_on, or_settled, own_item}
 use Rattle.mega_node_laws.specs.Asking.{Asks}
 use Rattle.mega_node_laws.specs.Deciding.{IsNoDecision, SameLogs}
 use Rattle.mega_node_laws.specs.Sending.{IsUnmade}
-use Rattle.mega_node_laws.proofs.Acting.{hears_message_asks}
+use Rattle.mega_node_laws.proofs.Acting.{asks_act}
+use Rattle.mega_node_laws.proofs.Walk.{all_heard_hold}
 use Rattle.mega_node_laws.proofs.Lasting.{IsHeard, Lasts, all_act_it, all_ticked_it, begun_it}
 use Rattle.mega_node_laws.proofs.Logs.{same_after, same_self}
 use Rattle.mega_node_laws.proofs.Within.{ask_lasts}
@@ -128,10 +129,7 @@ taken_logs s node m told ts d reply told_news heard =
     now = all_act s (at_first base (stored_after s base node.stored d)) ts
 
 pub all_heard : (s : Setting) (clock : ℕ) (m : Message) (os : List Operation) → All (IsHeard ⊥) (map (hears_message s clock m) os)
-all_heard s clock m [] = All-nil (IsHeard ⊥)
-all_heard s clock m (o ∷ os) =
-    All-cons (IsHeard ⊥) (hears_message s clock m o) (map (hears_message s clock m) os)
-    (record { sends = hears_message_asks s clock m o; about = λ impossible. absurd impossible }) (all_heard s clock m os)
+all_heard s clock m os = all_heard_hold Asks s (asks_act s) clock m os
 
 -- a message is taken with the decision that it tells, or with what an operation settled by it
 abbrev pub taken_by : Setting → Node → Message → List Heard → Option Decision → Step

@@ -5,6 +5,7 @@ pub mod Applied
 pub mod Rounds
 pub mod Reading
 pub mod Acting
+pub mod Walk
 pub mod Lasting
 pub mod Within
 pub mod Told

@@ -1,4 +1,4 @@
-use Rattle.mega_node_laws.proofs.Lasting.{does_due_about, hears_message_about}
+use Rattle.mega_node_laws.proofs.Walk.{does_due_about, hears_message_about}
 use Rattle.mega_node_laws.proofs.Within.{acts_in_turn_about, begins_about, goes_on_about, ticked_about}
 use Rattle.mega_node_laws.proofs.laws.operations_stay_about_their_groups.Goals as goal
 
