@@ -1,7 +1,5 @@
-pub mod Rounds
-pub mod Reading
 pub mod Acting
-pub mod Lasting
 pub mod Telling
 pub mod Behind
 pub use Rattle.mega_run_laws.proofs as of_run_laws
+pub use Rattle.mega_node_laws.proofs as of_node_laws

@@ -8,7 +8,6 @@ use Rattle.mega_base.specs.declared.names.NodeId.{NodeId}
 use Rattle.mega_base.specs.declared.names.OpId.{OpId}
 use Rattle.mega_base.specs.declared.names.Position.{Position}
 use Rattle.mega_ballot.specs.declared.ballot.Ballot.{Ballot}
-use Rattle.mega_coordinator.specs.declared.answers.NotValid.{NotValid}
 use Rattle.mega_entry.specs.declared.content.Content.{Content}
 use Rattle.mega_locks.specs.declared.asked.Asked.{Asked}
 use Rattle.mega_locks.specs.declared.asked.Asked.TheVariants.{Granted as Grant, Renewed, Taken as TakenBy, Over}
@@ -27,35 +26,17 @@ use Rattle.mega_run_laws.specs.of_tape_laws.of_promises.of_rules.Coordinators.{a
 use Rattle.mega_run_laws.specs.of_tape_laws.of_promises.of_rules.Locks.{asked_for, held_answer, held_at, lock_answer}
 use Rattle.mega_run_laws.specs.of_tape_laws.of_promises.of_rules.Logs.{decided, top_of}
 use Rattle.mega_run_laws.specs.of_tape_laws.of_promises.of_rules.Members.{is_cell, is_full, is_voter}
-use Rattle.mega_run_laws.specs.of_tape_laws.of_promises.of_rules.Operations.{Node, Now, Operation, Setting}
-use Rattle.mega_run_laws.specs.of_tape_laws.of_promises.of_rules.Acting.{validated_by}
+use Rattle.mega_run_laws.specs.of_tape_laws.of_promises.of_rules.Operations.{Node, Now, Setting}
 use Rattle.mega_run_laws.specs.of_tape_laws.of_promises.of_rules.Replies.{answer_to, fetched, reply_message, reply_to, where_served}
 use Rattle.mega_run_laws.specs.of_tape_laws.of_promises.of_rules.Steps.{Begin, Decision, Event, Heard, Take, Tick, all_act, apply_notes, at_first, at_open, background, begin_step, decision_note, first_settled, hears_message, if_new, lapse_notes, lease_notes, new_operation, news, onto, op_of, portion_of, refusal, step, stored_after, take_step, taken, tick_step, ticked, told_decision, told_notes}
 use Rattle.mega_run_laws.specs.of_tape_laws.of_promises.of_rules.Voting.{acts, prepared, promise_body, vote_body, voted}
+use Rattle.mega_node_laws.proofs.Acting.{background_hold, news_hold}
 use Rattle.mega_node_laws.proofs.Ending.{taken_by}
+use Rattle.mega_node_laws.proofs.Walk.{AllSent, IsHeard, all_act_it, all_heard_hold, all_ticked_it, begun_it, sent_lasts}
 use Rattle.mega_run_laws.specs.of_tape_laws.Places.{In}
 use Rattle.mega_run_laws.proofs.Whole.{in_left}
 use Rattle.mega_lease_laws.specs.Questions.{Asks, is_question}
-use Rattle.mega_lease_laws.proofs.Acting.{Acquires, acquires_are, background_asks, hears_message_asks, news_ask}
-use Rattle.mega_lease_laws.proofs.Lasting.{IsHeard, Lasts, all_act_it, all_ticked_it, begun_it}
-
--- ---- all that operations send asks
-
-abbrev pub AllAsk : Now → Type 0
-AllAsk now = All Asks now.sends
-
-pub ask_lasts : Lasts AllAsk ⊥
-ask_lasts = record {
-  keeps_it = λ now o about h. h;
-  ends_it = λ now op answer h. h;
-  sends_it = λ now sends more h. All-append Asks now.sends sends h more;
-  stores_it = λ now stored h. h;
-  validates_it = λ now group p refusal h. validated now group p refusal h;
-}
-  where
-    validated : (now : Now) (group : GroupId) (p : ℕ) (refusal : Option NotValid) → AllAsk now → AllAsk (validated_by now group p refusal)
-    validated now group p None h = h
-    validated now group p (Some refusal) h = h
+use Rattle.mega_lease_laws.proofs.Acting.{Acquires, acquires_are, asks_act, asks_cover}
 
 -- ---- what is told of a group
 
@@ -135,16 +116,7 @@ pub rejoined : {X : Type 0} (a b c d e : List X) → (((a ++ b) ++ c) ++ d) ++ e
 rejoined [] b c d e = refl
 rejoined (x ∷ a) b c d e = ap (λ xs. x ∷ xs) (rejoined a b c d e)
 
-pub none : All Asks []
-none = All-nil Asks
-
-pub all_heard : (s : Setting) (clock : ℕ) (m : Message) (os : List Operation) → All (IsHeard ⊥) (map (hears_message s clock m) os)
-all_heard s clock m [] = All-nil (IsHeard ⊥)
-all_heard s clock m (o ∷ os) =
-    All-cons (IsHeard ⊥) (hears_message s clock m o) (map (hears_message s clock m) os)
-    (record { sends = hears_message_asks s clock m o; about = λ impossible. absurd impossible }) (all_heard s clock m os)
-
-taken_tells : (s : Setting) (node : Node) (m : Message) (ts : List Heard) (d : Option Decision) (told_news : List Message) → All (IsHeard ⊥) ts → All Asks told_news
+taken_tells : (s : Setting) (node : Node) (m : Message) (ts : List Heard) (d : Option Decision) (told_news : List Message) → All (IsHeard Asks ⊥) ts → All Asks told_news
     → All (Tells s.me (taken s node m (told_notes s node.met m.from m.body) ts d (reply_to s.cluster s.me node.met m) told_news).notes) (taken s node m (told_notes s node.met m.from m.body) ts d (reply_to s.cluster s.me node.met m) told_news).sends
 taken_tells s node m ts d told_news heard asks =
     All-append (Tells s.me notes) (reply_to s.cluster s.me node.met m ++ told_news) now.sends
@@ -152,7 +124,7 @@ taken_tells s node m ts d told_news heard asks =
     (subst (λ those. All (Tells s.me those) (reply_to s.cluster s.me node.met m)) (sym (rejoined told (decision_note d) applies now.valid now.answers))
     (reply_tells s.me told (((decision_note d ++ applies) ++ now.valid) ++ now.answers) m.from (answer_to s.cluster s.me node.met m.from m.body) (answer_tells s node.met m.from m.body)))
     (questions_tell s.me notes told_news asks))
-    (questions_tell s.me notes now.sends (all_act_it AllAsk ⊥ ask_lasts s ts (at_first base (stored_after s base node.stored d)) heard none))
+    (questions_tell s.me notes now.sends (all_act_it Asks (AllSent Asks) ⊥ (sent_lasts Asks) s (asks_act s) ts (at_first base (stored_after s base node.stored d)) heard (All-nil Asks)))
   where
     told : List Met
     told = told_notes s node.met m.from m.body
@@ -169,20 +141,20 @@ taken_tells s node m ts d told_news heard asks =
     notes : List Met
     notes = (((told ++ decision_note d) ++ applies) ++ now.valid) ++ now.answers
 
-taken_by_tells : (s : Setting) (node : Node) (m : Message) (ts : List Heard) (told : Option Decision) → All (IsHeard ⊥) ts → All (Tells s.me (taken_by s node m ts told).notes) (taken_by s node m ts told).sends
-taken_by_tells s node m ts (Some d) heard = taken_tells s node m ts (if_new node.met (Some d)) [] heard none
-taken_by_tells s node m ts None heard = taken_tells s node m ts (if_new node.met (first_settled ts)) (news s (if_new node.met (first_settled ts))) heard (news_ask s (if_new node.met (first_settled ts)))
+taken_by_tells : (s : Setting) (node : Node) (m : Message) (ts : List Heard) (told : Option Decision) → All (IsHeard Asks ⊥) ts → All (Tells s.me (taken_by s node m ts told).notes) (taken_by s node m ts told).sends
+taken_by_tells s node m ts (Some d) heard = taken_tells s node m ts (if_new node.met (Some d)) [] heard (All-nil Asks)
+taken_by_tells s node m ts None heard = taken_tells s node m ts (if_new node.met (first_settled ts)) (news s (if_new node.met (first_settled ts))) heard (news_hold Asks s (asks_act s) (if_new node.met (first_settled ts)))
 
 take_tells : (s : Setting) (node : Node) (m : Message) → All (Tells s.me (take_step s node m).notes) (take_step s node m).sends
-take_tells s node m = taken_by_tells s node m (map (hears_message s (clock_of node.met) m) node.open_operations) (told_decision m.body) (all_heard s (clock_of node.met) m node.open_operations)
+take_tells s node m = taken_by_tells s node m (map (hears_message s (clock_of node.met) m) node.open_operations) (told_decision m.body) (all_heard_hold Asks s (asks_act s) (clock_of node.met) m node.open_operations)
 
 tick_tells : (s : Setting) (node : Node) (now : ℕ) → All (Tells s.me (tick_step s node now).notes) (tick_step s node now).sends
 tick_tells s node now =
     All-append (Tells s.me notes) (acquires_at s.cluster s.me node.met now ++ acc.sends) (background s node.met now)
     (All-append (Tells s.me notes) (acquires_at s.cluster s.me node.met now) acc.sends
     (All-weaker (Acquires s.cluster s.me node.met now) (Tells s.me notes) (λ m a. subst (Tells s.me notes) (sym a.is) tt) (acquires_at s.cluster s.me node.met now) (acquires_are s.cluster s.me node.met now))
-    (questions_tell s.me notes acc.sends (all_ticked_it AllAsk ⊥ ask_lasts s now node.open_operations (at_first base (portion_of s node.met node.stored)) (λ impossible. absurd impossible) none)))
-    (questions_tell s.me notes (background s node.met now) (background_asks s node.met now))
+    (questions_tell s.me notes acc.sends (all_ticked_it Asks (AllSent Asks) ⊥ (sent_lasts Asks) s (asks_act s) (asks_cover s) now node.open_operations (at_first base (portion_of s node.met node.stored)) (λ impossible. absurd impossible) (All-nil Asks))))
+    (questions_tell s.me notes (background s node.met now) (background_hold Asks s (asks_act s) node.met now))
   where
     base : List Met
     base = onto (lapse_notes s node.met now) (onto (lease_notes s node.met now) (Ticks now ∷ node.met))
@@ -196,7 +168,7 @@ tick_tells s node now =
 begin_tells : (s : Setting) (node : Node) (request : Request) (text : List ℕ) → All (Tells s.me (begin_step s node request text).notes) (begin_step s node request text).sends
 begin_tells s node request text =
     questions_tell s.me (begin_step s node request text).notes (begin_step s node request text).sends
-    (begun_it AllAsk ⊥ ask_lasts s (at_open (at_first (Begins (op_of s node.met) text ∷ node.met) node.stored) node.open_operations) (new_operation (op_of s node.met) request (clock_of node.met)) (refusal s node request) none)
+    (begun_it Asks (AllSent Asks) ⊥ (sent_lasts Asks) s (asks_act s) (at_open (at_first (Begins (op_of s node.met) text ∷ node.met) node.stored) node.open_operations) (new_operation (op_of s node.met) request (clock_of node.met)) (refusal s node request) (All-nil Asks))
 
 pub step_tells : (s : Setting) (node : Node) (event : Event) → All (Tells s.me (step s node event).notes) (step s node event).sends
 step_tells s node (Tick now) = tick_tells s node now

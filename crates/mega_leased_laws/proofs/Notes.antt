@@ -1,7 +1,7 @@
 -- A step of a node: what it notes first, and where each message that it sends comes from.
 use Rattle.std.proofs.Common.{◌≡◌, ◌⊎◌, inl, inr, ℕ, Bool, true, false, cond, List, [], ◌∷◌, ◌++◌, map, flat_map, fold, nat_lt, Option, Some, None, refl, ap}
 use Rattle.std.specs.List.{All}
-use Rattle.std.proofs.lemmas.List.Elements.{All-head, All-tail}
+use Rattle.std.proofs.lemmas.List.Elements.{All-nil}
 use Rattle.mega_base.specs.declared.names.GroupId.{GroupId}
 use Rattle.mega_coordinator.specs.declared.answers.NotValid.{NotValid}
 use Rattle.mega_wire.specs.declared.message.Message.{Message}
@@ -19,9 +19,11 @@ use Rattle.mega_lease_laws.specs.of_run_laws.Justified.{Each}
 use Rattle.mega_lease_laws.proofs.of_run_laws.Noting.{Lasts, all_act_it, begun_it, ticked_it}
 use Rattle.mega_valid_laws.proofs.of_settled_laws.Tapes.{each_both}
 use Rattle.mega_lease_laws.specs.Questions.{Asks}
-use Rattle.mega_lease_laws.proofs.Acting.{Acquires, acquires_are, background_asks, news_ask}
-use Rattle.mega_lease_laws.proofs.Lasting.{IsHeard, all_act_it as all_ask, all_ticked_it as all_ticked_ask, begun_it as begun_ask}
-use Rattle.mega_lease_laws.proofs.Telling.{AllAsk, all_heard, ask_lasts, none, rejoined}
+use Rattle.mega_lease_laws.proofs.of_node_laws.Acting.{background_hold, news_hold}
+use Rattle.mega_lease_laws.proofs.of_node_laws.Walk.{AllSent, IsHeard, all_act_it as all_ask, all_heard_hold, all_ticked_it as all_ticked_ask, begun_it as begun_ask, sent_lasts}
+use Rattle.mega_lease_laws.proofs.Acting.{Acquires, acquires_are, asks_act, asks_cover}
+use Rattle.mega_lease_laws.proofs.Telling.{rejoined}
+use Rattle.mega_leased_laws.proofs.Tapes.{each_all}
 
 -- ---- notes
 
@@ -164,10 +166,6 @@ Origin s met (Take q) m = Asks m ⊎ Replied s met q m
 Origin s met (Tick now) m = Asks m ⊎ Acquires s.cluster s.me met now m
 Origin s met (Begin request text) m = Asks m ⊎ ⊥
 
-each_all : {X : Type 0} (P Q : X → Type 0) → ((x : X) → P x → Q x) → (xs : List X) → All P xs → Each Q xs
-each_all P Q f [] h = tt
-each_all P Q f (x ∷ xs) h = (f x (All-head P x xs h), each_all P Q f xs (All-tail P x xs h))
-
 reply_origin : (s : Setting) (met : List Met) (q : Message) (o : Option Body) → answer_to s.cluster s.me met q.from q.body ≡ o → Each (Origin s met (Take q)) (reply_message s.me q.from o)
 reply_origin s met q None is = tt
 reply_origin s met q (Some body) is = (inr (record { from = refl; to = refl; body = is }), tt)
@@ -178,12 +176,12 @@ module _ (s : Setting) (node : Node) where
   asks_origin (Tick now) ms h = each_all Asks (Origin s node.met (Tick now)) (λ m a. inl a) ms h
   asks_origin (Begin request text) ms h = each_all Asks (Origin s node.met (Begin request text)) (λ m a. inl a) ms h
 
-  taken_origins : (m : Message) (ts : List Heard) (d : Option Decision) (told_news : List Message) → All (IsHeard ⊥) ts → All Asks told_news
+  taken_origins : (m : Message) (ts : List Heard) (d : Option Decision) (told_news : List Message) → All (IsHeard Asks ⊥) ts → All Asks told_news
       → Each (Origin s node.met (Take m)) (taken s node m (told_notes s node.met m.from m.body) ts d (reply_to s.cluster s.me node.met m) told_news).sends
   taken_origins m ts d told_news heard news_asks =
       each_both (Origin s node.met (Take m)) (reply_to s.cluster s.me node.met m ++ told_news) now.sends
       (each_both (Origin s node.met (Take m)) (reply_to s.cluster s.me node.met m) told_news (reply_origin s node.met m (answer_to s.cluster s.me node.met m.from m.body) refl) (asks_origin (Take m) told_news news_asks))
-      (asks_origin (Take m) now.sends (all_ask AllAsk ⊥ ask_lasts s ts (at_first base (stored_after s base node.stored d)) heard none))
+      (asks_origin (Take m) now.sends (all_ask Asks (AllSent Asks) ⊥ (sent_lasts Asks) s (asks_act s) ts (at_first base (stored_after s base node.stored d)) heard (All-nil Asks)))
     where
       base : List Met
       base = onto (decision_note d) (onto (told_notes s node.met m.from m.body) (Takes m ∷ node.met))
@@ -198,14 +196,14 @@ module _ (s : Setting) (node : Node) where
       ts = map (hears_message s (clock_of node.met) m) node.open_operations
 
       by : (told : Option Decision) → Each (Origin s node.met (Take m)) (take_by s node m ts told).sends
-      by (Some d) = taken_origins m ts (if_new node.met (Some d)) [] (all_heard s (clock_of node.met) m node.open_operations) none
-      by None = taken_origins m ts (if_new node.met (first_settled ts)) (news s (if_new node.met (first_settled ts))) (all_heard s (clock_of node.met) m node.open_operations) (news_ask s (if_new node.met (first_settled ts)))
+      by (Some d) = taken_origins m ts (if_new node.met (Some d)) [] (all_heard_hold Asks s (asks_act s) (clock_of node.met) m node.open_operations) (All-nil Asks)
+      by None = taken_origins m ts (if_new node.met (first_settled ts)) (news s (if_new node.met (first_settled ts))) (all_heard_hold Asks s (asks_act s) (clock_of node.met) m node.open_operations) (news_hold Asks s (asks_act s) (if_new node.met (first_settled ts)))
   step_origins (Tick clock) =
       each_both (Origin s node.met (Tick clock)) (acquires_at s.cluster s.me node.met clock ++ now.sends) (background s node.met clock)
       (each_both (Origin s node.met (Tick clock)) (acquires_at s.cluster s.me node.met clock) now.sends
       (each_all (Acquires s.cluster s.me node.met clock) (Origin s node.met (Tick clock)) (λ m a. inr a) (acquires_at s.cluster s.me node.met clock) (acquires_are s.cluster s.me node.met clock))
-      (asks_origin (Tick clock) now.sends (all_ticked_ask AllAsk ⊥ ask_lasts s clock node.open_operations (at_first base (portion_of s node.met node.stored)) (λ impossible. absurd impossible) none)))
-      (asks_origin (Tick clock) (background s node.met clock) (background_asks s node.met clock))
+      (asks_origin (Tick clock) now.sends (all_ticked_ask Asks (AllSent Asks) ⊥ (sent_lasts Asks) s (asks_act s) (asks_cover s) clock node.open_operations (at_first base (portion_of s node.met node.stored)) (λ impossible. absurd impossible) (All-nil Asks))))
+      (asks_origin (Tick clock) (background s node.met clock) (background_hold Asks s (asks_act s) node.met clock))
     where
       base : List Met
       base = onto (lapse_notes s node.met clock) (onto (lease_notes s node.met clock) (Ticks clock ∷ node.met))
@@ -213,4 +211,4 @@ module _ (s : Setting) (node : Node) where
       now : Now
       now = fold (ticked s clock) (at_first base (portion_of s node.met node.stored)) node.open_operations
   step_origins (Begin request text) = asks_origin (Begin request text) (step s node (Begin request text)).sends
-      (begun_ask AllAsk ⊥ ask_lasts s (at_open (at_first (Begins (op_of s node.met) text ∷ node.met) node.stored) node.open_operations) (new_operation (op_of s node.met) request (clock_of node.met)) (refusal s node request) none)
+      (begun_ask Asks (AllSent Asks) ⊥ (sent_lasts Asks) s (asks_act s) (at_open (at_first (Begins (op_of s node.met) text ∷ node.met) node.stored) node.open_operations) (new_operation (op_of s node.met) request (clock_of node.met)) (refusal s node request) (All-nil Asks))

@@ -1,5 +1,7 @@
 -- What holds of each item of a tape, as items and messages come onto it.
 use Rattle.std.proofs.Common.{ℕ, ◌+◌, ◌&&◌, Bool, true, false, not, cond, List, [], ◌∷◌, ◌++◌, flat_map}
+use Rattle.std.specs.List.{All}
+use Rattle.std.proofs.lemmas.List.Elements.{All-head, All-tail}
 use Rattle.mega_cluster.specs.declared.cluster.Cluster.{Cluster}
 use Rattle.mega_wire.specs.declared.message.Message.{Message}
 use Rattle.mega_lease_laws.specs.of_run_laws.of_tape_laws.of_promises.of_transcript.declared.item.Item.{Item}
@@ -12,6 +14,10 @@ use Rattle.mega_lease_laws.specs.of_run_laws.of_tape_laws.of_promises.of_rules.O
 use Rattle.mega_lease_laws.specs.of_run_laws.Justified.{Each, sent}
 use Rattle.mega_valid_laws.proofs.of_settled_laws.Tapes.{each_both}
 use Rattle.mega_leased_laws.specs.Items.{Are}
+
+pub each_all : {X : Type 0} (P Q : X → Type 0) → ((x : X) → P x → Q x) → (xs : List X) → All P xs → Each Q xs
+each_all P Q f [] h = tt
+each_all P Q f (x ∷ xs) h = (f x (All-head P x xs h), each_all P Q f xs (All-tail P x xs h))
 
 module _ (P : List Item → Item → Type 0) (unsafe : (t : List Item) → P t Unsafe) (c : Cluster) (nodes : ℕ → Node) where
   -- each item is allowed as it comes
