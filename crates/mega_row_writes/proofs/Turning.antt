@@ -1,4 +1,4 @@
--- The local index writes turn the entries of the old row into those of the new one.
+-- The writes turn the old rows into the new ones.
 use Rattle.std.proofs.Common.{◌≡◌, ◌∙◌, ap, sym, subst, refl, ℕ, Bool, true, false, cond, List, [], ◌∷◌, ◌++◌}
 use Rattle.std.specs.Prelude.{Option, Some, None, is_none}
 use Rattle.std.specs.Bool.{Decides}
@@ -7,9 +7,9 @@ use Rattle.std.proofs.lemmas.Slice.Eq.{bytes_eq-Decides}
 use Rattle.std.proofs.lemmas.List.Sums.{fold-append}
 use Rattle.mega_base.specs.declared.values.Row.{Row}
 use Rattle.mega_entry.specs.declared.content.Write.{Write}
-use Rattle.mega_index.specs.Rows.{Rows, Listed, same_key, changed, written, row_under}
-use Rattle.mega_index.specs.LocalWrites.{is_row, gone_one, gone, fresh_one, fresh, turned, Apart}
-use Rattle.mega_index.proofs.SameLemmas.{same_row-Decides}
+use Rattle.mega_row_writes.specs.Rows.{Rows, Listed, same_key, changed, written, row_under}
+use Rattle.mega_row_writes.specs.RowWrites.{is_row, gone_one, gone, fresh_one, fresh, turned, Apart}
+use Rattle.mega_row_writes.proofs.SameRows.{same_row-Decides}
 
 pub same_key-Decides : (a b : List ℕ) → Decides (same_key a b) (a ≡ b)
 same_key-Decides a b = subst (λ (r : Bool). Decides r (a ≡ b)) (sym (is_eq-slice_cmp a b)) (bytes_eq-Decides a b)
