@@ -2,7 +2,6 @@
 ghost use Rattle.std.specs.Prelude.{◌≡◌, ◌++◌, ℕ, List, map, flat_map, IfOk, OnOk};
 ghost use Rattle.mega_base.specs.declared.names.GroupId.{GroupId as Group};
 ghost use Rattle.mega_rules.specs.Met.{Met};
-ghost use Rattle.mega_rules.specs.Steps.{applied_at};
 ghost use Rattle.mega_replica.specs.Following.{progress_at};
 ghost use Rattle.mega_stepping.specs.Notes.{met_of};
 ghost use Rattle.mega_keeping.specs.Behind.{Keeps};
