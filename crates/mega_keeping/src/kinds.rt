@@ -1,7 +1,7 @@
 //! What each kind of node does in its cluster (CIDR 2011, replica types): who votes, who keeps rows, and which requests it serves.
 ghost use Rattle.std.specs.Prelude.{◌≡◌};
-ghost use Rattle.mega_rules.specs.Members.{has_rows, is_node, is_voter, keeps_rows, kind_of, votes};
-ghost use Rattle.mega_rules.specs.Steps.{is_current, missing_kind, needs_full};
+ghost use Rattle.mega_voter.specs.of_rules.Members.{has_rows, is_node, is_voter, keeps_rows, kind_of, votes};
+ghost use Rattle.mega_voter.specs.of_rules.Steps.{is_current, missing_kind, needs_full};
 
 use mega_base::NodeKind;
 use mega_cluster::Cluster;

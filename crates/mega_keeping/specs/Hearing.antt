@@ -1,9 +1,9 @@
 -- Which operation a message is for.
 use Rattle.std.specs.Prelude.{Bool, false, Option, Some, None}
 use Rattle.mega_base.specs.declared.names.OpId.{OpId}
-use Rattle.mega_wire.specs.declared.message.Body.{Body}
-use Rattle.mega_wire.specs.declared.message.Body.TheVariants.{Top, Accept, Accepted, Refused, Prepare, Promise, Invalidated, Unheld, HaveNot}
-use Rattle.mega_wal.specs.Same.{same_op}
+use Rattle.mega_propose.specs.of_wire.declared.message.Body.{Body}
+use Rattle.mega_propose.specs.of_wire.declared.message.Body.TheVariants.{Top, Accept, Accepted, Refused, Prepare, Promise, Invalidated, Unheld, HaveNot}
+use Rattle.mega_propose.specs.of_wal.Same.{same_op}
 
 -- the operation of which a message says something to the node that takes it
 abbrev pub op_in : Body → Option OpId

@@ -1,9 +1,9 @@
 use Rattle.std.proofs.Common.{◌∷◌, subst, sym}
-use Rattle.mega_proposing.specs.of_leases.declared.note.Note.{Note}
-use Rattle.mega_proposing.specs.of_leases.Notes.{met_of}
-use Rattle.mega_stepping.specs.Staging.{Stages}
-use Rattle.mega_stepping.proofs.Staged.{on_ok}
-use Rattle.mega_stepping.proofs.keeping.keep_note.Goals as goal
+use Rattle.mega_leases.specs.declared.note.Note.{Note}
+use Rattle.mega_leases.specs.Notes.{met_of}
+use Rattle.mega_keeping.specs.Staging.{Stages}
+use Rattle.mega_keeping.proofs.Staged.{on_ok}
+use Rattle.mega_keeping.proofs.keeping.keep_note.Goals as goal
 
 pub returns-in-Grants-clause-staged : goal.returns-in-Grants-clause-staged
 returns-in-Grants-clause-staged g c = on_ok c.keep_grant.result c.keep_grant.ensures.staged (λ more before met stages.

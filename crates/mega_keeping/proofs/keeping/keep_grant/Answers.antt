@@ -1,9 +1,9 @@
 use Rattle.std.proofs.Common.{◌∷◌, List, subst, sym}
-use Rattle.mega_wal.specs.declared.item.JournalItem.{JournalItem}
-use Rattle.mega_rules.specs.Met.{Grants}
-use Rattle.mega_stepping.specs.Staging.{Stages}
-use Rattle.mega_stepping.proofs.Staged.{granting_staged}
-use Rattle.mega_stepping.proofs.keeping.keep_grant.Goals as goal
+use Rattle.mega_propose.specs.of_wal.declared.item.JournalItem.{JournalItem}
+use Rattle.mega_voter.specs.of_rules.Met.{Grants}
+use Rattle.mega_keeping.specs.Staging.{Stages}
+use Rattle.mega_keeping.proofs.Staged.{granting_staged}
+use Rattle.mega_keeping.proofs.keeping.keep_grant.Goals as goal
 
 pub returns-in-Ok-clause-staged : goal.returns-in-Ok-clause-staged
 returns-in-Ok-clause-staged g c = λ before met stages.

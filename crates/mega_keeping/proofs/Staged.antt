@@ -1,25 +1,19 @@
 -- What is staged, one thing that is met after another.
-use Rattle.std.proofs.Common.{◌≡◌, ℕ, List, [], ◌∷◌, ◌++◌, map, append-nil, Some, None, refl, sym, ap, subst, ◌∙◌}
+use Rattle.std.proofs.Common.{◌≡◌, ℕ, List, [], ◌∷◌, ◌++◌, append-nil, Some, None, refl, sym, ap, subst, ◌∙◌}
 use Rattle.std.specs.Prelude.{reverse, Result, Ok, Err, OnOk}
 use Rattle.std.specs.List.{cons_option}
 use Rattle.std.proofs.lemmas.List.{reverse-append}
 use Rattle.mega_base.specs.declared.names.Epoch.{Epoch}
 use Rattle.mega_base.specs.declared.names.GroupId.{GroupId}
 use Rattle.mega_entry.specs.declared.content.Content.{Content}
-use Rattle.mega_wire.specs.declared.message.Body.{Body}
-use Rattle.mega_wire.specs.declared.message.Body.TheVariants.{Accepted, Promise as PromiseBody}
-use Rattle.mega_wire.specs.declared.message.Message.{Message}
-use Rattle.mega_wal.specs.declared.item.JournalItem.{JournalItem}
-use Rattle.mega_wal.specs.declared.item.JournalItem.TheVariants.{Start, Promise, Accept, Decide, Grant, Lapse, Starts as Counted}
-use Rattle.mega_wal.specs.declared.kept.Kept.{Kept}
-use Rattle.mega_rules.specs.Met.{Met, Decides, Grants, Lapses, Sends}
-use Rattle.mega_rules.specs.Steps.{onto}
-use Rattle.mega_proposing.specs.of_voter.Journal.{item_of, items_in, journal_of, without_starts}
-use Rattle.mega_proposing.specs.of_voter.Telling.{IsAnswer, Tells}
-use Rattle.mega_node_laws.specs.Sending.{MaySend}
-use Rattle.mega_proposing.specs.of_leases.declared.note.Note.{Note}
-use Rattle.mega_proposing.specs.of_leases.Notes.{met_of}
-use Rattle.mega_stepping.specs.Staging.{Stages}
+use Rattle.mega_propose.specs.of_wire.declared.message.Body.{Body}
+use Rattle.mega_propose.specs.of_wire.declared.message.Body.TheVariants.{Accepted, Promise as PromiseBody}
+use Rattle.mega_propose.specs.of_wire.declared.message.Message.{Message}
+use Rattle.mega_propose.specs.of_wal.declared.item.JournalItem.{JournalItem}
+use Rattle.mega_propose.specs.of_wal.declared.item.JournalItem.TheVariants.{Start, Promise, Accept, Decide, Grant, Lapse, Starts as Counted}
+use Rattle.mega_voter.specs.of_rules.Met.{Met, Decides, Grants, Lapses, Sends}
+use Rattle.mega_voter.specs.Journal.{item_of, items_in, journal_of, without_starts}
+use Rattle.mega_keeping.specs.Staging.{Stages}
 
 -- a fact of what a call leaves at Ok leads to another
 pub on_ok : {T E X Y : Type 0} (result : Result T E) → OnOk result X → (X → Y) → OnOk result Y
@@ -67,41 +61,3 @@ sending_staged staged before met message h = by message.body
     by (PromiseBody op group position ballot report) = item_staged staged before met (Sends (record message { body = PromiseBody op group position ballot report })) (Promise group position ballot) refl refl h
     by (Accepted op group position ballot entry) = item_staged staged before met (Sends (record message { body = Accepted op group position ballot entry })) (Accept group position ballot entry) refl refl h
     by body = subst (λ (items : List JournalItem). Stages items before (Sends (record message { body = body }) ∷ met)) (sym (append-nil staged)) (silent_staged staged before met (Sends (record message { body = body })) refl h)
-
--- ---- loops over what is noted and sent
--- what was met so far, which is staged, and to which the rest leads
-pub record StagedSo (staged : List JournalItem) (before : List Met) (left : List Note) (all : List Met) : Type 0 where
-  pub now : List Met
-  pub stages : Stages staged before now
-  pub leads : onto (map met_of left) now ≡ all
-
-pub staged_first : (staged : List JournalItem) (before : List Met) (notes : List Note) (met : List Met) → Stages staged before met → StagedSo staged before notes (onto (map met_of notes) met)
-staged_first staged before notes met stages = record { now = met; stages = stages; leads = refl }
-
-pub staged_next : (staged after : List JournalItem) (before : List Met) (one : Note) (left : List Note) (all : List Met)
-    → ((before met : List Met) → Stages staged before met → Stages after before (met_of one ∷ met)) → StagedSo staged before (one ∷ left) all → StagedSo after before left all
-staged_next staged after before one left all more so = record { now = met_of one ∷ so.now; stages = more before so.now so.stages; leads = so.leads }
-
--- so of messages, which their node may send
-pub record StagedSent (kept : Kept) (staged : List JournalItem) (before : List Met) (left : List Message) (all : List Met) : Type 0 where
-  pub now : List Met
-  pub tells : Tells kept now
-  pub may : MaySend now left
-  pub stages : Stages staged before now
-  pub leads : onto (map Sends left) now ≡ all
-
-pub sent_staged_first : (kept : Kept) (staged : List JournalItem) (before : List Met) (sends : List Message) (met : List Met) → MaySend met sends → Tells kept met → Stages staged before met
-    → StagedSent kept staged before sends (onto (map Sends sends) met)
-sent_staged_first kept staged before sends met may tells stages = record { now = met; tells = tells; may = may; stages = stages; leads = refl }
-
-pub sent_staged_next : (kept kept2 : Kept) (staged after : List JournalItem) (before : List Met) (m : Message) (left : List Message) (all : List Met)
-    → ((met : List Met) → IsAnswer met m.body → Tells kept met → Tells kept2 (Sends m ∷ met))
-    → ((before met : List Met) → IsAnswer met m.body → Tells kept met → Stages staged before met → Stages after before (Sends m ∷ met))
-    → StagedSent kept staged before (m ∷ left) all → StagedSent kept2 after before left all
-sent_staged_next kept kept2 staged after before m left all told more so = record {
-  now = Sends m ∷ so.now;
-  tells = told so.now so.may.0 so.tells;
-  may = so.may.1;
-  stages = more before so.now so.may.0 so.tells so.stages;
-  leads = so.leads;
-}
