@@ -10,6 +10,7 @@ use Rattle.mega_tally.specs.declared.tally.Tally.{Tally}
 use Rattle.mega_transcript.specs.Tape.{newest}
 use Rattle.mega_heading.specs.Parts.{lines_behind, text_before}
 use Rattle.mega_replaying.specs.Headings.{heading_of}
+use Rattle.mega_happening.specs.Refusals.{IsPastLast, IsRefused}
 use Rattle.mega_happening.specs.Running.{Replayed, stood}
 use Rattle.mega_writing.specs.Texts.{IsTallied, in_all, so_far}
 use Rattle.mega_writing.specs.LastLines.{header_line, refused_line, schedule_line, limit_line}

@@ -7,8 +7,8 @@ ghost use Rattle.mega_happening.specs.Running.{StandsAfter, stood};
 ghost use Rattle.mega_writing.specs.Stops.{IsOpeningStop};
 
 use mega_cluster::Cluster;
-use mega_transcript::Tape;
 use mega_happening::mega_world::World;
+use mega_transcript::Tape;
 use mega_writing::Stop;
 use std::alloc::Global;
 

@@ -22,13 +22,13 @@ use crate::input::{Next, next_line};
 use crate::opening::opened;
 use mega_base::{Bytes, Items};
 use mega_cluster::Cluster;
+use mega_happening::mega_world::World;
 use mega_happening::take_line;
 use mega_io::{LineReader, Sink, Source};
 use mega_meanings::QueueHandlers;
 use mega_tally::Tally;
 use mega_transcript::Tape;
 use mega_words::Report;
-use mega_happening::mega_world::World;
 use mega_writing::{Stop, tell, write_end};
 use std::alloc::Global;
 

@@ -20,7 +20,12 @@ use std::alloc::Global;
 
 /// Replays the input with the handlers that the store brings, and gives the status with which the program then ends.
 #[tactic(auto, using(mega_meanings::proofs::Lasting::built_in_means))]
-pub fn replay_all<I: Source, O: Sink>(alloc: Global, report: Report, input: &mut I, out: &mut O) -> u8
+pub fn replay_all<I: Source, O: Sink>(
+    alloc: Global,
+    report: Report,
+    input: &mut I,
+    out: &mut O,
+) -> u8
     ensures done { result ≡ 0 → InputDone report (I.left input.old) (Appends (O.held out.old) (O.held out.new)) }
     ensures end { result ≡ 0 → IsAtEnd (I.left input.new) }
     ensures header { result ≡ 3 → (rule : ℕ) × InputBroken (I.left input.old) rule (λ text. Appends (O.held out.old) (O.held out.new) (text ++ header_line rule)) }
