@@ -1,5 +1,5 @@
 -- What the step of a node is over: each node of the rules that it stands for, and at which the event may happen.
-use Rattle.std.specs.Prelude.{ℕ, Bool, true, List, Option}
+use Rattle.std.specs.Prelude.{◌≡◌, ℕ, false, List, Option}
 use Rattle.mega_cluster.specs.declared.cluster.Cluster.{Cluster}
 use Rattle.mega_disk.specs.VersionMaps.{Versions}
 use Rattle.mega_handler.specs.Named.{Meaning, Meanings}
@@ -34,14 +34,18 @@ IsStrange (Take message) = IsByStranger message.from message.body
 IsStrange (Begin request text) = ⊥
 IsStrange (Tick now) = ⊥
 
--- what is taken grants a lease that would end at 2^64 or later
-abbrev pub IsTooLate : Cluster → Event → Type 0
-IsTooLate c (Take message) = IsLate c message.body
-IsTooLate c (Begin request text) = ⊥
-IsTooLate c (Tick now) = ⊥
+-- a node stands for none of the rules
+abbrev pub IsNone : (Meanings → RuleNode → Type 0) → Type 0
+IsNone StandsFor = (h : Meanings) (node : RuleNode) → StandsFor h node → ⊥
 
--- what begins is no batch of more than 16 transactions
-abbrev pub is_servable : Event → Bool
-is_servable (Take message) = true
-is_servable (Begin request text) = is_served request
-is_servable (Tick now) = true
+-- why a step is not served: what begins is a batch of more than 16 transactions; of any other event, that the node stands for none of the rules
+abbrev pub IsUnserved : (Meanings → RuleNode → Type 0) → Event → Type 0
+IsUnserved StandsFor (Take message) = IsNone StandsFor
+IsUnserved StandsFor (Begin request text) = is_served request ≡ false
+IsUnserved StandsFor (Tick now) = IsNone StandsFor
+
+-- why it is too late: what a node of the rules takes grants a lease that would end at 2^64 or later
+abbrev pub IsTooLate : (Meanings → RuleNode → Type 0) → Cluster → Event → Type 0
+IsTooLate StandsFor c (Take message) = (h : Meanings) (node : RuleNode) → StandsFor h node → IsLate c message.body
+IsTooLate StandsFor c (Begin request text) = ⊥
+IsTooLate StandsFor c (Tick now) = ⊥

@@ -17,7 +17,7 @@ ghost use Rattle.mega_stepping.specs.Notes.{met_of};
 ghost use Rattle.mega_core.specs.Served.{IsServed};
 ghost use Rattle.mega_stepping.specs.Staging.{Stages};
 ghost use Rattle.mega_core.specs.Standing.{StandsFor};
-ghost use Rattle.mega_core.specs.Stepping.{AtEach, IsStrange, IsTooLate, is_servable};
+ghost use Rattle.mega_core.specs.Stepping.{AtEach, IsStrange, IsTooLate, IsUnserved};
 ghost use Rattle.mega_stepping.specs.Events.{event_of};
 
 use crate::fault::StepFault;
@@ -221,9 +221,9 @@ impl<R: Records, V: Versions> Node<R, V> {
         ensures handlers { H.meant handlers.new ≡ H.meant handlers.old }
         ensures members { self.new.replica.members ≡ self.old.replica.members }
         ensures me { self.new.replica.me ≡ self.old.replica.me }
-        ensures unserved { result ≡ Err Unserved → (h : Meanings) (node : RuleNode) → StandsFor V.version h self.old node → is_servable (event_of event.entry) ≡ false }
+        ensures unserved { result ≡ Err Unserved → IsUnserved (λ h node. StandsFor V.version h self.old node) (event_of event.entry) }
         ensures stranger { result ≡ Err Stranger → IsStrange (event_of event.entry) }
-        ensures late { result ≡ Err Late → (h : Meanings) (node : RuleNode) → StandsFor V.version h self.old node → IsTooLate self.old.replica.members (event_of event.entry) }
+        ensures late { result ≡ Err Late → IsTooLate (λ h node. StandsFor V.version h self.old node) self.old.replica.members (event_of event.entry) }
         ensures used { StoreUsed V.Versions (failed_by result) self.old.replica.rows.rows self.new.replica.rows.rows }
     {
         match event {

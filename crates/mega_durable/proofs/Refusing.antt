@@ -6,13 +6,16 @@ use Rattle.mega_disk.specs.Images.{LeavesOnly}
 use Rattle.mega_disk.specs.declared.versions.Versions.{Ghosts as Rows}
 use Rattle.mega_replica.specs.Used.{StoreUsed}
 use Rattle.mega_replica.specs.declared.rows.StoredRows.{StoredRows}
+use Rattle.mega_cluster.specs.declared.cluster.Cluster.{Cluster}
+use Rattle.mega_handler.specs.Named.{Meanings}
+use Rattle.mega_core.specs.Stepping.{IsTooLate, IsUnserved}
 use Rattle.mega_core.specs.declared.fault.StepFault.{StepFault}
 use Rattle.mega_core.specs.of_stepping.declared.step.Step.{Step}
 use Rattle.mega_wal.specs.declared.answers.LogFault.{LogFault}
 use Rattle.mega_wal.specs.declared.answers.LogFault.TheVariants.{BadRecord, DiskFault, Full, NoMemory, Spent}
 use Rattle.mega_rules.specs.Met.{Met}
 use Rattle.mega_rules.specs.Operations.{Node as RuleNode, Setting}
-use Rattle.mega_rules.specs.Steps.{Event}
+use Rattle.mega_rules.specs.Steps.{Begin, Event, Take, Tick}
 use Rattle.mega_voter.specs.declared.voter.Voter.{Voter}
 use Rattle.mega_durable.specs.declared.fault.UpFault.{UpFault}
 use Rattle.mega_durable.specs.declared.fault.UpFault.TheVariants.{Step as Failed, Cut as CutOff, Log, Unformed}
@@ -30,6 +33,17 @@ cut_is NoMemory is = absurd (false≢true is)
 
 pub no_cut : (fault : LogFault) → is_cut fault ≡ false → fault ≢ DiskFault
 no_cut fault none is = false≢true (sym none ∙ ap is_cut is)
+
+-- what is refused of each node that is one of the rules is so of those among them that are up
+pub refused_above : {Was Is : Meanings → RuleNode → Type 0} (event : Event) → ((h : Meanings) (node : RuleNode) → Is h node → Was h node) → IsUnserved Was event → IsUnserved Is event
+refused_above (Take message) below refused = λ h node is. refused h node (below h node is)
+refused_above (Begin request text) below refused = refused
+refused_above (Tick now) below refused = λ h node is. refused h node (below h node is)
+
+pub late_above : {Was Is : Meanings → RuleNode → Type 0} {c : Cluster} (event : Event) → ((h : Meanings) (node : RuleNode) → Is h node → Was h node) → IsTooLate Was c event → IsTooLate Is c event
+late_above (Take message) below late = λ h node is. late h node (below h node is)
+late_above (Begin request text) below late = late
+late_above (Tick now) below late = late
 
 -- a step
 fault_of : LogFault → Option LogFault → LogFault

@@ -6,7 +6,7 @@ ghost use Rattle.mega_handler.specs.Named.{Meanings};
 ghost use Rattle.mega_rules.specs.Operations.{Node as RuleNode};
 ghost use Rattle.mega_rules.specs.Steps.{step};
 ghost use Rattle.mega_replica.specs.Used.{StoreUsed};
-ghost use Rattle.mega_core.specs.Stepping.{IsStrange, IsTooLate, is_servable};
+ghost use Rattle.mega_core.specs.Stepping.{IsStrange, IsTooLate, IsUnserved};
 ghost use Rattle.mega_core.specs.of_stepping.Events.{event_of};
 ghost use Rattle.mega_core.specs.declared.fault.StepFault.TheVariants.{Late, Stranger, Unserved};
 ghost use Rattle.mega_core.specs.of_stepping.Notes.{met_of};
@@ -56,9 +56,9 @@ impl<R: Records, V: Versions> Up<R, V> {
         // What a step stages is of the journal's format wherever its event may happen.
         ensures formed { V.is_told ≡ true → result ≡ Err Unformed → AtEach R.Records V.version (H.meant handlers.old) self.old.node (event_of event.entry) (λ h s node. ⊥) }
 
-        ensures unserved { result ≡ Err (Failed Unserved) → (h : Meanings) (node : RuleNode) → IsUp R.Records V.version h self.old.node node → is_servable (event_of event.entry) ≡ false }
+        ensures unserved { result ≡ Err (Failed Unserved) → IsUnserved (λ h node. IsUp R.Records V.version h self.old.node node) (event_of event.entry) }
         ensures stranger { result ≡ Err (Failed Stranger) → IsStrange (event_of event.entry) }
-        ensures late { result ≡ Err (Failed Late) → (h : Meanings) (node : RuleNode) → IsUp R.Records V.version h self.old.node node → IsTooLate self.old.node.replica.members (event_of event.entry) }
+        ensures late { result ≡ Err (Failed Late) → IsTooLate (λ h node. IsUp R.Records V.version h self.old.node node) self.old.node.replica.members (event_of event.entry) }
         ensures handlers { H.meant handlers.new ≡ H.meant handlers.old }
         ensures proceeds { LogProceeds R.Records (log_failed_by result) (records_in self.old.node) (records_in self.new.node) }
         ensures used { StoreUsed V.Versions (failed_by result) self.old.node.replica.rows.rows self.new.node.replica.rows.rows }

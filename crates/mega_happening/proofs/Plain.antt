@@ -26,7 +26,7 @@ use Rattle.mega_transcript.specs.declared.item.Item.{Item}
 use Rattle.mega_transcript.specs.declared.item.Item.TheVariants.{Start}
 use Rattle.mega_transcript.specs.Plain.{IsPlain}
 use Rattle.mega_transcript.specs.Tape.{newest, onto}
-use Rattle.mega_transcript.proofs.LineEnds.{same_tape}
+use Rattle.mega_transcript_reading.proofs.LineEnds.{same_tape}
 use Rattle.mega_world.specs.Opening.{first_starts}
 use Rattle.mega_world.proofs.Opened.{opening_tape}
 use Rattle.mega_happening.specs.Meanings.{usage}

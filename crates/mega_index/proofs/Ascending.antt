@@ -11,12 +11,12 @@ use Rattle.mega_base.specs.declared.values.Row.{Row}
 use Rattle.mega_schema.specs.declared.schema.Table.{Table}
 use Rattle.mega_schema.specs.declared.schema.Index.{Index}
 use Rattle.mega_schema.specs.declared.schema.Schema.{Schema}
-use Rattle.mega_index.specs.Rows.{Listed, key_cmp, row_under, written}
+use Rattle.mega_row_writes.specs.Rows.{Listed, key_cmp, row_under, written}
 use Rattle.mega_index.specs.Cells.{key_values, row_with}
 use Rattle.mega_index.specs.Fits.{indexes_of, group_bytes_of, entry_keys, row_fits}
 use Rattle.mega_index.specs.Entries.{placed, with_local, local_in, local_entries}
 use Rattle.mega_index.specs.LocalWrites.{Apart, turned}
-use Rattle.mega_index.proofs.Turning.{turned_turns}
+use Rattle.mega_row_writes.proofs.Turning.{turned_turns}
 
 -- the key is before all of these
 abbrev Below : List ℕ → Listed → Type 0

@@ -9,13 +9,13 @@ use Rattle.mega_base.specs.declared.values.Row.{Row}
 use Rattle.mega_schema.specs.declared.schema.Schema.{Schema}
 use Rattle.mega_index.specs.declared.hints.Place.{Place}
 use Rattle.mega_index.specs.declared.held.Held.{Held}
-use Rattle.mega_index.specs.Rows.{Listed, key_cmp, same_key}
+use Rattle.mega_row_writes.specs.Rows.{Listed, key_cmp, same_key}
 use Rattle.mega_index.specs.Marks.{Marks, held_rows}
 use Rattle.mega_index.specs.Hints.{Hints, is_place, is_among, is_hinted, global_keys, row_is_hinted, rows_are_hinted, all_hinted}
 use Rattle.mega_index.specs.Keeping.{marks_in}
 use Rattle.mega_index.specs.Forgetting.{is_row_of, are_only, DropsHint, keys_of_row, Spares, OnlyRow, OnlyRows, row_in}
 use Rattle.mega_index.proofs.Ordered.{Below, Ascends, by_test, both_true, true_both}
-use Rattle.mega_index.proofs.Turning.{same_key-Decides}
+use Rattle.mega_row_writes.proofs.Turning.{same_key-Decides}
 
 true-false : {P : Type 0} (b : Bool) → b ≡ true → b ≡ false → P
 true-false b t f = absurd (differ (sym t ∙ f))

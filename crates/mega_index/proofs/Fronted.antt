@@ -13,7 +13,7 @@ use Rattle.mega_schema.specs.declared.schema.Table.{Table}
 use Rattle.mega_schema.specs.declared.schema.Index.{Index}
 use Rattle.mega_schema.specs.declared.schema.Schema.{Schema}
 use Rattle.mega_index.specs.declared.found.Found.{Found}
-use Rattle.mega_index.specs.Rows.{Listed, key_cmp}
+use Rattle.mega_row_writes.specs.Rows.{Listed, key_cmp}
 use Rattle.mega_index.specs.Cells.{key_values}
 use Rattle.mega_index.specs.Fits.{numbered, index_keys, entry_keys, indexes_of, group_bytes_of, stands_in}
 use Rattle.mega_index.specs.Entries.{placed, found_of, with_row_under, index_of}

@@ -4,7 +4,7 @@ use Rattle.std.specs.Prelude.{nat_eq}
 use Rattle.std.specs.declared.cmp.Ordering.TheVariants.{Less, Equal, Greater}
 use Rattle.std.specs.Ordering.{is_le, nat_cmp, ordering_then}
 use Rattle.std.proofs.lemmas.Bool.Decides.{nat_tests}
-use Rattle.mega_index.specs.Rows.{key_cmp}
+use Rattle.mega_row_writes.specs.Rows.{key_cmp}
 use Rattle.mega_index.specs.Wanted.{begins}
 use Rattle.mega_index.proofs.Ordered.{by_order, both_true, true_both}
 

@@ -5,10 +5,10 @@ use Rattle.std.specs.List.{list_any}
 use Rattle.std.specs.BTreeMap.{get}
 use Rattle.std.proofs.lemmas.List.Folds.{list_any-append}
 use Rattle.mega_index.specs.declared.hints.Place.{Place}
-use Rattle.mega_index.specs.Rows.{key_cmp, same_key}
+use Rattle.mega_row_writes.specs.Rows.{key_cmp, same_key}
 use Rattle.mega_index.specs.Hints.{Hints, is_place, is_among, is_hinted, KeepsHints}
 use Rattle.mega_index.proofs.Ordered.{by_test}
-use Rattle.mega_index.proofs.Turning.{same_key-Decides}
+use Rattle.mega_row_writes.proofs.Turning.{same_key-Decides}
 
 or_true : (a b : Bool) → b ≡ true → (a || b) ≡ true
 or_true true b h = refl

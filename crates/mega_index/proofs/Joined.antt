@@ -10,7 +10,7 @@ use Rattle.std.proofs.lemmas.Map.Keys.{sorted_head, sorted_tail}
 use Rattle.std.specs.BTreeSet.{BTreeSet, contains}
 use Rattle.mega_base.specs.declared.values.Row.{Row}
 use Rattle.mega_index.specs.declared.held.Held.{Held}
-use Rattle.mega_index.specs.Rows.{Listed, key_cmp, same_key}
+use Rattle.mega_row_writes.specs.Rows.{Listed, key_cmp, same_key}
 use Rattle.mega_index.specs.Marks.{held_rows}
 use Rattle.mega_index.specs.Wanted.{Wanted, is_in, rows_wanted, all_wanted}
 use Rattle.mega_index.specs.Keeping.{marks_in, rows_at, group_wanted}

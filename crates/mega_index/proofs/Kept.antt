@@ -7,15 +7,15 @@ use Rattle.std.specs.List.{list_all}
 use Rattle.std.specs.Map.{lookup, remove_entry}
 use Rattle.std.specs.BTreeMap.{insert_entry}
 use Rattle.mega_base.specs.declared.values.Row.{Row}
-use Rattle.mega_entry.specs.declared.content.Write.{Write}
-use Rattle.mega_entry.specs.declared.content.Content.{Content}
+use Rattle.mega_row_writes.specs.of_entry.declared.content.Write.{Write}
+use Rattle.mega_row_writes.specs.of_entry.declared.content.Content.{Content}
 use Rattle.mega_schema.specs.declared.schema.Schema.{Schema}
-use Rattle.mega_index.specs.Rows.{Listed, key_cmp, same_key, list_changed, list_written, list_after}
+use Rattle.mega_row_writes.specs.Rows.{Listed, key_cmp, same_key, list_changed, list_written, list_after}
 use Rattle.mega_index.specs.Marks.{Marked, Marks, unmarked, marked_in, advanced, writes_of}
 use Rattle.mega_index.specs.Hints.{Hints, KeepsHints, is_hinted, global_keys, row_is_hinted, rows_are_hinted, all_hinted, write_is_hinted, writes_are_hinted}
 use Rattle.mega_index.specs.Keeping.{moved}
 use Rattle.mega_index.proofs.Ordered.{by_order, by_test, equal_keys, both_true, true_both, all_imply}
-use Rattle.mega_index.proofs.Turning.{same_key-Decides}
+use Rattle.mega_row_writes.proofs.Turning.{same_key-Decides}
 
 pub row_more : (s : Schema) (old new : Hints) (g : List ℕ) (e : List ℕ × Row) → KeepsHints old new → row_is_hinted s old g e ≡ true → row_is_hinted s new g e ≡ true
 row_more s old new g e kept = all_imply (λ entry. is_hinted old entry g e.0) (λ entry. is_hinted new entry g e.0) (global_keys s e.0 e.1) (λ entry. kept entry g e.0)

@@ -1,5 +1,5 @@
 pub mod SameLemmas
-pub mod Turning
+pub use Rattle.mega_row_writes.proofs.Turning
 pub mod Ordered
 pub mod Ascending
 pub mod Slots

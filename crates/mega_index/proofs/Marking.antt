@@ -6,7 +6,7 @@ use Rattle.std.specs.Ordering.{is_eq, match_ordering}
 use Rattle.std.specs.Map.{lookup, set_value}
 use Rattle.std.specs.BTreeMap.{insert_entry}
 use Rattle.mega_index.specs.declared.held.Held.{Held}
-use Rattle.mega_index.specs.Rows.{key_cmp, same_key}
+use Rattle.mega_row_writes.specs.Rows.{key_cmp, same_key}
 use Rattle.mega_index.specs.Marks.{unmarked, marked_in}
 use Rattle.mega_index.specs.Keeping.{marked_of, marks_in}
 use Rattle.mega_index.proofs.Ordered.{Ascends, below-none, below-trans, by_order, by_test}

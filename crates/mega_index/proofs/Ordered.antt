@@ -11,7 +11,7 @@ use Rattle.std.specs.BTreeMap.{insert_entry}
 use Rattle.std.specs.Cmp.Lexicographic.{nat_list_cmp_total}
 use Rattle.std.proofs.lemmas.Map.Keys.{sorted_head, sorted_tail}
 use Rattle.std.proofs.lemmas.Map.Lookups.{exact_bytes}
-use Rattle.mega_index.specs.Rows.{key_cmp, same_key}
+use Rattle.mega_row_writes.specs.Rows.{key_cmp, same_key}
 
 pub turn_less : (k q : List ℕ) → key_cmp k q ≡ Greater → key_cmp q k ≡ Less
 turn_less k q h = nat_list_cmp_total.antisymm q k ∙ ap ordering_reverse h

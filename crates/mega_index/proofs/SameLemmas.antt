@@ -1,14 +1,10 @@
--- The tests of sameness decide equality.
+-- The test of sameness of values decides equality.
 use Rattle.std.proofs.Common.{◌≡◌, List, refl, arith}
 use Rattle.std.specs.Prelude.{◌==◌, [], ◌∷◌, length}
 use Rattle.std.specs.Bool.{Decides}
 use Rattle.mega_base.specs.declared.values.Value.{Value}
-use Rattle.mega_base.specs.declared.values.Row.{Row}
-use Rattle.mega_entry.specs.Same.{same_value, same_values, same_row}
-use Rattle.mega_entry.proofs.Sames.{along, lists, rows, values}
-
-pub same_row-Decides : (a b : Row) → Decides (same_row a b) (a ≡ b)
-same_row-Decides a b = (rows.equal a b, along same_row rows a b)
+use Rattle.mega_row_writes.specs.of_entry.Same.{same_value, same_values}
+use Rattle.mega_row_writes.proofs.of_entry.Sames.{along, lists, values}
 
 pub same_values-Decides : (a b : List Value) → Decides (same_values a b) (a ≡ b)
 same_values-Decides a b = ((lists values).equal a b, along same_values (lists values) a b)

@@ -8,7 +8,7 @@ use Rattle.std.specs.Map.{lookup, set_value, remove_entry}
 use Rattle.std.specs.BTreeMap.{insert_entry}
 use Rattle.std.specs.Cmp.Lexicographic.{nat_list_cmp_total}
 use Rattle.mega_base.specs.declared.values.Row.{Row}
-use Rattle.mega_index.specs.Rows.{Listed, key_cmp, same_key, list_changed}
+use Rattle.mega_row_writes.specs.Rows.{Listed, key_cmp, same_key, list_changed}
 use Rattle.mega_index.specs.Marks.{held_rows, has_slot}
 use Rattle.mega_index.proofs.Ordered.{Below, Ascends, below-none, insert-front, by_order, by_test, equal_keys}
 

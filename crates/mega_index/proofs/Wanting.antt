@@ -8,12 +8,12 @@ use Rattle.std.specs.BTreeMap.{get}
 use Rattle.std.specs.BTreeSet.{BTreeSet, contains}
 use Rattle.std.proofs.lemmas.Map.Entries.{lookup-filter-keys}
 use Rattle.mega_index.specs.declared.hints.Place.{Place}
-use Rattle.mega_index.specs.Rows.{key_cmp, same_key}
+use Rattle.mega_row_writes.specs.Rows.{key_cmp, same_key}
 use Rattle.mega_index.specs.Hints.{is_place, is_among}
 use Rattle.mega_index.specs.Wanted.{Wanted, is_in, is_wanted, begins, KeepsWanted, PlacesWanted}
 use Rattle.mega_index.proofs.Ordered.{Below, Ascends, by_test, both_true}
 use Rattle.mega_index.proofs.Fronts.{at_or_after, between}
-use Rattle.mega_index.proofs.Turning.{same_key-Decides}
+use Rattle.mega_row_writes.proofs.Turning.{same_key-Decides}
 
 never : {P : Type 0} → false ≡ true → P
 never e = cc

@@ -7,7 +7,7 @@ use Rattle.mega_schema.specs.declared.schema.Table.{Table}
 use Rattle.mega_schema.specs.declared.schema.Index.{Index}
 use Rattle.mega_schema.specs.declared.schema.Schema.{Schema}
 use Rattle.mega_index.specs.declared.found.Found.{Found}
-use Rattle.mega_index.specs.Rows.{key_cmp, Listed}
+use Rattle.mega_row_writes.specs.Rows.{key_cmp, Listed}
 use Rattle.mega_index.specs.Cells.{key_values, row_with}
 use Rattle.mega_index.specs.Fits.{numbered, entry_keys, indexes_of, group_bytes_of, row_fits, stands_in}
 

@@ -10,7 +10,7 @@ use Rattle.mega_schema.specs.declared.schema.Schema.{Schema}
 use Rattle.mega_keys.specs.Spelling.{spell_all}
 use Rattle.mega_keys.specs.Fit.{misplaced}
 use Rattle.mega_index.specs.declared.found.Found.{Found}
-use Rattle.mega_index.specs.Rows.{Listed}
+use Rattle.mega_row_writes.specs.Rows.{Listed}
 use Rattle.mega_index.specs.Fits.{numbered, prefix_of}
 use Rattle.mega_index.specs.Entries.{index_of}
 

@@ -16,7 +16,7 @@ use Rattle.mega_keys.specs.declared.fault.KeyFault.{KeyFault}
 use Rattle.mega_keys.specs.Spelling.{root_part, index_bytes}
 use Rattle.mega_keys.specs.Fit.{has_kind}
 use Rattle.mega_keys.specs.Answers.{row_key_of, group_key_of}
-use Rattle.mega_index.specs.Rows.{same_key}
+use Rattle.mega_row_writes.specs.Rows.{same_key}
 use Rattle.mega_index.specs.Cells.{values_of, key_values}
 
 -- the item with this number, from 1

@@ -2,18 +2,18 @@
 use Rattle.std.specs.Prelude.{ℕ, ◌+◌, ◌==◌, ◌&&◌, if◌then◌else◌, Bool, true, false, List, [], ◌∷◌, ◌++◌, length, take, filter, nat_le, is_ok, Option, Some, None, Result, Ok, Err}
 use Rattle.mega_base.specs.declared.values.Value.{Value}
 use Rattle.mega_base.specs.declared.values.Row.{Row}
-use Rattle.mega_entry.specs.declared.content.Write.{Write}
-use Rattle.mega_entry.specs.declared.content.Send.{Send}
-use Rattle.mega_entry.specs.declared.content.Enter.{Enter}
-use Rattle.mega_entry.specs.declared.content.Cut.{Cut}
-use Rattle.mega_entry.specs.declared.content.Content.{Content}
-use Rattle.mega_entry.specs.Entries.{entry_text}
+use Rattle.mega_row_writes.specs.of_entry.declared.content.Write.{Write}
+use Rattle.mega_row_writes.specs.of_entry.declared.content.Send.{Send}
+use Rattle.mega_row_writes.specs.of_entry.declared.content.Enter.{Enter}
+use Rattle.mega_row_writes.specs.of_entry.declared.content.Cut.{Cut}
+use Rattle.mega_row_writes.specs.of_entry.declared.content.Content.{Content}
+use Rattle.mega_row_writes.specs.of_entry.Entries.{entry_text}
 use Rattle.mega_schema.specs.declared.schema.Table.{Table}
 use Rattle.mega_schema.specs.declared.schema.Schema.{Schema}
 use Rattle.mega_schema.specs.Shaping.{shape_of}
 use Rattle.mega_keys.specs.declared.fault.KeyFault.{KeyFault}
 use Rattle.mega_keys.specs.Reading.{key_at, read_key_of}
-use Rattle.mega_index.specs.Rows.{Rows, same_key, written}
+use Rattle.mega_row_writes.specs.Rows.{Rows, same_key, written}
 use Rattle.mega_index.specs.Fits.{numbered, group_of, stands_in}
 use Rattle.mega_index.specs.LocalWrites.{index_writes}
 

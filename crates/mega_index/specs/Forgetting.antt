@@ -6,7 +6,7 @@ use Rattle.mega_base.specs.declared.values.Row.{Row}
 use Rattle.mega_schema.specs.declared.schema.Schema.{Schema}
 use Rattle.mega_index.specs.declared.hints.Place.{Place}
 use Rattle.mega_index.specs.declared.held.Held.{Held}
-use Rattle.mega_index.specs.Rows.{Listed, key_cmp, same_key}
+use Rattle.mega_row_writes.specs.Rows.{Listed, key_cmp, same_key}
 use Rattle.mega_index.specs.Marks.{Marks}
 use Rattle.mega_index.specs.Hints.{Hints, is_place, is_hinted, global_keys}
 

@@ -3,12 +3,12 @@ use Rattle.std.specs.Prelude.{◌≡◌, true, ℕ, ◌+◌, ◌&&◌, if◌then
 use Rattle.std.specs.List.{list_any, list_all}
 use Rattle.std.specs.BTreeMap.{BTreeMap, get}
 use Rattle.mega_base.specs.declared.values.Row.{Row}
-use Rattle.mega_entry.specs.declared.content.Write.{Write}
+use Rattle.mega_row_writes.specs.of_entry.declared.content.Write.{Write}
 use Rattle.mega_schema.specs.declared.schema.Table.{Table}
 use Rattle.mega_schema.specs.declared.schema.Index.{Index}
 use Rattle.mega_schema.specs.declared.schema.Schema.{Schema}
 use Rattle.mega_index.specs.declared.hints.Place.{Place}
-use Rattle.mega_index.specs.Rows.{Listed, key_cmp, same_key}
+use Rattle.mega_row_writes.specs.Rows.{Listed, key_cmp, same_key}
 use Rattle.mega_index.specs.Cells.{key_values}
 use Rattle.mega_index.specs.Fits.{numbered, entry_keys, indexes_of, group_bytes_of, stands_in}
 use Rattle.mega_index.specs.Marks.{Marked, Marks}

@@ -7,8 +7,8 @@ use Rattle.mega_schema.specs.declared.schema.Schema.{Schema}
 use Rattle.mega_index.specs.declared.found.Found.{Found}
 use Rattle.mega_index.specs.declared.held.Held.{Held}
 use Rattle.mega_index.specs.declared.global.GlobalIndex.{GlobalIndex}
-use Rattle.mega_entry.specs.declared.content.Write.{Write}
-use Rattle.mega_index.specs.Rows.{Listed, list_written}
+use Rattle.mega_row_writes.specs.of_entry.declared.content.Write.{Write}
+use Rattle.mega_row_writes.specs.Rows.{Listed, list_written}
 use Rattle.mega_index.specs.Marks.{Marked, Marks, held_rows}
 use Rattle.mega_index.specs.Hints.{all_hinted}
 use Rattle.mega_index.specs.Wanted.{rows_wanted}

@@ -1,4 +1,4 @@
-pub mod Rows
+pub use Rattle.mega_row_writes.specs.Rows
 pub mod Cells
 pub mod Fits
 pub mod Entries
@@ -11,7 +11,7 @@ pub mod Hints
 pub mod Wanted
 pub mod Keeping
 pub mod Forgetting
-pub use Rattle.mega_entry.specs as of_entry
+pub use Rattle.mega_row_writes.specs.of_entry as of_entry
 pub use Rattle.mega_keys.specs as of_keys
 pub use Rattle.mega_schema.specs as of_schema
 pub use Rattle.mega_schema.specs.of_syntax as of_syntax

@@ -6,12 +6,12 @@ use Rattle.std.specs.Map.{lookup, keys_of}
 use Rattle.std.specs.BTreeMap.{insert_entry}
 use Rattle.mega_base.specs.declared.values.Value.{Value}
 use Rattle.mega_base.specs.declared.values.Row.{Row}
-use Rattle.mega_entry.specs.declared.content.Write.{Write}
-use Rattle.mega_entry.specs.declared.content.Content.{Content}
+use Rattle.mega_row_writes.specs.of_entry.declared.content.Write.{Write}
+use Rattle.mega_row_writes.specs.of_entry.declared.content.Content.{Content}
 use Rattle.mega_schema.specs.declared.schema.Index.{Index}
 use Rattle.mega_schema.specs.declared.schema.Schema.{Schema}
 use Rattle.mega_index.specs.declared.found.Found.{Found}
-use Rattle.mega_index.specs.Rows.{Listed, key_cmp, same_key, list_after}
+use Rattle.mega_row_writes.specs.Rows.{Listed, key_cmp, same_key, list_after}
 use Rattle.mega_index.specs.Fits.{numbered, indexes_of}
 use Rattle.mega_index.specs.Finding.{found_in}
 

@@ -11,7 +11,7 @@ use Rattle.mega_index.specs.declared.found.Found.{Found}
 use Rattle.mega_index.specs.declared.hints.Place.{Place}
 use Rattle.mega_index.specs.Hints.{is_place}
 use Rattle.mega_index.specs.Marks.{Marked, Marks}
-use Rattle.mega_index.specs.Rows.{Listed, key_cmp}
+use Rattle.mega_row_writes.specs.Rows.{Listed, key_cmp}
 use Rattle.mega_index.specs.Cells.{key_values}
 use Rattle.mega_index.specs.Fits.{numbered, entry_keys, group_bytes_of, stands_in}
 use Rattle.mega_index.specs.Entries.{placed, found_of}

@@ -2,7 +2,7 @@
 ghost use Rattle.std.specs.Prelude.{◌≡◌, ◌==◌, [], ◌∷◌, ◌++◌, if◌then◌else◌, find, IfOk, OnOk};
 ghost use Rattle.mega_base.specs.declared.values.Cell.{Cell};
 ghost use Rattle.std.specs.Option.{option_copied};
-ghost use Rattle.mega_index.specs.Rows.{row_under};
+ghost use Rattle.mega_row_writes.specs.Rows.{row_under};
 ghost use Rattle.mega_index.specs.Cells.{values_of, cell_set, row_set, key_values, is_listed, row_with};
 
 use mega_base::{Bytes, Cell, Copied, Items, NoMemory, Row, Value};

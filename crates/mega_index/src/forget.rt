@@ -2,7 +2,7 @@
 ghost use Rattle.std.specs.Prelude.{◌≡◌, true, IfOk, Some};
 ghost use Rattle.std.specs.Option.{option_copied};
 ghost use Rattle.std.specs.List.{list_any};
-ghost use Rattle.mega_index.specs.Rows.{same_key};
+ghost use Rattle.mega_row_writes.specs.Rows.{same_key};
 ghost use Rattle.mega_index.specs.Marks.{held_rows};
 ghost use Rattle.mega_index.specs.Hints.{all_hinted};
 ghost use Rattle.mega_index.specs.Keeping.{marks_in};
@@ -12,7 +12,7 @@ use crate::held::Held;
 use crate::hints::{Hints, drop_hint};
 use crate::standing::global_keys;
 use mega_base::{Bytes, Copied, NoMemory, Row};
-use mega_entry::Write;
+use mega_row_writes::mega_entry::Write;
 use mega_schema::Schema;
 use std::alloc::Global;
 use std::collections::BTreeMap;

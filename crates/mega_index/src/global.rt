@@ -13,7 +13,7 @@ use crate::held::{Held, hold};
 use crate::hints::Hints;
 use crate::refresh::{hint_writes, writes_of};
 use mega_base::{Bytes, GroupId, Position, Value};
-use mega_entry::Entry;
+use mega_row_writes::mega_entry::Entry;
 use mega_schema::Schema;
 use std::alloc::Global;
 use std::collections::BTreeMap;

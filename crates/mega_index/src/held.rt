@@ -1,12 +1,12 @@
 //! The rows of a group at its mark, and the writes that move the mark on.
 ghost use Rattle.std.specs.Prelude.{◌≡◌, true, [], IsSome, None, OnOk, OnErr};
 ghost use Rattle.std.specs.BTreeMap.{get, insert_entry, keys};
-ghost use Rattle.mega_index.specs.Rows.{key_cmp, list_changed, list_written};
+ghost use Rattle.mega_row_writes.specs.Rows.{key_cmp, list_changed, list_written};
 ghost use Rattle.mega_index.specs.Marks.{held_rows, has_slot, have_slots, marked_in};
 ghost use Rattle.mega_index.specs.Keeping.{marked_of, moved, marks_in};
 
 use mega_base::{Bytes, Copied, NoMemory, Row};
-use mega_entry::Write;
+use mega_row_writes::mega_entry::Write;
 use std::alloc::Global;
 use std::collections::BTreeMap;
 

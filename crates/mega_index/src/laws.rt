@@ -3,7 +3,7 @@ ghost use Rattle.std.specs.Prelude.{◌≡◌, List, ℕ, Option};
 ghost use Rattle.mega_base.specs.declared.values.Row.{Row};
 ghost use Rattle.mega_schema.specs.declared.schema.Table.{Table};
 ghost use Rattle.mega_schema.specs.declared.schema.Schema.{Schema};
-ghost use Rattle.mega_index.specs.Rows.{row_under, written};
+ghost use Rattle.mega_row_writes.specs.Rows.{row_under, written};
 ghost use Rattle.mega_index.specs.Entries.{local_entries};
 ghost use Rattle.mega_index.specs.LocalWrites.{turned};
 

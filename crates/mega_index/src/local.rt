@@ -9,17 +9,15 @@ use crate::entries::entry_keys;
 use crate::keys::group_bytes_of;
 use crate::long::{indexes_of, row_fits};
 use mega_base::{Bytes, Copied, NoMemory, Row, Value};
+use mega_row_writes::Rows;
 use mega_schema::{Index, Schema, Table};
 use std::alloc::Global;
 use std::collections::BTreeMap;
 
-/// Entries of local indexes, in order of key.
-pub type Entries = BTreeMap<Bytes, Row>;
-
 /// Adds an entry with this row under each of these keys.
 fn place(
     alloc: Global,
-    entries: &mut Entries,
+    entries: &mut Rows,
     stored: &Row,
     keys: Vec<Bytes>,
 ) -> Result<(), NoMemory>
@@ -35,7 +33,7 @@ fn place(
 /// Adds the entries that a row of the table has in an index, if that is a local one of the table.
 fn add_local(
     alloc: Global,
-    entries: &mut Entries,
+    entries: &mut Rows,
     number: u8,
     index: &Index,
     table: u8,
@@ -62,7 +60,7 @@ fn local_in(
     group: &[u8],
     key: &[Value],
     row: &Row,
-) -> Result<Entries, NoMemory>
+) -> Result<Rows, NoMemory>
     requires { length indexes.now ≤ 64 }
     ensures { IfOk result (λ entries. entries.entries ≡ local_in 1 indexes.now table group.now key.now row.now []) }
 {
@@ -80,7 +78,7 @@ fn entries_of(
     number: u8,
     table: &Table,
     row: &Row,
-) -> Result<Entries, NoMemory>
+) -> Result<Rows, NoMemory>
     requires { numbered schema.now.tables number ≡ Some table.now }
     ensures { IfOk result (λ entries. entries.entries ≡ local_entries schema.now number table.now (Some row.now)) }
 {
@@ -106,7 +104,7 @@ pub fn local_entries(
     number: u8,
     table: &Table,
     row: Option<&Row>,
-) -> Result<Entries, NoMemory>
+) -> Result<Rows, NoMemory>
     requires { numbered schema.now.tables number ≡ Some table.now }
     ensures { IfOk result (λ entries. entries.entries ≡ local_entries schema.now number table.now (option_copied row.entry)) }
 {

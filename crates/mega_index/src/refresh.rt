@@ -7,7 +7,7 @@ ghost use Rattle.mega_index.specs.Marks.{writes_of};
 use crate::hints::{Hints, add_hint};
 use crate::standing::global_keys;
 use mega_base::{Bytes, Copied, NoMemory, Row};
-use mega_entry::{Entry, Write};
+use mega_row_writes::mega_entry::{Entry, Write};
 use mega_schema::Schema;
 use std::alloc::Global;
 

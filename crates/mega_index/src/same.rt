@@ -1,17 +1,10 @@
-//! Whether two rows are the same, or a row has given values.
+//! Whether a row has given values.
 ghost use Rattle.std.specs.Prelude.{◌≡◌};
 ghost use Rattle.mega_index.specs.Cells.{values_of};
-ghost use Rattle.mega_entry.specs.Same.{same_values, same_row};
+ghost use Rattle.mega_row_writes.specs.of_entry.Same.{same_values};
 
 use crate::cells::cell_of;
 use mega_base::{Items, Row, Same, Value};
-
-/// Whether the two rows are the same.
-pub fn same_row(mine: &Row, others: &Row) -> bool
-    ensures { result ≡ same_row mine.now others.now }
-{
-    mine.same_as(others)
-}
 
 fn same_values(mine: &Items<Value>, others: &Items<Value>) -> bool
     ensures { result ≡ same_values mine.now others.now }

@@ -1,7 +1,7 @@
 //! The places of the rows that may have an entry whose key begins in a given way.
 ghost use Rattle.std.specs.Prelude.{◌≡◌, true, List, ℕ, IsSome, None, IfOk, OnOk};
 ghost use Rattle.std.specs.BTreeMap.{get};
-ghost use Rattle.mega_index.specs.Rows.{key_cmp};
+ghost use Rattle.mega_row_writes.specs.Rows.{key_cmp};
 ghost use Rattle.mega_index.specs.Hints.{is_place, is_hinted};
 ghost use Rattle.mega_index.specs.Wanted.{is_wanted, begins, KeepsWanted, PlacesWanted};
 

@@ -1,108 +1,19 @@
 //! The local index writes that belong to a change of a row.
-ghost use Rattle.std.specs.Prelude.{◌≡◌, ◌++◌, Some, IfOk, OnOk};
+ghost use Rattle.std.specs.Prelude.{◌≡◌, Some, IfOk};
 ghost use Rattle.std.specs.Option.{option_copied};
-ghost use Rattle.mega_index.specs.Rows.{row_under};
 ghost use Rattle.mega_index.specs.Fits.{numbered};
-ghost use Rattle.mega_index.specs.LocalWrites.{is_row, gone_one, gone, fresh_one, fresh, turned, index_writes, refused_length, local_writes_of};
+ghost use Rattle.mega_index.specs.LocalWrites.{index_writes, refused_length, local_writes_of};
 ghost use Rattle.mega_index.specs.Answers.{GivesOrLength};
 
 use crate::fault::IndexFault;
 use crate::fits::table_at;
-use crate::local::{Entries, local_entries};
+use crate::local::local_entries;
 use crate::long::{has_place, long_key};
-use crate::same::same_row;
-use mega_base::{Bytes, Copied, NoMemory, Row};
-use mega_entry::Write;
+use mega_base::{NoMemory, Row};
+use mega_row_writes::mega_entry::Write;
+use mega_row_writes::turned;
 use mega_schema::{Schema, Table};
 use std::alloc::Global;
-
-fn push_gone(
-    alloc: Global,
-    writes: &mut Vec<Write>,
-    new: &Entries,
-    key: &Bytes,
-    row: &Row,
-) -> Result<(), NoMemory>
-    ensures { OnOk result (writes.new.items ≡ writes.old.items ++ gone_one new.now.entries (key.now, row.now)) }
-{
-    let _row = row;
-    if new.contains_key(key) {
-        return Ok(());
-    }
-    let key = key.copy(alloc)?;
-    writes.push(Write { key, row: None })?;
-    Ok(())
-}
-
-/// Adds the deletions of the entries that are gone.
-fn add_gone(
-    alloc: Global,
-    writes: &mut Vec<Write>,
-    old: &Entries,
-    new: &Entries,
-) -> Result<(), NoMemory>
-    ensures { OnOk result (writes.new.items ≡ writes.old.items ++ gone new.now.entries old.now.entries) }
-{
-    for (key, row) in old {
-        push_gone(alloc, writes, new, key, row)?;
-    }
-    Ok(())
-}
-
-/// Whether this row stands under the key.
-fn stands(entries: &Entries, key: &Bytes, row: &Row) -> bool
-    ensures { result ≡ is_row (row_under entries.now.entries key.now) row.now }
-{
-    match entries.get(key) {
-        Some(there) => same_row(there, row),
-        None => false,
-    }
-}
-
-fn push_fresh(
-    alloc: Global,
-    writes: &mut Vec<Write>,
-    old: &Entries,
-    key: &Bytes,
-    row: &Row,
-) -> Result<(), NoMemory>
-    ensures { OnOk result (writes.new.items ≡ writes.old.items ++ fresh_one old.now.entries (key.now, row.now)) }
-{
-    if stands(old, key, row) {
-        return Ok(());
-    }
-    let key = key.copy(alloc)?;
-    let row = row.copy(alloc)?;
-    writes.push(Write {
-        key,
-        row: Some(row),
-    })?;
-    Ok(())
-}
-
-/// Adds the entries that are new or changed.
-fn add_fresh(
-    alloc: Global,
-    writes: &mut Vec<Write>,
-    old: &Entries,
-    new: &Entries,
-) -> Result<(), NoMemory>
-    ensures { OnOk result (writes.new.items ≡ writes.old.items ++ fresh old.now.entries new.now.entries) }
-{
-    for (key, row) in new {
-        push_fresh(alloc, writes, old, key, row)?;
-    }
-    Ok(())
-}
-
-fn turned(alloc: Global, old: &Entries, new: &Entries) -> Result<Vec<Write>, NoMemory>
-    ensures { IfOk result (λ writes. writes.items ≡ turned old.now.entries new.now.entries) }
-{
-    let mut writes = Vec::new(alloc);
-    add_gone(alloc, &mut writes, old, new)?;
-    add_fresh(alloc, &mut writes, old, new)?;
-    Ok(writes)
-}
 
 /// The local index writes that belong to a change of a row of the table with this number: deletions of
 /// entries that are gone, then entries that are new or changed, each in order of key. A row that does not

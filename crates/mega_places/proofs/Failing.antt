@@ -1,8 +1,9 @@
 -- Why a node of a world does not step: never for its rows, which are in memory.
-use Rattle.std.proofs.Common.{◌≡◌, ◌<◌, ◌^◌, ℕ, true, false, Some, None, inl, inr, refl, sym, ◌∙◌, arith}
+use Rattle.std.proofs.Common.{◌≡◌, ◌<◌, ◌^◌, ℕ, true, false, Some, None, inl, inr, refl, subst, sym, ◌∙◌, arith}
 use Rattle.mega_base.specs.Causes.{Rose}
 use Rattle.mega_disk.specs.declared.records.Records.{Ghosts as RecordGhosts}
 use Rattle.mega_disk.specs.declared.versions.Versions.{Ghosts}
+use Rattle.mega_leases.specs.Taking.{IsLate}
 use Rattle.mega_voter.specs.Used.{LogUsed}
 use Rattle.mega_wal.specs.declared.answers.LogFault.{LogFault}
 use Rattle.mega_wal.specs.declared.answers.LogFault.TheVariants as log
@@ -11,8 +12,10 @@ use Rattle.mega_durable.specs.of_core.declared.fault.StepFault.{StepFault}
 use Rattle.mega_durable.specs.of_core.declared.fault.StepFault.TheVariants as fault
 use Rattle.mega_durable.specs.of_core.Faults.{of_store}
 use Rattle.mega_cluster.specs.declared.cluster.Cluster.{Cluster}
+use Rattle.mega_handler.specs.Named.{Meanings}
+use Rattle.mega_rules.specs.Operations.{Node as RuleNode}
 use Rattle.mega_rules.specs.Steps.{Begin, Event, Take, Tick}
-use Rattle.mega_durable.specs.of_core.Stepping.{IsStrange, IsTooLate, is_servable}
+use Rattle.mega_durable.specs.of_core.Stepping.{IsStrange, IsTooLate, IsUnserved}
 use Rattle.mega_places.specs.Faults.{is_strange}
 use Rattle.mega_places.specs.Stepping.{IsNear}
 
@@ -54,12 +57,12 @@ is_no_stranger c (Take message) near strange = near (inl strange)
 is_no_stranger c (Begin request text) near strange = strange
 is_no_stranger c (Tick now) near strange = strange
 
-pub is_timely : (c : Cluster) (event : Event) → IsNear c event → IsTooLate c event → ⊥
-is_timely c (Take message) near late = near (inr late)
-is_timely c (Begin request text) near late = late
-is_timely c (Tick now) near late = late
+pub is_timely : {Is : Meanings → RuleNode → Type 0} {members : Cluster} (c : Cluster) (event : Event) → members ≡ c → IsNear c event → IsTooLate Is members event → (h : Meanings) (node : RuleNode) → Is h node → ⊥
+is_timely c (Take message) same near late h node is = near (inr (subst (λ (cluster : Cluster). IsLate cluster message.body) same (late h node is)))
+is_timely c (Begin request text) same near late h node is = late
+is_timely c (Tick now) same near late h node is = late
 
-pub may_serve : (c : Cluster) (event : Event) → IsNear c event → is_servable event ≡ false → ⊥
-may_serve c (Take message) near refused = cc
-may_serve c (Begin request text) near refused = let clash : true ≡ false = sym near ∙ refused in cc
-may_serve c (Tick now) near refused = cc
+pub may_serve : {Is : Meanings → RuleNode → Type 0} (c : Cluster) (event : Event) → IsNear c event → IsUnserved Is event → (h : Meanings) (node : RuleNode) → Is h node → ⊥
+may_serve c (Take message) near refused h node is = refused h node is
+may_serve c (Begin request text) near refused h node is = let clash : true ≡ false = sym near ∙ refused in cc
+may_serve c (Tick now) near refused h node is = refused h node is

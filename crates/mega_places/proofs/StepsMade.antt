@@ -9,12 +9,10 @@ use Rattle.mega_disk.specs.Fuse.{Unset, after_append as less, is_short, keeps_re
 use Rattle.mega_disk.specs.MemDisk.{fuse_of, image_of}
 use Rattle.mega_rows.specs.declared.rows.VersionedRows.{VersionedRows}
 use Rattle.mega_handler.specs.Named.{Meaning, Meanings}
-use Rattle.mega_wire.specs.declared.message.Body.{Body}
 use Rattle.mega_voter.specs.Holding.{HoldsMet}
 use Rattle.mega_voter.specs.Telling.{Tells}
 use Rattle.mega_durable.specs.of_actions.of_proposing.Settings.{setting as at_node}
 use Rattle.mega_leases.specs.Opening.{AreOwed}
-use Rattle.mega_leases.specs.Taking.{IsLate}
 use Rattle.mega_rules.specs.Clock.{begun_of, start_of}
 use Rattle.mega_rules.specs.Met.{Crashes, Met}
 use Rattle.mega_rules.specs.Operations.{Node as RuleNode, Setting}
@@ -190,7 +188,3 @@ id_is c h me member ruled start number one starts counts =
     ap (λ (n : ℕ). record { node = record { 0 = n }; start = start; number = number }) one.number
     ∙ ap (λ (n : ℕ). record { node = record { 0 = me }; start = n; number = number }) (starts ruled.met told.tells)
     ∙ ap (λ (n : ℕ). record { node = record { 0 = me }; start = start_of ruled.met; number = n }) (next (node_in member).begun (begun_of ruled.met) number counts told.begun_is)
-
--- a message that is late to a node is so to its cluster
-pub late_to : (c : Cluster) (me : ℕ) (member : Member) (ruled : RuleNode) (body : Body) → IsMember c me member ruled → IsLate (node_in member).replica.members body → IsLate c body
-late_to c me member ruled body one late = subst (λ (k : Cluster). IsLate k body) one.members late

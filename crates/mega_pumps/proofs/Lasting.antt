@@ -5,7 +5,7 @@ use Rattle.mega_base.specs.declared.names.GroupId.{GroupId}
 use Rattle.mega_entry.specs.declared.content.Content.{Content}
 use Rattle.mega_wal.specs.declared.groups.Marks.{Marks}
 use Rattle.mega_wal.specs.declared.kept.Kept.{Kept}
-use Rattle.mega_wal.specs.declared.slot.Slot.{Slot}
+use Rattle.mega_wal.specs.of_acceptor.declared.slot.Slot.{Slot}
 use Rattle.mega_wal.specs.History.{decided_of, prefix_of as kept_prefix}
 use Rattle.mega_wal.specs.Kept.{is_group}
 use Rattle.mega_wal.specs.Same.{same_group}

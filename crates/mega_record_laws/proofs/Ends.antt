@@ -26,9 +26,9 @@ use Rattle.mega_transcript.specs.PlainTurns.{IsPlainTurn}
 use Rattle.mega_transcript.specs.PlainAnswers.{IsPlainOther, IsPlainAnswer}
 use Rattle.mega_transcript.specs.Plain.{IsPlain}
 use Rattle.mega_transcript.proofs.Forms.{lacks, decimal-lacks, solid-lacks, hex-solid}
-use Rattle.mega_transcript.proofs.LineForms.{from_small, to_small}
+use Rattle.mega_transcript_reading.proofs.LineForms.{from_small, to_small}
 use Rattle.mega_transcript.proofs.Compact.{text_told}
-use Rattle.mega_transcript.proofs.SoundRows.{rows_sound, finds_sound, marks_sound, results_sound}
+use Rattle.mega_transcript_reading.proofs.SoundRows.{rows_sound, finds_sound, marks_sound, results_sound}
 use Rattle.mega_promises.specs.Served.{Got, Line, Noted, OfClient, OfNode, Peer, Put}
 use Rattle.mega_promises.specs.Records.{peer_words, record_line}
 use Rattle.mega_record_laws.specs.Plain.{IsPlainLine, IsPlainPeer}

@@ -11,7 +11,7 @@ use Rattle.mega_wal.specs.History.{acts_of, after_grant, after_lapse, decided_of
 use Rattle.mega_wal.specs.Kept.{Represents, marks_of, slot_of}
 use Rattle.mega_wal.specs.Same.{same_group}
 use Rattle.mega_wal.specs.declared.kept.Kept.{Kept}
-use Rattle.mega_wal.specs.declared.slot.Slot.{Slot}
+use Rattle.mega_wal.specs.of_acceptor.declared.slot.Slot.{Slot}
 use Rattle.mega_wal.specs.declared.groups.Marks.{Marks}
 use Rattle.mega_wal.specs.declared.item.JournalItem.{JournalItem}
 use Rattle.mega_wal.specs.declared.item.JournalItem.TheVariants.{Start as Started, Promise as Promises, Accept as Accepts, Decide as Decided, Grant as Granted, Lapse as Lapsed, Starts as Starting}

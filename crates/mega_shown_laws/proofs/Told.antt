@@ -8,7 +8,7 @@ use Rattle.mega_schema.specs.declared.schema.Schema.{Schema}
 use Rattle.mega_transcript.specs.declared.item.Item.{Item}
 use Rattle.mega_transcript.specs.Lines.{lines}
 use Rattle.mega_transcript.specs.Plain.{IsPlain}
-use Rattle.mega_transcript.proofs.LineEnds.{same_tape}
+use Rattle.mega_transcript_reading.proofs.LineEnds.{same_tape}
 use Rattle.mega_promises.specs.Runs.{Happening}
 use Rattle.mega_tape_laws.specs.Writes.{Usage}
 use Rattle.mega_format_laws.specs.Rounds.{Each}

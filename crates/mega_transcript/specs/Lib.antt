@@ -12,13 +12,7 @@ pub mod Named
 pub mod PlainTurns
 pub mod PlainRows
 pub mod PlainAnswers
-pub mod ReadingRows
-pub mod ReadingAnswers
 pub mod Plain
-pub mod Kinds
-pub mod Taking
-pub mod ReadingItems
-pub mod Telling
 pub mod Counts
 pub mod Counted
 pub mod Tallies

@@ -99,7 +99,8 @@ fn triple(alloc: Global, first: Json, second: Json, third: Json) -> Result<Json,
     Ok(Json::from(items))
 }
 
-pub(crate) fn table_at(schema: &Schema, number: u8) -> Option<&Table>
+/// The table with this number, from 1.
+pub fn table_at(schema: &Schema, number: u8) -> Option<&Table>
     ensures { option_copied result ≡ table_at schema.now.tables number }
 {
     if number == 0 {
@@ -131,7 +132,8 @@ fn has_kind(kind: Kind, value: &Value) -> bool
     )
 }
 
-pub(crate) fn is_repeated(need: Need) -> bool
+/// Whether a property of this need may have several values.
+pub fn is_repeated(need: Need) -> bool
     ensures { result ≡ is_repeated need }
 {
     matches!(need, Need::Repeated)

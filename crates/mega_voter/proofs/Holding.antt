@@ -18,7 +18,7 @@ use Rattle.mega_wal.specs.History.{acts_of, after_grant, after_lapse, decided_of
 use Rattle.mega_wal.specs.Items.{IsItem, record_text}
 use Rattle.mega_wal.specs.Kept.{Holds, Represents, slot_of}
 use Rattle.mega_wal.specs.Records.{bad_from, first_bad, flushed, history_of, is_record}
-use Rattle.mega_wal.specs.declared.slot.Slot.{Slot}
+use Rattle.mega_wal.specs.of_acceptor.declared.slot.Slot.{Slot}
 use Rattle.mega_wal.proofs.Flushed.{flushed_history, record_again}
 use Rattle.mega_wal.proofs.Greatest.{marks_same}
 use Rattle.mega_wal.proofs.Loading.{reverse_onto}

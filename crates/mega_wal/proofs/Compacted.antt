@@ -9,22 +9,22 @@ use Rattle.std.proofs.lemmas.Bool.Decides.{nat_tests}
 use Rattle.mega_base.specs.declared.names.GroupId.{GroupId}
 use Rattle.mega_base.specs.declared.names.Position.{Position}
 use Rattle.mega_base.specs.declared.names.Epoch.{Epoch}
-use Rattle.mega_ballot.specs.declared.ballot.Ballot.{Ballot}
-use Rattle.mega_ballot.specs.Order.{IsBelow, zero_ballot}
-use Rattle.mega_ballot.proofs.Ordered.{irreflexive, transitive, total, zero_least}
-use Rattle.mega_entry.specs.declared.content.Content.{Content}
+use Rattle.mega_acceptor.specs.of_ballot.declared.ballot.Ballot.{Ballot}
+use Rattle.mega_acceptor.specs.of_ballot.Order.{IsBelow, zero_ballot}
+use Rattle.mega_acceptor.proofs.of_ballot.Ordered.{irreflexive, transitive, total, zero_least}
+use Rattle.mega_acceptor.specs.of_entry.declared.content.Content.{Content}
 use Rattle.mega_wal.specs.declared.item.JournalItem.{JournalItem}
 use Rattle.mega_wal.specs.declared.item.JournalItem.TheVariants.{Start, Promise, Accept, Decide, Grant, Lapse, Starts}
-use Rattle.mega_wal.specs.declared.slot.Slot.{Slot}
+use Rattle.mega_acceptor.specs.declared.slot.Slot.{Slot}
 use Rattle.mega_wal.specs.declared.groups.Log.{Log}
 use Rattle.mega_wal.specs.declared.kept.Kept.{Kept}
-use Rattle.mega_entry.specs.Same.{same_group}
+use Rattle.mega_acceptor.specs.of_entry.Same.{same_group}
 use Rattle.mega_wal.specs.Acceptor.{Act, Promised, Voted, Vote, best, greater_ballot, greater_vote, is_ballot_below, shown}
 use Rattle.mega_wal.specs.History.{Granted, acts_of, after_grant, after_lapse, decided_of, granted_of, group_cmp, is_place, is_same_epoch, starts_at_most, starts_of}
 use Rattle.mega_wal.specs.Compaction.{IsOfFormat, IsOrderedKept, IsOrderedLog, compacted, compacted_text, decided_items, grant_items, log_items, promise_items, slot_items, vote_items, voted_ballot}
 use Rattle.mega_wal.specs.Kept.{Represents, accepted_slot, decided_slot, empty_slot, is_group, promised_slot, slot_at, slot_in, slot_of}
 use Rattle.mega_wal.specs.Records.{history_of}
-use Rattle.mega_entry.proofs.Sames.{same_group_equal, same_group_self}
+use Rattle.mega_acceptor.proofs.of_entry.Sames.{same_group_equal, same_group_self}
 use Rattle.mega_wal.proofs.Orders.{is_below_iff, is_group_equal, is_group_self}
 use Rattle.mega_wal.proofs.Steps.{accept_steps, decide_steps, promise_steps}
 use Rattle.mega_wal.proofs.Flushed.{items_read, long_record}

@@ -13,10 +13,10 @@ use Rattle.mega_wal.specs.declared.item.JournalItem.{JournalItem}
 use Rattle.mega_wal.specs.declared.groups.Log.{Log}
 use Rattle.mega_wal.specs.declared.groups.Marks.{Marks}
 use Rattle.mega_wal.specs.declared.kept.Kept.{Kept}
-use Rattle.mega_entry.specs.Same.{same_group}
+use Rattle.mega_acceptor.specs.of_entry.Same.{same_group}
 use Rattle.mega_wal.specs.History.{AreDecided, group_cmp, newest_of}
 use Rattle.mega_wal.specs.Kept.{Represents, decided_group, decided_groups, marks_in}
-use Rattle.mega_entry.proofs.Sames.{same_group_self}
+use Rattle.mega_acceptor.proofs.of_entry.Sames.{same_group_self}
 use Rattle.mega_wal.proofs.Orders.{is_group_equal}
 use Rattle.mega_wal.proofs.Fitting.{found_at, group_order}
 

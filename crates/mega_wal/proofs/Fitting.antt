@@ -14,13 +14,13 @@ use Rattle.std.proofs.lemmas.Map.Entries.{btree_map_get_place}
 use Rattle.mega_base.specs.Lists.{All-head, All-tail}
 use Rattle.mega_base.specs.declared.names.GroupId.{GroupId}
 use Rattle.mega_base.specs.declared.names.Position.{Position}
-use Rattle.mega_ballot.specs.declared.ballot.Ballot.{Ballot}
-use Rattle.mega_ballot.specs.Order.{IsBelow, zero_ballot}
-use Rattle.mega_ballot.proofs.Ordered.{irreflexive, transitive, zero_least}
-use Rattle.mega_entry.specs.declared.content.Content.{Content}
+use Rattle.mega_acceptor.specs.of_ballot.declared.ballot.Ballot.{Ballot}
+use Rattle.mega_acceptor.specs.of_ballot.Order.{IsBelow, zero_ballot}
+use Rattle.mega_acceptor.proofs.of_ballot.Ordered.{irreflexive, transitive, zero_least}
+use Rattle.mega_acceptor.specs.of_entry.declared.content.Content.{Content}
 use Rattle.mega_wal.specs.declared.item.JournalItem.{JournalItem}
 use Rattle.mega_wal.specs.declared.item.JournalItem.TheVariants.{Start, Promise, Accept, Decide, Grant, Lapse, Starts}
-use Rattle.mega_wal.specs.declared.slot.Slot.{Slot}
+use Rattle.mega_acceptor.specs.declared.slot.Slot.{Slot}
 use Rattle.mega_wal.specs.declared.groups.Log.{Log}
 use Rattle.mega_wal.specs.declared.kept.Kept.{Kept}
 use Rattle.mega_wal.specs.Acceptor.{Act, Promised, Voted, Vote, best, greater_ballot, greater_vote, is_ballot_below, shown}

@@ -10,10 +10,10 @@ use Rattle.mega_base.specs.Lists.{All-head, All-tail}
 use Rattle.mega_base.specs.Names.{u32_text, group_text, epoch_text, position_text}
 use Rattle.mega_base.specs.NameLaws.{u32_codec}
 use Rattle.mega_base.specs.declared.names.Epoch.{Epoch}
-use Rattle.mega_ballot.specs.declared.ballot.Ballot.{Ballot}
-use Rattle.mega_ballot.specs.Ballots.{ballot_text}
-use Rattle.mega_entry.specs.Entries.{entry_text}
-use Rattle.mega_entry.specs.declared.content.Content.{Content}
+use Rattle.mega_acceptor.specs.of_ballot.declared.ballot.Ballot.{Ballot}
+use Rattle.mega_acceptor.specs.of_ballot.Ballots.{ballot_text}
+use Rattle.mega_acceptor.specs.of_entry.Entries.{entry_text}
+use Rattle.mega_acceptor.specs.of_entry.declared.content.Content.{Content}
 use Rattle.mega_disk.specs.Fuse.{Fuse, MayBurn}
 use Rattle.mega_disk.specs.Fuse.Fuse.{Untold, Unset, Left}
 use Rattle.mega_disk.specs.Images.{LeavesOnly, Only}

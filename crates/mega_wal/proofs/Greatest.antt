@@ -4,15 +4,15 @@ use Rattle.std.specs.Prelude.{is_some}
 use Rattle.std.proofs.lemmas.Bool.Decides.{nat_tests}
 use Rattle.mega_base.specs.declared.names.GroupId.{GroupId}
 use Rattle.mega_base.specs.declared.names.Position.{Position}
-use Rattle.mega_ballot.specs.declared.ballot.Ballot.{Ballot}
-use Rattle.mega_entry.specs.declared.content.Content.{Content}
+use Rattle.mega_acceptor.specs.of_ballot.declared.ballot.Ballot.{Ballot}
+use Rattle.mega_acceptor.specs.of_entry.declared.content.Content.{Content}
 use Rattle.mega_wal.specs.declared.item.JournalItem.{JournalItem}
 use Rattle.mega_wal.specs.declared.item.JournalItem.TheVariants.{Start, Promise, Accept, Decide, Grant, Lapse, Starts}
-use Rattle.mega_entry.specs.Same.{same_group}
+use Rattle.mega_acceptor.specs.of_entry.Same.{same_group}
 use Rattle.mega_wal.specs.Acceptor.{Act, Promised, Voted, Vote, best, greater_vote, is_ballot_below}
 use Rattle.mega_wal.specs.History.{acts_of, climb, decided_of, first_of, is_place, newest_of, prefix_of, top_of}
 use Rattle.mega_wal.specs.Kept.{marks_of, slot_of}
-use Rattle.mega_wal.specs.declared.slot.Slot.{Slot}
+use Rattle.mega_acceptor.specs.declared.slot.Slot.{Slot}
 use Rattle.mega_wal.proofs.Steps.{climb_same, some_first}
 
 abbrev Marking : Type 0

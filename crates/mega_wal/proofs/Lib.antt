@@ -1,4 +1,4 @@
-pub use Rattle.mega_entry.proofs.Sames
+pub use Rattle.mega_acceptor.proofs.of_entry.Sames
 pub mod Orders
 pub mod Climbs
 pub mod Steps

@@ -8,13 +8,13 @@ use Rattle.std.proofs.lemmas.Bool.Decides.{nat_tests}
 use Rattle.std.proofs.lemmas.Map.Lookups.{exact_bytes}
 use Rattle.mega_base.specs.declared.names.OpId.{OpId}
 use Rattle.mega_base.specs.declared.names.GroupId.{GroupId}
-use Rattle.mega_ballot.specs.declared.ballot.Ballot.{Ballot}
-use Rattle.mega_ballot.specs.Order.{IsBelow, IsOpBelow}
-use Rattle.mega_entry.specs.Same.{same_group}
+use Rattle.mega_acceptor.specs.of_ballot.declared.ballot.Ballot.{Ballot}
+use Rattle.mega_acceptor.specs.of_ballot.Order.{IsBelow, IsOpBelow}
+use Rattle.mega_acceptor.specs.of_entry.Same.{same_group}
 use Rattle.mega_wal.specs.Acceptor.{is_ballot_below, is_op_below}
 use Rattle.mega_wal.specs.History.{group_cmp}
 use Rattle.mega_wal.specs.Kept.{is_group}
-use Rattle.mega_entry.proofs.Sames.{same_group_equal, same_group_self}
+use Rattle.mega_acceptor.proofs.of_entry.Sames.{same_group_equal, same_group_self}
 
 or_iff : (x y : Bool) (P Q : Type 0) → (x ≡ true) ↔ P → (y ≡ true) ↔ Q → ((x || y) ≡ true) ↔ (P ⊎ Q)
 or_iff true y P Q p q = (λ h. inl (p.0 refl), λ h. refl)

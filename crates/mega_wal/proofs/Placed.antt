@@ -5,7 +5,7 @@ use Rattle.std.specs.Ordering.{nat_cmp}
 use Rattle.std.specs.Map.{lookup}
 use Rattle.std.specs.BTreeMap.{BTreeMap, get, is_at}
 use Rattle.mega_base.specs.declared.names.GroupId.{GroupId}
-use Rattle.mega_wal.specs.declared.slot.Slot.{Slot}
+use Rattle.mega_acceptor.specs.declared.slot.Slot.{Slot}
 use Rattle.mega_wal.specs.declared.groups.Marks.{Marks}
 use Rattle.mega_wal.specs.declared.groups.Log.{Log}
 use Rattle.mega_wal.specs.History.{group_cmp}

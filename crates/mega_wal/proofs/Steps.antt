@@ -4,17 +4,17 @@ use Rattle.std.specs.Prelude.{is_some}
 use Rattle.std.proofs.lemmas.Bool.Decides.{nat_tests}
 use Rattle.mega_base.specs.declared.names.GroupId.{GroupId}
 use Rattle.mega_base.specs.declared.names.Position.{Position}
-use Rattle.mega_ballot.specs.declared.ballot.Ballot.{Ballot}
-use Rattle.mega_entry.specs.declared.content.Content.{Content}
+use Rattle.mega_acceptor.specs.of_ballot.declared.ballot.Ballot.{Ballot}
+use Rattle.mega_acceptor.specs.of_entry.declared.content.Content.{Content}
 use Rattle.mega_wal.specs.declared.item.JournalItem.{JournalItem}
 use Rattle.mega_wal.specs.declared.item.JournalItem.TheVariants.{Promise, Accept, Decide}
-use Rattle.mega_wal.specs.declared.slot.Slot.{Slot}
+use Rattle.mega_acceptor.specs.declared.slot.Slot.{Slot}
 use Rattle.mega_wal.specs.declared.groups.Marks.{Marks}
-use Rattle.mega_entry.specs.Same.{same_group}
+use Rattle.mega_acceptor.specs.of_entry.Same.{same_group}
 use Rattle.mega_wal.specs.Acceptor.{Act, Promised, Voted, best, shown}
 use Rattle.mega_wal.specs.History.{acts_of, climb, decided_of, first_of, is_place, newest_of, prefix_of, top_of}
 use Rattle.mega_wal.specs.Kept.{Groups, Holds, Puts, Same, accepted_marks, accepted_slot, decided_marks, decided_slot, is_decided_with, marks_at, marks_of, promised_slot, slot_at, slot_of}
-use Rattle.mega_entry.proofs.Sames.{same_group_equal, same_group_self}
+use Rattle.mega_acceptor.proofs.of_entry.Sames.{same_group_equal, same_group_self}
 use Rattle.mega_wal.proofs.Orders.{is_group_is}
 
 -- ---- how far a number climbs

@@ -1,45 +1,25 @@
 -- The rule of an acceptor at one place (Lamport 2001, "Paxos Made Simple"), over what it made there, the newest first.
-use Rattle.std.specs.Prelude.{◌==◌, ◌&&◌, ◌||◌, nat_lt, Bool, if◌then◌else◌, List, [], ◌∷◌, Option, Some, None}
-use Rattle.mega_base.specs.declared.names.OpId.{OpId}
-use Rattle.mega_ballot.specs.declared.ballot.Ballot.{Ballot}
-use Rattle.mega_ballot.specs.Order.{zero_ballot}
-use Rattle.mega_entry.specs.declared.content.Content.{Content}
-use Rattle.mega_entry.specs.Same.{same_entry, same_op}
+use Rattle.std.specs.Prelude.{if◌then◌else◌, List, [], ◌∷◌, Option, Some, None}
+use Rattle.mega_acceptor.specs.of_ballot.declared.ballot.Ballot.{Ballot}
+use Rattle.mega_acceptor.specs.of_ballot.Order.{zero_ballot}
+use Rattle.mega_acceptor.specs.of_entry.declared.content.Content.{Content}
+use Rattle.mega_acceptor.specs.of_entry.Same.{same_entry}
+pub use Rattle.mega_acceptor.specs.Votes.{Vote, greater_ballot, greater_vote, is_ballot_below, is_op_below, is_same_ballot}
 use Rattle.mega_wal.specs.declared.answers.Promised.{Promised as PromiseAnswer}
 use Rattle.mega_wal.specs.declared.answers.Promised.TheVariants as promise
 use Rattle.mega_wal.specs.declared.answers.Voted.{Voted as AcceptAnswer}
 use Rattle.mega_wal.specs.declared.answers.Voted.TheVariants as vote
-
--- an entry accepted at a ballot
-abbrev pub Vote : Type 0
-Vote = Ballot × Content
 
 -- what a voter made at a place: a promise of a ballot, with the vote that it reported, or a vote
 pub data Act : Type 0 where
   Promised : (ballot : Ballot) (report : Option Vote) → Act
   Voted : (ballot : Ballot) (entry : Content) → Act
 
--- the order of ballots, as a test
-abbrev pub is_op_below : OpId → OpId → Bool
-is_op_below a b = nat_lt a.node.0 b.node.0
-    || (a.node.0 == b.node.0 && (nat_lt a.start b.start || (a.start == b.start && nat_lt a.number b.number)))
-
-abbrev pub is_ballot_below : Ballot → Ballot → Bool
-is_ballot_below a b = nat_lt a.round b.round || (a.round == b.round && is_op_below a.op b.op)
-
-abbrev pub greater_ballot : Ballot → Ballot → Ballot
-greater_ballot a b = if is_ballot_below a b then b else a
-
 -- the greatest ballot that it promised or accepted, zero if none
 abbrev pub shown : List Act → Ballot
 shown [] = zero_ballot
 shown (Promised ballot report ∷ before) = greater_ballot (shown before) ballot
 shown (Voted ballot entry ∷ before) = greater_ballot (shown before) ballot
-
--- of two votes the one of the greater ballot, of equal ballots the second
-abbrev pub greater_vote : Option Vote → Ballot → Content → Option Vote
-greater_vote None ballot entry = Some (ballot, entry)
-greater_vote (Some vote) ballot entry = if is_ballot_below ballot vote.0 then Some vote else Some (ballot, entry)
 
 -- its vote of greatest ballot, of equal ballots the newest
 abbrev pub best : List Act → Option Vote
@@ -55,10 +35,6 @@ promise_answer made ballot = if is_ballot_below ballot (shown made) then promise
 abbrev pub answer_beside : Option Vote → Content → AcceptAnswer
 answer_beside None entry = vote.Yes
 answer_beside (Some accepted) entry = if same_entry accepted.1 entry then vote.Yes else vote.Other accepted.1
-
--- whether two ballots are one
-abbrev pub is_same_ballot : Ballot → Ballot → Bool
-is_same_ballot a b = a.round == b.round && same_op a.op b.op
 
 -- an accept is refused below what was shown; at ballot zero, which all operations share, the entry accepted first stays
 abbrev pub accept_answer : List Act → Ballot → Content → AcceptAnswer

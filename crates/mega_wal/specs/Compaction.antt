@@ -5,12 +5,11 @@ use Rattle.std.specs.List.Sorted.{IsStrictlySortedBy}
 use Rattle.std.specs.Ordering.{nat_cmp}
 use Rattle.std.specs.Map.{keys_of}
 use Rattle.mega_base.specs.declared.names.GroupId.{GroupId}
-use Rattle.mega_ballot.specs.declared.ballot.Ballot.{Ballot}
-use Rattle.mega_ballot.specs.Order.{zero_ballot}
-use Rattle.mega_entry.specs.declared.content.Content.{Content}
+use Rattle.mega_acceptor.specs.of_entry.declared.content.Content.{Content}
 use Rattle.mega_wal.specs.declared.item.JournalItem.{JournalItem}
 use Rattle.mega_wal.specs.declared.item.JournalItem.TheVariants.{Promise, Accept, Decide, Grant, Lapse, Starts}
-use Rattle.mega_wal.specs.declared.slot.Slot.{Slot}
+use Rattle.mega_acceptor.specs.declared.slot.Slot.{Slot}
+pub use Rattle.mega_acceptor.specs.Slots.{voted_ballot}
 use Rattle.mega_wal.specs.declared.groups.Log.{Log}
 use Rattle.mega_wal.specs.declared.kept.Kept.{Kept}
 use Rattle.mega_wal.specs.Acceptor.{Vote, is_ballot_below}
@@ -22,11 +21,6 @@ use Rattle.mega_wal.specs.Kept.{Groups, Represents}
 abbrev pub vote_items : GroupId → ℕ → Option Vote → List JournalItem
 vote_items group n None = []
 vote_items group n (Some vote) = Accept group (record { 0 = n }) vote.0 vote.1 ∷ []
-
--- the ballot that the vote shows, zero if none
-abbrev pub voted_ballot : Option Vote → Ballot
-voted_ballot None = zero_ballot
-voted_ballot (Some vote) = vote.0
 
 -- the promise of a place, where it is above the vote
 abbrev pub promise_items : GroupId → ℕ → Slot → List JournalItem

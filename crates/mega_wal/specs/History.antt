@@ -9,10 +9,11 @@ use Rattle.std.specs.Cmp.Lexicographic.{slice_cmp}
 use Rattle.mega_base.specs.declared.names.Epoch.{Epoch}
 use Rattle.mega_base.specs.declared.names.GroupId.{GroupId}
 use Rattle.mega_base.specs.declared.names.Position.{Position}
-use Rattle.mega_entry.specs.declared.content.Content.{Content}
+use Rattle.mega_acceptor.specs.of_entry.declared.content.Content.{Content}
 use Rattle.mega_wal.specs.declared.item.JournalItem.{JournalItem}
 use Rattle.mega_wal.specs.declared.item.JournalItem.TheVariants.{Start, Promise, Accept, Decide, Grant, Lapse, Starts}
-use Rattle.mega_entry.specs.Same.{same_group}
+use Rattle.mega_acceptor.specs.of_entry.Same.{same_group}
+pub use Rattle.mega_acceptor.specs.Slots.{first_of}
 use Rattle.mega_wal.specs.Acceptor.{Act, Promised, Voted, best}
 use Rattle.mega_wal.specs.declared.answers.Promised.{Promised as PromiseAnswer}
 use Rattle.mega_wal.specs.declared.answers.Promised.TheVariants as promise
@@ -35,11 +36,6 @@ acts_of (Promise other position ballot ∷ before) group n =
 acts_of (Accept other position ballot entry ∷ before) group n =
     if is_place other position group n then Voted ballot entry ∷ acts_of before group n else acts_of before group n
 acts_of (_ ∷ before) group n = acts_of before group n
-
--- the first of two, if there is one
-abbrev pub first_of : Option Content → Content → Option Content
-first_of None entry = Some entry
-first_of (Some decided) entry = Some decided
 
 -- the entry that was decided at a place first
 abbrev pub decided_of : List JournalItem → GroupId → ℕ → Option Content

@@ -13,12 +13,12 @@ use Rattle.mega_base.specs.declared.names.NodeId.{NodeId}
 use Rattle.mega_base.specs.declared.names.Position.{Position}
 use Rattle.mega_base.specs.declared.names.Epoch.{Epoch}
 use Rattle.mega_base.specs.declared.names.GroupId.{GroupId}
-use Rattle.mega_ballot.specs.Ballots.{ballot_at, ballot_text, zero_op, IsBallot}
-use Rattle.mega_ballot.specs.BallotLaws.{ballot_codec}
-use Rattle.mega_ballot.specs.declared.ballot.Ballot.{Ballot}
-use Rattle.mega_entry.specs.Entries.{entry_at, entry_text, IsEntry}
-use Rattle.mega_entry.specs.EntryLaws.{entry_codec, some_entry}
-use Rattle.mega_entry.specs.declared.content.Content.{Content}
+use Rattle.mega_acceptor.specs.of_ballot.Ballots.{ballot_at, ballot_text, zero_op, IsBallot}
+use Rattle.mega_acceptor.specs.of_ballot.BallotLaws.{ballot_codec}
+use Rattle.mega_acceptor.specs.of_ballot.declared.ballot.Ballot.{Ballot}
+use Rattle.mega_acceptor.specs.of_entry.Entries.{entry_at, entry_text, IsEntry}
+use Rattle.mega_acceptor.specs.of_entry.EntryLaws.{entry_codec, some_entry}
+use Rattle.mega_acceptor.specs.of_entry.declared.content.Content.{Content}
 use Rattle.mega_wal.specs.declared.item.JournalItem.{JournalItem}
 use Rattle.mega_wal.specs.declared.item.JournalItem.TheVariants.{Start, Promise, Accept, Decide, Grant, Lapse, Starts}
 use Rattle.mega_wal.specs.Items.{item_position_at, entry_field_at, promise_fields, accept_fields, decide_fields, lock_fields, item_of, item_at, kind_of, fields_with, IsItemWith, fields_text, item_text, IsItem, OpensItem}

@@ -4,26 +4,20 @@ use Rattle.std.specs.List.{filter_map}
 use Rattle.std.specs.Ordering.{nat_cmp, is_eq}
 use Rattle.std.specs.BTreeMap.{BTreeMap, get}
 use Rattle.mega_base.specs.declared.names.GroupId.{GroupId}
-use Rattle.mega_ballot.specs.declared.ballot.Ballot.{Ballot}
-use Rattle.mega_ballot.specs.Order.{zero_ballot}
-use Rattle.mega_entry.specs.declared.content.Content.{Content}
 use Rattle.mega_wal.specs.declared.item.JournalItem.{JournalItem}
-use Rattle.mega_wal.specs.declared.slot.Slot.{Slot}
+use Rattle.mega_acceptor.specs.declared.slot.Slot.{Slot}
+pub use Rattle.mega_acceptor.specs.Slots.{accepted_slot, decided_slot, empty_slot, promised_slot}
 use Rattle.mega_wal.specs.declared.groups.Marks.{Marks}
 use Rattle.mega_wal.specs.declared.groups.Log.{Log}
 use Rattle.mega_wal.specs.declared.kept.Kept.{Kept}
-use Rattle.mega_wal.specs.Acceptor.{best, greater_ballot, greater_vote, shown}
-use Rattle.mega_wal.specs.History.{acts_of, climb, decided_of, first_of, granted_of, group_cmp, newest_of, prefix_of, starts_of, top_of}
+use Rattle.mega_wal.specs.Acceptor.{best, shown}
+use Rattle.mega_wal.specs.History.{acts_of, climb, decided_of, granted_of, group_cmp, newest_of, prefix_of, starts_of, top_of}
 
 abbrev pub is_group : GroupId → GroupId → Bool
 is_group g h = is_eq (group_cmp g h)
 
 abbrev pub Groups : Type 0
 Groups = BTreeMap GroupId Log
-
--- a place at which nothing happened
-abbrev pub empty_slot : Slot
-empty_slot = record { promised = zero_ballot; accepted = None; decided = None }
 
 abbrev pub no_marks : Marks
 no_marks = record { top = 0; newest = 0; prefix = 0 }
@@ -50,17 +44,6 @@ decided_group e = if nat_lt 0 e.1.marks.newest then Some e.0 else None
 
 abbrev pub decided_groups : Groups → List GroupId
 decided_groups groups = filter_map decided_group groups.entries
-
--- what the slot becomes by a promise, a vote and a decision
-abbrev pub promised_slot : Slot → Ballot → Slot
-promised_slot slot ballot = record { promised = greater_ballot slot.promised ballot; accepted = slot.accepted; decided = slot.decided }
-
-abbrev pub accepted_slot : Slot → Ballot → Content → Slot
-accepted_slot slot ballot entry =
-    record { promised = greater_ballot slot.promised ballot; accepted = greater_vote slot.accepted ballot entry; decided = slot.decided }
-
-abbrev pub decided_slot : Slot → Content → Slot
-decided_slot slot entry = record { promised = slot.promised; accepted = slot.accepted; decided = first_of slot.decided entry }
 
 -- the position is decided, or is this one
 abbrev pub is_decided_with : Groups → GroupId → ℕ → ℕ → Bool

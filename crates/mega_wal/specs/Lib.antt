@@ -1,4 +1,4 @@
-pub use Rattle.mega_entry.specs.Same
+pub use Rattle.mega_acceptor.specs.of_entry.Same
 pub mod Acceptor
 pub mod Faults
 pub mod Items
@@ -7,3 +7,4 @@ pub mod History
 pub mod Kept
 pub mod Records
 pub mod Compaction
+pub use Rattle.mega_acceptor.specs as of_acceptor

@@ -1,10 +1,10 @@
 //! How a voter answers a prepare and an accept (Lamport 2001), and why its logs refuse a call.
 ghost use Rattle.std.specs.Prelude.{◌≡◌};
 
-use mega_ballot::Ballot;
+use mega_acceptor::mega_ballot::Ballot;
+use mega_acceptor::mega_entry::Entry;
 use mega_base::NoMemory;
 use mega_disk::RecordError;
-use mega_entry::Entry;
 
 /// How a voter answers a prepare (Lamport 2001, phase 1).
 #[derive(Drop)]

@@ -4,16 +4,16 @@ ghost use Rattle.std.specs.List.{flat_map};
 ghost use Rattle.std.specs.List.Sorted.{IsStrictlySortedBy};
 ghost use Rattle.std.specs.Ordering.{nat_cmp};
 ghost use Rattle.std.specs.Map.{keys_of};
-ghost use Rattle.mega_wal.specs.Compaction.{AreOrdered, IsOfFormat, IsOrderedKept, IsOrderedLog, compacted, decided_items, grant_items, log_items, promise_items, slot_items, vote_items, voted_ballot};
+ghost use Rattle.mega_wal.specs.Compaction.{AreOrdered, IsOfFormat, IsOrderedKept, IsOrderedLog, compacted, decided_items, grant_items, log_items, promise_items, slot_items, vote_items};
 ghost use Rattle.mega_wal.specs.Items.{IsItem, record_text};
 
 use crate::groups::{Groups, Log};
 use crate::item::JournalItem;
 use crate::kept::{Grants, Kept};
-use crate::slot::{Slot, is_below};
-use mega_ballot::Ballot;
+use mega_acceptor::Slot;
+use mega_acceptor::mega_ballot::Ballot;
+use mega_acceptor::mega_entry::Entry;
 use mega_base::{Bytes, Copied, Epoch, GroupId, Items, NoMemory, NodeId, Position, put_list};
-use mega_entry::Entry;
 use std::alloc::Global;
 
 /// Adds the vote of a place.
@@ -41,16 +41,6 @@ fn add_vote(
     }
 }
 
-/// The ballot that a vote shows, zero for none.
-fn voted_ballot(vote: &Option<(Ballot, Entry)>) -> Ballot
-    ensures { result ≡ voted_ballot vote.now }
-{
-    match vote {
-        Some((ballot, _)) => *ballot,
-        None => Ballot::ZERO,
-    }
-}
-
 /// Adds the promise of a place, where it is above the vote.
 fn add_promise(
     alloc: Global,
@@ -61,7 +51,7 @@ fn add_promise(
 ) -> Result<(), NoMemory>
     ensures { OnOk result (items.new.items ≡ items.old.items ++ promise_items group.now at slot.now) }
 {
-    if is_below(voted_ballot(&slot.accepted), slot.promised) {
+    if slot.is_promise_above_vote() {
         let item = JournalItem::Promise {
             group: group.copy(alloc)?,
             position: Position(at),

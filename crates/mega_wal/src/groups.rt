@@ -9,10 +9,11 @@ ghost use Rattle.mega_wal.specs.History.{climb, group_cmp};
 ghost use Rattle.mega_wal.specs.Kept.{Puts, Same, accepted_marks, decided_groups, decided_marks, empty_slot, is_decided_with, marks_at, slot_at};
 
 use crate::answers::Voted;
-use crate::slot::{Slot, answer_beside, copy_vote};
-use mega_ballot::Ballot;
+use crate::beside::answer_beside;
+use mega_acceptor::mega_ballot::Ballot;
+use mega_acceptor::mega_entry::Entry;
+use mega_acceptor::{Slot, copy_vote};
 use mega_base::{Copied, GroupId, NoMemory};
-use mega_entry::Entry;
 use std::alloc::Global;
 use std::collections::BTreeMap;
 

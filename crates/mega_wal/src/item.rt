@@ -1,7 +1,7 @@
 //! A change of what a voter keeps: an item of its journal.
-use mega_ballot::Ballot;
+use mega_acceptor::mega_ballot::Ballot;
+use mega_acceptor::mega_entry::Entry;
 use mega_base::{Copied, Epoch, GroupId, NoMemory, NodeId, Position};
-use mega_entry::Entry;
 use std::alloc::Global;
 
 /// A change of what a voter keeps. A record of its journal is a list of them.

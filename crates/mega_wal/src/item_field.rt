@@ -3,17 +3,17 @@ ghost use Rattle.std.specs.Prelude.{◌≡◌, ◌++◌, length, take, OnOk, OnE
 ghost use Rattle.mega_base.specs.Codec.{IsBetween, nested_text, IsNested};
 ghost use Rattle.mega_base.specs.Faults.{Reads};
 ghost use Rattle.mega_base.specs.Names.{node_text, IsNode, position_text, IsPositionIn, epoch_text, IsEpoch, group_text, IsGroup};
-ghost use Rattle.mega_ballot.specs.Ballots.{ballot_text, IsBallot};
-ghost use Rattle.mega_entry.specs.Entries.{entry_text, IsEntry};
+ghost use Rattle.mega_acceptor.specs.of_ballot.Ballots.{ballot_text, IsBallot};
+ghost use Rattle.mega_acceptor.specs.of_entry.Entries.{entry_text, IsEntry};
 ghost use Rattle.mega_wal.specs.Items.{item_of, item_position_at, entry_field_at, promise_fields, accept_fields, decide_fields, lock_fields, kind_of, fields_text, IsItem};
 
 use crate::item::JournalItem;
-use mega_ballot::Ballot;
+use mega_acceptor::mega_ballot::Ballot;
 use mega_base::{
     Bytes, Cursor, Epoch, Field, FieldFault, GroupId, NoMemory, NodeId, Position, put_nested,
     put_u8, put_u32, put_u64, take_nested,
 };
-use mega_entry::Entry;
+use mega_acceptor::mega_entry::Entry;
 use std::alloc::Global;
 
 /// The greatest position of an item.

@@ -7,9 +7,9 @@ ghost use Rattle.mega_wal.specs.Kept.{Holds, Represents};
 
 use crate::groups::{self, Groups};
 use crate::item::JournalItem;
-use mega_ballot::Ballot;
+use mega_acceptor::mega_ballot::Ballot;
+use mega_acceptor::mega_entry::Entry;
 use mega_base::{Copied, Epoch, GroupId, NoMemory, Position};
-use mega_entry::Entry;
 use std::alloc::Global;
 use std::collections::BTreeMap;
 

@@ -3,14 +3,14 @@
 ghost use Rattle.std.specs.Prelude.{◌≡◌, ◌↔◌, ◌<◌, ◌^◌, ◌++◌, ◌∷◌, [], ℕ, true, None, List, All, length, reverse};
 ghost use Rattle.mega_base.specs.declared.names.GroupId.{GroupId as Group};
 ghost use Rattle.mega_base.specs.declared.names.OpId.{OpId as Operation};
-ghost use Rattle.mega_ballot.specs.declared.ballot.Ballot.{Ballot as BallotValue};
-ghost use Rattle.mega_ballot.specs.Order.{IsBelow};
-ghost use Rattle.mega_entry.specs.declared.content.Content.{Content};
+ghost use Rattle.mega_acceptor.specs.of_ballot.declared.ballot.Ballot.{Ballot as BallotValue};
+ghost use Rattle.mega_acceptor.specs.of_ballot.Order.{IsBelow};
+ghost use Rattle.mega_acceptor.specs.of_entry.declared.content.Content.{Content};
 ghost use Rattle.mega_wal.specs.declared.item.JournalItem.{JournalItem as Item};
 ghost use Rattle.mega_wal.specs.Acceptor.{is_ballot_below};
 ghost use Rattle.mega_wal.specs.Items.{IsItem, IsRecord, record_text};
 ghost use Rattle.mega_wal.specs.Records.{first_bad, history_of, is_record, items_in};
-ghost use Rattle.mega_entry.specs.Same.{same_entry, same_group, same_op};
+ghost use Rattle.mega_acceptor.specs.of_entry.Same.{same_entry, same_group, same_op};
 
 /// The tests of equality and of order are equality and the order of ballots.
 pub fn tests_tell()

@@ -3,6 +3,7 @@
 #![tactic(auto)]
 
 mod answers;
+mod beside;
 mod compaction;
 mod flushing;
 mod groups;
@@ -12,7 +13,6 @@ mod kept;
 pub mod laws;
 mod logs;
 mod opening;
-mod slot;
 mod summing;
 
 pub use answers::{LogFault, Promised, Voted};

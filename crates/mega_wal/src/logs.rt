@@ -11,11 +11,11 @@ use crate::answers::{LogFault, Promised, Voted};
 use crate::groups;
 use crate::item::JournalItem;
 use crate::kept::{self, Kept};
-use crate::slot::{is_below, is_same};
-use mega_ballot::Ballot;
+use mega_acceptor::mega_ballot::Ballot;
+use mega_acceptor::mega_entry::Entry;
+use mega_acceptor::{is_below, is_same};
 use mega_base::{Copied, Epoch, GroupId, NoMemory, NodeId, Position};
 use mega_disk::Records;
-use mega_entry::Entry;
 use std::alloc::Global;
 
 /// The logs of a voter, over a list of records. A call notes its change in memory and stages an item of the journal;

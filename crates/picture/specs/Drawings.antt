@@ -5,7 +5,7 @@ use Rattle.mega_cluster.specs.declared.cluster.Cluster.{Cluster}
 use Rattle.mega_io.specs.TextLines.{lines_of}
 use Rattle.mega_schema.specs.declared.schema.Schema.{Schema}
 use Rattle.mega_transcript.specs.declared.item.Item.{Item}
-use Rattle.mega_transcript.specs.ReadingItems.{parsed}
+use Rattle.mega_transcript_reading.specs.ReadingItems.{parsed}
 use Rattle.mega_picture.specs.declared.told.Told.{Told}
 use Rattle.mega_picture.specs.declared.drawable.Flaw.{Flaw}
 use Rattle.mega_picture.specs.Flaws.{flaw_of}

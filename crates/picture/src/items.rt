@@ -8,7 +8,7 @@ use crate::stop::Stop;
 use mega_base::{Bytes, Items, NoMemory};
 use mega_picture::Told;
 use mega_schema::Schema;
-use mega_transcript::{ItemFault, parse};
+use mega_transcript_reading::{ItemFault, parse};
 use std::alloc::Global;
 
 /// A line with its line feed.

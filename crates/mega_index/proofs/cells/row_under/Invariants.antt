@@ -1,5 +1,5 @@
 use Rattle.std.proofs.Common.{◌≡◌, drop}
-use Rattle.mega_index.specs.Rows.{row_under}
+use Rattle.mega_row_writes.specs.Rows.{row_under}
 use Rattle.mega_index.proofs.cells.row_under.Given as goal
 
 abbrev pub invariant-loop-one : goal.invariant-loop-one

@@ -1,5 +1,5 @@
 use Rattle.std.proofs.Common.{◌∙◌, ap, sym, List, ℕ}
-use Rattle.mega_index.specs.Rows.{Listed}
+use Rattle.mega_row_writes.specs.Rows.{Listed}
 use Rattle.mega_index.specs.Wanted.{with_fronts}
 use Rattle.mega_index.proofs.Ordered.{ascends-sorted}
 use Rattle.mega_index.proofs.Joined.{picked, picked-wanted}

@@ -2,7 +2,7 @@ use Rattle.std.proofs.Common.{◌∙◌, ap, sym, List, ℕ, None}
 use Rattle.std.specs.Prelude.{Option}
 use Rattle.std.specs.BTreeMap.{insert_entry}
 use Rattle.mega_base.specs.declared.values.Row.{Row}
-use Rattle.mega_index.specs.Rows.{key_cmp}
+use Rattle.mega_row_writes.specs.Rows.{key_cmp}
 use Rattle.mega_index.specs.Marks.{Marked, held_rows}
 use Rattle.mega_index.specs.Keeping.{marks_in, moved}
 use Rattle.mega_index.proofs.Marking.{marks-insert, marked-in}

@@ -1,6 +1,6 @@
 use Rattle.std.proofs.Common.{◌∙◌, ap, sym, Some}
 use Rattle.std.specs.BTreeMap.{insert_entry}
-use Rattle.mega_index.specs.Rows.{key_cmp}
+use Rattle.mega_row_writes.specs.Rows.{key_cmp}
 use Rattle.mega_index.specs.Marks.{Marked}
 use Rattle.mega_index.specs.Keeping.{marks_in, moved}
 use Rattle.mega_index.proofs.Ordered.{ascends-sorted}

@@ -1,7 +1,7 @@
 use Rattle.std.proofs.Common.{◌∙◌, ap, sym, None}
 use Rattle.mega_index.specs.Marks.{held_rows, has_slot}
 use Rattle.std.specs.BTreeMap.{insert_entry}
-use Rattle.mega_index.specs.Rows.{key_cmp}
+use Rattle.mega_row_writes.specs.Rows.{key_cmp}
 use Rattle.mega_index.proofs.Slots.{held-insert_none, slot-is_some, slot-updated, slot-made}
 use Rattle.mega_index.proofs.held.make_slot.Goals as goal
 

@@ -1,6 +1,6 @@
 use Rattle.std.proofs.Common.{◌∙◌, ap, sym, take}
 use Rattle.std.proofs.lemmas.List.Folds.{list_all_more}
-use Rattle.mega_entry.specs.declared.content.Write.{Write}
+use Rattle.mega_row_writes.specs.of_entry.declared.content.Write.{Write}
 use Rattle.mega_index.specs.Marks.{has_slot}
 use Rattle.mega_index.proofs.Ordered.{all_imply, true_both}
 use Rattle.mega_index.proofs.held.make_slots.Goals as goal

@@ -1,6 +1,6 @@
 use Rattle.std.proofs.Common.{◌≡◌, true}
 use Rattle.std.specs.Vec.Iter.{into_iter_items}
-use Rattle.mega_index.specs.Rows.{list_written}
+use Rattle.mega_row_writes.specs.Rows.{list_written}
 use Rattle.mega_index.specs.Marks.{held_rows, have_slots}
 use Rattle.mega_index.proofs.held.set_slots.Given as goal
 

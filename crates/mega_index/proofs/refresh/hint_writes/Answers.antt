@@ -1,6 +1,6 @@
 use Rattle.std.proofs.Common.{◌∙◌, ap, sym, take}
 use Rattle.std.proofs.lemmas.List.Folds.{list_all_more}
-use Rattle.mega_entry.specs.declared.content.Write.{Write}
+use Rattle.mega_row_writes.specs.of_entry.declared.content.Write.{Write}
 use Rattle.mega_index.specs.Hints.{write_is_hinted}
 use Rattle.mega_index.proofs.Ordered.{true_both}
 use Rattle.mega_index.proofs.Kept.{writes_more}

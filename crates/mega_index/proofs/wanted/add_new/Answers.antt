@@ -1,6 +1,6 @@
 use Rattle.std.proofs.Common.{◌∙◌, ap, cond, Some, ℕ, List}
 use Rattle.std.specs.BTreeMap.{get}
-use Rattle.mega_index.specs.Rows.{key_cmp, same_key}
+use Rattle.mega_row_writes.specs.Rows.{key_cmp, same_key}
 use Rattle.mega_index.proofs.Wanting.{wanted_new}
 use Rattle.mega_index.proofs.wanted.add_new.Goals as goal
 

@@ -3,7 +3,7 @@ use Rattle.std.specs.Prelude.{Option, filter, nat_eq}
 use Rattle.std.specs.List.{starts_with}
 use Rattle.std.specs.Map.{lookup}
 use Rattle.mega_index.specs.declared.hints.Place.{Place}
-use Rattle.mega_index.specs.Rows.{same_key}
+use Rattle.mega_row_writes.specs.Rows.{same_key}
 use Rattle.mega_index.specs.Hints.{is_among}
 use Rattle.mega_index.specs.Wanted.{begins}
 use Rattle.mega_index.proofs.Ordered.{Ascends, ascends-sorted}

@@ -1,4 +1,4 @@
-use Rattle.mega_entry.proofs.Sames.{same_entry_iff, same_group_iff}
+use Rattle.mega_acceptor.proofs.of_entry.Sames.{same_entry_iff, same_group_iff}
 use Rattle.mega_wal.proofs.laws.tests_tell.Goals as goal
 
 pub returns-clause-entries : goal.returns-clause-entries

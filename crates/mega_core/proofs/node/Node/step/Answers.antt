@@ -13,7 +13,7 @@ pub returns-in-Take-clause-staged : goal.returns-in-Take-clause-staged
 returns-in-Take-clause-staged g c = rw c.in-Take.is c.take.ensures.staged
 
 pub returns-in-Take-clause-unserved : goal.returns-in-Take-clause-unserved
-returns-in-Take-clause-unserved g c = λ is h node stands. absurd (c.take.ensures.built is h node stands)
+returns-in-Take-clause-unserved g c = rw c.in-Take.is c.take.ensures.built
 
 pub returns-in-Take-clause-stranger : goal.returns-in-Take-clause-stranger
 returns-in-Take-clause-stranger g c = rw c.in-Take.is c.take.ensures.stranger
@@ -34,13 +34,13 @@ pub returns-in-Begin-clause-staged : goal.returns-in-Begin-clause-staged
 returns-in-Begin-clause-staged g c = rw c.in-Begin.is c.begin.ensures.staged
 
 pub returns-in-Begin-clause-unserved : goal.returns-in-Begin-clause-unserved
-returns-in-Begin-clause-unserved g c = rw c.in-Begin.is (λ is h node stands. c.begin.ensures.unserved is)
+returns-in-Begin-clause-unserved g c = rw c.in-Begin.is c.begin.ensures.unserved
 
 pub returns-in-Begin-clause-stranger : goal.returns-in-Begin-clause-stranger
 returns-in-Begin-clause-stranger g c = λ is. absurd (c.begin.ensures.stranger is)
 
 pub returns-in-Begin-clause-late : goal.returns-in-Begin-clause-late
-returns-in-Begin-clause-late g c = λ is h node stands. absurd (c.begin.ensures.late is)
+returns-in-Begin-clause-late g c = λ is. absurd (c.begin.ensures.late is)
 
 pub returns-in-Tick-clause-notes : goal.returns-in-Tick-clause-notes
 returns-in-Tick-clause-notes g c = rw c.in-Tick.is c.tick.ensures.notes
@@ -55,10 +55,10 @@ pub returns-in-Tick-clause-staged : goal.returns-in-Tick-clause-staged
 returns-in-Tick-clause-staged g c = rw c.in-Tick.is c.tick.ensures.staged
 
 pub returns-in-Tick-clause-unserved : goal.returns-in-Tick-clause-unserved
-returns-in-Tick-clause-unserved g c = λ is h node stands. absurd (c.tick.ensures.built is h node stands)
+returns-in-Tick-clause-unserved g c = rw c.in-Tick.is c.tick.ensures.built
 
 pub returns-in-Tick-clause-stranger : goal.returns-in-Tick-clause-stranger
 returns-in-Tick-clause-stranger g c = λ is. absurd (c.tick.ensures.stranger is)
 
 pub returns-in-Tick-clause-late : goal.returns-in-Tick-clause-late
-returns-in-Tick-clause-late g c = λ is h node stands. absurd (c.tick.ensures.late is)
+returns-in-Tick-clause-late g c = λ is. absurd (c.tick.ensures.late is)

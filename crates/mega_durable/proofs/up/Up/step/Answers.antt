@@ -10,7 +10,7 @@ use Rattle.mega_promises.specs.Runs.{replies_in}
 use Rattle.mega_durable.specs.Cut.{LogProceeds, MayLeave, log_fault_in}
 use Rattle.mega_durable.specs.Standing.{records_in, setting_of}
 use Rattle.mega_durable.specs.Stepped.{HasStepped}
-use Rattle.mega_durable.proofs.Refusing.{kept_used, same_step}
+use Rattle.mega_durable.proofs.Refusing.{kept_used, late_above, refused_above, same_step}
 use Rattle.mega_durable.proofs.Stepping.{may_owe, owed_from, same_proceeds, stepped_now}
 use Rattle.mega_durable.proofs.Upheld.{as_it_was, leaves_same}
 use Rattle.mega_durable.proofs.up.Up.step.Goals as goal
@@ -86,10 +86,10 @@ returns-in-Err-keep-clause-used g c =
     kept_used g.V.Versions c.args.self.now.node.replica.rows.rows c.step.new.self.replica.rows c.keep.new.node.replica.rows c.in-Ok.step c.replies-replies.result c.in-Err-keep.fault c.in-Err-keep.ensures.owed c.in-Err-keep.ensures.rows c.in-Ok.ensures.used
 
 pub returns-in-Err-clause-unserved : goal.returns-in-Err-clause-unserved
-returns-in-Err-clause-unserved g c = λ is h node up. c.in-Err.ensures.unserved (ap Err (same_step _ _ is)) h node up.stands
+returns-in-Err-clause-unserved g c = λ is. refused_above (event_of c.args.event) (λ h node up. up.stands) (c.in-Err.ensures.unserved (ap Err (same_step _ _ is)))
 
 pub returns-in-Err-clause-late : goal.returns-in-Err-clause-late
-returns-in-Err-clause-late g c = λ is h node up. c.in-Err.ensures.late (ap Err (same_step _ _ is)) h node up.stands
+returns-in-Err-clause-late g c = λ is. late_above (event_of c.args.event) (λ h node up. up.stands) (c.in-Err.ensures.late (ap Err (same_step _ _ is)))
 
 pub returns-in-Err-keep-clause-formed : goal.returns-in-Err-keep-clause-formed
 returns-in-Err-keep-clause-formed g c = λ told is h node up may.

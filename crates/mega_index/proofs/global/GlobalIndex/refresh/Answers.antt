@@ -1,8 +1,8 @@
 use Rattle.std.proofs.Common.{◌∙◌, ap, sym, length}
 use Rattle.std.specs.Prelude.{List}
 use Rattle.std.specs.BTreeMap.{insert_entry}
-use Rattle.mega_entry.specs.declared.content.Write.{Write}
-use Rattle.mega_index.specs.Rows.{key_cmp}
+use Rattle.mega_row_writes.specs.of_entry.declared.content.Write.{Write}
+use Rattle.mega_row_writes.specs.Rows.{key_cmp}
 use Rattle.mega_index.specs.Marks.{Marked, Marks, marked_in}
 use Rattle.mega_index.specs.Hints.{all_hinted, writes_are_hinted}
 use Rattle.mega_index.specs.Keeping.{marks_in, moved}

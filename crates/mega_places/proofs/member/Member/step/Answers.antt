@@ -1,9 +1,7 @@
 use Rattle.std.proofs.Common.{◌+◌, ◌∙◌, ap, Err, refl, subst, sym}
-use Rattle.mega_cluster.specs.declared.cluster.Cluster.{Cluster}
 use Rattle.mega_durable.specs.declared.fault.UpFault.TheVariants.{Step as Failed}
 use Rattle.mega_rules.specs.Operations.{Setting}
 use Rattle.mega_durable.specs.of_core.of_stepping.Events.{event_of}
-use Rattle.mega_durable.specs.of_core.Stepping.{IsTooLate}
 use Rattle.mega_durable.specs.Standing.{MayHappen}
 use Rattle.mega_places.specs.declared.member.Member.{Member}
 use Rattle.mega_places.specs.Members.{node_in, records_of}
@@ -62,7 +60,7 @@ fault_of-requires-clause-own g c =
     not_strange c.in-Err-Step.fault
     (λ is. may_serve k.cluster event k.near (c.in-Err-Step.ensures.unserved (ap Err (c.in-Err-Step.field-0-is ∙ ap Failed is)) k.handlers k.ruled (record { stands = here.stands; empty = here.empty; ready = here.ready; holds = λ told. here.holds; granted = here.granted })))
     (λ is. is_no_stranger k.cluster event k.near (c.in-Err-Step.ensures.stranger (ap Err (c.in-Err-Step.field-0-is ∙ ap Failed is))))
-    (λ is. is_timely k.cluster event k.near (subst (λ (cluster : Cluster). IsTooLate cluster event) k.is.members (c.in-Err-Step.ensures.late (ap Err (c.in-Err-Step.field-0-is ∙ ap Failed is)) k.handlers k.ruled (record { stands = here.stands; empty = here.empty; ready = here.ready; holds = λ told. here.holds; granted = here.granted }))))
+    (λ is. is_timely k.cluster event k.is.members k.near (c.in-Err-Step.ensures.late (ap Err (c.in-Err-Step.field-0-is ∙ ap Failed is))) k.handlers k.ruled (record { stands = here.stands; empty = here.empty; ready = here.ready; holds = λ told. here.holds; granted = here.granted }))
 
 pub unreachable-requires : goal.unreachable-requires
 unreachable-requires g c =

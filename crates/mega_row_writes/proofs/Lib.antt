@@ -1,0 +1,3 @@
+pub mod SameRows
+pub mod Turning
+pub use Rattle.mega_entry.proofs as of_entry

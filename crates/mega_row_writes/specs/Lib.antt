@@ -1,0 +1,3 @@
+pub mod Rows
+pub mod RowWrites
+pub use Rattle.mega_entry.specs as of_entry

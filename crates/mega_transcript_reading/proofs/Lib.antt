@@ -1,0 +1,11 @@
+pub mod LineForms
+pub mod Requesting
+pub mod Parts
+pub mod SoundRows
+pub mod RowsAgain
+pub mod RowsFit
+pub mod AnswerLaws
+pub mod ItemLaws
+pub mod Fronts
+pub mod Reparse
+pub mod LineEnds
