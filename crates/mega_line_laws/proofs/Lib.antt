@@ -4,3 +4,4 @@ pub mod Again
 pub mod Asking
 pub mod Starting
 pub mod Texts
+pub mod Small

@@ -1,4 +1,3 @@
-pub mod Small
 mod Headers
 mod Members
 mod Found

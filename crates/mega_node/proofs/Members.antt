@@ -11,7 +11,7 @@ use Rattle.mega_server.specs.of_core.Served.{IsServed}
 use Rattle.mega_rules.specs.Members.{is_node}
 use Rattle.mega_line_laws.proofs.Starting.{can_start}
 use Rattle.mega_node.specs.Headers.{IsRead}
-use Rattle.mega_node.proofs.Small.{parsed_small}
+use Rattle.mega_line_laws.proofs.Small.{parsed_small}
 
 -- what is read is so, unless a rule is broken
 abbrev OkIs : {A : Type 0} → (A → Type 0) → Result A ℕ → Type 0

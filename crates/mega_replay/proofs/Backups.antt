@@ -8,7 +8,7 @@ use Rattle.mega_heading.specs.Known.{Told}
 use Rattle.mega_heading.specs.Parts.{cluster_in, header_text}
 use Rattle.mega_io.specs.Pieces.{AppendsFront}
 use Rattle.mega_checkpoint.specs.Format.{list_of}
-use Rattle.mega_shown_laws.proofs.of_tape_laws.DeclaredClusters.{cluster_declared}
+use Rattle.mega_tape_laws.proofs.DeclaredClusters.{cluster_declared}
 use Rattle.mega_backup_laws.proofs.Agreeing.{read_back}
 use Rattle.mega_backup_words.specs.Backing.{BacksUp}
 use Rattle.mega_backup_words.proofs.Endings.{unwritten}

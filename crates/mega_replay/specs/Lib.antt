@@ -1,13 +1,5 @@
 pub mod Backups
 pub mod Changes
-pub mod Headings
-pub mod Meanings
-pub mod Texts
-pub mod Progress
-pub mod LastLines
-pub mod Running
-pub mod Replaying
-pub mod Known
+pub mod Usage
 pub mod Statuses
 pub mod Nodes
-pub mod Stops

@@ -1,16 +1,17 @@
 //! The top call: its words, what it writes, and its status.
-ghost use Rattle.std.specs.Prelude.{◌≡◌, ◌≤◌, ◌⊎◌, ◌++◌, ℕ, List, Option, Some, None, Ok, Err, OnOk, OnErr};
+ghost use Rattle.std.specs.Prelude.{◌≡◌, ◌≤◌, ◌⊎◌, ◌++◌, ℕ, List, Option, Some, None};
 ghost use Rattle.mega_node.specs.Outside.{told_by};
 ghost use Rattle.mega_replay.specs.Nodes.{HasRunNode};
 ghost use Rattle.std.specs.Io.KnownBytes.{Appends, IsAtEnd};
 ghost use Rattle.mega_handler.specs.Named.{meaning};
 ghost use Rattle.mega_meanings.specs.BuiltIn.{built_in};
-ghost use Rattle.mega_meanings.specs.Means.{Means};
 ghost use Rattle.mega_base.specs.Causes.{Rose};
 ghost use Rattle.mega_io.specs.Pieces.{AppendsFront};
-ghost use Rattle.mega_replay.specs.LastLines.{header_line, schedule_line, refused_line, limit_line, last_line, usage_line};
-ghost use Rattle.mega_replay.specs.Known.{InputDone, InputFailed, InputBroken, InputNoEvent, InputRefused, InputPastLast, InputCut};
-ghost use Rattle.mega_replay.specs.Statuses.{IsCutStatus, IsDrawn, IsOffline, IsReplayStatus, IsStatusOf, UsesNoDevice};
+ghost use Rattle.mega_writing.specs.LastLines.{header_line, schedule_line, refused_line, limit_line};
+ghost use Rattle.mega_replay.specs.Usage.{usage_line};
+ghost use Rattle.mega_replaying.specs.Known.{InputDone, InputFailed, InputBroken, InputNoEvent, InputRefused, InputPastLast, InputCut};
+ghost use Rattle.mega_writing.specs.Statuses.{IsCutStatus};
+ghost use Rattle.mega_replay.specs.Statuses.{IsDrawn, IsOffline, IsStatusOf, UsesNoDevice};
 ghost use Rattle.mega_replay.specs.Backups.{HasBackedUp, HasRestored};
 ghost use Rattle.mega_replay.specs.Changes.{HasDriven};
 ghost use Rattle.mega_gen.specs.Generated.{generated};
@@ -18,23 +19,20 @@ ghost use Rattle.mega_words.specs.Commands.{command_of};
 ghost use Rattle.mega_words.specs.declared.command.Command.TheVariants.{Backup, Gen, Node, Replay, Restore, Two};
 ghost use Rattle.mega_base.specs.declared.names.GroupId.{GroupId as Group};
 ghost use Rattle.mega_words.specs.declared.command.Report.{Report};
-ghost use Rattle.mega_replay.specs.Stops.{IsTold, IsWriteStop};
 
 use crate::ended::Ended;
-use crate::replay::replay;
 use crate::saving::back_up;
 use crate::serving::serve_node;
-use crate::status::Stop;
-use crate::writing::write_on;
 use mega_backup_words::run_restore;
-use mega_base::{Bytes, NoMemory, Position, Text};
+use mega_base::{NoMemory, Position, Text};
 use mega_checkpoint::Checkpoint;
 use mega_disk::{Disk, Pair};
 use mega_gen::generate;
 use mega_io::{Sink, SinkError, Source, put};
 use mega_link::{Clock, Link};
-use mega_meanings::{BuiltIn, QueueHandlers};
+use mega_meanings::BuiltIn;
 use mega_node::mega_server::{Number, Server};
+use mega_replaying::replay_all;
 use mega_rows::VersionedRows;
 use mega_serve::Steps;
 use mega_two_words::run_two;
@@ -161,29 +159,6 @@ fn draw<O: Sink>(alloc: Global, seed: u64, count: u64, nodes: u8, out: &mut O) -
     }
 }
 
-/// Replays the input with the handlers that the store brings, and gives the status with which the program then ends.
-#[tactic(auto, using(mega_meanings::proofs::Lasting::built_in_means))]
-fn replay_all<I: Source, O: Sink>(alloc: Global, report: Report, input: &mut I, out: &mut O) -> u8
-    ensures done { result ≡ 0 → InputDone report (I.left input.old) (Appends (O.held out.old) (O.held out.new)) }
-    ensures end { result ≡ 0 → IsAtEnd (I.left input.new) }
-    ensures header { result ≡ 3 → (rule : ℕ) × InputBroken (I.left input.old) rule (λ text. Appends (O.held out.old) (O.held out.new) (text ++ header_line rule)) }
-    ensures refused { result ≡ 4 → ((line : ℕ) × (reason : ℕ) × InputNoEvent report (I.left input.old) line reason (λ text. Appends (O.held out.old) (O.held out.new) (text ++ schedule_line line reason))) ⊎ ((line : ℕ) × (why : ℕ) × InputRefused report (I.left input.old) line why (λ text. Appends (O.held out.old) (O.held out.new) (text ++ refused_line line why))) }
-    ensures limit { result ≡ 10 → (line : ℕ) × InputPastLast report (I.left input.old) line (λ text. Appends (O.held out.old) (O.held out.new) (text ++ limit_line line)) }
-    ensures broken { result ≡ 5 → InputFailed report (I.left input.old) (I.left input.new) (Appends (O.held out.old) (O.held out.new)) ⊎ Rose (O.faults out.old) (O.faults out.new) }
-    ensures cut { IsCutStatus result → InputCut report (I.left input.old) (AppendsFront (O.held out.old) (O.held out.new)) }
-    ensures source { result ≡ 5 → Rose (I.faults input.old) (I.faults input.new) }
-    ensures sink { result ≡ 6 → Rose (O.faults out.old) (O.faults out.new) }
-    ensures only { IsReplayStatus result }
-    ensures inputs { I.faults input.old ≤ I.faults input.new }
-    ensures outs { O.faults out.old ≤ O.faults out.new }
-{
-    let mut handlers = BuiltIn::new();
-    match transcribe(alloc, report, &mut handlers, input, out) {
-        Ok(()) => 0,
-        Err(stop) => stop.status(),
-    }
-}
-
 /// Writes how the program is used, and gives the status with which it then ends.
 fn tell_usage<O: Sink>(out: &mut O) -> u8
     ensures status { (result ≡ 2) ⊎ (result ≡ 8) }
@@ -195,73 +170,5 @@ fn tell_usage<O: Sink>(out: &mut O) -> u8
         Ok(()) => 2,
         Err(SinkError::Failed) => 2,
         Err(SinkError::NoMemory) => 8,
-    }
-}
-
-/// Writes the report of the input, to its last byte or with the last line that tells of the stop.
-fn transcribe<I: Source, O: Sink, H: QueueHandlers>(
-    alloc: Global,
-    report: Report,
-    handlers: &mut H,
-    input: &mut I,
-    out: &mut O,
-) -> Result<(), Stop>
-    requires { Means (H.meant handlers.old) built_in }
-    ensures done { OnOk result (InputDone report (I.left input.old) (Appends (O.held out.old) (O.held out.new))) }
-    ensures end { OnOk result (IsAtEnd (I.left input.new)) }
-    ensures header { (rule : ℕ) → result ≡ Err (Stop.Header rule) → InputBroken (I.left input.old) rule (λ text. Appends (O.held out.old) (O.held out.new) (text ++ header_line rule)) }
-    ensures none { (at reason : ℕ) → result ≡ Err (Stop.Schedule at reason) → InputNoEvent report (I.left input.old) at reason (λ text. Appends (O.held out.old) (O.held out.new) (text ++ schedule_line at reason)) }
-    ensures refused { (at why : ℕ) → result ≡ Err (Stop.Refused at why) → InputRefused report (I.left input.old) at why (λ text. Appends (O.held out.old) (O.held out.new) (text ++ refused_line at why)) }
-    ensures limit { (at : ℕ) → result ≡ Err (Stop.Limit at) → InputPastLast report (I.left input.old) at (λ text. Appends (O.held out.old) (O.held out.new) (text ++ limit_line at)) }
-    ensures broken { result ≡ Err Stop.Source → InputFailed report (I.left input.old) (I.left input.new) (Appends (O.held out.old) (O.held out.new)) ⊎ Rose (O.faults out.old) (O.faults out.new) }
-    ensures cut { OnErr result (InputCut report (I.left input.old) (AppendsFront (O.held out.old) (O.held out.new))) }
-    ensures source { result ≡ Err Stop.Source → Rose (I.faults input.old) (I.faults input.new) }
-    ensures sink { result ≡ Err Stop.Sink → Rose (O.faults out.old) (O.faults out.new) }
-    ensures inputs { I.faults input.old ≤ I.faults input.new }
-    ensures outs { O.faults out.old ≤ O.faults out.new }
-{
-    let mut waiting = Bytes::new(alloc);
-    match replay(alloc, report, handlers, input, out, &mut waiting) {
-        Ok(()) => match write_on(out, &mut waiting) {
-            Ok(()) => Ok(()),
-            Err(stop) => Err(stop),
-        },
-        Err(stop) => Err(write_stop(alloc, stop, out, &mut waiting)),
-    }
-}
-
-/// Writes what waits and the last line of the stop, and gives the stop that was met first. A stop that
-/// has a last line is met once that is written; want of memory is told of before a fault of the source.
-fn write_stop<O: Sink>(alloc: Global, stop: Stop, out: &mut O, waiting: &mut Bytes) -> Stop
-    ensures told { IsTold result → (result ≡ stop) × Appends (O.held out.old) (O.held out.new) (waiting.old ++ last_line stop) }
-    ensures front { AppendsFront (O.held out.old) (O.held out.new) (waiting.old ++ last_line stop) }
-    ensures broken { result ≡ Stop.Source → (stop ≡ Stop.Source) × (Appends (O.held out.old) (O.held out.new) waiting.old ⊎ Rose (O.faults out.old) (O.faults out.new)) }
-    ensures sink { result ≡ Stop.Sink → (stop ≡ Stop.Sink) ⊎ Rose (O.faults out.old) (O.faults out.new) }
-    ensures count { O.faults out.old ≤ O.faults out.new }
-{
-    match stop.tell(alloc, waiting) {
-        Ok(()) => {}
-        Err(_) => {
-            let _ = write_on(out, waiting);
-            return Stop::NoMemory;
-        }
-    }
-    match write_on(out, waiting) {
-        Ok(()) => stop,
-        Err(fault) => first_met(stop, fault),
-    }
-}
-
-/// Of a stop and a later fault of writing, the one that was met first.
-fn first_met(stop: Stop, fault: Stop) -> Stop
-    requires { IsWriteStop fault }
-    ensures untold { IsTold result → ⊥ }
-    ensures source { result ≡ Stop.Source → (stop ≡ Stop.Source) × (fault ≡ Stop.Sink) }
-    ensures sink { result ≡ Stop.Sink → (stop ≡ Stop.Sink) ⊎ (fault ≡ Stop.Sink) }
-{
-    match (stop, fault) {
-        (Stop::Source, Stop::Sink) => stop,
-        (Stop::Sink, _) => stop,
-        _ => fault,
     }
 }

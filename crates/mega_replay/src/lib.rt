@@ -3,15 +3,8 @@
 
 mod calling;
 mod ended;
-mod happening;
-mod heading;
-mod input;
-mod opening;
-mod replay;
 mod saving;
 mod serving;
-mod status;
-mod writing;
 
 pub use calling::run;
 pub use ended::Ended;

@@ -1,0 +1,3 @@
+pub mod Headings
+pub mod Replaying
+pub mod Known
