@@ -37,12 +37,7 @@ impl Page {
 
     /// What the node notes.
     #[tactic(auto, using(crate::proofs::Gathering::one_quiet))]
-    pub fn note(
-        &mut self,
-        alloc: Global,
-        schema: &Schema,
-        item: &Item,
-    ) -> Result<(), NoMemory>
+    pub fn note(&mut self, alloc: Global, schema: &Schema, item: &Item) -> Result<(), NoMemory>
         requires { HasLine item.now }
         ensures { OnOk result ((lines : List Line) → IsPage schema.now self.old lines → IsPage schema.now self.new (lines ++ Noted item.now ∷ [])) }
     {
