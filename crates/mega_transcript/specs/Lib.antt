@@ -4,6 +4,7 @@ pub mod Words
 pub mod Rows
 pub mod Answers
 pub mod Lines
+pub mod Recorded
 pub mod NoFloats
 pub mod Reading
 pub mod Requests
