@@ -2,8 +2,8 @@
 ghost use Rattle.std.specs.Prelude.{◌≡◌, ◌<◌, ◌==◌, ◌&&◌, ◌||◌, not, ℕ, Bool, length, OnOk};
 ghost use Rattle.std.specs.BTreeSet.{contains};
 ghost use Rattle.std.specs.Ordering.{nat_cmp};
-ghost use Rattle.mega_places.specs.Least.{IsLeast};
-ghost use Rattle.mega_places.specs.Waits.{waits_for};
+ghost use Rattle.mega_verdicts.specs.Least.{IsLeast};
+ghost use Rattle.mega_verdicts.specs.Waiting.{waits_for};
 
 use mega_base::NoMemory;
 use std::alloc::Global;

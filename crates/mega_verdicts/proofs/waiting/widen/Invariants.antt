@@ -1,6 +1,6 @@
 use Rattle.std.proofs.Common.{◌≡◌, ℕ, length}
-use Rattle.mega_places.specs.Waits.{waits_for}
-use Rattle.mega_places.proofs.waiting.widen.Given as goal
+use Rattle.mega_verdicts.specs.Waiting.{waits_for}
+use Rattle.mega_verdicts.proofs.waiting.widen.Given as goal
 
 abbrev pub invariant-loop-receiver : goal.invariant-loop-receiver
 invariant-loop-receiver l =
