@@ -1,5 +1,4 @@
 pub mod Tape
-pub mod Notes
 pub mod Words
 pub mod Rows
 pub mod Answers
@@ -15,5 +14,3 @@ pub mod PlainRows
 pub mod PlainAnswers
 pub mod Plain
 pub mod Counts
-pub mod Counted
-pub mod Tallies
