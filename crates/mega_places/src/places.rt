@@ -19,7 +19,7 @@ use crate::place::Place;
 use crate::remains::Remains;
 use mega_disk::MemRecords;
 use mega_durable::Cut;
-use mega_verdicts::CutOff;
+use mega_verdicts::CutAt;
 use std::alloc::Global;
 use std::mem;
 
@@ -118,7 +118,7 @@ fn cut_off(place: Place, cut: Cut) -> Fallen
             Fallen {
                 remains: Remains::OnDisk(up.close()),
                 fuse: None,
-                owed: CutOff::Step { is_kept, cut }.owes(),
+                owed: CutAt::Step { is_kept, cut }.owes(),
             }
         }
         Place::Down(fallen) => fallen,

@@ -1,4 +1,4 @@
-pub mod CutsOff
 pub mod Least
+pub mod Owing
 pub mod Refusals
 pub mod Waiting
